@@ -1,0 +1,16 @@
+pub mod Painter
+pub mod Frame
+pub mod ImageView
+pub mod Session
+pub mod Intake
+pub mod Header
+pub mod OneShot
+pub mod Dcs
+pub mod Following
+pub mod Progress
+pub mod Pieces
+pub mod Text
+pub mod Indexed
+pub mod Grid
+pub mod Encoding
+pub mod Trip

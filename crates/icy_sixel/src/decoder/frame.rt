@@ -1,0 +1,195 @@
+//! The reader of a payload's bytes: which command is open, and its parameters so far.
+//!
+//! A command takes effect when it is closed, by the next byte that it can't go on with, by the
+//! terminator, or by the end. So a piece may end within one, and nothing is decided there.
+
+ghost use Rattle.std.specs.Prelude.{◌≡◌, ◌<◌, ◌≤◌, ◌*◌, ◌∷◌, ◌++◌, List, ℕ, true, false, []};
+ghost use Rattle.std.specs.Prelude.{nat_lt, fold, IsOk, IsTrue, ◌⊎◌, Bool};
+ghost use Rattle.sixel_base.specs.History.{History, begun, goes_on, read};
+ghost use Rattle.sixel_base.specs.Parameters.{Keeps, IsDigit};
+ghost use Rattle.sixel_base.specs.Stroke.{Origin};
+ghost use Rattle.icy_sixel.specs.declared.decoder.frame.Phase.TheVariants.{Ground};
+
+use crate::bytes::{is_ignored, is_parameter, is_terminator};
+use crate::decoder::painter::{Painter, Picture};
+use crate::decoder::{SixelFeedResult, SixelFeedStatus};
+use sixel_base::Result;
+use sixel_base::parameters::Parameters;
+use sixel_base::registers::Registers;
+use sixel_base::settings::DcsSettings;
+use std::alloc::Global;
+
+/// Which command may go on.
+#[derive(Clone, Copy, Debug, PartialEq, Eq)]
+pub enum Phase {
+    Ground,
+    InRepeat,
+    InRaster,
+    InColor,
+}
+
+/// What a byte begins.
+pub enum Start {
+    Sixel(u8),
+    Repeat,
+    Raster,
+    Color,
+    Return,
+    Newline,
+    Skip,
+}
+
+/// A payload's command that is open, and what the closed ones have drawn.
+#[derive(Drop)]
+pub struct Frame {
+    pub phase: Phase,
+    pub parameters: Parameters,
+    pub painter: Painter,
+}
+
+impl Start {
+    ghost use Rattle.icy_sixel.specs.Frame.{Begins};
+
+    /// What a byte that no open command takes begins.
+    fn of(byte: u8) -> Start
+        ensures { Begins result byte }
+    {
+        match byte {
+            0x3f..=0x7e => Start::Sixel(byte - 0x3f),
+            b'!' => Start::Repeat,
+            b'"' => Start::Raster,
+            b'#' => Start::Color,
+            b'$' => Start::Return,
+            b'-' => Start::Newline,
+            _ => Start::Skip,
+        }
+    }
+}
+
+impl Frame {
+    ghost use Rattle.icy_sixel.specs.Painter.{Shows, Draws};
+    ghost use Rattle.icy_sixel.specs.Frame.{Stands, Reads, Feeds, StandsAfter};
+    ghost use Rattle.icy_sixel.specs.ImageView.{Ends};
+
+    /// A frame of which nothing was read.
+    pub fn new(alloc: Global, registers: Registers, settings: DcsSettings) -> Frame
+        ensures { Stands (record { registers = registers; settings = settings }) result [] }
+    {
+        Frame {
+            phase: Phase::Ground,
+            parameters: Parameters::new(),
+            painter: Painter::new(alloc, registers, settings),
+        }
+    }
+
+    /// Whether the open command goes on with the byte.
+    fn takes(&self, byte: u8) -> bool
+        ensures takes { (o : Origin) (h : History) → Stands o self.now h → result ≡ goes_on h byte }
+        ensures parameter { IsTrue result → IsDigit byte ⊎ (byte ≡ 59) }
+    {
+        match self.phase {
+            Phase::Ground => false,
+            Phase::InRepeat => byte.is_ascii_digit(),
+            Phase::InRaster | Phase::InColor => is_parameter(byte),
+        }
+    }
+
+    /// Ends the open command, which then takes effect.
+    fn close(&mut self) -> Result<()>
+        ensures ground { self.new.phase ≡ Ground }
+        ensures drawn { (o : Origin) (h : History) → Stands o self.old h
+            → Draws result o self.new.painter h false }
+        ensures kept { (o : Origin) (h : History) → self.old.phase ≡ Ground
+            → Shows o self.old.painter h → Draws result o self.new.painter h false }
+    {
+        let phase = self.phase;
+        self.phase = Phase::Ground;
+        match phase {
+            Phase::Ground => Ok(()),
+            Phase::InRepeat => self.painter.repeat(&self.parameters),
+            Phase::InRaster => self.painter.set_raster(&self.parameters),
+            Phase::InColor => {
+                self.painter.select(&self.parameters);
+                Ok(())
+            }
+        }
+    }
+
+    /// Begins a token, where none is open.
+    fn begin(&mut self, byte: u8) -> Result<()>
+        requires { self.old.phase ≡ Ground }
+        ensures { (o : Origin) (h : History) → Shows o self.old.painter h
+            → Reads result o self.new h (begun byte ∷ h) }
+    {
+        match Start::of(byte) {
+            Start::Sixel(bits) => self.painter.draw(bits),
+            Start::Repeat => self.open(Phase::InRepeat),
+            Start::Raster => self.open(Phase::InRaster),
+            Start::Color => self.open(Phase::InColor),
+            Start::Return => {
+                self.painter.carriage_return();
+                Ok(())
+            }
+            Start::Newline => self.painter.new_line(),
+            Start::Skip => Ok(()),
+        }
+    }
+
+    /// Opens a command.
+    fn open(&mut self, phase: Phase) -> Result<()>
+        ensures opened { self.new.phase ≡ phase }
+        ensures bare { Keeps self.new.parameters [] }
+        ensures painter { self.new.painter ≡ self.old.painter }
+        ensures ok { IsOk result }
+    {
+        self.phase = phase;
+        self.parameters = Parameters::new();
+        Ok(())
+    }
+
+    /// Reads a byte that carries meaning.
+    pub fn push(&mut self, byte: u8) -> Result<()>
+        ensures { (o : Origin) (h : History) → Stands o self.old h
+            → Reads result o self.new h (read h byte) }
+    {
+        if self.takes(byte) {
+            self.parameters.push(byte);
+            return Ok(());
+        }
+        self.close()?;
+        self.begin(byte)
+    }
+
+    /// Reads a piece up to its first terminator, which ends the open command.
+    pub fn feed(&mut self, piece: &[u8]) -> Result<SixelFeedResult>
+        ensures { (o : Origin) (h : History) → Stands o self.old h
+            → Feeds result o self.new h piece.now }
+    {
+        'bytes: for (index, byte) in piece.iter().enumerate() {
+            if is_terminator(*byte) {
+                self.close()?;
+                return Ok(SixelFeedResult {
+                    consumed: index,
+                    status: SixelFeedStatus::Terminated(*byte),
+                });
+            }
+            if !is_ignored(*byte) {
+                self.push(*byte)?;
+            }
+        }
+        Ok(SixelFeedResult {
+            consumed: piece.len(),
+            status: SixelFeedStatus::NeedMoreData,
+        })
+    }
+
+    /// Ends the open command, and gives the picture.
+    pub fn finish(mut self) -> Result<Picture>
+        ensures { (o : Origin) (h : History) (ended : Bool) → StandsAfter ended o self h
+            → Ends result o h }
+    {
+        self.close()?;
+        let Frame { painter, .. } = self;
+        painter.finish()
+    }
+}

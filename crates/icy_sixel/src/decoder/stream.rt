@@ -1,0 +1,233 @@
+//! The session that decodes one payload as it comes.
+
+ghost use Rattle.std.specs.Prelude.{◌≡◌, ◌+◌, ◌≤◌, ◌++◌, [], true, false, nat_lt, is_none, None, OnOk};
+ghost use Rattle.std.specs.Prelude.{OnErr, IfOk, IfErr, MatchBool, Some, length, List, ℕ};
+ghost use Rattle.sixel_base.specs.Stroke.{Origin};
+ghost use Rattle.icy_sixel.specs.Intake.{HasRead, GoesOn};
+ghost use Rattle.sixel_base.specs.Bytes.{count, first_terminator};
+ghost use Rattle.sixel_base.specs.Fault.{Faults, IsFault, StreamFailed};
+ghost use Rattle.sixel_base.specs.Payload.{area_limit, fed_fault, settled, growths, payload_fault};
+ghost use Rattle.sixel_base.specs.Payload.{payload_image, payload_registers};
+ghost use Rattle.icy_sixel.specs.Frame.{status_of};
+ghost use Rattle.icy_sixel.specs.ImageView.{image_value};
+ghost use Rattle.icy_sixel.specs.Session.{Session, with_piece, refused};
+
+use crate::decoder::frame::Frame;
+use crate::decoder::log::Log;
+use crate::decoder::painter::Picture;
+use crate::decoder::{DcsSettings, SixelDecoder, SixelFeedResult, SixelFeedStatus};
+use crate::sixel_image::SixelImage;
+use sixel_base::registers::Registers;
+use sixel_base::{Result, SixelError};
+use std::alloc::Global;
+use std::marker::Model;
+use std::snapshot::Snapshot;
+
+/// What a session was fed, and the frame that reads it until it is refused.
+#[derive(Drop)]
+pub struct Intake {
+    frame: Option<Frame>,
+    terminator: Option<u8>,
+    settings: DcsSettings,
+    start: Snapshot<Registers>,
+    log: Log,
+}
+
+impl Model for Intake {
+    ghost use Rattle.icy_sixel.specs.Session.{Session};
+
+    ghost Value = { Session };
+
+    ghost use Rattle.icy_sixel.specs.Intake.{session_of, IsReading};
+
+    ghost view = { session_of };
+
+    ghost invariant = { IsReading };
+}
+
+impl Intake {
+    /// An intake that was fed nothing.
+    pub fn new(alloc: Global, registers: Registers, settings: DcsSettings) -> Intake
+        ensures { result ≡ record {
+          origin = record { registers = registers; settings = settings };
+          bytes = [];
+          is_refused = false;
+        } }
+    {
+        Intake {
+            frame: Some(Frame::new(alloc, registers, settings)),
+            terminator: None,
+            settings,
+            start: Snapshot::of(&registers),
+            log: Log::new(),
+        }
+    }
+
+    /// Reads a piece up to its first terminator.
+    pub fn feed(&mut self, piece: &[u8]) -> Result<SixelFeedResult>
+        ensures origin { self.new.origin ≡ self.old.origin }
+        ensures bytes { self.new.bytes ≡ self.old.bytes ++ piece.now }
+        ensures ok { OnOk result ((self.old.is_refused ≡ false) × (self.new.is_refused ≡ false)) }
+        ensures err { OnErr result (self.new.is_refused ≡ true) }
+        ensures faultless { OnOk result (fed_fault area_limit self.new.bytes ≡ None) }
+        ensures consumed { IfOk result (λ fed.
+            count self.old.bytes + fed.consumed ≡ count self.new.bytes) }
+        ensures within { IfOk result (λ fed. fed.consumed ≤ length piece.now) }
+        ensures status { IfOk result (λ fed.
+            fed.status ≡ status_of (first_terminator self.new.bytes)) }
+        ensures error { IfErr result (λ error. MatchBool self.old.is_refused
+            (IsFault error StreamFailed)
+            (Faults error
+            (nat_lt (growths (settled self.old.bytes)) (growths (settled self.new.bytes)))
+            (fed_fault area_limit self.new.bytes))) }
+    {
+        self.log.extend(piece);
+        let Some(frame) = &mut self.frame else {
+            return Err(SixelError::stream_failed());
+        };
+        match go_on(frame, self.terminator, piece) {
+            Ok(fed) => {
+                self.terminator = fed.status.terminator();
+                Ok(fed)
+            }
+            Err(error) => {
+                self.frame = None;
+                Err(error)
+            }
+        }
+    }
+
+    /// The picture of the bytes that were fed.
+    pub fn finish(self) -> Result<Picture>
+        ensures faultless { OnOk result (payload_fault area_limit self.bytes ≡ None) }
+        ensures image { IfOk result (λ picture.
+            image_value picture.image ≡ payload_image self.origin self.bytes) }
+        ensures registers { IfOk result (λ picture.
+            picture.registers ≡ payload_registers self.origin self.bytes) }
+        ensures accepted { OnOk result (self.is_refused ≡ false) }
+        ensures error { IfErr result (λ error. MatchBool self.is_refused
+            (IsFault error StreamFailed)
+            (Faults error (is_none (payload_fault area_limit self.bytes))
+            (payload_fault area_limit self.bytes))) }
+    {
+        let Intake { frame, .. } = self;
+        match frame {
+            Some(frame) => frame.finish(),
+            None => Err(SixelError::stream_failed()),
+        }
+    }
+}
+
+/// A payload that is decoded as it comes.
+///
+/// It borrows its decoder until it is finished, aborted or dropped, and the decoder's registers
+/// change by a successful [`finish`](Self::finish) alone.
+pub struct SixelStreamDecoder<'a, F = Intake> {
+    owner: &'a mut SixelDecoder,
+    intake: F,
+}
+
+impl<'a, F: Drop> Drop for SixelStreamDecoder<'a, F> {
+    fn drop(self)
+        ensures { self.exit.0.now ≡ self.entry.owner.now }
+    {
+        let SixelStreamDecoder {
+            owner: _,
+            intake: _,
+        } = self;
+    }
+}
+
+impl<'a> SixelStreamDecoder<'a> {
+    /// A session that was fed nothing.
+    pub(crate) fn begin(alloc: Global, owner: &'a mut SixelDecoder, settings: DcsSettings) -> Self
+        ensures owner { result.owner.ghost_name ≡ owner.entry.ghost_name }
+        ensures registers { result.owner.now ≡ owner.old }
+        ensures session { result.intake ≡ record {
+          origin = record { registers = owner.old; settings = settings };
+          bytes = [];
+          is_refused = false;
+        } }
+    {
+        let registers = owner.registers;
+        SixelStreamDecoder {
+            owner,
+            intake: Intake::new(alloc, registers, settings),
+        }
+    }
+
+    /// Reads a piece up to its first terminator, which is left to the caller.
+    ///
+    /// A piece may end anywhere, also within a number: how the payload is cut has no effect on what
+    /// it means. After a terminator each later feed consumes nothing and gives the same status. A
+    /// piece is refused as soon as the bytes so far are, for the same reasons as by
+    /// [`decode_from_dcs`](SixelDecoder::decode_from_dcs); after a refusal each later feed answers
+    /// `SixelError::InvalidData("stream decoder has failed")`.
+    pub fn feed(&mut self, piece: &[u8]) -> Result<SixelFeedResult>
+        ensures owner { self.new.owner.ghost_name ≡ self.old.owner.ghost_name }
+        ensures registers { self.new.owner.now ≡ self.old.owner.now }
+        ensures origin { self.new.intake.origin ≡ self.old.intake.origin }
+        ensures bytes { self.new.intake.bytes ≡ self.old.intake.bytes ++ piece.now }
+        ensures ok { OnOk result
+            ((self.old.intake.is_refused ≡ false) × (self.new.intake.is_refused ≡ false)) }
+        ensures err { OnErr result (self.new.intake.is_refused ≡ true) }
+        ensures faultless { OnOk result (fed_fault area_limit self.new.intake.bytes ≡ None) }
+        ensures consumed { IfOk result (λ fed.
+            count self.old.intake.bytes + fed.consumed ≡ count self.new.intake.bytes) }
+        ensures within { IfOk result (λ fed. fed.consumed ≤ length piece.now) }
+        ensures status { IfOk result (λ fed.
+            fed.status ≡ status_of (first_terminator self.new.intake.bytes)) }
+        ensures error { IfErr result (λ error. MatchBool self.old.intake.is_refused
+            (IsFault error StreamFailed)
+            (Faults error
+            (nat_lt (growths (settled self.old.intake.bytes))
+            (growths (settled self.new.intake.bytes)))
+            (fed_fault area_limit self.new.intake.bytes))) }
+    {
+        self.intake.feed(piece)
+    }
+
+    /// Ends the payload, gives its image, and then gives the decoder the registers that it defined.
+    ///
+    /// It need not have met a terminator; an open command then ends here, and may be refused. A
+    /// refusal leaves the decoder as it was.
+    pub fn finish(self) -> Result<SixelImage>
+        ensures image { IfOk result (λ image.
+            image_value image ≡ payload_image self.entry.intake.origin self.entry.intake.bytes) }
+        ensures faultless { OnOk result (payload_fault area_limit self.entry.intake.bytes ≡ None) }
+        ensures registers { OnOk result (self.exit.0.now
+            ≡ payload_registers self.entry.intake.origin self.entry.intake.bytes) }
+        ensures accepted { OnOk result (self.entry.intake.is_refused ≡ false) }
+        ensures kept { OnErr result (self.exit.0.now ≡ self.entry.owner.now) }
+        ensures error { IfErr result (λ error. MatchBool self.entry.intake.is_refused
+            (IsFault error StreamFailed)
+            (Faults error (is_none (payload_fault area_limit self.entry.intake.bytes))
+            (payload_fault area_limit self.entry.intake.bytes))) }
+    {
+        let SixelStreamDecoder { owner, intake } = self;
+        let picture = intake.finish()?;
+        owner.registers = picture.registers;
+        Ok(picture.image)
+    }
+
+    /// Ends the session, and changes nothing, as dropping it does.
+    pub fn abort(self)
+        ensures { self.exit.0.now ≡ self.entry.owner.now }
+    {
+        drop(self);
+    }
+}
+
+/// Reads a piece, unless the payload has ended.
+fn go_on(frame: &mut Frame, terminator: Option<u8>, piece: &[u8]) -> Result<SixelFeedResult>
+    ensures { (o : Origin) (before : List ℕ) → HasRead (Some frame.old) o terminator before
+        → GoesOn result o frame.new before piece.now }
+{
+    match terminator {
+        Some(byte) => Ok(SixelFeedResult {
+            consumed: 0,
+            status: SixelFeedStatus::Terminated(byte),
+        }),
+        None => frame.feed(piece),
+    }
+}

@@ -1,0 +1,244 @@
+//! An image as its pixels, sizes, pixel shape and background.
+
+ghost use Rattle.std.specs.Prelude.{◌≡◌, ℕ, ◌+◌, ◌*◌, ◌<◌, ◌≤◌, ◌↔◌, length, slice_index, IsTrue};
+ghost use Rattle.std.specs.Prelude.{None, OnOk, IfErr, IfOk, MatchOption, MatchResult, string_bytes};
+ghost use Rattle.std.specs.Option.{option_or};
+ghost use Rattle.sixel_base.specs.Settings.{pad_of};
+ghost use Rattle.sixel_base.specs.Size.{size_fault, buffer_fault};
+
+use crate::decoder::{DcsSettings, SixelDecoder};
+use crate::encoder::{EncodeOptions, Source, encode_source};
+pub use sixel_base::settings::{BackgroundMode, PixelAspectRatio};
+use sixel_base::size::{pixel_bytes, validate_buffer};
+use sixel_base::{Result, SixelError};
+use std::alloc::Global;
+
+/// An image: four bytes a pixel (red, green, blue, alpha), row by row from the top, each row from
+/// the left.
+#[derive(Debug, Drop)]
+pub struct SixelImage {
+    /// The pixels, `4 * width * height` bytes.
+    pub pixels: Vec<u8>,
+    /// Pixels in a row.
+    pub width: usize,
+    /// Rows.
+    pub height: usize,
+    /// The shape of a pixel.
+    pub aspect_ratio: PixelAspectRatio,
+    /// What stands where nothing was drawn.
+    pub background_mode: BackgroundMode,
+}
+
+impl SixelImage {
+    ghost use Rattle.sixel_base.specs.Color.{default_registers};
+    ghost use Rattle.sixel_base.specs.Fault.{Faults};
+    ghost use Rattle.sixel_base.specs.Payload.{area_limit, payload_fault, payload_image, payload_wants};
+    ghost use Rattle.icy_sixel.specs.OneShot.{found, found_fault, found_wants, IsFoundImage};
+    ghost use Rattle.icy_sixel.specs.Text.{Drawing};
+    ghost use Rattle.icy_sixel.specs.Encoding.{image_fault, IsDrawing, IsText};
+    ghost use Rattle.icy_sixel.specs.ImageView.{image_value};
+    ghost use Rattle.icy_sixel.specs.Encoding.{AreShortest};
+    ghost use Rattle.icy_sixel.specs.Trip.{IsOneString, IsReadAs, IsTrip, trip};
+
+    /// Decodes the first control string in the bytes, or all of them as a payload if there is none,
+    /// as [`SixelDecoder::decode`] of a new decoder does.
+    pub fn decode(alloc: Global, bytes: &[u8]) -> Result<Self>
+        ensures image { IfOk result
+            (λ image. IsFoundImage default_registers (found bytes.now) (image_value image)) }
+        ensures faultless { OnOk result (found_fault (found bytes.now) ≡ None) }
+        ensures refused { IfErr result (λ error. Faults error (found_wants (found bytes.now))
+            (found_fault (found bytes.now))) }
+    {
+        SixelDecoder::new().decode(alloc, bytes)
+    }
+
+    /// Decodes one payload, as [`SixelDecoder::decode_from_dcs`] of a new decoder does.
+    pub fn decode_from_dcs(alloc: Global, bytes: &[u8], settings: DcsSettings) -> Result<Self>
+        ensures image { IfOk result (λ image. image_value image ≡ payload_image
+            (record { registers = default_registers; settings = settings }) bytes.now) }
+        ensures faultless { OnOk result (payload_fault area_limit bytes.now ≡ None) }
+        ensures refused { IfErr result (λ error. Faults error (payload_wants bytes.now)
+            (payload_fault area_limit bytes.now)) }
+    {
+        SixelDecoder::new().decode_from_dcs(alloc, bytes, settings)
+    }
+
+    /// As [`decode`](Self::decode) of a text's bytes.
+    pub fn from_str(alloc: Global, text: &str) -> Result<Self>
+        ensures image { IfOk result
+            (λ image. IsFoundImage default_registers (found text.now) (image_value image)) }
+        ensures faultless { OnOk result (found_fault (found text.now) ≡ None) }
+        ensures refused { IfErr result (λ error. Faults error (found_wants (found text.now))
+            (found_fault (found text.now))) }
+    {
+        Self::decode(alloc, text.as_bytes())
+    }
+
+    /// An image of these pixels, with square pixels and a transparent background. Nothing is
+    /// checked.
+    pub fn from_rgba(pixels: Vec<u8>, width: usize, height: usize) -> Self
+        ensures { result ≡ record {
+          pixels = pixels;
+          width = width;
+          height = height;
+          aspect_ratio = PixelAspectRatio.Square;
+          background_mode = BackgroundMode.Transparent;
+        } }
+    {
+        Self {
+            pixels,
+            width,
+            height,
+            aspect_ratio: PixelAspectRatio::Square,
+            background_mode: BackgroundMode::Transparent,
+        }
+    }
+
+    /// As [`from_rgba`](Self::from_rgba), for sizes that are not zero and can be counted in bytes,
+    /// and as many bytes.
+    ///
+    /// A refusal drops the pixels: a zero size is `InvalidDimensions`, bytes above `usize::MAX` are
+    /// `IntegerOverflow`, and another number of bytes is `BufferSizeMismatch`, in this order.
+    pub fn try_from_rgba(pixels: Vec<u8>, width: usize, height: usize) -> Result<Self>
+        ensures { MatchOption
+            (option_or (size_fault width height) (buffer_fault width height (length pixels.items)))
+            (result ≡ Ok (record {
+              pixels = pixels;
+              width = width;
+              height = height;
+              aspect_ratio = PixelAspectRatio.Square;
+              background_mode = BackgroundMode.Transparent;
+            }))
+            (λ fault. result ≡ Err fault) }
+    {
+        pixel_bytes(width, height)?;
+        validate_buffer(width, height, pixels.len())?;
+        Ok(Self::from_rgba(pixels, width, height))
+    }
+
+    /// This image with another pixel shape.
+    pub fn with_aspect_ratio(self, ratio: PixelAspectRatio) -> Self
+        ensures { result ≡ record self { aspect_ratio = ratio } }
+    {
+        Self {
+            aspect_ratio: ratio,
+            ..self
+        }
+    }
+
+    /// This image with another background.
+    pub fn with_background_mode(self, mode: BackgroundMode) -> Self
+        ensures { result ≡ record self { background_mode = mode } }
+    {
+        Self {
+            background_mode: mode,
+            ..self
+        }
+    }
+
+    /// Width and height in pixels.
+    pub fn dimensions(&self) -> (usize, usize)
+        ensures { result ≡ (self.now.width, self.now.height) }
+    {
+        (self.width, self.height)
+    }
+
+    /// Width and height as shown, in units of a pixel's width.
+    pub fn corrected_dimensions(&self) -> (usize, usize)
+        requires { self.now.height * pad_of self.now.aspect_ratio ≤ usize.MAX }
+        ensures { result ≡ (self.now.width, self.now.height * pad_of self.now.aspect_ratio) }
+    {
+        (
+            self.width,
+            self.height * usize::from(self.aspect_ratio.pad()),
+        )
+    }
+
+    /// Whether some pixel is hidden: its alpha, the last of its four bytes, is below 128.
+    pub fn has_transparency(&self) -> bool
+        ensures { IsTrue result ↔ ((pixel : ℕ) × (4 * pixel + 3 < length self.now.pixels.items)
+            × (slice_index self.now.pixels.items (4 * pixel + 3) < 128)) }
+    {
+        let count = self.pixels.len() / 4;
+        for pixel in 0..count {
+            if self.pixels[4 * pixel + 3] < 128 {
+                return true;
+            }
+        }
+        false
+    }
+
+    /// A copy of this image.
+    pub fn clone(&self, alloc: Global) -> Result<Self>
+        ensures { MatchResult result
+            (λ image. image_value image ≡ image_value self.now) (λ e. e ≡ SixelError.OutOfMemory) }
+    {
+        Ok(Self {
+            pixels: Vec::from_slice(alloc, &self.pixels)?,
+            width: self.width,
+            height: self.height,
+            aspect_ratio: self.aspect_ratio,
+            background_mode: self.background_mode,
+        })
+    }
+
+    /// The SIXEL text of this image with the default options.
+    pub fn encode(&self, alloc: Global) -> Result<String>
+        ensures refused { MatchOption (image_fault (image_value self.now))
+            (IfErr result (λ e. e ≡ SixelError.OutOfMemory))
+            (λ fault. result ≡ Err fault) }
+        ensures text { IfOk result (λ text. IsText (image_value self.now) 256 (string_bytes text)) }
+    {
+        self.encode_with(alloc, &EncodeOptions::default())
+    }
+
+    /// The SIXEL text of this image.
+    ///
+    /// ```text
+    /// let options = EncodeOptions { max_colors: 16 };
+    /// let text = image.encode_with(alloc, &options)?;
+    /// ```
+    ///
+    /// Refused are, in this order: a zero size (`InvalidDimensions`), bytes above `usize::MAX`
+    /// (`IntegerOverflow`), sizes above the limits (`InvalidDimensions`), and pixels of another
+    /// number of bytes (`BufferSizeMismatch`).
+    pub fn encode_with(&self, alloc: Global, options: &EncodeOptions) -> Result<String>
+        ensures refused { MatchOption (image_fault (image_value self.now))
+            (IfErr result (λ e. e ≡ SixelError.OutOfMemory))
+            (λ fault. result ≡ Err fault) }
+        ensures text { IfOk result
+            (λ text. IsText (image_value self.now) options.now.max_colors (string_bytes text)) }
+        ensures shortest { (drawing : Drawing)
+            → IsDrawing (image_value self.now) options.now.max_colors drawing
+            → AreShortest drawing }
+        ensures one_string { IfOk result (λ text. IsOneString (string_bytes text)) }
+        ensures read_back { IfOk result (λ text. (drawing : Drawing)
+            × IsDrawing (image_value self.now) options.now.max_colors drawing
+            × IsReadAs (string_bytes text) (trip drawing)) }
+        ensures again { IsTrip (image_value self.now) options.now.max_colors
+            → self.now.background_mode ≡ BackgroundMode.Transparent
+            → IfOk result (λ text. IsReadAs (string_bytes text) (image_value self.now)) }
+    {
+        let source = Source {
+            pixels: &self.pixels,
+            width: self.width,
+            height: self.height,
+            aspect_ratio: self.aspect_ratio,
+            background_mode: self.background_mode,
+        };
+        encode_source(alloc, &source, options.max_colors)
+    }
+
+    /// The text of [`encode`](Self::encode), or a line that says why there is none.
+    pub fn to_display_string(&self, alloc: Global) -> Result<String>
+        ensures memory { IfErr result (λ e. e ≡ SixelError.OutOfMemory) }
+        ensures text { image_fault (image_value self.now) ≡ None
+            → IfOk result (λ text. IsText (image_value self.now) 256 (string_bytes text)) }
+    {
+        match self.encode(alloc) {
+            Err(SixelError::OutOfMemory) => Err(SixelError::OutOfMemory),
+            Err(error) => Ok(format!(in alloc; "[SIXEL encoding failed: {error}]")?),
+            Ok(text) => Ok(text),
+        }
+    }
+}

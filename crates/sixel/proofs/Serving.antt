@@ -1,0 +1,89 @@
+use Rattle.std.proofs.Common.{◌≡◌, ℕ, List, ◌++◌, [], take, drop, ap, sym, subst, refl, true, ◌∙◌, append_assoc, append-nil, take-append-drop, Option, None, Some, Result, Ok, Err, OnOk, OnErr, IfErr, MatchOption}
+use Rattle.std.specs.Result.{IsErrAnd}
+use Rattle.std.proofs.KnownBytes.{Appends-trans}
+use Rattle.std.specs.Io.KnownBytes.{Appends}
+use Rattle.sixel_base.specs.Payload.{Image}
+use Rattle.sixel_base.specs.Settings.{Settings}
+use Rattle.sixel_base.specs.Stroke.{Origin}
+use Rattle.sixel_base.specs.Fault as data_fault
+use Rattle.sixel.specs.declared.fault.Fault.{Fault}
+use Rattle.sixel.specs.declared.fault.Fault.TheVariants.{Sixel, Input, Output}
+use Rattle.sixel.specs.Form.{line_end, image_line, image_form}
+use Rattle.sixel.specs.Answer.{Ending, Done, Refused, fresh, IsImageAnswer, Writes, Begins, Serves}
+
+-- ---- an answer that is written in parts
+
+-- a beginning of the bytes, where these stand between a front and a rest
+take-between : (front bytes rest : List ℕ) (count : ℕ) → (front ++ bytes) ++ rest ≡ (front ++ take count bytes) ++ (drop count bytes ++ rest)
+take-between front bytes rest count =
+    append_assoc front bytes rest
+    ∙ ap (λ l. front ++ l) (ap (λ l. l ++ rest) (sym (take-append-drop count bytes)) ∙ append_assoc (take count bytes) (drop count bytes) rest)
+    ∙ sym (append_assoc front (take count bytes) (drop count bytes ++ rest))
+
+-- an answer whose bytes so far stop among these
+Begins-part : (IsText : List ℕ → Ending → Type 0) (a b c : Option (List ℕ)) (front bytes rest : List ℕ) → IsText ((front ++ bytes) ++ rest) Done
+    → Appends a b front → (count : ℕ) × Appends b c (take count bytes) → Writes (Begins IsText) a c
+Begins-part IsText a b c front bytes rest whole before (count, part) =
+    let split = take-between front bytes rest count in
+    (front ++ take count bytes, (drop count bytes ++ rest, Done, subst (λ t. IsText t Done) split whole), Appends-trans a b c _ _ before part)
+
+-- a part that could not be written whole
+pub Serves-part : {A : Type 0} (result : Result A Fault) (fault : Fault) (IsText : List ℕ → Ending → Type 0) (a b c : Option (List ℕ)) (front bytes rest : List ℕ)
+    → IsText ((front ++ bytes) ++ rest) Done → IsErrAnd result (λ f. f ≡ fault) → fault ≡ Output → Appends a b front
+    → (count : ℕ) × Appends b c (take count bytes) → Serves result IsText a c
+Serves-part (Ok _) fault IsText a b c front bytes rest whole failed is_output before part = absurd failed
+Serves-part {A} (Err f) fault IsText a b c front bytes rest whole failed is_output before part =
+    subst (λ e. Serves {A = A} (Err e) IsText a c) (sym (failed ∙ is_output)) (Begins-part IsText a b c front bytes rest whole before part)
+
+-- the last part
+pub Serves-last : {A : Type 0} (result : Result A Fault) (IsText : List ℕ → Ending → Type 0) (a b c : Option (List ℕ)) (front bytes : List ℕ)
+    → IsText (front ++ bytes) Done → Appends a b front → OnOk result (Appends b c bytes) → OnErr result ((count : ℕ) × Appends b c (take count bytes))
+    → IfErr result (λ f. f ≡ Output) → Serves result IsText a c
+Serves-last (Ok _) IsText a b c front bytes whole before all part is_output = (front ++ bytes, whole, Appends-trans a b c _ _ before all)
+Serves-last {A} (Err f) IsText a b c front bytes whole before all part is_output =
+    let same = subst (λ t. IsText t Done) (sym (append-nil (front ++ bytes))) whole in
+    Serves-part {A = A} (Err f) f IsText a b c front bytes [] same refl is_output before part
+
+-- ---- images
+
+-- what makes up the form of an image
+pub image_form-parts : (image : Image) (line pixels : List ℕ) → line ≡ image_line image → pixels ≡ image.pixels → (line ++ pixels) ++ line_end ≡ image_form image
+image_form-parts image line pixels is_line are_pixels =
+    ap (λ l. (l ++ pixels) ++ line_end) is_line ∙ ap (λ l. (image_line image ++ l) ++ line_end) are_pixels
+
+-- an answer that is also an answer of another kind
+Serves-weaker : {A : Type 0} (result : Result A Fault) (P Q : List ℕ → Ending → Type 0) (a b : Option (List ℕ))
+    → ((text : List ℕ) (ending : Ending) → P text ending → Q text ending) → Serves result P a b → Serves result Q a b
+Serves-weaker (Ok _) P Q a b also (text, is, grown) = (text, also text Done is, grown)
+Serves-weaker (Err (Sixel error)) P Q a b also (text, is, grown) = (text, also text (Refused error) is, grown)
+Serves-weaker (Err Input) P Q a b also served = served
+Serves-weaker (Err Output) P Q a b also (text, (rest, ending, is), grown) = (text, (rest, ending, also (text ++ rest) ending is), grown)
+
+-- an image is an answer where nothing is wrong
+IsImageAnswer-of : (fault : Option data_fault.Fault) (IsImage : Image → Type 0) (image : Image) → fault ≡ None → IsImage image
+    → (text : List ℕ) (ending : Ending) → IsImageAnswer None (λ i. i ≡ image) text ending → IsImageAnswer fault IsImage text ending
+IsImageAnswer-of fault IsImage image none is text Done (_, (i, same, form)) = (none, (image, is, form ∙ ap image_form same))
+IsImageAnswer-of fault IsImage image none is text (Refused error) (nothing, why) =
+    (nothing, subst (λ f. data_fault.Faults error true f) (sym none) why)
+
+-- the image that was decoded is written
+pub Serves-image : {A : Type 0} (result : Result A Fault) (fault : Option data_fault.Fault) (IsImage : Image → Type 0) (image : Image) (a b : Option (List ℕ))
+    → fault ≡ None → IsImage image → Serves result (IsImageAnswer None (λ i. i ≡ image)) a b → Serves result (IsImageAnswer fault IsImage) a b
+Serves-image result fault IsImage image a b none is = Serves-weaker result _ _ a b (IsImageAnswer-of fault IsImage image none is)
+
+-- the registers and the settings that a decoding begins from
+abbrev pub origin_of : List (List ℕ) → Settings → Origin
+origin_of registers settings = record { registers = registers; settings = settings }
+
+-- the registers of a new decoder, and no settings
+pub origin_of-fresh : (registers : List (List ℕ)) (settings : Settings) → registers ≡ fresh.registers → settings ≡ fresh.settings
+    → origin_of registers settings ≡ fresh
+origin_of-fresh registers settings e f = ap (λ r. origin_of r settings) e ∙ ap (λ s. origin_of fresh.registers s) f
+
+-- ---- texts
+
+-- a call that was not refused had no fault
+pub no_fault : {A E : Type 0} (fault : Option E) (result : Result A E) (x : A) (P : Type 0) → result ≡ Ok x → MatchOption fault P (λ e. result ≡ Err e)
+    → fault ≡ None
+no_fault None result x P ok is = refl
+no_fault (Some e) result x P ok is = absurd cc

@@ -1,0 +1,56 @@
+-- What the program writes for a word and the bytes of its input, and how it ends: as the definitions of the data's meaning say, or for
+-- want of memory, which may come before any image. The order of the two is this program's own: an image is written once it is whole.
+use Rattle.std.specs.Prelude.{◌≡◌, ◌⊎◌, ℕ, true, List, [], ◌++◌, Option, None, Some, Result, Ok, Err}
+use Rattle.std.specs.Io.KnownBytes.{Appends}
+use Rattle.sixel_base.specs.declared.error.SixelError.{SixelError}
+use Rattle.sixel_base.specs.declared.error.SixelError.TheVariants.{OutOfMemory}
+use Rattle.sixel_base.specs.Color.{default_registers}
+use Rattle.sixel_base.specs.Stroke.{Origin}
+use Rattle.sixel_base.specs.Fault as data_fault
+use Rattle.sixel_base.specs.Payload.{Image, area_limit, payload_fault, payload_image}
+use Rattle.icy_sixel.specs.Encoding.{image_fault, IsText, square_value}
+use Rattle.icy_sixel.specs.OneShot.{no_settings, found, found_fault, IsFoundImage}
+use Rattle.sixel.specs.declared.fault.Fault.{Fault}
+use Rattle.sixel.specs.declared.fault.Fault.TheVariants.{Sixel, Input, Output}
+use Rattle.sixel.specs.declared.words.Word.{Word}
+use Rattle.sixel.specs.declared.words.Word.TheVariants.{Payload, Decode, Encode}
+use Rattle.sixel.specs.Form.{image_form}
+
+pub data Ending : Type 0 where
+  Done : Ending
+  Refused : SixelError → Ending
+
+-- a new decoder, and no settings
+abbrev pub fresh : Origin
+fresh = record { registers = default_registers; settings = no_settings }
+
+-- an image of this kind, or the refusal by this fault with nothing written
+abbrev pub IsImageAnswer : Option data_fault.Fault → (Image → Type 0) → List ℕ → Ending → Type 0
+IsImageAnswer fault IsImage text Done = (fault ≡ None) × ((image : Image) × IsImage image × (text ≡ image_form image))
+IsImageAnswer fault IsImage text (Refused error) = (text ≡ []) × data_fault.Faults error true fault
+
+-- the text of square pixels on a transparent background, or its refusal with nothing written
+abbrev pub IsTextAnswer : Image → ℕ → List ℕ → Ending → Type 0
+IsTextAnswer image colors text Done = (image_fault image ≡ None) × IsText image colors text
+IsTextAnswer image colors text (Refused error) = (text ≡ []) × ((error ≡ OutOfMemory) ⊎ (image_fault image ≡ Some error))
+
+-- the text that a word writes for these bytes, and how it ends
+abbrev pub IsAnswer : Word → List ℕ → List ℕ → Ending → Type 0
+IsAnswer Payload bytes = IsImageAnswer (payload_fault area_limit bytes) (λ image. image ≡ payload_image fresh bytes)
+IsAnswer Decode bytes = IsImageAnswer (found_fault (found bytes)) (IsFoundImage default_registers (found bytes))
+IsAnswer (Encode width height colors) bytes = IsTextAnswer (square_value bytes width height) colors
+
+-- what a writer holds grew by a text of this kind
+abbrev pub Writes : (List ℕ → Type 0) → Option (List ℕ) → Option (List ℕ) → Type 0
+Writes IsText old new = (text : List ℕ) × IsText text × Appends old new text
+
+-- an answer, whatever its ending, begins with this text
+abbrev pub Begins : (List ℕ → Ending → Type 0) → List ℕ → Type 0
+Begins IsText text = (rest : List ℕ) × (ending : Ending) × IsText (text ++ rest) ending
+
+-- What a writer holds grew by an answer as far as it came: the whole of it, that before the refusal, or a beginning where the writer failed.
+abbrev pub Serves : {A : Type 0} → Result A Fault → (List ℕ → Ending → Type 0) → Option (List ℕ) → Option (List ℕ) → Type 0
+Serves (Ok _) IsText old new = Writes (λ text. IsText text Done) old new
+Serves (Err (Sixel error)) IsText old new = Writes (λ text. IsText text (Refused error)) old new
+Serves (Err Input) IsText old new = ⊥
+Serves (Err Output) IsText old new = Writes (Begins IsText) old new

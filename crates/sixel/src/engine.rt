@@ -1,0 +1,92 @@
+ghost use Rattle.std.specs.Prelude.{◌≡◌, OnOk, IfSome};
+ghost use Rattle.std.specs.Io.KnownBytes.{Keeps, IsAtEnd};
+ghost use Rattle.sixel_base.specs.declared.error.SixelError.{SixelError};
+ghost use Rattle.sixel.specs.declared.fault.Fault.TheVariants.{Sixel, Input, Output};
+ghost use Rattle.sixel.specs.declared.words.Word.TheVariants.{Payload, Decode, Encode};
+ghost use Rattle.sixel.specs.Answer.{Done, Refused, IsAnswer, Writes, Begins, Serves};
+
+use crate::fault::Fault;
+use crate::images::write_image;
+use crate::streams::{read_all, write_all};
+use crate::words::Word;
+use icy_sixel::{DcsSettings, EncodeOptions, SixelDecoder, sixel_encode};
+use std::alloc::Global;
+use std::io::{Read, Write};
+
+/// Does what the word asks for with the bytes of the input, which is read to its end first.
+///
+/// The clauses on bytes hold where the reader tells what it has left and the writer what it holds.
+pub fn serve<R: Read, O: Write>(
+    alloc: Global,
+    word: Word,
+    input: &mut R,
+    output: &mut O,
+) -> Result<(), Fault>
+    ensures done { OnOk result (IfSome (R.remaining input.old) (λ bytes.
+        Writes (λ text. IsAnswer word bytes text Done)
+        (O.contents output.old) (O.contents output.new))) }
+    ensures refused { (error : SixelError) → result ≡ Err (Sixel error) →
+        IfSome (R.remaining input.old) (λ bytes.
+        Writes (λ text. IsAnswer word bytes text (Refused error))
+        (O.contents output.old) (O.contents output.new)) }
+    ensures unread { result ≡ Err Input → Keeps (O.contents output.old) (O.contents output.new) }
+    ensures unwritten { result ≡ Err Output → IfSome (R.remaining input.old) (λ bytes.
+        Writes (Begins (IsAnswer word bytes)) (O.contents output.old) (O.contents output.new)) }
+    ensures at_end { OnOk result (IsAtEnd (R.remaining input.new)) }
+{
+    let bytes = read_all(alloc, input)?;
+    answer(alloc, word, &bytes, output)
+}
+
+/// Does what the word asks for with these bytes.
+fn answer<O: Write>(alloc: Global, word: Word, bytes: &[u8], output: &mut O) -> Result<(), Fault>
+    ensures { Serves result (IsAnswer word bytes.now) (O.contents output.old)
+        (O.contents output.new) }
+{
+    match word {
+        Word::Payload => payload(alloc, bytes, output),
+        Word::Decode => decode(alloc, bytes, output),
+        Word::Encode(width, height, colors) => encode(
+            alloc,
+            bytes,
+            (width, height),
+            colors,
+            output,
+        ),
+    }
+}
+
+/// Writes the image of one payload.
+fn payload<O: Write>(alloc: Global, bytes: &[u8], output: &mut O) -> Result<(), Fault>
+    ensures { Serves result (IsAnswer Payload bytes.now) (O.contents output.old)
+        (O.contents output.new) }
+{
+    let settings = DcsSettings::new(None, None, None);
+    let image = SixelDecoder::new().decode_from_dcs(alloc, bytes, settings)?;
+    write_image(alloc, &image, output)
+}
+
+/// Writes the image of the first control string, or of all the bytes as one payload.
+fn decode<O: Write>(alloc: Global, bytes: &[u8], output: &mut O) -> Result<(), Fault>
+    ensures { Serves result (IsAnswer Decode bytes.now) (O.contents output.old)
+        (O.contents output.new) }
+{
+    let image = SixelDecoder::new().decode(alloc, bytes)?;
+    write_image(alloc, &image, output)
+}
+
+/// Writes the text of raw pixels of this width and height, in at most so many colors.
+fn encode<O: Write>(
+    alloc: Global,
+    pixels: &[u8],
+    size: (usize, usize),
+    max_colors: u16,
+    output: &mut O,
+) -> Result<(), Fault>
+    ensures { Serves result (IsAnswer (Encode size.0 size.1 max_colors) pixels.now)
+        (O.contents output.old) (O.contents output.new) }
+{
+    let options = EncodeOptions { max_colors };
+    let text = sixel_encode(alloc, pixels, size.0, size.1, &options)?;
+    write_all(output, text.as_bytes())
+}

@@ -1,0 +1,91 @@
+ghost use Rattle.std.specs.Prelude.{◌≡◌, ◌<◌, ◌^◌, ℕ, IfSome, IfNone, option_map, Some, None, codes};
+ghost use Rattle.sixel.specs.Words.{Asks, IsNumber};
+
+/// What the program is asked to do with its input.
+#[derive(Clone, Copy, Debug, PartialEq, Eq)]
+pub enum Word {
+    /// Decode one payload, the data of a control string, and write its image.
+    Payload,
+    /// Decode the first control string, or all bytes as a payload, and write the image.
+    Decode,
+    /// Encode raw pixels of this width and height in at most so many colors, and write the text.
+    Encode(usize, usize, u16),
+}
+
+/// Reads the words of the command line: the first, and up to three that may follow it.
+///
+/// `None` is for words that ask for nothing that the program does.
+pub fn read_word(word: &str, a: Option<&str>, b: Option<&str>, c: Option<&str>) -> Option<Word>
+    ensures asked { IfSome result (λ asked. Asks asked word.now
+        (option_map (λ t. t.now) a.entry) (option_map (λ t. t.now) b.entry)
+        (option_map (λ t. t.now) c.entry)) }
+    ensures usage { IfNone result ((asked : Word) → ¬ Asks asked word.now
+        (option_map (λ t. t.now) a.entry) (option_map (λ t. t.now) b.entry)
+        (option_map (λ t. t.now) c.entry)) }
+{
+    match (word, a, b, c) {
+        ("payload", None, None, None) => Some(Word::Payload),
+        ("decode", None, None, None) => Some(Word::Decode),
+        ("encode", Some(width), Some(height), Some(colors)) => encode(width, height, colors),
+        _ => None,
+    }
+}
+
+/// What the word `encode` asks for with three numbers after it.
+fn encode(width: &str, height: &str, colors: &str) -> Option<Word>
+    ensures asked { IfSome result (λ asked. Asks asked (codes "encode")
+        (Some width.now) (Some height.now) (Some colors.now)) }
+    ensures usage { IfNone result ((asked : Word) → ¬ Asks asked (codes "encode")
+        (Some width.now) (Some height.now) (Some colors.now)) }
+{
+    let (width, height) = (number(width)?, number(height)?);
+    let colors = u16::try_from(number(colors)?).ok()?;
+    Some(Word::Encode(width, height, colors))
+}
+
+/// The number that decimal digits write, with no sign before them.
+fn number(text: &str) -> Option<usize>
+    ensures read { IfSome result (λ n. IsNumber text.now n × (n < 2 ^ 64)) }
+    ensures other { IfNone result ((n : ℕ) → n < 2 ^ 64 → ¬ IsNumber text.now n) }
+{
+    if text.starts_with('+') {
+        return None;
+    }
+    text.parse().ok()
+}
+
+#[cfg(test)]
+mod tests {
+    use super::*;
+
+    #[test]
+    fn words_ask_for_work(rt: HostRuntime) {
+        assert_eq!(rt; read_word("payload", None, None, None), Some(Word::Payload));
+        assert_eq!(rt; read_word("decode", None, None, None), Some(Word::Decode));
+        let encode = read_word("encode", Some("3"), Some("01"), Some("65535"));
+        assert_eq!(rt; encode, Some(Word::Encode(3, 1, 65535)));
+    }
+
+    #[test]
+    fn other_words_are_refused(rt: HostRuntime) {
+        let rows = [
+            ("", None, None, None),
+            ("Payload", None, None, None),
+            ("payload ", None, None, None),
+            ("payload", Some(""), None, None),
+            ("decode", Some("1"), None, None),
+            ("frames", Some("0"), None, None),
+            ("encode", Some("1"), Some("1"), None),
+            ("encode", Some("1"), Some("1"), Some("65536")),
+            ("encode", Some("18446744073709551616"), Some("1"), Some("2")),
+            ("encode", Some("+1"), Some("1"), Some("2")),
+            ("encode", Some("1"), Some("-1"), Some("2")),
+            ("encode", Some("1"), Some("1"), Some(" 2")),
+            ("encode", Some(""), Some("1"), Some("2")),
+            ("payload", None, None, Some("1")),
+        ];
+        for (word, a, b, c) in rows {
+            assert_eq!(rt; read_word(word, a, b, c), None);
+        }
+    }
+}

@@ -1,0 +1,41 @@
+-- Why data are refused, apart from any code: the seven texts of invalid data, a missing introducer, and a size
+-- that no number holds. The causes are those of the documentation of icy_sixel.
+use Rattle.std.specs.Prelude.{◌≡◌, List, [], ℕ, codes, Bool, IsTrue, Option, IsSomeAnd}
+use Rattle.sixel_base.specs.declared.error.SixelError.{SixelError}
+use Rattle.sixel_base.specs.declared.error.SixelError.TheVariants.{InvalidDimensions, BufferSizeMismatch, InvalidData, NoSixelData, IntegerOverflow, OutOfMemory}
+
+pub data Fault : Type 0 where
+  Malformed : Fault
+  TooLarge : Fault
+  MissingCommand : Fault
+  BadHeader : Fault
+  StreamFailed : Fault
+  DcsStreamFailed : Fault
+  Incomplete : Fault
+  NoIntroducer : Fault
+  Overflow : Fault
+
+-- the text of invalid data
+abbrev pub text_of : Fault → List ℕ
+text_of Malformed = codes "malformed SIXEL data"
+text_of TooLarge = codes "image dimensions too large"
+text_of MissingCommand = codes "missing SIXEL DCS command"
+text_of BadHeader = codes "invalid SIXEL DCS header"
+text_of StreamFailed = codes "stream decoder has failed"
+text_of DcsStreamFailed = codes "DCS stream decoder has failed"
+text_of Incomplete = codes "incomplete SIXEL DCS sequence"
+text_of _ = []
+
+-- the error names this fault
+abbrev pub IsFault : SixelError → Fault → Type 0
+IsFault (InvalidDimensions _ _) fault = ⊥
+IsFault (BufferSizeMismatch _ _) fault = ⊥
+IsFault (InvalidData text) fault = text.now ≡ text_of fault
+IsFault NoSixelData fault = fault ≡ NoIntroducer
+IsFault IntegerOverflow fault = fault ≡ Overflow
+IsFault OutOfMemory fault = ⊥
+
+-- What may be answered where this fault was found: the fault, or want of memory where that may come.
+abbrev pub Faults : SixelError → Bool → Option Fault → Type 0
+Faults OutOfMemory may_want found = IsTrue may_want
+Faults error may_want found = IsSomeAnd found (IsFault error)

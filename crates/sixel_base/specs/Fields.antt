@@ -1,0 +1,18 @@
+-- The numeric parameters of a command: its text split at each semicolon, an empty piece being 0 and any other the lesser
+-- of its decimal value and 2147483647. This is the parameter string of DEC's control functions with a ceiling of our own.
+use Rattle.std.specs.Prelude.{ℕ, ◌==◌, min, List, [], ◌∷◌, map, slice_index}
+use Rattle.std.specs.List.{slice_split}
+use Rattle.std.specs.Str.Parse.{digits_value}
+
+-- what one piece of digits stands for
+abbrev pub parameter : List ℕ → ℕ
+parameter piece = min (digits_value 10 piece) 2147483647
+
+-- the fields of a text of digits and semicolons: none, where it has no byte
+abbrev pub fields : List ℕ → List ℕ
+fields [] = []
+fields (byte ∷ text) = map parameter (slice_split (λ b. b == 59) (byte ∷ text))
+
+-- field k, counted from 0, and 0 where there is none
+abbrev pub field : List ℕ → ℕ → ℕ
+field text k = slice_index (fields text) k

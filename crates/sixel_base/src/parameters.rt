@@ -1,0 +1,105 @@
+//! The numeric parameters of one command, read a byte at a time; their text is not kept.
+
+ghost use Rattle.std.specs.Prelude.{◌≡◌, ℕ, ◌+◌, ◌*◌, ◌<◌, ◌≤◌, min};
+ghost use Rattle.std.specs.Prelude.{List, [], ◌∷◌, ◌++◌, slice_index};
+ghost use Rattle.sixel_base.specs.Parameters.{IsDigit, IsParameterByte, Keeps};
+
+use std::marker::Model;
+
+/// How many fields keep their values; no command of the format uses more.
+pub const KEPT_FIELDS: usize = 5;
+
+/// The byte between two fields.
+pub const SEPARATOR: u8 = b';';
+
+// The greatest value of a field, which stands for any greater one.
+const MAX_VALUE: u64 = 2_147_483_647;
+
+/// The fields of a text of digits and semicolons, of which the first five are kept.
+///
+/// The text is split at each semicolon. An empty piece is 0, and any other piece the lesser of its
+/// decimal value and 2147483647. A text of no bytes has no field.
+#[derive(Debug, Clone, Copy, PartialEq, Eq)]
+pub struct Parameters {
+    values: [u32; KEPT_FIELDS],
+    count: usize,
+}
+
+impl Model for Parameters {
+    ghost use Rattle.std.specs.Prelude.{◌≤◌};
+    ghost use Rattle.sixel_base.specs.Parameters.{Parameters as View};
+
+    ghost Value = { View };
+
+    ghost view = { λ p. record { values = p.values; count = p.count } };
+
+    ghost inverse = { λ p. record { values = p.values; count = p.count } };
+
+    ghost invariant = { λ p. p.count ≤ 6 };
+}
+
+impl Parameters {
+    /// The parameters of a text of no bytes: no field.
+    pub fn new() -> Self
+        ensures { Keeps result [] }
+    {
+        Self {
+            values: [0; KEPT_FIELDS],
+            count: 0,
+        }
+    }
+
+    /// How many fields the text has, where six stands for any more than five.
+    pub fn len(&self) -> usize
+        ensures value { result ≡ self.now.count }
+        ensures limit { result ≤ 6 }
+    {
+        self.count
+    }
+
+    /// The value of field `k`, counted from 0; it is 0 where the text has no such field.
+    pub fn get(&self, k: usize) -> u32
+        requires { k < KEPT_FIELDS }
+        ensures { result ≡ slice_index self.now.values k }
+    {
+        self.values[k]
+    }
+
+    /// Goes on with the text by a digit or a semicolon.
+    pub fn push(&mut self, byte: u8)
+        requires { IsParameterByte byte }
+        ensures { (text : List ℕ) → Keeps self.old text → Keeps self.new (text ++ byte ∷ []) }
+    {
+        match byte {
+            SEPARATOR => self.push_separator(),
+            _ => self.push_digit(byte),
+        }
+    }
+
+    /// Goes on with the text by a digit, from `b'0'` to `b'9'`.
+    pub fn push_digit(&mut self, byte: u8)
+        requires { IsDigit byte }
+        ensures { (text : List ℕ) → Keeps self.old text → Keeps self.new (text ++ byte ∷ []) }
+    {
+        let last = self.count.saturating_sub(1);
+        if last < KEPT_FIELDS {
+            self.values[last] = with_digit(self.values[last], byte - b'0');
+        }
+        self.count = self.count.max(1);
+    }
+
+    /// Goes on with the text by a semicolon.
+    pub fn push_separator(&mut self)
+        ensures { (text : List ℕ) → Keeps self.old text → Keeps self.new (text ++ SEPARATOR ∷ []) }
+    {
+        self.count = (self.count.max(1) + 1).min(KEPT_FIELDS + 1);
+    }
+}
+
+// The value of a field that goes on with this digit.
+fn with_digit(value: u32, digit: u8) -> u32
+    requires { digit < 10 }
+    ensures { result ≡ min (value * 10 + digit) 2147483647 }
+{
+    (u64::from(value) * 10 + u64::from(digit)).min(MAX_VALUE) as u32
+}

@@ -1,0 +1,70 @@
+//! The 256 color registers of a terminal.
+
+ghost use Rattle.std.specs.Prelude.{◌≡◌, [], length, slice_index_or, slice_set};
+ghost use Rattle.sixel_base.specs.Color.{default_registers, rgb, hls};
+
+use std::marker::Model;
+
+mod color;
+mod defaults;
+
+use defaults::DEFAULT_CODES;
+
+/// How many registers there are.
+pub const REGISTERS: usize = 256;
+
+/// A color for each register: red, green and blue, a byte each.
+#[derive(Debug, Clone, Copy, PartialEq, Eq)]
+pub struct Registers {
+    colors: [[u8; 3]; REGISTERS],
+}
+
+impl Model for Registers {
+    ghost use Rattle.std.specs.Prelude.{ℕ, List};
+
+    ghost Value = { List (List ℕ) };
+
+    ghost view = { λ r. r.colors };
+
+    ghost inverse = { λ colors. record { colors = colors } };
+}
+
+impl Registers {
+    /// The registers of a terminal that has just been switched on: DEC's sixteen colors, then the
+    /// color cube and the greys of xterm.
+    pub fn new() -> Self
+        ensures colors { result ≡ default_registers }
+        ensures size { length result ≡ 256 }
+    {
+        let mut colors = [[0; 3]; REGISTERS];
+        for register in 0..REGISTERS {
+            colors[register] = color::from_code(DEFAULT_CODES[register]);
+        }
+        Self { colors }
+    }
+
+    /// The color of a register: red, green and blue.
+    pub fn get(&self, register: u8) -> [u8; 3]
+        ensures color { result ≡ slice_index_or self.now register [] }
+        ensures size { length self.now ≡ 256 }
+    {
+        self.colors[register as usize]
+    }
+
+    /// Gives a register the color of three percentages, each at most 100 or taken as 100.
+    pub fn define_rgb(&mut self, register: u8, red: u32, green: u32, blue: u32)
+        ensures defined { self.new ≡ slice_set self.old register (rgb red green blue) }
+        ensures size { length self.new ≡ 256 }
+    {
+        self.colors[register as usize] = color::rgb(red, green, blue);
+    }
+
+    /// Gives a register the color of a hue in degrees, and of a lightness and a saturation in
+    /// percent, each at most 100 or taken as 100. Hue 0 is blue, as on DEC's terminals.
+    pub fn define_hls(&mut self, register: u8, hue: u32, lightness: u32, saturation: u32)
+        ensures defined { self.new ≡ slice_set self.old register (hls hue lightness saturation) }
+        ensures size { length self.new ≡ 256 }
+    {
+        self.colors[register as usize] = color::hls(hue, lightness, saturation);
+    }
+}

@@ -1,0 +1,234 @@
+use icy_sixel::canvas::{Row, fill_rgba_span};
+use icy_sixel::{
+    BackgroundMode, DcsSettings, EncodeOptions, PixelAspectRatio, Result, SixelDecoder, SixelError,
+    SixelImage, SixelStreamDecoder, choose_palette, witnesses_hold,
+};
+use std::alloc::Global;
+
+/// What is tried.
+#[derive(Clone, Copy, Debug)]
+pub enum Call {
+    NoMemory,
+    DecodeFromDcs,
+    Decode,
+    Frame,
+    Reach,
+    Palette,
+    Encode,
+    Display,
+    CopyImage,
+    FromStr,
+}
+
+/// Every call, in the order in which they are tried.
+pub const CALLS: [Call; 10] = [
+    Call::NoMemory,
+    Call::DecodeFromDcs,
+    Call::Decode,
+    Call::Frame,
+    Call::Reach,
+    Call::Palette,
+    Call::Encode,
+    Call::Display,
+    Call::CopyImage,
+    Call::FromStr,
+];
+
+/// How a call ended: as with ample memory, for want of memory with all that this owes, or otherwise.
+#[derive(Clone, Copy, Debug, PartialEq, Eq)]
+pub enum Outcome {
+    Right,
+    Refused,
+    Wrong,
+}
+
+// A payload of 301 columns and 12 rows in pieces that each make the canvas grow; it makes register 42 red.
+const PIECES: [&[u8]; 3] = [b"#42;2;100;0;0~", b"!300~", b"-!5~$~"];
+
+const PAYLOAD: &[u8] = b"#42;2;100;0;0~!300~-!5~$~";
+
+const CONTROL_STRING: &[u8] = b"text\x1bPq#42;2;100;0;0~!300~-!5~$~\x1b\\text";
+
+// Closes no command that may want memory.
+const COLOR_AND_REPEAT: &[u8] = b"#42;2;100;0;0!12";
+
+// Three pixels of three colors, and their text with two.
+const PIXELS: &[u8] = b"\x00\x00\x00\xff\x0a\x00\x00\xff\xff\xff\xff\xff";
+
+const TEXT: &str = "\x1bP9;1;0q\"1;1;3;1#0;2;0;0;0#1;2;100;100;100#0@@?$#1??@$-\x1b\\";
+
+impl Call {
+    pub fn name(self) -> &'static str {
+        match self {
+            Call::NoMemory => "calls that take no memory",
+            Call::DecodeFromDcs => "decode_from_dcs",
+            Call::Decode => "decode",
+            Call::Frame => "payload session",
+            Call::Reach => "Row::reach",
+            Call::Palette => "choose_palette",
+            Call::Encode => "encode_with",
+            Call::Display => "to_display_string",
+            Call::CopyImage => "clone of an image",
+            Call::FromStr => "from_str",
+        }
+    }
+
+    /// Does the call, on a new decoder.
+    pub fn run(self, alloc: Global, decoder: &mut SixelDecoder) -> Outcome {
+        match self {
+            Call::NoMemory => ended(no_memory(alloc, decoder)),
+            Call::DecodeFromDcs => {
+                let image = decoder.decode_from_dcs(alloc, PAYLOAD, DcsSettings::default());
+                drawn(decoder, image)
+            }
+            Call::Decode => {
+                let image = decoder.decode(alloc, CONTROL_STRING);
+                drawn(decoder, image)
+            }
+            Call::Frame => {
+                let image = frame(alloc, decoder);
+                drawn(decoder, image)
+            }
+            Call::Reach => reach(alloc),
+            Call::Palette => ended(palette(alloc)),
+            Call::Encode => ended(encode(alloc)),
+            Call::Display => ended(display(alloc)),
+            Call::CopyImage => ended(copy_image(alloc)),
+            Call::FromStr => ended(from_str(alloc)),
+        }
+    }
+}
+
+/// How a call ended that tells whether it was right.
+fn ended(answer: Result<bool>) -> Outcome {
+    match answer {
+        Ok(true) => Outcome::Right,
+        Err(SixelError::OutOfMemory) => Outcome::Refused,
+        _ => Outcome::Wrong,
+    }
+}
+
+/// How decoding the payload ended: with its image and register 42 red, or for want of memory.
+fn drawn(decoder: &SixelDecoder, answer: Result<SixelImage>) -> Outcome {
+    match answer {
+        Ok(image) => ended(Ok(is_drawn(&image) && decoder.register(42) == [255, 0, 0])),
+        Err(error) => ended(Err(error)),
+    }
+}
+
+fn is_drawn(image: &SixelImage) -> bool {
+    image.width == 301
+        && image.height == 12
+        && image.pixels.len() == 4 * 301 * 12
+        && image
+            .pixels
+            .starts_with(b"\xff\x00\x00\xff\xff\x00\x00\xff")
+}
+
+/// Feeds the payload in pieces, and finishes. Where a feed is refused, all after it must be.
+fn frame(alloc: Global, decoder: &mut SixelDecoder) -> Result<SixelImage> {
+    let mut session = decoder.begin_frame(alloc, DcsSettings::default())?;
+    let fed = feed_pieces(&mut session);
+    let image = session.finish();
+    match fed {
+        Ok(()) => image,
+        Err(error) if has_failed(image) => Err(error),
+        Err(_) => Err(SixelError::NoSixelData),
+    }
+}
+
+fn feed_pieces(session: &mut SixelStreamDecoder<'_>) -> Result<()> {
+    for piece in PIECES {
+        if let Err(error) = session.feed(piece) {
+            return Err(if has_failed(session.feed(b"~")) {
+                error
+            } else {
+                SixelError::NoSixelData
+            });
+        }
+    }
+    Ok(())
+}
+
+/// Whether a session answers that it was refused before.
+fn has_failed<T: Drop>(answer: Result<T>) -> bool {
+    match answer {
+        Ok(_) => false,
+        Err(error) => error == SixelError::stream_failed(),
+    }
+}
+
+/// Grows a row three times. Where it is refused, the row must be as it was.
+fn reach(alloc: Global) -> Outcome {
+    let mut row = Row::new(alloc, [1, 2, 3, 4]);
+    for columns in [1_u16, 300, 5000] {
+        let before = (row.len(), row.room(), row.writes());
+        if row.reach(usize::from(columns)).is_err() {
+            let after = (row.len(), row.room(), row.writes());
+            return if after == before {
+                Outcome::Refused
+            } else {
+                Outcome::Wrong
+            };
+        }
+    }
+    ended(Ok(row.len() == 5000))
+}
+
+fn palette(alloc: Global) -> Result<bool> {
+    let choice = choose_palette(alloc, PIXELS, 2)?;
+    Ok(
+        choice.colors.len() == 2
+            && choice.indices.as_slice() == [0, 0, 1].as_slice()
+            && choice.error == 100
+            && choice.witnesses.len() == 3,
+    )
+}
+
+fn picture(alloc: Global) -> Result<SixelImage> {
+    Ok(SixelImage::from_rgba(Vec::from_slice(alloc, PIXELS)?, 3, 1))
+}
+
+fn encode(alloc: Global) -> Result<bool> {
+    let text = picture(alloc)?.encode_with(alloc, &EncodeOptions { max_colors: 2 })?;
+    Ok(text.as_str() == TEXT)
+}
+
+fn display(alloc: Global) -> Result<bool> {
+    let text = picture(alloc)?.to_display_string(alloc)?;
+    Ok(text.starts_with("\x1bP9;1;0q"))
+}
+
+fn copy_image(alloc: Global) -> Result<bool> {
+    let copy = picture(alloc)?.clone(alloc)?;
+    Ok(copy.dimensions() == (3, 1) && copy.pixels.as_slice() == PIXELS)
+}
+
+fn from_str(alloc: Global) -> Result<bool> {
+    let image = SixelImage::from_str(alloc, TEXT)?;
+    Ok(image.dimensions() == (3, 6))
+}
+
+/// Does every call that takes no memory.
+fn no_memory(alloc: Global, decoder: &mut SixelDecoder) -> Result<bool> {
+    let settings = DcsSettings::default()
+        .with_pixel_aspect_ratio(PixelAspectRatio::Square)
+        .with_background_mode(BackgroundMode::Opaque)
+        .with_grid_size(3);
+    let mut session = decoder.begin_frame(alloc, settings)?;
+    let fed = session.feed(COLOR_AND_REPEAT)?;
+    session.abort();
+    decoder.reset_palette();
+    let copy = decoder.clone()?;
+    let mut row = Row::new(alloc, [0; 4]);
+    row.paint(0, 0, [255; 4]);
+    let mut span = [0; 20];
+    fill_rgba_span(&mut span, [1, 2, 3, 4]);
+    Ok(
+        fed.consumed == 16
+            && copy.register(1) == [0x33, 0x33, 0xcc]
+            && (row.len(), row.room(), row.writes()) == (0, 0, 0)
+            && span[18] == 3
+            && witnesses_hold(&[[0; 3], [10, 0, 0]], 100),
+    )
+}

@@ -1,0 +1,166 @@
+//! Whole images, pixel by pixel, against a plain computation of each pixel.
+
+ghost use Rattle.std.specs.Prelude.{◌<◌};
+
+use crate::answers::{
+    BLACK, BLUE, CLEAR, RED, Run, assert_draws, assert_draws_with, assert_pixels, decoded, fed,
+    transparent,
+};
+use icy_sixel::decoder::DcsSettings;
+use std::alloc::{AllocError, Global};
+use std::test::Fail;
+
+/// The sixels of two layers of a band, as their six bits.
+#[derive(Clone, Copy)]
+struct Layers {
+    red: usize,
+    blue: usize,
+}
+
+/// The layers in a column of a band of the large image.
+fn layers_at(column: usize, band: usize) -> Layers
+    requires column { column < 200 }
+    requires band { band < 30 }
+{
+    Layers {
+        red: (column * 7 + band * 13) % 64,
+        blue: (column * 11 + band * 5 + 3) % 64,
+    }
+}
+
+/// Whether a sixel lights a row of its band.
+fn is_lit(bits: usize, row: usize) -> bool
+    requires { row < 6 }
+{
+    bits >> row & 1 == 1
+}
+
+/// A sixel of these bits.
+fn sixel(bits: usize) -> u8 {
+    ((bits % 64) as u8) + b'?'
+}
+
+/// The payload of 30 bands of 200 columns, a red layer below a blue one.
+fn large_payload(alloc: Global) -> Result<Vec<u8>, AllocError> {
+    let mut payload = Vec::new(alloc);
+    payload.extend_from_slice(b"#1;2;100;0;0#2;2;0;0;100")?;
+    for band in 0..30 {
+        payload.extend_from_slice(b"#1")?;
+        for column in 0..200 {
+            payload.push(sixel(layers_at(column, band).red))?;
+        }
+        payload.extend_from_slice(b"$#2")?;
+        for column in 0..200 {
+            payload.push(sixel(layers_at(column, band).blue))?;
+        }
+        payload.push(b'-')?;
+    }
+    Ok(payload)
+}
+
+/// The pixels of that payload on a black background.
+fn large_pixels(alloc: Global) -> Result<Vec<u8>, AllocError> {
+    let mut pixels = Vec::new(alloc);
+    for band in 0..30 {
+        for row in 0..6 {
+            for column in 0..200 {
+                let layers = layers_at(column, band);
+                let color = if is_lit(layers.blue, row) {
+                    BLUE
+                } else if is_lit(layers.red, row) {
+                    RED
+                } else {
+                    BLACK
+                };
+                pixels.extend_from_slice(&color)?;
+            }
+        }
+    }
+    Ok(pixels)
+}
+
+#[test]
+fn thirty_bands_of_two_layers(rt: HostRuntime) -> Result<(), Fail> {
+    let alloc = rt.alloc();
+    let payload = large_payload(alloc)?;
+    let expected = large_pixels(alloc)?;
+    let image = decoded(alloc, &payload, DcsSettings::default())?;
+    assert_pixels(&rt, "one piece", &image, (200, 180), &expected);
+    for length in [1, 7, 100, 4096] {
+        let image = fed(alloc, &payload, DcsSettings::default(), length)?;
+        assert_pixels(&rt, "many pieces", &image, (200, 180), &expected);
+    }
+    Ok(())
+}
+
+/// A repeat of three and then each of the 64 sixels, in red.
+fn masks_payload(alloc: Global) -> Result<Vec<u8>, AllocError> {
+    let mut payload = Vec::new(alloc);
+    payload.extend_from_slice(b"#1;2;100;0;0!3")?;
+    for bits in 0..64 {
+        payload.push(sixel(bits))?;
+    }
+    Ok(payload)
+}
+
+/// The pixels of that payload on a transparent background.
+fn masks_pixels(alloc: Global) -> Result<Vec<u8>, AllocError> {
+    let mut pixels = Vec::new(alloc);
+    for row in 0..6 {
+        for column in 0..66_usize {
+            let bits = column.saturating_sub(2);
+            let color = if is_lit(bits, row) { RED } else { CLEAR };
+            pixels.extend_from_slice(&color)?;
+        }
+    }
+    Ok(pixels)
+}
+
+#[test]
+fn all_masks(rt: HostRuntime) -> Result<(), Fail> {
+    let alloc = rt.alloc();
+    let payload = masks_payload(alloc)?;
+    let expected = masks_pixels(alloc)?;
+    let image = decoded(alloc, &payload, transparent())?;
+    assert_pixels(&rt, "one piece", &image, (66, 6), &expected);
+    for length in 1..80 {
+        let image = fed(alloc, &payload, transparent(), length)?;
+        assert_pixels(&rt, "many pieces", &image, (66, 6), &expected);
+    }
+    Ok(())
+}
+
+#[test]
+fn a_wider_line_below(rt: HostRuntime) {
+    let row: [Run; 2] = [(3, RED), (297, BLACK)];
+    let [red, black] = row;
+    let runs = [
+        red,
+        black,
+        red,
+        black,
+        red,
+        black,
+        red,
+        black,
+        red,
+        black,
+        red,
+        black,
+        (1800, BLUE),
+    ];
+    let text = "#1;2;100;0;0#1!3~-#2;2;0;0;100#2!300~";
+    assert_draws(&rt, text, (300, 12), &runs);
+}
+
+#[test]
+fn the_background_is_that_of_the_beginning(rt: HostRuntime) {
+    let plain = "#0;2;100;0;0@?#0;2;0;100;0?-??#0;2;0;0;100@";
+    let sized = "\"1;1;3;12#0;2;100;0;0@?#0;2;0;100;0?-??#0;2;0;0;100@";
+    let opaque = [(1, RED), (19, BLACK), (1, BLUE), (15, BLACK)];
+    let clear = [(1, RED), (19, CLEAR), (1, BLUE), (15, CLEAR)];
+    for payload in [plain, sized] {
+        assert_draws(&rt, payload, (3, 12), &opaque);
+        assert_draws_with(&rt, transparent(), payload, (3, 12), &clear);
+    }
+}

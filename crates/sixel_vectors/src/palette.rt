@@ -1,0 +1,103 @@
+//! Worked values of the palette and its certificate.
+
+use crate::answers::{BLACK, WHITE};
+use icy_sixel::SixelError;
+use icy_sixel::palette::{PaletteChoice, choose_palette, witnesses_hold};
+use std::alloc::Global;
+use std::test::Fail;
+
+/// The palette of pixels given one by one.
+fn palette(
+    alloc: Global,
+    pixels: &[[u8; 4]],
+    max_colors: u16,
+) -> Result<PaletteChoice, SixelError> {
+    let mut bytes = Vec::new(alloc);
+    for pixel in pixels {
+        bytes.extend_from_slice(pixel)?;
+    }
+    choose_palette(alloc, &bytes, max_colors)
+}
+
+#[test]
+fn no_pixels_have_no_colors(rt: HostRuntime) -> Result<(), Fail> {
+    let choice = palette(rt.alloc(), &[], 256)?;
+    assert!(rt; choice.colors.is_empty() && choice.indices.is_empty());
+    assert!(rt; choice.witnesses.is_empty());
+    assert_eq!(rt; choice.error, 0);
+    Ok(())
+}
+
+#[test]
+fn a_length_of_no_whole_pixels_is_refused(rt: HostRuntime) {
+    let refusal = choose_palette(rt.alloc(), &[0; 7], 2).err();
+    assert_eq!(rt;
+        refusal,
+        Some(SixelError::BufferSizeMismatch {
+            expected: 4,
+            actual: 7
+        })
+    );
+}
+
+#[test]
+fn ties_go_to_the_least_color(rt: HostRuntime) -> Result<(), Fail> {
+    let choice = palette(rt.alloc(), &[BLACK, [0, 0, 10, 255], [0, 10, 0, 255]], 2)?;
+    assert_eq!(rt;
+        choice.colors.as_slice(),
+        [[0, 0, 0], [0, 0, 10]].as_slice()
+    );
+    assert_eq!(rt; choice.indices.as_slice(), [0, 1, 0].as_slice());
+    assert_eq!(rt; choice.error, 100);
+    assert_eq!(rt;
+        choice.witnesses.as_slice(),
+        [[0, 0, 0], [0, 0, 10], [0, 10, 0]].as_slice()
+    );
+    Ok(())
+}
+
+#[test]
+fn ties_go_to_the_least_index(rt: HostRuntime) -> Result<(), Fail> {
+    let choice = palette(rt.alloc(), &[BLACK, [0, 0, 10, 255], [0, 0, 5, 255]], 0)?;
+    assert_eq!(rt;
+        choice.colors.as_slice(),
+        [[0, 0, 0], [0, 0, 10]].as_slice()
+    );
+    assert_eq!(rt; choice.indices.as_slice(), [0, 1, 0].as_slice());
+    assert_eq!(rt; choice.error, 25);
+    assert_eq!(rt;
+        choice.witnesses.as_slice(),
+        [[0, 0, 0], [0, 0, 10], [0, 0, 5]].as_slice()
+    );
+    Ok(())
+}
+
+#[test]
+fn hidden_pixels_do_not_count(rt: HostRuntime) -> Result<(), Fail> {
+    let choice = palette(rt.alloc(), &[[9, 9, 9, 127], [1, 2, 3, 128]], 2)?;
+    assert_eq!(rt; choice.colors.as_slice(), [[1, 2, 3]].as_slice());
+    assert_eq!(rt; choice.indices.as_slice(), [0, 0].as_slice());
+    assert_eq!(rt; choice.error, 0);
+    assert!(rt; choice.witnesses.is_empty());
+    Ok(())
+}
+
+#[test]
+fn the_factor_of_four_is_reached(rt: HostRuntime) -> Result<(), Fail> {
+    let choice = palette(rt.alloc(), &[BLACK, [10, 0, 0, 255], WHITE], 2)?;
+    assert_eq!(rt; choice.indices.as_slice(), [0, 0, 1].as_slice());
+    assert_eq!(rt; choice.error, 100);
+    let witnesses = [[0, 0, 0], [255, 255, 255], [10, 0, 0]];
+    assert_eq!(rt; choice.witnesses.as_slice(), witnesses.as_slice());
+    assert!(rt; witnesses_hold(&choice.witnesses, 100));
+    assert!(rt; !witnesses_hold(&choice.witnesses, 101));
+    Ok(())
+}
+
+#[test]
+fn a_certificate_speaks_of_every_two_places(rt: HostRuntime) {
+    assert!(rt; witnesses_hold(&[], u32::MAX));
+    assert!(rt; witnesses_hold(&[[1, 1, 1]], u32::MAX));
+    assert!(rt; witnesses_hold(&[[1, 1, 1], [1, 1, 1]], 0));
+    assert!(rt; !witnesses_hold(&[[1, 1, 1], [1, 1, 1]], 1));
+}

@@ -1,0 +1,35 @@
+//! Callers of the payload session, which prove what they promise from its contracts alone.
+
+ghost use Rattle.std.specs.Prelude.{◌≡◌, ◌++◌, OnErr, OnOk};
+ghost use Rattle.sixel_base.specs.Payload.{payload_registers};
+
+use icy_sixel::{DcsSettings, Result, SixelDecoder, SixelImage};
+use std::alloc::Global;
+
+/// Decodes a payload that comes in two pieces: the registers are those of the pieces joined.
+pub fn decode_two_pieces(
+    alloc: Global,
+    decoder: &mut SixelDecoder,
+    first: &[u8],
+    second: &[u8],
+    settings: DcsSettings,
+) -> Result<SixelImage>
+    ensures registers { OnOk result (decoder.new ≡ payload_registers
+        (record { registers = decoder.old; settings = settings }) (first.now ++ second.now)) }
+    ensures kept { OnErr result (decoder.new ≡ decoder.old) }
+{
+    let mut session = decoder.begin_frame(alloc, settings)?;
+    session.feed(first)?;
+    session.feed(second)?;
+    session.finish()
+}
+
+/// Begins a session, feeds it and gives it up: the decoder is as it was.
+pub fn give_up(alloc: Global, decoder: &mut SixelDecoder, piece: &[u8], settings: DcsSettings)
+    ensures { decoder.new ≡ decoder.old }
+{
+    if let Ok(mut session) = decoder.begin_frame(alloc, settings) {
+        let _ = session.feed(piece);
+        session.abort();
+    }
+}
