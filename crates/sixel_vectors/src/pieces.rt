@@ -1,12 +1,14 @@
 //! Callers of the payload session, which prove what they promise from its contracts alone.
 
-ghost use Rattle.std.specs.Prelude.{◌≡◌, ◌++◌, OnErr, OnOk};
-ghost use Rattle.sixel_base.specs.Payload.{payload_registers};
+ghost use Rattle.std.specs.Prelude.{◌≡◌, ◌++◌, Ok, None, OnErr, OnOk};
+ghost use Rattle.sixel_base.specs.Payload.{area_limit, payload_fault};
+ghost use Rattle.sixel_base.specs.Payload.{payload_image, payload_registers};
+ghost use Rattle.icy_sixel.specs.ImageView.{image_value};
 
 use icy_sixel::{DcsSettings, Result, SixelDecoder, SixelImage};
 use std::alloc::Global;
 
-/// Decodes a payload that comes in two pieces: the registers are those of the pieces joined.
+/// Decodes a payload that comes in two pieces: image and registers are those of the pieces joined.
 pub fn decode_two_pieces(
     alloc: Global,
     decoder: &mut SixelDecoder,
@@ -14,8 +16,12 @@ pub fn decode_two_pieces(
     second: &[u8],
     settings: DcsSettings,
 ) -> Result<SixelImage>
+    ensures image { (image : SixelImage) → result ≡ Ok image → image_value image ≡ payload_image
+        (record { registers = decoder.old; settings = settings }) (first.now ++ second.now) }
     ensures registers { OnOk result (decoder.new ≡ payload_registers
         (record { registers = decoder.old; settings = settings }) (first.now ++ second.now)) }
+    ensures faultless { OnOk result
+        (payload_fault area_limit (first.now ++ second.now) ≡ None) }
     ensures kept { OnErr result (decoder.new ≡ decoder.old) }
 {
     let mut session = decoder.begin_frame(alloc, settings)?;
