@@ -151,7 +151,7 @@ introduced_fits (byte ∷ bytes) rest is =
       ]
     ]) is
 
-reading_fits : (bytes : List ℕ) (i : Introduced) (s : Settings) (payload : List ℕ) → introduced bytes ≡ i → stage_by i ≡ Reading s payload → length payload ≤ length bytes
+pub reading_fits : (bytes : List ℕ) (i : Introduced) (s : Settings) (payload : List ℕ) → introduced bytes ≡ i → stage_by i ≡ Reading s payload → length payload ≤ length bytes
 reading_fits bytes Waiting s payload e is = absurd cc
 reading_fits bytes Absent s payload e is = absurd cc
 reading_fits bytes (Entered rest) s payload e is = omega (arith, introduced_fits bytes rest e, begun_fits rest (header_rest rest) s payload refl is)

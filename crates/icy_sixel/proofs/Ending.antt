@@ -4,12 +4,12 @@ use Rattle.std.specs.Prelude.{◌==◌, ◌||◌}
 use Rattle.std.proofs.lemmas.List.{take-append-drop}
 use Rattle.sixel_base.specs.declared.error.SixelError.{SixelError}
 use Rattle.icy_sixel.specs.Following.{IsStageFault}
-use Rattle.sixel_base.specs.Fault.{Malformed, BadHeader}
+use Rattle.sixel_base.specs.Fault.{Fault, Malformed, BadHeader}
 use Rattle.sixel_base.specs.Bytes.{is_terminator, carrying, count, first_terminator, before_terminator}
 use Rattle.sixel_base.specs.Settings.{Settings}
 use Rattle.icy_sixel.specs.declared.decoder.SixelDcsFeedStatus.TheVariants.{NeedMoreData, Complete, Cancelled, Interrupted}
 use Rattle.icy_sixel.specs.Header.{Begun, Faulty, headed, headed_by, header_rest, header_text, settings_of}
-use Rattle.icy_sixel.specs.Dcs.{Introduced, Waiting, Absent, Entered, introduced, escaped, Reading, stage_after, stage_by, stage, after_terminator, end_status, end_count, escape_status, escape_count}
+use Rattle.icy_sixel.specs.Dcs.{Introduced, Waiting, Absent, Entered, introduced, escaped, Stage, Heading, Failing, Reading, stage_after, stage_by, stage, after_terminator, end_status, end_count, escape_status, escape_count}
 use Rattle.icy_sixel.proofs.Entering.{introduced-entered, header_rest-ended, header_front-ended}
 
 pub after_terminator-none : (bytes more : List ℕ) → first_terminator bytes ≡ None → after_terminator (bytes ++ more) ≡ after_terminator more
@@ -113,26 +113,34 @@ introduced-absent (byte ∷ next ∷ bytes) more is =
       ]
     ]) is
 
-refused_after : (e : SixelError) (rest more h : List ℕ) → header_rest rest ≡ h → IsStageFault e (stage_after rest (headed_by h))
-    → IsStageFault e (stage_after (rest ++ more) (headed (rest ++ more)))
-refused_after e rest more [] is refused = absurd refused
-refused_after e rest more (byte ∷ tail) is refused =
-    subst (λ (w : List ℕ). IsStageFault e (stage_after (rest ++ more) (headed_by w))) (sym (header_rest-ended rest more tail byte is))
-    ((elim (byte == 113) as (λ q. IsStageFault e (stage_after rest (cond q (Begun tail) (cond (is_terminator byte) (Faulty Malformed) (Faulty BadHeader))))
-    → IsStageFault e (stage_after (rest ++ more) (cond q (Begun (tail ++ more)) (cond (is_terminator byte) (Faulty Malformed) (Faulty BadHeader))))) [
-      | true ↦ λ never. never
-      | false ↦ elim (is_terminator byte) as (λ t. IsStageFault e (stage_after rest (cond t (Faulty Malformed) (Faulty BadHeader)))
-          → IsStageFault e (stage_after (rest ++ more) (cond t (Faulty Malformed) (Faulty BadHeader)))) [ true ↦ λ w. w | false ↦ λ w. w ]
-    ]) refused)
+failing_after : (rest more h : List ℕ) (f : Fault) → header_rest rest ≡ h → stage_after rest (headed_by h) ≡ Failing f
+    → stage_after (rest ++ more) (headed (rest ++ more)) ≡ Failing f
+failing_after rest more [] f is fails = absurd cc
+failing_after rest more (byte ∷ tail) f is fails =
+    ap (λ w. stage_after (rest ++ more) (headed_by w)) (header_rest-ended rest more tail byte is) ∙
+    (elim (byte == 113) as (λ q. stage_after rest (cond q (Begun tail) (cond (is_terminator byte) (Faulty Malformed) (Faulty BadHeader))) ≡ Failing f
+    → stage_after (rest ++ more) (cond q (Begun (tail ++ more)) (cond (is_terminator byte) (Faulty Malformed) (Faulty BadHeader))) ≡ Failing f) [
+      | true ↦ λ e. absurd cc
+      | false ↦ elim (is_terminator byte) as (λ t. stage_after rest (cond t (Faulty Malformed) (Faulty BadHeader)) ≡ Failing f
+          → stage_after (rest ++ more) (cond t (Faulty Malformed) (Faulty BadHeader)) ≡ Failing f) [ true ↦ λ e. e | false ↦ λ e. e ]
+    ]) fails
 
-refused_by : (e : SixelError) (bytes more : List ℕ) (i : Introduced) → introduced bytes ≡ i → IsStageFault e (stage_by i) → IsStageFault e (stage (bytes ++ more))
-refused_by e bytes more Waiting is refused = absurd refused
-refused_by e bytes more Absent is refused = subst (λ (w : Introduced). IsStageFault e (stage_by w)) (sym (introduced-absent bytes more is)) refused
-refused_by e bytes more (Entered rest) is refused =
-    subst (λ (w : Introduced). IsStageFault e (stage_by w)) (sym (introduced-entered bytes rest more is)) (refused_after e rest more (header_rest rest) refl refused)
+failing_by : (bytes more : List ℕ) (i : Introduced) (f : Fault) → introduced bytes ≡ i → stage_by i ≡ Failing f → stage (bytes ++ more) ≡ Failing f
+failing_by bytes more Waiting f is fails = absurd cc
+failing_by bytes more Absent f is fails = ap stage_by (introduced-absent bytes more is) ∙ fails
+failing_by bytes more (Entered rest) f is fails =
+    ap stage_by (introduced-entered bytes rest more is) ∙ failing_after rest more (header_rest rest) f refl fails
+
+pub failing_stays : (bytes more : List ℕ) (f : Fault) → stage bytes ≡ Failing f → stage (bytes ++ more) ≡ Failing f
+failing_stays bytes more f is = failing_by bytes more (introduced bytes) f refl is
+
+refused_by : (e : SixelError) (was now : Stage) → ((f : Fault) → was ≡ Failing f → now ≡ Failing f) → IsStageFault e was → IsStageFault e now
+refused_by e Heading now stays refused = absurd refused
+refused_by e (Failing f) now stays refused = subst (λ (w : Stage). IsStageFault e w) (sym (stays f refl)) refused
+refused_by e (Reading s payload) now stays refused = absurd refused
 
 pub refused_stays : (e : SixelError) (bytes more : List ℕ) → IsStageFault e (stage bytes) → IsStageFault e (stage (bytes ++ more))
-refused_stays e bytes more refused = refused_by e bytes more (introduced bytes) refl refused
+refused_stays e bytes more refused = refused_by e (stage bytes) (stage (bytes ++ more)) (failing_stays bytes more) refused
 
 -- the bytes before a piece, a beginning of the piece and the next byte, and the rest of it
 pub pieces_join : (before piece : List ℕ) (index : ℕ) → index < length piece

@@ -175,7 +175,7 @@ settled_fault bytes f is =
       | false ↦ λ found. whole_fault (history_of (front bytes)) f found
     ]) is
 
-or_right : (a b : Bool) → IsTrue b → IsTrue (a || b)
+pub or_right : (a b : Bool) → IsTrue b → IsTrue (a || b)
 or_right true b is = refl
 or_right false b is = is
 

@@ -9,6 +9,9 @@ pub mod Ending
 pub mod Terminating
 pub mod Continuing
 pub mod Finishing
+pub mod Ended
+pub mod Playing
+pub mod Steps
 pub mod RunCost
 pub mod Shortest
 pub mod Joined

@@ -13,7 +13,7 @@ use Rattle.icy_sixel.proofs.Appending.{count-append, first_terminator-append, fi
 use Rattle.icy_sixel.proofs.Ending.{after_terminator-none, after_terminator-some, drop-count, escape_waits, end_stays}
 
 -- a payload has at most all bytes
-count-fits : (bytes : List ℕ) → count bytes ≤ length bytes
+pub count-fits : (bytes : List ℕ) → count bytes ≤ length bytes
 count-fits [] = omega arith
 count-fits (byte ∷ bytes) =
     elim (is_terminator byte) as (λ t. length (cond t [] (byte ∷ before_terminator bytes)) ≤ suc (length bytes)) [
@@ -45,11 +45,11 @@ count_open payload none =
     let e = ap (λ o. count payload + payload_count_by o (after_terminator payload)) none in
     e ∙ omega arith
 
-count_at : (payload rest : List ℕ) (t : ℕ) → first_terminator payload ≡ Some t → after_terminator payload ≡ rest → payload_count payload ≡ count payload + end_count t rest
+pub count_at : (payload rest : List ℕ) (t : ℕ) → first_terminator payload ≡ Some t → after_terminator payload ≡ rest → payload_count payload ≡ count payload + end_count t rest
 count_at payload rest t first after =
     ap (λ o. count payload + payload_count_by o (after_terminator payload)) first ∙ ap (λ w. count payload + end_count t w) after
 
-status_at : (payload rest : List ℕ) (t : ℕ) → first_terminator payload ≡ Some t → after_terminator payload ≡ rest → payload_status payload ≡ end_status t rest
+pub status_at : (payload rest : List ℕ) (t : ℕ) → first_terminator payload ≡ Some t → after_terminator payload ≡ rest → payload_status payload ≡ end_status t rest
 status_at payload rest t first after = ap (λ o. payload_status_by o (after_terminator payload)) first ∙ ap (end_status t) after
 
 pub ended_at : (payload : List ℕ) (t : ℕ) → first_terminator payload ≡ Some t → ended_with payload ≡ Some (payload_status payload)

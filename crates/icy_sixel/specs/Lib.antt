@@ -14,3 +14,5 @@ pub mod Indexed
 pub mod Grid
 pub mod Encoding
 pub mod Trip
+pub mod Script
+pub mod Playing

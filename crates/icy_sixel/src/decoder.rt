@@ -10,6 +10,7 @@ ghost use Rattle.sixel_base.specs.Color.{default_registers};
 ghost use Rattle.sixel_base.specs.Fault.{Faults};
 ghost use Rattle.sixel_base.specs.Payload.{area_limit, payload_fault, payload_image};
 ghost use Rattle.sixel_base.specs.Payload.{payload_registers, payload_wants};
+ghost use Rattle.icy_sixel.specs.Dcs.{has_ended};
 ghost use Rattle.icy_sixel.specs.Frame.{status_of};
 ghost use Rattle.icy_sixel.specs.ImageView.{image_value};
 ghost use Rattle.icy_sixel.specs.OneShot.{found, found_fault, found_wants, IsFoundImage};
@@ -76,6 +77,15 @@ pub enum SixelDcsFeedStatus {
     /// The string was cut short: by a C1 control, this byte, which is left to the caller, or by ESC
     /// (consumed) before another byte than `\` (left to the caller). Finish or abort.
     Interrupted(u8),
+}
+
+impl SixelDcsFeedStatus {
+    /// Whether the control string has ended, and no byte more is its own.
+    pub(crate) fn has_ended(self) -> bool
+        ensures { result ≡ has_ended self }
+    {
+        !matches!(self, Self::NeedMoreData)
+    }
 }
 
 /// What a feed of a control string session did.

@@ -6,6 +6,7 @@ pub mod decoder;
 pub mod encoder;
 mod header;
 pub mod laws;
+pub mod script;
 pub mod sixel_image;
 
 pub use decoder::{

@@ -1,4 +1,5 @@
 use icy_sixel::canvas::{Row, fill_rgba_span};
+use icy_sixel::script::{self, Step, run};
 use icy_sixel::{
     BackgroundMode, DcsSettings, EncodeOptions, PixelAspectRatio, Result, SixelDecoder, SixelError,
     SixelImage, SixelStreamDecoder, choose_palette, witnesses_hold,
@@ -18,10 +19,11 @@ pub enum Call {
     Display,
     CopyImage,
     FromStr,
+    Run,
 }
 
 /// Every call, in the order in which they are tried.
-pub const CALLS: [Call; 10] = [
+pub const CALLS: [Call; 11] = [
     Call::NoMemory,
     Call::DecodeFromDcs,
     Call::Decode,
@@ -32,6 +34,7 @@ pub const CALLS: [Call; 10] = [
     Call::Display,
     Call::CopyImage,
     Call::FromStr,
+    Call::Run,
 ];
 
 /// How a call ended: as with ample memory, for want of memory with all that this owes, or otherwise.
@@ -52,6 +55,11 @@ const CONTROL_STRING: &[u8] = b"text\x1bPq#42;2;100;0;0~!300~-!5~$~\x1b\\text";
 // Closes no command that may want memory.
 const COLOR_AND_REPEAT: &[u8] = b"#42;2;100;0;0!12";
 
+// Register 42 as the payload defines it, and on a new decoder.
+const DEFINED: [u8; 4] = [255, 0, 0, 255];
+
+const UNDEFINED: [u8; 4] = [0, 204, 102, 255];
+
 // Three pixels of three colors, and their text with two.
 const PIXELS: &[u8] = b"\x00\x00\x00\xff\x0a\x00\x00\xff\xff\xff\xff\xff";
 
@@ -70,6 +78,7 @@ impl Call {
             Call::Display => "to_display_string",
             Call::CopyImage => "clone of an image",
             Call::FromStr => "from_str",
+            Call::Run => "script::run",
         }
     }
 
@@ -95,6 +104,7 @@ impl Call {
             Call::Display => ended(display(alloc)),
             Call::CopyImage => ended(copy_image(alloc)),
             Call::FromStr => ended(from_str(alloc)),
+            Call::Run => run_steps(alloc, decoder),
         }
     }
 }
@@ -207,6 +217,48 @@ fn copy_image(alloc: Global) -> Result<bool> {
 fn from_str(alloc: Global) -> Result<bool> {
     let image = SixelImage::from_str(alloc, TEXT)?;
     Ok(image.dimensions() == (3, 6))
+}
+
+/// Decodes a payload that makes register 42 red, draws in that register, and resets it. Where memory
+/// is refused to a step, the ones after it must go on.
+fn run_steps(alloc: Global, decoder: &mut SixelDecoder) -> Outcome {
+    let settings = DcsSettings::default();
+    let steps = [
+        Step::DecodeFromDcs(b"#42;2;100;0;0~", settings),
+        Step::DecodeFromDcs(b"#42~", settings),
+        Step::Reset,
+    ];
+    match run(alloc, decoder, &steps) {
+        Ok(outcomes) => ran(&outcomes),
+        Err(error) => ended(Err(error)),
+    }
+}
+
+/// How those steps ended. The second draws in red, or as on a new decoder where the first was
+/// refused.
+fn ran(outcomes: &[script::Outcome]) -> Outcome {
+    use script::Outcome::{Decoded, Failed};
+    let [first, second, _] = outcomes else {
+        return Outcome::Wrong;
+    };
+    match (first, second) {
+        (Decoded(_), Decoded(image)) if is_column(image, DEFINED) => Outcome::Right,
+        (Failed(SixelError::OutOfMemory), Decoded(image)) if is_column(image, UNDEFINED) => {
+            Outcome::Refused
+        }
+        (Decoded(_), Failed(SixelError::OutOfMemory)) => Outcome::Refused,
+        _ => Outcome::Wrong,
+    }
+}
+
+/// Whether an image is one column of this color.
+fn is_column(image: &SixelImage, color: [u8; 4]) -> bool {
+    image.width == 1
+        && image.height == 6
+        && image
+            .pixels
+            .chunks_exact(4)
+            .all(|pixel| pixel == color.as_slice())
 }
 
 /// Does every call that takes no memory.

@@ -47,4 +47,6 @@ mod sizes;
 #[cfg(test)]
 mod splits;
 #[cfg(test)]
+mod steps;
+#[cfg(test)]
 mod unfinished;

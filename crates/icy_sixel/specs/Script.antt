@@ -1,0 +1,93 @@
+-- What a list of steps on one decoder comes to, by the meaning of the bytes of each step. A step relates the registers before it to an
+-- outcome and the registers after it, and a run joins steps. This library's own: how bytes are cut into pieces occurs nowhere in it.
+use Rattle.std.specs.Prelude.{ℕ, ◌≡◌, Bool, nat_lt, ◌||◌, List, [], ◌∷◌, Option, None, is_none, Result, Ok, Err}
+use Rattle.std.specs.Option.{option_or}
+use Rattle.sixel_base.specs.declared.error.SixelError.{SixelError}
+use Rattle.sixel_base.specs.Bytes.{count, first_terminator}
+use Rattle.sixel_base.specs.Color.{default_registers}
+use Rattle.sixel_base.specs.Fault.{Fault, Faults}
+use Rattle.sixel_base.specs.Payload.{area_limit, fed_fault, payload_fault, settled, growths}
+use Rattle.sixel_base.specs.Settings.{Settings}
+use Rattle.icy_sixel.specs.declared.script.End.{End}
+use Rattle.icy_sixel.specs.declared.script.End.TheVariants.{Finish, Abort}
+use Rattle.icy_sixel.specs.declared.script.Step.{Step}
+use Rattle.icy_sixel.specs.declared.script.Step.TheVariants as steps
+use Rattle.icy_sixel.specs.declared.script.Status.{Status}
+use Rattle.icy_sixel.specs.declared.script.Status.TheVariants as statuses
+use Rattle.icy_sixel.specs.declared.script.Outcome.{Outcome}
+use Rattle.icy_sixel.specs.declared.script.Outcome.TheVariants.{Reset, Failed, Finished, Aborted, Decoded}
+use Rattle.icy_sixel.specs.Dcs.{dcs_count, dcs_status, dcs_fault, dcs_growths, end_fault}
+use Rattle.icy_sixel.specs.Frame.{status_of}
+use Rattle.icy_sixel.specs.ImageView.{image_value}
+use Rattle.icy_sixel.specs.OneShot.{Found, Payload, found, found_fault, found_wants, IsFoundImage, AreFoundRegisters}
+
+-- What bytes mean that are fed to a session: how many of them are its own, how they stand, what is wrong with them while it goes on and
+-- once it is finished, whether their payload has a closed sixel or raster attributes, and which payload is drawn.
+pub record Meaning : Type 0 where
+  pub consumed : ℕ
+  pub status : Status
+  pub fed_fault : Option Fault
+  pub end_fault : Option Fault
+  pub grows : Bool
+  pub drawn : Found
+
+abbrev pub frame_meaning : Settings → List ℕ → Meaning
+frame_meaning settings bytes = record {
+  consumed = count bytes;
+  status = statuses.Payload (status_of (first_terminator bytes));
+  fed_fault = fed_fault area_limit bytes;
+  end_fault = payload_fault area_limit bytes;
+  grows = nat_lt 0 (growths (settled bytes));
+  drawn = Payload settings bytes;
+}
+
+abbrev pub string_meaning : List ℕ → Meaning
+string_meaning bytes = record {
+  consumed = dcs_count bytes;
+  status = statuses.Dcs (dcs_status bytes);
+  fed_fault = dcs_fault area_limit bytes;
+  end_fault = option_or (dcs_fault area_limit bytes) (end_fault (dcs_status bytes));
+  grows = nat_lt 0 (dcs_growths bytes);
+  drawn = found bytes;
+}
+
+-- A session of these bytes that is given up is refused by what is wrong with them so far, and changes no register. One that is finished
+-- gives the image and the registers of its payload, or is refused by what is wrong then. Memory may be wanted where the payload grows,
+-- and for an image.
+abbrev pub IsSessionOutcome : List (List ℕ) → Meaning → End → Outcome → List (List ℕ) → Type 0
+IsSessionOutcome before bytes Abort (Aborted consumed status) after =
+    (bytes.fed_fault ≡ None) × (consumed ≡ bytes.consumed) × (status ≡ bytes.status) × (after ≡ before)
+IsSessionOutcome before bytes Abort (Failed error) after = Faults error bytes.grows bytes.fed_fault × (after ≡ before)
+IsSessionOutcome before bytes Finish (Finished consumed status image) after =
+    (bytes.end_fault ≡ None) × (consumed ≡ bytes.consumed) × (status ≡ bytes.status)
+    × IsFoundImage before bytes.drawn (image_value image) × AreFoundRegisters before bytes.drawn after
+IsSessionOutcome before bytes Finish (Failed error) after =
+    Faults error (is_none bytes.end_fault || bytes.grows) bytes.end_fault × (after ≡ before)
+IsSessionOutcome before bytes ending outcome after = ⊥
+
+-- A payload that is decoded at once gives its image and its registers, or is refused.
+abbrev pub IsDecoding : List (List ℕ) → Found → Outcome → List (List ℕ) → Type 0
+IsDecoding before payload (Decoded image) after =
+    (found_fault payload ≡ None) × IsFoundImage before payload (image_value image) × AreFoundRegisters before payload after
+IsDecoding before payload (Failed error) after = Faults error (found_wants payload) (found_fault payload) × (after ≡ before)
+IsDecoding before payload outcome after = ⊥
+
+-- what a step comes to, from the registers before it to those after it
+abbrev pub IsOutcome : List (List ℕ) → Step → Outcome → List (List ℕ) → Type 0
+IsOutcome before steps.Reset outcome after = (outcome ≡ Reset) × (after ≡ default_registers)
+IsOutcome before (steps.Frame settings bytes cuts ending) outcome after = IsSessionOutcome before (frame_meaning settings bytes.now) ending outcome after
+IsOutcome before (steps.Dcs bytes cuts ending) outcome after = IsSessionOutcome before (string_meaning bytes.now) ending outcome after
+IsOutcome before (steps.Decode bytes) outcome after = IsDecoding before (found bytes.now) outcome after
+IsOutcome before (steps.DecodeFromDcs bytes settings) outcome after = IsDecoding before (Payload settings bytes.now) outcome after
+
+-- the steps come to these outcomes one by one, and the registers after each are those before the next
+abbrev pub AreOutcomes : List (List ℕ) → List Step → List Outcome → List (List ℕ) → Type 0
+AreOutcomes before [] [] after = after ≡ before
+AreOutcomes before (step ∷ steps) (outcome ∷ outcomes) after =
+    (between : List (List ℕ)) × IsOutcome before step outcome between × AreOutcomes between steps outcomes after
+AreOutcomes before steps outcomes after = ⊥
+
+-- an answer as an outcome: a refusal is one of them
+abbrev pub outcome_of : Result Outcome SixelError → Outcome
+outcome_of (Ok outcome) = outcome
+outcome_of (Err error) = Failed error

@@ -1,0 +1,147 @@
+//! Lists of steps on one decoder: images as they come or at once, and resets.
+//!
+//! What a step comes to depends on its bytes, and not on how they are cut into pieces: the
+//! definitions know no piece.
+
+ghost use Rattle.std.specs.Prelude.{◌≡◌, OnErr, IfOk, IfErr, MatchResult};
+ghost use Rattle.sixel_base.specs.declared.error.SixelError.TheVariants.{OutOfMemory};
+ghost use Rattle.icy_sixel.specs.Script.{AreOutcomes, IsOutcome, outcome_of};
+
+mod playing;
+
+use crate::decoder::{DcsSettings, SixelDcsFeedStatus, SixelDecoder, SixelFeedStatus};
+use crate::sixel_image::SixelImage;
+use playing::{play_frame, play_string};
+use sixel_base::{Result, SixelError};
+use std::alloc::Global;
+
+/// How a session ends once its bytes are fed.
+#[derive(Clone, Copy, Debug, PartialEq, Eq)]
+pub enum End {
+    /// It is finished, and may give an image.
+    Finish,
+    /// It is given up.
+    Abort,
+}
+
+/// One thing to do with a decoder.
+#[derive(Clone, Copy)]
+pub enum Step<'a> {
+    /// The registers become those of a new decoder.
+    Reset,
+    /// A payload is fed in pieces.
+    Frame {
+        settings: DcsSettings,
+        bytes: &'a [u8],
+        cuts: &'a [usize],
+        ending: End,
+    },
+    /// A control string is fed in pieces.
+    Dcs {
+        bytes: &'a [u8],
+        cuts: &'a [usize],
+        ending: End,
+    },
+    /// Bytes are decoded at once, as by [`SixelDecoder::decode`].
+    Decode(&'a [u8]),
+    /// A payload is decoded at once, as by [`SixelDecoder::decode_from_dcs`].
+    DecodeFromDcs(&'a [u8], DcsSettings),
+}
+
+/// The last status of a session.
+#[derive(Clone, Copy, Debug, PartialEq, Eq)]
+pub enum Status {
+    /// Of a payload.
+    Payload(SixelFeedStatus),
+    /// Of a control string.
+    Dcs(SixelDcsFeedStatus),
+}
+
+/// What a step came to.
+#[derive(Debug, Drop)]
+pub enum Outcome {
+    /// The registers are those of a new decoder.
+    Reset,
+    /// The step was refused, and changed no register.
+    Failed(SixelError),
+    /// A session consumed so many bytes, stood so, and gave this image.
+    Finished {
+        consumed: usize,
+        status: Status,
+        image: SixelImage,
+    },
+    /// A session consumed so many bytes, stood so, and was given up: no register changed.
+    Aborted {
+        consumed: usize,
+        status: Status,
+    },
+    /// Bytes that were decoded at once gave this image.
+    Decoded(SixelImage),
+}
+
+/// Does the steps one after the other, and gives what each came to: one outcome a step.
+///
+/// A step that is refused is an outcome like any other, and the next one goes on from the registers
+/// as they are. The list of outcomes is reserved first, so that the only refusal,
+/// [`SixelError::OutOfMemory`], comes before the first step.
+pub fn run(alloc: Global, decoder: &mut SixelDecoder, steps: &[Step<'_>]) -> Result<Vec<Outcome>>
+    ensures outcomes { IfOk result (λ outcomes.
+        AreOutcomes decoder.old steps.now outcomes.items decoder.new) }
+    ensures refused { IfErr result (λ error. error ≡ OutOfMemory) }
+    ensures kept { OnErr result (decoder.new ≡ decoder.old) }
+{
+    let mut outcomes = Vec::with_capacity(alloc, steps.len())?;
+    for step in steps {
+        let outcome = take_step(alloc, decoder, step);
+        outcomes.push(outcome)?;
+    }
+    Ok(outcomes)
+}
+
+/// What a step comes to, and what becomes of the decoder.
+fn take_step(alloc: Global, decoder: &mut SixelDecoder, step: &Step<'_>) -> Outcome
+    ensures { IsOutcome decoder.old step.now result decoder.new }
+{
+    match step {
+        Step::Reset => {
+            decoder.reset_palette();
+            Outcome::Reset
+        }
+        Step::Frame {
+            settings,
+            bytes,
+            cuts,
+            ending,
+        } => outcome_of(play_frame(alloc, decoder, *settings, bytes, cuts, *ending)),
+        Step::Dcs {
+            bytes,
+            cuts,
+            ending,
+        } => outcome_of(play_string(alloc, decoder, bytes, cuts, *ending)),
+        Step::Decode(bytes) => decoded(decoder.decode(alloc, bytes)),
+        Step::DecodeFromDcs(bytes, settings) => {
+            decoded(decoder.decode_from_dcs(alloc, bytes, *settings))
+        }
+    }
+}
+
+/// The answer of a session as an outcome.
+fn outcome_of(answer: Result<Outcome>) -> Outcome
+    ensures { result ≡ outcome_of answer }
+{
+    match answer {
+        Ok(outcome) => outcome,
+        Err(error) => Outcome::Failed(error),
+    }
+}
+
+/// The answer of decoding at once as an outcome.
+fn decoded(answer: Result<SixelImage>) -> Outcome
+    ensures { MatchResult answer (λ image. result ≡ Outcome.Decoded image)
+        (λ error. result ≡ Outcome.Failed error) }
+{
+    match answer {
+        Ok(image) => Outcome::Decoded(image),
+        Err(error) => Outcome::Failed(error),
+    }
+}
