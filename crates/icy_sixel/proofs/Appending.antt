@@ -1,18 +1,18 @@
 -- What the bytes before a piece and the piece are together.
 use Rattle.std.proofs.Common.{◌≡◌, ℕ, ◌+◌, Bool, true, false, cond, List, [], ◌∷◌, ◌++◌, refl, ap, sym, ◌∙◌, subst, arith, Option, Some, None, Result, Ok, Err, length, length-append}
 use Rattle.std.specs.Prelude.{nat_lt, is_some}
-use Rattle.std.specs.Option.{option_or}
 use Rattle.std.proofs.lemmas.List.Sums.{fold-append}
 use Rattle.sixel_base.specs.declared.error.SixelError.{SixelError}
-use Rattle.sixel_base.specs.Fault.{Fault, Faults}
+use Rattle.sixel_base.specs.Fault.{Faults}
 use Rattle.sixel_base.specs.Bytes.{is_terminator, is_ignored, front, carrying, before_terminator, count, first_terminator, is_terminated}
-use Rattle.sixel_base.specs.History.{Sixel, Repeat, Raster, Color, Return, Newline, Skip, History, read, history_of}
+use Rattle.sixel_base.specs.History.{Sixel, Repeat, Raster, Color, Return, Newline, Skip, History, goes_on, read, history_of}
 use Rattle.sixel_base.specs.Stroke.{Origin}
 use Rattle.sixel_base.specs.Payload.{area_limit, first_fault, closed, growths, settled, fed_fault}
 use Rattle.icy_sixel.specs.declared.decoder.SixelFeedResult.{SixelFeedResult}
 use Rattle.icy_sixel.specs.declared.decoder.frame.Frame.{Frame}
 use Rattle.icy_sixel.specs.declared.decoder.frame.Phase.{Phase}
 use Rattle.icy_sixel.specs.declared.decoder.frame.Phase.TheVariants.{Ground, InRepeat, InRaster, InColor}
+use Rattle.icy_sixel.specs.Painter.{Shows}
 use Rattle.icy_sixel.specs.Frame.{StandsIn, StandsAfter, Feeds, after, settled_after, status_of}
 use Rattle.icy_sixel.specs.Intake.{HasRead, GoesOn}
 
@@ -79,31 +79,27 @@ first_terminator-ended (byte ∷ bytes) piece t some =
 
 -- ---- what a frame has read
 
--- neither of two has anything where the first of them has nothing
-none_of_or : (a b : Option Fault) → option_or a b ≡ None → a ≡ None
-none_of_or None b is = refl
-none_of_or (Some f) b is = absurd cc
+-- tokens that no byte goes on are closed
+closed-ended : (h : History) → ((byte : ℕ) → goes_on h byte ≡ false) → closed h ≡ h
+closed-ended [] ended = refl
+closed-ended (Sixel _ ∷ h) ended = refl
+closed-ended (Repeat _ ∷ h) ended = absurd (cc (ended 48))
+closed-ended (Raster _ ∷ h) ended = absurd (cc (ended 48))
+closed-ended (Color _ ∷ h) ended = absurd (cc (ended 48))
+closed-ended (Return ∷ h) ended = refl
+closed-ended (Newline ∷ h) ended = refl
+closed-ended (Skip _ ∷ h) ended = refl
 
--- the tokens that are closed have no fault where all have none
-closed_faultless : (h : History) → first_fault area_limit h ≡ None → first_fault area_limit (closed h) ≡ None
-closed_faultless [] is = is
-closed_faultless (Sixel _ ∷ h) is = is
-closed_faultless (Repeat _ ∷ h) is = none_of_or _ _ is
-closed_faultless (Raster _ ∷ h) is = none_of_or _ _ is
-closed_faultless (Color _ ∷ h) is = none_of_or _ _ is
-closed_faultless (Return ∷ h) is = is
-closed_faultless (Newline ∷ h) is = is
-closed_faultless (Skip _ ∷ h) is = is
+-- what was drawn is what is closed
+stands_shown : (phase : Phase) (o : Origin) (frame : Frame) (h : History) → StandsIn phase o frame h → Shows o frame.painter (closed h)
+stands_shown Ground o frame h is = subst (λ (w : History). Shows o frame.painter w) (sym (closed-ended h is.ended)) is.shows
+stands_shown InRepeat o frame h is = subst (λ (w : History). Shows o frame.painter (closed w)) (sym is.newest) is.shows
+stands_shown InRaster o frame h is = subst (λ (w : History). Shows o frame.painter (closed w)) (sym is.newest) is.shows
+stands_shown InColor o frame h is = subst (λ (w : History). Shows o frame.painter (closed w)) (sym is.newest) is.shows
 
-stands_faultless : (phase : Phase) (o : Origin) (frame : Frame) (h : History) → StandsIn phase o frame h → first_fault area_limit (closed h) ≡ None
-stands_faultless Ground o frame h is = closed_faultless h is.shows.faultless
-stands_faultless InRepeat o frame h is = ap (λ (w : History). first_fault area_limit (closed w)) is.newest ∙ is.shows.faultless
-stands_faultless InRaster o frame h is = ap (λ (w : History). first_fault area_limit (closed w)) is.newest ∙ is.shows.faultless
-stands_faultless InColor o frame h is = ap (λ (w : History). first_fault area_limit (closed w)) is.newest ∙ is.shows.faultless
-
-pub after_faultless : (ended : Bool) (o : Origin) (frame : Frame) (h : History) → StandsAfter ended o frame h → first_fault area_limit (cond ended h (closed h)) ≡ None
-after_faultless true o frame h is = is.1.faultless
-after_faultless false o frame h is = stands_faultless frame.phase o frame h is
+pub shown_after : (ended : Bool) (o : Origin) (frame : Frame) (h : History) → StandsAfter ended o frame h → Shows o frame.painter (cond ended h (closed h))
+shown_after true o frame h is = is.1
+shown_after false o frame h is = stands_shown frame.phase o frame h is
 
 after_whole : (before piece : List ℕ) → first_terminator before ≡ None → after (history_of (front before)) piece ≡ history_of (front (before ++ piece))
 after_whole before piece none = sym (fold-append read [] (front before) (front piece)) ∙ ap history_of (sym (front-append before piece none))
@@ -129,7 +125,7 @@ feeds_goes_on (Ok fed) o frame before piece none fed_to =
       omega (arith, fed_to.0, count-append before piece none),
       fed_to.1 ∙ ap status_of (sym first),
       (refl, stands),
-      after_faultless (is_terminated bytes) o frame (history_of (front bytes)) stands,
+      (shown_after (is_terminated bytes) o frame (history_of (front bytes)) stands).faultless,
     )
 feeds_goes_on (Err e) o frame before piece none refused =
     subst (λ (w : History). Faults e (nat_lt (growths w) (growths (settled (before ++ piece)))) (fed_fault area_limit (before ++ piece))) (sym (settled_open before none))
@@ -149,5 +145,5 @@ ended_goes_on o frame before piece t is =
       omega (arith, ap length same),
       ap status_of (sym first),
       (refl, stands),
-      after_faultless (is_terminated bytes) o frame (history_of (front bytes)) stands,
+      (shown_after (is_terminated bytes) o frame (history_of (front bytes)) stands).faultless,
     )

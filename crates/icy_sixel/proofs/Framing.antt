@@ -78,6 +78,7 @@ stands_goes_on InColor o h frame ps byte goes is pushed = goes_on_open Color o h
 pub shows_skip : (o : Origin) (painter : Painter) (h : History) (byte : ℕ) → Shows o painter h → Shows o painter (Skip byte ∷ h)
 shows_skip o painter h byte shows = record {
   pixels = shows.pixels;
+  reached = shows.reached;
   registers = shows.registers;
   color = shows.color;
   span = shows.span;

@@ -1,3 +1,4 @@
+pub mod Reached
 pub mod Framing
 pub mod Feeding
 pub mod Appending

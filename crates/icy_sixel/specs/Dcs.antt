@@ -8,6 +8,7 @@ use Rattle.sixel_base.specs.Settings.{Settings}
 use Rattle.sixel_base.specs.Payload.{fed_fault, settled, growths}
 use Rattle.icy_sixel.specs.declared.decoder.SixelDcsFeedStatus.{SixelDcsFeedStatus}
 use Rattle.icy_sixel.specs.declared.decoder.SixelDcsFeedStatus.TheVariants.{NeedMoreData, Complete, Cancelled, Interrupted}
+use Rattle.icy_sixel.specs.Reach.{reached_area}
 use Rattle.icy_sixel.specs.Header.{Headed, Open, Begun, Faulty, headed, header_text, settings_of}
 
 -- whether the introducer came: not yet, never, or these bytes follow it
@@ -121,6 +122,15 @@ stage_growths (Reading settings payload) = growths (settled payload)
 
 abbrev pub dcs_growths : List ℕ → ℕ
 dcs_growths bytes = stage_growths (stage bytes)
+
+-- how far the closed sixels of its payload reach
+abbrev pub stage_reached_area : Stage → ℕ
+stage_reached_area Heading = 0
+stage_reached_area (Failing fault) = 0
+stage_reached_area (Reading settings payload) = reached_area (settled payload)
+
+abbrev pub dcs_reached_area : List ℕ → ℕ
+dcs_reached_area bytes = stage_reached_area (stage bytes)
 
 -- how a string has ended, once a terminator of its payload came
 abbrev pub ended_by : Option ℕ → List ℕ → Option SixelDcsFeedStatus

@@ -5,6 +5,7 @@ use Rattle.sixel_base.specs.declared.error.SixelError.{SixelError}
 use Rattle.sixel_base.specs.Fault.{Faults}
 use Rattle.sixel_base.specs.Bytes.{front, count, first_terminator}
 use Rattle.sixel_base.specs.Payload.{area_limit, fed_fault, settled, growths}
+use Rattle.sixel_base.specs.Canvas.{canvas_writes}
 use Rattle.sixel_base.specs.History.{history_of}
 use Rattle.sixel_base.specs.Stroke.{Origin}
 use Rattle.icy_sixel.specs.declared.decoder.SixelFeedResult.{SixelFeedResult}
@@ -13,11 +14,17 @@ use Rattle.icy_sixel.specs.Session.{Session}
 use Rattle.icy_sixel.specs.declared.decoder.frame.Frame.{Frame}
 use Rattle.icy_sixel.specs.declared.decoder.stream.Intake.TheInside.{Inside}
 
+-- how many pixels the canvas has written; a session that was refused has no canvas
+abbrev pub writes_of : Option Frame → ℕ
+writes_of None = 0
+writes_of (Some frame) = canvas_writes frame.painter.canvas
+
 abbrev pub session_of : Inside → Session
 session_of intake = record {
   origin = record { registers = intake.start.value; settings = intake.settings };
   bytes = intake.log.bytes;
   is_refused = is_none intake.frame;
+  writes = writes_of intake.frame;
 }
 
 -- A frame that was not refused has read the bytes up to their first terminator.

@@ -1,3 +1,4 @@
+pub mod Reach
 pub mod Painter
 pub mod Frame
 pub mod ImageView

@@ -5,15 +5,17 @@ use Rattle.sixel_base.specs.declared.error.SixelError.{SixelError}
 use Rattle.icy_sixel.specs.declared.decoder.painter.Painter.{Painter}
 use Rattle.sixel_base.specs.Settings.{ratio_of}
 use Rattle.sixel_base.specs.Fault.{Faults}
-use Rattle.sixel_base.specs.Canvas.{shown}
+use Rattle.sixel_base.specs.Canvas.{shown, reached}
 use Rattle.sixel_base.specs.History.{History}
 use Rattle.sixel_base.specs.Place.{span, across, down, width, height}
 use Rattle.sixel_base.specs.Stroke.{Origin, pixel, registers, color, ratio}
 use Rattle.sixel_base.specs.Payload.{area_limit, first_fault}
+use Rattle.icy_sixel.specs.Reach.{row_reach}
 
 -- The painter has drawn these tokens, none of which has a fault.
 pub record Shows (origin : Origin) (painter : Painter) (history : History) : Type 0 where
   pub pixels : (column row : ℕ) → shown painter.canvas column row ≡ pixel origin history column row
+  pub reached : (row : ℕ) → reached painter.canvas row ≡ row_reach history row
   pub registers : painter.registers ≡ registers origin.registers history
   pub color : painter.color ≡ color origin.registers history ++ 255 ∷ []
   pub span : painter.span ≡ span history

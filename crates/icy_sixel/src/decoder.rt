@@ -192,6 +192,7 @@ impl SixelDecoder {
           origin = record { registers = self.old; settings = settings };
           bytes = [];
           is_refused = false;
+          writes = 0;
         }) }
     {
         Ok(SixelStreamDecoder::begin(alloc, self, settings))
@@ -207,6 +208,7 @@ impl SixelDecoder {
           registers = self.old;
           bytes = [];
           is_refused = false;
+          writes = 0;
         } }
     {
         SixelDcsStreamDecoder::begin(alloc, self)

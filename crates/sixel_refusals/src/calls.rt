@@ -1,8 +1,8 @@
 use icy_sixel::canvas::{Row, fill_rgba_span};
 use icy_sixel::script::{self, Step, run};
 use icy_sixel::{
-    BackgroundMode, DcsSettings, EncodeOptions, PixelAspectRatio, Result, SixelDecoder, SixelError,
-    SixelImage, SixelStreamDecoder, choose_palette, witnesses_hold,
+    BackgroundMode, DcsSettings, EncodeOptions, PixelAspectRatio, Result, SixelDcsStreamDecoder,
+    SixelDecoder, SixelError, SixelImage, SixelStreamDecoder, choose_palette, witnesses_hold,
 };
 use std::alloc::Global;
 
@@ -13,6 +13,8 @@ pub enum Call {
     DecodeFromDcs,
     Decode,
     Frame,
+    CountedFrame,
+    ControlString,
     Reach,
     Palette,
     Encode,
@@ -23,11 +25,13 @@ pub enum Call {
 }
 
 /// Every call, in the order in which they are tried.
-pub const CALLS: [Call; 11] = [
+pub const CALLS: [Call; 13] = [
     Call::NoMemory,
     Call::DecodeFromDcs,
     Call::Decode,
     Call::Frame,
+    Call::CountedFrame,
+    Call::ControlString,
     Call::Reach,
     Call::Palette,
     Call::Encode,
@@ -37,7 +41,8 @@ pub const CALLS: [Call; 11] = [
     Call::Run,
 ];
 
-/// How a call ended: as with ample memory, for want of memory with all that this owes, or otherwise.
+/// How a call ended: as with ample memory, for want of memory with all that this owes, or
+/// otherwise.
 #[derive(Clone, Copy, Debug, PartialEq, Eq)]
 pub enum Outcome {
     Right,
@@ -45,10 +50,14 @@ pub enum Outcome {
     Wrong,
 }
 
-// A payload of 301 columns and 12 rows in pieces that each make the canvas grow; it makes register 42 red.
+// A payload of 301 columns and 12 rows in pieces that each make the canvas grow. It makes register
+// 42 red.
 const PIECES: [&[u8]; 3] = [b"#42;2;100;0;0~", b"!300~", b"-!5~$~"];
 
 const PAYLOAD: &[u8] = b"#42;2;100;0;0~!300~-!5~$~";
+
+// The same in a control string.
+const STRING_PIECES: [&[u8]; 4] = [b"\x1bPq#42;2;100;0;0~", b"!300~", b"-!5~$~", b"\x1b\\"];
 
 const CONTROL_STRING: &[u8] = b"text\x1bPq#42;2;100;0;0~!300~-!5~$~\x1b\\text";
 
@@ -72,6 +81,8 @@ impl Call {
             Call::DecodeFromDcs => "decode_from_dcs",
             Call::Decode => "decode",
             Call::Frame => "payload session",
+            Call::CountedFrame => "payload session with a count",
+            Call::ControlString => "control string session",
             Call::Reach => "Row::reach",
             Call::Palette => "choose_palette",
             Call::Encode => "encode_with",
@@ -86,18 +97,14 @@ impl Call {
     pub fn run(self, alloc: Global, decoder: &mut SixelDecoder) -> Outcome {
         match self {
             Call::NoMemory => ended(no_memory(alloc, decoder)),
-            Call::DecodeFromDcs => {
-                let image = decoder.decode_from_dcs(alloc, PAYLOAD, DcsSettings::default());
-                drawn(decoder, image)
-            }
-            Call::Decode => {
-                let image = decoder.decode(alloc, CONTROL_STRING);
-                drawn(decoder, image)
-            }
-            Call::Frame => {
-                let image = frame(alloc, decoder);
-                drawn(decoder, image)
-            }
+            Call::DecodeFromDcs => drawn(
+                decoder.decode_from_dcs(alloc, PAYLOAD, DcsSettings::default()),
+                decoder,
+            ),
+            Call::Decode => drawn(decoder.decode(alloc, CONTROL_STRING), decoder),
+            Call::Frame => drawn(frame(alloc, decoder), decoder),
+            Call::CountedFrame => drawn(counted_frame(alloc, decoder), decoder),
+            Call::ControlString => drawn(control_string(alloc, decoder), decoder),
             Call::Reach => reach(alloc),
             Call::Palette => ended(palette(alloc)),
             Call::Encode => ended(encode(alloc)),
@@ -119,7 +126,7 @@ fn ended(answer: Result<bool>) -> Outcome {
 }
 
 /// How decoding the payload ended: with its image and register 42 red, or for want of memory.
-fn drawn(decoder: &SixelDecoder, answer: Result<SixelImage>) -> Outcome {
+fn drawn(answer: Result<SixelImage>, decoder: &SixelDecoder) -> Outcome {
     match answer {
         Ok(image) => ended(Ok(is_drawn(&image) && decoder.register(42) == [255, 0, 0])),
         Err(error) => ended(Err(error)),
@@ -135,7 +142,8 @@ fn is_drawn(image: &SixelImage) -> bool {
             .starts_with(b"\xff\x00\x00\xff\xff\x00\x00\xff")
 }
 
-/// Feeds the payload in pieces, and finishes. Where a feed is refused, all after it must be.
+/// Feeds the payload in pieces, and finishes. Where a feed is refused, all after it must be, and
+/// nothing may be counted.
 fn frame(alloc: Global, decoder: &mut SixelDecoder) -> Result<SixelImage> {
     let mut session = decoder.begin_frame(alloc, DcsSettings::default())?;
     let fed = feed_pieces(&mut session);
@@ -147,10 +155,57 @@ fn frame(alloc: Global, decoder: &mut SixelDecoder) -> Result<SixelImage> {
     }
 }
 
+/// As [`frame`], with the count, which must be that of the canvas and of the image's pixels.
+fn counted_frame(alloc: Global, decoder: &mut SixelDecoder) -> Result<SixelImage> {
+    let mut session = decoder.begin_frame(alloc, DcsSettings::default())?;
+    let fed = feed_pieces(&mut session);
+    let drawn = session.canvas_writes();
+    let counted = session.finish_counted();
+    match fed {
+        Ok(()) => {
+            let (image, writes) = counted?;
+            if writes.checked_sub(drawn) == Some(301 * 12) {
+                Ok(image)
+            } else {
+                Err(SixelError::NoSixelData)
+            }
+        }
+        Err(error) if has_failed(counted) => Err(error),
+        Err(_) => Err(SixelError::NoSixelData),
+    }
+}
+
 fn feed_pieces(session: &mut SixelStreamDecoder<'_>) -> Result<()> {
     for piece in PIECES {
         if let Err(error) = session.feed(piece) {
-            return Err(if has_failed(session.feed(b"~")) {
+            let counts = session.canvas_writes() != 0;
+            return Err(if has_failed(session.feed(b"~")) && !counts {
+                error
+            } else {
+                SixelError::NoSixelData
+            });
+        }
+    }
+    Ok(())
+}
+
+/// As [`frame`], of a control string.
+fn control_string(alloc: Global, decoder: &mut SixelDecoder) -> Result<SixelImage> {
+    let mut session = decoder.begin_dcs(alloc);
+    let fed = follow_pieces(&mut session);
+    let image = session.finish();
+    match fed {
+        Ok(()) => image,
+        Err(error) if has_failed(image) => Err(error),
+        Err(_) => Err(SixelError::NoSixelData),
+    }
+}
+
+fn follow_pieces(session: &mut SixelDcsStreamDecoder<'_>) -> Result<()> {
+    for piece in STRING_PIECES {
+        if let Err(error) = session.feed(piece) {
+            let counts = session.canvas_writes() != 0;
+            return Err(if has_failed(session.feed(b"~")) && !counts {
                 error
             } else {
                 SixelError::NoSixelData
@@ -164,7 +219,9 @@ fn feed_pieces(session: &mut SixelStreamDecoder<'_>) -> Result<()> {
 fn has_failed<T: Drop>(answer: Result<T>) -> bool {
     match answer {
         Ok(_) => false,
-        Err(error) => error == SixelError::stream_failed(),
+        Err(error) => {
+            error == SixelError::stream_failed() || error == SixelError::dcs_stream_failed()
+        }
     }
 }
 
@@ -269,7 +326,9 @@ fn no_memory(alloc: Global, decoder: &mut SixelDecoder) -> Result<bool> {
         .with_grid_size(3);
     let mut session = decoder.begin_frame(alloc, settings)?;
     let fed = session.feed(COLOR_AND_REPEAT)?;
+    let writes = session.canvas_writes();
     session.abort();
+    let string_writes = decoder.begin_dcs(alloc).canvas_writes();
     decoder.reset_palette();
     let copy = decoder.clone()?;
     let mut row = Row::new(alloc, [0; 4]);
@@ -278,6 +337,7 @@ fn no_memory(alloc: Global, decoder: &mut SixelDecoder) -> Result<bool> {
     fill_rgba_span(&mut span, [1, 2, 3, 4]);
     Ok(
         fed.consumed == 16
+            && (writes, string_writes) == (0, 0)
             && copy.register(1) == [0x33, 0x33, 0xcc]
             && (row.len(), row.room(), row.writes()) == (0, 0, 0)
             && span[18] == 3

@@ -50,3 +50,5 @@ mod splits;
 mod steps;
 #[cfg(test)]
 mod unfinished;
+#[cfg(test)]
+mod work;

@@ -1,11 +1,11 @@
 //! The session that decodes one control string as it comes.
 
-ghost use Rattle.std.specs.Prelude.{◌≡◌, ◌+◌, ◌++◌, [], false, true, nat_lt, None};
+ghost use Rattle.std.specs.Prelude.{◌≡◌, ◌+◌, ◌*◌, ◌≤◌, ◌++◌, [], false, true, nat_lt, None};
 ghost use Rattle.std.specs.Prelude.{OnOk, OnErr, IfOk, IfErr, MatchBool};
 ghost use Rattle.sixel_base.specs.Fault.{Faults, IsFault, DcsStreamFailed};
 ghost use Rattle.sixel_base.specs.Payload.{area_limit};
 ghost use Rattle.icy_sixel.specs.Dcs.{dcs_count, dcs_status, dcs_fault, dcs_growths};
-ghost use Rattle.icy_sixel.specs.Dcs.{has_ended, has_come, end_fault};
+ghost use Rattle.icy_sixel.specs.Dcs.{dcs_reached_area, has_ended, has_come, end_fault};
 ghost use Rattle.icy_sixel.specs.ImageView.{image_value};
 ghost use Rattle.icy_sixel.specs.OneShot.{found, found_fault, IsFoundImage, AreFoundRegisters};
 
@@ -44,7 +44,12 @@ impl Model for Progress {
 impl Progress {
     /// The progress of a session that was fed nothing.
     pub fn new(alloc: Global, registers: Registers) -> Progress
-        ensures { result ≡ record { registers = registers; bytes = []; is_refused = false } }
+        ensures { result ≡ record {
+          registers = registers;
+          bytes = [];
+          is_refused = false;
+          writes = 0;
+        } }
     {
         Progress {
             phase: Phase::Start,
@@ -83,6 +88,20 @@ impl Progress {
                 self.phase = Phase::Refused;
                 Err(error)
             }
+        }
+    }
+
+    /// How many pixels were copied or filled so far, to grow the canvas of the payload.
+    fn writes(&self) -> u64
+        ensures value { result ≡ self.now.writes }
+        ensures at_least { self.now.is_refused ≡ false
+            → dcs_reached_area self.now.bytes ≤ result }
+        ensures at_most { result ≤ 3 * dcs_reached_area self.now.bytes }
+        ensures refused { self.now.is_refused ≡ true → result ≡ 0 }
+    {
+        match &self.phase {
+            Phase::Payload(intake) => intake.writes(),
+            Phase::Start | Phase::Escape | Phase::Header(_) | Phase::Refused => 0,
         }
     }
 
@@ -144,6 +163,7 @@ impl<'a> SixelDcsStreamDecoder<'a> {
           registers = owner.old;
           bytes = [];
           is_refused = false;
+          writes = 0;
         } }
     {
         let registers = owner.registers;
@@ -179,6 +199,21 @@ impl<'a> SixelDcsStreamDecoder<'a> {
             (dcs_fault area_limit self.new.progress.bytes))) }
     {
         self.progress.feed(piece)
+    }
+
+    /// How many pixels were copied or filled so far, to grow the rows of the payload's canvas; 0
+    /// before the payload and after a refusal. It takes no memory.
+    ///
+    /// The bounds are those of a payload session, by
+    /// [`canvas_writes`](crate::SixelStreamDecoder::canvas_writes).
+    pub fn canvas_writes(&self) -> u64
+        ensures value { result ≡ self.now.progress.writes }
+        ensures at_least { self.now.progress.is_refused ≡ false
+            → dcs_reached_area self.now.progress.bytes ≤ result }
+        ensures at_most { result ≤ 3 * dcs_reached_area self.now.progress.bytes }
+        ensures refused { self.now.progress.is_refused ≡ true → result ≡ 0 }
+    {
+        self.progress.writes()
     }
 
     /// Gives the image of a control string that has ended, and then gives the decoder the registers

@@ -4,7 +4,8 @@
 //! terminator, or by the end. So a piece may end within one, and nothing is decided there.
 
 ghost use Rattle.std.specs.Prelude.{◌≡◌, ◌<◌, ◌≤◌, ◌*◌, ◌∷◌, ◌++◌, List, ℕ, true, false, []};
-ghost use Rattle.std.specs.Prelude.{nat_lt, fold, IsOk, IsTrue, ◌⊎◌, Bool};
+ghost use Rattle.std.specs.Prelude.{nat_lt, fold, IsOk, IsTrue, ◌⊎◌, Bool, if◌then◌else◌};
+ghost use Rattle.sixel_base.specs.Canvas.{canvas_writes};
 ghost use Rattle.sixel_base.specs.History.{History, begun, goes_on, read};
 ghost use Rattle.sixel_base.specs.Parameters.{Keeps, IsDigit};
 ghost use Rattle.sixel_base.specs.Stroke.{Origin};
@@ -70,10 +71,13 @@ impl Frame {
     ghost use Rattle.icy_sixel.specs.Painter.{Shows, Draws};
     ghost use Rattle.icy_sixel.specs.Frame.{Stands, Reads, Feeds, StandsAfter};
     ghost use Rattle.icy_sixel.specs.ImageView.{Ends};
+    ghost use Rattle.icy_sixel.specs.Reach.{reached_area};
+    ghost use Rattle.sixel_base.specs.Payload.{closed};
 
     /// A frame of which nothing was read.
     pub fn new(alloc: Global, registers: Registers, settings: DcsSettings) -> Frame
-        ensures { Stands (record { registers = registers; settings = settings }) result [] }
+        ensures stands { Stands (record { registers = registers; settings = settings }) result [] }
+        ensures unwritten { canvas_writes result.painter.canvas ≡ 0 }
     {
         Frame {
             phase: Phase::Ground,
@@ -181,6 +185,19 @@ impl Frame {
             consumed: piece.len(),
             status: SixelFeedStatus::NeedMoreData,
         })
+    }
+
+    /// How many pixels the canvas has copied or filled, to grow. An open command draws nothing.
+    pub fn writes(&self) -> u64
+        ensures value { result ≡ canvas_writes self.now.painter.canvas }
+        ensures at_least { (o : Origin) (h : History) (ended : Bool)
+            → StandsAfter ended o self.now h
+            → reached_area (if ended then h else closed h) ≤ result }
+        ensures at_most { (o : Origin) (h : History) (ended : Bool)
+            → StandsAfter ended o self.now h
+            → result ≤ 3 * reached_area (if ended then h else closed h) }
+    {
+        self.painter.writes()
     }
 
     /// Ends the open command, and gives the picture.

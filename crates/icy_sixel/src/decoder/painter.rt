@@ -2,6 +2,7 @@
 
 ghost use Rattle.std.specs.Prelude.{◌≡◌, ◌<◌, ◌≤◌, ◌*◌, ◌∷◌, ◌++◌, List, ℕ, true, false, []};
 ghost use Rattle.std.specs.Prelude.{length, max, nat_le, slice_set, if◌then◌else◌};
+ghost use Rattle.sixel_base.specs.Canvas.{canvas_writes};
 ghost use Rattle.sixel_base.specs.History.{History, Sixel, Repeat, Raster, Color, Return, Newline};
 ghost use Rattle.sixel_base.specs.Parameters.{Keeps};
 ghost use Rattle.sixel_base.specs.Fields.{fields, field};
@@ -49,7 +50,8 @@ impl Painter {
 
     /// A painter that has drawn nothing.
     pub fn new(alloc: Global, registers: Registers, settings: DcsSettings) -> Painter
-        ensures { Shows (record { registers = registers; settings = settings }) result [] }
+        ensures shows { Shows (record { registers = registers; settings = settings }) result [] }
+        ensures unwritten { canvas_writes result.canvas ≡ 0 }
     {
         let ground = registers.get(0);
         let background = match settings.background_mode() {
@@ -170,6 +172,18 @@ impl Painter {
 impl Painter {
     ghost use Rattle.icy_sixel.specs.Painter.{Shows};
     ghost use Rattle.icy_sixel.specs.ImageView.{Ends};
+    ghost use Rattle.icy_sixel.specs.Reach.{reached_area};
+
+    /// How many pixels the canvas has copied or filled, to grow.
+    pub fn writes(&self) -> u64
+        ensures value { result ≡ canvas_writes self.now.canvas }
+        ensures at_least { (o : Origin) (h : History) → Shows o self.now h
+            → reached_area h ≤ result }
+        ensures at_most { (o : Origin) (h : History) → Shows o self.now h
+            → result ≤ 3 * reached_area h }
+    {
+        self.canvas.writes()
+    }
 
     /// The picture that was drawn, and the registers then.
     pub fn finish(self) -> Result<Picture>

@@ -1,7 +1,7 @@
 //! The session that decodes one payload as it comes.
 
-ghost use Rattle.std.specs.Prelude.{◌≡◌, ◌+◌, ◌≤◌, ◌++◌, [], true, false, nat_lt, is_none, None, OnOk};
-ghost use Rattle.std.specs.Prelude.{OnErr, IfOk, IfErr, MatchBool, Some, length, List, ℕ};
+ghost use Rattle.std.specs.Prelude.{◌≡◌, ◌+◌, ◌*◌, ◌≤◌, ◌++◌, [], true, false, nat_lt, is_none, None};
+ghost use Rattle.std.specs.Prelude.{OnOk, OnErr, IfOk, IfErr, MatchBool, Some, length, List, ℕ};
 ghost use Rattle.sixel_base.specs.Stroke.{Origin};
 ghost use Rattle.icy_sixel.specs.Intake.{HasRead, GoesOn};
 ghost use Rattle.sixel_base.specs.Bytes.{count, first_terminator};
@@ -10,7 +10,7 @@ ghost use Rattle.sixel_base.specs.Payload.{area_limit, fed_fault, settled, growt
 ghost use Rattle.sixel_base.specs.Payload.{payload_image, payload_registers};
 ghost use Rattle.icy_sixel.specs.Frame.{status_of};
 ghost use Rattle.icy_sixel.specs.ImageView.{image_value};
-ghost use Rattle.icy_sixel.specs.Session.{Session, with_piece, refused};
+ghost use Rattle.icy_sixel.specs.Reach.{reached_area};
 
 use crate::decoder::frame::Frame;
 use crate::decoder::log::Log;
@@ -52,6 +52,7 @@ impl Intake {
           origin = record { registers = registers; settings = settings };
           bytes = [];
           is_refused = false;
+          writes = 0;
         } }
     {
         Intake {
@@ -94,6 +95,20 @@ impl Intake {
                 self.frame = None;
                 Err(error)
             }
+        }
+    }
+
+    /// How many pixels were copied or filled so far, to grow the canvas.
+    pub fn writes(&self) -> u64
+        ensures value { result ≡ self.now.writes }
+        ensures at_least { self.now.is_refused ≡ false
+            → reached_area (settled self.now.bytes) ≤ result }
+        ensures at_most { result ≤ 3 * reached_area (settled self.now.bytes) }
+        ensures refused { self.now.is_refused ≡ true → result ≡ 0 }
+    {
+        match &self.frame {
+            Some(frame) => frame.writes(),
+            None => 0,
         }
     }
 
@@ -147,6 +162,7 @@ impl<'a> SixelStreamDecoder<'a> {
           origin = record { registers = owner.old; settings = settings };
           bytes = [];
           is_refused = false;
+          writes = 0;
         } }
     {
         let registers = owner.registers;
@@ -187,6 +203,21 @@ impl<'a> SixelStreamDecoder<'a> {
         self.intake.feed(piece)
     }
 
+    /// How many pixels were copied or filled so far, to grow the rows of the canvas; 0 after a
+    /// refusal. Painting over pixels doesn't count. It takes no memory.
+    ///
+    /// It is from once to three times the area that the closed sixels reach, which is the sum over
+    /// all rows of the greatest right edge of a sixel that covers a pixel of the row.
+    pub fn canvas_writes(&self) -> u64
+        ensures value { result ≡ self.now.intake.writes }
+        ensures at_least { self.now.intake.is_refused ≡ false
+            → reached_area (settled self.now.intake.bytes) ≤ result }
+        ensures at_most { result ≤ 3 * reached_area (settled self.now.intake.bytes) }
+        ensures refused { self.now.intake.is_refused ≡ true → result ≡ 0 }
+    {
+        self.intake.writes()
+    }
+
     /// Ends the payload, gives its image, and then gives the decoder the registers that it defined.
     ///
     /// It need not have met a terminator; an open command then ends here, and may be refused. A
@@ -208,6 +239,33 @@ impl<'a> SixelStreamDecoder<'a> {
         let picture = intake.finish()?;
         owner.registers = picture.registers;
         Ok(picture.image)
+    }
+
+    /// As [`finish`](Self::finish), with the number of pixels that were copied or filled for the
+    /// image: [`canvas_writes`](Self::canvas_writes), and the image's own as they are packed.
+    ///
+    /// It is at most four times the number of the image's pixels.
+    pub fn finish_counted(self) -> Result<(SixelImage, u64)>
+        ensures image { IfOk result (λ counted. image_value counted.0
+            ≡ payload_image self.entry.intake.origin self.entry.intake.bytes) }
+        ensures counted { IfOk result (λ counted. counted.1
+            ≡ self.entry.intake.writes + counted.0.width * counted.0.height) }
+        ensures at_most { IfOk result
+            (λ counted. counted.1 ≤ 4 * (counted.0.width * counted.0.height)) }
+        ensures faultless { OnOk result (payload_fault area_limit self.entry.intake.bytes ≡ None) }
+        ensures registers { OnOk result (self.exit.0.now
+            ≡ payload_registers self.entry.intake.origin self.entry.intake.bytes) }
+        ensures accepted { OnOk result (self.entry.intake.is_refused ≡ false) }
+        ensures kept { OnErr result (self.exit.0.now ≡ self.entry.owner.now) }
+        ensures error { IfErr result (λ error. MatchBool self.entry.intake.is_refused
+            (IsFault error StreamFailed)
+            (Faults error (is_none (payload_fault area_limit self.entry.intake.bytes))
+            (payload_fault area_limit self.entry.intake.bytes))) }
+    {
+        let writes = self.canvas_writes();
+        let image = self.finish()?;
+        let packed = image.width * image.height;
+        Ok((image, writes + packed as u64))
     }
 
     /// Ends the session, and changes nothing, as dropping it does.

@@ -5,4 +5,4 @@ use Rattle.icy_sixel.proofs.decoder.SixelDecoder.decode_from_dcs.Goals as goal
 pub returns-in_err-feed-clause-refused : goal.returns-in_err-feed-clause-refused
 returns-in_err-feed-clause-refused c =
     let p = err_from_is_err_and c.from_residual.result c.from_residual.ensures.1 in
-    rw (p.1, p.2) (payload_refused _ c.args.bytes.now (c.in_err-feed.ensures _ _ c.new-frame.ensures))
+    rw (p.1, p.2) (payload_refused _ c.args.bytes.now (c.in_err-feed.ensures _ _ c.new-frame.ensures.stands))

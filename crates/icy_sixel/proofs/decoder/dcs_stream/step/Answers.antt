@@ -25,6 +25,7 @@ returns-in-Ok-Some c = λ before ended head is.
       origin = record { registers = c.args.registers.now; settings = c.in-Ok-Some.settings };
       bytes = [];
       is_refused = false;
+      writes = 0;
     } in
     let begun : IsInPayload fresh c.args.registers.now ended (before ++ c.args.byte ∷ []) = record {
       reading = header_begins c.in-Header.header before c.args.byte it.0 stepped.0 stepped.1 ∙ ap (λ s. Reading s []) (sym stepped.2);

@@ -10,6 +10,7 @@ returns c = λ o h text keeps shows.
     rw (← named, ← shows.registers) (c.define.ensures text keeps) in
     record {
       pixels = shows.pixels;
+      reached = shows.reached;
       registers = defined;
       color = c.opaque-self.ensures ∙ ap (λ w. w ++ 255 ∷ []) (c.get-2.ensures.color ∙ rw (defined, named) refl);
       span = shows.span;
