@@ -1,2 +1,5 @@
+pub mod Counting
+pub mod Leading
 pub mod Sending
 pub mod Serving
+pub mod Stringing

@@ -1,15 +1,22 @@
-use Rattle.std.proofs.Common.{◌≡◌, ℕ, List, ◌++◌, [], take, drop, ap, sym, subst, refl, true, ◌∙◌, append_assoc, append-nil, take-append-drop, Option, None, Some, Result, Ok, Err, OnOk, OnErr, IfErr, MatchOption}
+use Rattle.std.proofs.Common.{◌≡◌, ℕ, List, ◌++◌, [], take, drop, ap, sym, subst, refl, true, ◌∙◌, append_assoc, append-nil, take-append-drop, Option, None, Some, Result, Ok, Err, OnOk, OnErr, IfErr, IfSome, inl, MatchOption}
 use Rattle.std.specs.Result.{IsErrAnd}
-use Rattle.std.proofs.KnownBytes.{Appends-trans}
+use Rattle.std.proofs.KnownBytes.{Appends-nil, Appends-trans}
 use Rattle.std.specs.Io.KnownBytes.{Appends}
+use Rattle.sixel_base.specs.declared.error.SixelError.{SixelError}
+use Rattle.sixel_base.specs.declared.error.SixelError.TheVariants.{OutOfMemory}
+use Rattle.sixel_base.specs.Color.{default_registers}
 use Rattle.sixel_base.specs.Payload.{Image}
 use Rattle.sixel_base.specs.Settings.{Settings}
 use Rattle.sixel_base.specs.Stroke.{Origin}
 use Rattle.sixel_base.specs.Fault as data_fault
 use Rattle.sixel.specs.declared.fault.Fault.{Fault}
 use Rattle.sixel.specs.declared.fault.Fault.TheVariants.{Sixel, Input, Output}
+use Rattle.sixel.specs.declared.words.Word.{Word}
+use Rattle.sixel.specs.declared.words.Word.TheVariants.{Payload, Decode, Frames, Encode}
 use Rattle.sixel.specs.Form.{line_end, image_line, image_form}
-use Rattle.sixel.specs.Answer.{Ending, Done, Refused, fresh, IsImageAnswer, Writes, Begins, Serves}
+use Rattle.sixel.specs.Ending.{Ending, Done, Refused}
+use Rattle.sixel.specs.Strings.{Broken}
+use Rattle.sixel.specs.Answer.{fresh, IsAnswer, IsImageAnswer, Writes, Begins, Serves}
 
 -- ---- an answer that is written in parts
 
@@ -43,6 +50,18 @@ Serves-last (Ok _) IsText a b c front bytes whole before all part is_output = (f
 Serves-last {A} (Err f) IsText a b c front bytes whole before all part is_output =
     let same = subst (λ t. IsText t Done) (sym (append-nil (front ++ bytes))) whole in
     Serves-part {A = A} (Err f) f IsText a b c front bytes [] same refl is_output before part
+
+-- memory may be wanting before anything is written, whatever was asked for
+wanting : (word : Word) (bytes : List ℕ) → IsAnswer word bytes [] (Refused OutOfMemory)
+wanting Payload bytes = (refl, refl)
+wanting Decode bytes = (refl, refl)
+wanting (Frames length) bytes = Broken default_registers bytes OutOfMemory refl
+wanting (Encode width height colors) bytes = (refl, inl refl)
+
+pub Writes-wanting : (word : Word) (remaining held : Option (List ℕ)) (error : SixelError) → error ≡ OutOfMemory
+    → IfSome remaining (λ bytes. Writes (λ text. IsAnswer word bytes text (Refused error)) held held)
+Writes-wanting word None held error is = tt
+Writes-wanting word (Some bytes) held error is = ([], subst (λ e. IsAnswer word bytes [] (Refused e)) (sym is) (wanting word bytes), Appends-nil held)
 
 -- ---- images
 

@@ -2,7 +2,6 @@
 -- want of memory, which may come before any image. The order of the two is this program's own: an image is written once it is whole.
 use Rattle.std.specs.Prelude.{◌≡◌, ◌⊎◌, ℕ, true, List, [], ◌++◌, Option, None, Some, Result, Ok, Err}
 use Rattle.std.specs.Io.KnownBytes.{Appends}
-use Rattle.sixel_base.specs.declared.error.SixelError.{SixelError}
 use Rattle.sixel_base.specs.declared.error.SixelError.TheVariants.{OutOfMemory}
 use Rattle.sixel_base.specs.Color.{default_registers}
 use Rattle.sixel_base.specs.Stroke.{Origin}
@@ -13,12 +12,10 @@ use Rattle.icy_sixel.specs.OneShot.{no_settings, found, found_fault, IsFoundImag
 use Rattle.sixel.specs.declared.fault.Fault.{Fault}
 use Rattle.sixel.specs.declared.fault.Fault.TheVariants.{Sixel, Input, Output}
 use Rattle.sixel.specs.declared.words.Word.{Word}
-use Rattle.sixel.specs.declared.words.Word.TheVariants.{Payload, Decode, Encode}
+use Rattle.sixel.specs.declared.words.Word.TheVariants.{Payload, Decode, Frames, Encode}
 use Rattle.sixel.specs.Form.{image_form}
-
-pub data Ending : Type 0 where
-  Done : Ending
-  Refused : SixelError → Ending
+use Rattle.sixel.specs.Ending.{Ending, Done, Refused}
+use Rattle.sixel.specs.Strings.{AreAnswered}
 
 -- a new decoder, and no settings
 abbrev pub fresh : Origin
@@ -38,6 +35,7 @@ IsTextAnswer image colors text (Refused error) = (text ≡ []) × ((error ≡ Ou
 abbrev pub IsAnswer : Word → List ℕ → List ℕ → Ending → Type 0
 IsAnswer Payload bytes = IsImageAnswer (payload_fault area_limit bytes) (λ image. image ≡ payload_image fresh bytes)
 IsAnswer Decode bytes = IsImageAnswer (found_fault (found bytes)) (IsFoundImage default_registers (found bytes))
+IsAnswer (Frames length) bytes = AreAnswered default_registers bytes
 IsAnswer (Encode width height colors) bytes = IsTextAnswer (square_value bytes width height) colors
 
 -- what a writer holds grew by a text of this kind

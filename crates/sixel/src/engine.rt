@@ -3,17 +3,22 @@ ghost use Rattle.std.specs.Io.KnownBytes.{Keeps, IsAtEnd};
 ghost use Rattle.sixel_base.specs.declared.error.SixelError.{SixelError};
 ghost use Rattle.sixel.specs.declared.fault.Fault.TheVariants.{Sixel, Input, Output};
 ghost use Rattle.sixel.specs.declared.words.Word.TheVariants.{Payload, Decode, Encode};
-ghost use Rattle.sixel.specs.Answer.{Done, Refused, IsAnswer, Writes, Begins, Serves};
+ghost use Rattle.sixel.specs.Words.{IsServable};
+ghost use Rattle.sixel.specs.Ending.{Done, Refused};
+ghost use Rattle.sixel.specs.Answer.{IsAnswer, Writes, Begins, Serves};
 
 use crate::fault::Fault;
 use crate::images::write_image;
 use crate::streams::{read_all, write_all};
+use crate::strings::write_strings;
 use crate::words::Word;
 use icy_sixel::{DcsSettings, EncodeOptions, SixelDecoder, sixel_encode};
 use std::alloc::Global;
 use std::io::{Read, Write};
 
 /// Does what the word asks for with the bytes of the input, which is read to its end first.
+///
+/// The pieces of [`Word::Frames`] have at least one byte, as `read_word` sees to.
 ///
 /// The clauses on bytes hold where the reader tells what it has left and the writer what it holds.
 pub fn serve<R: Read, O: Write>(
@@ -22,6 +27,7 @@ pub fn serve<R: Read, O: Write>(
     input: &mut R,
     output: &mut O,
 ) -> Result<(), Fault>
+    requires { IsServable word }
     ensures done { OnOk result (IfSome (R.remaining input.old) (λ bytes.
         Writes (λ text. IsAnswer word bytes text Done)
         (O.contents output.old) (O.contents output.new))) }
@@ -40,12 +46,14 @@ pub fn serve<R: Read, O: Write>(
 
 /// Does what the word asks for with these bytes.
 fn answer<O: Write>(alloc: Global, word: Word, bytes: &[u8], output: &mut O) -> Result<(), Fault>
+    requires { IsServable word }
     ensures { Serves result (IsAnswer word bytes.now) (O.contents output.old)
         (O.contents output.new) }
 {
     match word {
         Word::Payload => payload(alloc, bytes, output),
         Word::Decode => decode(alloc, bytes, output),
+        Word::Frames(length) => write_strings(alloc, length, bytes, output),
         Word::Encode(width, height, colors) => encode(
             alloc,
             bytes,

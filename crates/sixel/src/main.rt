@@ -1,10 +1,14 @@
 //! The command `sixel`: reads SIXEL data from standard input and writes images to standard output.
 #![tactic(auto)]
 
+ghost use Rattle.std.specs.Prelude.{IfSome};
+ghost use Rattle.sixel.specs.Words.{IsServable};
+
 mod engine;
 mod fault;
 mod images;
 mod streams;
+mod strings;
 #[cfg(test)]
 mod tests;
 mod words;
@@ -31,7 +35,9 @@ fn main(rt: HostRuntime) -> io::Result<ExitCode> {
 }
 
 /// What the arguments after the program's own name ask for.
-fn asked(mut arguments: Args) -> Option<Word> {
+fn asked(mut arguments: Args) -> Option<Word>
+    ensures { IfSome result IsServable }
+{
     let _program = arguments.next()?;
     let word = arguments.next()?;
     let (a, b, c) = (arguments.next(), arguments.next(), arguments.next());

@@ -1,5 +1,5 @@
 ghost use Rattle.std.specs.Prelude.{◌≡◌, ◌<◌, ◌^◌, ℕ, IfSome, IfNone, option_map, Some, None, codes};
-ghost use Rattle.sixel.specs.Words.{Asks, IsNumber};
+ghost use Rattle.sixel.specs.Words.{Asks, IsNumber, IsServable};
 
 /// What the program is asked to do with its input.
 #[derive(Clone, Copy, Debug, PartialEq, Eq)]
@@ -8,6 +8,9 @@ pub enum Word {
     Payload,
     /// Decode the first control string, or all bytes as a payload, and write the image.
     Decode,
+    /// Decode control strings that follow one another on one decoder, each fed in pieces of so many
+    /// bytes from its first on, and write their images.
+    Frames(usize),
     /// Encode raw pixels of this width and height in at most so many colors, and write the text.
     Encode(usize, usize, u16),
 }
@@ -22,12 +25,28 @@ pub fn read_word(word: &str, a: Option<&str>, b: Option<&str>, c: Option<&str>) 
     ensures usage { IfNone result ((asked : Word) → ¬ Asks asked word.now
         (option_map (λ t. t.now) a.entry) (option_map (λ t. t.now) b.entry)
         (option_map (λ t. t.now) c.entry)) }
+    ensures servable { IfSome result IsServable }
 {
     match (word, a, b, c) {
         ("payload", None, None, None) => Some(Word::Payload),
         ("decode", None, None, None) => Some(Word::Decode),
+        ("frames", Some(length), None, None) => frames(length),
         ("encode", Some(width), Some(height), Some(colors)) => encode(width, height, colors),
         _ => None,
+    }
+}
+
+/// What the word `frames` asks for with a number after it: pieces of at least one byte.
+fn frames(length: &str) -> Option<Word>
+    ensures asked { IfSome result (λ asked. Asks asked (codes "frames")
+        (Some length.now) None None) }
+    ensures usage { IfNone result ((asked : Word) → ¬ Asks asked (codes "frames")
+        (Some length.now) None None) }
+    ensures servable { IfSome result IsServable }
+{
+    match number(length)? {
+        0 => None,
+        length => Some(Word::Frames(length)),
     }
 }
 
@@ -62,6 +81,8 @@ mod tests {
     fn words_ask_for_work(rt: HostRuntime) {
         assert_eq!(rt; read_word("payload", None, None, None), Some(Word::Payload));
         assert_eq!(rt; read_word("decode", None, None, None), Some(Word::Decode));
+        let frames = read_word("frames", Some("07"), None, None);
+        assert_eq!(rt; frames, Some(Word::Frames(7)));
         let encode = read_word("encode", Some("3"), Some("01"), Some("65535"));
         assert_eq!(rt; encode, Some(Word::Encode(3, 1, 65535)));
     }
@@ -75,6 +96,10 @@ mod tests {
             ("payload", Some(""), None, None),
             ("decode", Some("1"), None, None),
             ("frames", Some("0"), None, None),
+            ("frames", None, None, None),
+            ("frames", Some("+1"), None, None),
+            ("frames", Some("1"), Some("1"), None),
+            ("frames", Some("18446744073709551616"), None, None),
             ("encode", Some("1"), Some("1"), None),
             ("encode", Some("1"), Some("1"), Some("65536")),
             ("encode", Some("18446744073709551616"), Some("1"), Some("2")),

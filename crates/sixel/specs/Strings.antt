@@ -1,0 +1,41 @@
+-- What the program writes for control strings that follow one another on one decoder: the image of each, until one is cut short or no
+-- byte is left. From the meaning of control strings; how their bytes are cut into pieces occurs nowhere in it. The order is this
+-- program's own: each image is written before the next string is read, and stays written where that one is refused.
+use Rattle.std.specs.Prelude.{◌≡◌, ℕ, Bool, true, false, List, [], ◌∷◌, ◌++◌, drop, Option, None}
+use Rattle.std.specs.Option.{option_or}
+use Rattle.sixel_base.specs.declared.error.SixelError.{SixelError}
+use Rattle.sixel_base.specs.Fault.{Fault, Faults}
+use Rattle.sixel_base.specs.Payload.{Image, area_limit}
+use Rattle.icy_sixel.specs.declared.decoder.SixelDcsFeedStatus.{SixelDcsFeedStatus}
+use Rattle.icy_sixel.specs.declared.decoder.SixelDcsFeedStatus.TheVariants.{NeedMoreData, Complete, Cancelled, Interrupted}
+use Rattle.icy_sixel.specs.Dcs.{dcs_status, dcs_count, dcs_fault, end_fault}
+use Rattle.icy_sixel.specs.OneShot.{found, IsFoundImage, AreFoundRegisters}
+use Rattle.sixel.specs.Form.{image_form}
+use Rattle.sixel.specs.Ending.{Ending, Done, Refused}
+
+-- what the string is refused for that the bytes begin with, where no more come after them: a fault, or an end that is missing
+abbrev pub string_fault : List ℕ → Option Fault
+string_fault [] = None
+string_fault (byte ∷ bytes) = option_or (dcs_fault area_limit (byte ∷ bytes)) (end_fault (dcs_status (byte ∷ bytes)))
+
+-- whether a string ended before its terminator
+abbrev pub is_cut_short : SixelDcsFeedStatus → Bool
+is_cut_short NeedMoreData = false
+is_cut_short Complete = false
+is_cut_short (Cancelled byte) = true
+is_cut_short (Interrupted byte) = true
+
+-- From these registers, these bytes are answered by this text, and so it ends.
+pub data AreAnswered : List (List ℕ) → List ℕ → List ℕ → Ending → Type 0 where
+  -- no string is left
+  Over : (registers : List (List ℕ)) → AreAnswered registers [] [] Done
+  -- the first string is refused, or memory is
+  Broken : (registers : List (List ℕ)) (bytes : List ℕ) (error : SixelError) → Faults error true (string_fault bytes)
+      → AreAnswered registers bytes [] (Refused error)
+  -- the first string was cut short: its image is the last
+  CutShort : (registers : List (List ℕ)) (bytes : List ℕ) (image : Image) → string_fault bytes ≡ None → is_cut_short (dcs_status bytes) ≡ true
+      → IsFoundImage registers (found bytes) image → AreAnswered registers bytes (image_form image) Done
+  -- the first string is complete: its image, and the answer to the bytes after it, from the registers after it
+  Followed : (registers after : List (List ℕ)) (bytes text : List ℕ) (image : Image) (ending : Ending) → string_fault bytes ≡ None
+      → dcs_status bytes ≡ Complete → IsFoundImage registers (found bytes) image → AreFoundRegisters registers (found bytes) after
+      → AreAnswered after (drop (dcs_count bytes) bytes) text ending → AreAnswered registers bytes (image_form image ++ text) ending
