@@ -64,11 +64,11 @@ unfolding total
 total-most f bound zero most = omega arith
 total-most f bound (suc n) most = rw mul-suc (omega (arith, total-most f bound n most, most n))
 
--- the reached area is a part of the picture's
-pub reached_area-most : (h : History) → reached_area h ≤ width h * height h
+-- the reached area is at most the picture's
+reached_area-most : (h : History) → reached_area h ≤ width h * height h
 reached_area-most h = total-most (row_reach h) (width h) (height h) (row_reach-most h)
 
--- a canvas that was reached as far as these tokens do has written so much
+-- what a canvas has written that was reached exactly as far as these tokens reach
 pub canvas_paid : (canvas : CanvasState) (h : History) → IsBounded canvas → ((row : ℕ) → reached canvas row ≡ row_reach h row)
     → (reached_area h ≤ canvas_writes canvas) × (canvas_writes canvas ≤ 3 * reached_area h)
 canvas_paid canvas h bounded same =
@@ -81,11 +81,12 @@ canvas_paid canvas h bounded same =
 
 -- ---- the area of a picture
 
--- neither of two has anything where the first of them that has something has nothing
+-- no first of two faults means that neither is there
 both_none : (a b : Option Fault) → option_or a b ≡ None → (a ≡ None) × (b ≡ None)
 both_none None b is = (refl, is)
 both_none (Some f) b is = absurd cc
 
+-- an extent without a fault is within the limit
 extent-fits : (limit right lower : ℕ) (h : History) → extent_fault limit right lower h ≡ None → width h * height h ≤ limit
 extent-fits limit right lower h is = grind (arith, nat_tests)
 
@@ -100,6 +101,7 @@ area-fits limit (Return ∷ h) one is = area-fits limit h one (both_none (first_
 area-fits limit (Newline ∷ h) one is = area-fits limit h one (both_none (first_fault limit h) _ is).0
 area-fits limit (Skip _ ∷ h) one is = area-fits limit h one (both_none (first_fault limit h) _ is).0
 
+-- the closed tokens reach no more than the picture of all tokens has
 closed-area : (h : History) → reached_area (closed h) ≤ width h * height h
 closed-area [] = reached_area-most []
 closed-area (Sixel bits ∷ h) = reached_area-most (Sixel bits ∷ h)

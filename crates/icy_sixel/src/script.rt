@@ -25,6 +25,10 @@ pub enum End {
 }
 
 /// One thing to do with a decoder.
+///
+/// The bytes of a frame or a control string are fed in pieces of the lengths in `cuts`: a length may
+/// be 0, one past the end takes what is left, and what remains is the last piece. Once a status ends
+/// them, no piece more is fed. None of this has an effect on what the step comes to.
 #[derive(Clone, Copy)]
 pub enum Step<'a> {
     /// The registers become those of a new decoder.

@@ -1,6 +1,6 @@
 //! Lists of steps on one decoder: what each comes to, and what becomes of the registers.
 
-use crate::answers::{BLACK, MALFORMED, RED, assert_pixels, bytes_of};
+use crate::answers::{BLACK, GREEN, MALFORMED, RED, assert_pixels, bytes_of};
 use icy_sixel::script::{End, Outcome, Status, Step, run};
 use icy_sixel::{
     DcsSettings, SixelDcsFeedStatus, SixelDecoder, SixelError, SixelFeedStatus, SixelImage,
@@ -30,9 +30,14 @@ const SEA: [u8; 4] = [0, 204, 102, 255];
 // A payload that makes register 42 red, and ends within a repeat that is too great.
 const TOO_OFTEN: &[u8] = b"#42;2;100;0;0~!65536";
 
+/// A payload that is decoded at once, with default settings.
+fn decode(payload: &[u8]) -> Step<'_> {
+    Step::DecodeFromDcs(payload, DcsSettings::default())
+}
+
 /// A payload that draws in register 42, decoded at once.
 fn in_42() -> Step<'static> {
-    Step::DecodeFromDcs(b"#42~", DcsSettings::default())
+    decode(b"#42~")
 }
 
 /// A payload that is fed in pieces, with default settings.
@@ -45,12 +50,12 @@ fn frame<'a>(bytes: &'a [u8], cuts: &'a [usize], ending: End) -> Step<'a> {
     }
 }
 
-/// A control string that is fed in pieces, and finished.
-fn string<'a>(bytes: &'a [u8], cuts: &'a [usize]) -> Step<'a> {
+/// A control string that is fed in pieces.
+fn string<'a>(bytes: &'a [u8], cuts: &'a [usize], ending: End) -> Step<'a> {
     Step::Dcs {
         bytes,
         cuts,
-        ending: End::Finish,
+        ending,
     }
 }
 
@@ -130,7 +135,7 @@ fn a_control_string_without_an_end(rt: HostRuntime) {
     assert_run(
         &rt,
         &mut SixelDecoder::new(),
-        &[string(b"\x1bPq#42;2;100;0;0~\x1b", &[])],
+        &[string(b"\x1bPq#42;2;100;0;0~\x1b", &[], End::Finish)],
         &[Expected::Failed("incomplete SIXEL DCS sequence")],
     );
 }
@@ -142,10 +147,10 @@ fn registers_from_step_to_step(rt: HostRuntime) {
         &rt,
         &mut decoder,
         &[
-            Step::DecodeFromDcs(b"#0;2;100;0;0~", DcsSettings::default()),
+            decode(b"#0;2;100;0;0~"),
             frame(b"?", &[], End::Finish),
             Step::Reset,
-            string(b"\x1bPq?\x9cx", &[1, 1, 1]),
+            string(b"\x1bPq?\x9cx", &[1, 1, 1], End::Finish),
         ],
         &[
             Expected::Decoded((1, RED)),
@@ -155,6 +160,55 @@ fn registers_from_step_to_step(rt: HostRuntime) {
         ],
     );
     assert_eq!(rt; decoder.register(0), [0, 0, 0]);
+}
+
+#[test]
+fn definitions_over_a_refusal_and_a_reset(rt: HostRuntime) {
+    assert_run(
+        &rt,
+        &mut SixelDecoder::new(),
+        &[
+            decode(b"#0;2;100;0;0~"),
+            decode(b"#0;2;0;0;100!65536~"),
+            decode(b"#0;2;0;100;0?"),
+            decode(b"?"),
+            Step::Reset,
+            decode(b"?"),
+        ],
+        &[
+            Expected::Decoded((1, RED)),
+            Expected::Failed(MALFORMED),
+            Expected::Decoded((1, RED)),
+            Expected::Decoded((1, GREEN)),
+            Expected::Reset,
+            Expected::Decoded((1, BLACK)),
+        ],
+    );
+}
+
+#[test]
+fn definitions_over_a_refused_frame_and_a_reset(rt: HostRuntime) {
+    let cuts = &[1, 2];
+    assert_run(
+        &rt,
+        &mut SixelDecoder::new(),
+        &[
+            frame(b"#0;2;100;0;0~", cuts, End::Finish),
+            frame(b"#0;2;0;0;100!65536~", cuts, End::Finish),
+            frame(b"#0;2;0;100;0?", cuts, End::Finish),
+            frame(b"?", cuts, End::Finish),
+            Step::Reset,
+            frame(b"?", cuts, End::Finish),
+        ],
+        &[
+            Expected::Finished(13, MORE, (1, RED)),
+            Expected::Failed(MALFORMED),
+            Expected::Finished(13, MORE, (1, RED)),
+            Expected::Finished(1, MORE, (1, GREEN)),
+            Expected::Reset,
+            Expected::Finished(1, MORE, (1, BLACK)),
+        ],
+    );
 }
 
 #[test]
@@ -213,13 +267,15 @@ fn cuts_have_no_effect(rt: HostRuntime) {
                     cuts,
                     ending,
                 },
-                string(control_string, cuts),
+                string(control_string, cuts, End::Finish),
                 frame(payload, cuts, End::Abort),
+                string(control_string, cuts, End::Abort),
             ],
             &[
                 Expected::Finished(16, ended, (12, RED)),
                 Expected::Finished(24, COMPLETE, (12, RED)),
                 Expected::Aborted(16, ended),
+                Expected::Aborted(24, COMPLETE),
             ],
         );
     }

@@ -4,7 +4,7 @@ use Rattle.std.proofs.lemmas.Result.{err_from_is_err_and}
 use Rattle.icy_sixel.specs.declared.decoder.SixelDcsFeedStatus.TheVariants.{NeedMoreData}
 use Rattle.icy_sixel.specs.Dcs.{dcs_status, has_ended}
 use Rattle.icy_sixel.specs.ImageView.{image_value}
-use Rattle.sixel.proofs.Counting.{count_fits}
+use Rattle.icy_sixel.proofs.Playing.{dcs_count-fits}
 use Rattle.sixel.proofs.Stringing.{no_bytes, refused_early, refused_at_end, ended_status, ended_count, ended_faultless, ended_image, ended_registers}
 use Rattle.sixel.proofs.strings.read_string.Goals as goal
 use Rattle.sixel.proofs.strings.read_string.Goals.{then-pieces-test+else-eq, else-pieces-test}
@@ -30,7 +30,7 @@ overflow_add-len c =
     let joined : fed ++ after ≡ c.args.bytes.now =
     joins c.pieces.session.progress.bytes c.pieces.rest.now _ fed c.split_at.result.0.now after c.min.result
     c.pieces.invariant.joined c.in_ok-fed.ensures.bytes c.split_at.ensures.front c.split_at.ensures.back in
-    omega (arith, c.in_ok-fed.ensures.consumed, count_fits fed, ap length joined, length-append fed after)
+    omega (arith, c.in_ok-fed.ensures.consumed, dcs_count-fits fed, ap length joined, length-append fed after)
 
 pub returns-clause-image : goal.returns-clause-image
 returns-clause-image c =

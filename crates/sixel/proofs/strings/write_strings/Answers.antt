@@ -4,7 +4,8 @@ use Rattle.std.proofs.lemmas.Result.{err_from_is_err_and}
 use Rattle.icy_sixel.specs.Dcs.{dcs_status}
 use Rattle.icy_sixel.specs.ImageView.{image_value}
 use Rattle.sixel.specs.Strings.{Broken}
-use Rattle.sixel.proofs.Counting.{count_fits, ended_counts}
+use Rattle.icy_sixel.proofs.Playing.{dcs_count-fits}
+use Rattle.sixel.proofs.Counting.{complete_counts}
 use Rattle.sixel.proofs.Leading.{HasEnded, short_by, Serves-led, Serves-broken, writes_none, writes_last, leads_more}
 use Rattle.sixel.proofs.Stringing.{no_bytes}
 use Rattle.sixel.proofs.strings.write_strings.Goals as goal
@@ -34,11 +35,12 @@ returns-in_default g c =
     (writes_last _ _ _ _ _ _ string short c.in_ok-write_image.ensures)
 
 pub split_at-requires : goal.split_at-requires
-split_at-requires g c = omega (arith, c.in_ok-string.ensures.len, count_fits c.strings.rest.now)
+split_at-requires g c = omega (arith, c.in_ok-string.ensures.len, dcs_count-fits c.strings.rest.now)
 
 pub strings-smaller : goal.strings-smaller
 strings-smaller g c =
-    omega (arith, c.in_ok-string.ensures.len, ended_counts c.strings.rest.now c.in_ok-string.ensures.ended, c.split_at.ensures.back_len)
+    let counts = complete_counts c.strings.rest.now (sym c.in_ok-string.ensures.status ∙ c.in-Complete.is) in
+    omega (arith, c.in_ok-string.ensures.len, c.split_at.ensures.back_len)
 
 pub strings-preserved : goal.strings-preserved
 strings-preserved g c =
