@@ -5,7 +5,7 @@ use Rattle.std.proofs.Math.Nat.{mul-suc}
 use Rattle.std.proofs.lemmas.Nat.{mul-le}
 use Rattle.std.proofs.lemmas.Bool.Decides.{nat_tests}
 use Rattle.std.proofs.lemmas.Bool.{cases_lt, le-ltb, le-leb}
-use Rattle.sixel_base.specs.Canvas.{CanvasState, IsBounded, canvas_writes, reached, total}
+use Rattle.sixel_base.specs.Canvas.{CanvasState, IsBounded, canvas_writes, canvas_room, reached, total}
 use Rattle.sixel_base.specs.History.{Sixel, Repeat, Raster, Color, Return, Newline, Skip, History, history_of}
 use Rattle.sixel_base.specs.Bytes.{front, is_terminated}
 use Rattle.sixel_base.specs.Fault.{Fault}
@@ -68,15 +68,16 @@ total-most f bound (suc n) most = rw mul-suc (omega (arith, total-most f bound n
 reached_area-most : (h : History) → reached_area h ≤ width h * height h
 reached_area-most h = total-most (row_reach h) (width h) (height h) (row_reach-most h)
 
--- what a canvas has written that was reached exactly as far as these tokens reach
+-- what a canvas has written, and for how much it has room, that was reached exactly as far as these tokens reach
 pub canvas_paid : (canvas : CanvasState) (h : History) → IsBounded canvas → ((row : ℕ) → reached canvas row ≡ row_reach h row)
-    → (reached_area h ≤ canvas_writes canvas) × (canvas_writes canvas ≤ 3 * reached_area h)
+    → (reached_area h ≤ canvas_writes canvas) × (canvas_writes canvas ≤ 3 * reached_area h) × (canvas_room canvas ≤ 2 * reached_area h)
 canvas_paid canvas h bounded same =
     let n = max (length canvas.rows) (height h) in
     let equal = total-same (reached canvas) (row_reach h) n same in
     let past = total-past (row_reach h) (height h) n (row_reach-past h) (omega arith) in (
       omega (arith, equal, past, bounded.at_least n (omega arith)),
       omega (arith, equal, past, bounded.at_most n (omega arith)),
+      omega (arith, equal, past, bounded.room_at_most n (omega arith)),
     )
 
 -- ---- the area of a picture

@@ -5,7 +5,7 @@
 
 ghost use Rattle.std.specs.Prelude.{◌≡◌, ◌<◌, ◌≤◌, ◌*◌, ◌∷◌, ◌++◌, List, ℕ, true, false, []};
 ghost use Rattle.std.specs.Prelude.{nat_lt, fold, IsOk, IsTrue, ◌⊎◌, Bool, if◌then◌else◌};
-ghost use Rattle.sixel_base.specs.Canvas.{canvas_writes};
+ghost use Rattle.sixel_base.specs.Canvas.{canvas_writes, canvas_room};
 ghost use Rattle.sixel_base.specs.History.{History, begun, goes_on, read};
 ghost use Rattle.sixel_base.specs.Parameters.{Keeps, IsDigit};
 ghost use Rattle.sixel_base.specs.Stroke.{Origin};
@@ -196,6 +196,8 @@ impl Frame {
         ensures at_most { (o : Origin) (h : History) (ended : Bool)
             → StandsAfter ended o self.now h
             → result ≤ 3 * reached_area (if ended then h else closed h) }
+        ensures room { (o : Origin) (h : History) (ended : Bool) → StandsAfter ended o self.now h
+            → canvas_room self.now.painter.canvas ≤ 2 * reached_area (if ended then h else closed h) }
     {
         self.painter.writes()
     }

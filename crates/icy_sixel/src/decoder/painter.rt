@@ -2,7 +2,7 @@
 
 ghost use Rattle.std.specs.Prelude.{◌≡◌, ◌<◌, ◌≤◌, ◌*◌, ◌∷◌, ◌++◌, List, ℕ, true, false, []};
 ghost use Rattle.std.specs.Prelude.{length, max, nat_le, slice_set, if◌then◌else◌};
-ghost use Rattle.sixel_base.specs.Canvas.{canvas_writes};
+ghost use Rattle.sixel_base.specs.Canvas.{canvas_writes, canvas_room};
 ghost use Rattle.sixel_base.specs.History.{History, Sixel, Repeat, Raster, Color, Return, Newline};
 ghost use Rattle.sixel_base.specs.Parameters.{Keeps};
 ghost use Rattle.sixel_base.specs.Fields.{fields, field};
@@ -174,13 +174,16 @@ impl Painter {
     ghost use Rattle.icy_sixel.specs.ImageView.{Ends};
     ghost use Rattle.icy_sixel.specs.Reach.{reached_area};
 
-    /// How many pixels the canvas has copied or filled, to grow.
+    /// How many pixels the canvas has copied or filled, to grow. It has room for at most twice those
+    /// that were reached.
     pub fn writes(&self) -> u64
         ensures value { result ≡ canvas_writes self.now.canvas }
         ensures at_least { (o : Origin) (h : History) → Shows o self.now h
             → reached_area h ≤ result }
         ensures at_most { (o : Origin) (h : History) → Shows o self.now h
             → result ≤ 3 * reached_area h }
+        ensures room { (o : Origin) (h : History) → Shows o self.now h
+            → canvas_room self.now.canvas ≤ 2 * reached_area h }
     {
         self.canvas.writes()
     }

@@ -8,3 +8,6 @@ returns-clause-at_least c = λ o h ended stands.
 pub returns-clause-at_most : goal.returns-clause-at_most
 returns-clause-at_most c = λ o h ended stands.
     c.writes.ensures.at_most o _ (shown_after ended o c.args.self.now h stands)
+
+pub returns-clause-room : goal.returns-clause-room
+returns-clause-room c = λ o h ended stands. c.writes.ensures.room o _ (shown_after ended o c.args.self.now h stands)
