@@ -4,6 +4,7 @@
 #![tactic(auto)]
 
 mod calls;
+mod sessions;
 
 use calls::{CALLS, Call, Outcome};
 use icy_sixel::SixelDecoder;
