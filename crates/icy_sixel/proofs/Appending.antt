@@ -42,7 +42,7 @@ first_terminator-append (byte ∷ bytes) piece none =
       | false ↦ λ is. first_terminator-append bytes piece is
     ]) none
 
-carrying-append : (xs ys : List ℕ) → carrying (xs ++ ys) ≡ carrying xs ++ carrying ys
+pub carrying-append : (xs ys : List ℕ) → carrying (xs ++ ys) ≡ carrying xs ++ carrying ys
 carrying-append [] ys = refl
 carrying-append (byte ∷ xs) ys =
     elim (is_ignored byte) as (λ t. cond t (carrying (xs ++ ys)) (byte ∷ carrying (xs ++ ys)) ≡ cond t (carrying xs) (byte ∷ carrying xs) ++ carrying ys) [

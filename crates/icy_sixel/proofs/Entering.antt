@@ -5,10 +5,11 @@ use Rattle.std.proofs.lemmas.List.{append-nil}
 use Rattle.sixel_base.specs.declared.error.SixelError.{SixelError}
 use Rattle.sixel_base.specs.Fault.{IsFault, Malformed, BadHeader}
 use Rattle.sixel_base.specs.Parameters.{Keeps}
-use Rattle.sixel_base.specs.Bytes.{is_ignored, is_terminator, carrying}
+use Rattle.sixel_base.specs.Bytes.{is_terminator, carrying}
 use Rattle.icy_sixel.specs.Header.{Begun, Faulty, headed_by, is_header, header_front, header_rest, header_text, settings_of, command_fault}
 use Rattle.icy_sixel.specs.declared.header.Header as reader
 use Rattle.icy_sixel.specs.Following.{IsInHeader, IsStageFault}
+use Rattle.icy_sixel.proofs.Appending.{carrying-append}
 use Rattle.icy_sixel.specs.Dcs.{Waiting, Absent, Entered, introduced, escaped, Stage, Reading, stage_after, stage_by, stage}
 
 -- ---- a header goes on
@@ -21,14 +22,6 @@ header_rest-open (byte ∷ rest) more going =
       | true ↦ λ is. header_rest-open rest more is
       | false ↦ λ never. absurd cc
     ]) going
-
-carrying-append : (xs ys : List ℕ) → carrying (xs ++ ys) ≡ carrying xs ++ carrying ys
-carrying-append [] ys = refl
-carrying-append (byte ∷ xs) ys =
-    elim (is_ignored byte) as (λ t. cond t (carrying (xs ++ ys)) (byte ∷ carrying (xs ++ ys)) ≡ cond t (carrying xs) (byte ∷ carrying xs) ++ carrying ys) [
-      | true ↦ carrying-append xs ys
-      | false ↦ ap (λ w. byte ∷ w) (carrying-append xs ys)
-    ]
 
 header_front-open : (rest more : List ℕ) → header_rest rest ≡ [] → header_front (rest ++ more) ≡ header_front rest ++ header_front more
 header_front-open [] more going = refl

@@ -82,20 +82,7 @@ pub record Reaches (o : Origin) (frame : Frame) (h : History) (index : ℕ) (pie
 pub splits_at : (piece : List ℕ) (index : ℕ) → index < length piece → drop index piece ≡ get_or piece index 0 ∷ drop (index + 1) piece
 splits_at piece index h = rw (add-one, drop-cons piece index 0) refl
 
-pub reaches_none : (o : Origin) (frame : Frame) (h : History) (piece : List ℕ) → Stands o frame h → Reaches o frame h 0 piece
-reaches_none o frame h piece stands = record {
-  now = h;
-  stands = stands;
-  ahead = refl;
-  terminator = refl;
-  counted = omega arith;
-  grown = omega arith;
-}
-
 -- what a byte at the front does to the words of a piece
-front-terminator : (byte : ℕ) (rest : List ℕ) → is_terminator byte ≡ true → front (byte ∷ rest) ≡ []
-front-terminator byte rest is = rw is refl
-
 front-ignored : (byte : ℕ) (rest : List ℕ) → is_terminator byte ≡ false → is_ignored byte ≡ true → front (byte ∷ rest) ≡ front rest
 front-ignored byte rest ends is = rw (ends, is) refl
 

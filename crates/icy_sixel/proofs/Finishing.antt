@@ -3,10 +3,10 @@ use Rattle.std.proofs.Common.{◌≡◌, ℕ, true, false, cond, List, [], ◌�
 use Rattle.std.specs.Prelude.{◌==◌, ◌&&◌, IfOk}
 use Rattle.sixel_base.specs.declared.error.SixelError.{SixelError}
 use Rattle.sixel_base.specs.Settings.{Settings}
-use Rattle.sixel_base.specs.Payload.{payload_image, payload_registers}
+use Rattle.sixel_base.specs.Payload.{payload_image}
 use Rattle.icy_sixel.specs.declared.decoder.SixelDcsFeedStatus.{SixelDcsFeedStatus}
 use Rattle.icy_sixel.specs.Header.{Headed, Open, Begun, Faulty, headed}
-use Rattle.icy_sixel.specs.OneShot.{begins_with_p, without_first, after_introducer, found, found_in, found_by, Found, Payload, IsFoundImage, AreFoundRegisters}
+use Rattle.icy_sixel.specs.OneShot.{begins_with_p, without_first, after_introducer, found, found_in, found_by, Found, Payload, IsFoundImage}
 use Rattle.icy_sixel.specs.Dcs.{Introduced, Waiting, Absent, Entered, introduced, escaped, Reading, stage_after, stage_by, stage}
 use Rattle.icy_sixel.specs.Session.{Session}
 use Rattle.icy_sixel.specs.ImageView.{image_value}
@@ -60,11 +60,3 @@ found_image (Ok picture) intake registers ended bytes is image =
     subst (λ (w : Found). IsFoundImage registers w (image_value picture.image)) (sym (found_reading bytes intake.origin.settings intake.bytes is.reading))
     (image ∙ ap (λ (r : List (List ℕ)). payload_image (record { registers = r; settings = intake.origin.settings }) intake.bytes) is.start)
 found_image (Err e) intake registers ended bytes is image = tt
-
-pub found_registers : (result : Result Picture SixelError) (intake : Session) (registers : List (List ℕ)) (ended : Option SixelDcsFeedStatus) (bytes : List ℕ)
-    → IsInPayload intake registers ended bytes → IfOk result (λ picture. picture.registers ≡ payload_registers intake.origin intake.bytes)
-    → IfOk result (λ picture. AreFoundRegisters registers (found bytes) picture.registers)
-found_registers (Ok picture) intake registers ended bytes is after =
-    subst (λ (w : Found). AreFoundRegisters registers w picture.registers) (sym (found_reading bytes intake.origin.settings intake.bytes is.reading))
-    (after ∙ ap (λ (r : List (List ℕ)). payload_registers (record { registers = r; settings = intake.origin.settings }) intake.bytes) is.start)
-found_registers (Err e) intake registers ended bytes is after = tt
