@@ -1,5 +1,5 @@
 -- What a session that was fed a beginning of the bytes says about the string that they begin with.
-use Rattle.std.proofs.Common.{◌≡◌, ℕ, ◌<◌, Bool, true, List, [], ◌∷◌, ◌++◌, refl, ap, sym, ◌∙◌, subst, arith, append-nil, length, Some, None}
+use Rattle.std.proofs.Common.{◌≡◌, ℕ, ◌<◌, ◌≤◌, Bool, true, List, [], ◌∷◌, ◌++◌, refl, ap, sym, ◌∙◌, subst, arith, length, length-append, Some, None}
 use Rattle.std.specs.Prelude.{◌==◌}
 use Rattle.std.specs.Option.{option_or}
 use Rattle.std.proofs.lemmas.Bool.Decides.{nat_tests}
@@ -18,17 +18,25 @@ pub no_bytes : (bytes : List ℕ) → true ≡ (length bytes == 0) → bytes ≡
 no_bytes [] is = refl
 no_bytes (byte ∷ bytes) is = absurd (grind (arith, nat_tests))
 
+-- With the bytes that follow them, those that were fed are the string.
+pub record Begins (fed bytes : List ℕ) : Type 0 where
+  pub rest : List ℕ
+  pub joined : fed ++ rest ≡ bytes
+
+pub begins_fits : (fed bytes : List ℕ) → Begins fed bytes → length fed ≤ length bytes
+begins_fits fed bytes b = omega (arith, length-append fed b.rest, ap length b.joined)
+
 string_fault-some : (bytes : List ℕ) → 0 < length bytes → string_fault bytes ≡ option_or (dcs_fault area_limit bytes) (end_fault (dcs_status bytes))
 string_fault-some [] some = absurd (omega arith)
 string_fault-some (byte ∷ bytes) some = refl
 
 -- a fault of a beginning is the string's
-pub refused_early : (e : SixelError) (may : Bool) (fed rest bytes : List ℕ) → fed ++ rest ≡ bytes → 0 < length bytes → Faults e may (dcs_fault area_limit fed)
+pub refused_early : (e : SixelError) (may : Bool) (fed bytes : List ℕ) → Begins fed bytes → 0 < length bytes → Faults e may (dcs_fault area_limit fed)
     → Faults e true (string_fault bytes)
-refused_early e may fed rest bytes joined some is =
+refused_early e may fed bytes b some is =
     Faults-along e may true (dcs_fault area_limit fed) (string_fault bytes) (λ _. refl)
     (λ f found.
-    let all : dcs_fault area_limit bytes ≡ Some f = subst (λ (b : List ℕ). dcs_fault area_limit b ≡ Some f) joined (dcs_fault_stays fed rest f found) in
+    let all : dcs_fault area_limit bytes ≡ Some f = subst (λ (w : List ℕ). dcs_fault area_limit w ≡ Some f) b.joined (dcs_fault_stays fed b.rest f found) in
     string_fault-some bytes some ∙ ap (λ o. option_or o (end_fault (dcs_status bytes))) all)
     is
 
@@ -39,12 +47,12 @@ waits (Cancelled byte) f is = absurd cc
 waits (Interrupted byte) f is = absurd cc
 
 -- an end that has not come with the last byte is the string's fault
-pub refused_at_end : (e : SixelError) (fed rest bytes : List ℕ) → fed ++ rest ≡ bytes → 0 < length bytes → dcs_fault area_limit fed ≡ None
-    → (dcs_status fed ≡ NeedMoreData → rest ≡ []) → Faults e (has_ended (dcs_status fed)) (end_fault (dcs_status fed)) → Faults e true (string_fault bytes)
-refused_at_end e fed rest bytes joined some faultless last is =
-    Faults-along e _ true (end_fault (dcs_status fed)) (string_fault bytes) (λ _. refl)
+pub refused_at_end : (e : SixelError) (may : Bool) (fed bytes : List ℕ) → (dcs_status fed ≡ NeedMoreData → fed ≡ bytes) → 0 < length bytes
+    → dcs_fault area_limit fed ≡ None → Faults e may (end_fault (dcs_status fed)) → Faults e true (string_fault bytes)
+refused_at_end e may fed bytes all some faultless is =
+    Faults-along e may true (end_fault (dcs_status fed)) (string_fault bytes) (λ _. refl)
     (λ f found.
-    let whole : fed ≡ bytes = sym (append-nil fed) ∙ ap (λ r. fed ++ r) (sym (last (waits (dcs_status fed) f found))) ∙ joined in
+    let whole : fed ≡ bytes = all (waits (dcs_status fed) f found) in
     let fine : dcs_fault area_limit bytes ≡ None = ap (dcs_fault area_limit) (sym whole) ∙ faultless in
     string_fault-some bytes some ∙ ap (λ o. option_or o (end_fault (dcs_status bytes))) fine ∙ ap (λ b. end_fault (dcs_status b)) (sym whole) ∙ found)
     is
@@ -57,27 +65,27 @@ no_end_fault (Interrupted byte) ended = refl
 
 -- ---- where the string has ended with the bytes that were fed
 
-pub ended_status : (fed rest bytes : List ℕ) → fed ++ rest ≡ bytes → has_ended (dcs_status fed) ≡ true → dcs_status fed ≡ dcs_status bytes
-ended_status fed rest bytes joined ended = sym (status_ended fed rest ended) ∙ ap dcs_status joined
+pub ended_status : (fed bytes : List ℕ) → Begins fed bytes → has_ended (dcs_status fed) ≡ true → dcs_status fed ≡ dcs_status bytes
+ended_status fed bytes b ended = sym (status_ended fed b.rest ended) ∙ ap dcs_status b.joined
 
-pub ended_count : (fed rest bytes : List ℕ) → fed ++ rest ≡ bytes → has_ended (dcs_status fed) ≡ true → dcs_count fed ≡ dcs_count bytes
-ended_count fed rest bytes joined ended = sym (dcs_count_ended fed rest ended) ∙ ap dcs_count joined
+pub ended_count : (fed bytes : List ℕ) → Begins fed bytes → has_ended (dcs_status fed) ≡ true → dcs_count fed ≡ dcs_count bytes
+ended_count fed bytes b ended = sym (dcs_count_ended fed b.rest ended) ∙ ap dcs_count b.joined
 
-pub ended_faultless : (fed rest bytes : List ℕ) → fed ++ rest ≡ bytes → 0 < length bytes → has_ended (dcs_status fed) ≡ true → dcs_fault area_limit fed ≡ None
+pub ended_faultless : (fed bytes : List ℕ) → Begins fed bytes → 0 < length bytes → has_ended (dcs_status fed) ≡ true → dcs_fault area_limit fed ≡ None
     → string_fault bytes ≡ None
-ended_faultless fed rest bytes joined some ended faultless =
-    let fine : dcs_fault area_limit bytes ≡ None = ap (dcs_fault area_limit) (sym joined) ∙ dcs_fault_ended fed rest ended ∙ faultless in
+ended_faultless fed bytes b some ended faultless =
+    let fine : dcs_fault area_limit bytes ≡ None = ap (dcs_fault area_limit) (sym b.joined) ∙ dcs_fault_ended fed b.rest ended ∙ faultless in
     string_fault-some bytes some
     ∙ ap (λ o. option_or o (end_fault (dcs_status bytes))) fine
-    ∙ ap end_fault (sym (ended_status fed rest bytes joined ended))
+    ∙ ap end_fault (sym (ended_status fed bytes b ended))
     ∙ no_end_fault (dcs_status fed) ended
 
-pub ended_image : (start : List (List ℕ)) (fed rest bytes : List ℕ) (image : Image) → fed ++ rest ≡ bytes → has_ended (dcs_status fed) ≡ true
+pub ended_image : (start : List (List ℕ)) (fed bytes : List ℕ) (image : Image) → Begins fed bytes → has_ended (dcs_status fed) ≡ true
     → IsFoundImage start (found fed) image → IsFoundImage start (found bytes) image
-ended_image start fed rest bytes image joined ended is =
-    subst (λ (b : List ℕ). IsFoundImage start (found b) image) joined (found_image_ended start fed rest image ended is)
+ended_image start fed bytes image b ended is =
+    subst (λ (w : List ℕ). IsFoundImage start (found w) image) b.joined (found_image_ended start fed b.rest image ended is)
 
-pub ended_registers : (start : List (List ℕ)) (fed rest bytes : List ℕ) (after : List (List ℕ)) → fed ++ rest ≡ bytes → has_ended (dcs_status fed) ≡ true
+pub ended_registers : (start : List (List ℕ)) (fed bytes : List ℕ) (after : List (List ℕ)) → Begins fed bytes → has_ended (dcs_status fed) ≡ true
     → AreFoundRegisters start (found fed) after → AreFoundRegisters start (found bytes) after
-ended_registers start fed rest bytes after joined ended is =
-    subst (λ (b : List ℕ). AreFoundRegisters start (found b) after) joined (found_registers_ended start fed rest after ended is)
+ended_registers start fed bytes after b ended is =
+    subst (λ (w : List ℕ). AreFoundRegisters start (found w) after) b.joined (found_registers_ended start fed b.rest after ended is)

@@ -1,7 +1,7 @@
 -- What the program writes for control strings that follow one another on one decoder: the image of each, until one is cut short or no
 -- byte is left. From the meaning of control strings; how their bytes are cut into pieces occurs nowhere in it. The order is this
 -- program's own: each image is written before the next string is read, and stays written where that one is refused.
-use Rattle.std.specs.Prelude.{◌≡◌, ℕ, Bool, true, false, List, [], ◌∷◌, ◌++◌, drop, Option, None}
+use Rattle.std.specs.Prelude.{◌≡◌, ◌<◌, ◌*◌, ℕ, Bool, true, false, List, [], ◌∷◌, ◌++◌, take, drop, Option, None}
 use Rattle.std.specs.Option.{option_or}
 use Rattle.sixel_base.specs.declared.error.SixelError.{SixelError}
 use Rattle.sixel_base.specs.Fault.{Fault, Faults}
@@ -17,6 +17,14 @@ use Rattle.sixel.specs.Ending.{Ending, Done, Refused}
 abbrev pub string_fault : List ℕ → Option Fault
 string_fault [] = None
 string_fault (byte ∷ bytes) = option_or (dcs_fault area_limit (byte ∷ bytes)) (end_fault (dcs_status (byte ∷ bytes)))
+
+-- A string was fed in pieces of this length, counted from its own first byte, and in no more of them than it took to end; the last byte
+-- of all may cut the last piece short. Where it has not ended, all bytes were fed.
+pub record IsFedInPieces (piece_len : ℕ) (bytes fed : List ℕ) : Type 0 where
+  pub pieces : ℕ
+  pub whole : fed ≡ take (pieces * piece_len) bytes
+  pub needed : (fewer : ℕ) → fewer < pieces → dcs_status (take (fewer * piece_len) bytes) ≡ NeedMoreData
+  pub enough : dcs_status fed ≡ NeedMoreData → fed ≡ bytes
 
 -- whether a string ended before its terminator
 abbrev pub is_cut_short : SixelDcsFeedStatus → Bool

@@ -1,17 +1,21 @@
 //! Control strings that follow one another, on one decoder.
 
-ghost use Rattle.std.specs.Prelude.{◌≡◌, ◌<◌, length, true, None, IfOk, OnOk, IfErr};
+ghost use Rattle.std.specs.Prelude.{◌≡◌, ◌<◌, [], length, true, false, None, IfOk, OnOk, IfErr};
 ghost use Rattle.sixel_base.specs.Color.{default_registers};
 ghost use Rattle.sixel_base.specs.Fault.{Faults};
-ghost use Rattle.icy_sixel.specs.Dcs.{dcs_status, dcs_count, has_ended};
+ghost use Rattle.sixel_base.specs.Payload.{area_limit};
+ghost use Rattle.icy_sixel.specs.Dcs.{dcs_status, dcs_count, dcs_fault, has_ended};
 ghost use Rattle.icy_sixel.specs.ImageView.{image_value};
 ghost use Rattle.icy_sixel.specs.OneShot.{found, IsFoundImage, AreFoundRegisters};
-ghost use Rattle.sixel.specs.Strings.{string_fault, AreAnswered};
+ghost use Rattle.sixel.specs.Strings.{string_fault, IsFedInPieces, AreAnswered};
 ghost use Rattle.sixel.specs.Answer.{Serves};
 
 use crate::fault::Fault;
 use crate::images::write_image;
-use icy_sixel::{SixelDcsFeedStatus, SixelDecoder, SixelError, SixelImage};
+use icy_sixel::{
+    SixelDcsFeedResult, SixelDcsFeedStatus, SixelDcsStreamDecoder, SixelDecoder, SixelError,
+    SixelImage,
+};
 use std::alloc::Global;
 use std::io::Write;
 
@@ -68,16 +72,50 @@ fn read_string(
     ensures refused { IfErr result (λ error. Faults error true (string_fault bytes.now)) }
 {
     let mut session = decoder.begin_dcs(alloc);
+    let fed = feed_pieces(&mut session, piece_len, bytes)?;
+    let image = session.finish()?;
+    Ok(ControlString {
+        image,
+        len: fed.consumed,
+        status: fed.status,
+    })
+}
+
+/// Feeds a new session pieces of so many bytes, from the string's own first byte on, until it has
+/// ended or no byte is left.
+fn feed_pieces(
+    session: &mut SixelDcsStreamDecoder,
+    piece_len: usize,
+    bytes: &[u8],
+) -> Result<SixelDcsFeedResult, SixelError>
+    requires pieces { 0 < piece_len }
+    requires some { 0 < length bytes.now }
+    requires fresh { session.old.progress.bytes ≡ [] }
+    requires accepted { session.old.progress.is_refused ≡ false }
+    ensures owner { session.new.owner.ghost_name ≡ session.old.owner.ghost_name }
+    ensures kept { session.new.owner.now ≡ session.old.owner.now }
+    ensures start { session.new.progress.registers ≡ session.old.progress.registers }
+    ensures accepts { OnOk result (session.new.progress.is_refused ≡ false) }
+    ensures pieces { OnOk result
+        (IsFedInPieces piece_len bytes.now session.new.progress.bytes) }
+    ensures consumed { IfOk result (λ fed.
+        fed.consumed ≡ dcs_count session.new.progress.bytes) }
+    ensures status { IfOk result (λ fed. fed.status ≡ dcs_status session.new.progress.bytes) }
+    ensures faultless { OnOk result
+        (dcs_fault area_limit session.new.progress.bytes ≡ None) }
+    ensures refused { IfErr result (λ error. Faults error true (string_fault bytes.now)) }
+{
     let mut rest = bytes;
-    let mut len = 0;
-    let mut status = SixelDcsFeedStatus::NeedMoreData;
-    'pieces: while !rest.is_empty() && status == SixelDcsFeedStatus::NeedMoreData {
-        let (piece, after) = rest.split_at(rest.len().min(piece_len));
-        let fed = session.feed(piece)?;
-        len += fed.consumed;
-        status = fed.status;
+    let mut fed = SixelDcsFeedResult {
+        consumed: 0,
+        status: SixelDcsFeedStatus::NeedMoreData,
+    };
+    'pieces: while !rest.is_empty() && fed.status == SixelDcsFeedStatus::NeedMoreData {
+        let (piece, after) = rest.split_at(piece_len.min(rest.len()));
+        let here = session.feed(piece)?;
+        fed.consumed += here.consumed;
+        fed.status = here.status;
         rest = after;
     }
-    let image = session.finish()?;
-    Ok(ControlString { image, len, status })
+    Ok(fed)
 }

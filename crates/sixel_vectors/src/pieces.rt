@@ -1,11 +1,12 @@
 //! Callers of the payload session, which prove what they promise from its contracts alone.
 
-ghost use Rattle.std.specs.Prelude.{◌≡◌, ◌++◌, Ok, None, OnErr, OnOk};
-ghost use Rattle.sixel_base.specs.Payload.{area_limit, payload_fault};
+ghost use Rattle.std.specs.Prelude.{◌≡◌, ◌++◌, Ok, Err, None, OnErr, OnOk};
+ghost use Rattle.sixel_base.specs.Payload.{area_limit, payload_fault, payload_wants};
+ghost use Rattle.sixel_base.specs.Fault.{Faults};
 ghost use Rattle.sixel_base.specs.Payload.{payload_image, payload_registers};
 ghost use Rattle.icy_sixel.specs.ImageView.{image_value};
 
-use icy_sixel::{DcsSettings, Result, SixelDecoder, SixelImage};
+use icy_sixel::{DcsSettings, Result, SixelDecoder, SixelError, SixelImage};
 use std::alloc::Global;
 
 /// Decodes a payload that comes in two pieces: image and registers are those of the pieces joined.
@@ -22,6 +23,9 @@ pub fn decode_two_pieces(
         (record { registers = decoder.old; settings = settings }) (first.now ++ second.now)) }
     ensures faultless { OnOk result
         (payload_fault area_limit (first.now ++ second.now) ≡ None) }
+    ensures refused { (error : SixelError) → result ≡ Err error
+        → Faults error (payload_wants (first.now ++ second.now))
+        (payload_fault area_limit (first.now ++ second.now)) }
     ensures kept { OnErr result (decoder.new ≡ decoder.old) }
 {
     let mut session = decoder.begin_frame(alloc, settings)?;

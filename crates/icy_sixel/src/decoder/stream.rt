@@ -1,13 +1,13 @@
 //! The session that decodes one payload as it comes.
 
 ghost use Rattle.std.specs.Prelude.{◌≡◌, ◌+◌, ◌*◌, ◌≤◌, ◌++◌, [], true, false, nat_lt, is_none, None};
-ghost use Rattle.std.specs.Prelude.{OnOk, OnErr, IfOk, IfErr, MatchBool, Some, length, List, ℕ};
+ghost use Rattle.std.specs.Prelude.{OnOk, OnErr, IfOk, IfErr, MatchBool, Some, Err, length, List, ℕ};
 ghost use Rattle.sixel_base.specs.Stroke.{Origin};
 ghost use Rattle.icy_sixel.specs.Intake.{HasRead, GoesOn};
 ghost use Rattle.sixel_base.specs.Bytes.{count, first_terminator};
 ghost use Rattle.sixel_base.specs.Fault.{Faults, IsFault, StreamFailed};
 ghost use Rattle.sixel_base.specs.Payload.{area_limit, fed_fault, settled, growths, payload_fault};
-ghost use Rattle.sixel_base.specs.Payload.{payload_image, payload_registers};
+ghost use Rattle.sixel_base.specs.Payload.{payload_image, payload_registers, payload_wants};
 ghost use Rattle.icy_sixel.specs.Frame.{status_of};
 ghost use Rattle.icy_sixel.specs.ImageView.{image_value};
 ghost use Rattle.icy_sixel.specs.Reach.{reached_area};
@@ -199,6 +199,14 @@ impl<'a> SixelStreamDecoder<'a> {
             (nat_lt (growths (settled self.old.intake.bytes))
             (growths (settled self.new.intake.bytes)))
             (fed_fault area_limit self.new.intake.bytes))) }
+        ensures refused { (error : SixelError) → result ≡ Err error
+            → self.old.intake.is_refused ≡ false
+            → Faults error (payload_wants self.new.intake.bytes)
+            (payload_fault area_limit self.new.intake.bytes) }
+        ensures refused_for_good { (error : SixelError) (more : List ℕ) → result ≡ Err error
+            → self.old.intake.is_refused ≡ false
+            → Faults error (payload_wants (self.new.intake.bytes ++ more))
+            (payload_fault area_limit (self.new.intake.bytes ++ more)) }
     {
         self.intake.feed(piece)
     }
@@ -234,6 +242,10 @@ impl<'a> SixelStreamDecoder<'a> {
             (IsFault error StreamFailed)
             (Faults error (is_none (payload_fault area_limit self.entry.intake.bytes))
             (payload_fault area_limit self.entry.intake.bytes))) }
+        ensures refused { (error : SixelError) → result ≡ Err error
+            → self.entry.intake.is_refused ≡ false
+            → Faults error (payload_wants self.entry.intake.bytes)
+            (payload_fault area_limit self.entry.intake.bytes) }
     {
         let SixelStreamDecoder { owner, intake } = self;
         let picture = intake.finish()?;
@@ -261,6 +273,10 @@ impl<'a> SixelStreamDecoder<'a> {
             (IsFault error StreamFailed)
             (Faults error (is_none (payload_fault area_limit self.entry.intake.bytes))
             (payload_fault area_limit self.entry.intake.bytes))) }
+        ensures refused { (error : SixelError) → result ≡ Err error
+            → self.entry.intake.is_refused ≡ false
+            → Faults error (payload_wants self.entry.intake.bytes)
+            (payload_fault area_limit self.entry.intake.bytes) }
     {
         let writes = self.canvas_writes();
         let image = self.finish()?;
