@@ -13,17 +13,6 @@ pub mod Finishing
 pub mod Ended
 pub mod Playing
 pub mod Steps
-pub mod RunCost
-pub mod Shortest
-pub mod Joined
-pub mod Cells
-pub mod Masks
-pub mod RowParts
-pub mod Ok
-pub mod Dots
-pub mod Progress
-pub mod Drawn
-pub mod SameDrawing
 pub mod TripAgain
 pub mod TripBytes
 pub mod TripControl

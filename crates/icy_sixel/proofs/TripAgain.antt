@@ -18,9 +18,9 @@ use Rattle.sixel_base.proofs.PaletteApart.{far_from_others}
 use Rattle.sixel_base.proofs.PaletteOrder.{entry-apart, members_from_order}
 use Rattle.sixel_base.proofs.PaletteSize.{near_from_contains, size-le}
 use Rattle.sixel_base.proofs.PaletteChoices.{three_from_shown}
-use Rattle.icy_sixel.specs.Text.{Drawing, entry_at, bands}
+use Rattle.sixel_encoder.specs.Text.{Drawing, entry_at, bands}
 use Rattle.icy_sixel.specs.Trip.{IsWritable, rounded, blank, trip_pixel, trip_height, trip, IsTrip, IsReadAs, IsOneString, is_used, bands_up_to}
-use Rattle.icy_sixel.specs.Encoding.{image_fault, IsDrawing, IsText}
+use Rattle.sixel_encoder.specs.Encoding.{image_fault, IsDrawing, IsText}
 use Rattle.icy_sixel.proofs.TripImage.{picture-same, image-same}
 use Rattle.icy_sixel.proofs.TripRounding.{rounded-rounded}
 use Rattle.icy_sixel.proofs.TripUsed.{window-some, window-any}

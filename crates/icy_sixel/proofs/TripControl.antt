@@ -18,7 +18,7 @@ use Rattle.icy_sixel.specs.Header.{is_header, header_front, header_rest, header_
 use Rattle.icy_sixel.specs.OneShot.{Found, Payload, found, found_in, found_by, found_fault, IsFoundImage}
 use Rattle.icy_sixel.specs.Dcs.{Entered, Reading, stage, stage_by, stage_after, stage_status, stage_count, stage_fault, after_terminator, end_status, end_count, payload_status, payload_status_by, payload_count, payload_count_by}
 use Rattle.icy_sixel.specs.declared.decoder.SixelDcsFeedStatus.TheVariants.{Complete}
-use Rattle.icy_sixel.specs.Text.{Drawing, text_of, parameters_text, raster_text, palette_text, bands_text}
+use Rattle.sixel_encoder.specs.Text.{Drawing, text_of, parameters_text, raster_text, palette_text, bands_text}
 use Rattle.icy_sixel.specs.Trip.{IsWritable, payload_text, drawing_settings, trip, IsReadAs, IsOneString}
 use Rattle.icy_sixel.proofs.TripDigits.{numbers, AreFields, fields-numbers, all_parameters-numbers}
 use Rattle.icy_sixel.proofs.TripPayload.{text_of-parts, payload-own, payload-ended, payload-rest}

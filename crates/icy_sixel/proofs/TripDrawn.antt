@@ -9,9 +9,9 @@ use Rattle.sixel_base.specs.declared.settings.BackgroundMode.TheVariants.{Opaque
 use Rattle.sixel_base.specs.Palette.{IsShown, color_at}
 use Rattle.sixel_base.specs.Payload.{Image}
 use Rattle.sixel_base.proofs.PaletteOrder.{members_from_order}
-use Rattle.icy_sixel.specs.Text.{Drawing, bands}
+use Rattle.sixel_encoder.specs.Text.{Drawing, bands}
 use Rattle.icy_sixel.specs.Trip.{IsColor, IsWritable, rounded, blank, trip_pixel, trip_height, trip, is_used, bands_up_to}
-use Rattle.icy_sixel.specs.Encoding.{IsDrawing, image_fault}
+use Rattle.sixel_encoder.specs.Encoding.{IsDrawing, image_fault}
 use Rattle.icy_sixel.proofs.TripSizes.{within-sound, sound-within}
 use Rattle.icy_sixel.proofs.TripRounding.{rounded_byte}
 use Rattle.icy_sixel.proofs.TripHeight.{bands_up_to-le}

@@ -8,7 +8,7 @@ use Rattle.std.proofs.lemmas.List.{length-replicate}
 use Rattle.sixel_base.specs.History.{Token, Sixel, Repeat, Color, Return, Newline, History}
 use Rattle.sixel_base.specs.Place.{span, across, down, width, height}
 use Rattle.sixel_base.specs.Payload.{extent_fault, fault_of, first_fault}
-use Rattle.icy_sixel.specs.Pieces.{Piece, One, Many, sixels}
+use Rattle.sixel_encoder.specs.Pieces.{Piece, One, Many, sixels}
 use Rattle.icy_sixel.proofs.TripDigits.{numbers}
 use Rattle.icy_sixel.proofs.TripTokens.{with_piece, with_pieces, with_row}
 use Rattle.icy_sixel.proofs.TripPayload.{IsSound, AreSound}

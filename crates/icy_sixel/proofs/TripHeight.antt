@@ -4,10 +4,10 @@ use Rattle.std.proofs.lemmas.Bool.{cases_Bool, cases_eq, cond-true, cond-false}
 use Rattle.sixel_base.specs.History.{History}
 use Rattle.sixel_base.specs.Place.{height}
 use Rattle.sixel_base.specs.Stroke.{registers}
-use Rattle.icy_sixel.specs.Pieces.{row_pieces}
-use Rattle.icy_sixel.specs.Text.{Drawing, row_of, has_dot, bands}
+use Rattle.sixel_encoder.specs.Pieces.{row_pieces}
+use Rattle.sixel_encoder.specs.Text.{Drawing, row_of, has_dot, bands}
 use Rattle.icy_sixel.specs.Trip.{IsWritable, is_used, bands_up_to, trip_height}
-use Rattle.icy_sixel.proofs.Shortest.{spells}
+use Rattle.sixel_encoder.proofs.Shortest.{spells}
 use Rattle.icy_sixel.proofs.TripSteps.{steps_keep, steps_same}
 use Rattle.icy_sixel.proofs.TripTokens.{with_row, with_entry, with_band, with_palette, tokens}
 use Rattle.icy_sixel.proofs.TripPayload.{AreSound-row, row_of-small}

@@ -14,7 +14,7 @@ use Rattle.sixel_base.specs.Picture.{joined, picture}
 use Rattle.sixel_base.specs.Place.{width, height}
 use Rattle.sixel_base.specs.Stroke.{Origin, registers, background, background_of, pixel}
 use Rattle.sixel_base.specs.Payload.{Image, image_of, payload_image, payload_fault, area_limit, first_fault}
-use Rattle.icy_sixel.specs.Text.{Drawing, entry_at, bands}
+use Rattle.sixel_encoder.specs.Text.{Drawing, entry_at, bands}
 use Rattle.icy_sixel.specs.Trip.{IsWritable, payload_text, drawing_origin, blank, trip_pixel, trip_height, trip}
 use Rattle.sixel_base.proofs.Joined.{joined-same}
 use Rattle.icy_sixel.proofs.TripTokens.{with_palette, tokens}

@@ -12,7 +12,7 @@ use Rattle.sixel_base.specs.Stroke.{Origin, registers, background, pixel, ratio,
 use Rattle.sixel_base.specs.Payload.{area_limit, first_fault}
 use Rattle.sixel_base.specs.declared.settings.PixelAspectRatio.{PixelAspectRatio}
 use Rattle.sixel_base.specs.declared.settings.PixelAspectRatio.TheVariants.{Ratio5To1, Ratio3To1, Ratio2To1, Square}
-use Rattle.icy_sixel.specs.Text.{Drawing, percent, bands}
+use Rattle.sixel_encoder.specs.Text.{Drawing, percent, bands}
 use Rattle.icy_sixel.specs.Trip.{IsColor, IsWritable, rounded}
 use Rattle.icy_sixel.proofs.TripDigits.{numbers, fields-numbers}
 use Rattle.icy_sixel.proofs.TripSteps.{steps_keep, steps_same, steps_hit}

@@ -12,11 +12,11 @@ use Rattle.sixel_base.specs.Settings.{pad_of}
 use Rattle.sixel_base.specs.declared.settings.PixelAspectRatio.{PixelAspectRatio}
 use Rattle.sixel_base.specs.declared.settings.PixelAspectRatio.TheVariants.{Ratio5To1, Ratio3To1, Ratio2To1, Square}
 use Rattle.sixel_base.proofs.Reading.{carries, history_unique}
-use Rattle.icy_sixel.specs.Pieces.{Piece, One, Many, sixels, IsPiece, row_pieces}
-use Rattle.icy_sixel.specs.Text.{Drawing, row_of, sixel_of, has_dot, percent, bands, is_entry, entry_at, parameters_text, raster_text, palette_text, bands_text, text_of}
+use Rattle.sixel_encoder.specs.Pieces.{Piece, One, Many, sixels, IsPiece, row_pieces}
+use Rattle.sixel_encoder.specs.Text.{Drawing, row_of, sixel_of, has_dot, percent, bands, is_entry, entry_at, parameters_text, raster_text, palette_text, bands_text, text_of}
 use Rattle.icy_sixel.specs.Dcs.{after_terminator}
 use Rattle.icy_sixel.specs.Trip.{payload_text, IsColor, IsWritable}
-use Rattle.icy_sixel.proofs.Shortest.{spells}
+use Rattle.sixel_encoder.proofs.Shortest.{spells}
 use Rattle.icy_sixel.proofs.TripDigits.{numbers, AreFields, all_digits-decimal, all_parameters-numbers}
 use Rattle.icy_sixel.proofs.TripMasks.{mask-small}
 use Rattle.icy_sixel.proofs.TripSteps.{after, steps_keep}

@@ -7,7 +7,7 @@ use Rattle.std.proofs.lemmas.List.FromFn.{get_or-map-range_with_len}
 use Rattle.sixel_base.specs.History.{History}
 use Rattle.sixel_base.specs.Picture.{is_set, is_struck}
 use Rattle.sixel_base.specs.Stroke.{Origin, registers, pixel, background}
-use Rattle.icy_sixel.specs.Text.{Drawing, entry_at, is_entry, sixel_of, row_of, bands}
+use Rattle.sixel_encoder.specs.Text.{Drawing, entry_at, is_entry, sixel_of, row_of, bands}
 use Rattle.icy_sixel.specs.Trip.{IsWritable}
 use Rattle.icy_sixel.proofs.TripMasks.{is_set-mask}
 use Rattle.icy_sixel.proofs.TripSteps.{steps_same, steps_hit}

@@ -1,7 +1,7 @@
 -- A percentage as a byte, and back.
 use Rattle.std.proofs.Common.{◌≡◌, ℕ, ◌<◌, ◌≤◌, arith}
 use Rattle.sixel_base.specs.Color.{byte_of}
-use Rattle.icy_sixel.specs.Text.{percent}
+use Rattle.sixel_encoder.specs.Text.{percent}
 use Rattle.icy_sixel.specs.Trip.{rounded}
 
 -- a percentage is the same once it has been a byte

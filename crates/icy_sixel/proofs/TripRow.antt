@@ -9,7 +9,7 @@ use Rattle.sixel_base.specs.Place.{span, across, down}
 use Rattle.sixel_base.specs.Picture.{is_struck, covers}
 use Rattle.sixel_base.specs.Stroke.{Origin, selected, registers, color, pixel, ratio, named_by, is_definition}
 use Rattle.sixel_base.specs.declared.settings.PixelAspectRatio.{PixelAspectRatio}
-use Rattle.icy_sixel.specs.Pieces.{Piece, One, Many, sixels}
+use Rattle.sixel_encoder.specs.Pieces.{Piece, One, Many, sixels}
 use Rattle.icy_sixel.proofs.TripDigits.{numbers, fields-numbers}
 use Rattle.icy_sixel.proofs.TripTokens.{with_piece, with_pieces, with_row}
 use Rattle.icy_sixel.proofs.TripPayload.{IsSound, AreSound}

@@ -7,7 +7,7 @@ use Rattle.std.proofs.lemmas.List.{get_or_past, length-map, get_or-map}
 use Rattle.sixel_base.specs.declared.settings.BackgroundMode.{BackgroundMode}
 use Rattle.sixel_base.specs.declared.settings.BackgroundMode.TheVariants.{Opaque, Transparent}
 use Rattle.sixel_base.specs.Palette.{IsShown, color_at}
-use Rattle.icy_sixel.specs.Text.{Drawing, entry_at}
+use Rattle.sixel_encoder.specs.Text.{Drawing, entry_at}
 use Rattle.icy_sixel.specs.Trip.{IsWritable, rounded, blank, trip_pixel, trip_height, trip}
 use Rattle.icy_sixel.proofs.TripBytes.{length-picture, slice_index-picture}
 

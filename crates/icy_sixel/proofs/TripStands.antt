@@ -10,10 +10,10 @@ use Rattle.sixel_base.specs.Picture.{is_struck}
 use Rattle.sixel_base.specs.Stroke.{Origin, registers, pixel, ratio}
 use Rattle.sixel_base.specs.Payload.{area_limit}
 use Rattle.sixel_base.specs.declared.settings.PixelAspectRatio.{PixelAspectRatio}
-use Rattle.icy_sixel.specs.Pieces.{row_pieces}
-use Rattle.icy_sixel.specs.Text.{Drawing, sixel_of, row_of, has_dot, bands}
+use Rattle.sixel_encoder.specs.Pieces.{row_pieces}
+use Rattle.sixel_encoder.specs.Text.{Drawing, sixel_of, row_of, has_dot, bands}
 use Rattle.icy_sixel.specs.Trip.{IsWritable}
-use Rattle.icy_sixel.proofs.Shortest.{spells}
+use Rattle.sixel_encoder.proofs.Shortest.{spells}
 use Rattle.icy_sixel.proofs.TripSteps.{after, steps_keep}
 use Rattle.icy_sixel.proofs.TripTokens.{with_row, with_entry, with_band}
 use Rattle.icy_sixel.proofs.TripPayload.{AreSound-row, row_of-small}

@@ -7,8 +7,8 @@ use Rattle.std.proofs.lemmas.Bool.Decides.{nat_tests}
 use Rattle.sixel_base.specs.Bytes.{is_parameter}
 use Rattle.sixel_base.specs.History.{Token, Sixel, Repeat, Raster, Color, Return, Newline, Skip, History, start, spellings, IsToken, goes_on, AreTokens}
 use Rattle.sixel_base.specs.Picture.{joined}
-use Rattle.icy_sixel.specs.Pieces.{Piece, One, Many, spelling as piece_spelling, written, row_pieces}
-use Rattle.icy_sixel.specs.Text.{Drawing, row_of, has_dot, percent, raster_text, color_definition, definition_text, row_text, entry_text, band_text, palette_text, bands_text, bands}
+use Rattle.sixel_encoder.specs.Pieces.{Piece, One, Many, spelling as piece_spelling, written, row_pieces}
+use Rattle.sixel_encoder.specs.Text.{Drawing, row_of, has_dot, percent, raster_text, color_definition, definition_text, row_text, entry_text, band_text, palette_text, bands_text, bands}
 use Rattle.sixel_base.specs.Settings.{pad_of}
 use Rattle.icy_sixel.specs.Trip.{payload_text}
 use Rattle.icy_sixel.proofs.TripDigits.{numbers}

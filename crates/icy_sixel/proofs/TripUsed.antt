@@ -10,7 +10,7 @@ use Rattle.std.proofs.lemmas.List.Elements.{All-from_get_or}
 use Rattle.std.proofs.lemmas.List.Folds.{list_any_at, list_any_none, Any-from_list_any}
 use Rattle.std.proofs.lemmas.List.FromFn.{get_or-map-range_with_len}
 use Rattle.sixel_base.specs.Picture.{is_struck}
-use Rattle.icy_sixel.specs.Text.{Drawing, entry_at, is_entry, mask, sixel_of, row_of, has_dot}
+use Rattle.sixel_encoder.specs.Text.{Drawing, entry_at, is_entry, mask, sixel_of, row_of, has_dot}
 use Rattle.icy_sixel.specs.Trip.{IsWritable, is_used}
 use Rattle.icy_sixel.proofs.TripLit.{is_struck-zero}
 use Rattle.icy_sixel.proofs.TripStands.{length-row_of}

@@ -5,8 +5,8 @@ use Rattle.sixel_base.specs.declared.error.SixelError.{SixelError}
 use Rattle.sixel_base.specs.declared.error.SixelError.TheVariants.{OutOfMemory}
 use Rattle.sixel_base.specs.declared.settings.BackgroundMode.TheVariants.{Transparent}
 use Rattle.sixel_base.specs.Payload.{Image}
-use Rattle.icy_sixel.specs.Text.{Drawing}
-use Rattle.icy_sixel.specs.Encoding.{image_fault, IsDrawing, IsText}
+use Rattle.sixel_encoder.specs.Text.{Drawing}
+use Rattle.sixel_encoder.specs.Encoding.{image_fault, IsDrawing, IsText}
 use Rattle.icy_sixel.specs.Trip.{trip, IsTrip, IsReadAs, IsOneString}
 use Rattle.icy_sixel.proofs.TripAgain.{image-read_back, image-one_string, text-again}
 

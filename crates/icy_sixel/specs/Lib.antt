@@ -9,11 +9,6 @@ pub mod OneShot
 pub mod Dcs
 pub mod Following
 pub mod Progress
-pub mod Pieces
-pub mod Text
-pub mod Indexed
-pub mod Grid
-pub mod Encoding
 pub mod Trip
 pub mod Script
 pub mod Playing

@@ -12,8 +12,8 @@ use Rattle.sixel_base.specs.Payload.{Image, area_limit}
 use Rattle.icy_sixel.specs.declared.decoder.SixelDcsFeedStatus.TheVariants.{Complete}
 use Rattle.icy_sixel.specs.Dcs.{dcs_status, dcs_count, dcs_fault}
 use Rattle.icy_sixel.specs.OneShot.{found, found_fault, IsFoundImage}
-use Rattle.icy_sixel.specs.Encoding.{IsDrawing, image_fault}
-use Rattle.icy_sixel.specs.Text.{Drawing, entry_at, bands, percent, raster_text, palette_text, bands_text}
+use Rattle.sixel_encoder.specs.Encoding.{IsDrawing, image_fault}
+use Rattle.sixel_encoder.specs.Text.{Drawing, entry_at, bands, percent, raster_text, palette_text, bands_text}
 
 -- three bytes, which a color introducer can say as percentages
 pub record IsColor (color : List ℕ) : Type 0 where

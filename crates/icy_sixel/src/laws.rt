@@ -6,8 +6,8 @@ ghost use Rattle.sixel_base.specs.declared.settings.BackgroundMode.TheVariants.{
 ghost use Rattle.sixel_base.specs.Bytes.{before_terminator, front, first_terminator, count};
 ghost use Rattle.sixel_base.specs.Color.{byte_of};
 ghost use Rattle.sixel_base.specs.Payload.{area_limit, Image, payload_fault, payload_image};
-ghost use Rattle.icy_sixel.specs.Text.{Drawing, percent, parameters_text, text_of};
-ghost use Rattle.icy_sixel.specs.Encoding.{image_fault, IsDrawing, IsText};
+ghost use Rattle.sixel_encoder.specs.Text.{Drawing, percent, parameters_text, text_of};
+ghost use Rattle.sixel_encoder.specs.Encoding.{image_fault, IsDrawing, IsText};
 ghost use Rattle.icy_sixel.specs.Dcs.{Reading, stage};
 ghost use Rattle.icy_sixel.specs.OneShot.{Payload, found};
 ghost use Rattle.icy_sixel.specs.Trip.{IsWritable, payload_text, drawing_settings, drawing_origin};

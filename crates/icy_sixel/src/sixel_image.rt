@@ -7,10 +7,10 @@ ghost use Rattle.sixel_base.specs.Settings.{pad_of};
 ghost use Rattle.sixel_base.specs.Size.{size_fault, buffer_fault};
 
 use crate::decoder::{DcsSettings, SixelDecoder};
-use crate::encoder::{EncodeOptions, Source, encode_source};
 pub use sixel_base::settings::{BackgroundMode, PixelAspectRatio};
 use sixel_base::size::{pixel_bytes, validate_buffer};
 use sixel_base::{Result, SixelError};
+use sixel_encoder::{EncodeOptions, Source, encode_source};
 use std::alloc::Global;
 
 /// An image: four bytes a pixel (red, green, blue, alpha), row by row from the top, each row from
@@ -34,10 +34,10 @@ impl SixelImage {
     ghost use Rattle.sixel_base.specs.Fault.{Faults};
     ghost use Rattle.sixel_base.specs.Payload.{area_limit, payload_fault, payload_image, payload_wants};
     ghost use Rattle.icy_sixel.specs.OneShot.{found, found_fault, found_wants, IsFoundImage};
-    ghost use Rattle.icy_sixel.specs.Text.{Drawing};
-    ghost use Rattle.icy_sixel.specs.Encoding.{image_fault, IsDrawing, IsText};
+    ghost use Rattle.sixel_encoder.specs.Text.{Drawing};
+    ghost use Rattle.sixel_encoder.specs.Encoding.{image_fault, IsDrawing, IsText};
     ghost use Rattle.icy_sixel.specs.ImageView.{image_value};
-    ghost use Rattle.icy_sixel.specs.Encoding.{AreShortest};
+    ghost use Rattle.sixel_encoder.specs.Encoding.{AreShortest};
     ghost use Rattle.icy_sixel.specs.Trip.{IsOneString, IsReadAs, IsTrip, trip};
 
     /// Decodes the first control string in the bytes, or all of them as a payload if there is none,

@@ -7,7 +7,7 @@ use Rattle.sixel_base.specs.Color.{default_registers}
 use Rattle.sixel_base.specs.Stroke.{Origin}
 use Rattle.sixel_base.specs.Fault as data_fault
 use Rattle.sixel_base.specs.Payload.{Image, area_limit, payload_fault, payload_image}
-use Rattle.icy_sixel.specs.Encoding.{image_fault, IsText, square_value}
+use Rattle.sixel_encoder.specs.Encoding.{image_fault, IsText, square_value}
 use Rattle.icy_sixel.specs.OneShot.{no_settings, found, found_fault, IsFoundImage}
 use Rattle.sixel.specs.declared.fault.Fault.{Fault}
 use Rattle.sixel.specs.declared.fault.Fault.TheVariants.{Sixel, Input, Output}

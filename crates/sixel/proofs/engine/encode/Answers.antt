@@ -1,6 +1,6 @@
 use Rattle.std.proofs.Common.{[], sym, subst, refl}
 use Rattle.std.proofs.KnownBytes.{Appends-nil}
-use Rattle.icy_sixel.specs.Encoding.{IsText, square_value}
+use Rattle.sixel_encoder.specs.Encoding.{IsText, square_value}
 use Rattle.sixel.proofs.Serving.{Serves-last, no_fault}
 use Rattle.sixel.proofs.engine.encode.Goals as goal
 

@@ -1,10 +1,10 @@
 use Rattle.std.proofs.Common.{List, ℕ, sym, subst}
 use Rattle.std.specs.Prelude.{IfOk, string_bytes}
 use Rattle.sixel_base.specs.Payload.{Image}
-use Rattle.icy_sixel.specs.Encoding.{IsDrawing}
-use Rattle.icy_sixel.specs.Text.{Drawing, row_of}
+use Rattle.sixel_encoder.specs.Encoding.{IsDrawing}
+use Rattle.sixel_encoder.specs.Text.{Drawing, row_of}
 use Rattle.icy_sixel.specs.Trip.{trip, IsTrip, IsReadAs}
-use Rattle.icy_sixel.proofs.Shortest.{spells, shortest}
+use Rattle.sixel_encoder.proofs.Shortest.{spells, shortest}
 use Rattle.icy_sixel.proofs.TripWritten.{one_string-written, read_back-written, again-written}
 use Rattle.icy_sixel.proofs.sixel_image.SixelImage.encode_with.Goals as goal
 

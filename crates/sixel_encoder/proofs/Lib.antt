@@ -1,0 +1,11 @@
+pub mod RunCost
+pub mod Shortest
+pub mod Joined
+pub mod Cells
+pub mod Masks
+pub mod RowParts
+pub mod Ok
+pub mod Dots
+pub mod Progress
+pub mod Drawn
+pub mod SameDrawing

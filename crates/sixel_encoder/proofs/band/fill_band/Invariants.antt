@@ -1,0 +1,12 @@
+use Rattle.std.proofs.Common.{◌≡◌, ℕ, ◌+◌, ◌*◌, ◌^◌, ◌<◌, length}
+use Rattle.sixel_encoder.specs.Text.{is_entry, entry_at, mask}
+use Rattle.sixel_encoder.specs.Indexed.{drawing_of}
+use Rattle.sixel_encoder.specs.Grid.{cell, AreMarks}
+use Rattle.sixel_encoder.proofs.band.fill_band.Given as goal
+
+abbrev pub invariant-loop-bit : goal.invariant-loop-bit
+invariant-loop-bit l = record {
+  weight : l.weight ≡ 2 ^ l.bit;
+  cells : (e x : ℕ) → e < length l.used → x < l.image.width → cell l.rows l.image.width e x ≡ mask (λ b. is_entry e (entry_at (drawing_of l.image) x (6 * l.band + b))) l.bit;
+  marks : AreMarks l.rows l.used l.image.width;
+}

@@ -1,0 +1,21 @@
+use Rattle.std.proofs.Common.{ℕ, string_bytes, subst, sym, refl}
+use Rattle.sixel_encoder.specs.Text.{band_text}
+use Rattle.sixel_encoder.specs.Indexed.{drawing_of}
+use Rattle.sixel_encoder.specs.Grid.{AreClear}
+use Rattle.sixel_encoder.proofs.Dots.{appended-start, appended-more}
+use Rattle.sixel_encoder.proofs.text.push_bands_over.Goals as goal
+
+pub loop-band-init : goal.loop-band-init
+loop-band-init c = record {
+  text = appended-start (band_text (drawing_of c.args.image.now)) (string_bytes c.args.text.now);
+  clear = c.requires.clear;
+}
+
+pub loop-band-preserved : goal.loop-band-preserved
+loop-band-preserved c =
+    let image = c.args.image.now in
+    let after = c.in_ok-push_whole_band.ensures in
+    record {
+      text = appended-more (band_text (drawing_of image)) c.loop-band.band (string_bytes c.args.text.now) (string_bytes c.loop-band.text) (string_bytes c.push_whole_band.new.text) (band_text (drawing_of image) c.loop-band.band) c.loop-band.invariant.text after.text refl;
+      clear = subst (λ (n : ℕ). AreClear c.push_whole_band.new.rows c.push_whole_band.new.used image.width n) (sym c.push_whole_band.auto.used) after.clear;
+    }

@@ -1,0 +1,5 @@
+pub mod Pieces
+pub mod Text
+pub mod Indexed
+pub mod Grid
+pub mod Encoding

@@ -1,0 +1,139 @@
+//! The rows of one band: six lines of an image, a row of sixels for each palette entry.
+
+ghost use Rattle.std.specs.Prelude.{◌≡◌, ◌≢◌, ℕ, ◌+◌, ◌*◌, ◌<◌, ◌≤◌, ◌++◌, All, OnOk, string_bytes};
+ghost use Rattle.std.specs.Prelude.{length};
+ghost use Rattle.sixel_base.specs.Picture.{joined};
+ghost use Rattle.sixel_encoder.specs.Text.{sixel_of, row_text};
+ghost use Rattle.sixel_encoder.specs.Indexed.{IsIndexed, drawing_of, entry_of};
+ghost use Rattle.sixel_encoder.specs.Grid.{cell, dot_at, pixel_bit, grid_row, grid_text, AreRows};
+ghost use Rattle.sixel_encoder.specs.Grid.{AreBelow, AreMarks, AreClear};
+
+use crate::pieces::push_row;
+use crate::text::IndexedImage;
+use std::alloc::AllocError;
+
+/// Sets a dot of this weight in an entry's row.
+fn add_dot(
+    rows: &mut [u8],
+    used: &mut [bool],
+    width: usize,
+    entry: usize,
+    column: usize,
+    weight: u8,
+)
+    requires rows { AreRows rows.old used.old width }
+    requires entry { entry < length used.old }
+    requires column { column < width }
+    requires weight { 0 < weight }
+    requires room { cell rows.old width entry column + weight < 256 }
+    requires marks { AreMarks rows.old used.old width }
+    ensures cells { (e x : ℕ) → e < length used.old → x < width
+        → cell rows.new width e x ≡ cell rows.old width e x + dot_at weight entry column e x }
+    ensures marks { AreMarks rows.new used.new width }
+{
+    rows[entry * width + column] += weight;
+    used[entry] = true;
+}
+
+/// Sets a dot of this weight for each shown pixel of the line that starts at this pixel.
+fn add_line(rows: &mut [u8], used: &mut [bool], image: &IndexedImage<'_>, start: usize, weight: u8)
+    requires image { IsIndexed image.now }
+    requires entries { length used.old ≡ length image.now.colors.now }
+    requires rows { AreRows rows.old used.old image.now.width }
+    requires line { start + image.now.width ≤ image.now.width * image.now.height }
+    requires weight { 0 < weight }
+    requires room { (e x : ℕ) → e < length used.old → x < image.now.width
+        → cell rows.old image.now.width e x + weight < 256 }
+    requires marks { AreMarks rows.old used.old image.now.width }
+    ensures cells { (e x : ℕ) → e < length used.old → x < image.now.width
+        → cell rows.new image.now.width e x ≡ cell rows.old image.now.width e x
+        + pixel_bit weight e (entry_of image.now.pixels.now image.now.indices.now (start + x)) }
+    ensures marks { AreMarks rows.new used.new image.now.width }
+{
+    for column in 0..image.width {
+        let pixel = start + column;
+        if image.pixels[4 * pixel + 3] >= 128 {
+            let entry = usize::from(image.indices[pixel]);
+            add_dot(rows, used, image.width, entry, column, weight);
+        }
+    }
+}
+
+/// Sets the dots of a band in rows that have none.
+pub fn fill_band(rows: &mut [u8], used: &mut [bool], image: &IndexedImage<'_>, band: usize)
+    requires image { IsIndexed image.now }
+    requires entries { length used.old ≡ length image.now.colors.now }
+    requires rows { AreRows rows.old used.old image.now.width }
+    requires band { 6 * band < image.now.height }
+    requires clear { AreClear rows.old used.old image.now.width (length used.old) }
+    ensures cells { (e x : ℕ) → e < length used.old → x < image.now.width
+        → cell rows.new image.now.width e x ≡ sixel_of (drawing_of image.now) band e x }
+    ensures marks { AreMarks rows.new used.new image.now.width }
+{
+    let mut weight = 1;
+    for bit in 0..6 {
+        let row = 6 * band + bit;
+        if row < image.height {
+            add_line(rows, used, image, row * image.width, weight);
+        }
+        weight *= 2;
+    }
+}
+
+/// Appends an entry's row, and clears it.
+fn push_entry(
+    text: &mut String,
+    rows: &mut [u8],
+    width: usize,
+    entry: usize,
+) -> Result<(), AllocError>
+    requires room { entry * width + width ≤ length rows.old }
+    requires below { (x : ℕ) → x < width → cell rows.old width entry x < 64 }
+    ensures text { OnOk result
+        (string_bytes text.new ≡ string_bytes text.old
+        ++ row_text entry (grid_row rows.old width entry)) }
+    ensures blank { OnOk result ((x : ℕ) → x < width → cell rows.new width entry x ≡ 0) }
+    ensures others { OnOk result ((e x : ℕ) → e ≢ entry → x < width
+        → cell rows.new width e x ≡ cell rows.old width e x) }
+{
+    let start = entry * width;
+    let row = &mut rows[start..start + width];
+    push_entry_row(text, entry, row)?;
+    row.fill(0);
+    Ok(())
+}
+
+/// Appends an entry and its row.
+fn push_entry_row(text: &mut String, entry: usize, row: &[u8]) -> Result<(), AllocError>
+    requires { All (λ bits. bits < 64) row.now }
+    ensures { OnOk result
+        (string_bytes text.new ≡ string_bytes text.old ++ row_text entry row.now) }
+{
+    write!(text, "#{entry}")?;
+    push_row(text, row)?;
+    text.push('$')
+}
+
+/// Appends the rows of the entries that have a dot, and clears them.
+pub fn push_band(
+    text: &mut String,
+    rows: &mut [u8],
+    used: &mut [bool],
+    width: usize,
+) -> Result<(), AllocError>
+    requires rows { AreRows rows.old used.old width }
+    requires below { AreBelow rows.old width (length used.old) 64 }
+    requires marks { AreMarks rows.old used.old width }
+    ensures text { OnOk result
+        (string_bytes text.new ≡ string_bytes text.old
+        ++ joined (grid_text rows.old width) (length used.old)) }
+    ensures clear { OnOk result (AreClear rows.new used.new width (length used.old)) }
+{
+    for entry in 0..used.len() {
+        if used[entry] {
+            push_entry(text, rows, width, entry)?;
+            used[entry] = false;
+        }
+    }
+    Ok(())
+}

@@ -1,0 +1,76 @@
+//! The pieces that a row of sixels is written in.
+
+ghost use Rattle.std.specs.Prelude.{◌≡◌, ◌+◌, ◌<◌, ◌++◌, OnOk, All, string_bytes};
+ghost use Rattle.sixel_encoder.specs.Pieces.{One, Many, spelling, Spells, IsShortest, written};
+ghost use Rattle.sixel_encoder.specs.Pieces.{run_pieces, rest_pieces, row_pieces};
+
+use std::alloc::AllocError;
+
+/// The greatest count of a repeat introducer.
+const LONGEST: usize = 65535;
+
+/// Appends the shortest spelling of a row of sixels, each given by its six bits.
+pub fn push_row(text: &mut String, row: &[u8]) -> Result<(), AllocError>
+    requires { All (λ bits. bits < 64) row.now }
+    ensures text { OnOk result
+        (string_bytes text.new ≡ string_bytes text.old ++ written (row_pieces row.now)) }
+    ensures spells { Spells (row_pieces row.now) row.now }
+    ensures shortest { IsShortest (row_pieces row.now) row.now }
+{
+    let mut count = 0;
+    let mut bits = 0;
+    for next in row {
+        if *next != bits {
+            push_run(text, count, bits)?;
+            bits = *next;
+            count = 0;
+        }
+        count += 1;
+    }
+    push_run(text, count, bits)
+}
+
+/// Appends equal sixels, cut from the left into pieces of the greatest count and a rest.
+fn push_run(text: &mut String, count: usize, bits: u8) -> Result<(), AllocError>
+    requires { bits < 64 }
+    ensures { OnOk result
+        (string_bytes text.new ≡ string_bytes text.old ++ written (run_pieces count bits)) }
+{
+    for _ in 0..count / LONGEST {
+        push_many(text, LONGEST, bits)?;
+    }
+    push_rest(text, count % LONGEST, bits)
+}
+
+/// Appends equal sixels, fewer than the greatest count.
+fn push_rest(text: &mut String, count: usize, bits: u8) -> Result<(), AllocError>
+    requires { bits < 64 }
+    ensures { OnOk result
+        (string_bytes text.new ≡ string_bytes text.old ++ written (rest_pieces count bits)) }
+{
+    if count > 3 {
+        return push_many(text, count, bits);
+    }
+    for _ in 0..count {
+        push_sixel(text, bits)?;
+    }
+    Ok(())
+}
+
+/// Appends a repeat introducer and its sixel.
+fn push_many(text: &mut String, count: usize, bits: u8) -> Result<(), AllocError>
+    requires { bits < 64 }
+    ensures { OnOk result
+        (string_bytes text.new ≡ string_bytes text.old ++ spelling (Many count bits)) }
+{
+    write!(text, "!{count}")?;
+    push_sixel(text, bits)
+}
+
+/// Appends one sixel.
+fn push_sixel(text: &mut String, bits: u8) -> Result<(), AllocError>
+    requires { bits < 64 }
+    ensures { OnOk result (string_bytes text.new ≡ string_bytes text.old ++ spelling (One bits)) }
+{
+    text.push(char::from(63 + bits))
+}
