@@ -99,6 +99,7 @@ impl Frame {
     }
 
     /// Ends the open command, which then takes effect.
+    #[inline(always)]
     fn close(&mut self) -> Result<()>
         ensures ground { self.new.phase ≡ Ground }
         ensures drawn { (o : Origin) (h : History) → Stands o self.old h

@@ -103,6 +103,7 @@ impl Painter {
     ghost use Rattle.icy_sixel.specs.Painter.{Shows, Draws};
 
     /// Gives the next sixel its span, where 0 means 1. What stands between the two keeps it.
+    #[inline(never)]
     pub fn repeat(&mut self, parameters: &Parameters) -> Result<()>
         ensures { (o : Origin) (h : History) (text : List ℕ) → Keeps parameters.now text
             → Shows o self.old h → Draws result o self.new (Repeat text ∷ h) false }
@@ -118,6 +119,7 @@ impl Painter {
     /// Takes the sizes and the pixel shape that raster attributes name.
     ///
     /// The sizes are a least extent: nothing is cropped to them, nor by later ones.
+    #[inline(never)]
     pub fn set_raster(&mut self, parameters: &Parameters) -> Result<()>
         ensures { (o : Origin) (h : History) (text : List ℕ) → Keeps parameters.now text
             → Shows o self.old h → Draws result o self.new (Raster text ∷ h) false }
@@ -139,6 +141,7 @@ impl Painter {
     }
 
     /// Selects a register, and defines it where there are five parameters that say how.
+    #[inline(never)]
     pub fn select(&mut self, parameters: &Parameters)
         ensures { (o : Origin) (h : History) (text : List ℕ) → Keeps parameters.now text
             → Shows o self.old h → Shows o self.new (Color text ∷ h) }

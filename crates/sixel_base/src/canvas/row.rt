@@ -134,6 +134,7 @@ impl Row {
 }
 
 // Makes memory for so many columns where the room is too small, and answers the room then.
+#[inline(never)]
 fn make_room(bytes: &mut Vec<u8>, columns: usize, room: usize) -> Result<usize>
     requires side { columns ≤ 1000000 }
     requires held { vec_len bytes.old ≤ 4 * room }

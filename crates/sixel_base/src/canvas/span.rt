@@ -5,6 +5,7 @@ use std::simd::prelude::*;
 /// Fills a span of RGBA pixels with one color: byte `i` becomes `color[i % 4]`.
 ///
 /// The span may have any length, also one that is no multiple of four.
+#[inline(never)]
 pub fn fill_rgba_span(span: &mut [u8], color: [u8; 4])
     ensures { EachIndex span.new (λ i. slice_index span.new i ≡ slice_index color (i % 4)) }
 {
