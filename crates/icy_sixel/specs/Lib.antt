@@ -1,14 +1,4 @@
-pub mod Reach
-pub mod Painter
-pub mod Frame
 pub mod ImageView
-pub mod Session
-pub mod Intake
-pub mod Header
-pub mod OneShot
-pub mod Dcs
-pub mod Following
-pub mod Progress
-pub mod Trip
 pub mod Script
-pub mod Playing
+pub mod Receiver
+pub mod inside

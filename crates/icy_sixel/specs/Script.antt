@@ -1,12 +1,14 @@
--- What a list of steps on one decoder comes to, by the meaning of the bytes of each step. A step relates the registers before it to an
--- outcome and the registers after it, and a run joins steps. This library's own: how bytes are cut into pieces occurs nowhere in it.
+-- What a list of steps on one decoder comes to, by the meaning of the bytes of each step. A step relates the decoder before it to an
+-- outcome and the decoder after it, and a run joins steps. This library's own: how bytes are cut into pieces occurs nowhere in it.
 use Rattle.std.specs.Prelude.{ℕ, ◌≡◌, Bool, nat_lt, ◌||◌, List, [], ◌∷◌, Option, None, is_none, Result, Ok, Err}
 use Rattle.std.specs.Option.{option_or}
 use Rattle.sixel_base.specs.declared.error.SixelError.{SixelError}
 use Rattle.sixel_base.specs.Bytes.{count, first_terminator}
 use Rattle.sixel_base.specs.Color.{default_registers}
+use Rattle.sixel_base.specs.Decoder.{limit_of, IsSetAs}
+use Rattle.sixel_base.specs.declared.state.DecoderState.{DecoderState}
 use Rattle.sixel_base.specs.Fault.{Fault, Faults}
-use Rattle.sixel_base.specs.Payload.{area_limit, fed_fault, payload_fault, settled, growths}
+use Rattle.sixel_base.specs.Payload.{fed_fault, payload_fault, settled, growths}
 use Rattle.sixel_base.specs.Settings.{Settings}
 use Rattle.icy_sixel.specs.declared.script.End.{End}
 use Rattle.icy_sixel.specs.declared.script.End.TheVariants.{Finish, Abort}
@@ -15,11 +17,11 @@ use Rattle.icy_sixel.specs.declared.script.Step.TheVariants as steps
 use Rattle.icy_sixel.specs.declared.script.Status.{Status}
 use Rattle.icy_sixel.specs.declared.script.Status.TheVariants as statuses
 use Rattle.icy_sixel.specs.declared.script.Outcome.{Outcome}
-use Rattle.icy_sixel.specs.declared.script.Outcome.TheVariants.{Reset, Failed, Finished, Aborted, Decoded}
-use Rattle.icy_sixel.specs.Dcs.{dcs_count, dcs_status, dcs_fault, dcs_growths, end_fault}
-use Rattle.icy_sixel.specs.Frame.{status_of}
+use Rattle.icy_sixel.specs.declared.script.Outcome.TheVariants.{Reset, Changed, Failed, Finished, Aborted, Decoded}
+use Rattle.sixel_base.specs.Dcs.{dcs_count, dcs_status, dcs_fault, dcs_growths, end_fault}
+use Rattle.sixel_base.specs.Status.{status_of}
 use Rattle.icy_sixel.specs.ImageView.{image_value}
-use Rattle.icy_sixel.specs.OneShot.{Found, Payload, found, found_fault, found_wants, IsFoundImage, AreFoundRegisters}
+use Rattle.sixel_base.specs.OneShot.{Found, Payload, found, found_fault, found_wants, IsFoundImage, AreFoundRegisters}
 
 -- What bytes mean that are fed to a session: how many of them are its own, how they stand, what is wrong with them while it goes on and
 -- once it is finished, whether their payload has a closed sixel or raster attributes, and which payload is drawn.
@@ -31,60 +33,67 @@ pub record Meaning : Type 0 where
   pub grows : Bool
   pub drawn : Found
 
-abbrev pub frame_meaning : Settings → List ℕ → Meaning
-frame_meaning settings bytes = record {
+abbrev pub frame_meaning : ℕ → Settings → List ℕ → Meaning
+frame_meaning limit settings bytes = record {
   consumed = count bytes;
   status = statuses.Payload (status_of (first_terminator bytes));
-  fed_fault = fed_fault area_limit bytes;
-  end_fault = payload_fault area_limit bytes;
+  fed_fault = fed_fault limit bytes;
+  end_fault = payload_fault limit bytes;
   grows = nat_lt 0 (growths (settled bytes));
   drawn = Payload settings bytes;
 }
 
-abbrev pub string_meaning : List ℕ → Meaning
-string_meaning bytes = record {
+abbrev pub string_meaning : ℕ → List ℕ → Meaning
+string_meaning limit bytes = record {
   consumed = dcs_count bytes;
   status = statuses.Dcs (dcs_status bytes);
-  fed_fault = dcs_fault area_limit bytes;
-  end_fault = option_or (dcs_fault area_limit bytes) (end_fault (dcs_status bytes));
+  fed_fault = dcs_fault limit bytes;
+  end_fault = option_or (dcs_fault limit bytes) (end_fault (dcs_status bytes));
   grows = nat_lt 0 (dcs_growths bytes);
   drawn = found bytes;
 }
 
--- A session of these bytes that is given up is refused by what is wrong with them so far, and changes no register. One that is finished
--- gives the image and the registers of its payload, or is refused by what is wrong then. Memory may be wanted where the payload grows,
--- and for an image.
-abbrev pub IsSessionOutcome : List (List ℕ) → Meaning → End → Outcome → List (List ℕ) → Type 0
+-- A session of these bytes that is given up is refused by what is wrong with them so far, and changes nothing. One that is finished
+-- gives the image and the registers of its payload, or is refused by what is wrong then, and changes nothing else. Memory may be wanted
+-- where the payload grows, and for an image.
+abbrev pub IsSessionOutcome : DecoderState → Meaning → End → Outcome → DecoderState → Type 0
 IsSessionOutcome before bytes Abort (Aborted consumed status) after =
     (bytes.fed_fault ≡ None) × (consumed ≡ bytes.consumed) × (status ≡ bytes.status) × (after ≡ before)
 IsSessionOutcome before bytes Abort (Failed error) after = Faults error bytes.grows bytes.fed_fault × (after ≡ before)
 IsSessionOutcome before bytes Finish (Finished consumed status image) after =
     (bytes.end_fault ≡ None) × (consumed ≡ bytes.consumed) × (status ≡ bytes.status)
-    × IsFoundImage before bytes.drawn (image_value image) × AreFoundRegisters before bytes.drawn after
+    × IsFoundImage before bytes.drawn (image_value image) × AreFoundRegisters before bytes.drawn after.registers
+    × IsSetAs before after
 IsSessionOutcome before bytes Finish (Failed error) after =
     Faults error (is_none bytes.end_fault || bytes.grows) bytes.end_fault × (after ≡ before)
 IsSessionOutcome before bytes ending outcome after = ⊥
 
--- A payload that is decoded at once gives its image and its registers, or is refused.
-abbrev pub IsDecoding : List (List ℕ) → Found → Outcome → List (List ℕ) → Type 0
+-- A payload that is decoded at once gives its image and its registers, or is refused, and changes nothing else.
+abbrev pub IsDecoding : DecoderState → Found → Outcome → DecoderState → Type 0
 IsDecoding before payload (Decoded image) after =
-    (found_fault payload ≡ None) × IsFoundImage before payload (image_value image) × AreFoundRegisters before payload after
-IsDecoding before payload (Failed error) after = Faults error (found_wants payload) (found_fault payload) × (after ≡ before)
+    (found_fault before.pixel_limit payload ≡ None) × IsFoundImage before payload (image_value image)
+    × AreFoundRegisters before payload after.registers × IsSetAs before after
+IsDecoding before payload (Failed error) after =
+    Faults error (found_wants before.pixel_limit payload) (found_fault before.pixel_limit payload) × (after ≡ before)
 IsDecoding before payload outcome after = ⊥
 
--- what a step comes to, from the registers before it to those after it
-abbrev pub IsOutcome : List (List ℕ) → Step → Outcome → List (List ℕ) → Type 0
-IsOutcome before steps.Reset outcome after = (outcome ≡ Reset) × (after ≡ default_registers)
-IsOutcome before (steps.Frame settings bytes cuts ending) outcome after = IsSessionOutcome before (frame_meaning settings bytes.now) ending outcome after
-IsOutcome before (steps.Dcs bytes cuts ending) outcome after = IsSessionOutcome before (string_meaning bytes.now) ending outcome after
+-- what a step comes to, from the decoder before it to the decoder after it
+abbrev pub IsOutcome : DecoderState → Step → Outcome → DecoderState → Type 0
+IsOutcome before steps.Reset outcome after = (outcome ≡ Reset) × (after ≡ record before { registers = default_registers })
+IsOutcome before (steps.RasterCrop on) outcome after = (outcome ≡ Changed) × (after ≡ record before { raster_crop = on })
+IsOutcome before (steps.PixelLimit pixels) outcome after = (outcome ≡ Changed) × (after ≡ record before { pixel_limit = limit_of pixels })
+IsOutcome before (steps.Frame settings bytes cuts ending) outcome after =
+    IsSessionOutcome before (frame_meaning before.pixel_limit settings bytes.now) ending outcome after
+IsOutcome before (steps.Dcs bytes cuts ending) outcome after =
+    IsSessionOutcome before (string_meaning before.pixel_limit bytes.now) ending outcome after
 IsOutcome before (steps.Decode bytes) outcome after = IsDecoding before (found bytes.now) outcome after
 IsOutcome before (steps.DecodeFromDcs bytes settings) outcome after = IsDecoding before (Payload settings bytes.now) outcome after
 
--- the steps come to these outcomes one by one, and the registers after each are those before the next
-abbrev pub AreOutcomes : List (List ℕ) → List Step → List Outcome → List (List ℕ) → Type 0
+-- the steps come to these outcomes one by one, and the decoder after each is that before the next
+abbrev pub AreOutcomes : DecoderState → List Step → List Outcome → DecoderState → Type 0
 AreOutcomes before [] [] after = after ≡ before
 AreOutcomes before (step ∷ steps) (outcome ∷ outcomes) after =
-    (between : List (List ℕ)) × IsOutcome before step outcome between × AreOutcomes between steps outcomes after
+    (between : DecoderState) × IsOutcome before step outcome between × AreOutcomes between steps outcomes after
 AreOutcomes before steps outcomes after = ⊥
 
 -- an answer as an outcome: a refusal is one of them

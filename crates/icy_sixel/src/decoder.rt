@@ -4,121 +4,60 @@
 //! of a payload is in `sixel_base`, by the list of its sixels and commands: which bytes these are
 //! (`History`), what they draw (`Place`, `Stroke`), and when they are refused (`Payload`).
 
-ghost use Rattle.std.specs.Prelude.{◌≡◌, [], length, slice_index_or, OnOk, OnErr, IfOk, IfErr};
-ghost use Rattle.std.specs.Prelude.{IsOk, None, false};
+ghost use Rattle.std.specs.Prelude.{◌≡◌, ◌*◌, ◌≤◌, [], length, slice_index_or, slice_set, IsOk};
+ghost use Rattle.std.specs.Prelude.{None, false};
+ghost use Rattle.std.specs.Prelude.{OnOk, OnErr, IfOk, IfErr};
 ghost use Rattle.sixel_base.specs.Color.{default_registers};
+ghost use Rattle.sixel_base.specs.Decoder.{IsSetAs, limit_of, new_decoder, origin_of};
 ghost use Rattle.sixel_base.specs.Fault.{Faults};
-ghost use Rattle.sixel_base.specs.Payload.{area_limit, payload_fault, payload_image};
+ghost use Rattle.sixel_base.specs.Payload.{payload_fault, payload_image};
 ghost use Rattle.sixel_base.specs.Payload.{payload_registers, payload_wants};
-ghost use Rattle.icy_sixel.specs.Dcs.{has_ended};
-ghost use Rattle.icy_sixel.specs.Frame.{status_of};
 ghost use Rattle.icy_sixel.specs.ImageView.{image_value};
-ghost use Rattle.icy_sixel.specs.OneShot.{found, found_fault, found_wants, IsFoundImage};
-ghost use Rattle.icy_sixel.specs.OneShot.{AreFoundRegisters};
+ghost use Rattle.sixel_base.specs.OneShot.{found, found_fault, found_wants, IsFoundImage};
+ghost use Rattle.sixel_base.specs.OneShot.{AreFoundRegisters};
 
 mod dcs_session;
-mod dcs_stream;
-mod frame;
-mod log;
-mod painter;
 mod stream;
 
-use crate::bytes::tail;
-use crate::header::{introducer_end, read_header};
 use crate::sixel_image::SixelImage;
 pub use dcs_session::SixelDcsStreamDecoder;
-use frame::Frame;
 use sixel_base::Result;
 use sixel_base::registers::Registers;
 pub use sixel_base::settings::DcsSettings;
+use sixel_base::state::{DecoderState, PixelLimit};
+pub use sixel_base::status::{
+    SixelDcsFeedResult, SixelDcsFeedStatus, SixelFeedResult, SixelFeedStatus,
+};
+use sixel_decoder::{decode_found, decode_payload};
 use std::alloc::Global;
 use std::marker::Model;
 pub use stream::SixelStreamDecoder;
 
-/// Whether a payload has ended, as far as it was fed.
-#[derive(Clone, Copy, Debug, PartialEq, Eq)]
-pub enum SixelFeedStatus {
-    /// Every byte was consumed: feed the next ones, or finish.
-    NeedMoreData,
-    /// The payload ended at this terminator, which is left to the caller: finish.
-    Terminated(u8),
-}
-
-impl SixelFeedStatus {
-    /// The terminator at which the payload ended.
-    fn terminator(self) -> Option<u8>
-        ensures { self ≡ status_of result }
-    {
-        match self {
-            Self::NeedMoreData => None,
-            Self::Terminated(byte) => Some(byte),
-        }
-    }
-}
-
-/// What a feed of a payload session did.
-#[derive(Clone, Copy, Debug, PartialEq, Eq)]
-pub struct SixelFeedResult {
-    /// How many bytes of the piece are the payload's own.
-    pub consumed: usize,
-    /// What the caller does next.
-    pub status: SixelFeedStatus,
-}
-
-/// Whether a control string has ended, as far as it was fed.
-#[derive(Clone, Copy, Debug, PartialEq, Eq)]
-pub enum SixelDcsFeedStatus {
-    /// Every byte was consumed: feed the next ones.
-    NeedMoreData,
-    /// The string terminator came and was consumed: finish.
-    Complete,
-    /// CAN or SUB, this byte, cut the string short and was consumed: finish or abort.
-    Cancelled(u8),
-    /// The string was cut short: by a C1 control, this byte, which is left to the caller, or by ESC
-    /// (consumed) before another byte than `\` (left to the caller). Finish or abort.
-    Interrupted(u8),
-}
-
-impl SixelDcsFeedStatus {
-    /// Whether the control string has ended, and no byte more is its own.
-    pub(crate) fn has_ended(self) -> bool
-        ensures { result ≡ has_ended self }
-    {
-        !matches!(self, Self::NeedMoreData)
-    }
-}
-
-/// What a feed of a control string session did.
-#[derive(Clone, Copy, Debug, PartialEq, Eq)]
-pub struct SixelDcsFeedResult {
-    /// How many bytes of the piece are the control string's own.
-    pub consumed: usize,
-    /// What the caller does next.
-    pub status: SixelDcsFeedStatus,
-}
-
-/// A decoder, which keeps the 256 color registers from one image to the next.
+/// A decoder, which keeps the 256 color registers from one image to the next, and what its host has
+/// set: whether images are cropped, and how many pixels one may have.
 ///
-/// A register keeps what an image that was decoded defined; a refusal changes none.
+/// A register keeps what it was set to, or what an image that was decoded defined; a refusal
+/// changes none. What the host has set of crop and limit holds for each image and each session
+/// that is begun after it, until it is set again.
 #[derive(Clone, Debug, Drop)]
 pub struct SixelDecoder {
-    registers: Registers,
+    pub(crate) state: DecoderState,
 }
 
 impl Model for SixelDecoder {
-    ghost use Rattle.std.specs.Prelude.{ℕ, List};
+    ghost use Rattle.sixel_base.specs.declared.state.DecoderState.{DecoderState};
 
-    ghost Value = { List (List ℕ) };
+    ghost Value = { DecoderState };
 
-    ghost view = { λ decoder. decoder.registers };
+    ghost view = { λ decoder. decoder.state };
 
-    ghost inverse = { λ registers. record { registers = registers } };
+    ghost inverse = { λ state. record { state = state } };
 }
 
 impl Default for SixelDecoder {
-    ghost use Rattle.sixel_base.specs.Color.{default_registers};
+    ghost use Rattle.sixel_base.specs.Decoder.{new_decoder};
 
-    ghost is_default = { λ decoder. decoder ≡ default_registers };
+    ghost is_default = { λ decoder. decoder ≡ new_decoder };
 
     fn default() -> Self {
         Self::new()
@@ -126,29 +65,79 @@ impl Default for SixelDecoder {
 }
 
 impl SixelDecoder {
-    /// A decoder with the registers of a terminal that has just been switched on.
+    /// A decoder with the registers of a terminal that has just been switched on, which crops no
+    /// image and has the limit of 67,108,864 pixels.
     pub fn new() -> Self
-        ensures { result ≡ default_registers }
+        ensures { result ≡ new_decoder }
     {
         Self {
-            registers: Registers::new(),
+            state: DecoderState::new(),
         }
     }
 
     /// The color of a register: red, green and blue, a byte each.
     pub fn register(&self, register: u8) -> [u8; 3]
-        ensures { result ≡ slice_index_or self.now register [] }
+        ensures color { result ≡ slice_index_or self.now.registers register [] }
+        ensures size { length self.now.registers ≡ 256 }
     {
-        self.registers.get(register)
+        self.state.registers.get(register)
     }
 
-    /// Makes the registers those of a new decoder.
+    /// Gives a register this color: red, green and blue, a byte each.
     ///
-    /// Nothing else does: an image leaves the registers that it defined to the next one.
-    pub fn reset_palette(&mut self)
-        ensures { self.new ≡ default_registers }
+    /// A terminal has a palette of its own, and register 0 is the background of an opaque image.
+    pub fn set_register(&mut self, register: u8, color: [u8; 3])
+        ensures { self.new
+            ≡ record self.old { registers = slice_set self.old.registers register color } }
     {
-        self.registers = Registers::new();
+        self.state.registers.set(register, color);
+    }
+
+    /// Makes the registers those of a new decoder, and keeps crop and limit.
+    ///
+    /// An image does not: it leaves the registers that it defined to the next one.
+    pub fn reset_palette(&mut self)
+        ensures { self.new ≡ record self.old { registers = default_registers } }
+    {
+        self.state.registers = Registers::new();
+    }
+
+    /// Whether images are cropped to their raster attributes; off in a new decoder.
+    pub fn raster_crop(&self) -> bool
+        ensures { result ≡ self.now.raster_crop }
+    {
+        self.state.raster_crop
+    }
+
+    /// Sets whether images are cropped to their raster attributes.
+    ///
+    /// Sixels come in bands of six rows, so that an image whose height is no multiple of six is
+    /// read with rows that it does not have. With crop its height is the last height above zero
+    /// that raster attributes name, where they name one; width, pixels of the rows that are left,
+    /// registers and refusals are as without.
+    pub fn set_raster_crop(&mut self, on: bool)
+        ensures { self.new ≡ record self.old { raster_crop = on } }
+    {
+        self.state.raster_crop = on;
+    }
+
+    /// How many pixels an image may have; 67,108,864 in a new decoder, and never more.
+    pub fn pixel_limit(&self) -> usize
+        ensures value { result ≡ self.now.pixel_limit }
+        ensures some { 1 ≤ result }
+        ensures within { result ≤ 67108864 }
+    {
+        self.state.pixel_limit.pixels()
+    }
+
+    /// Sets how many pixels an image may have: at least 1, and at most 67,108,864.
+    ///
+    /// It is the extent of all sixels and raster attributes that counts, also where the image is
+    /// cropped, and it is refused as soon as it passes the limit. Encoding has no part in this.
+    pub fn set_pixel_limit(&mut self, pixels: usize)
+        ensures { self.new ≡ record self.old { pixel_limit = limit_of pixels } }
+    {
+        self.state.pixel_limit = PixelLimit::new(pixels);
     }
 
     /// Decodes the first control string in the bytes, or all of them as a payload if there is none.
@@ -160,26 +149,27 @@ impl SixelDecoder {
     pub fn decode(&mut self, alloc: Global, bytes: &[u8]) -> Result<SixelImage>
         ensures image { IfOk result (λ image.
             IsFoundImage self.old (found bytes.now) (image_value image)) }
-        ensures registers { OnOk result (AreFoundRegisters self.old (found bytes.now) self.new) }
-        ensures faultless { OnOk result (found_fault (found bytes.now) ≡ None) }
-        ensures refused { IfErr result (λ error. Faults error (found_wants (found bytes.now))
-            (found_fault (found bytes.now))) }
+        ensures registers { OnOk result
+            (AreFoundRegisters self.old (found bytes.now) self.new.registers) }
+        ensures faultless { OnOk result
+            (found_fault self.old.pixel_limit (found bytes.now) ≡ None) }
+        ensures refused { IfErr result (λ error. Faults error
+            (found_wants self.old.pixel_limit (found bytes.now))
+            (found_fault self.old.pixel_limit (found bytes.now))) }
+        ensures area { IfOk result (λ image.
+            image.width * image.height ≤ self.old.pixel_limit) }
+        ensures set { IsSetAs self.old self.new }
         ensures kept { OnErr result (self.new ≡ self.old) }
     {
-        let Some(start) = introducer_end(bytes) else {
-            return self.decode_from_dcs(alloc, bytes, DcsSettings::default());
-        };
-        let string = tail(bytes, start);
-        match read_header(string) {
-            Ok(header) => self.decode_from_dcs(alloc, tail(string, header.len), header.settings),
-            Err(error) => Err(error),
-        }
+        let picture = decode_found(alloc, self.state, bytes)?;
+        self.state.registers = picture.registers;
+        Ok(SixelImage::from_picture(picture))
     }
 
     /// Begins a payload that is decoded as it comes.
     ///
     /// It takes no memory and is always `Ok`. The session borrows this decoder until it ends, and
-    /// starts from the registers that the decoder has now.
+    /// starts from the registers, the crop and the limit that the decoder has now.
     pub fn begin_frame(
         &mut self,
         alloc: Global,
@@ -189,10 +179,11 @@ impl SixelDecoder {
         ensures owner { IfOk result (λ session. session.owner.ghost_name ≡ self.entry.ghost_name) }
         ensures registers { IfOk result (λ session. session.owner.now ≡ self.old) }
         ensures session { IfOk result (λ session. session.intake ≡ record {
-          origin = record { registers = self.old; settings = settings };
+          origin = origin_of self.old settings;
           bytes = [];
           is_refused = false;
           writes = 0;
+          room = 0;
         }) }
     {
         Ok(SixelStreamDecoder::begin(alloc, self, settings))
@@ -205,10 +196,11 @@ impl SixelDecoder {
         ensures owner { result.owner.ghost_name ≡ self.entry.ghost_name }
         ensures registers { result.owner.now ≡ self.old }
         ensures session { result.progress ≡ record {
-          registers = self.old;
+          decoder = self.old;
           bytes = [];
           is_refused = false;
           writes = 0;
+          room = 0;
         } }
     {
         SixelDcsStreamDecoder::begin(alloc, self)
@@ -218,7 +210,8 @@ impl SixelDecoder {
     ///
     /// What stands from the first terminator on has no effect, and an empty payload is an image of
     /// one pixel. The refusals are [`SixelError::InvalidData`](crate::SixelError::InvalidData) for
-    /// a repeat above 65,535, a side above 1,000,000 or an area above 67,108,864 pixels,
+    /// a repeat above 65,535, a side above 1,000,000 or an area above
+    /// [`pixel_limit`](Self::pixel_limit),
     /// `IntegerOverflow` for more new lines than a row number holds, and `OutOfMemory`; after any
     /// of them the registers are those before.
     pub fn decode_from_dcs(
@@ -228,29 +221,32 @@ impl SixelDecoder {
         settings: DcsSettings,
     ) -> Result<SixelImage>
         ensures image { IfOk result (λ image. image_value image ≡ payload_image
-            (record { registers = self.old; settings = settings }) bytes.now) }
-        ensures registers { OnOk result (self.new ≡ payload_registers
-            (record { registers = self.old; settings = settings }) bytes.now) }
-        ensures faultless { OnOk result (payload_fault area_limit bytes.now ≡ None) }
-        ensures refused { IfErr result (λ error. Faults error (payload_wants bytes.now)
-            (payload_fault area_limit bytes.now)) }
+            (origin_of self.old settings) bytes.now) }
+        ensures registers { OnOk result (self.new.registers ≡ payload_registers
+            (origin_of self.old settings) bytes.now) }
+        ensures faultless { OnOk result (payload_fault self.old.pixel_limit bytes.now ≡ None) }
+        ensures refused { IfErr result (λ error. Faults error
+            (payload_wants self.old.pixel_limit bytes.now)
+            (payload_fault self.old.pixel_limit bytes.now)) }
+        ensures area { IfOk result (λ image.
+            image.width * image.height ≤ self.old.pixel_limit) }
+        ensures set { IsSetAs self.old self.new }
         ensures kept { OnErr result (self.new ≡ self.old) }
     {
-        let mut frame = Frame::new(alloc, self.registers, settings);
-        frame.feed(bytes)?;
-        let picture = frame.finish()?;
-        self.registers = picture.registers;
-        Ok(picture.image)
+        let picture = decode_payload(alloc, self.state, bytes, settings)?;
+        self.state.registers = picture.registers;
+        Ok(SixelImage::from_picture(picture))
     }
 }
 
 /// As [`SixelImage::decode`].
 pub fn sixel_decode(alloc: Global, bytes: &[u8]) -> Result<SixelImage>
     ensures image { IfOk result
-        (λ image. IsFoundImage default_registers (found bytes.now) (image_value image)) }
-    ensures faultless { OnOk result (found_fault (found bytes.now) ≡ None) }
-    ensures refused { IfErr result (λ error. Faults error (found_wants (found bytes.now))
-        (found_fault (found bytes.now))) }
+        (λ image. IsFoundImage new_decoder (found bytes.now) (image_value image)) }
+    ensures faultless { OnOk result (found_fault new_decoder.pixel_limit (found bytes.now) ≡ None) }
+    ensures refused { IfErr result (λ error. Faults error
+        (found_wants new_decoder.pixel_limit (found bytes.now))
+        (found_fault new_decoder.pixel_limit (found bytes.now))) }
 {
     SixelImage::decode(alloc, bytes)
 }
@@ -262,10 +258,11 @@ pub fn sixel_decode_from_dcs(
     settings: DcsSettings,
 ) -> Result<SixelImage>
     ensures image { IfOk result (λ image. image_value image ≡ payload_image
-        (record { registers = default_registers; settings = settings }) bytes.now) }
-    ensures faultless { OnOk result (payload_fault area_limit bytes.now ≡ None) }
-    ensures refused { IfErr result (λ error. Faults error (payload_wants bytes.now)
-        (payload_fault area_limit bytes.now)) }
+        (origin_of new_decoder settings) bytes.now) }
+    ensures faultless { OnOk result (payload_fault new_decoder.pixel_limit bytes.now ≡ None) }
+    ensures refused { IfErr result (λ error. Faults error
+        (payload_wants new_decoder.pixel_limit bytes.now)
+        (payload_fault new_decoder.pixel_limit bytes.now)) }
 {
     SixelImage::decode_from_dcs(alloc, bytes, settings)
 }

@@ -1,9 +1,10 @@
-//! Lists of steps on one decoder: images as they come or at once, and resets.
+//! Lists of steps on one decoder: images as they come or at once, resets, crop and limits.
 //!
 //! What a step comes to depends on its bytes, and not on how they are cut into pieces: the
 //! definitions know no piece.
 
-ghost use Rattle.std.specs.Prelude.{◌≡◌, OnErr, IfOk, IfErr, MatchResult};
+ghost use Rattle.std.specs.Prelude.{◌≡◌, ◌≤◌, [], length, vec_len, vec_capacity};
+ghost use Rattle.std.specs.Prelude.{OnErr, IfOk, IfErr, MatchResult};
 ghost use Rattle.sixel_base.specs.declared.error.SixelError.TheVariants.{OutOfMemory};
 ghost use Rattle.icy_sixel.specs.Script.{AreOutcomes, IsOutcome, outcome_of};
 
@@ -33,6 +34,11 @@ pub enum End {
 pub enum Step<'a> {
     /// The registers become those of a new decoder.
     Reset,
+    /// Images are cropped to their raster attributes from here on, or no longer, as by
+    /// [`SixelDecoder::set_raster_crop`].
+    RasterCrop(bool),
+    /// Images may have so many pixels from here on, as by [`SixelDecoder::set_pixel_limit`].
+    PixelLimit(usize),
     /// A payload is fed in pieces.
     Frame {
         settings: DcsSettings,
@@ -66,6 +72,8 @@ pub enum Status {
 pub enum Outcome {
     /// The registers are those of a new decoder.
     Reset,
+    /// The crop or the limit is as the step asked, and no register changed.
+    Changed,
     /// The step was refused, and changed no register.
     Failed(SixelError),
     /// A session consumed so many bytes, stood so, and gave this image.
@@ -85,8 +93,8 @@ pub enum Outcome {
 
 /// Does the steps one after the other, and gives what each came to: one outcome a step.
 ///
-/// A step that is refused is an outcome like any other, and the next one goes on from the registers
-/// as they are. The list of outcomes is reserved first, so that the only refusal,
+/// A step that is refused is an outcome like any other, and the next one goes on from the decoder
+/// as it is. The list of outcomes is reserved first, so that the only refusal,
 /// [`SixelError::OutOfMemory`], comes before the first step.
 pub fn run(alloc: Global, decoder: &mut SixelDecoder, steps: &[Step<'_>]) -> Result<Vec<Outcome>>
     ensures outcomes { IfOk result (λ outcomes.
@@ -95,11 +103,27 @@ pub fn run(alloc: Global, decoder: &mut SixelDecoder, steps: &[Step<'_>]) -> Res
     ensures kept { OnErr result (decoder.new ≡ decoder.old) }
 {
     let mut outcomes = Vec::with_capacity(alloc, steps.len())?;
+    take_steps(alloc, decoder, steps, &mut outcomes);
+    Ok(outcomes)
+}
+
+/// Does the steps one after the other, and puts what each came to into room that is there: so it
+/// has no refusal of its own, and memory that is refused to a step is that step's outcome.
+fn take_steps(
+    alloc: Global,
+    decoder: &mut SixelDecoder,
+    steps: &[Step<'_>],
+    outcomes: &mut Vec<Outcome>,
+)
+    requires empty { outcomes.old.items ≡ [] }
+    requires none { vec_len outcomes.old ≡ 0 }
+    requires room { length steps.now ≤ vec_capacity outcomes.old }
+    ensures { AreOutcomes decoder.old steps.now outcomes.new.items decoder.new }
+{
     for step in steps {
         let outcome = take_step(alloc, decoder, step);
-        outcomes.push(outcome)?;
+        outcomes.push(outcome).unwrap();
     }
-    Ok(outcomes)
 }
 
 /// What a step comes to, and what becomes of the decoder.
@@ -110,6 +134,14 @@ fn take_step(alloc: Global, decoder: &mut SixelDecoder, step: &Step<'_>) -> Outc
         Step::Reset => {
             decoder.reset_palette();
             Outcome::Reset
+        }
+        Step::RasterCrop(on) => {
+            decoder.set_raster_crop(*on);
+            Outcome::Changed
+        }
+        Step::PixelLimit(pixels) => {
+            decoder.set_pixel_limit(*pixels);
+            Outcome::Changed
         }
         Step::Frame {
             settings,

@@ -1,7 +1,8 @@
 //! An image as its pixels, sizes, pixel shape and background.
 
-ghost use Rattle.std.specs.Prelude.{◌≡◌, ℕ, ◌+◌, ◌*◌, ◌<◌, ◌≤◌, ◌↔◌, length, slice_index, IsTrue};
-ghost use Rattle.std.specs.Prelude.{None, OnOk, IfErr, IfOk, MatchOption, MatchResult, string_bytes};
+ghost use Rattle.std.specs.Prelude.{◌≡◌, ℕ, ◌+◌, ◌*◌, ◌<◌, ◌≤◌, ◌↔◌, List, length};
+ghost use Rattle.std.specs.Prelude.{slice_index, IsTrue, None, OnOk, IfErr, IfOk};
+ghost use Rattle.std.specs.Prelude.{◌++◌, Some, MatchOption, MatchResult, codes, string_bytes};
 ghost use Rattle.std.specs.Option.{option_or};
 ghost use Rattle.sixel_base.specs.Settings.{pad_of};
 ghost use Rattle.sixel_base.specs.Size.{size_fault, buffer_fault};
@@ -10,7 +11,8 @@ use crate::decoder::{DcsSettings, SixelDecoder};
 pub use sixel_base::settings::{BackgroundMode, PixelAspectRatio};
 use sixel_base::size::{pixel_bytes, validate_buffer};
 use sixel_base::{Result, SixelError};
-use sixel_encoder::{EncodeOptions, Source, encode_source};
+use sixel_decoder::Picture;
+use sixel_encoder::{EncodeOptions, Source, encode_source, one_drawing};
 use std::alloc::Global;
 
 /// An image: four bytes a pixel (red, green, blue, alpha), row by row from the top, each row from
@@ -30,24 +32,31 @@ pub struct SixelImage {
 }
 
 impl SixelImage {
-    ghost use Rattle.sixel_base.specs.Color.{default_registers};
+    ghost use Rattle.sixel_base.specs.Decoder.{new_decoder, origin_of};
+    ghost use Rattle.sixel_base.specs.declared.state.DecoderState.{DecoderState};
+    ghost use Rattle.sixel_base.specs.Size.{banded};
     ghost use Rattle.sixel_base.specs.Fault.{Faults};
-    ghost use Rattle.sixel_base.specs.Payload.{area_limit, payload_fault, payload_image, payload_wants};
-    ghost use Rattle.icy_sixel.specs.OneShot.{found, found_fault, found_wants, IsFoundImage};
-    ghost use Rattle.sixel_encoder.specs.Text.{Drawing};
+    ghost use Rattle.sixel_base.specs.Message.{message};
+    ghost use Rattle.sixel_base.specs.Payload.{payload_fault, payload_image, payload_wants};
+    ghost use Rattle.sixel_base.specs.Payload.{Image};
+    ghost use Rattle.sixel_base.specs.OneShot.{found, found_fault, found_wants, IsFoundImage};
+    ghost use Rattle.sixel_encoder.specs.Text.{Drawing, text_of};
     ghost use Rattle.sixel_encoder.specs.Encoding.{image_fault, IsDrawing, IsText};
     ghost use Rattle.icy_sixel.specs.ImageView.{image_value};
-    ghost use Rattle.sixel_encoder.specs.Encoding.{AreShortest};
-    ghost use Rattle.icy_sixel.specs.Trip.{IsOneString, IsReadAs, IsTrip, trip};
+    ghost use Rattle.sixel_decoder.specs.PictureView.{picture_value};
+    ghost use Rattle.sixel_encoder.specs.Encoding.{AreShortest, shown_image};
+    ghost use Rattle.sixel_trip.specs.Trip.{CanRead, IsOneString, IsReadAs, IsTrip, trip};
 
     /// Decodes the first control string in the bytes, or all of them as a payload if there is none,
     /// as [`SixelDecoder::decode`] of a new decoder does.
     pub fn decode(alloc: Global, bytes: &[u8]) -> Result<Self>
         ensures image { IfOk result
-            (λ image. IsFoundImage default_registers (found bytes.now) (image_value image)) }
-        ensures faultless { OnOk result (found_fault (found bytes.now) ≡ None) }
-        ensures refused { IfErr result (λ error. Faults error (found_wants (found bytes.now))
-            (found_fault (found bytes.now))) }
+            (λ image. IsFoundImage new_decoder (found bytes.now) (image_value image)) }
+        ensures faultless { OnOk result
+            (found_fault new_decoder.pixel_limit (found bytes.now) ≡ None) }
+        ensures refused { IfErr result (λ error. Faults error
+            (found_wants new_decoder.pixel_limit (found bytes.now))
+            (found_fault new_decoder.pixel_limit (found bytes.now))) }
     {
         SixelDecoder::new().decode(alloc, bytes)
     }
@@ -55,10 +64,11 @@ impl SixelImage {
     /// Decodes one payload, as [`SixelDecoder::decode_from_dcs`] of a new decoder does.
     pub fn decode_from_dcs(alloc: Global, bytes: &[u8], settings: DcsSettings) -> Result<Self>
         ensures image { IfOk result (λ image. image_value image ≡ payload_image
-            (record { registers = default_registers; settings = settings }) bytes.now) }
-        ensures faultless { OnOk result (payload_fault area_limit bytes.now ≡ None) }
-        ensures refused { IfErr result (λ error. Faults error (payload_wants bytes.now)
-            (payload_fault area_limit bytes.now)) }
+            (origin_of new_decoder settings) bytes.now) }
+        ensures faultless { OnOk result (payload_fault new_decoder.pixel_limit bytes.now ≡ None) }
+        ensures refused { IfErr result (λ error. Faults error
+            (payload_wants new_decoder.pixel_limit bytes.now)
+            (payload_fault new_decoder.pixel_limit bytes.now)) }
     {
         SixelDecoder::new().decode_from_dcs(alloc, bytes, settings)
     }
@@ -66,12 +76,27 @@ impl SixelImage {
     /// As [`decode`](Self::decode) of a text's bytes.
     pub fn from_str(alloc: Global, text: &str) -> Result<Self>
         ensures image { IfOk result
-            (λ image. IsFoundImage default_registers (found text.now) (image_value image)) }
-        ensures faultless { OnOk result (found_fault (found text.now) ≡ None) }
-        ensures refused { IfErr result (λ error. Faults error (found_wants (found text.now))
-            (found_fault (found text.now))) }
+            (λ image. IsFoundImage new_decoder (found text.now) (image_value image)) }
+        ensures faultless { OnOk result
+            (found_fault new_decoder.pixel_limit (found text.now) ≡ None) }
+        ensures refused { IfErr result (λ error. Faults error
+            (found_wants new_decoder.pixel_limit (found text.now))
+            (found_fault new_decoder.pixel_limit (found text.now))) }
     {
         Self::decode(alloc, text.as_bytes())
+    }
+
+    /// The image of a payload that was decoded.
+    pub(crate) fn from_picture(picture: Picture) -> Self
+        ensures { image_value result ≡ picture_value picture }
+    {
+        Self {
+            pixels: picture.pixels,
+            width: picture.width,
+            height: picture.height,
+            aspect_ratio: picture.aspect_ratio,
+            background_mode: picture.background_mode,
+        }
     }
 
     /// An image of these pixels, with square pixels and a transparent background. Nothing is
@@ -202,22 +227,35 @@ impl SixelImage {
     /// Refused are, in this order: a zero size (`InvalidDimensions`), bytes above `usize::MAX`
     /// (`IntegerOverflow`), sizes above the limits (`InvalidDimensions`), and pixels of another
     /// number of bytes (`BufferSizeMismatch`).
+    ///
+    /// The text is the same for all images that show the same: the color of a hidden pixel, and
+    /// its alpha as long as it is below 128, have no effect.
     pub fn encode_with(&self, alloc: Global, options: &EncodeOptions) -> Result<String>
         ensures refused { MatchOption (image_fault (image_value self.now))
             (IfErr result (λ e. e ≡ SixelError.OutOfMemory))
             (λ fault. result ≡ Err fault) }
         ensures text { IfOk result
             (λ text. IsText (image_value self.now) options.now.max_colors (string_bytes text)) }
-        ensures shortest { (drawing : Drawing)
-            → IsDrawing (image_value self.now) options.now.max_colors drawing
-            → AreShortest drawing }
-        ensures one_string { IfOk result (λ text. IsOneString (string_bytes text)) }
-        ensures read_back { IfOk result (λ text. (drawing : Drawing)
+        ensures hidden { (other : Image) (bytes : List ℕ)
+            → shown_image other ≡ shown_image (image_value self.now)
+            → IsText other options.now.max_colors bytes
+            → IfOk result (λ text. string_bytes text ≡ bytes) }
+        ensures shortest { IfOk result (λ text. (drawing : Drawing)
             × IsDrawing (image_value self.now) options.now.max_colors drawing
-            × IsReadAs (string_bytes text) (trip drawing)) }
-        ensures again { IsTrip (image_value self.now) options.now.max_colors
+            × (string_bytes text ≡ text_of drawing) × AreShortest drawing) }
+        ensures one_string { (limit : ℕ) → self.now.width * banded self.now.height ≤ limit
+            → IfOk result (λ text. IsOneString limit (string_bytes text)) }
+        ensures readable { OnOk result (CanRead new_decoder self.now.width self.now.height) }
+        ensures read_back { (decoder : DecoderState)
+            → CanRead decoder self.now.width self.now.height
+            → IfOk result (λ text. (drawing : Drawing)
+            × IsDrawing (image_value self.now) options.now.max_colors drawing
+            × IsReadAs decoder (string_bytes text) (trip decoder.raster_crop drawing)) }
+        ensures again { (decoder : DecoderState)
+            → CanRead decoder self.now.width self.now.height
+            → IsTrip decoder.raster_crop (image_value self.now) options.now.max_colors
             → self.now.background_mode ≡ BackgroundMode.Transparent
-            → IfOk result (λ text. IsReadAs (string_bytes text) (image_value self.now)) }
+            → IfOk result (λ text. IsReadAs decoder (string_bytes text) (image_value self.now)) }
     {
         let source = Source {
             pixels: &self.pixels,
@@ -226,6 +264,7 @@ impl SixelImage {
             aspect_ratio: self.aspect_ratio,
             background_mode: self.background_mode,
         };
+        one_drawing();
         encode_source(alloc, &source, options.max_colors)
     }
 
@@ -234,6 +273,9 @@ impl SixelImage {
         ensures memory { IfErr result (λ e. e ≡ SixelError.OutOfMemory) }
         ensures text { image_fault (image_value self.now) ≡ None
             → IfOk result (λ text. IsText (image_value self.now) 256 (string_bytes text)) }
+        ensures refused { (fault : SixelError) → image_fault (image_value self.now) ≡ Some fault
+            → IfOk result (λ text. string_bytes text
+            ≡ codes "[SIXEL encoding failed: " ++ message fault ++ codes "]") }
     {
         match self.encode(alloc) {
             Err(SixelError::OutOfMemory) => Err(SixelError::OutOfMemory),

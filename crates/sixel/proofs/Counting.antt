@@ -2,8 +2,8 @@
 use Rattle.std.proofs.Common.{◌≡◌, ℕ, ◌+◌, ◌<◌, Bool, true, false, cond, List, [], ◌∷◌, arith, Option, Some, None}
 use Rattle.std.specs.Prelude.{◌==◌, ◌||◌}
 use Rattle.sixel_base.specs.Bytes.{count, first_terminator}
-use Rattle.icy_sixel.specs.declared.decoder.SixelDcsFeedStatus.TheVariants.{Complete, Cancelled, Interrupted}
-use Rattle.icy_sixel.specs.Dcs.{Stage, Heading, Failing, Reading, stage, stage_count, stage_status, after_terminator, escape_count, payload_count_by, dcs_status, dcs_count, payload_status_by, escape_status}
+use Rattle.sixel_base.specs.declared.status.SixelDcsFeedStatus.TheVariants.{Complete, Cancelled, Interrupted}
+use Rattle.sixel_base.specs.Dcs.{Stage, Heading, Failing, Reading, stage, stage_count, stage_status, after_terminator, escape_count, payload_count_by, dcs_status, dcs_count, payload_status_by, escape_status}
 
 end_counts : (a b c : Bool) (t : ℕ) (rest : List ℕ) → cond a Complete (cond b (Cancelled t) (cond c (escape_status rest) (Interrupted t))) ≡ Complete
     → 0 < cond (a || b) 1 (cond c (escape_count rest) 0)

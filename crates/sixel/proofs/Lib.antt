@@ -1,6 +1,7 @@
 pub mod Counting
 pub mod Leading
 mod Pieces
+pub mod Responding
 pub mod Sending
 pub mod Serving
 pub mod Stringing

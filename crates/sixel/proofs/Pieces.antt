@@ -4,8 +4,8 @@ use Rattle.std.specs.Prelude.{nat_le, nat_lt}
 use Rattle.std.proofs.lemmas.List.{take-append-drop, take_min, drop_all, drop-drop}
 use Rattle.std.proofs.lemmas.Bool.Decides.{nat_tests}
 use Rattle.std.proofs.Math.Seq.{take-add}
-use Rattle.icy_sixel.specs.declared.decoder.SixelDcsFeedStatus.TheVariants.{NeedMoreData}
-use Rattle.icy_sixel.specs.Dcs.{dcs_status}
+use Rattle.sixel_base.specs.declared.status.SixelDcsFeedStatus.TheVariants.{NeedMoreData}
+use Rattle.sixel_base.specs.Dcs.{dcs_status}
 use Rattle.sixel.specs.Strings.{IsFedInPieces}
 use Rattle.sixel.proofs.Stringing.{Begins}
 
@@ -18,6 +18,10 @@ pub record Cut (piece_len : ℕ) (bytes fed rest : List ℕ) : Type 0 where
 
 pub cut_begins : (n : ℕ) (bytes fed rest : List ℕ) → Cut n bytes fed rest → Begins fed bytes
 cut_begins n bytes fed rest c = record { rest = rest; joined = rw (c.whole, c.left) (take-append-drop (c.pieces * n) bytes) }
+
+pub cut_joined : (n : ℕ) (bytes fed rest : List ℕ) → Cut n bytes fed rest → fed ++ rest ≡ bytes
+unfolding cut_begins
+cut_joined n bytes fed rest c = (cut_begins n bytes fed rest c).joined
 
 pub pieces_begin : (n : ℕ) (bytes fed : List ℕ) → IsFedInPieces n bytes fed → Begins fed bytes
 pieces_begin n bytes fed p = record { rest = drop (p.pieces * n) bytes; joined = rw p.whole (take-append-drop (p.pieces * n) bytes) }

@@ -4,10 +4,8 @@ use Rattle.std.proofs.KnownBytes.{Appends-nil, Appends-trans}
 use Rattle.std.specs.Io.KnownBytes.{Appends}
 use Rattle.sixel_base.specs.declared.error.SixelError.{SixelError}
 use Rattle.sixel_base.specs.declared.error.SixelError.TheVariants.{OutOfMemory}
-use Rattle.sixel_base.specs.Color.{default_registers}
+use Rattle.sixel_base.specs.Decoder.{new_decoder}
 use Rattle.sixel_base.specs.Payload.{Image}
-use Rattle.sixel_base.specs.Settings.{Settings}
-use Rattle.sixel_base.specs.Stroke.{Origin}
 use Rattle.sixel_base.specs.Fault as data_fault
 use Rattle.sixel.specs.declared.fault.Fault.{Fault}
 use Rattle.sixel.specs.declared.fault.Fault.TheVariants.{Sixel, Input, Output}
@@ -16,7 +14,7 @@ use Rattle.sixel.specs.declared.words.Word.TheVariants.{Payload, Decode, Frames,
 use Rattle.sixel.specs.Form.{line_end, image_line, image_form}
 use Rattle.sixel.specs.Ending.{Ending, Done, Refused}
 use Rattle.sixel.specs.Strings.{Broken}
-use Rattle.sixel.specs.Answer.{fresh, IsAnswer, IsImageAnswer, Writes, Begins, Serves}
+use Rattle.sixel.specs.Answer.{IsAnswer, IsImageAnswer, Writes, Begins, Serves}
 
 -- ---- an answer that is written in parts
 
@@ -55,7 +53,7 @@ Serves-last {A} (Err f) IsText a b c front bytes whole before all part is_output
 wanting : (word : Word) (bytes : List ℕ) → IsAnswer word bytes [] (Refused OutOfMemory)
 wanting Payload bytes = (refl, refl)
 wanting Decode bytes = (refl, refl)
-wanting (Frames length) bytes = Broken default_registers bytes OutOfMemory refl
+wanting (Frames length) bytes = Broken new_decoder bytes OutOfMemory refl
 wanting (Encode width height colors) bytes = (refl, inl refl)
 
 pub Writes-wanting : (word : Word) (remaining held : Option (List ℕ)) (error : SixelError) → error ≡ OutOfMemory
@@ -89,15 +87,6 @@ IsImageAnswer-of fault IsImage image none is text (Refused error) (nothing, why)
 pub Serves-image : {A : Type 0} (result : Result A Fault) (fault : Option data_fault.Fault) (IsImage : Image → Type 0) (image : Image) (a b : Option (List ℕ))
     → fault ≡ None → IsImage image → Serves result (IsImageAnswer None (λ i. i ≡ image)) a b → Serves result (IsImageAnswer fault IsImage) a b
 Serves-image result fault IsImage image a b none is = Serves-weaker result _ _ a b (IsImageAnswer-of fault IsImage image none is)
-
--- the registers and the settings that a decoding begins from
-abbrev pub origin_of : List (List ℕ) → Settings → Origin
-origin_of registers settings = record { registers = registers; settings = settings }
-
--- the registers of a new decoder, and no settings
-pub origin_of-fresh : (registers : List (List ℕ)) (settings : Settings) → registers ≡ fresh.registers → settings ≡ fresh.settings
-    → origin_of registers settings ≡ fresh
-origin_of-fresh registers settings e f = ap (λ r. origin_of r settings) e ∙ ap (λ s. origin_of fresh.registers s) f
 
 -- ---- texts
 

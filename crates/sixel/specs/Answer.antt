@@ -3,12 +3,12 @@
 use Rattle.std.specs.Prelude.{◌≡◌, ◌⊎◌, ℕ, true, List, [], ◌++◌, Option, None, Some, Result, Ok, Err}
 use Rattle.std.specs.Io.KnownBytes.{Appends}
 use Rattle.sixel_base.specs.declared.error.SixelError.TheVariants.{OutOfMemory}
-use Rattle.sixel_base.specs.Color.{default_registers}
+use Rattle.sixel_base.specs.Decoder.{new_decoder, origin_of}
 use Rattle.sixel_base.specs.Stroke.{Origin}
 use Rattle.sixel_base.specs.Fault as data_fault
-use Rattle.sixel_base.specs.Payload.{Image, area_limit, payload_fault, payload_image}
+use Rattle.sixel_base.specs.Payload.{Image, payload_fault, payload_image}
 use Rattle.sixel_encoder.specs.Encoding.{image_fault, IsText, square_value}
-use Rattle.icy_sixel.specs.OneShot.{no_settings, found, found_fault, IsFoundImage}
+use Rattle.sixel_base.specs.OneShot.{no_settings, found, found_fault, IsFoundImage}
 use Rattle.sixel.specs.declared.fault.Fault.{Fault}
 use Rattle.sixel.specs.declared.fault.Fault.TheVariants.{Sixel, Input, Output}
 use Rattle.sixel.specs.declared.words.Word.{Word}
@@ -19,7 +19,7 @@ use Rattle.sixel.specs.Strings.{AreAnswered}
 
 -- a new decoder, and no settings
 abbrev pub fresh : Origin
-fresh = record { registers = default_registers; settings = no_settings }
+fresh = origin_of new_decoder no_settings
 
 -- an image of this kind, or the refusal by this fault with nothing written
 abbrev pub IsImageAnswer : Option data_fault.Fault → (Image → Type 0) → List ℕ → Ending → Type 0
@@ -33,9 +33,9 @@ IsTextAnswer image colors text (Refused error) = (text ≡ []) × ((error ≡ Ou
 
 -- the text that a word writes for these bytes, and how it ends
 abbrev pub IsAnswer : Word → List ℕ → List ℕ → Ending → Type 0
-IsAnswer Payload bytes = IsImageAnswer (payload_fault area_limit bytes) (λ image. image ≡ payload_image fresh bytes)
-IsAnswer Decode bytes = IsImageAnswer (found_fault (found bytes)) (IsFoundImage default_registers (found bytes))
-IsAnswer (Frames length) bytes = AreAnswered default_registers bytes
+IsAnswer Payload bytes = IsImageAnswer (payload_fault fresh.pixel_limit bytes) (λ image. image ≡ payload_image fresh bytes)
+IsAnswer Decode bytes = IsImageAnswer (found_fault new_decoder.pixel_limit (found bytes)) (IsFoundImage new_decoder (found bytes))
+IsAnswer (Frames length) bytes = AreAnswered new_decoder bytes
 IsAnswer (Encode width height colors) bytes = IsTextAnswer (square_value bytes width height) colors
 
 -- what a writer holds grew by a text of this kind

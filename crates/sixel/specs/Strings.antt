@@ -5,18 +5,20 @@ use Rattle.std.specs.Prelude.{◌≡◌, ◌<◌, ◌*◌, ℕ, Bool, true, fals
 use Rattle.std.specs.Option.{option_or}
 use Rattle.sixel_base.specs.declared.error.SixelError.{SixelError}
 use Rattle.sixel_base.specs.Fault.{Fault, Faults}
-use Rattle.sixel_base.specs.Payload.{Image, area_limit}
-use Rattle.icy_sixel.specs.declared.decoder.SixelDcsFeedStatus.{SixelDcsFeedStatus}
-use Rattle.icy_sixel.specs.declared.decoder.SixelDcsFeedStatus.TheVariants.{NeedMoreData, Complete, Cancelled, Interrupted}
-use Rattle.icy_sixel.specs.Dcs.{dcs_status, dcs_count, dcs_fault, end_fault}
-use Rattle.icy_sixel.specs.OneShot.{found, IsFoundImage, AreFoundRegisters}
+use Rattle.sixel_base.specs.Payload.{Image}
+use Rattle.sixel_base.specs.Decoder.{IsSetAs}
+use Rattle.sixel_base.specs.declared.state.DecoderState.{DecoderState}
+use Rattle.sixel_base.specs.declared.status.SixelDcsFeedStatus.{SixelDcsFeedStatus}
+use Rattle.sixel_base.specs.declared.status.SixelDcsFeedStatus.TheVariants.{NeedMoreData, Complete, Cancelled, Interrupted}
+use Rattle.sixel_base.specs.Dcs.{dcs_status, dcs_count, dcs_fault, end_fault}
+use Rattle.sixel_base.specs.OneShot.{found, IsFoundImage, AreFoundRegisters}
 use Rattle.sixel.specs.Form.{image_form}
 use Rattle.sixel.specs.Ending.{Ending, Done, Refused}
 
 -- what the string is refused for that the bytes begin with, where no more come after them: a fault, or an end that is missing
-abbrev pub string_fault : List ℕ → Option Fault
-string_fault [] = None
-string_fault (byte ∷ bytes) = option_or (dcs_fault area_limit (byte ∷ bytes)) (end_fault (dcs_status (byte ∷ bytes)))
+abbrev pub string_fault : ℕ → List ℕ → Option Fault
+string_fault limit [] = None
+string_fault limit (byte ∷ bytes) = option_or (dcs_fault limit (byte ∷ bytes)) (end_fault (dcs_status (byte ∷ bytes)))
 
 -- A string was fed in pieces of this length, counted from its own first byte, and in no more of them than it took to end; the last byte
 -- of all may cut the last piece short. Where it has not ended, all bytes were fed.
@@ -33,17 +35,17 @@ is_cut_short Complete = false
 is_cut_short (Cancelled byte) = true
 is_cut_short (Interrupted byte) = true
 
--- From these registers, these bytes are answered by this text, and so it ends.
-pub data AreAnswered : List (List ℕ) → List ℕ → List ℕ → Ending → Type 0 where
+-- By this decoder, these bytes are answered by this text, and so it ends.
+pub data AreAnswered : DecoderState → List ℕ → List ℕ → Ending → Type 0 where
   -- no string is left
-  Over : (registers : List (List ℕ)) → AreAnswered registers [] [] Done
+  Over : (decoder : DecoderState) → AreAnswered decoder [] [] Done
   -- the first string is refused, or memory is
-  Broken : (registers : List (List ℕ)) (bytes : List ℕ) (error : SixelError) → Faults error true (string_fault bytes)
-      → AreAnswered registers bytes [] (Refused error)
+  Broken : (decoder : DecoderState) (bytes : List ℕ) (error : SixelError) → Faults error true (string_fault decoder.pixel_limit bytes)
+      → AreAnswered decoder bytes [] (Refused error)
   -- the first string was cut short: its image is the last
-  CutShort : (registers : List (List ℕ)) (bytes : List ℕ) (image : Image) → string_fault bytes ≡ None → is_cut_short (dcs_status bytes) ≡ true
-      → IsFoundImage registers (found bytes) image → AreAnswered registers bytes (image_form image) Done
-  -- the first string is complete: its image, and the answer to the bytes after it, from the registers after it
-  Followed : (registers after : List (List ℕ)) (bytes text : List ℕ) (image : Image) (ending : Ending) → string_fault bytes ≡ None
-      → dcs_status bytes ≡ Complete → IsFoundImage registers (found bytes) image → AreFoundRegisters registers (found bytes) after
-      → AreAnswered after (drop (dcs_count bytes) bytes) text ending → AreAnswered registers bytes (image_form image ++ text) ending
+  CutShort : (decoder : DecoderState) (bytes : List ℕ) (image : Image) → string_fault decoder.pixel_limit bytes ≡ None → is_cut_short (dcs_status bytes) ≡ true
+      → IsFoundImage decoder (found bytes) image → AreAnswered decoder bytes (image_form image) Done
+  -- the first string is complete: its image, and the answer to the bytes after it, by the decoder after it
+  Followed : (decoder after : DecoderState) (bytes text : List ℕ) (image : Image) (ending : Ending) → string_fault decoder.pixel_limit bytes ≡ None
+      → dcs_status bytes ≡ Complete → IsFoundImage decoder (found bytes) image → AreFoundRegisters decoder (found bytes) after.registers → IsSetAs decoder after
+      → AreAnswered after (drop (dcs_count bytes) bytes) text ending → AreAnswered decoder bytes (image_form image ++ text) ending

@@ -1,5 +1,6 @@
 -- Which words on the command line ask for which work. The words are this program's own; a number is written in decimal digits alone.
-use Rattle.std.specs.Prelude.{◌≡◌, ◌^◌, ◌<◌, List, ℕ, codes, Option, None, Some}
+use Rattle.std.specs.Prelude.{◌≡◌, ◌^◌, ◌<◌, ◌∷◌, [], List, ℕ, codes, map, Option, None, Some, String, string_bytes}
+use Rattle.std.specs.declared.alloc.Global.{Global}
 use Rattle.std.specs.Str.Parse.{IsNumeral, digits_value}
 use Rattle.sixel.specs.declared.words.Word.{Word}
 use Rattle.sixel.specs.declared.words.Word.TheVariants.{Payload, Decode, Frames, Encode}
@@ -25,3 +26,15 @@ Asks Decode word a b c = (word ≡ codes "decode") × (a ≡ None) × (b ≡ Non
 Asks (Frames length) word a b c = (word ≡ codes "frames") × (Gives a length × (length < 2 ^ 64)) × (0 < length) × (b ≡ None) × (c ≡ None)
 Asks (Encode width height colors) word a b c =
     (word ≡ codes "encode") × (Gives a width × (width < 2 ^ 64)) × (Gives b height × (height < 2 ^ 64)) × (Gives c colors × (colors < 2 ^ 16))
+
+-- the work that the words after the program's own name ask for: one, and up to three more
+abbrev pub IsAskedBy : List (List ℕ) → Word → Type 0
+IsAskedBy (word ∷ []) asked = Asks asked word None None None
+IsAskedBy (word ∷ a ∷ []) asked = Asks asked word (Some a) None None
+IsAskedBy (word ∷ a ∷ b ∷ []) asked = Asks asked word (Some a) (Some b) None
+IsAskedBy (word ∷ a ∷ b ∷ c ∷ []) asked = Asks asked word (Some a) (Some b) (Some c)
+IsAskedBy _ asked = ⊥
+
+-- the bytes of each word
+abbrev pub words_of : List (String Global) → List (List ℕ)
+words_of words = map string_bytes words

@@ -12,7 +12,7 @@ use crate::images::write_image;
 use crate::streams::{read_all, write_all};
 use crate::strings::write_strings;
 use crate::words::Word;
-use icy_sixel::{DcsSettings, EncodeOptions, SixelDecoder, sixel_encode};
+use icy_sixel::{DcsSettings, EncodeOptions, SixelImage, sixel_encode};
 use std::alloc::Global;
 use std::io::{Read, Write};
 
@@ -70,7 +70,7 @@ fn payload<O: Write>(alloc: Global, bytes: &[u8], output: &mut O) -> Result<(), 
         (O.contents output.new) }
 {
     let settings = DcsSettings::new(None, None, None);
-    let image = SixelDecoder::new().decode_from_dcs(alloc, bytes, settings)?;
+    let image = SixelImage::decode_from_dcs(alloc, bytes, settings)?;
     write_image(alloc, &image, output)
 }
 
@@ -79,7 +79,7 @@ fn decode<O: Write>(alloc: Global, bytes: &[u8], output: &mut O) -> Result<(), F
     ensures { Serves result (IsAnswer Decode bytes.now) (O.contents output.old)
         (O.contents output.new) }
 {
-    let image = SixelDecoder::new().decode(alloc, bytes)?;
+    let image = SixelImage::decode(alloc, bytes)?;
     write_image(alloc, &image, output)
 }
 

@@ -1,58 +1,48 @@
 //! The command `sixel`: reads SIXEL data from standard input and writes images to standard output.
 #![tactic(auto)]
 
-ghost use Rattle.std.specs.Prelude.{IfSome};
-ghost use Rattle.sixel.specs.Words.{IsServable};
-
 mod engine;
 mod fault;
 mod images;
+mod response;
 mod streams;
 mod strings;
 #[cfg(test)]
 mod tests;
 mod words;
 
-use engine::serve;
 use fault::Fault;
-use std::env::Args;
+use response::{Response, respond};
 use std::process::ExitCode;
 use std::{env, io};
-use words::{Word, read_word};
 
 fn main(rt: HostRuntime) -> io::Result<ExitCode> {
-    let Ok(arguments) = env::args(&rt) else {
-        return failed(&rt, &Fault::Input);
+    let response = match arguments(&rt) {
+        Ok(words) => respond(rt.alloc(), &words, &mut rt.stdin(), &mut rt.stdout()),
+        Err(fault) => Response::Failed(fault),
     };
-    let Some(word) = asked(arguments) else {
-        rt.eprintln("usage")?;
-        return Ok(ExitCode::from(2));
+    tell(&rt, &response)?;
+    Ok(ExitCode::from(response.status()))
+}
+
+/// The arguments after the program's own name.
+fn arguments(rt: &HostRuntime) -> Result<Vec<String>, Fault> {
+    let Ok(mut arguments) = env::args(rt) else {
+        return Err(Fault::Input);
     };
-    match serve(rt.alloc(), word, &mut rt.stdin(), &mut rt.stdout()) {
-        Ok(()) => Ok(ExitCode::SUCCESS),
-        Err(fault) => failed(&rt, &fault),
+    let _program = arguments.next();
+    let mut words = Vec::new(rt.alloc());
+    for word in arguments {
+        words.push(word).map_err(|_| Fault::Input)?;
     }
+    Ok(words)
 }
 
-/// What the arguments after the program's own name ask for.
-fn asked(mut arguments: Args) -> Option<Word>
-    ensures { IfSome result IsServable }
-{
-    let _program = arguments.next()?;
-    let word = arguments.next()?;
-    let (a, b, c) = (arguments.next(), arguments.next(), arguments.next());
-    if arguments.next().is_some() {
-        return None;
+/// Writes a line to standard error where something is wrong.
+fn tell(rt: &impl Eprint, response: &Response) -> io::Result<()> {
+    match response {
+        Response::Done => Ok(()),
+        Response::Usage => rt.eprintln("usage"),
+        Response::Failed(fault) => rt.eprintln(fault),
     }
-    read_word(word.as_str(), text(&a), text(&b), text(&c))
-}
-
-fn text(argument: &Option<String>) -> Option<&str> {
-    argument.as_ref().map(|text| text.as_str())
-}
-
-/// Tells what went wrong, with the status of a failure.
-fn failed(rt: &impl Eprint, fault: &Fault) -> io::Result<ExitCode> {
-    rt.eprintln(fault)?;
-    Ok(ExitCode::FAILURE)
 }

@@ -1,12 +1,12 @@
 //! Control strings that follow one another, on one decoder.
 
-ghost use Rattle.std.specs.Prelude.{◌≡◌, ◌<◌, [], length, true, false, None, IfOk, OnOk, IfErr};
-ghost use Rattle.sixel_base.specs.Color.{default_registers};
+ghost use Rattle.std.specs.Prelude.{◌≡◌, ◌<◌, ◌≤◌, [], length, true, false, None};
+ghost use Rattle.std.specs.Prelude.{IfOk, OnOk, IfErr};
+ghost use Rattle.sixel_base.specs.Decoder.{new_decoder, IsSetAs};
 ghost use Rattle.sixel_base.specs.Fault.{Faults};
-ghost use Rattle.sixel_base.specs.Payload.{area_limit};
-ghost use Rattle.icy_sixel.specs.Dcs.{dcs_status, dcs_count, dcs_fault, has_ended};
+ghost use Rattle.sixel_base.specs.Dcs.{dcs_status, dcs_count, dcs_fault, has_ended, IsSameString};
 ghost use Rattle.icy_sixel.specs.ImageView.{image_value};
-ghost use Rattle.icy_sixel.specs.OneShot.{found, IsFoundImage, AreFoundRegisters};
+ghost use Rattle.sixel_base.specs.OneShot.{found, IsFoundImage, AreFoundRegisters};
 ghost use Rattle.sixel.specs.Strings.{string_fault, IsFedInPieces, AreAnswered};
 ghost use Rattle.sixel.specs.Answer.{Serves};
 
@@ -37,7 +37,7 @@ pub fn write_strings<O: Write>(
     output: &mut O,
 ) -> Result<(), Fault>
     requires { 0 < piece_len }
-    ensures { Serves result (AreAnswered default_registers bytes.now)
+    ensures { Serves result (AreAnswered new_decoder bytes.now)
         (O.contents output.old) (O.contents output.new) }
 {
     let mut decoder = SixelDecoder::new();
@@ -64,12 +64,16 @@ fn read_string(
     requires some { 0 < length bytes.now }
     ensures image { IfOk result (λ string.
         IsFoundImage decoder.old (found bytes.now) (image_value string.image)) }
-    ensures registers { OnOk result (AreFoundRegisters decoder.old (found bytes.now) decoder.new) }
+    ensures registers { OnOk result
+        (AreFoundRegisters decoder.old (found bytes.now) decoder.new.registers) }
+    ensures set { OnOk result (IsSetAs decoder.old decoder.new) }
     ensures len { IfOk result (λ string. string.len ≡ dcs_count bytes.now) }
+    ensures within { IfOk result (λ string. string.len ≤ length bytes.now) }
     ensures status { IfOk result (λ string. string.status ≡ dcs_status bytes.now) }
     ensures ended { OnOk result (has_ended (dcs_status bytes.now) ≡ true) }
-    ensures faultless { OnOk result (string_fault bytes.now ≡ None) }
-    ensures refused { IfErr result (λ error. Faults error true (string_fault bytes.now)) }
+    ensures faultless { OnOk result (string_fault decoder.old.pixel_limit bytes.now ≡ None) }
+    ensures refused { IfErr result (λ error. Faults error true
+        (string_fault decoder.old.pixel_limit bytes.now)) }
 {
     let mut session = decoder.begin_dcs(alloc);
     let fed = feed_pieces(&mut session, piece_len, bytes)?;
@@ -94,16 +98,22 @@ fn feed_pieces(
     requires accepted { session.old.progress.is_refused ≡ false }
     ensures owner { session.new.owner.ghost_name ≡ session.old.owner.ghost_name }
     ensures kept { session.new.owner.now ≡ session.old.owner.now }
-    ensures start { session.new.progress.registers ≡ session.old.progress.registers }
+    ensures start { session.new.progress.decoder ≡ session.old.progress.decoder }
     ensures accepts { OnOk result (session.new.progress.is_refused ≡ false) }
     ensures pieces { OnOk result
         (IsFedInPieces piece_len bytes.now session.new.progress.bytes) }
     ensures consumed { IfOk result (λ fed.
         fed.consumed ≡ dcs_count session.new.progress.bytes) }
     ensures status { IfOk result (λ fed. fed.status ≡ dcs_status session.new.progress.bytes) }
+    ensures within { IfOk result (λ fed.
+        fed.consumed ≤ length session.new.progress.bytes) }
+    ensures over { IfOk result (λ fed. has_ended fed.status ≡ true
+        → IsSameString session.old.progress.decoder.pixel_limit
+        session.new.progress.bytes bytes.now) }
     ensures faultless { OnOk result
-        (dcs_fault area_limit session.new.progress.bytes ≡ None) }
-    ensures refused { IfErr result (λ error. Faults error true (string_fault bytes.now)) }
+        (dcs_fault session.old.progress.decoder.pixel_limit session.new.progress.bytes ≡ None) }
+    ensures refused { IfErr result (λ error. Faults error true
+        (string_fault session.old.progress.decoder.pixel_limit bytes.now)) }
 {
     let mut rest = bytes;
     let mut fed = SixelDcsFeedResult {

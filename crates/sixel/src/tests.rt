@@ -9,19 +9,24 @@ use std::io::{ErrorKind, Read, Write};
 use std::process::Abort;
 use std::test::Fail;
 
-/// A reader that gives its bytes two at a time, and fails once no call is left.
+// A call that no reader and no writer comes to.
+const NEVER: usize = usize::MAX;
+
+/// A reader that gives its bytes two at a time. One of its calls alone, counted from 0, fails.
 #[derive(Drop)]
 struct Source<'a> {
     bytes: &'a [u8],
-    calls_left: usize,
+    calls: usize,
+    failing: usize,
 }
 
 impl Read for Source<'_> {
     fn read(&mut self, buf: &mut [u8]) -> io::Result<usize> {
-        if self.calls_left == 0 {
+        let call = self.calls;
+        self.calls = call.saturating_add(1);
+        if call == self.failing {
             return Err(io::Error::from(ErrorKind::Other));
         }
-        self.calls_left -= 1;
         let count = self.bytes.len().min(buf.len()).min(2);
         let (given, left) = self.bytes.split_at(count);
         buf[..count].copy_from_slice(given);
@@ -30,21 +35,34 @@ impl Read for Source<'_> {
     }
 }
 
-/// A writer that takes up to so many bytes at a time, and fails once no call is left.
+/// What is wrong with a call of a writer.
+#[derive(Clone, Copy)]
+enum Trouble {
+    Fails,
+    TakesNothing,
+}
+
+/// A writer that takes up to seven bytes at a time. With one of its calls alone, counted from 0,
+/// something is wrong.
 #[derive(Drop)]
 struct Sink {
     held: Vec<u8>,
-    at_once: usize,
-    calls_left: usize,
+    calls: usize,
+    failing: usize,
+    trouble: Trouble,
 }
 
 impl Write for Sink {
     fn write(&mut self, buf: &[u8]) -> io::Result<usize> {
-        if self.calls_left == 0 {
-            return Err(io::Error::from(ErrorKind::Other));
+        let call = self.calls;
+        self.calls = call.saturating_add(1);
+        if call == self.failing {
+            return match self.trouble {
+                Trouble::Fails => Err(io::Error::from(ErrorKind::Other)),
+                Trouble::TakesNothing => Ok(0),
+            };
         }
-        self.calls_left -= 1;
-        let count = buf.len().min(self.at_once);
+        let count = buf.len().min(7);
         self.held.extend_from_slice(&buf[..count])?;
         Ok(count)
     }
@@ -138,42 +156,100 @@ fn word_of(words: &str) -> Option<Word>
     read_word(word, a, b, c)
 }
 
-/// An answer, and what the writer held after it.
+/// Which read and which write something is wrong with.
+#[derive(Clone, Copy)]
+struct Failing {
+    read: usize,
+    write: usize,
+    trouble: Trouble,
+}
+
+const NOTHING: Failing = Failing {
+    read: NEVER,
+    write: NEVER,
+    trouble: Trouble::Fails,
+};
+
+/// An answer, what the writer held after it, and how often was read and written.
 #[derive(Drop)]
 struct Served {
     answer: Result<(), Fault>,
     held: Vec<u8>,
+    reads: usize,
+    writes: usize,
 }
 
-/// Serves the bytes with so many reads and writes before one fails.
+/// Serves the bytes where these calls fail.
 fn serve_with(
     rt: &(impl Abort + AllocGlobal),
     words: &str,
     bytes: &[u8],
-    reads: usize,
-    writes: usize,
+    failing: Failing,
 ) -> Served {
     let word = word_of(words).expect(rt, "words that ask for work");
     let mut input = Source {
         bytes,
-        calls_left: reads,
+        calls: 0,
+        failing: failing.read,
     };
     let mut output = Sink {
         held: Vec::new(rt.alloc()),
-        at_once: 7,
-        calls_left: writes,
+        calls: 0,
+        failing: failing.write,
+        trouble: failing.trouble,
     };
     let answer = serve(rt.alloc(), word, &mut input, &mut output);
     Served {
         answer,
         held: output.held,
+        reads: input.calls,
+        writes: output.calls,
+    }
+}
+
+/// Asserts that each read of these may fail: then nothing more is read, and nothing is written.
+fn assert_reads_may_fail(rt: &(impl Abort + AllocGlobal), words: &str, bytes: &[u8]) {
+    let needed = serve_with(rt, words, bytes, NOTHING).reads;
+    assert_eq!(rt; needed, bytes.len().div_ceil(2) + 1);
+    for read in 0..needed {
+        let served = serve_with(rt, words, bytes, Failing { read, ..NOTHING });
+        assert_eq!(rt; served.answer, Err(Fault::Input), "read {read} of {words}");
+        assert_eq!(rt; (served.reads, served.writes), (read.saturating_add(1), 0));
+        assert!(rt; served.held.is_empty());
+    }
+}
+
+/// Asserts that each write of these may fail: then nothing more is written, and what was is a
+/// beginning of the whole.
+fn assert_writes_may_fail(
+    rt: &(impl Abort + AllocGlobal),
+    words: &str,
+    bytes: &[u8],
+    trouble: Trouble,
+) {
+    let whole = serve_with(rt, words, bytes, NOTHING);
+    for write in 0..whole.writes {
+        let failing = Failing {
+            write,
+            trouble,
+            ..NOTHING
+        };
+        let served = serve_with(rt, words, bytes, failing);
+        assert_eq!(rt;
+            served.answer,
+            Err(Fault::Output),
+            "write {write} of {words}"
+        );
+        assert_eq!(rt; served.writes, write.saturating_add(1));
+        assert!(rt; served.held.len() < whole.held.len());
+        assert!(rt; whole.held.starts_with(&served.held));
     }
 }
 
 #[test]
 fn rows_are_written(rt: HostRuntime) {
     for (words, bytes, whole) in ROWS {
-        let served = serve_with(&rt, words, bytes, 100, 100);
+        let served = serve_with(&rt, words, bytes, NOTHING);
         assert_eq!(rt; served.answer, Ok(()));
         assert_eq!(rt; served.held.as_slice(), whole);
     }
@@ -181,52 +257,30 @@ fn rows_are_written(rt: HostRuntime) {
 
 #[test]
 fn each_read_may_fail(rt: HostRuntime) {
-    for (words, bytes, whole) in ROWS {
-        let needed = bytes.len().div_ceil(2) + 1;
-        for reads in 0..needed {
-            let served = serve_with(&rt, words, bytes, reads, 100);
-            assert_eq!(rt; served.answer, Err(Fault::Input));
-            assert!(rt; served.held.is_empty());
-        }
-        let served = serve_with(&rt, words, bytes, needed, 100);
-        assert_eq!(rt; served.held.as_slice(), whole);
+    for (words, bytes, _) in ROWS {
+        assert_reads_may_fail(&rt, words, bytes);
+    }
+    for (words, bytes, _, _) in REFUSALS {
+        assert_reads_may_fail(&rt, words, bytes);
     }
 }
 
 #[test]
 fn each_write_may_fail(rt: HostRuntime) {
-    for (words, bytes, whole) in ROWS {
-        for writes in 0..20 {
-            let served = serve_with(&rt, words, bytes, 100, writes);
-            assert!(rt; whole.starts_with(&served.held));
-            if served.held.len() < whole.len() {
-                assert_eq!(rt; served.answer, Err(Fault::Output));
-            } else {
-                assert_eq!(rt; served.answer, Ok(()));
-            }
+    for trouble in [Trouble::Fails, Trouble::TakesNothing] {
+        for (words, bytes, _) in ROWS {
+            assert_writes_may_fail(&rt, words, bytes, trouble);
+        }
+        for (words, bytes, _, _) in REFUSALS {
+            assert_writes_may_fail(&rt, words, bytes, trouble);
         }
     }
 }
 
 #[test]
-fn a_write_of_no_byte_is_a_fault(rt: HostRuntime) {
-    let mut input = Source {
-        bytes: PAYLOAD,
-        calls_left: 100,
-    };
-    let mut output = Sink {
-        held: Vec::new(rt.alloc()),
-        at_once: 0,
-        calls_left: 100,
-    };
-    let answer = serve(rt.alloc(), Word::Payload, &mut input, &mut output);
-    assert_eq!(rt; answer, Err(Fault::Output));
-}
-
-#[test]
 fn refusals_are_told(rt: HostRuntime) -> Result<(), Fail> {
     for (words, bytes, whole, text) in REFUSALS {
-        let served = serve_with(&rt, words, bytes, 100, 100);
+        let served = serve_with(&rt, words, bytes, NOTHING);
         let told = served.answer.err().ok_or("refused")?.to_string(rt.alloc())?;
         assert_eq!(rt; told.as_str(), text);
         assert_eq!(rt; served.held.as_slice(), whole);

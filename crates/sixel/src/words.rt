@@ -1,5 +1,5 @@
 ghost use Rattle.std.specs.Prelude.{◌≡◌, ◌<◌, ◌^◌, ℕ, IfSome, IfNone, option_map, Some, None, codes};
-ghost use Rattle.sixel.specs.Words.{Asks, IsNumber, IsServable};
+ghost use Rattle.sixel.specs.Words.{Asks, IsAskedBy, IsNumber, IsServable, words_of};
 
 /// What the program is asked to do with its input.
 #[derive(Clone, Copy, Debug, PartialEq, Eq)]
@@ -13,6 +13,23 @@ pub enum Word {
     Frames(usize),
     /// Encode raw pixels of this width and height in at most so many colors, and write the text.
     Encode(usize, usize, u16),
+}
+
+/// What all the words after the program's own name ask for.
+///
+/// `None` is for words that ask for nothing that the program does.
+pub fn asked(words: &[String]) -> Option<Word>
+    ensures asked { IfSome result (IsAskedBy (words_of words.now)) }
+    ensures usage { IfNone result ((asked : Word) → ¬ IsAskedBy (words_of words.now) asked) }
+    ensures servable { IfSome result IsServable }
+{
+    match words {
+        [word] => read_word(word, None, None, None),
+        [word, a] => read_word(word, Some(a), None, None),
+        [word, a, b] => read_word(word, Some(a), Some(b), None),
+        [word, a, b, c] => read_word(word, Some(a), Some(b), Some(c)),
+        _ => None,
+    }
 }
 
 /// Reads the words of the command line: the first, and up to three that may follow it.

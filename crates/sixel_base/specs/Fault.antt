@@ -1,6 +1,6 @@
 -- Why data are refused, apart from any code: the seven texts of invalid data, a missing introducer, and a size
 -- that no number holds. The causes are those of the documentation of icy_sixel.
-use Rattle.std.specs.Prelude.{◌≡◌, List, [], ℕ, codes, Bool, IsTrue, Option, IsSomeAnd}
+use Rattle.std.specs.Prelude.{◌≡◌, List, ℕ, codes, Bool, IsTrue, Option, Some, None, IsSomeAnd}
 use Rattle.sixel_base.specs.declared.error.SixelError.{SixelError}
 use Rattle.sixel_base.specs.declared.error.SixelError.TheVariants.{InvalidDimensions, BufferSizeMismatch, InvalidData, NoSixelData, IntegerOverflow, OutOfMemory}
 
@@ -15,22 +15,23 @@ pub data Fault : Type 0 where
   NoIntroducer : Fault
   Overflow : Fault
 
--- the text of invalid data
-abbrev pub text_of : Fault → List ℕ
-text_of Malformed = codes "malformed SIXEL data"
-text_of TooLarge = codes "image dimensions too large"
-text_of MissingCommand = codes "missing SIXEL DCS command"
-text_of BadHeader = codes "invalid SIXEL DCS header"
-text_of StreamFailed = codes "stream decoder has failed"
-text_of DcsStreamFailed = codes "DCS stream decoder has failed"
-text_of Incomplete = codes "incomplete SIXEL DCS sequence"
-text_of _ = []
+-- the text of invalid data; the other two faults are errors of their own
+abbrev pub text_of : Fault → Option (List ℕ)
+text_of Malformed = Some (codes "malformed SIXEL data")
+text_of TooLarge = Some (codes "image dimensions too large")
+text_of MissingCommand = Some (codes "missing SIXEL DCS command")
+text_of BadHeader = Some (codes "invalid SIXEL DCS header")
+text_of StreamFailed = Some (codes "stream decoder has failed")
+text_of DcsStreamFailed = Some (codes "DCS stream decoder has failed")
+text_of Incomplete = Some (codes "incomplete SIXEL DCS sequence")
+text_of NoIntroducer = None
+text_of Overflow = None
 
 -- the error names this fault
 abbrev pub IsFault : SixelError → Fault → Type 0
 IsFault (InvalidDimensions _ _) fault = ⊥
 IsFault (BufferSizeMismatch _ _) fault = ⊥
-IsFault (InvalidData text) fault = text.now ≡ text_of fault
+IsFault (InvalidData text) fault = text_of fault ≡ Some text.now
 IsFault NoSixelData fault = fault ≡ NoIntroducer
 IsFault IntegerOverflow fault = fault ≡ Overflow
 IsFault OutOfMemory fault = ⊥

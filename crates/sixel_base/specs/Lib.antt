@@ -1,8 +1,8 @@
 pub mod Fault
+pub mod Message
 pub mod Size
 pub mod Settings
 pub mod Fields
-pub mod Parameters
 pub mod Color
 pub mod Bytes
 pub mod History
@@ -10,9 +10,10 @@ pub mod Place
 pub mod Stroke
 pub mod Picture
 pub mod Payload
-pub mod Row
-pub mod Canvas
-pub mod Palette
-pub mod PaletteBound
-pub mod PaletteCodes
-pub mod PaletteNear
+pub mod Decoder
+pub mod Status
+pub mod Reach
+pub mod Header
+pub mod OneShot
+pub mod Dcs
+pub mod inside

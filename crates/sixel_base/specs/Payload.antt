@@ -1,6 +1,6 @@
 -- What a payload means: the first fault of its tokens, or its image and the registers that it leaves. While bytes still come, a command
 -- that could go on is open and counts for nothing yet. The limits are this library's own.
-use Rattle.std.specs.Prelude.{ℕ, Bool, ◌+◌, ◌*◌, nat_lt, ◌||◌, if◌then◌else◌, List, [], ◌∷◌, Option, Some, None, is_none}
+use Rattle.std.specs.Prelude.{ℕ, Bool, ◌+◌, ◌*◌, nat_lt, ◌&&◌, ◌||◌, if◌then◌else◌, List, [], ◌∷◌, Option, Some, None, is_none}
 use Rattle.std.specs.Option.{option_or}
 use Rattle.sixel_base.specs.declared.settings.BackgroundMode.{BackgroundMode}
 use Rattle.sixel_base.specs.declared.settings.PixelAspectRatio.{PixelAspectRatio}
@@ -10,10 +10,10 @@ use Rattle.sixel_base.specs.Fields.{field}
 use Rattle.sixel_base.specs.Picture.{picture}
 use Rattle.sixel_base.specs.Bytes.{front, is_terminated}
 use Rattle.sixel_base.specs.History.{Token, Sixel, Repeat, Raster, Color, Return, Newline, Skip, History, history_of}
-use Rattle.sixel_base.specs.Place.{span, across, down, width, height}
+use Rattle.sixel_base.specs.Place.{span, across, down, width, height, raster_height}
 use Rattle.sixel_base.specs.Stroke.{Origin, pixel, ratio, registers}
 
--- the greatest area of a picture, in pixels
+-- the greatest area of a picture, in pixels: a host may choose a lower one
 abbrev pub area_limit : ℕ
 area_limit = 67108864
 
@@ -69,12 +69,17 @@ pub record Image : Type 0 where
   pub aspect_ratio : PixelAspectRatio
   pub background_mode : BackgroundMode
 
+-- how high an image is: with crop as high as its last raster attributes say that name a height, else as its extent
+abbrev pub image_height : Bool → History → ℕ
+image_height raster_crop history =
+    if raster_crop && nat_lt 0 (raster_height history) then raster_height history else height history
+
 -- the image of a history
 abbrev pub image_of : Origin → History → Image
 image_of origin history = record {
-  pixels = picture (pixel origin history) (width history) (height history);
+  pixels = picture (pixel origin history) (width history) (image_height origin.raster_crop history);
   width = width history;
-  height = height history;
+  height = image_height origin.raster_crop history;
   aspect_ratio = ratio (ratio_of origin.settings) history;
   background_mode = mode_of origin.settings;
 }
@@ -82,6 +87,10 @@ image_of origin history = record {
 -- the image of a payload that has ended
 abbrev pub payload_image : Origin → List ℕ → Image
 payload_image origin bytes = image_of origin (history_of (front bytes))
+
+-- how many pixels its extent has
+abbrev pub payload_area : List ℕ → ℕ
+payload_area bytes = width (history_of (front bytes)) * height (history_of (front bytes))
 
 -- the registers after it
 abbrev pub payload_registers : Origin → List ℕ → List (List ℕ)
@@ -95,5 +104,5 @@ growths (Raster _ ∷ older) = growths older + 1
 growths (_ ∷ older) = growths older
 
 -- whether decoding a payload may be refused for want of memory: where it has an image, or a closed command may have wanted some
-abbrev pub payload_wants : List ℕ → Bool
-payload_wants bytes = is_none (payload_fault area_limit bytes) || nat_lt 0 (growths (settled bytes))
+abbrev pub payload_wants : ℕ → List ℕ → Bool
+payload_wants limit bytes = is_none (payload_fault limit bytes) || nat_lt 0 (growths (settled bytes))

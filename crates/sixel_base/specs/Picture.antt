@@ -7,6 +7,11 @@ unfoldable pub joined : {A : Type 0} → (ℕ → List A) → ℕ → List A
 joined f zero = []
 joined f (suc n) = joined f n ++ f n
 
+-- f 0 + f 1 + .., up to before n
+unfoldable pub total : (ℕ → ℕ) → ℕ → ℕ
+total f zero = 0
+total f (suc n) = total f n + f n
+
 -- the bytes of the picture with these pixels
 unfoldable pub picture : (ℕ → ℕ → List ℕ) → ℕ → ℕ → List ℕ
 picture pixel width height = joined (λ row. joined (λ column. pixel column row) width) height

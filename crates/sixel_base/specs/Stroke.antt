@@ -44,10 +44,13 @@ registers start (_ ∷ older) = registers start older
 abbrev pub color : List (List ℕ) → History → List ℕ
 color start history = slice_index_or (registers start history) (selected history) []
 
--- what a picture begins from: the registers and the settings
+-- what a picture begins from: the registers, the settings, whether it is cropped to its raster attributes, and the greatest area of its
+-- extent in pixels
 pub record Origin : Type 0 where
   pub registers : List (List ℕ)
   pub settings : Settings
+  pub raster_crop : Bool
+  pub pixel_limit : ℕ
 
 -- a pixel where nothing was drawn: transparent, or register 0 as the picture began
 abbrev pub background_of : List (List ℕ) → BackgroundMode → List ℕ

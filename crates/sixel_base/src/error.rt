@@ -3,33 +3,55 @@ ghost use Rattle.sixel_base.specs.declared.error.SixelError.TheVariants.{OutOfMe
 ghost use Rattle.sixel_base.specs.Fault.{IsFault, Malformed, TooLarge, MissingCommand, BadHeader, StreamFailed, DcsStreamFailed, Incomplete};
 
 use std::alloc::{AllocError, AllocFailed};
-use thiserror::Error;
+use std::error::Error;
+use std::fmt;
 
 /// The answer of a call that can be refused.
 pub type Result<T> = std::result::Result<T, SixelError>;
 
 /// Why a call was refused.
-#[derive(Debug, PartialEq, Eq, Drop, Error)]
+#[derive(Debug, PartialEq, Eq, Drop)]
 pub enum SixelError {
     /// A size is zero, or above what the format can hold.
-    #[error("invalid dimensions: {width}x{height}")]
     InvalidDimensions { width: usize, height: usize },
     /// The pixels are not as many bytes as the sizes ask for.
-    #[error("buffer size mismatch: expected {expected} bytes, got {actual}")]
     BufferSizeMismatch { expected: usize, actual: usize },
     /// The bytes are no SIXEL data, for this reason.
-    #[error("invalid SIXEL data: {0}")]
     InvalidData(&'static str),
     /// No introducer of a device control string was found.
-    #[error("no SIXEL data found (missing DCS introducer)")]
     NoSixelData,
     /// A size does not fit its type.
-    #[error("integer overflow")]
     IntegerOverflow,
     /// Memory was refused.
-    #[error("out of memory")]
     OutOfMemory,
 }
+
+impl fmt::Display for SixelError {
+    ghost use Rattle.std.specs.Prelude.{Some};
+    ghost use Rattle.sixel_base.specs.Message.{message};
+
+    ghost output = { λ error. Some (message error) };
+
+    fn fmt<W: fmt::Write>(&self, f: &mut fmt::Formatter<W>) -> fmt::Result {
+        match self {
+            Self::InvalidDimensions { width, height } => {
+                write!(f, "invalid dimensions: {width}x{height}")
+            }
+            Self::BufferSizeMismatch { expected, actual } => {
+                write!(
+                    f,
+                    "buffer size mismatch: expected {expected} bytes, got {actual}"
+                )
+            }
+            Self::InvalidData(text) => write!(f, "invalid SIXEL data: {text}"),
+            Self::NoSixelData => f.write_str("no SIXEL data found (missing DCS introducer)"),
+            Self::IntegerOverflow => f.write_str("integer overflow"),
+            Self::OutOfMemory => f.write_str("out of memory"),
+        }
+    }
+}
+
+impl Error for SixelError {}
 
 impl SixelError {
     /// The refusal of data that breaks the grammar or a limit of one command.

@@ -1,9 +1,10 @@
 ghost use Rattle.std.specs.Prelude.{◌≡◌, ℕ, List};
 ghost use Rattle.sixel_base.specs.Bytes.{front};
-ghost use Rattle.sixel_base.specs.History.{History, IsHistory};
+ghost use Rattle.sixel_base.specs.History.{History, IsHistory, history_of};
 
-/// Every list of bytes is a payload with exactly one history of sixels and commands.
+/// The front of any bytes, which are those that carry meaning up to the first terminator, has
+/// exactly one history of sixels and commands: the one that reading it byte by byte gives.
 pub fn one_history()
-    ensures some { (bytes : List ℕ) → (h : History) × IsHistory (front bytes) h }
+    ensures some { (bytes : List ℕ) → IsHistory (front bytes) (history_of (front bytes)) }
     ensures only { (bytes : List ℕ) (g h : History) → IsHistory bytes g → IsHistory bytes h → g ≡ h }
 {}

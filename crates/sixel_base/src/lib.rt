@@ -1,14 +1,15 @@
-//! What the SIXEL encoder and decoder stand on: errors, limits, registers, canvas and palette.
+//! What the SIXEL encoder and decoder stand on: errors, limits, registers, and the meaning of the
+//! format, which stands in `specs`.
 #![tactic(auto)]
 
-pub mod canvas;
 mod error;
 pub mod grammar;
 pub mod limits;
-pub mod palette;
 pub mod parameters;
 pub mod registers;
 pub mod settings;
 pub mod size;
+pub mod state;
+pub mod status;
 
 pub use error::{Result, SixelError};

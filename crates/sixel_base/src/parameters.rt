@@ -2,7 +2,7 @@
 
 ghost use Rattle.std.specs.Prelude.{◌≡◌, ℕ, ◌+◌, ◌*◌, ◌<◌, ◌≤◌, min};
 ghost use Rattle.std.specs.Prelude.{List, [], ◌∷◌, ◌++◌, slice_index};
-ghost use Rattle.sixel_base.specs.Parameters.{IsDigit, IsParameterByte, Keeps};
+ghost use Rattle.sixel_base.specs.inside.Parameters.{IsDigit, IsParameterByte, Keeps};
 
 use std::marker::Model;
 
@@ -27,7 +27,7 @@ pub struct Parameters {
 
 impl Model for Parameters {
     ghost use Rattle.std.specs.Prelude.{◌≤◌};
-    ghost use Rattle.sixel_base.specs.Parameters.{Parameters as View};
+    ghost use Rattle.sixel_base.specs.inside.Parameters.{Parameters as View};
 
     ghost Value = { View };
 

@@ -51,6 +51,14 @@ impl Registers {
         self.colors[register as usize]
     }
 
+    /// Gives a register this color: red, green and blue.
+    pub fn set(&mut self, register: u8, color: [u8; 3])
+        ensures defined { self.new ≡ slice_set self.old register color }
+        ensures size { length self.new ≡ 256 }
+    {
+        self.colors[register as usize] = color;
+    }
+
     /// Gives a register the color of three percentages, each at most 100 or taken as 100.
     pub fn define_rgb(&mut self, register: u8, red: u32, green: u32, blue: u32)
         ensures defined { self.new ≡ slice_set self.old register (rgb red green blue) }

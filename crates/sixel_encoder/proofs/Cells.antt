@@ -5,7 +5,7 @@ use Rattle.std.proofs.lemmas.Bool.Decides.{nat_tests}
 use Rattle.std.proofs.Math.Nat.{mul_comm}
 use Rattle.std.proofs.lemmas.Nat.{mul-add-lt, same_from_place}
 use Rattle.std.proofs.lemmas.List.{get_or-set_same, get_or-set_other, length-set}
-use Rattle.sixel_encoder.specs.Grid.{cell, dot_at, AreRows, AreMarks, AreClear}
+use Rattle.sixel_encoder.specs.inside.Grid.{cell, dot_at, AreRows, AreMarks, AreClear}
 
 -- a sixel's place is within the rows
 pub place_inside : (rows : List ℕ) (used : List Bool) (width e x : ℕ) → AreRows rows used width → e < length used → x < width → e * width + x < length rows

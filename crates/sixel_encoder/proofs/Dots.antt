@@ -7,7 +7,7 @@ use Rattle.std.proofs.lemmas.List.Folds.{list_any_at, list_any_none}
 use Rattle.std.proofs.lemmas.List.FromFn.{fill_by_all, length-map-range_with_len, get_or-map-range_with_len}
 use Rattle.sixel_base.specs.Picture.{joined}
 use Rattle.sixel_encoder.specs.Text.{Drawing, has_dot, row_text, sixel_of, row_of, entry_text}
-use Rattle.sixel_encoder.specs.Grid.{cell, grid_row, grid_text}
+use Rattle.sixel_encoder.specs.inside.Grid.{cell, grid_row, grid_text}
 use Rattle.sixel_encoder.proofs.Joined.{joined-none, joined-more, joined-same}
 use Rattle.sixel_encoder.proofs.RowParts.{All-grid_row}
 

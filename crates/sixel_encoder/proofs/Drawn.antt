@@ -2,10 +2,10 @@
 use Rattle.std.proofs.Common.{◌≡◌, ℕ, ◌+◌, ◌*◌, ◌<◌, ◌≤◌, nat_le, true, false, cond, List, length, get_or, refl, ap, ◌∙◌, arith, Some, None}
 use Rattle.std.proofs.lemmas.Bool.Decides.{nat_tests}
 use Rattle.std.proofs.lemmas.List.FromFn.{length-map-range_with_len, get_or-map-range_with_len}
-use Rattle.sixel_base.specs.Palette.{IsPalette, AreIndices}
+use Rattle.sixel_palette.specs.Palette.{IsPalette, AreIndices}
 use Rattle.sixel_base.specs.Payload.{Image}
 use Rattle.sixel_encoder.specs.declared.text.IndexedImage.{IndexedImage}
-use Rattle.sixel_encoder.specs.Indexed.{entry_of, entries_of, drawing_of}
+use Rattle.sixel_encoder.specs.inside.Indexed.{entry_of, entries_of, drawing_of}
 use Rattle.sixel_encoder.specs.Encoding.{IsDrawing}
 
 -- an image apart from its palette

@@ -9,3 +9,5 @@ pub mod Dots
 pub mod Progress
 pub mod Drawn
 pub mod SameDrawing
+pub mod EqualRuns
+pub mod Lanes

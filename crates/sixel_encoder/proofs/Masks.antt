@@ -7,8 +7,8 @@ use Rattle.std.proofs.lemmas.List.FromFn.{length-map-range_with_len, get_or-map-
 use Rattle.std.proofs.lemmas.Grind.{pow_more}
 use Rattle.sixel_encoder.specs.declared.text.IndexedImage.{IndexedImage}
 use Rattle.sixel_encoder.specs.Text.{entry_at, is_entry, mask}
-use Rattle.sixel_encoder.specs.Indexed.{entry_of, entries_of, drawing_of, IsIndexed}
-use Rattle.sixel_encoder.specs.Grid.{pixel_bit}
+use Rattle.sixel_encoder.specs.inside.Indexed.{entry_of, entries_of, drawing_of, IsIndexed}
+use Rattle.sixel_encoder.specs.inside.Grid.{pixel_bit}
 
 pub mask-none : (test : ℕ → Bool) → mask test 0 ≡ 0
 unfolding mask

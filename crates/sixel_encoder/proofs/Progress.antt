@@ -4,7 +4,7 @@ use Rattle.std.proofs.lemmas.Bool.{cases_eq, cases_lt, false≢true}
 use Rattle.std.proofs.lemmas.List.{get_or-set_same, get_or-set_other, length-set}
 use Rattle.sixel_base.specs.Picture.{joined}
 use Rattle.sixel_encoder.specs.Text.{row_text}
-use Rattle.sixel_encoder.specs.Grid.{cell, grid_row, grid_text, AreMarks, AreClear}
+use Rattle.sixel_encoder.specs.inside.Grid.{cell, grid_row, grid_text, AreMarks, AreClear}
 use Rattle.sixel_encoder.proofs.RowParts.{grid_row-same}
 use Rattle.sixel_encoder.proofs.Dots.{has_dot-some, has_dot-none, grid_text-some, grid_text-none, appended-more, appended-none}
 

@@ -7,7 +7,7 @@ use Rattle.std.proofs.lemmas.Nat.{mul-le}
 use Rattle.std.proofs.lemmas.List.{places, get_or-take, get_or-drop, length-take-le, length-drop}
 use Rattle.std.proofs.lemmas.List.Elements.{All-from_get_or}
 use Rattle.std.proofs.lemmas.List.FromFn.{fill_by_all, length-map-range_with_len, get_or-map-range_with_len}
-use Rattle.sixel_encoder.specs.Grid.{cell, grid_row}
+use Rattle.sixel_encoder.specs.inside.Grid.{cell, grid_row}
 
 -- a part is as long as it is cut
 pub length-part : (rows : List ℕ) (a k : ℕ) → a + k ≤ length rows → length (take k (drop a rows)) ≡ k

@@ -4,7 +4,7 @@ use Rattle.std.proofs.lemmas.Bool.{cases_lt}
 use Rattle.std.proofs.lemmas.Bool.Decides.{nat_tests}
 use Rattle.std.proofs.lemmas.List.{ext_get_or}
 use Rattle.std.proofs.lemmas.List.FromFn.{length-map-range_with_len, get_or-map-range_with_len}
-use Rattle.sixel_base.specs.Palette.{color_at, IsOpaque, IsShown, IsNearest}
+use Rattle.sixel_palette.specs.Palette.{color_at, IsOpaque, IsShown, IsNearest}
 use Rattle.sixel_base.specs.Payload.{Image}
 use Rattle.sixel_encoder.specs.Text.{Drawing}
 use Rattle.sixel_encoder.specs.Encoding.{IsDrawing, ShownImage, shown_color, shown_image}

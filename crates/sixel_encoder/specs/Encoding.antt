@@ -8,9 +8,10 @@ use Rattle.sixel_base.specs.declared.settings.BackgroundMode.{BackgroundMode}
 use Rattle.sixel_base.specs.declared.settings.BackgroundMode.TheVariants.{Transparent}
 use Rattle.sixel_base.specs.declared.settings.PixelAspectRatio.{PixelAspectRatio}
 use Rattle.sixel_base.specs.declared.settings.PixelAspectRatio.TheVariants.{Square}
-use Rattle.sixel_base.specs.Palette.{color_at, IsOpaque, IsPalette, IsNearest}
+use Rattle.sixel_palette.specs.Palette.{color_at, IsOpaque, IsPalette, IsNearest}
 use Rattle.sixel_base.specs.Payload.{Image}
 use Rattle.sixel_base.specs.Size.{encode_fault, buffer_fault}
+use Rattle.sixel_encoder.specs.declared.source.Source.{Source}
 use Rattle.sixel_encoder.specs.Pieces.{Spells, IsShortest, row_pieces}
 use Rattle.sixel_encoder.specs.Text.{Drawing, row_of, text_of}
 
@@ -22,6 +23,16 @@ square_value pixels width height = record {
   height = height;
   aspect_ratio = Square;
   background_mode = Transparent;
+}
+
+-- the image that is encoded, apart from where its pixels lie
+abbrev pub source_value : Source → Image
+source_value source = record {
+  pixels = source.pixels.now;
+  width = source.width;
+  height = source.height;
+  aspect_ratio = source.aspect_ratio;
+  background_mode = source.background_mode;
 }
 
 -- what is wrong with an image that is to be encoded: its sizes, then how many bytes it has

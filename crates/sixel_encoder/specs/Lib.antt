@@ -1,5 +1,4 @@
 pub mod Pieces
 pub mod Text
-pub mod Indexed
-pub mod Grid
+pub mod inside
 pub mod Encoding

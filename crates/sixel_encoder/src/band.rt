@@ -4,11 +4,11 @@ ghost use Rattle.std.specs.Prelude.{◌≡◌, ◌≢◌, ℕ, ◌+◌, ◌*◌,
 ghost use Rattle.std.specs.Prelude.{length};
 ghost use Rattle.sixel_base.specs.Picture.{joined};
 ghost use Rattle.sixel_encoder.specs.Text.{sixel_of, row_text};
-ghost use Rattle.sixel_encoder.specs.Indexed.{IsIndexed, drawing_of, entry_of};
-ghost use Rattle.sixel_encoder.specs.Grid.{cell, dot_at, pixel_bit, grid_row, grid_text, AreRows};
-ghost use Rattle.sixel_encoder.specs.Grid.{AreBelow, AreMarks, AreClear};
+ghost use Rattle.sixel_encoder.specs.inside.Indexed.{IsIndexed, drawing_of, entry_of};
+ghost use Rattle.sixel_encoder.specs.inside.Grid.{cell, dot_at, pixel_bit, grid_row, grid_text, AreRows};
+ghost use Rattle.sixel_encoder.specs.inside.Grid.{AreBelow, AreMarks, AreClear};
 
-use crate::pieces::push_row;
+use crate::pieces::{push_number, push_row};
 use crate::text::IndexedImage;
 use std::alloc::AllocError;
 
@@ -109,7 +109,8 @@ fn push_entry_row(text: &mut String, entry: usize, row: &[u8]) -> Result<(), All
     ensures { OnOk result
         (string_bytes text.new ≡ string_bytes text.old ++ row_text entry row.now) }
 {
-    write!(text, "#{entry}")?;
+    text.push('#')?;
+    push_number(text, entry)?;
     push_row(text, row)?;
     text.push('$')
 }

@@ -14,12 +14,13 @@ ghost use Rattle.sixel_encoder.specs.Encoding.{square_value};
 
 mod band;
 mod pieces;
+mod runs;
 mod source;
 mod text;
 
-use sixel_base::palette::one_palette;
 use sixel_base::settings::{BackgroundMode, PixelAspectRatio};
 use sixel_base::{Result, SixelError};
+use sixel_palette::palette::one_palette;
 pub use source::{Source, encode_source};
 use std::alloc::Global;
 

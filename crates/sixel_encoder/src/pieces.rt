@@ -1,9 +1,10 @@
 //! The pieces that a row of sixels is written in.
 
-ghost use Rattle.std.specs.Prelude.{◌≡◌, ◌+◌, ◌<◌, ◌++◌, OnOk, All, string_bytes};
+ghost use Rattle.std.specs.Prelude.{◌≡◌, ◌+◌, ◌<◌, ◌∷◌, ◌++◌, [], OnOk, All, decimal, string_bytes};
 ghost use Rattle.sixel_encoder.specs.Pieces.{One, Many, spelling, Spells, IsShortest, written};
 ghost use Rattle.sixel_encoder.specs.Pieces.{run_pieces, rest_pieces, row_pieces};
 
+use crate::runs::equal_from;
 use std::alloc::AllocError;
 
 /// The greatest count of a repeat introducer.
@@ -19,13 +20,18 @@ pub fn push_row(text: &mut String, row: &[u8]) -> Result<(), AllocError>
 {
     let mut count = 0;
     let mut bits = 0;
-    for next in row {
-        if *next != bits {
+    let mut at = 0;
+    'sixels: while at < row.len() {
+        let same = equal_from(row, at, bits);
+        if same > 0 {
+            count += same;
+            at += same;
+        } else {
             push_run(text, count, bits)?;
-            bits = *next;
-            count = 0;
+            bits = row[at];
+            count = 1;
+            at += 1;
         }
-        count += 1;
     }
     push_run(text, count, bits)
 }
@@ -63,7 +69,8 @@ fn push_many(text: &mut String, count: usize, bits: u8) -> Result<(), AllocError
     ensures { OnOk result
         (string_bytes text.new ≡ string_bytes text.old ++ spelling (Many count bits)) }
 {
-    write!(text, "!{count}")?;
+    text.push('!')?;
+    push_number(text, count)?;
     push_sixel(text, bits)
 }
 
@@ -73,4 +80,23 @@ fn push_sixel(text: &mut String, bits: u8) -> Result<(), AllocError>
     ensures { OnOk result (string_bytes text.new ≡ string_bytes text.old ++ spelling (One bits)) }
 {
     text.push(char::from(63 + bits))
+}
+
+/// Appends a number in decimal.
+pub fn push_number(text: &mut String, number: usize) -> Result<(), AllocError>
+    ensures { OnOk result (string_bytes text.new ≡ string_bytes text.old ++ decimal number) }
+{
+    if number < 10 {
+        return push_digit(text, number as u8);
+    }
+    push_number(text, number / 10)?;
+    push_digit(text, (number % 10) as u8)
+}
+
+/// Appends a decimal digit.
+fn push_digit(text: &mut String, digit: u8) -> Result<(), AllocError>
+    requires { digit < 10 }
+    ensures { OnOk result (string_bytes text.new ≡ string_bytes text.old ++ (48 + digit) ∷ []) }
+{
+    text.push(char::from(b'0' + digit))
 }

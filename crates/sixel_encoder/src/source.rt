@@ -2,15 +2,14 @@
 
 ghost use Rattle.std.specs.Prelude.{◌≡◌, ℕ, ◌≤◌, None, length, IfErr, IfOk, MatchOption};
 ghost use Rattle.std.specs.Prelude.{◌<◌, All, OnOk, string_bytes};
-ghost use Rattle.sixel_base.specs.Palette.{IsPalette, AreIndices};
-ghost use Rattle.sixel_encoder.specs.Indexed.{source_value};
-ghost use Rattle.sixel_encoder.specs.Encoding.{image_fault, IsText};
+ghost use Rattle.sixel_palette.specs.Palette.{IsPalette, AreIndices};
+ghost use Rattle.sixel_encoder.specs.Encoding.{image_fault, source_value, IsText};
 
 use crate::text::{IndexedImage, image_text};
-use sixel_base::palette::choose_palette;
 use sixel_base::settings::{BackgroundMode, PixelAspectRatio};
 use sixel_base::size::{validate_buffer, validate_encode_dimensions};
 use sixel_base::{Result, SixelError};
+use sixel_palette::palette::choose_palette;
 use std::alloc::{AllocError, Global};
 
 /// An image that is to be encoded, `4 * width * height` bytes of pixels, as by

@@ -3,8 +3,8 @@
 ghost use Rattle.std.specs.Prelude.{◌≡◌, ◌+◌, ◌*◌, ◌<◌, ◌++◌, IfOk, OnOk, string_bytes, length};
 ghost use Rattle.sixel_encoder.specs.Text.{percent, color_definition, parameters_text, raster_text};
 ghost use Rattle.sixel_encoder.specs.Text.{palette_text, band_text, bands_text, text_of};
-ghost use Rattle.sixel_encoder.specs.Indexed.{IsIndexed, drawing_of};
-ghost use Rattle.sixel_encoder.specs.Grid.{AreRows, AreClear};
+ghost use Rattle.sixel_encoder.specs.inside.Indexed.{IsIndexed, drawing_of};
+ghost use Rattle.sixel_encoder.specs.inside.Grid.{AreRows, AreClear};
 
 use crate::band::{fill_band, push_band};
 use sixel_base::settings::{BackgroundMode, PixelAspectRatio};

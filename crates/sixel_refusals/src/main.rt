@@ -5,43 +5,30 @@
 
 mod calls;
 mod sessions;
+mod steps;
+mod told;
+mod unaided;
 
-use calls::{CALLS, Call, Outcome};
+use calls::{CALLS, Call};
 use icy_sixel::SixelDecoder;
-use std::alloc::Global;
 use std::io;
+use told::try_call;
 
 fn main(rt: HostRuntime) -> io::Result<()> {
+    let mut decoder = SixelDecoder::new();
+    tell_calls(&rt, "new decoder", &decoder)?;
+    let told = try_call(rt.alloc(), Call::DefineRegisters, &mut decoder);
+    println!(rt; "definitions of all registers: {told}")?;
+    tell_calls(&rt, "used decoder", &decoder)
+}
+
+/// Runs each call on a decoder with these registers.
+fn tell_calls(rt: &HostRuntime, kind: &str, start: &SixelDecoder) -> io::Result<()> {
     for call in CALLS {
+        let mut decoder = start.clone()?;
         let name = call.name();
-        let told = told(rt.alloc(), call);
-        println!(rt; "{name}: {told}")?;
+        let told = try_call(rt.alloc(), call, &mut decoder);
+        println!(rt; "{kind}, {name}: {told}")?;
     }
     Ok(())
-}
-
-/// What the call answered on a new decoder, and once more where memory was refused.
-fn told(alloc: Global, call: Call) -> &'static str {
-    let mut decoder = SixelDecoder::new();
-    match call.run(alloc, &mut decoder) {
-        Outcome::Right => "ok",
-        Outcome::Wrong => "wrong",
-        Outcome::Refused if !is_new(&decoder) => "out of memory, but registers changed",
-        Outcome::Refused => match call.run(alloc, &mut decoder) {
-            Outcome::Right => "out of memory, then ok",
-            Outcome::Refused => "out of memory twice",
-            Outcome::Wrong => "out of memory, then wrong",
-        },
-    }
-}
-
-/// Whether all registers are those of a new decoder.
-fn is_new(decoder: &SixelDecoder) -> bool {
-    let other = SixelDecoder::new();
-    for register in 0..=255 {
-        if decoder.register(register) != other.register(register) {
-            return false;
-        }
-    }
-    true
 }

@@ -13,6 +13,17 @@ const PIECES: [&[u8]; 3] = [b"#42;2;100;0;0~", b"!300~", b"-!5~$~"];
 // The same in a control string.
 const STRING_PIECES: [&[u8]; 4] = [b"\x1bPq#42;2;100;0;0~", b"!300~", b"-!5~$~", b"\x1b\\"];
 
+// Pieces that a session which was refused is fed: none of them may change its answer.
+const LATER_PIECES: [&[u8]; 5] = [b"", b"~", b"\x1bPq", b"#1;2;0;0;0!9~", b"\x1b\\"];
+
+// What a session answers from its first refused feed on.
+const FAILED: SixelError = SixelError::InvalidData("stream decoder has failed");
+
+const DCS_FAILED: SixelError = SixelError::InvalidData("DCS stream decoder has failed");
+
+// The answer of what is wrong here, which none of these calls has.
+const WRONG: SixelError = SixelError::NoSixelData;
+
 /// Feeds the payload in pieces, and finishes. Where a feed is refused, all after it must be, and
 /// nothing may be counted.
 pub fn frame(alloc: Global, decoder: &mut SixelDecoder) -> Result<SixelImage> {
@@ -21,8 +32,8 @@ pub fn frame(alloc: Global, decoder: &mut SixelDecoder) -> Result<SixelImage> {
     let image = session.finish();
     match fed {
         Ok(()) => image,
-        Err(error) if has_failed(image) => Err(error),
-        Err(_) => Err(SixelError::NoSixelData),
+        Err(error) if image.err() == Some(FAILED) => Err(error),
+        Err(_) => Err(WRONG),
     }
 }
 
@@ -38,26 +49,31 @@ pub fn counted_frame(alloc: Global, decoder: &mut SixelDecoder) -> Result<SixelI
             if writes.checked_sub(drawn) == Some(301 * 12) {
                 Ok(image)
             } else {
-                Err(SixelError::NoSixelData)
+                Err(WRONG)
             }
         }
-        Err(error) if has_failed(counted) => Err(error),
-        Err(_) => Err(SixelError::NoSixelData),
+        Err(error) if counted.err() == Some(FAILED) => Err(error),
+        Err(_) => Err(WRONG),
     }
 }
 
 fn feed_pieces(session: &mut SixelStreamDecoder<'_>) -> Result<()> {
     for piece in PIECES {
         if let Err(error) = session.feed(piece) {
-            let counts = session.canvas_writes() != 0;
-            return Err(if has_failed(session.feed(b"~")) && !counts {
-                error
-            } else {
-                SixelError::NoSixelData
-            });
+            return Err(if has_failed(session) { error } else { WRONG });
         }
     }
     Ok(())
+}
+
+/// Whether a session that was refused memory answers so whatever it is fed, and counts nothing.
+fn has_failed(session: &mut SixelStreamDecoder<'_>) -> bool {
+    for piece in LATER_PIECES {
+        if session.feed(piece).err() != Some(FAILED) || session.canvas_writes() != 0 {
+            return false;
+        }
+    }
+    true
 }
 
 /// As [`frame`], of a control string.
@@ -67,31 +83,30 @@ pub fn control_string(alloc: Global, decoder: &mut SixelDecoder) -> Result<Sixel
     let image = session.finish();
     match fed {
         Ok(()) => image,
-        Err(error) if has_failed(image) => Err(error),
-        Err(_) => Err(SixelError::NoSixelData),
+        Err(error) if image.err() == Some(DCS_FAILED) => Err(error),
+        Err(_) => Err(WRONG),
     }
 }
 
 fn follow_pieces(session: &mut SixelDcsStreamDecoder<'_>) -> Result<()> {
     for piece in STRING_PIECES {
         if let Err(error) = session.feed(piece) {
-            let counts = session.canvas_writes() != 0;
-            return Err(if has_failed(session.feed(b"~")) && !counts {
+            return Err(if has_dcs_failed(session) {
                 error
             } else {
-                SixelError::NoSixelData
+                WRONG
             });
         }
     }
     Ok(())
 }
 
-/// Whether a session answers that it was refused before.
-fn has_failed<T: Drop>(answer: Result<T>) -> bool {
-    match answer {
-        Ok(_) => false,
-        Err(error) => {
-            error == SixelError::stream_failed() || error == SixelError::dcs_stream_failed()
+/// As [`has_failed`], of a control string.
+fn has_dcs_failed(session: &mut SixelDcsStreamDecoder<'_>) -> bool {
+    for piece in LATER_PIECES {
+        if session.feed(piece).err() != Some(DCS_FAILED) || session.canvas_writes() != 0 {
+            return false;
         }
     }
+    true
 }

@@ -21,28 +21,65 @@ fn settings() -> DcsSettings {
     DcsSettings::new(Some(9), Some(1), None)
 }
 
+/// The bytes in pieces of uneven lengths.
+fn uneven_pieces(
+    alloc: Global,
+    bytes: &[u8],
+    start: u32,
+) -> std::result::Result<Vec<&[u8]>, AllocError> {
+    let mut pieces = Vec::new(alloc);
+    let mut rest = bytes;
+    let mut state = start;
+    for _ in 0..bytes.len() {
+        state = state.wrapping_mul(1664525).wrapping_add(1013904223);
+        let length = (1 + state as usize % 97).min(rest.len());
+        let (piece, others) = rest.split_at(length);
+        pieces.push(piece)?;
+        rest = others;
+    }
+    Ok(pieces)
+}
+
 /// What a session makes of a payload in pieces of uneven lengths, an empty one after each.
 fn fed_unevenly(alloc: Global, payload: &[u8], start: u32) -> Result<SixelImage> {
     let mut decoder = SixelDecoder::new();
     let mut session = decoder.begin_frame(alloc, settings())?;
-    let mut rest = payload;
-    let mut state = start;
-    for _ in 0..payload.len() {
-        state = state.wrapping_mul(1664525).wrapping_add(1013904223);
-        let length = (1 + state as usize % 97).min(rest.len());
-        let (piece, others) = rest.split_at(length);
+    for piece in &uneven_pieces(alloc, payload, start)? {
         session.feed(piece)?;
         session.feed(b"")?;
-        rest = others;
     }
     session.finish()
+}
+
+/// What a session makes of a control string in pieces, an empty one after each.
+fn followed(alloc: Global, pieces: &[&[u8]]) -> Result<SixelImage> {
+    let mut decoder = SixelDecoder::new();
+    let mut session = decoder.begin_dcs(alloc);
+    for piece in pieces {
+        session.feed(piece)?;
+        session.feed(b"")?;
+    }
+    session.finish()
+}
+
+/// What a session makes of a control string in single bytes.
+fn followed_singly(alloc: Global, string: &[u8]) -> Result<SixelImage> {
+    let mut pieces = Vec::new(alloc);
+    for piece in string.chunks(1) {
+        pieces.push(piece)?;
+    }
+    followed(alloc, &pieces)
+}
+
+/// The text of that image.
+fn text_of_pixels(alloc: Global) -> Result<String> {
+    sixel_encode_default(alloc, &pixels(alloc)?, 64, 24)
 }
 
 #[test]
 fn a_text_in_pieces(rt: HostRuntime) {
     let alloc = rt.alloc();
-    let bytes = pixels(alloc).expect(&rt, "pixels");
-    let text = sixel_encode_default(alloc, &bytes, 64, 24).expect(&rt, "a text");
+    let text = text_of_pixels(alloc).expect(&rt, "a text");
     let expected = SixelDecoder::new().decode(alloc, text.as_bytes());
     let headless = text.as_bytes().strip_prefix(b"\x1bP9;1;0q");
     let string = headless.expect(&rt, "a header");
@@ -56,5 +93,19 @@ fn a_text_in_pieces(rt: HostRuntime) {
     for start in 1..=16 {
         let image = fed_unevenly(alloc, payload, start);
         assert_same(&rt, b"uneven pieces", &image, &expected);
+    }
+}
+
+#[test]
+fn a_control_string_in_pieces(rt: HostRuntime) {
+    let alloc = rt.alloc();
+    let text = text_of_pixels(alloc).expect(&rt, "a text");
+    let string = text.as_bytes();
+    let expected = SixelDecoder::new().decode(alloc, string);
+    let single = followed_singly(alloc, string);
+    assert_same(&rt, b"single bytes", &single, &expected);
+    for start in 1..=16 {
+        let pieces = uneven_pieces(alloc, string, start).expect(&rt, "pieces");
+        assert_same(&rt, b"uneven pieces", &followed(alloc, &pieces), &expected);
     }
 }

@@ -1,6 +1,9 @@
 //! Definitions of color registers, by red, green and blue and by hue, lightness and saturation.
 
-use crate::answers::{BLACK, BLUE, GREEN, RED, WHITE, assert_draws, assert_same, decoded};
+use crate::answers::{
+    BLACK, BLUE, GREEN, RED, WHITE, assert_draws, assert_draws_with, assert_same, decoded,
+    transparent,
+};
 use icy_sixel::decoder::DcsSettings;
 use std::process::Abort;
 
@@ -29,6 +32,13 @@ fn definitions_by_percentage(rt: HostRuntime) {
 }
 
 #[test]
+fn no_field_selects_register_0(rt: HostRuntime) {
+    for payload in ["#1#~", "#1;2;100;0;0#~", "#1~$#~"] {
+        assert_draws_with(&rt, transparent(), payload, (1, 6), &[(6, BLACK)]);
+    }
+}
+
+#[test]
 fn definitions_by_hue(rt: HostRuntime) {
     assert_column(&rt, "#0;1;120;50;100~", RED);
     assert_column(&rt, "#0;1;120;50;100?", BLACK);
@@ -51,6 +61,8 @@ fn lightness_and_saturation(rt: HostRuntime) {
 #[test]
 fn hues_turn_round(rt: HostRuntime) {
     assert_same_hue(&rt, "0", 0);
+    assert_same_hue(&rt, "120", 120);
+    assert_same_hue(&rt, "240", 240);
     assert_same_hue(&rt, "359", 359);
     assert_same_hue(&rt, "360", 0);
     assert_same_hue(&rt, "480", 120);

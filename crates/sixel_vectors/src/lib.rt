@@ -18,9 +18,14 @@ mod control_strings;
 #[cfg(test)]
 mod controls;
 #[cfg(test)]
+mod crop;
+#[cfg(test)]
 mod drawing;
 #[cfg(test)]
 mod encoding;
+pub mod host;
+#[cfg(test)]
+mod hosted;
 #[cfg(test)]
 mod hostile;
 #[cfg(test)]
@@ -34,6 +39,10 @@ mod palette;
 #[cfg(test)]
 mod parameters;
 pub mod pieces;
+#[cfg(test)]
+mod pixel_limit;
+#[cfg(test)]
+mod receiver;
 #[cfg(test)]
 mod registers;
 #[cfg(test)]

@@ -82,6 +82,39 @@ fn hidden_pixels_do_not_count(rt: HostRuntime) -> Result<(), Fail> {
     Ok(())
 }
 
+/// The squared distance of two colors.
+fn distance(one: [u8; 3], other: [u8; 3]) -> u32 {
+    let mut sum = 0_u32;
+    for (a, b) in one.iter().zip(&other) {
+        let difference = u32::from(a.abs_diff(*b));
+        sum = sum.saturating_add(difference.saturating_mul(difference));
+    }
+    sum
+}
+
+/// The greatest distance of a color to the entry that is nearest to it.
+fn error_of(colors: &[[u8; 3]], entries: &[[u8; 3]]) -> u32 {
+    let mut greatest = 0;
+    for color in colors {
+        let mut least = u32::MAX;
+        for entry in entries {
+            least = least.min(distance(*color, *entry));
+        }
+        greatest = greatest.max(least);
+    }
+    greatest
+}
+
+#[test]
+fn another_palette_has_a_quarter_of_the_error(rt: HostRuntime) -> Result<(), Fail> {
+    let colors = [[0, 0, 0], [10, 0, 0], [255, 255, 255]];
+    let choice = palette(rt.alloc(), &[BLACK, [10, 0, 0, 255], WHITE], 2)?;
+    assert_eq!(rt; error_of(&colors, &choice.colors), choice.error);
+    assert_eq!(rt; error_of(&colors, &[[5, 0, 0], [255, 255, 255]]), 25);
+    assert_eq!(rt; choice.error, 100);
+    Ok(())
+}
+
 #[test]
 fn the_factor_of_four_is_reached(rt: HostRuntime) -> Result<(), Fail> {
     let choice = palette(rt.alloc(), &[BLACK, [10, 0, 0, 255], WHITE], 2)?;

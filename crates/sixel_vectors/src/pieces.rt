@@ -1,7 +1,8 @@
 //! Callers of the payload session, which prove what they promise from its contracts alone.
 
 ghost use Rattle.std.specs.Prelude.{◌≡◌, ◌++◌, Ok, Err, None, OnErr, OnOk};
-ghost use Rattle.sixel_base.specs.Payload.{area_limit, payload_fault, payload_wants};
+ghost use Rattle.sixel_base.specs.Decoder.{origin_of};
+ghost use Rattle.sixel_base.specs.Payload.{payload_fault, payload_wants};
 ghost use Rattle.sixel_base.specs.Fault.{Faults};
 ghost use Rattle.sixel_base.specs.Payload.{payload_image, payload_registers};
 ghost use Rattle.icy_sixel.specs.ImageView.{image_value};
@@ -18,14 +19,14 @@ pub fn decode_two_pieces(
     settings: DcsSettings,
 ) -> Result<SixelImage>
     ensures image { (image : SixelImage) → result ≡ Ok image → image_value image ≡ payload_image
-        (record { registers = decoder.old; settings = settings }) (first.now ++ second.now) }
-    ensures registers { OnOk result (decoder.new ≡ payload_registers
-        (record { registers = decoder.old; settings = settings }) (first.now ++ second.now)) }
+        (origin_of decoder.old settings) (first.now ++ second.now) }
+    ensures registers { OnOk result (decoder.new.registers ≡ payload_registers
+        (origin_of decoder.old settings) (first.now ++ second.now)) }
     ensures faultless { OnOk result
-        (payload_fault area_limit (first.now ++ second.now) ≡ None) }
+        (payload_fault decoder.old.pixel_limit (first.now ++ second.now) ≡ None) }
     ensures refused { (error : SixelError) → result ≡ Err error
-        → Faults error (payload_wants (first.now ++ second.now))
-        (payload_fault area_limit (first.now ++ second.now)) }
+        → Faults error (payload_wants decoder.old.pixel_limit (first.now ++ second.now))
+        (payload_fault decoder.old.pixel_limit (first.now ++ second.now)) }
     ensures kept { OnErr result (decoder.new ≡ decoder.old) }
 {
     let mut session = decoder.begin_frame(alloc, settings)?;

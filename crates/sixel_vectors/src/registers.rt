@@ -45,6 +45,13 @@ fn a_clone_has_registers_of_its_own(rt: HostRuntime) {
     let mut decoder = SixelDecoder::default();
     assert_column(&rt, &mut decoder, "#42;2;100;0;0~", [255, 0, 0]);
     let mut copy = decoder.clone().expect(&rt, "a clone");
+    for register in 0..=255 {
+        assert_eq!(rt;
+            copy.register(register),
+            decoder.register(register),
+            "register {register}"
+        );
+    }
     decoder.reset_palette();
     assert_column(&rt, &mut decoder, "#42~", [0, 204, 102]);
     assert_column(&rt, &mut copy, "#42~", [255, 0, 0]);

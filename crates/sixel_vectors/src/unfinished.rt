@@ -25,6 +25,26 @@ fn feed_and_drop(alloc: Global, decoder: &mut SixelDecoder, text: &[u8]) -> Resu
     Ok(())
 }
 
+/// The same of a control string.
+fn follow_and_abort(
+    rt: &(impl Abort + AllocGlobal),
+    decoder: &mut SixelDecoder,
+    text: &[u8],
+) -> Result<()> {
+    let mut session = decoder.begin_dcs(rt.alloc());
+    let fed = session.feed(text)?;
+    assert_eq!(rt; fed.consumed, text.len());
+    session.abort();
+    Ok(())
+}
+
+/// Feeds a control string and lets the session go.
+fn follow_and_drop(alloc: Global, decoder: &mut SixelDecoder, text: &[u8]) -> Result<()> {
+    let mut session = decoder.begin_dcs(alloc);
+    session.feed(text)?;
+    Ok(())
+}
+
 /// Asserts that each register has the color that a new decoder gives it.
 fn assert_untouched(rt: &impl Abort, decoder: &SixelDecoder) {
     let untouched = SixelDecoder::new();
@@ -78,4 +98,33 @@ fn dropped_sessions_define_no_register(rt: HostRuntime) {
     let outcome = feed_and_drop(rt.alloc(), &mut decoder, b"#42;2;100;0;0~");
     assert!(rt; outcome.is_ok());
     assert_untouched(&rt, &decoder);
+}
+
+// Control strings that make register 42 red: within the payload, and at each kind of end.
+const STRINGS: [&[u8]; 5] = [
+    b"\x1bPq#42;2;100;0;0~",
+    b"\x1bPq#42;2;100;0;0~!65536",
+    b"\x1bPq#42;2;100;0;0~\x1b\\",
+    b"\x90q#42;2;100;0;0~\x9c",
+    b"\x90q#42;2;100;0;0~\x18",
+];
+
+#[test]
+fn aborted_control_strings_define_no_register(rt: HostRuntime) {
+    let mut decoder = SixelDecoder::new();
+    for string in STRINGS {
+        let outcome = follow_and_abort(&rt, &mut decoder, string);
+        assert!(rt; outcome.is_ok(), "{string:?}");
+        assert_untouched(&rt, &decoder);
+    }
+}
+
+#[test]
+fn dropped_control_strings_define_no_register(rt: HostRuntime) {
+    let mut decoder = SixelDecoder::new();
+    for string in STRINGS {
+        let outcome = follow_and_drop(rt.alloc(), &mut decoder, string);
+        assert!(rt; outcome.is_ok(), "{string:?}");
+        assert_untouched(&rt, &decoder);
+    }
 }

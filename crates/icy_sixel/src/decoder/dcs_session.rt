@@ -1,138 +1,21 @@
 //! The session that decodes one control string as it comes.
 
 ghost use Rattle.std.specs.Prelude.{◌≡◌, ◌+◌, ◌*◌, ◌≤◌, ◌++◌, [], false, true, nat_lt, None};
-ghost use Rattle.std.specs.Prelude.{OnOk, OnErr, IfOk, IfErr, MatchBool};
+ghost use Rattle.std.specs.Prelude.{OnOk, OnErr, IfOk, IfErr, MatchBool, List, ℕ, length, Ok, Err};
+ghost use Rattle.sixel_base.specs.Dcs.{dcs_count, dcs_status, dcs_fault, dcs_growths};
+ghost use Rattle.sixel_base.specs.Dcs.{dcs_in_payload, dcs_size};
+ghost use Rattle.sixel_base.specs.Dcs.{dcs_reached_area, has_ended, end_fault, stage};
+ghost use Rattle.sixel_base.specs.Dcs.{IsSameString, IsStringImage, AreStringRegisters};
+ghost use Rattle.sixel_base.specs.Decoder.{IsSetAs};
 ghost use Rattle.sixel_base.specs.Fault.{Faults, IsFault, DcsStreamFailed};
-ghost use Rattle.sixel_base.specs.Payload.{area_limit};
-ghost use Rattle.icy_sixel.specs.Dcs.{dcs_count, dcs_status, dcs_fault, dcs_growths};
-ghost use Rattle.icy_sixel.specs.Dcs.{dcs_reached_area, has_ended, has_come, end_fault};
+ghost use Rattle.sixel_base.specs.OneShot.{found, IsDecodedAs};
 ghost use Rattle.icy_sixel.specs.ImageView.{image_value};
-ghost use Rattle.icy_sixel.specs.OneShot.{found, found_fault, IsFoundImage, AreFoundRegisters};
 
-use crate::decoder::dcs_stream::{Phase, follow};
-use crate::decoder::log::Log;
-use crate::decoder::painter::Picture;
-use crate::decoder::{SixelDcsFeedResult, SixelDcsFeedStatus, SixelDecoder};
+use crate::decoder::{SixelDcsFeedResult, SixelDecoder};
 use crate::sixel_image::SixelImage;
-use sixel_base::registers::Registers;
 use sixel_base::{Result, SixelError};
+use sixel_decoder::Progress;
 use std::alloc::Global;
-use std::marker::Model;
-
-/// What a session was fed, how far its control string has come, and how the string ended.
-#[derive(Drop)]
-pub struct Progress {
-    phase: Phase,
-    ended: Option<SixelDcsFeedStatus>,
-    alloc: Global,
-    registers: Registers,
-    log: Log,
-}
-
-impl Model for Progress {
-    ghost use Rattle.icy_sixel.specs.Session.{DcsSession};
-
-    ghost Value = { DcsSession };
-
-    ghost use Rattle.icy_sixel.specs.Progress.{session_of, IsFollowing};
-
-    ghost view = { session_of };
-
-    ghost invariant = { IsFollowing };
-}
-
-impl Progress {
-    /// The progress of a session that was fed nothing.
-    pub fn new(alloc: Global, registers: Registers) -> Progress
-        ensures { result ≡ record {
-          registers = registers;
-          bytes = [];
-          is_refused = false;
-          writes = 0;
-        } }
-    {
-        Progress {
-            phase: Phase::Start,
-            ended: None,
-            alloc,
-            registers,
-            log: Log::new(),
-        }
-    }
-
-    /// Reads a piece as far as the control string goes.
-    fn feed(&mut self, piece: &[u8]) -> Result<SixelDcsFeedResult>
-        ensures registers { self.new.registers ≡ self.old.registers }
-        ensures bytes { self.new.bytes ≡ self.old.bytes ++ piece.now }
-        ensures ok { OnOk result ((self.old.is_refused ≡ false) × (self.new.is_refused ≡ false)) }
-        ensures err { OnErr result (self.new.is_refused ≡ true) }
-        ensures faultless { OnOk result (dcs_fault area_limit self.new.bytes ≡ None) }
-        ensures consumed { IfOk result
-            (λ fed. dcs_count self.old.bytes + fed.consumed ≡ dcs_count self.new.bytes) }
-        ensures status { IfOk result (λ fed. fed.status ≡ dcs_status self.new.bytes) }
-        ensures error { IfErr result (λ error. MatchBool self.old.is_refused
-            (IsFault error DcsStreamFailed)
-            (Faults error (nat_lt (dcs_growths self.old.bytes) (dcs_growths self.new.bytes))
-            (dcs_fault area_limit self.new.bytes))) }
-    {
-        self.log.extend(piece);
-        match follow(
-            &mut self.phase,
-            &mut self.ended,
-            self.alloc,
-            &self.registers,
-            piece,
-        ) {
-            Ok(fed) => Ok(fed),
-            Err(error) => {
-                self.phase = Phase::Refused;
-                Err(error)
-            }
-        }
-    }
-
-    /// How many pixels were copied or filled so far, to grow the canvas of the payload.
-    fn writes(&self) -> u64
-        ensures value { result ≡ self.now.writes }
-        ensures at_least { self.now.is_refused ≡ false
-            → dcs_reached_area self.now.bytes ≤ result }
-        ensures at_most { result ≤ 3 * dcs_reached_area self.now.bytes }
-        ensures refused { self.now.is_refused ≡ true → result ≡ 0 }
-    {
-        match &self.phase {
-            Phase::Payload(intake) => intake.writes(),
-            Phase::Start | Phase::Escape | Phase::Header(_) | Phase::Refused => 0,
-        }
-    }
-
-    /// The picture of the payload, once the control string has ended.
-    fn finish(self) -> Result<Picture>
-        ensures image { IfOk result
-            (λ picture. IsFoundImage self.registers (found self.bytes) (image_value picture.image)) }
-        ensures registers { IfOk result
-            (λ picture. AreFoundRegisters self.registers (found self.bytes) picture.registers) }
-        ensures faultless { OnOk result (found_fault (found self.bytes) ≡ None) }
-        ensures accepted { OnOk result (self.is_refused ≡ false) }
-        ensures ended { OnOk result (has_ended (dcs_status self.bytes) ≡ true) }
-        ensures error { IfErr result (λ error. MatchBool self.is_refused
-            (IsFault error DcsStreamFailed)
-            (Faults error (has_ended (dcs_status self.bytes))
-            (end_fault (dcs_status self.bytes)))) }
-    {
-        let Progress { phase, ended, .. } = self;
-        match phase {
-            Phase::Refused => Err(SixelError::dcs_stream_failed()),
-            Phase::Payload(intake) => {
-                if has_come(ended) {
-                    intake.finish()
-                } else {
-                    Err(SixelError::incomplete())
-                }
-            }
-            Phase::Start | Phase::Escape | Phase::Header(_) => Err(SixelError::incomplete()),
-        }
-    }
-}
 
 /// A control string that is decoded as it comes.
 ///
@@ -160,16 +43,17 @@ impl<'a> SixelDcsStreamDecoder<'a> {
         ensures owner { result.owner.ghost_name ≡ owner.entry.ghost_name }
         ensures registers { result.owner.now ≡ owner.old }
         ensures session { result.progress ≡ record {
-          registers = owner.old;
+          decoder = owner.old;
           bytes = [];
           is_refused = false;
           writes = 0;
+          room = 0;
         } }
     {
-        let registers = owner.registers;
+        let state = owner.state;
         SixelDcsStreamDecoder {
             owner,
-            progress: Progress::new(alloc, registers),
+            progress: Progress::new(alloc, state),
         }
     }
 
@@ -183,20 +67,37 @@ impl<'a> SixelDcsStreamDecoder<'a> {
     pub fn feed(&mut self, piece: &[u8]) -> Result<SixelDcsFeedResult>
         ensures owner { self.new.owner.ghost_name ≡ self.old.owner.ghost_name }
         ensures registers { self.new.owner.now ≡ self.old.owner.now }
-        ensures start { self.new.progress.registers ≡ self.old.progress.registers }
+        ensures start { self.new.progress.decoder ≡ self.old.progress.decoder }
         ensures bytes { self.new.progress.bytes ≡ self.old.progress.bytes ++ piece.now }
         ensures ok { OnOk result
             ((self.old.progress.is_refused ≡ false) × (self.new.progress.is_refused ≡ false)) }
         ensures err { OnErr result (self.new.progress.is_refused ≡ true) }
-        ensures faultless { OnOk result (dcs_fault area_limit self.new.progress.bytes ≡ None) }
+        ensures faultless { OnOk result
+            (dcs_fault self.old.progress.decoder.pixel_limit self.new.progress.bytes ≡ None) }
+        ensures sound { self.old.progress.is_refused ≡ false
+            → dcs_fault self.old.progress.decoder.pixel_limit self.old.progress.bytes ≡ None }
+        ensures over { self.old.progress.is_refused ≡ false
+            → has_ended (dcs_status self.old.progress.bytes) ≡ true
+            → result ≡ Ok (record {
+              consumed = 0;
+              status = dcs_status self.old.progress.bytes;
+            }) }
+        ensures over_for_good { (more : List ℕ) → IfOk result (λ fed. has_ended fed.status ≡ true
+            → IsSameString self.old.progress.decoder.pixel_limit
+            self.new.progress.bytes (self.new.progress.bytes ++ more)) }
         ensures consumed { IfOk result (λ fed. dcs_count self.old.progress.bytes + fed.consumed
             ≡ dcs_count self.new.progress.bytes) }
+        ensures within { IfOk result (λ fed. fed.consumed ≤ length piece.now) }
         ensures status { IfOk result (λ fed. fed.status ≡ dcs_status self.new.progress.bytes) }
         ensures error { IfErr result (λ error. MatchBool self.old.progress.is_refused
             (IsFault error DcsStreamFailed)
             (Faults error (nat_lt (dcs_growths self.old.progress.bytes)
             (dcs_growths self.new.progress.bytes))
-            (dcs_fault area_limit self.new.progress.bytes))) }
+            (dcs_fault self.old.progress.decoder.pixel_limit self.new.progress.bytes))) }
+        ensures refused_for_good { (error : SixelError) (more : List ℕ) → result ≡ Err error
+            → self.old.progress.is_refused ≡ false
+            → Faults error (nat_lt 0 (dcs_growths (self.new.progress.bytes ++ more)))
+            (dcs_fault self.old.progress.decoder.pixel_limit (self.new.progress.bytes ++ more)) }
     {
         self.progress.feed(piece)
     }
@@ -211,9 +112,34 @@ impl<'a> SixelDcsStreamDecoder<'a> {
         ensures at_least { self.now.progress.is_refused ≡ false
             → dcs_reached_area self.now.progress.bytes ≤ result }
         ensures at_most { result ≤ 3 * dcs_reached_area self.now.progress.bytes }
+        ensures room { self.now.progress.room
+            ≤ 2 * dcs_reached_area self.now.progress.bytes }
         ensures refused { self.now.progress.is_refused ≡ true → result ≡ 0 }
     {
         self.progress.writes()
+    }
+
+    /// Whether the header is read and the payload has begun; `false` after a refusal.
+    ///
+    /// A string that is refused before that, as one with another command than `q`, has no SIXEL
+    /// data.
+    pub fn in_payload(&self) -> bool
+        ensures accepted { self.now.progress.is_refused ≡ false
+            → result ≡ dcs_in_payload self.now.progress.bytes }
+        ensures refused { self.now.progress.is_refused ≡ true → result ≡ false }
+    {
+        self.progress.in_payload()
+    }
+
+    /// The width and the height that the image has so far, as of a payload session, by
+    /// [`size_so_far`](crate::SixelStreamDecoder::size_so_far). `None` before the payload and after
+    /// a refusal. It takes no memory.
+    pub fn size_so_far(&self) -> Option<(usize, usize)>
+        ensures accepted { self.now.progress.is_refused ≡ false
+            → result ≡ dcs_size self.now.progress.bytes }
+        ensures refused { self.now.progress.is_refused ≡ true → result ≡ None }
+    {
+        self.progress.size_so_far()
     }
 
     /// Gives the image of a control string that has ended, and then gives the decoder the registers
@@ -221,13 +147,19 @@ impl<'a> SixelDcsStreamDecoder<'a> {
     ///
     /// Before the end it is refused with
     /// `SixelError::InvalidData("incomplete SIXEL DCS sequence")`. A string that was cut short has
-    /// the image of the payload that came. A refusal leaves the decoder as it was.
+    /// the image of the payload that came: as [`decode`](SixelDecoder::decode) of the bytes that were
+    /// fed, whatever comes after them. A refusal leaves the decoder as it was.
     pub fn finish(self) -> Result<SixelImage>
-        ensures image { IfOk result (λ image. IsFoundImage self.entry.progress.registers
-            (found self.entry.progress.bytes) (image_value image)) }
-        ensures registers { OnOk result (AreFoundRegisters self.entry.progress.registers
-            (found self.entry.progress.bytes) self.exit.0.now) }
-        ensures faultless { OnOk result (found_fault (found self.entry.progress.bytes) ≡ None) }
+        ensures image { IfOk result (λ image. IsStringImage self.entry.progress.decoder
+            (stage self.entry.progress.bytes) (image_value image)) }
+        ensures registers { OnOk result (AreStringRegisters self.entry.progress.decoder
+            (stage self.entry.progress.bytes) self.exit.0.now.registers) }
+        ensures as_decoded { (more : List ℕ) → IfOk result (λ image.
+            IsDecodedAs self.entry.progress.decoder (found (self.entry.progress.bytes ++ more))
+            (image_value image) self.exit.0.now.registers) }
+        ensures area { IfOk result (λ image.
+            image.width * image.height ≤ self.entry.progress.decoder.pixel_limit) }
+        ensures set { IsSetAs self.entry.owner.now self.exit.0.now }
         ensures accepted { OnOk result (self.entry.progress.is_refused ≡ false) }
         ensures ended { OnOk result (has_ended (dcs_status self.entry.progress.bytes) ≡ true) }
         ensures kept { OnErr result (self.exit.0.now ≡ self.entry.owner.now) }
@@ -238,8 +170,8 @@ impl<'a> SixelDcsStreamDecoder<'a> {
     {
         let SixelDcsStreamDecoder { owner, progress } = self;
         let picture = progress.finish()?;
-        owner.registers = picture.registers;
-        Ok(picture.image)
+        owner.state.registers = picture.registers;
+        Ok(SixelImage::from_picture(picture))
     }
 
     /// Ends the session, and changes nothing, as dropping it does.
@@ -247,15 +179,5 @@ impl<'a> SixelDcsStreamDecoder<'a> {
         ensures { self.exit.0.now ≡ self.entry.owner.now }
     {
         drop(self);
-    }
-}
-
-/// Whether the end of a control string came, and no byte more is its own.
-fn has_come(ended: Option<SixelDcsFeedStatus>) -> bool
-    ensures { result ≡ has_come ended }
-{
-    match ended {
-        None | Some(SixelDcsFeedStatus::NeedMoreData) => false,
-        Some(_) => true,
     }
 }

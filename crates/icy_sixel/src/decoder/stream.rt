@@ -1,137 +1,23 @@
 //! The session that decodes one payload as it comes.
 
 ghost use Rattle.std.specs.Prelude.{◌≡◌, ◌+◌, ◌*◌, ◌≤◌, ◌++◌, [], true, false, nat_lt, is_none, None};
-ghost use Rattle.std.specs.Prelude.{OnOk, OnErr, IfOk, IfErr, MatchBool, Some, Err, length, List, ℕ};
-ghost use Rattle.sixel_base.specs.Stroke.{Origin};
-ghost use Rattle.icy_sixel.specs.Intake.{HasRead, GoesOn};
+ghost use Rattle.std.specs.Prelude.{OnOk, OnErr, IfOk, IfErr, MatchBool, Some, Ok, Err, length};
+ghost use Rattle.std.specs.Prelude.{List, ℕ};
 ghost use Rattle.sixel_base.specs.Bytes.{count, first_terminator};
+ghost use Rattle.sixel_base.specs.Decoder.{IsSetAs, origin_of};
 ghost use Rattle.sixel_base.specs.Fault.{Faults, IsFault, StreamFailed};
-ghost use Rattle.sixel_base.specs.Payload.{area_limit, fed_fault, settled, growths, payload_fault};
-ghost use Rattle.sixel_base.specs.Payload.{payload_image, payload_registers, payload_wants};
-ghost use Rattle.icy_sixel.specs.Frame.{status_of};
+ghost use Rattle.sixel_base.specs.Payload.{fed_fault, settled, growths, payload_fault};
+ghost use Rattle.sixel_base.specs.Payload.{payload_area, payload_image, payload_registers};
+ghost use Rattle.sixel_base.specs.Payload.{payload_wants};
+ghost use Rattle.sixel_base.specs.Reach.{reached_area, size};
+ghost use Rattle.sixel_base.specs.Status.{status_of};
 ghost use Rattle.icy_sixel.specs.ImageView.{image_value};
-ghost use Rattle.icy_sixel.specs.Reach.{reached_area};
 
-use crate::decoder::frame::Frame;
-use crate::decoder::log::Log;
-use crate::decoder::painter::Picture;
 use crate::decoder::{DcsSettings, SixelDecoder, SixelFeedResult, SixelFeedStatus};
 use crate::sixel_image::SixelImage;
-use sixel_base::registers::Registers;
 use sixel_base::{Result, SixelError};
+use sixel_decoder::Intake;
 use std::alloc::Global;
-use std::marker::Model;
-use std::snapshot::Snapshot;
-
-/// What a session was fed, and the frame that reads it until it is refused.
-#[derive(Drop)]
-pub struct Intake {
-    frame: Option<Frame>,
-    terminator: Option<u8>,
-    settings: DcsSettings,
-    start: Snapshot<Registers>,
-    log: Log,
-}
-
-impl Model for Intake {
-    ghost use Rattle.icy_sixel.specs.Session.{Session};
-
-    ghost Value = { Session };
-
-    ghost use Rattle.icy_sixel.specs.Intake.{session_of, IsReading};
-
-    ghost view = { session_of };
-
-    ghost invariant = { IsReading };
-}
-
-impl Intake {
-    /// An intake that was fed nothing.
-    pub fn new(alloc: Global, registers: Registers, settings: DcsSettings) -> Intake
-        ensures { result ≡ record {
-          origin = record { registers = registers; settings = settings };
-          bytes = [];
-          is_refused = false;
-          writes = 0;
-        } }
-    {
-        Intake {
-            frame: Some(Frame::new(alloc, registers, settings)),
-            terminator: None,
-            settings,
-            start: Snapshot::of(&registers),
-            log: Log::new(),
-        }
-    }
-
-    /// Reads a piece up to its first terminator.
-    pub fn feed(&mut self, piece: &[u8]) -> Result<SixelFeedResult>
-        ensures origin { self.new.origin ≡ self.old.origin }
-        ensures bytes { self.new.bytes ≡ self.old.bytes ++ piece.now }
-        ensures ok { OnOk result ((self.old.is_refused ≡ false) × (self.new.is_refused ≡ false)) }
-        ensures err { OnErr result (self.new.is_refused ≡ true) }
-        ensures faultless { OnOk result (fed_fault area_limit self.new.bytes ≡ None) }
-        ensures consumed { IfOk result (λ fed.
-            count self.old.bytes + fed.consumed ≡ count self.new.bytes) }
-        ensures within { IfOk result (λ fed. fed.consumed ≤ length piece.now) }
-        ensures status { IfOk result (λ fed.
-            fed.status ≡ status_of (first_terminator self.new.bytes)) }
-        ensures error { IfErr result (λ error. MatchBool self.old.is_refused
-            (IsFault error StreamFailed)
-            (Faults error
-            (nat_lt (growths (settled self.old.bytes)) (growths (settled self.new.bytes)))
-            (fed_fault area_limit self.new.bytes))) }
-    {
-        self.log.extend(piece);
-        let Some(frame) = &mut self.frame else {
-            return Err(SixelError::stream_failed());
-        };
-        match go_on(frame, self.terminator, piece) {
-            Ok(fed) => {
-                self.terminator = fed.status.terminator();
-                Ok(fed)
-            }
-            Err(error) => {
-                self.frame = None;
-                Err(error)
-            }
-        }
-    }
-
-    /// How many pixels were copied or filled so far, to grow the canvas.
-    pub fn writes(&self) -> u64
-        ensures value { result ≡ self.now.writes }
-        ensures at_least { self.now.is_refused ≡ false
-            → reached_area (settled self.now.bytes) ≤ result }
-        ensures at_most { result ≤ 3 * reached_area (settled self.now.bytes) }
-        ensures refused { self.now.is_refused ≡ true → result ≡ 0 }
-    {
-        match &self.frame {
-            Some(frame) => frame.writes(),
-            None => 0,
-        }
-    }
-
-    /// The picture of the bytes that were fed.
-    pub fn finish(self) -> Result<Picture>
-        ensures faultless { OnOk result (payload_fault area_limit self.bytes ≡ None) }
-        ensures image { IfOk result (λ picture.
-            image_value picture.image ≡ payload_image self.origin self.bytes) }
-        ensures registers { IfOk result (λ picture.
-            picture.registers ≡ payload_registers self.origin self.bytes) }
-        ensures accepted { OnOk result (self.is_refused ≡ false) }
-        ensures error { IfErr result (λ error. MatchBool self.is_refused
-            (IsFault error StreamFailed)
-            (Faults error (is_none (payload_fault area_limit self.bytes))
-            (payload_fault area_limit self.bytes))) }
-    {
-        let Intake { frame, .. } = self;
-        match frame {
-            Some(frame) => frame.finish(),
-            None => Err(SixelError::stream_failed()),
-        }
-    }
-}
 
 /// A payload that is decoded as it comes.
 ///
@@ -159,16 +45,17 @@ impl<'a> SixelStreamDecoder<'a> {
         ensures owner { result.owner.ghost_name ≡ owner.entry.ghost_name }
         ensures registers { result.owner.now ≡ owner.old }
         ensures session { result.intake ≡ record {
-          origin = record { registers = owner.old; settings = settings };
+          origin = origin_of owner.old settings;
           bytes = [];
           is_refused = false;
           writes = 0;
+          room = 0;
         } }
     {
-        let registers = owner.registers;
+        let state = owner.state;
         SixelStreamDecoder {
             owner,
-            intake: Intake::new(alloc, registers, settings),
+            intake: Intake::new(alloc, state, settings),
         }
     }
 
@@ -187,7 +74,16 @@ impl<'a> SixelStreamDecoder<'a> {
         ensures ok { OnOk result
             ((self.old.intake.is_refused ≡ false) × (self.new.intake.is_refused ≡ false)) }
         ensures err { OnErr result (self.new.intake.is_refused ≡ true) }
-        ensures faultless { OnOk result (fed_fault area_limit self.new.intake.bytes ≡ None) }
+        ensures faultless { OnOk result
+            (fed_fault self.old.intake.origin.pixel_limit self.new.intake.bytes ≡ None) }
+        ensures sound { self.old.intake.is_refused ≡ false
+            → fed_fault self.old.intake.origin.pixel_limit self.old.intake.bytes ≡ None }
+        ensures over { (terminator : ℕ) → self.old.intake.is_refused ≡ false
+            → first_terminator self.old.intake.bytes ≡ Some terminator
+            → result ≡ Ok (record {
+              consumed = 0;
+              status = SixelFeedStatus.Terminated terminator;
+            }) }
         ensures consumed { IfOk result (λ fed.
             count self.old.intake.bytes + fed.consumed ≡ count self.new.intake.bytes) }
         ensures within { IfOk result (λ fed. fed.consumed ≤ length piece.now) }
@@ -198,15 +94,16 @@ impl<'a> SixelStreamDecoder<'a> {
             (Faults error
             (nat_lt (growths (settled self.old.intake.bytes))
             (growths (settled self.new.intake.bytes)))
-            (fed_fault area_limit self.new.intake.bytes))) }
+            (fed_fault self.old.intake.origin.pixel_limit self.new.intake.bytes))) }
         ensures refused { (error : SixelError) → result ≡ Err error
             → self.old.intake.is_refused ≡ false
-            → Faults error (payload_wants self.new.intake.bytes)
-            (payload_fault area_limit self.new.intake.bytes) }
+            → Faults error (payload_wants self.old.intake.origin.pixel_limit self.new.intake.bytes)
+            (payload_fault self.old.intake.origin.pixel_limit self.new.intake.bytes) }
         ensures refused_for_good { (error : SixelError) (more : List ℕ) → result ≡ Err error
             → self.old.intake.is_refused ≡ false
-            → Faults error (payload_wants (self.new.intake.bytes ++ more))
-            (payload_fault area_limit (self.new.intake.bytes ++ more)) }
+            → Faults error (payload_wants self.old.intake.origin.pixel_limit
+            (self.new.intake.bytes ++ more))
+            (payload_fault self.old.intake.origin.pixel_limit (self.new.intake.bytes ++ more)) }
     {
         self.intake.feed(piece)
     }
@@ -215,15 +112,30 @@ impl<'a> SixelStreamDecoder<'a> {
     /// refusal. Painting over pixels doesn't count. It takes no memory.
     ///
     /// It is from once to three times the area that the closed sixels reach, which is the sum over
-    /// all rows of the greatest right edge of a sixel that covers a pixel of the row.
+    /// all rows of the greatest right edge of a sixel that covers a pixel of the row. The rows
+    /// together have room for at most twice that area.
     pub fn canvas_writes(&self) -> u64
         ensures value { result ≡ self.now.intake.writes }
         ensures at_least { self.now.intake.is_refused ≡ false
             → reached_area (settled self.now.intake.bytes) ≤ result }
         ensures at_most { result ≤ 3 * reached_area (settled self.now.intake.bytes) }
+        ensures room { self.now.intake.room
+            ≤ 2 * reached_area (settled self.now.intake.bytes) }
         ensures refused { self.now.intake.is_refused ≡ true → result ≡ 0 }
     {
         self.intake.writes()
+    }
+
+    /// The width and the height that the image has so far: of the closed sixels and raster
+    /// attributes, at least 1 each. `None` after a refusal. It takes no memory.
+    ///
+    /// The image of the whole payload is at least as large.
+    pub fn size_so_far(&self) -> Option<(usize, usize)>
+        ensures accepted { self.now.intake.is_refused ≡ false
+            → result ≡ Some (size (settled self.now.intake.bytes)) }
+        ensures refused { self.now.intake.is_refused ≡ true → result ≡ None }
+    {
+        self.intake.size_so_far()
     }
 
     /// Ends the payload, gives its image, and then gives the decoder the registers that it defined.
@@ -233,50 +145,63 @@ impl<'a> SixelStreamDecoder<'a> {
     pub fn finish(self) -> Result<SixelImage>
         ensures image { IfOk result (λ image.
             image_value image ≡ payload_image self.entry.intake.origin self.entry.intake.bytes) }
-        ensures faultless { OnOk result (payload_fault area_limit self.entry.intake.bytes ≡ None) }
-        ensures registers { OnOk result (self.exit.0.now
+        ensures faultless { OnOk result
+            (payload_fault self.entry.intake.origin.pixel_limit self.entry.intake.bytes ≡ None) }
+        ensures registers { OnOk result (self.exit.0.now.registers
             ≡ payload_registers self.entry.intake.origin self.entry.intake.bytes) }
+        ensures area { IfOk result (λ image.
+            image.width * image.height ≤ self.entry.intake.origin.pixel_limit) }
+        ensures set { IsSetAs self.entry.owner.now self.exit.0.now }
         ensures accepted { OnOk result (self.entry.intake.is_refused ≡ false) }
         ensures kept { OnErr result (self.exit.0.now ≡ self.entry.owner.now) }
         ensures error { IfErr result (λ error. MatchBool self.entry.intake.is_refused
             (IsFault error StreamFailed)
-            (Faults error (is_none (payload_fault area_limit self.entry.intake.bytes))
-            (payload_fault area_limit self.entry.intake.bytes))) }
+            (Faults error
+            (is_none (payload_fault self.entry.intake.origin.pixel_limit self.entry.intake.bytes))
+            (payload_fault self.entry.intake.origin.pixel_limit self.entry.intake.bytes))) }
         ensures refused { (error : SixelError) → result ≡ Err error
             → self.entry.intake.is_refused ≡ false
-            → Faults error (payload_wants self.entry.intake.bytes)
-            (payload_fault area_limit self.entry.intake.bytes) }
+            → Faults error
+            (payload_wants self.entry.intake.origin.pixel_limit self.entry.intake.bytes)
+            (payload_fault self.entry.intake.origin.pixel_limit self.entry.intake.bytes) }
     {
         let SixelStreamDecoder { owner, intake } = self;
         let picture = intake.finish()?;
-        owner.registers = picture.registers;
-        Ok(picture.image)
+        owner.state.registers = picture.registers;
+        Ok(SixelImage::from_picture(picture))
     }
 
     /// As [`finish`](Self::finish), with the number of pixels that were copied or filled for the
     /// image: [`canvas_writes`](Self::canvas_writes), and the image's own as they are packed.
     ///
-    /// It is at most four times the number of the image's pixels.
+    /// It is at most four times the number of pixels of the extent, which an image has that is not
+    /// cropped.
     pub fn finish_counted(self) -> Result<(SixelImage, u64)>
         ensures image { IfOk result (λ counted. image_value counted.0
             ≡ payload_image self.entry.intake.origin self.entry.intake.bytes) }
         ensures counted { IfOk result (λ counted. counted.1
             ≡ self.entry.intake.writes + counted.0.width * counted.0.height) }
         ensures at_most { IfOk result
-            (λ counted. counted.1 ≤ 4 * (counted.0.width * counted.0.height)) }
-        ensures faultless { OnOk result (payload_fault area_limit self.entry.intake.bytes ≡ None) }
-        ensures registers { OnOk result (self.exit.0.now
+            (λ counted. counted.1 ≤ 4 * payload_area self.entry.intake.bytes) }
+        ensures faultless { OnOk result
+            (payload_fault self.entry.intake.origin.pixel_limit self.entry.intake.bytes ≡ None) }
+        ensures registers { OnOk result (self.exit.0.now.registers
             ≡ payload_registers self.entry.intake.origin self.entry.intake.bytes) }
+        ensures area { IfOk result (λ counted.
+            counted.0.width * counted.0.height ≤ self.entry.intake.origin.pixel_limit) }
+        ensures set { IsSetAs self.entry.owner.now self.exit.0.now }
         ensures accepted { OnOk result (self.entry.intake.is_refused ≡ false) }
         ensures kept { OnErr result (self.exit.0.now ≡ self.entry.owner.now) }
         ensures error { IfErr result (λ error. MatchBool self.entry.intake.is_refused
             (IsFault error StreamFailed)
-            (Faults error (is_none (payload_fault area_limit self.entry.intake.bytes))
-            (payload_fault area_limit self.entry.intake.bytes))) }
+            (Faults error
+            (is_none (payload_fault self.entry.intake.origin.pixel_limit self.entry.intake.bytes))
+            (payload_fault self.entry.intake.origin.pixel_limit self.entry.intake.bytes))) }
         ensures refused { (error : SixelError) → result ≡ Err error
             → self.entry.intake.is_refused ≡ false
-            → Faults error (payload_wants self.entry.intake.bytes)
-            (payload_fault area_limit self.entry.intake.bytes) }
+            → Faults error
+            (payload_wants self.entry.intake.origin.pixel_limit self.entry.intake.bytes)
+            (payload_fault self.entry.intake.origin.pixel_limit self.entry.intake.bytes) }
     {
         let writes = self.canvas_writes();
         let image = self.finish()?;
@@ -289,19 +214,5 @@ impl<'a> SixelStreamDecoder<'a> {
         ensures { self.exit.0.now ≡ self.entry.owner.now }
     {
         drop(self);
-    }
-}
-
-/// Reads a piece, unless the payload has ended.
-fn go_on(frame: &mut Frame, terminator: Option<u8>, piece: &[u8]) -> Result<SixelFeedResult>
-    ensures { (o : Origin) (before : List ℕ) → HasRead (Some frame.old) o terminator before
-        → GoesOn result o frame.new before piece.now }
-{
-    match terminator {
-        Some(byte) => Ok(SixelFeedResult {
-            consumed: 0,
-            status: SixelFeedStatus::Terminated(byte),
-        }),
-        None => frame.feed(piece),
     }
 }

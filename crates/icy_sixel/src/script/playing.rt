@@ -3,10 +3,10 @@
 ghost use Rattle.std.specs.Prelude.{◌≡◌, ◌++◌, [], false, nat_lt, None, OnOk, IfOk, IfErr};
 ghost use Rattle.sixel_base.specs.Bytes.{front, count, first_terminator};
 ghost use Rattle.sixel_base.specs.Fault.{Faults};
-ghost use Rattle.sixel_base.specs.Payload.{area_limit, fed_fault, settled, growths};
-ghost use Rattle.icy_sixel.specs.Dcs.{dcs_count, dcs_status, dcs_fault, dcs_growths};
-ghost use Rattle.icy_sixel.specs.Frame.{status_of};
-ghost use Rattle.icy_sixel.specs.Playing.{IsWhole};
+ghost use Rattle.sixel_base.specs.Payload.{fed_fault, settled, growths};
+ghost use Rattle.sixel_base.specs.Dcs.{dcs_count, dcs_status, dcs_fault, dcs_growths};
+ghost use Rattle.sixel_base.specs.Status.{status_of};
+ghost use Rattle.icy_sixel.specs.inside.Playing.{IsWhole};
 ghost use Rattle.icy_sixel.specs.Script.{IsSessionOutcome, outcome_of};
 ghost use Rattle.icy_sixel.specs.Script.{frame_meaning, string_meaning};
 
@@ -27,8 +27,8 @@ pub fn play_frame(
     cuts: &[usize],
     ending: End,
 ) -> Result<Outcome>
-    ensures { IsSessionOutcome decoder.old (frame_meaning settings bytes.now) ending
-        (outcome_of result) decoder.new }
+    ensures { IsSessionOutcome decoder.old
+        (frame_meaning decoder.old.pixel_limit settings bytes.now) ending (outcome_of result) decoder.new }
 {
     let mut session = decoder.begin_frame(alloc, settings)?;
     let SixelFeedResult { consumed, status } = feed_frame(&mut session, bytes, cuts)?;
@@ -57,7 +57,7 @@ pub fn play_string(
     cuts: &[usize],
     ending: End,
 ) -> Result<Outcome>
-    ensures { IsSessionOutcome decoder.old (string_meaning bytes.now) ending
+    ensures { IsSessionOutcome decoder.old (string_meaning decoder.old.pixel_limit bytes.now) ending
         (outcome_of result) decoder.new }
 {
     let mut session = decoder.begin_dcs(alloc);
@@ -92,11 +92,13 @@ fn feed_frame(
     ensures origin { session.new.intake.origin ≡ session.old.intake.origin }
     ensures accepted { OnOk result (session.new.intake.is_refused ≡ false) }
     ensures whole { OnOk result (front session.new.intake.bytes ≡ front bytes.now) }
-    ensures faultless { OnOk result (fed_fault area_limit bytes.now ≡ None) }
+    ensures faultless { OnOk result
+        (fed_fault session.old.intake.origin.pixel_limit bytes.now ≡ None) }
     ensures consumed { IfOk result (λ fed. fed.consumed ≡ count bytes.now) }
     ensures status { IfOk result (λ fed. fed.status ≡ status_of (first_terminator bytes.now)) }
     ensures error { IfErr result (λ error.
-        Faults error (nat_lt 0 (growths (settled bytes.now))) (fed_fault area_limit bytes.now)) }
+        Faults error (nat_lt 0 (growths (settled bytes.now)))
+        (fed_fault session.old.intake.origin.pixel_limit bytes.now)) }
 {
     let mut consumed = 0;
     let mut rest = bytes;
@@ -124,14 +126,16 @@ fn feed_string(
     requires sound { session.old.progress.is_refused ≡ false }
     ensures owner { session.new.owner.ghost_name ≡ session.old.owner.ghost_name }
     ensures registers { session.new.owner.now ≡ session.old.owner.now }
-    ensures start { session.new.progress.registers ≡ session.old.progress.registers }
+    ensures start { session.new.progress.decoder ≡ session.old.progress.decoder }
     ensures accepted { OnOk result (session.new.progress.is_refused ≡ false) }
     ensures whole { OnOk result (IsWhole session.new.progress.bytes bytes.now) }
-    ensures faultless { OnOk result (dcs_fault area_limit bytes.now ≡ None) }
+    ensures faultless { OnOk result
+        (dcs_fault session.old.progress.decoder.pixel_limit bytes.now ≡ None) }
     ensures consumed { IfOk result (λ fed. fed.consumed ≡ dcs_count bytes.now) }
     ensures status { IfOk result (λ fed. fed.status ≡ dcs_status bytes.now) }
     ensures error { IfErr result (λ error.
-        Faults error (nat_lt 0 (dcs_growths bytes.now)) (dcs_fault area_limit bytes.now)) }
+        Faults error (nat_lt 0 (dcs_growths bytes.now))
+        (dcs_fault session.old.progress.decoder.pixel_limit bytes.now)) }
 {
     let mut consumed = 0;
     let mut rest = bytes;

@@ -1,7 +1,6 @@
 -- The session was fed whole pieces of the string, without a fault, and how many of their bytes are the string's own is known.
-use Rattle.std.proofs.Common.{◌≡◌, length, false, None}
-use Rattle.sixel_base.specs.Payload.{area_limit}
-use Rattle.icy_sixel.specs.Dcs.{dcs_status, dcs_count, dcs_fault}
+use Rattle.std.proofs.Common.{◌≡◌, ◌≤◌, length, true, false, None}
+use Rattle.sixel_base.specs.Dcs.{dcs_status, dcs_count, dcs_fault, has_ended, IsSameString}
 use Rattle.sixel.proofs.Pieces.{Cut}
 use Rattle.sixel.proofs.strings.feed_pieces.Given as goal
 
@@ -9,11 +8,13 @@ abbrev pub invariant-pieces : goal.invariant-pieces
 invariant-pieces l = record {
   owner : l.session.owner.ghost_name ≡ l.fn.session.owner.ghost_name;
   kept : l.session.owner.now ≡ l.fn.session.owner.now;
-  start : l.session.progress.registers ≡ l.fn.session.progress.registers;
+  start : l.session.progress.decoder ≡ l.fn.session.progress.decoder;
   accepted : l.session.progress.is_refused ≡ false;
   cut : Cut l.piece_len l.bytes l.session.progress.bytes l.rest;
-  faultless : dcs_fault area_limit l.session.progress.bytes ≡ None;
+  faultless : dcs_fault l.fn.session.progress.decoder.pixel_limit l.session.progress.bytes ≡ None;
   counted : l.fed.consumed ≡ dcs_count l.session.progress.bytes;
+  within : l.fed.consumed ≤ length l.session.progress.bytes;
+  over : has_ended l.fed.status ≡ true → IsSameString l.fn.session.progress.decoder.pixel_limit l.session.progress.bytes l.bytes;
   known : l.fed.status ≡ dcs_status l.session.progress.bytes;
 }
 

@@ -1,46 +1,45 @@
-use Rattle.std.proofs.Common.{ap, sym, ◌∙◌, rules}
+use Rattle.std.proofs.Common.{ap, sym, ◌∙◌, arith, rules}
 use Rattle.std.proofs.lemmas.Result.{err_from_is_err_and}
-use Rattle.icy_sixel.specs.Dcs.{has_ended}
-use Rattle.icy_sixel.specs.ImageView.{image_value}
+use Rattle.sixel_base.specs.Dcs.{has_ended, IsSameString}
 use Rattle.sixel.proofs.Pieces.{pieces_begin}
-use Rattle.sixel.proofs.Stringing.{refused_at_end, ended_status, ended_count, ended_faultless, ended_image, ended_registers}
+use Rattle.sixel.proofs.Stringing.{Begins, begins_fits, refused_at_end, ended_faultless}
 use Rattle.sixel.proofs.strings.read_string.Goals as goal
 
 pub returns-in_err-image-clause-refused : goal.returns-in_err-image-clause-refused
 returns-in_err-image-clause-refused c =
     let p = err_from_is_err_and c.from_residual-in_err-image.result c.from_residual-in_err-image.ensures.1 in
     let s = c.in_ok-fed.ensures in
-    rw (p.1, p.2) (refused_at_end _ _ _ c.args.bytes.now s.pieces.enough c.requires.some s.faultless (rw s.accepts at c.in_err-image.ensures.error))
+    rw (p.1, p.2) (refused_at_end _ _ c.args.decoder.now.pixel_limit _ c.args.bytes.now s.pieces.enough c.requires.some (rw c.begin_dcs-session.ensures.session at s.faultless) (rw s.accepts at c.in_err-image.ensures.error))
+
+-- the bytes that were fed are the string that all begin with
+same : (c : goal.In_ok-image) → IsSameString c.args.decoder.now.pixel_limit c.feed_pieces.new.session.progress.bytes c.args.bytes.now
+same c = rw c.begin_dcs-session.ensures.session at (c.in_ok-fed.ensures.over (ap has_ended c.in_ok-fed.ensures.status ∙ c.in_ok-image.ensures.ended))
 
 pub returns-clause-image : goal.returns-clause-image
 returns-clause-image c =
     let s = c.in_ok-fed.ensures in
-    ended_image c.args.decoder.now _ c.args.bytes.now (image_value c.in_ok-image.image) (pieces_begin _ _ _ s.pieces) c.in_ok-image.ensures.ended
-    (rw (s.start, c.begin_dcs-session.ensures.session) at c.in_ok-image.ensures.image)
+    let begins : Begins _ c.args.bytes.now = pieces_begin _ _ _ s.pieces in
+    (rw (s.start, c.begin_dcs-session.ensures.session, begins.joined) at (c.in_ok-image.ensures.as_decoded begins.rest)).1
 
 pub returns-clause-registers : goal.returns-clause-registers
 returns-clause-registers c =
     let s = c.in_ok-fed.ensures in
-    let left = ended_registers c.args.decoder.now _ c.args.bytes.now c.finish.new.self.0 (pieces_begin _ _ _ s.pieces) c.in_ok-image.ensures.ended
-    (rw (s.start, c.begin_dcs-session.ensures.session) at c.in_ok-image.ensures.registers) in
+    let begins : Begins _ c.args.bytes.now = pieces_begin _ _ _ s.pieces in
+    let left = (rw (s.start, c.begin_dcs-session.ensures.session, begins.joined) at (c.in_ok-image.ensures.as_decoded begins.rest)).2 in
     search (rules, left)
 
 pub returns-clause-len : goal.returns-clause-len
-returns-clause-len c =
-    let s = c.in_ok-fed.ensures in
-    s.consumed ∙ ended_count _ c.args.bytes.now (pieces_begin _ _ _ s.pieces) c.in_ok-image.ensures.ended
+returns-clause-len c = c.in_ok-fed.ensures.consumed ∙ sym (same c).count
+
+pub returns-clause-within : goal.returns-clause-within
+returns-clause-within c = omega (arith, c.in_ok-fed.ensures.within, begins_fits _ c.args.bytes.now (pieces_begin _ _ _ c.in_ok-fed.ensures.pieces))
 
 pub returns-clause-status : goal.returns-clause-status
-returns-clause-status c =
-    let s = c.in_ok-fed.ensures in
-    s.status ∙ ended_status _ c.args.bytes.now (pieces_begin _ _ _ s.pieces) c.in_ok-image.ensures.ended
+returns-clause-status c = c.in_ok-fed.ensures.status ∙ sym (same c).status
 
 pub returns-clause-ended : goal.returns-clause-ended
-returns-clause-ended c =
-    let s = c.in_ok-fed.ensures in
-    ap has_ended (sym (ended_status _ c.args.bytes.now (pieces_begin _ _ _ s.pieces) c.in_ok-image.ensures.ended)) ∙ c.in_ok-image.ensures.ended
+returns-clause-ended c = ap has_ended (same c).status ∙ c.in_ok-image.ensures.ended
 
 pub returns-clause-faultless : goal.returns-clause-faultless
 returns-clause-faultless c =
-    let s = c.in_ok-fed.ensures in
-    ended_faultless _ c.args.bytes.now (pieces_begin _ _ _ s.pieces) c.requires.some c.in_ok-image.ensures.ended s.faultless
+    ended_faultless c.args.decoder.now.pixel_limit c.args.bytes.now c.requires.some (ap has_ended (same c).status ∙ c.in_ok-image.ensures.ended) ((same c).fault ∙ (rw c.begin_dcs-session.ensures.session at c.in_ok-fed.ensures.faultless))

@@ -1,10 +1,9 @@
 use Rattle.std.proofs.Common.{[], Ok, sym, ap, ◌∙◌, drop, arith}
 use Rattle.std.proofs.KnownBytes.{Appends-nil}
 use Rattle.std.proofs.lemmas.Result.{err_from_is_err_and}
-use Rattle.icy_sixel.specs.Dcs.{dcs_status}
+use Rattle.sixel_base.specs.Dcs.{dcs_status}
 use Rattle.icy_sixel.specs.ImageView.{image_value}
 use Rattle.sixel.specs.Strings.{Broken}
-use Rattle.icy_sixel.proofs.Playing.{dcs_count-fits}
 use Rattle.sixel.proofs.Counting.{complete_counts}
 use Rattle.sixel.proofs.Leading.{HasEnded, short_by, Serves-led, Serves-broken, writes_none, writes_last, leads_more}
 use Rattle.sixel.proofs.Stringing.{no_bytes}
@@ -21,7 +20,7 @@ returns-in_err-write_image g c =
     let p = err_from_is_err_and c.from_residual-in_err-write_image.result c.from_residual-in_err-write_image.ensures.1 in
     let s = c.in_ok-string.ensures in
     let string : HasEnded c.strings.decoder c.strings.rest.now (image_value c.in_ok-string.string.image) c.read_string.new.decoder =
-    record { ended = s.ended; faultless = s.faultless; shows = s.image; leaves = s.registers } in
+    record { ended = s.ended; faultless = s.faultless; shows = s.image; leaves = s.registers; set = s.set } in
     Serves-led c.from_residual-in_err-write_image.result _ _ c.strings.decoder c.strings.rest.now _ _ _ c.strings.invariant
     (rw (p.1, p.2) (Serves-broken (Unit {0}) _ _ _ _ _ _ _ string c.in_err-write_image.ensures))
 
@@ -29,13 +28,13 @@ pub returns-in_default : goal.returns-in_default
 returns-in_default g c =
     let s = c.in_ok-string.ensures in
     let string : HasEnded c.strings.decoder c.strings.rest.now (image_value c.in_ok-string.string.image) c.read_string.new.decoder =
-    record { ended = s.ended; faultless = s.faultless; shows = s.image; leaves = s.registers } in
+    record { ended = s.ended; faultless = s.faultless; shows = s.image; leaves = s.registers; set = s.set } in
     let short = short_by (dcs_status c.strings.rest.now) s.ended (λ e. c.in_default.not-Complete (s.status ∙ e)) in
     Serves-led {A = Unit {0}} (Ok tt) _ _ c.strings.decoder c.strings.rest.now _ _ _ c.strings.invariant
     (writes_last _ _ _ _ _ _ string short c.in_ok-write_image.ensures)
 
 pub split_at-requires : goal.split_at-requires
-split_at-requires g c = omega (arith, c.in_ok-string.ensures.len, dcs_count-fits c.strings.rest.now)
+split_at-requires g c = omega (arith, c.in_ok-string.ensures.within)
 
 pub strings-smaller : goal.strings-smaller
 strings-smaller g c =
@@ -46,7 +45,7 @@ pub strings-preserved : goal.strings-preserved
 strings-preserved g c =
     let s = c.in_ok-string.ensures in
     let string : HasEnded c.strings.decoder c.strings.rest.now (image_value c.in_ok-string.string.image) c.read_string.new.decoder =
-    record { ended = s.ended; faultless = s.faultless; shows = s.image; leaves = s.registers } in
+    record { ended = s.ended; faultless = s.faultless; shows = s.image; leaves = s.registers; set = s.set } in
     let follows = c.split_at.ensures.back ∙ ap (λ n. drop n c.strings.rest.now) s.len in
     leads_more _ _ _ _ _ _ _ _ _ _ string (sym s.status ∙ c.in-Complete.is) follows c.strings.invariant c.in_ok-write_image.ensures
 

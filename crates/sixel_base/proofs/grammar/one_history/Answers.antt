@@ -1,11 +1,9 @@
 use Rattle.std.proofs.Common.{sym, ◌∙◌}
-use Rattle.sixel_base.specs.Bytes.{front}
-use Rattle.sixel_base.specs.History.{history_of}
 use Rattle.sixel_base.proofs.Reading.{some_history, history_unique}
 use Rattle.sixel_base.proofs.grammar.one_history.Goals as goal
 
 pub returns-clause-some : goal.returns-clause-some
-returns-clause-some c = λ bytes. (history_of (front bytes), some_history bytes)
+returns-clause-some c = some_history
 
 pub returns-clause-only : goal.returns-clause-only
 returns-clause-only c = λ bytes g h is also. history_unique bytes g is ∙ sym (history_unique bytes h also)

@@ -1,6 +1,6 @@
 use Rattle.std.proofs.Common.{◌<◌, length, ◌∙◌, sym, ap, arith}
 use Rattle.std.proofs.lemmas.Grind.{pow_more}
-use Rattle.sixel_encoder.specs.Grid.{cell}
+use Rattle.sixel_encoder.specs.inside.Grid.{cell}
 use Rattle.sixel_encoder.proofs.Cells.{AreMarks-clear, AreMarks-same}
 use Rattle.sixel_encoder.proofs.Masks.{hits, mask-none, mask-lt, weight-le, mask-line, mask-below}
 use Rattle.sixel_encoder.proofs.band.fill_band.Goals as goal

@@ -1,7 +1,7 @@
 use Rattle.std.proofs.Common.{◌≡◌, ℕ, ◌+◌, ◌*◌, ◌^◌, ◌<◌, length}
 use Rattle.sixel_encoder.specs.Text.{is_entry, entry_at, mask}
-use Rattle.sixel_encoder.specs.Indexed.{drawing_of}
-use Rattle.sixel_encoder.specs.Grid.{cell, AreMarks}
+use Rattle.sixel_encoder.specs.inside.Indexed.{drawing_of}
+use Rattle.sixel_encoder.specs.inside.Grid.{cell, AreMarks}
 use Rattle.sixel_encoder.proofs.band.fill_band.Given as goal
 
 abbrev pub invariant-loop-bit : goal.invariant-loop-bit

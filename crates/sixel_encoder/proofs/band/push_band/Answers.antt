@@ -1,6 +1,6 @@
 use Rattle.std.proofs.Common.{◌<◌, length, false, set, string_bytes, refl, ap, sym, ◌∙◌, ◌++◌, arith}
 use Rattle.std.proofs.lemmas.List.{append-nil}
-use Rattle.sixel_encoder.specs.Grid.{grid_text}
+use Rattle.sixel_encoder.specs.inside.Grid.{grid_text}
 use Rattle.sixel_encoder.proofs.Joined.{joined-none}
 use Rattle.sixel_encoder.proofs.Progress.{progress-used, progress-unused, progress-same}
 use Rattle.sixel_encoder.proofs.band.push_band.Goals as goal

@@ -2,7 +2,7 @@ use Rattle.std.proofs.Common.{◌≡◌, string_bytes, String, Global}
 use Rattle.std.proofs.lemmas.Result.{IfOk-weaker}
 use Rattle.sixel_encoder.specs.declared.text.IndexedImage.{IndexedImage}
 use Rattle.sixel_encoder.specs.Text.{text_of}
-use Rattle.sixel_encoder.specs.Indexed.{drawing_of}
+use Rattle.sixel_encoder.specs.inside.Indexed.{drawing_of}
 use Rattle.sixel_encoder.proofs.Drawn.{IsDrawing-chosen}
 use Rattle.sixel_encoder.proofs.source.encode_chosen.Goals as goal
 

@@ -1,7 +1,7 @@
 use Rattle.std.proofs.Common.{ℕ, string_bytes, subst, sym, refl}
 use Rattle.sixel_encoder.specs.Text.{band_text}
-use Rattle.sixel_encoder.specs.Indexed.{drawing_of}
-use Rattle.sixel_encoder.specs.Grid.{AreClear}
+use Rattle.sixel_encoder.specs.inside.Indexed.{drawing_of}
+use Rattle.sixel_encoder.specs.inside.Grid.{AreClear}
 use Rattle.sixel_encoder.proofs.Dots.{appended-start, appended-more}
 use Rattle.sixel_encoder.proofs.text.push_bands_over.Goals as goal
 

@@ -1,8 +1,8 @@
 use Rattle.std.proofs.Common.{◌≡◌, ◌++◌, length, string_bytes}
 use Rattle.sixel_base.specs.Picture.{joined}
 use Rattle.sixel_encoder.specs.Text.{band_text}
-use Rattle.sixel_encoder.specs.Indexed.{drawing_of}
-use Rattle.sixel_encoder.specs.Grid.{AreClear}
+use Rattle.sixel_encoder.specs.inside.Indexed.{drawing_of}
+use Rattle.sixel_encoder.specs.inside.Grid.{AreClear}
 use Rattle.sixel_encoder.proofs.text.push_bands_over.Given as goal
 
 abbrev pub invariant-loop-band : goal.invariant-loop-band

@@ -2,8 +2,8 @@ use Rattle.std.proofs.Common.{◌≡◌, [], ◌∷◌, ◌++◌, length, string
 use Rattle.std.specs.Prelude.{encode_utf8}
 use Rattle.sixel_base.specs.Picture.{joined}
 use Rattle.sixel_encoder.specs.Text.{entry_text, band_text}
-use Rattle.sixel_encoder.specs.Indexed.{drawing_of}
-use Rattle.sixel_encoder.specs.Grid.{grid_text}
+use Rattle.sixel_encoder.specs.inside.Indexed.{drawing_of}
+use Rattle.sixel_encoder.specs.inside.Grid.{grid_text}
 use Rattle.sixel_encoder.proofs.Masks.{hits, mask-lt}
 use Rattle.sixel_encoder.proofs.Ok.{OnOk-pushed}
 use Rattle.sixel_encoder.proofs.Dots.{joined-band}

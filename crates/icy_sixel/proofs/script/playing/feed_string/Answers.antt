@@ -1,8 +1,9 @@
 use Rattle.std.proofs.Common.{◌≡◌, ◌+◌, ◌≤◌, ◌++◌, length, arith, ap, sym, ◌∙◌, length-append, rules}
 use Rattle.std.proofs.lemmas.Grind.{common_steps}
 use Rattle.std.proofs.lemmas.Result.{err_from_is_err_and}
-use Rattle.icy_sixel.specs.Dcs.{has_ended}
-use Rattle.icy_sixel.proofs.Playing.{SameString, string_whole, string_refused, dcs_count-fits}
+use Rattle.sixel_base.specs.Dcs.{has_ended}
+use Rattle.sixel_decoder.proofs.Answering.{dcs_count-fits}
+use Rattle.icy_sixel.proofs.Playing.{SameString, string_whole, string_refused}
 use Rattle.icy_sixel.proofs.script.playing.feed_string.Goals as goal
 
 pub overflow_add-consumed : goal.overflow_add-consumed
@@ -23,18 +24,18 @@ pub returns-in_err-fed-clause-error : goal.returns-in_err-fed-clause-error
 returns-in_err-fed-clause-error c =
     let joined : c.feed.new.self.progress.bytes ++ c.split_piece.result.1.now ≡ c.args.bytes.now = grind (arith, common_steps) in
     let p = err_from_is_err_and c.from_residual.result c.from_residual.ensures.1 in
-    rw (p.1, p.2) (string_refused _ c.feed.new.self.progress.bytes _ _ _ joined (rw c.loop-cut.invariant.accepted at c.in_err-fed.ensures.error))
+    rw (p.1, p.2) (string_refused _ _ c.feed.new.self.progress.bytes _ _ _ joined (rw (c.loop-cut.invariant.accepted, c.loop-cut.invariant.start) at c.in_err-fed.ensures.error))
 
-same : (c : goal.Then-has_ended) → SameString c.feed.new.self.progress.bytes c.args.bytes.now
+same : (c : goal.Then-has_ended) → SameString c.args.session.now.progress.decoder.pixel_limit c.feed.new.self.progress.bytes c.args.bytes.now
 same c =
     let joined : c.feed.new.self.progress.bytes ++ c.split_piece.result.1.now ≡ c.args.bytes.now = grind (arith, common_steps) in
-    string_whole c.feed.new.self.progress.bytes _ _ joined (ap has_ended (sym c.in_ok-fed.ensures.status) ∙ (sym c.has_ended.ensures ∙ c.if-has_ended.true))
+    string_whole _ c.feed.new.self.progress.bytes _ _ joined (ap has_ended (sym c.in_ok-fed.ensures.status) ∙ (sym c.has_ended.ensures ∙ c.if-has_ended.true))
 
 pub returns-then-has_ended-clause-whole : goal.returns-then-has_ended-clause-whole
 returns-then-has_ended-clause-whole c = (same c).whole
 
 pub returns-then-has_ended-clause-faultless : goal.returns-then-has_ended-clause-faultless
-returns-then-has_ended-clause-faultless c = sym (same c).fault ∙ c.in_ok-fed.ensures.faultless
+returns-then-has_ended-clause-faultless c = sym (same c).fault ∙ (rw c.loop-cut.invariant.start at c.in_ok-fed.ensures.faultless)
 
 pub returns-then-has_ended-clause-consumed : goal.returns-then-has_ended-clause-consumed
 returns-then-has_ended-clause-consumed c = omega (arith, (same c).counted, c.in_ok-fed.ensures.consumed)

@@ -1,6 +1,6 @@
 use Rattle.std.proofs.Common.{ap, arith}
 use Rattle.sixel_base.proofs.KeptFields.{Keeps-push_digit_kept, Keeps-push_digit_dropped}
-use Rattle.sixel_base.specs.Parameters.{Parameters}
+use Rattle.sixel_base.specs.inside.Parameters.{Parameters}
 use Rattle.sixel_base.proofs.parameters.Parameters.push_digit.Goals as goal
 use Rattle.sixel_base.proofs.parameters.Parameters.push_digit.Goals.{then-last-lt-KEPT_FIELDS, else-last-lt-KEPT_FIELDS}
 

@@ -1,8 +1,0 @@
-use Rattle.std.proofs.lemmas.Result.{err_from_is_err_and}
-use Rattle.icy_sixel.proofs.Feeding.{payload_refused}
-use Rattle.icy_sixel.proofs.decoder.SixelDecoder.decode_from_dcs.Goals as goal
-
-pub returns-in_err-feed-clause-refused : goal.returns-in_err-feed-clause-refused
-returns-in_err-feed-clause-refused c =
-    let p = err_from_is_err_and c.from_residual.result c.from_residual.ensures.1 in
-    rw (p.1, p.2) (payload_refused _ c.args.bytes.now (c.in_err-feed.ensures _ _ c.new-frame.ensures.stands))

@@ -1,5 +1,0 @@
-use Rattle.icy_sixel.proofs.Framing.{stands_skip}
-use Rattle.icy_sixel.proofs.decoder.frame.Frame.begin.Goals as goal
-
-pub returns-in-Skip : goal.returns-in-Skip
-returns-in-Skip c = λ o h shows. stands_skip o c.args.self.now h c.args.byte c.requires c.in-Skip.ensures shows

@@ -1,5 +1,0 @@
-use Rattle.icy_sixel.proofs.Heading.{ReadsHeader}
-use Rattle.icy_sixel.proofs.header.read_header.Given as goal
-
-abbrev pub invariant-header : goal.invariant-header
-invariant-header l = ReadsHeader l.header.parameters l.index l.bytes

@@ -1,8 +1,0 @@
-use Rattle.icy_sixel.proofs.TripRounding.{percent-byte_of, rounded-rounded}
-use Rattle.icy_sixel.proofs.laws.rounding.Goals as goal
-
-pub returns-clause-percentages : goal.returns-clause-percentages
-returns-clause-percentages c = λ p h. percent-byte_of p h
-
-pub returns-clause-bytes : goal.returns-clause-bytes
-returns-clause-bytes c = λ channel. rounded-rounded channel

@@ -1,0 +1,118 @@
+-- What contracts see of a decoder that owns the image it is receiving: the decoder, and the image that is open. What the bytes of an image
+-- mean is told by the words of both sessions, of a payload's and of a control string's; how the bytes were cut occurs nowhere in it.
+use Rattle.std.specs.Prelude.{ℕ, Bool, true, false, List, [], Option, Some, None, is_none}
+use Rattle.sixel_base.specs.Bytes.{first_terminator}
+use Rattle.sixel_base.specs.Fault.{Fault, StreamFailed, DcsStreamFailed}
+use Rattle.sixel_base.specs.Payload.{fed_fault, payload_fault, settled}
+use Rattle.sixel_base.specs.Bytes as own
+use Rattle.sixel_base.specs.Payload as payloads
+use Rattle.sixel_base.specs.Decoder.{new_decoder}
+use Rattle.sixel_base.specs.declared.state.DecoderState.{DecoderState}
+use Rattle.sixel_base.specs.Settings.{Settings}
+use Rattle.sixel_base.specs.declared.status.SixelFeedStatus.TheVariants.{NeedMoreData}
+use Rattle.icy_sixel.specs.declared.script.Status.{Status}
+use Rattle.icy_sixel.specs.declared.script.Status.TheVariants as statuses
+use Rattle.sixel_base.specs.Dcs.{dcs_count, dcs_status, dcs_fault, dcs_growths, dcs_reached_area, dcs_in_payload, dcs_size, has_ended}
+use Rattle.sixel_base.specs.Dcs as strings
+use Rattle.sixel_base.specs.Status.{status_of}
+use Rattle.sixel_base.specs.OneShot.{Found, Payload, NoPayload}
+use Rattle.sixel_base.specs.OneShot as one_shot
+use Rattle.sixel_base.specs.Reach as reach
+
+-- what is received: nothing, a payload that is read with these settings, or a control string
+pub data Form : Type 0 where
+  Nothing : Form
+  OfPayload : Settings → Form
+  OfString : Form
+
+-- The image that is open: its form, what the decoder kept that it began from, the bytes that it was fed, whether a feed was refused,
+-- and how many pixels were written to grow its canvas.
+pub record Reception : Type 0 where
+  pub form : Form
+  pub start : DecoderState
+  pub bytes : List ℕ
+  pub is_refused : Bool
+  pub writes : ℕ
+
+-- a decoder, and the image that it is receiving
+pub record Receiver : Type 0 where
+  pub decoder : DecoderState
+  pub image : Reception
+
+-- where none is open, all is refused
+abbrev pub no_image : Reception
+no_image = record { form = Nothing; start = new_decoder; bytes = []; is_refused = true; writes = 0 }
+
+-- an image that was fed nothing
+abbrev pub begun : Form → DecoderState → Reception
+begun form decoder = record { form = form; start = decoder; bytes = []; is_refused = false; writes = 0 }
+
+abbrev pub is_open : Form → Bool
+is_open Nothing = false
+is_open form = true
+
+-- how many bytes are the image's own
+abbrev pub count : Form → List ℕ → ℕ
+count Nothing bytes = 0
+count (OfPayload settings) bytes = own.count bytes
+count OfString bytes = dcs_count bytes
+
+-- how it stands
+abbrev pub status : Form → List ℕ → Status
+status Nothing bytes = statuses.Payload NeedMoreData
+status (OfPayload settings) bytes = statuses.Payload (status_of (first_terminator bytes))
+status OfString bytes = statuses.Dcs (dcs_status bytes)
+
+-- what is wrong with the bytes so far
+abbrev pub fault : ℕ → Form → List ℕ → Option Fault
+fault limit Nothing bytes = None
+fault limit (OfPayload settings) bytes = fed_fault limit bytes
+fault limit OfString bytes = dcs_fault limit bytes
+
+-- how many closed sixels and raster attributes there are
+abbrev pub growths : Form → List ℕ → ℕ
+growths Nothing bytes = 0
+growths (OfPayload settings) bytes = payloads.growths (settled bytes)
+growths OfString bytes = dcs_growths bytes
+
+-- how far the closed sixels reach
+abbrev pub reached_area : Form → List ℕ → ℕ
+reached_area Nothing bytes = 0
+reached_area (OfPayload settings) bytes = reach.reached_area (settled bytes)
+reached_area OfString bytes = dcs_reached_area bytes
+
+-- whether the payload has begun
+abbrev pub in_payload : Form → List ℕ → Bool
+in_payload Nothing bytes = false
+in_payload (OfPayload settings) bytes = true
+in_payload OfString bytes = dcs_in_payload bytes
+
+-- the width and the height that the picture has so far
+abbrev pub size : Form → List ℕ → Option (ℕ × ℕ)
+size Nothing bytes = None
+size (OfPayload settings) bytes = Some (reach.size (settled bytes))
+size OfString bytes = dcs_size bytes
+
+-- the payload that is drawn
+abbrev pub found : Form → List ℕ → Found
+found Nothing bytes = NoPayload StreamFailed
+found (OfPayload settings) bytes = Payload settings bytes
+found OfString bytes = one_shot.found bytes
+
+-- what its image is refused for, where no feed was
+abbrev pub end_fault : ℕ → Form → List ℕ → Option Fault
+end_fault limit Nothing bytes = Some StreamFailed
+end_fault limit (OfPayload settings) bytes = payload_fault limit bytes
+end_fault limit OfString bytes = strings.end_fault (dcs_status bytes)
+
+-- whether its image may want memory
+abbrev pub end_wants : ℕ → Form → List ℕ → Bool
+end_wants limit Nothing bytes = false
+end_wants limit (OfPayload settings) bytes = is_none (payload_fault limit bytes)
+end_wants limit OfString bytes = has_ended (dcs_status bytes)
+
+-- the answer of each call after a refusal
+abbrev pub failed : Form → Fault
+failed Nothing = StreamFailed
+failed (OfPayload settings) = StreamFailed
+failed OfString = DcsStreamFailed

@@ -1,0 +1,2 @@
+-- Words that hold inside the code alone.
+pub mod Handle

@@ -1,0 +1,142 @@
+//! What C calls to begin an image, to feed it and to give it up.
+
+ghost use Rattle.std.specs.Prelude.{◌≡◌, ◌+◌, ◌≤◌, ◌++◌, Some, None, is_some, true, length};
+ghost use Rattle.sixel_base.specs.Decoder.{new_decoder};
+ghost use Rattle.icy_sixel.specs.Receiver.{OfString, begun, no_image, is_open};
+ghost use Rattle.icy_sixel.specs.Receiver.{count, status, fault};
+ghost use Rattle.icysixel_c.specs.Code.{status_code as code_of_status};
+ghost use Rattle.icysixel_c.specs.Code.{status_byte as byte_of_status};
+ghost use Rattle.icysixel_c.specs.declared.state.State.{State};
+
+use crate::code::{DONE, NO_HANDLE, OUT_OF_MEMORY, code_of, status_byte, status_code};
+use crate::slot::Slot;
+use crate::state::State;
+use icy_sixel::receiver::SixelReceiver;
+use std::alloc::Global;
+
+/// What a feed did: how many bytes are the image's own, how it stands, and the control that ended
+/// it.
+#[repr(C)]
+#[derive(Clone, Copy, Debug, PartialEq, Eq)]
+pub struct Fed {
+    pub consumed: usize,
+    pub status: u32,
+    pub byte: u8,
+}
+
+/// Makes the handle lead to a new decoder; what it led to is freed.
+#[unsafe(no_mangle)]
+pub extern "C" fn icysixel_new(alloc: Global, slot: &mut Slot) -> u32
+    ensures codes { (result ≡ 0 → ⊥) → result ≡ 2 }
+    ensures held { result ≡ 0 → is_some slot.new.handle.state ≡ true }
+    ensures made { (state : State) → slot.new.handle.state ≡ Some state
+        → state.receiver ≡ record { decoder = new_decoder; image = no_image } }
+    ensures refused { result ≡ 2 → slot.new.handle.state ≡ None }
+{
+    let _former = slot.take(alloc);
+    let state = State {
+        receiver: SixelReceiver::new(),
+        image: None,
+    };
+    match Box::new(alloc, state) {
+        Ok(state) => {
+            slot.put(state);
+            DONE
+        }
+        Err(_) => OUT_OF_MEMORY,
+    }
+}
+
+/// Frees what the handle leads to, if it leads to anything.
+#[unsafe(no_mangle)]
+pub extern "C" fn icysixel_free(alloc: Global, slot: &mut Slot)
+    ensures { slot.new.handle.state ≡ None }
+{
+    let _former = slot.take(alloc);
+}
+
+/// Begins a control string. An image that is open is given up.
+#[unsafe(no_mangle)]
+pub extern "C" fn icysixel_begin(alloc: Global, slot: &mut Slot) -> u32
+    ensures held { is_some slot.new.handle.state ≡ is_some slot.old.handle.state }
+    ensures none { slot.old.handle.state ≡ None → result ≡ 1 }
+    ensures done { is_some slot.old.handle.state ≡ true → result ≡ 0 }
+    ensures decoder { (before after : State) → slot.old.handle.state ≡ Some before
+        → slot.new.handle.state ≡ Some after
+        → after.receiver.decoder ≡ before.receiver.decoder }
+    ensures image { (before after : State) → slot.old.handle.state ≡ Some before
+        → slot.new.handle.state ≡ Some after
+        → after.receiver.image ≡ begun OfString before.receiver.decoder }
+{
+    let Some(mut state) = slot.take(alloc) else {
+        return NO_HANDLE;
+    };
+    state.receiver.begin_dcs(alloc);
+    slot.put(state);
+    DONE
+}
+
+/// Reads a piece of the image that is open, and tells what it did where the answer is 0.
+#[unsafe(no_mangle)]
+pub extern "C" fn icysixel_feed(alloc: Global, slot: &mut Slot, piece: &[u8], fed: &mut Fed) -> u32
+    ensures held { is_some slot.new.handle.state ≡ is_some slot.old.handle.state }
+    ensures none { slot.old.handle.state ≡ None → result ≡ 1 }
+    ensures decoder { (before after : State) → slot.old.handle.state ≡ Some before
+        → slot.new.handle.state ≡ Some after
+        → after.receiver.decoder ≡ before.receiver.decoder }
+    ensures bytes { (before after : State) → slot.old.handle.state ≡ Some before
+        → slot.new.handle.state ≡ Some after → is_open before.receiver.image.form ≡ true
+        → after.receiver.image.bytes ≡ before.receiver.image.bytes ++ piece.now }
+    ensures faultless { (before after : State) → slot.old.handle.state ≡ Some before
+        → slot.new.handle.state ≡ Some after → result ≡ 0
+        → fault before.receiver.image.start.pixel_limit after.receiver.image.form
+        after.receiver.image.bytes ≡ None }
+    ensures consumed { (before after : State) → slot.old.handle.state ≡ Some before
+        → slot.new.handle.state ≡ Some after → result ≡ 0
+        → count before.receiver.image.form before.receiver.image.bytes + fed.new.consumed
+        ≡ count after.receiver.image.form after.receiver.image.bytes }
+    ensures within { result ≡ 0 → fed.new.consumed ≤ length piece.now }
+    ensures status { (after : State) → slot.new.handle.state ≡ Some after → result ≡ 0
+        → fed.new.status
+        ≡ code_of_status (status after.receiver.image.form after.receiver.image.bytes) }
+    ensures byte { (after : State) → slot.new.handle.state ≡ Some after → result ≡ 0
+        → fed.new.byte
+        ≡ byte_of_status (status after.receiver.image.form after.receiver.image.bytes) }
+{
+    let Some(mut state) = slot.take(alloc) else {
+        return NO_HANDLE;
+    };
+    let answer = state.receiver.feed(piece);
+    slot.put(state);
+    match answer {
+        Ok(received) => {
+            *fed = Fed {
+                consumed: received.consumed,
+                status: status_code(received.status),
+                byte: status_byte(received.status),
+            };
+            DONE
+        }
+        Err(error) => code_of(&error),
+    }
+}
+
+/// Gives up the image that is open, if one is.
+#[unsafe(no_mangle)]
+pub extern "C" fn icysixel_abort(alloc: Global, slot: &mut Slot) -> u32
+    ensures held { is_some slot.new.handle.state ≡ is_some slot.old.handle.state }
+    ensures none { slot.old.handle.state ≡ None → result ≡ 1 }
+    ensures done { is_some slot.old.handle.state ≡ true → result ≡ 0 }
+    ensures decoder { (before after : State) → slot.old.handle.state ≡ Some before
+        → slot.new.handle.state ≡ Some after
+        → after.receiver.decoder ≡ before.receiver.decoder }
+    ensures closed { (before after : State) → slot.old.handle.state ≡ Some before
+        → slot.new.handle.state ≡ Some after → after.receiver.image ≡ no_image }
+{
+    let Some(mut state) = slot.take(alloc) else {
+        return NO_HANDLE;
+    };
+    state.receiver.abort();
+    slot.put(state);
+    DONE
+}

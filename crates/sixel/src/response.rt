@@ -1,0 +1,79 @@
+//! What the program answers to its words and its input, and the exit status of each answer.
+
+ghost use Rattle.std.specs.Prelude.{◌≡◌, IfSome};
+ghost use Rattle.std.specs.Io.KnownBytes.{Keeps};
+ghost use Rattle.sixel_base.specs.declared.error.SixelError.{SixelError};
+ghost use Rattle.sixel.specs.declared.fault.Fault.TheVariants.{Sixel, Input, Output};
+ghost use Rattle.sixel.specs.declared.response.Response.TheVariants.{Done, Usage, Failed};
+ghost use Rattle.sixel.specs.declared.words.Word.{Word};
+ghost use Rattle.sixel.specs.Ending.{Done as Whole, Refused};
+ghost use Rattle.sixel.specs.Words.{IsAskedBy, words_of};
+ghost use Rattle.sixel.specs.Answer.{IsAnswer, Writes, Begins};
+
+use crate::engine::serve;
+use crate::fault::Fault;
+use crate::words::asked;
+use std::alloc::Global;
+use std::io::{Read, Write};
+
+/// How the program ends.
+#[derive(Debug, PartialEq, Eq, Drop)]
+pub enum Response {
+    /// What the words ask for is done.
+    Done,
+    /// The words ask for nothing that the program does.
+    Usage,
+    /// It stops before its end.
+    Failed(Fault),
+}
+
+impl Response {
+    /// The exit status that says so: 0, 2 and 1.
+    pub fn status(&self) -> u8
+        ensures done { self.now ≡ Done → result ≡ 0 }
+        ensures usage { self.now ≡ Usage → result ≡ 2 }
+        ensures failed { (fault : Fault) → self.now ≡ Failed fault → result ≡ 1 }
+    {
+        match self {
+            Self::Done => 0,
+            Self::Usage => 2,
+            Self::Failed(_) => 1,
+        }
+    }
+}
+
+/// Does what the words after the program's own name ask for. Where they ask for nothing that it
+/// does, it reads and writes nothing.
+///
+/// The clauses on bytes hold where the reader tells what it has left and the writer what it holds.
+pub fn respond<R: Read, O: Write>(
+    alloc: Global,
+    words: &[String],
+    input: &mut R,
+    output: &mut O,
+) -> Response
+    ensures usage { result ≡ Usage → (asked : Word) → ¬ IsAskedBy (words_of words.now) asked }
+    ensures untouched { result ≡ Usage
+        → (output.new ≡ output.old) × (input.new ≡ input.old) }
+    ensures done { result ≡ Done → IfSome (R.remaining input.old) (λ bytes.
+        (asked : Word) × IsAskedBy (words_of words.now) asked
+        × Writes (λ text. IsAnswer asked bytes text Whole)
+        (O.contents output.old) (O.contents output.new)) }
+    ensures refused { (error : SixelError) → result ≡ Failed (Sixel error)
+        → IfSome (R.remaining input.old) (λ bytes.
+        (asked : Word) × IsAskedBy (words_of words.now) asked
+        × Writes (λ text. IsAnswer asked bytes text (Refused error))
+        (O.contents output.old) (O.contents output.new)) }
+    ensures unread { result ≡ Failed Input → Keeps (O.contents output.old) (O.contents output.new) }
+    ensures unwritten { result ≡ Failed Output → IfSome (R.remaining input.old) (λ bytes.
+        (asked : Word) × IsAskedBy (words_of words.now) asked
+        × Writes (Begins (IsAnswer asked bytes)) (O.contents output.old) (O.contents output.new)) }
+{
+    let Some(word) = asked(words) else {
+        return Response::Usage;
+    };
+    match serve(alloc, word, input, output) {
+        Ok(()) => Response::Done,
+        Err(fault) => Response::Failed(fault),
+    }
+}

@@ -1,0 +1,7 @@
+pub mod Mixing
+pub mod Pixels
+pub mod RowStates
+pub mod Spans
+pub mod Strokes
+pub mod Totals
+pub mod Underway

@@ -1,0 +1,41 @@
+use Rattle.std.proofs.Common.{◌≡◌, ℕ, ◌+◌, ◌-◌, ◌≤◌, List, ◌++◌, length, replicate, ap, ◌∙◌, inl, inr, length-append, arith}
+use Rattle.std.proofs.lemmas.Bool.{cases_lt, lt-ltb, le-ltb}
+use Rattle.std.proofs.lemmas.List.{length-replicate}
+use Rattle.sixel_canvas.specs.Row.{RowState, IsThrifty, row_state, reached_to, room_for, writes_for}
+
+-- how many pixels a row has that was grown
+pub length-reached_to : (columns : ℕ) (row : RowState) → length (reached_to columns row).pixels ≡ length row.pixels + (columns - length row.pixels)
+length-reached_to columns row =
+    length-append row.pixels (replicate (columns - length row.pixels) row.background)
+    ∙ ap (λ n. length row.pixels + n) (length-replicate (columns - length row.pixels) row.background)
+
+-- a row stays thrifty as it grows
+pub IsThrifty-reached_to : (columns : ℕ) (row : RowState) → columns ≤ 1000000 → IsThrifty row → IsThrifty (reached_to columns row)
+IsThrifty-reached_to columns row side thrifty =
+    let long = length-reached_to columns row in
+    elim (cases_lt row.room columns) [
+      | inl short ↦
+          let test = lt-ltb row.room columns short in
+          record {
+            held = rw test (omega arith);
+            room_at_most = rw test (omega arith);
+            side = rw test (omega arith);
+            at_least = rw test (omega arith);
+            at_most = rw test (omega arith);
+            growing = rw test (omega arith);
+          }
+      | inr enough ↦
+          let test = le-ltb row.room columns enough in
+          record {
+            held = rw test (omega arith);
+            room_at_most = rw test (omega arith);
+            side = rw test (omega arith);
+            at_least = rw test (omega arith);
+            at_most = rw test (omega arith);
+            growing = rw test (omega arith);
+          }
+    ]
+
+-- the row that is stored once background was added, room was made and the writes were counted
+pub row_state-reached_to : (background : List ℕ) (pixels pixels' : List (List ℕ)) (room room' writes written columns : ℕ) → pixels' ≡ pixels ++ replicate (columns - length pixels) background → room' ≡ room_for columns room → written ≡ writes_for columns (row_state background pixels room writes) → row_state background pixels' room' (writes + written) ≡ reached_to columns (row_state background pixels room writes)
+row_state-reached_to background pixels pixels' room room' writes written columns grown made counted = cc

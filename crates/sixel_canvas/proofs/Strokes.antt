@@ -1,0 +1,128 @@
+use Rattle.std.proofs.Common.{◌≡◌, ◌≢◌, ℕ, zero, suc, ◌+◌, ◌-◌, ◌<◌, ◌≤◌, Bool, true, false, ◌&&◌, max, List, [], ◌∷◌, ◌++◌, length, get_or, take, drop, replicate, refl, sym, ap, ◌∙◌, inl, inr, length-append, length-take, length-drop, get_or-take, get_or-drop, arith}
+use Rattle.std.specs.Prelude.{nat_lt, nat_le, if◌then◌else◌}
+use Rattle.std.proofs.lemmas.Bool.{cases_lt, cases_order, lt-ltb, le-ltb, lt-leb, le-leb}
+use Rattle.std.proofs.lemmas.List.{length-replicate, get_or-replicate, get_or-append_right, get_or_append_left}
+use Rattle.sixel_canvas.specs.Row.{RowState, painted, reached_to}
+use Rattle.sixel_canvas.proofs.RowStates.{length-reached_to}
+
+-- a row that was grown, and painted from this column up to before that one
+abbrev pub struck_row : ℕ → ℕ → List ℕ → RowState → RowState
+struck_row from to color row = painted from to color (reached_to to row)
+
+-- how many pixels it holds
+pub length-struck_row : (from to : ℕ) (color : List ℕ) (row : RowState) → from ≤ to → length (struck_row from to color row).pixels ≡ max (length row.pixels) to
+length-struck_row from to color row order =
+    let pixels = (reached_to to row).pixels in
+    let front = take from pixels in
+    let middle = replicate (to - from) color in
+    omega (arith, length-append (front ++ middle) (drop to pixels), length-append front middle, length-take from pixels, length-drop to pixels, length-replicate (to - from) color, length-reached_to to row)
+
+-- any place of a list of one value, and past its end
+get_or-replicate_same : {X : Type 0} (n i : ℕ) (x : X) → get_or (replicate n x) i x ≡ x
+get_or-replicate_same zero i x = refl
+get_or-replicate_same (suc n) zero x = refl
+get_or-replicate_same (suc n) (suc i) x = get_or-replicate_same n i x
+
+-- the default, appended, changes nothing
+pub get_or-append_replicate : {X : Type 0} (xs : List X) (n i : ℕ) (x : X) → get_or (xs ++ replicate n x) i x ≡ get_or xs i x
+get_or-append_replicate [] n i x = get_or-replicate_same n i x
+get_or-append_replicate (y ∷ ys) n zero x = refl
+get_or-append_replicate (y ∷ ys) n (suc i) x = get_or-append_replicate ys n i x
+
+-- a pixel of the row once it was painted
+get_or-painted : (from to : ℕ) (color : List ℕ) (row : RowState) (column : ℕ) (d : List ℕ) → from ≤ to → to ≤ length row.pixels → get_or (painted from to color row).pixels column d ≡ (if nat_le from column && nat_lt column to then color else get_or row.pixels column d)
+get_or-painted from to color row column d order held =
+    let pixels = row.pixels in
+    let front = take from pixels in
+    let middle = replicate (to - from) color in
+    let back = drop to pixels in
+    let long : length front ≡ from = omega (arith, length-take from pixels) in
+    let wide : length (front ++ middle) ≡ to = omega (arith, length-append front middle, length-replicate (to - from) color) in
+    elim (cases_lt column from) [
+      | inl left ↦
+          rw (lt-leb from column left)
+          (get_or_append_left (front ++ middle) back d column (omega arith) ∙ get_or_append_left front middle d column (omega arith) ∙ get_or-take from pixels column d left)
+      | inr begun ↦ elim (cases_lt column to) [
+        | inl inside ↦
+            rw (le-leb from column begun, lt-ltb column to inside)
+            (get_or_append_left (front ++ middle) back d column (omega arith) ∙ get_or-append_right front middle from column d long begun ∙ get_or-replicate (to - from) (column - from) color d (omega arith))
+        | inr right ↦
+            rw (le-leb from column begun, le-ltb column to right)
+            (get_or-append_right (front ++ middle) back to column d wide right ∙ get_or-drop to pixels (column - to) d ∙ ap (λ k. get_or pixels k d) (omega arith))
+      ]
+    ]
+
+-- a pixel of the row once it was grown and painted
+get_or-struck_row : (from to : ℕ) (color background : List ℕ) (row : RowState) (column : ℕ) → from ≤ to → row.background ≡ background → get_or (struck_row from to color row).pixels column background ≡ (if nat_le from column && nat_lt column to then color else get_or row.pixels column background)
+get_or-struck_row from to color background row column order over =
+    let added = to - length row.pixels in
+    let grown : get_or (row.pixels ++ replicate added row.background) column background ≡ get_or row.pixels column background =
+    rw over (get_or-append_replicate row.pixels added column background) in
+    get_or-painted from to color (reached_to to row) column background order (omega (arith, length-reached_to to row))
+    ∙ ap (λ p. if nat_le from column && nat_lt column to then color else p) grown
+
+-- a choice that two tests decide
+if_and : (inside hit : Bool) (x y : List ℕ) → (if inside && hit then x else y) ≡ (if hit then (if inside then x else y) else y)
+if_and true true x y = refl
+if_and true false x y = refl
+if_and false true x y = refl
+if_and false false x y = refl
+
+-- what a row shows that may have been struck
+pub shown-struck : (from to : ℕ) (color background : List ℕ) (hit : Bool) (old new : RowState) (column : ℕ) → from ≤ to → old.background ≡ background → new ≡ (if hit then struck_row from to color old else old) → get_or new.pixels column background ≡ (if nat_le from column && nat_lt column to && hit then color else get_or old.pixels column background)
+shown-struck from to color background true old new column order over is =
+    ap (λ (r : RowState). get_or r.pixels column background) is
+    ∙ get_or-struck_row from to color background old column order over
+    ∙ sym (if_and (nat_le from column && nat_lt column to) true color (get_or old.pixels column background))
+shown-struck from to color background false old new column order over is =
+    ap (λ (r : RowState). get_or r.pixels column background) is
+    ∙ sym (if_and (nat_le from column && nat_lt column to) false color (get_or old.pixels column background))
+
+-- how many pixels a row holds that may have been struck
+pub reached-struck : (from to : ℕ) (color : List ℕ) (hit : Bool) (old new : RowState) → from ≤ to → new ≡ (if hit then struck_row from to color old else old) → length new.pixels ≡ (if hit then max (length old.pixels) to else length old.pixels)
+reached-struck from to color true old new order is = ap (λ (r : RowState). length r.pixels) is ∙ length-struck_row from to color old order
+reached-struck from to color false old new order is = ap (λ (r : RowState). length r.pixels) is
+
+-- some of the rows above n are struck, each in a way of its own
+abbrev pub IsStruckAbove : (ℕ → RowState → RowState) → (ℕ → Bool) → ℕ → (ℕ → RowState) → (ℕ → RowState) → Type 0
+IsStruckAbove stroke struck n before after = (row : ℕ) → after row ≡ (if nat_lt row n && struck row then stroke row (before row) else before row)
+
+-- where none was struck so far
+pub struck_none : (stroke : ℕ → RowState → RowState) (struck : ℕ → Bool) (n : ℕ) (before after : ℕ → RowState) → ((row : ℕ) → row < n → struck row ≡ false) → ((row : ℕ) → after row ≡ before row) → IsStruckAbove stroke struck n before after
+struck_none stroke struck n before after none same row =
+    elim (cases_lt row n) [
+      | inl below ↦ rw (lt-ltb row n below, none row below) (same row)
+      | inr from ↦ rw (le-ltb row n from) (same row)
+    ]
+
+-- the next row is struck
+pub struck_more : (stroke : ℕ → RowState → RowState) (struck : ℕ → Bool) (n : ℕ) (before after next : ℕ → RowState) → IsStruckAbove stroke struck n before after → struck n ≡ true → next n ≡ stroke n (after n) → ((row : ℕ) → row ≢ n → next row ≡ after row) → IsStruckAbove stroke struck (n + 1) before next
+struck_more stroke struck n before after next above hit at others row =
+    elim (cases_order row n) [
+      | inl same ↦
+          let here : next n ≡ stroke n (before n) = at ∙ ap (stroke n) (rw (le-ltb n n (omega arith)) at (above n)) in
+          rw (lt-ltb row (n + 1) (omega arith), ap struck same ∙ hit) (ap next same ∙ here ∙ ap (λ k. stroke k (before k)) (sym same))
+      | inr apart ↦ elim apart [
+        | inl below ↦ rw (lt-ltb row (n + 1) (omega arith)) (others row (omega arith) ∙ rw (lt-ltb row n below) at (above row))
+        | inr past ↦ rw (le-ltb row (n + 1) (omega arith)) (others row (omega arith) ∙ rw (le-ltb row n (omega arith)) at (above row))
+      ]
+    ]
+
+-- the next row is left alone
+pub struck_skip : (stroke : ℕ → RowState → RowState) (struck : ℕ → Bool) (n : ℕ) (before after : ℕ → RowState) → IsStruckAbove stroke struck n before after → struck n ≡ false → IsStruckAbove stroke struck (n + 1) before after
+struck_skip stroke struck n before after above miss row =
+    elim (cases_order row n) [
+      | inl same ↦ rw (lt-ltb row (n + 1) (omega arith), ap struck same ∙ miss) (rw (le-ltb row n (omega arith)) at (above row))
+      | inr apart ↦ elim apart [
+        | inl below ↦ rw (lt-ltb row (n + 1) (omega arith)) (rw (lt-ltb row n below) at (above row))
+        | inr past ↦ rw (le-ltb row (n + 1) (omega arith)) (rw (le-ltb row n (omega arith)) at (above row))
+      ]
+    ]
+
+-- where none is left to be struck
+pub struck_all : (stroke : ℕ → RowState → RowState) (struck : ℕ → Bool) (n : ℕ) (before after : ℕ → RowState) → IsStruckAbove stroke struck n before after → ((row : ℕ) → n ≤ row → struck row ≡ false) → (row : ℕ) → after row ≡ (if struck row then stroke row (before row) else before row)
+struck_all stroke struck n before after above rest row =
+    elim (cases_lt row n) [
+      | inl below ↦ rw (lt-ltb row n below) at (above row)
+      | inr from ↦ rw (rest row from) (rw (le-ltb row n from) at (above row))
+    ]

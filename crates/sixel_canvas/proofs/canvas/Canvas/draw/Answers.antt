@@ -1,0 +1,62 @@
+use Rattle.std.proofs.Common.{ℕ, refl, arith}
+use Rattle.sixel_base.specs.Picture.{is_struck}
+use Rattle.sixel_canvas.proofs.Strokes.{struck_row}
+use Rattle.sixel_canvas.proofs.Totals.{IsBounded-rows}
+use Rattle.sixel_canvas.proofs.Underway.{IsUnderway-hit, IsUnderway-miss, IsUnderway-none, is_struck-above, is_struck-hit, is_struck-miss, reached-all, shown-all}
+use Rattle.sixel_canvas.proofs.canvas.Canvas.draw.Goals as goal
+use Rattle.sixel_canvas.proofs.canvas.Canvas.draw.Goals.{then-bits-bit-eq1+in_ok-strike, else-bits-bit-eq1}
+
+pub returns-then-bits-eq0-clause-bounded : goal.returns-then-bits-eq0-clause-bounded
+returns-then-bits-eq0-clause-bounded c =
+    rw (← c.self.view_is) (IsBounded-rows c.self.inside.background c.self.inside.rows.items c.self.invariant.0 c.self.invariant.1)
+
+pub returns-in_err-make_rows-clause-bounded : goal.returns-in_err-make_rows-clause-bounded
+returns-in_err-make_rows-clause-bounded c =
+    IsBounded-rows c.self.inside.background c.make_rows.new.rows.items (omega (arith, c.make_rows.ensures.few, c.self.invariant.0)) (c.make_rows.ensures.rows c.self.invariant.1)
+
+pub returns-in_err-strike-clause-bounded : goal.returns-in_err-strike-clause-bounded
+returns-in_err-strike-clause-bounded c =
+    let before = c.struck.invariant in
+    rw (before.over, c.in_err-strike.ensures.refused) (IsBounded-rows c.args.self.now.background c.struck.self-inside.rows.items before.few before.sound)
+
+pub struck-init : goal.struck-init
+struck-init c =
+    let canvas = c.self.inside in
+    rw (← c.self.view_is)
+    (IsUnderway-none (λ _. struck_row c.args.from c.args.to c.args.color) (is_struck c.args.top c.args.bits) c.args.top (record { background = canvas.background; rows = canvas.rows.items }) c.make_rows.new.rows.items
+    (is_struck-above c.args.top c.args.bits) (omega (arith, c.in_ok-make_rows.ensures.enough)) (omega (arith, c.make_rows.ensures.few, c.self.invariant.0)) (c.make_rows.ensures.rows c.self.invariant.1) c.make_rows.ensures.same)
+
+pub struck-preserved : goal.struck-preserved
+struck-preserved c =
+    let stroke = λ (row : ℕ). struck_row c.args.from c.args.to c.args.color in
+    let struck = is_struck c.args.top c.args.bits in
+    let canvas = c.args.self.now in
+    let background = c.struck.self-inside.background in
+    let rows = c.struck.self-inside.rows.items in
+    elim c.if-bits-bit-eq1.branch [
+      | then-bits-bit-eq1+in_ok-strike w ↦
+          rw w.self-inside-is
+          (IsUnderway-hit stroke struck c.args.top c.struck.bit canvas background rows w.strike.new.rows.items
+          c.struck.invariant c.struck-test.true (is_struck-hit c.args.top c.args.bits c.struck.bit c.struck-test.true w.if-bits-bit-eq1.true) (λ k row. refl) w.in_ok-strike.ensures.ok w.in_ok-strike.ensures.thrifty)
+      | else-bits-bit-eq1 w ↦
+          rw w.self-inside-is
+          (IsUnderway-miss stroke struck c.args.top c.struck.bit canvas background rows
+          c.struck.invariant (is_struck-miss c.args.top c.args.bits c.struck.bit c.struck-test.true w.if-bits-bit-eq1.false))
+    ]
+
+pub returns-clause-drawn : goal.returns-clause-drawn
+returns-clause-drawn c =
+    let canvas = c.struck.self-inside in
+    shown-all c.args.from c.args.to c.args.top c.args.bits c.args.color c.struck.bit c.args.self.now canvas.background canvas.rows.items
+    c.struck.invariant c.struck-test.false (rw (← c.self.view_is) c.self.invariant.1) c.requires.ordered
+
+pub returns-clause-grown : goal.returns-clause-grown
+returns-clause-grown c =
+    let canvas = c.struck.self-inside in
+    reached-all c.args.from c.args.to c.args.top c.args.bits c.args.color c.struck.bit c.args.self.now canvas.background canvas.rows.items
+    c.struck.invariant c.struck-test.false c.requires.ordered
+
+pub returns-clause-bounded : goal.returns-clause-bounded
+returns-clause-bounded c =
+    let done = c.struck.invariant in
+    rw done.over (IsBounded-rows c.args.self.now.background c.struck.self-inside.rows.items done.few done.sound)

@@ -1,0 +1,21 @@
+use Rattle.std.proofs.Common.{◌++◌, ap, ◌∙◌, add-one, arith}
+use Rattle.sixel_canvas.specs.inside.Canvas.{shown}
+use Rattle.sixel_base.specs.Picture.{joined, picture}
+use Rattle.sixel_canvas.proofs.canvas.Canvas.pack.Goals as goal
+
+pub packed-init : goal.packed-init
+unfolding joined
+packed-init c = (c.in_ok-bytes.ensures.items, omega (arith, c.in_ok-bytes.ensures.len))
+
+pub packed-preserved : goal.packed-preserved
+unfolding joined
+packed-preserved c =
+    let row = joined (λ column. shown c.args.self.now column c.packed.row) c.args.width in (
+      rw add-one (c.in_ok-pack_row.ensures.ok ∙ ap (λ xs. xs ++ row) c.packed.invariant.0),
+      omega (arith, c.in_ok-pack_row.ensures.len, c.packed.invariant.1),
+    )
+
+pub returns-clause-ok : goal.returns-clause-ok
+unfolding picture
+returns-clause-ok c =
+    c.packed.invariant.0 ∙ ap (joined (λ row. joined (λ column. shown c.args.self.now column row) c.args.width)) (omega arith)

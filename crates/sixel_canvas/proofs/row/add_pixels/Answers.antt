@@ -1,0 +1,6 @@
+use Rattle.sixel_base.specs.Picture.{joined}
+use Rattle.sixel_canvas.proofs.row.add_pixels.Goals as goal
+
+pub returns-then-count-eq1-clause-ok : goal.returns-then-count-eq1-clause-ok
+unfolding joined
+returns-then-count-eq1-clause-ok c = rw c.if-count-eq1.true c.in_ok-extend_from_slice.ensures.items

@@ -1,0 +1,3 @@
+-- What holds inside the code alone: a reader of the public contracts may skip it.
+pub mod Block
+pub mod Canvas

@@ -1,0 +1,212 @@
+//! The canvas that a decoder draws on: rows that are filled only as far as a stroke reaches.
+ghost use Rattle.std.specs.Prelude.{◌≡◌, ℕ, ◌+◌, ◌*◌, ◌^◌, ◌<◌, ◌≤◌, ◌++◌, [], max};
+ghost use Rattle.std.specs.Prelude.{length, vec_len, slice_index_or, slice_set, if◌then◌else◌};
+ghost use Rattle.std.specs.Prelude.{All, IfOk, IfErr, OnErr, OnOk};
+ghost use Rattle.sixel_base.specs.declared.error.SixelError.TheVariants.{OutOfMemory};
+ghost use Rattle.sixel_base.specs.Picture.{covers, is_struck, joined, picture};
+ghost use Rattle.sixel_canvas.specs.Row.{RowState, IsThrifty, empty_row, reached_to, painted};
+ghost use Rattle.sixel_canvas.specs.inside.Block.{drawn_over, mixed_from};
+ghost use Rattle.sixel_canvas.specs.inside.Canvas.{shown, reached, canvas_writes};
+ghost use Rattle.sixel_canvas.specs.inside.Canvas.{IsBounded, IsRowOf};
+
+use crate::row::{Row, add_pixels};
+use sixel_base::Result;
+use std::alloc::Global;
+use std::marker::Model;
+
+/// A canvas without an edge: its rows hold pixels only up to their last painted column, and
+/// every other place shows the background.
+#[derive(Drop)]
+pub struct Canvas {
+    rows: Vec<Row>,
+    background: [u8; 4],
+}
+
+impl Model for Canvas {
+    ghost use Rattle.std.specs.Prelude.{◌≤◌, length, All};
+    ghost use Rattle.sixel_canvas.specs.inside.Canvas.{CanvasState, IsRowOf};
+
+    ghost Value = { CanvasState };
+
+    ghost view = { λ canvas. record { background = canvas.background; rows = canvas.rows.items } };
+
+    ghost invariant = { λ canvas.
+        (length canvas.rows.items ≤ 1000000) × All (IsRowOf canvas.background) canvas.rows.items };
+}
+
+impl Canvas {
+    /// A canvas that shows the background everywhere. It takes no memory.
+    pub fn new(alloc: Global, background: [u8; 4]) -> Canvas
+        ensures empty { result ≡ record { background = background; rows = [] } }
+        ensures bounded { IsBounded result }
+    {
+        Canvas {
+            rows: Vec::new(alloc),
+            background,
+        }
+    }
+
+    /// Draws a sixel over the columns from `from` up to before `to`: of the six rows from `top`
+    /// on, those whose bit is set get the color. The least bit is the top row's.
+    ///
+    /// Only those rows are touched, and grown where they end before `to`. Columns and rows end
+    /// at a million. Where memory is refused, a part of the sixel may be drawn.
+    pub fn draw(
+        &mut self,
+        from: usize,
+        to: usize,
+        top: usize,
+        bits: u8,
+        color: [u8; 4],
+    ) -> Result<()>
+        requires ordered { from ≤ to }
+        requires within { to ≤ 1000000 }
+        requires above_bottom { top + 6 ≤ 1000000 }
+        requires six { bits < 64 }
+        ensures drawn { OnOk result ((column row : ℕ) → shown self.new column row
+            ≡ (if covers from to top bits column row then color else shown self.old column row)) }
+        ensures grown { OnOk result ((row : ℕ) → reached self.new row ≡ (if is_struck top bits row
+            then max (reached self.old row) to else reached self.old row)) }
+        ensures background { self.new.background ≡ self.old.background }
+        ensures error { IfErr result (λ e. e ≡ OutOfMemory) }
+        ensures bounded { IsBounded self.new }
+    {
+        let background = self.background;
+        if bits == 0 {
+            return Ok(());
+        }
+        make_rows(&mut self.rows, top + 6, background)?;
+        'struck: for bit in 0..6 {
+            if (bits >> bit) % 2 == 1 {
+                strike(&mut self.rows, top + bit, from, to, color)?;
+            }
+        }
+        Ok(())
+    }
+
+    /// How many columns each of the six rows from `top` on holds, from the left.
+    pub fn held(&self, top: usize) -> usize
+        ensures { (k : ℕ) → k < 6 → result ≤ reached self.now (top + k) }
+    {
+        if self.rows.len() < 6 || top > self.rows.len() - 6 {
+            return 0;
+        }
+        let mut least = self.rows[top].len();
+        'rows: for bit in 1..6 {
+            least = least.min(self.rows[top + bit].len());
+        }
+        least
+    }
+
+    /// Draws four sixels of one column each, from `from` on, where each of the six rows from `top`
+    /// on holds their columns. It takes no memory.
+    #[inline(always)]
+    pub fn block(&mut self, from: usize, top: usize, sixels: [u8; 4], color: [u8; 4])
+        requires held { (k : ℕ) → k < 6 → from + 4 ≤ reached self.old (top + k) }
+        ensures drawn { (column row : ℕ) → shown self.new column row
+            ≡ drawn_over from sixels top color column row (shown self.old column row) }
+        ensures reached { (row : ℕ) → reached self.new row ≡ reached self.old row }
+        ensures background { self.new.background ≡ self.old.background }
+    {
+        'mixed: for bit in 0..6 {
+            mix(&mut self.rows, top, bit, from, sixels, color);
+        }
+    }
+
+    /// The bytes of the picture of this size: red, green, blue and alpha a pixel, row by row from
+    /// the top. Places that no stroke has reached are background.
+    pub fn pack(&self, width: usize, height: usize) -> Result<Vec<u8>>
+        requires { width * height ≤ 67108864 }
+        ensures ok { IfOk result (λ bytes. bytes.items ≡ picture (shown self.now) width height) }
+        ensures error { IfErr result (λ e. e ≡ OutOfMemory) }
+    {
+        let mut bytes = Vec::with_capacity(*self.rows.allocator(), 4 * (width * height))?;
+        'packed: for row in 0..height {
+            self.pack_row(&mut bytes, row, width)?;
+        }
+        Ok(bytes)
+    }
+
+    /// How many pixels were copied or filled so far, to grow the rows. Painting doesn't count, nor
+    /// does packing.
+    pub fn writes(&self) -> u64
+        ensures value { result ≡ canvas_writes self.now }
+        ensures at_most { result ≤ 3000000000000 }
+        ensures bounded { IsBounded self.now }
+    {
+        let mut writes = 0;
+        'counted: for row in &self.rows {
+            writes += row.writes();
+        }
+        writes
+    }
+
+    // Appends a row of the picture of this width.
+    fn pack_row(&self, bytes: &mut Vec<u8>, row: usize, width: usize) -> Result<()>
+        requires { vec_len bytes.old + 4 * width < 2 ^ 63 }
+        ensures ok { OnOk result (bytes.new.items ≡ bytes.old.items
+            ++ joined (λ column. shown self.now column row) width) }
+        ensures len { OnOk result (vec_len bytes.new ≡ vec_len bytes.old + 4 * width) }
+        ensures error { IfErr result (λ e. e ≡ OutOfMemory) }
+    {
+        match self.rows.get(row) {
+            Some(held) => held.pack(bytes, width),
+            None => add_pixels(bytes, width, self.background),
+        }
+    }
+}
+
+// Makes rows until there are so many.
+fn make_rows(rows: &mut Vec<Row>, count: usize, background: [u8; 4]) -> Result<()>
+    requires { count ≤ 1000000 }
+    ensures enough { OnOk result (count ≤ vec_len rows.new) }
+    ensures same { (row : ℕ) → slice_index_or rows.new.items row (empty_row background)
+        ≡ slice_index_or rows.old.items row (empty_row background) }
+    ensures few { vec_len rows.old ≤ 1000000 → vec_len rows.new ≤ 1000000 }
+    ensures rows { All (IsRowOf background) rows.old.items
+        → All (IsRowOf background) rows.new.items }
+    ensures error { IfErr result (λ e. e ≡ OutOfMemory) }
+{
+    let held = rows.len();
+    if count <= held {
+        return Ok(());
+    }
+    rows.reserve(count - held)?;
+    let alloc = *rows.allocator();
+    'made: for _made in held..count {
+        rows.push(Row::new(alloc, background))?;
+    }
+    Ok(())
+}
+
+// Paints a part of one row, which is grown first where it is too short.
+fn strike(rows: &mut Vec<Row>, row: usize, from: usize, to: usize, color: [u8; 4]) -> Result<()>
+    requires ordered { from ≤ to }
+    requires within { to ≤ 1000000 }
+    requires made { row < vec_len rows.old }
+    ensures ok { OnOk result ((d : RowState) → rows.new.items ≡ slice_set rows.old.items row
+        (painted from to color (reached_to to (slice_index_or rows.old.items row d)))) }
+    ensures thrifty { OnOk result ((d : RowState)
+        → IsThrifty (slice_index_or rows.new.items row d)) }
+    ensures refused { OnErr result (rows.new.items ≡ rows.old.items) }
+    ensures error { IfErr result (λ e. e ≡ OutOfMemory) }
+{
+    let struck = &mut rows[row];
+    struck.reach(to)?;
+    struck.paint(from, to, color);
+    Ok(())
+}
+
+// Draws one row of four sixels.
+#[inline(always)]
+fn mix(rows: &mut Vec<Row>, top: usize, bit: usize, from: usize, sixels: [u8; 4], color: [u8; 4])
+    requires made { top + bit < vec_len rows.old }
+    requires held { (d : RowState)
+        → from + 4 ≤ length (slice_index_or rows.old.items (top + bit) d).pixels }
+    requires six { bit < 6 }
+    ensures mixed { (d : RowState) → rows.new.items ≡ slice_set rows.old.items (top + bit)
+        (mixed_from from sixels bit color (slice_index_or rows.old.items (top + bit) d)) }
+    ensures thrifty { (d : RowState) → IsThrifty (slice_index_or rows.new.items (top + bit) d) }
+{
+    rows[top + bit].mix(from, sixels, bit, color);
+}

@@ -1,0 +1,15 @@
+pub mod Reached
+pub mod Framing
+pub mod Feeding
+pub mod Appending
+pub mod Heading
+pub mod Finding
+pub mod EmptyStruct
+pub mod Entering
+pub mod Ending
+pub mod Terminating
+pub mod Continuing
+pub mod Finishing
+pub mod Ended
+pub mod Answering
+pub mod Runs

@@ -1,0 +1,156 @@
+-- How far the rows of a canvas were reached, and what that says of its writes.
+use Rattle.std.proofs.Common.{◌≡◌, ℕ, suc, zero, ◌+◌, ◌*◌, ◌≤◌, Bool, true, false, max, nat_lt, cond, List, [], ◌∷◌, Option, Some, None, length, refl, ap, inl, inr, arith}
+use Rattle.std.specs.Prelude.{◌&&◌}
+use Rattle.std.specs.Option.{option_or}
+use Rattle.std.proofs.Math.Nat.{mul-suc}
+use Rattle.std.proofs.lemmas.Nat.{mul-le}
+use Rattle.std.proofs.lemmas.Bool.Decides.{nat_tests}
+use Rattle.std.proofs.lemmas.Bool.{cases_lt, le-ltb, le-leb}
+use Rattle.sixel_canvas.specs.inside.Canvas.{CanvasState, IsBounded, canvas_writes, canvas_room, reached}
+use Rattle.sixel_base.specs.History.{Sixel, Repeat, Raster, Color, Return, Newline, Skip, History, history_of}
+use Rattle.sixel_base.specs.Bytes.{front, is_terminated}
+use Rattle.sixel_base.specs.Fault.{Fault}
+use Rattle.sixel_base.specs.Fields.{field}
+use Rattle.sixel_base.specs.Payload.{extent_fault, image_height, first_fault, closed, settled}
+use Rattle.sixel_base.specs.Picture.{is_struck, total}
+use Rattle.sixel_base.specs.Place.{across, down, height, raster_height, span, width}
+use Rattle.sixel_canvas.proofs.Totals.{total-same}
+use Rattle.sixel_base.specs.Reach.{row_reach, reached_area}
+
+-- no sixel covers a row from the height on
+row_reach-past : (h : History) (row : ℕ) → height h ≤ row → row_reach h row ≡ 0
+row_reach-past [] row past = refl
+row_reach-past (Sixel bits ∷ h) row past =
+    let below : down h + 6 ≤ row = omega arith in
+    rw (le-leb (down h) row (omega arith), le-ltb row (down h + 6) below) (row_reach-past h row (omega arith))
+row_reach-past (Repeat _ ∷ h) row past = row_reach-past h row past
+row_reach-past (Raster _ ∷ h) row past = row_reach-past h row (omega arith)
+row_reach-past (Color _ ∷ h) row past = row_reach-past h row past
+row_reach-past (Return ∷ h) row past = row_reach-past h row past
+row_reach-past (Newline ∷ h) row past = row_reach-past h row past
+row_reach-past (Skip _ ∷ h) row past = row_reach-past h row past
+
+-- no row is reached beyond the width
+row_reach-most : (h : History) (row : ℕ) → row_reach h row ≤ width h
+row_reach-most [] row = omega arith
+row_reach-most (Sixel bits ∷ h) row =
+    elim (is_struck (down h) bits row) as (λ t. cond t (max (row_reach h row) (across h + span h)) (row_reach h row) ≤ max (width h) (across h + span h)) [
+      | true ↦ omega (arith, row_reach-most h row)
+      | false ↦ omega (arith, row_reach-most h row)
+    ]
+row_reach-most (Repeat _ ∷ h) row = row_reach-most h row
+row_reach-most (Raster _ ∷ h) row = omega (arith, row_reach-most h row)
+row_reach-most (Color _ ∷ h) row = row_reach-most h row
+row_reach-most (Return ∷ h) row = row_reach-most h row
+row_reach-most (Newline ∷ h) row = row_reach-most h row
+row_reach-most (Skip _ ∷ h) row = row_reach-most h row
+
+-- zeros add nothing
+total-past : (f : ℕ → ℕ) (m n : ℕ) → ((k : ℕ) → m ≤ k → f k ≡ 0) → m ≤ n → total f n ≡ total f m
+unfolding total
+total-past f m zero past le =
+    let none : zero ≡ m = omega arith in
+    ap (total f) none
+total-past f m (suc n) past le =
+    elim (cases_lt n m) [
+      | inl last ↦
+          let whole : suc n ≡ m = omega arith in
+          ap (total f) whole
+      | inr more ↦ omega (arith, total-past f m n past more, past n more)
+    ]
+
+-- numbers up to a bound
+total-most : (f : ℕ → ℕ) (bound n : ℕ) → ((k : ℕ) → f k ≤ bound) → total f n ≤ bound * n
+unfolding total
+total-most f bound zero most = omega arith
+total-most f bound (suc n) most = rw mul-suc (omega (arith, total-most f bound n most, most n))
+
+-- the reached area is at most the picture's
+reached_area-most : (h : History) → reached_area h ≤ width h * height h
+reached_area-most h = total-most (row_reach h) (width h) (height h) (row_reach-most h)
+
+-- what a canvas has written, and for how much it has room, that was reached exactly as far as these tokens reach
+pub canvas_paid : (canvas : CanvasState) (h : History) → IsBounded canvas → ((row : ℕ) → reached canvas row ≡ row_reach h row)
+    → (reached_area h ≤ canvas_writes canvas) × (canvas_writes canvas ≤ 3 * reached_area h) × (canvas_room canvas ≤ 2 * reached_area h)
+canvas_paid canvas h bounded same =
+    let n = max (length canvas.rows) (height h) in
+    let equal = total-same (reached canvas) (row_reach h) n same in
+    let past = total-past (row_reach h) (height h) n (row_reach-past h) (omega arith) in (
+      omega (arith, equal, past, bounded.at_least n (omega arith)),
+      omega (arith, equal, past, bounded.at_most n (omega arith)),
+      omega (arith, equal, past, bounded.room_at_most n (omega arith)),
+    )
+
+-- ---- the size of a picture
+
+-- no first of two faults means that neither is there
+both_none : (a b : Option Fault) → option_or a b ≡ None → (a ≡ None) × (b ≡ None)
+both_none None b is = (refl, is)
+both_none (Some f) b is = absurd cc
+
+-- an extent without a fault has its sides within theirs
+extent-fits : (limit right lower : ℕ) (h : History) → extent_fault limit right lower h ≡ None → (right ≤ 1000000) × (lower ≤ 1000000)
+extent-fits limit right lower h is = (grind (arith, nat_tests), grind (arith, nat_tests))
+
+-- so have tokens without a fault
+pub sides-fit : (limit : ℕ) (h : History) → first_fault limit h ≡ None → (width h ≤ 1000000) × (height h ≤ 1000000)
+sides-fit limit [] is = (omega arith, omega arith)
+sides-fit limit (Sixel bits ∷ h) is =
+    let both = both_none (first_fault limit h) _ is in
+    let before = sides-fit limit h both.0 in
+    let here = extent-fits limit (across h + span h) (down h + 6) (Sixel bits ∷ h) both.1 in
+    (omega (arith, before.0, here.0), omega (arith, before.1, here.1))
+sides-fit limit (Repeat _ ∷ h) is = sides-fit limit h (both_none (first_fault limit h) _ is).0
+sides-fit limit (Raster text ∷ h) is =
+    let both = both_none (first_fault limit h) _ is in
+    let before = sides-fit limit h both.0 in
+    let here = extent-fits limit (field text 2) (field text 3) (Raster text ∷ h) both.1 in
+    (omega (arith, before.0, here.0), omega (arith, before.1, here.1))
+sides-fit limit (Color _ ∷ h) is = sides-fit limit h (both_none (first_fault limit h) _ is).0
+sides-fit limit (Return ∷ h) is = sides-fit limit h (both_none (first_fault limit h) _ is).0
+sides-fit limit (Newline ∷ h) is = sides-fit limit h (both_none (first_fault limit h) _ is).0
+sides-fit limit (Skip _ ∷ h) is = sides-fit limit h (both_none (first_fault limit h) _ is).0
+
+-- raster attributes name no height above the extent's
+raster_height-most : (h : History) → raster_height h ≤ height h
+raster_height-most [] = omega arith
+raster_height-most (Sixel bits ∷ h) = omega (arith, raster_height-most h)
+raster_height-most (Repeat _ ∷ h) = raster_height-most h
+raster_height-most (Raster text ∷ h) =
+    elim (nat_lt 0 (field text 3)) as (λ t. cond t (field text 3) (raster_height h) ≤ max (height h) (field text 3)) [
+      | true ↦ omega arith
+      | false ↦ omega (arith, raster_height-most h)
+    ]
+raster_height-most (Color _ ∷ h) = raster_height-most h
+raster_height-most (Return ∷ h) = raster_height-most h
+raster_height-most (Newline ∷ h) = raster_height-most h
+raster_height-most (Skip _ ∷ h) = raster_height-most h
+
+-- so an image is at most as high as the extent
+pub image_height-most : (crop : Bool) (h : History) → image_height crop h ≤ height h
+image_height-most crop h =
+    elim (crop && nat_lt 0 (raster_height h)) as (λ t. cond t (raster_height h) (height h) ≤ height h) [
+      | true ↦ raster_height-most h
+      | false ↦ omega arith
+    ]
+
+-- the closed tokens reach no more than the picture of all tokens has
+closed-area : (h : History) → reached_area (closed h) ≤ width h * height h
+closed-area [] = reached_area-most []
+closed-area (Sixel bits ∷ h) = reached_area-most (Sixel bits ∷ h)
+closed-area (Repeat _ ∷ h) = reached_area-most h
+closed-area (Raster text ∷ h) =
+    omega (arith, reached_area-most h, mul-le (width h) (height h) (width (Raster text ∷ h)) (height (Raster text ∷ h)) (omega arith) (omega arith))
+closed-area (Color _ ∷ h) = reached_area-most h
+closed-area (Return ∷ h) = reached_area-most (Return ∷ h)
+closed-area (Newline ∷ h) = reached_area-most (Newline ∷ h)
+closed-area (Skip byte ∷ h) = reached_area-most (Skip byte ∷ h)
+
+-- the closed tokens of a payload reach no more than its picture has
+pub settled-area : (bytes : List ℕ) → reached_area (settled bytes) ≤ width (history_of (front bytes)) * height (history_of (front bytes))
+settled-area bytes =
+    let h : History = history_of (front bytes) in
+    elim (is_terminated bytes) as (λ t. reached_area (cond t h (closed h)) ≤ width h * height h) [
+      | true ↦ reached_area-most h
+      | false ↦ closed-area h
+    ]

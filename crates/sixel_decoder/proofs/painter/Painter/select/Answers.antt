@@ -1,0 +1,27 @@
+use Rattle.std.proofs.Common.{◌≡◌, ◌++◌, ◌∷◌, [], ◌∙◌, ap, arith, refl}
+use Rattle.sixel_base.specs.Stroke.{named_by, registers}
+use Rattle.sixel_base.specs.History.{Color}
+use Rattle.sixel_decoder.proofs.painter.Painter.select.Goals as goal
+
+pub returns : goal.returns
+returns c = λ o h text keeps shows.
+    let named : c.min-register.result ≡ named_by text = grind (arith, keeps.valued 0 (omega arith)) in
+    let defined : c.define.new.registers ≡ registers o.registers (Color text ∷ h) =
+    rw (← named, ← shows.registers) (c.define.ensures text keeps) in
+    record {
+      pixels = shows.pixels;
+      reached = shows.reached;
+      registers = defined;
+      color = c.opaque-self.ensures ∙ ap (λ w. w ++ 255 ∷ []) (c.get-2.ensures.color ∙ rw (defined, named) refl);
+      span = shows.span;
+      across = shows.across;
+      down = shows.down;
+      width = shows.width;
+      height = shows.height;
+      raster_height = shows.raster_height;
+      ratio = shows.ratio;
+      settings = shows.settings;
+      crop = shows.crop;
+      limit = shows.limit;
+      faultless = grind (arith, shows.faultless);
+    }

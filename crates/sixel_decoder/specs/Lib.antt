@@ -1,0 +1,3 @@
+pub mod PictureView
+pub mod Session
+pub mod inside

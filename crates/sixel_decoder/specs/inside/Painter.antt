@@ -1,0 +1,47 @@
+-- What the parts of a painter keep, in the words of the history that was read. An invariant of this library's own: the words are those
+-- of Place and Stroke of sixel_base, where DEC's manual gives the rules.
+use Rattle.std.specs.Prelude.{ℕ, ◌≡◌, ◌*◌, ◌≤◌, Bool, MatchResult, Result, None, is_none, [], ◌∷◌, ◌++◌}
+use Rattle.sixel_base.specs.declared.error.SixelError.{SixelError}
+use Rattle.sixel_decoder.specs.declared.painter.Painter.{Painter}
+use Rattle.sixel_base.specs.Settings.{ratio_of}
+use Rattle.sixel_base.specs.Fault.{Faults}
+use Rattle.sixel_canvas.specs.inside.Canvas.{shown, reached}
+use Rattle.sixel_base.specs.History.{History}
+use Rattle.sixel_base.specs.Place.{span, across, down, width, height, raster_height}
+use Rattle.sixel_base.specs.Stroke.{Origin, pixel, registers, color, ratio}
+use Rattle.sixel_base.specs.Payload.{first_fault, image_of}
+use Rattle.sixel_decoder.specs.declared.painter.Picture.{Picture}
+use Rattle.sixel_decoder.specs.PictureView.{picture_value}
+use Rattle.sixel_base.specs.Reach.{row_reach}
+
+-- The painter has drawn these tokens, none of which has a fault.
+pub record Shows (origin : Origin) (painter : Painter) (history : History) : Type 0 where
+  pub pixels : (column row : ℕ) → shown painter.canvas column row ≡ pixel origin history column row
+  pub reached : (row : ℕ) → reached painter.canvas row ≡ row_reach history row
+  pub registers : painter.registers ≡ registers origin.registers history
+  pub color : painter.color ≡ color origin.registers history ++ 255 ∷ []
+  pub span : painter.span ≡ span history
+  pub across : painter.across ≡ across history
+  pub down : painter.down ≡ down history
+  pub width : painter.width ≡ width history
+  pub height : painter.height ≡ height history
+  pub raster_height : painter.raster_height ≡ raster_height history
+  pub ratio : painter.ratio ≡ ratio (ratio_of origin.settings) history
+  pub settings : painter.settings ≡ origin.settings
+  pub crop : painter.raster_crop ≡ origin.raster_crop
+  pub limit : painter.pixel_limit ≡ origin.pixel_limit
+  pub faultless : first_fault origin.pixel_limit history ≡ None
+
+-- The newest of these tokens was drawn, or is refused by the first fault.
+abbrev pub Draws : {A : Type 0} → Result A SixelError → Origin → Painter → History → Bool → Type 0
+Draws result origin painter history may_want =
+    MatchResult result (λ _. Shows origin painter history) (λ error. Faults error may_want (first_fault origin.pixel_limit history))
+
+-- The history has no fault, and this is its image, within the limit, with the registers after it; or it is refused by its first fault,
+-- and for want of memory only where it has an image.
+abbrev pub Ends : Result Picture SixelError → Origin → History → Type 0
+Ends result origin history =
+    MatchResult result
+    (λ picture. (first_fault origin.pixel_limit history ≡ None) × (picture_value picture ≡ image_of origin history)
+    × (picture.registers ≡ registers origin.registers history) × (picture.width * picture.height ≤ origin.pixel_limit))
+    (λ error. Faults error (is_none (first_fault origin.pixel_limit history)) (first_fault origin.pixel_limit history))

@@ -1,0 +1,257 @@
+//! The reader of a payload's bytes: which command is open, and its parameters so far.
+//!
+//! A command takes effect when it is closed, by the next byte that it can't go on with, by the
+//! terminator, or by the end. So a piece may end within one, and nothing is decided there.
+
+ghost use Rattle.std.specs.Prelude.{◌≡◌, ◌<◌, ◌≤◌, ◌*◌, ◌∷◌, ◌++◌, List, ℕ, true, false, []};
+ghost use Rattle.std.specs.Prelude.{length, slice_index, take};
+ghost use Rattle.sixel_decoder.specs.inside.Runs.{IsSixelByte};
+ghost use Rattle.std.specs.Prelude.{nat_lt, fold, IsOk, IsTrue, ◌⊎◌, Bool, if◌then◌else◌};
+ghost use Rattle.sixel_canvas.specs.inside.Canvas.{canvas_writes, canvas_room};
+ghost use Rattle.sixel_base.specs.History.{History, begun, goes_on, read};
+ghost use Rattle.sixel_base.specs.Decoder.{origin_of};
+ghost use Rattle.sixel_base.specs.inside.Parameters.{Keeps, IsDigit};
+ghost use Rattle.sixel_base.specs.Stroke.{Origin};
+ghost use Rattle.sixel_decoder.specs.declared.frame.Phase.TheVariants.{Ground};
+
+use crate::bytes::{four_sixels, is_ignored, is_parameter, is_sixel, is_terminator, tail};
+use crate::painter::{Painter, Picture};
+use sixel_base::Result;
+use sixel_base::parameters::Parameters;
+use sixel_base::settings::DcsSettings;
+use sixel_base::state::DecoderState;
+use sixel_base::status::{SixelFeedResult, SixelFeedStatus};
+use std::alloc::Global;
+
+/// Which command may go on.
+#[derive(Clone, Copy, Debug, PartialEq, Eq)]
+pub enum Phase {
+    Ground,
+    InRepeat,
+    InRaster,
+    InColor,
+}
+
+/// What a byte begins.
+pub enum Start {
+    Sixel(u8),
+    Repeat,
+    Raster,
+    Color,
+    Return,
+    Newline,
+    Skip,
+}
+
+/// A payload's command that is open, and what the closed ones have drawn.
+#[derive(Drop)]
+pub struct Frame {
+    pub phase: Phase,
+    pub parameters: Parameters,
+    pub painter: Painter,
+}
+
+impl Start {
+    ghost use Rattle.sixel_decoder.specs.inside.Frame.{Begins};
+
+    /// What a byte that no open command takes begins.
+    fn of(byte: u8) -> Start
+        ensures { Begins result byte }
+    {
+        match byte {
+            0x3f..=0x7e => Start::Sixel(byte - 0x3f),
+            b'!' => Start::Repeat,
+            b'"' => Start::Raster,
+            b'#' => Start::Color,
+            b'$' => Start::Return,
+            b'-' => Start::Newline,
+            _ => Start::Skip,
+        }
+    }
+}
+
+impl Frame {
+    ghost use Rattle.sixel_decoder.specs.inside.Painter.{Shows, Draws};
+    ghost use Rattle.sixel_decoder.specs.inside.Frame.{Stands, Reads, Feeds, StandsAfter};
+    ghost use Rattle.sixel_decoder.specs.inside.Painter.{Ends};
+    ghost use Rattle.sixel_base.specs.Reach.{reached_area, size};
+    ghost use Rattle.sixel_base.specs.Payload.{closed};
+
+    /// A frame of which nothing was read.
+    pub fn new(alloc: Global, decoder: DecoderState, settings: DcsSettings) -> Frame
+        ensures stands { Stands (origin_of decoder settings) result [] }
+        ensures unwritten { canvas_writes result.painter.canvas ≡ 0 }
+        ensures roomless { canvas_room result.painter.canvas ≡ 0 }
+    {
+        Frame {
+            phase: Phase::Ground,
+            parameters: Parameters::new(),
+            painter: Painter::new(alloc, decoder, settings),
+        }
+    }
+
+    /// Whether the open command goes on with the byte.
+    fn takes(&self, byte: u8) -> bool
+        ensures takes { (o : Origin) (h : History) → Stands o self.now h → result ≡ goes_on h byte }
+        ensures parameter { IsTrue result → IsDigit byte ⊎ (byte ≡ 59) }
+    {
+        match self.phase {
+            Phase::Ground => false,
+            Phase::InRepeat => byte.is_ascii_digit(),
+            Phase::InRaster | Phase::InColor => is_parameter(byte),
+        }
+    }
+
+    /// Ends the open command, which then takes effect.
+    #[inline(always)]
+    fn close(&mut self) -> Result<()>
+        ensures ground { self.new.phase ≡ Ground }
+        ensures drawn { (o : Origin) (h : History) → Stands o self.old h
+            → Draws result o self.new.painter h false }
+        ensures kept { (o : Origin) (h : History) → self.old.phase ≡ Ground
+            → Shows o self.old.painter h → Draws result o self.new.painter h false }
+    {
+        let phase = self.phase;
+        self.phase = Phase::Ground;
+        match phase {
+            Phase::Ground => Ok(()),
+            Phase::InRepeat => self.painter.repeat(&self.parameters),
+            Phase::InRaster => self.painter.set_raster(&self.parameters),
+            Phase::InColor => {
+                self.painter.select(&self.parameters);
+                Ok(())
+            }
+        }
+    }
+
+    /// Begins a token, where none is open.
+    fn begin(&mut self, byte: u8) -> Result<()>
+        requires { self.old.phase ≡ Ground }
+        ensures { (o : Origin) (h : History) → Shows o self.old.painter h
+            → Reads result o self.new h (begun byte ∷ h) }
+    {
+        match Start::of(byte) {
+            Start::Sixel(bits) => self.painter.draw(bits),
+            Start::Repeat => self.open(Phase::InRepeat),
+            Start::Raster => self.open(Phase::InRaster),
+            Start::Color => self.open(Phase::InColor),
+            Start::Return => {
+                self.painter.carriage_return();
+                Ok(())
+            }
+            Start::Newline => self.painter.new_line(),
+            Start::Skip => Ok(()),
+        }
+    }
+
+    /// Opens a command.
+    fn open(&mut self, phase: Phase) -> Result<()>
+        ensures opened { self.new.phase ≡ phase }
+        ensures bare { Keeps self.new.parameters [] }
+        ensures painter { self.new.painter ≡ self.old.painter }
+        ensures ok { IsOk result }
+    {
+        self.phase = phase;
+        self.parameters = Parameters::new();
+        Ok(())
+    }
+
+    /// Reads a byte that carries meaning.
+    pub fn push(&mut self, byte: u8) -> Result<()>
+        ensures { (o : Origin) (h : History) → Stands o self.old h
+            → Reads result o self.new h (read h byte) }
+    {
+        if self.takes(byte) {
+            self.parameters.push(byte);
+            return Ok(());
+        }
+        self.close()?;
+        self.begin(byte)
+    }
+
+    /// Draws sixels that no command is open before and nothing can refuse, and answers how many:
+    /// none, where it is not asked to try.
+    #[inline(always)]
+    fn draw_held(&mut self, tries: bool, bytes: &[u8]) -> usize
+        ensures within { result ≤ length bytes.now }
+        ensures sixels { (k : ℕ) → k < result → IsSixelByte (slice_index bytes.now k) }
+        ensures stands { (o : Origin) (h : History) → Stands o self.old h
+            → Stands o self.new (fold read h (take result bytes.now)) }
+    {
+        match self.phase {
+            Phase::Ground => {}
+            _ => return 0,
+        }
+        if !tries || four_sixels(bytes).is_none() {
+            return 0;
+        }
+        self.painter.draw_held(bytes)
+    }
+
+    /// Reads a piece up to its first terminator, which ends the open command.
+    pub fn feed(&mut self, piece: &[u8]) -> Result<SixelFeedResult>
+        ensures { (o : Origin) (h : History) → Stands o self.old h
+            → Feeds result o self.new h piece.now }
+    {
+        let mut index = 0;
+        // Where a sixel's columns aren't held yet, those of the next ones mostly aren't either.
+        let mut tries = true;
+        'bytes: while index < piece.len() {
+            let byte = piece[index];
+            if is_terminator(byte) {
+                self.close()?;
+                return Ok(SixelFeedResult {
+                    consumed: index,
+                    status: SixelFeedStatus::Terminated(byte),
+                });
+            }
+            let drawn = self.draw_held(tries, tail(piece, index));
+            tries = drawn > 0 || self.phase != Phase::Ground || !is_sixel(byte);
+            if drawn > 0 {
+                index += drawn;
+            } else {
+                if !is_ignored(byte) {
+                    self.push(byte)?;
+                }
+                index += 1;
+            }
+        }
+        Ok(SixelFeedResult {
+            consumed: piece.len(),
+            status: SixelFeedStatus::NeedMoreData,
+        })
+    }
+
+    /// How many pixels the canvas has copied or filled, to grow. An open command draws nothing.
+    pub fn writes(&self) -> u64
+        ensures value { result ≡ canvas_writes self.now.painter.canvas }
+        ensures at_least { (o : Origin) (h : History) (ended : Bool)
+            → StandsAfter ended o self.now h
+            → reached_area (if ended then h else closed h) ≤ result }
+        ensures at_most { (o : Origin) (h : History) (ended : Bool)
+            → StandsAfter ended o self.now h
+            → result ≤ 3 * reached_area (if ended then h else closed h) }
+        ensures room { (o : Origin) (h : History) (ended : Bool) → StandsAfter ended o self.now h
+            → canvas_room self.now.painter.canvas ≤ 2 * reached_area (if ended then h else closed h) }
+    {
+        self.painter.writes()
+    }
+
+    /// The width and the height of what the closed commands reach.
+    pub fn size(&self) -> (usize, usize)
+        ensures { (o : Origin) (h : History) (ended : Bool) → StandsAfter ended o self.now h
+            → result ≡ size (if ended then h else closed h) }
+    {
+        (self.painter.width, self.painter.height)
+    }
+
+    /// Ends the open command, and gives the picture.
+    pub fn finish(mut self) -> Result<Picture>
+        ensures { (o : Origin) (h : History) (ended : Bool) → StandsAfter ended o self h
+            → Ends result o h }
+    {
+        self.close()?;
+        let Frame { painter, .. } = self;
+        painter.finish()
+    }
+}

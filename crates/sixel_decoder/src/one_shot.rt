@@ -1,0 +1,65 @@
+//! Decoding in one call: a payload, or the first control string in some bytes.
+
+ghost use Rattle.std.specs.Prelude.{◌≡◌, ◌*◌, ◌≤◌, OnOk, IfOk, IfErr, None};
+ghost use Rattle.sixel_base.specs.Decoder.{origin_of};
+ghost use Rattle.sixel_base.specs.Fault.{Faults};
+ghost use Rattle.sixel_base.specs.OneShot.{found, found_fault, found_wants, IsFoundImage};
+ghost use Rattle.sixel_base.specs.OneShot.{AreFoundRegisters};
+ghost use Rattle.sixel_base.specs.Payload.{payload_fault, payload_image};
+ghost use Rattle.sixel_base.specs.Payload.{payload_registers, payload_wants};
+ghost use Rattle.sixel_decoder.specs.PictureView.{picture_value};
+
+use crate::bytes::tail;
+use crate::frame::Frame;
+use crate::header::{introducer_end, read_header};
+use crate::painter::Picture;
+use sixel_base::Result;
+use sixel_base::settings::DcsSettings;
+use sixel_base::state::DecoderState;
+use std::alloc::Global;
+
+/// Decodes the first control string in the bytes, or all of them as a payload if there is none.
+pub fn decode_found(alloc: Global, decoder: DecoderState, bytes: &[u8]) -> Result<Picture>
+    ensures image { IfOk result (λ picture.
+        IsFoundImage decoder (found bytes.now) (picture_value picture)) }
+    ensures registers { IfOk result (λ picture.
+        AreFoundRegisters decoder (found bytes.now) picture.registers) }
+    ensures area { IfOk result (λ picture.
+        picture.width * picture.height ≤ decoder.pixel_limit) }
+    ensures faultless { OnOk result (found_fault decoder.pixel_limit (found bytes.now) ≡ None) }
+    ensures refused { IfErr result (λ error. Faults error
+        (found_wants decoder.pixel_limit (found bytes.now))
+        (found_fault decoder.pixel_limit (found bytes.now))) }
+{
+    let Some(start) = introducer_end(bytes) else {
+        return decode_payload(alloc, decoder, bytes, DcsSettings::default());
+    };
+    let string = tail(bytes, start);
+    match read_header(string) {
+        Ok(header) => decode_payload(alloc, decoder, tail(string, header.len), header.settings),
+        Err(error) => Err(error),
+    }
+}
+
+/// Decodes one payload, up to its first terminator or the end of the bytes.
+pub fn decode_payload(
+    alloc: Global,
+    decoder: DecoderState,
+    bytes: &[u8],
+    settings: DcsSettings,
+) -> Result<Picture>
+    ensures image { IfOk result (λ picture. picture_value picture ≡ payload_image
+        (origin_of decoder settings) bytes.now) }
+    ensures registers { IfOk result (λ picture. picture.registers ≡ payload_registers
+        (origin_of decoder settings) bytes.now) }
+    ensures area { IfOk result (λ picture.
+        picture.width * picture.height ≤ decoder.pixel_limit) }
+    ensures faultless { OnOk result (payload_fault decoder.pixel_limit bytes.now ≡ None) }
+    ensures refused { IfErr result (λ error. Faults error
+        (payload_wants decoder.pixel_limit bytes.now)
+        (payload_fault decoder.pixel_limit bytes.now)) }
+{
+    let mut frame = Frame::new(alloc, decoder, settings);
+    frame.feed(bytes)?;
+    frame.finish()
+}

@@ -1,0 +1,331 @@
+//! What each closed command does to position, extent, registers and canvas.
+
+ghost use Rattle.std.specs.Prelude.{◌≡◌, ◌<◌, ◌≤◌, ◌*◌, ◌∷◌, ◌++◌, List, ℕ, true, false, []};
+ghost use Rattle.std.specs.Prelude.{length, max, nat_le, slice_set, if◌then◌else◌};
+ghost use Rattle.std.specs.Prelude.{fold, slice_index, take};
+ghost use Rattle.sixel_decoder.specs.inside.Runs.{IsSixelByte};
+ghost use Rattle.sixel_base.specs.History.{read};
+ghost use Rattle.sixel_canvas.specs.inside.Canvas.{canvas_writes, canvas_room};
+ghost use Rattle.sixel_base.specs.History.{History, Sixel, Repeat, Raster, Color, Return, Newline};
+ghost use Rattle.sixel_base.specs.inside.Parameters.{Keeps};
+ghost use Rattle.sixel_base.specs.Decoder.{origin_of};
+ghost use Rattle.sixel_base.specs.Fields.{fields, field};
+ghost use Rattle.sixel_base.specs.Stroke.{Origin, is_definition, definition};
+ghost use Rattle.sixel_base.specs.Stroke.{ratio_from as shape_from};
+
+use crate::bytes::{four_sixels, tail};
+use sixel_base::limits::{MAX_REPEAT, MAX_SIDE};
+use sixel_base::parameters::Parameters;
+use sixel_base::registers::Registers;
+use sixel_base::settings::{BackgroundMode, DcsSettings, PixelAspectRatio};
+use sixel_base::state::DecoderState;
+use sixel_base::{Result, SixelError};
+use sixel_canvas::Canvas;
+use std::alloc::Global;
+
+/// A canvas, and where and in which color the next sixel is drawn on it.
+#[derive(Drop)]
+pub struct Painter {
+    pub canvas: Canvas,
+    pub registers: Registers,
+    pub settings: DcsSettings,
+    pub raster_crop: bool,
+    pub pixel_limit: usize,
+    pub ratio: PixelAspectRatio,
+    pub color: [u8; 4],
+    pub span: usize,
+    pub across: usize,
+    pub down: usize,
+    pub width: usize,
+    pub height: usize,
+    pub raster_height: usize,
+    ghost span_fits: { span ≤ 65535 },
+    ghost across_fits: { across ≤ 1000000 },
+    ghost width_fits: { width ≤ 1000000 },
+    ghost height_fits: { height ≤ 1000000 },
+    ghost raster_fits: { raster_height ≤ height },
+    ghost area_fits: { width * height ≤ pixel_limit },
+    ghost limit_fits: { pixel_limit ≤ 67108864 },
+}
+
+/// What a payload that ended leaves: its image, and the registers.
+#[derive(Drop)]
+pub struct Picture {
+    /// The image's pixels, `4 * width * height` bytes, row by row from the top.
+    pub pixels: Vec<u8>,
+    pub width: usize,
+    pub height: usize,
+    pub aspect_ratio: PixelAspectRatio,
+    pub background_mode: BackgroundMode,
+    pub registers: Registers,
+}
+
+impl Painter {
+    ghost use Rattle.sixel_decoder.specs.inside.Painter.{Shows, Draws};
+
+    /// A painter that has drawn nothing.
+    pub fn new(alloc: Global, decoder: DecoderState, settings: DcsSettings) -> Painter
+        ensures shows { Shows (origin_of decoder settings) result [] }
+        ensures unwritten { canvas_writes result.canvas ≡ 0 }
+        ensures roomless { canvas_room result.canvas ≡ 0 }
+    {
+        let ground = decoder.registers.get(0);
+        let background = match settings.background_mode() {
+            BackgroundMode::Transparent => [0; 4],
+            BackgroundMode::Opaque => opaque(ground),
+        };
+        Painter {
+            canvas: Canvas::new(alloc, background),
+            registers: decoder.registers,
+            settings,
+            raster_crop: decoder.raster_crop,
+            pixel_limit: decoder.pixel_limit.pixels(),
+            ratio: settings.pixel_aspect_ratio(),
+            color: opaque(ground),
+            span: 1,
+            across: 0,
+            down: 0,
+            width: 1,
+            height: 1,
+            raster_height: 0,
+        }
+    }
+
+    /// Draws a sixel, and goes on by its span.
+    ///
+    /// One without a dot paints nothing, but widens and heightens the picture as any other.
+    pub fn draw(&mut self, bits: u8) -> Result<()>
+        requires { bits < 64 }
+        ensures { (o : Origin) (h : History) → Shows o self.old h
+            → Draws result o self.new (Sixel bits ∷ h) true }
+    {
+        let right = self.across + self.span;
+        if right > MAX_SIDE || self.down > MAX_SIDE - 6 {
+            return Err(SixelError::malformed());
+        }
+        let width = self.width.max(right);
+        let height = self.height.max(self.down + 6);
+        if width * height > self.pixel_limit {
+            return Err(SixelError::too_large());
+        }
+        self.canvas
+            .draw(self.across, right, self.down, bits, self.color)?;
+        self.width = width;
+        self.height = height;
+        self.across = right;
+        self.span = 1;
+        Ok(())
+    }
+
+    /// Draws the sixels at the front of the bytes four at once, while they are of one column each,
+    /// inside the picture and over columns that the canvas holds, and answers how many they are.
+    #[inline(never)]
+    pub fn draw_held(&mut self, bytes: &[u8]) -> usize
+        ensures within { result ≤ length bytes.now }
+        ensures sixels { (k : ℕ) → k < result → IsSixelByte (slice_index bytes.now k) }
+        ensures shows { (o : Origin) (h : History) → Shows o self.old h
+            → Shows o self.new (fold read h (take result bytes.now)) }
+    {
+        if self.span != 1 || self.height < 6 || self.down > self.height - 6 {
+            return 0;
+        }
+        let held = self.canvas.held(self.down).min(self.width);
+        let mut done = 0;
+        'fours: while self.across + 4 <= held {
+            let Some(sixels) = four_sixels(tail(bytes, done)) else {
+                return done;
+            };
+            self.canvas
+                .block(self.across, self.down, sixels, self.color);
+            self.across += 4;
+            done += 4;
+        }
+        done
+    }
+}
+
+impl Painter {
+    ghost use Rattle.sixel_decoder.specs.inside.Painter.{Shows, Draws};
+
+    /// Gives the next sixel its span, where 0 means 1. What stands between the two keeps it.
+    #[inline(never)]
+    pub fn repeat(&mut self, parameters: &Parameters) -> Result<()>
+        ensures { (o : Origin) (h : History) (text : List ℕ) → Keeps parameters.now text
+            → Shows o self.old h → Draws result o self.new (Repeat text ∷ h) false }
+    {
+        let count = parameters.get(0);
+        if count > MAX_REPEAT {
+            return Err(SixelError::malformed());
+        }
+        self.span = count.max(1) as usize;
+        Ok(())
+    }
+
+    /// Takes the sizes and the pixel shape that raster attributes name.
+    ///
+    /// The sizes are a least extent, and with crop the last height is that of the image.
+    #[inline(never)]
+    pub fn set_raster(&mut self, parameters: &Parameters) -> Result<()>
+        ensures { (o : Origin) (h : History) (text : List ℕ) → Keeps parameters.now text
+            → Shows o self.old h → Draws result o self.new (Raster text ∷ h) false }
+    {
+        let wide = parameters.get(2) as usize;
+        let high = parameters.get(3) as usize;
+        if wide > MAX_SIDE || high > MAX_SIDE {
+            return Err(SixelError::malformed());
+        }
+        let width = self.width.max(wide);
+        let height = self.height.max(high);
+        let raster_height = if high > 0 { high } else { self.raster_height };
+        if width * height > self.pixel_limit {
+            return Err(SixelError::too_large());
+        }
+        self.width = width;
+        self.height = height;
+        self.raster_height = raster_height;
+        self.ratio = shape(parameters, self.ratio, self.settings.pixel_aspect_ratio());
+        Ok(())
+    }
+
+    /// Selects a register, and defines it where there are five parameters that say how.
+    #[inline(never)]
+    pub fn select(&mut self, parameters: &Parameters)
+        ensures { (o : Origin) (h : History) (text : List ℕ) → Keeps parameters.now text
+            → Shows o self.old h → Shows o self.new (Color text ∷ h) }
+    {
+        let register = parameters.get(0).min(255) as u8;
+        define(&mut self.registers, register, parameters);
+        self.color = opaque(self.registers.get(register));
+    }
+
+    /// Goes back to the first column.
+    pub fn carriage_return(&mut self)
+        ensures { (o : Origin) (h : History) → Shows o self.old h → Shows o self.new (Return ∷ h) }
+    {
+        self.across = 0;
+    }
+
+    /// Goes on to the first column of the next band.
+    pub fn new_line(&mut self) -> Result<()>
+        ensures { (o : Origin) (h : History) → Shows o self.old h
+            → Draws result o self.new (Newline ∷ h) false }
+    {
+        let Some(down) = self.down.checked_add(6) else {
+            return Err(SixelError::IntegerOverflow);
+        };
+        self.down = down;
+        self.across = 0;
+        Ok(())
+    }
+}
+
+impl Painter {
+    ghost use Rattle.sixel_decoder.specs.inside.Painter.{Shows};
+    ghost use Rattle.sixel_decoder.specs.inside.Painter.{Ends};
+    ghost use Rattle.sixel_base.specs.Reach.{reached_area};
+
+    /// How many pixels the canvas has copied or filled, to grow. It has room for at most twice those
+    /// that were reached.
+    pub fn writes(&self) -> u64
+        ensures value { result ≡ canvas_writes self.now.canvas }
+        ensures at_least { (o : Origin) (h : History) → Shows o self.now h
+            → reached_area h ≤ result }
+        ensures at_most { (o : Origin) (h : History) → Shows o self.now h
+            → result ≤ 3 * reached_area h }
+        ensures room { (o : Origin) (h : History) → Shows o self.now h
+            → canvas_room self.now.canvas ≤ 2 * reached_area h }
+    {
+        self.canvas.writes()
+    }
+
+    /// The picture that was drawn, and the registers then.
+    pub fn finish(self) -> Result<Picture>
+        ensures { (o : Origin) (h : History) → Shows o self h → Ends result o h }
+    {
+        let Painter {
+            canvas,
+            registers,
+            settings,
+            raster_crop,
+            ratio,
+            width,
+            height,
+            raster_height,
+            ..
+        } = self;
+        let height = if raster_crop && raster_height > 0 {
+            raster_height
+        } else {
+            height
+        };
+        let pixels = canvas.pack(width, height)?;
+        Ok(Picture {
+            pixels,
+            width,
+            height,
+            aspect_ratio: ratio,
+            background_mode: settings.background_mode(),
+            registers,
+        })
+    }
+}
+
+/// Gives the register the color that five parameters define, if they do.
+fn define(registers: &mut Registers, register: u8, parameters: &Parameters)
+    ensures { (text : List ℕ) → Keeps parameters.now text
+        → registers.new ≡ (if is_definition text
+        then slice_set registers.old register (definition text) else registers.old) }
+{
+    if parameters.len() < 5 {
+        return;
+    }
+    let (x, y, z) = (parameters.get(2), parameters.get(3), parameters.get(4));
+    match parameters.get(1) {
+        1 => registers.define_hls(register, x, y, z),
+        2 => registers.define_rgb(register, x, y, z),
+        _ => {}
+    }
+}
+
+/// The shape of a pixel after raster attributes: `now` where they have but one field.
+fn shape(
+    parameters: &Parameters,
+    now: PixelAspectRatio,
+    other: PixelAspectRatio,
+) -> PixelAspectRatio
+    ensures { (text : List ℕ) → Keeps parameters.now text
+        → result ≡ (if nat_le 2 (length (fields text))
+        then shape_from other (max 1 (field text 0)) (max 1 (field text 1)) else now) }
+{
+    if parameters.len() < 2 {
+        return now;
+    }
+    ratio_from(other, parameters.get(0).max(1), parameters.get(1).max(1))
+}
+
+/// The shape of a pixel as high as `vertical` against as wide as `horizontal`: `other`, where it is
+/// none of the four.
+fn ratio_from(other: PixelAspectRatio, vertical: u32, horizontal: u32) -> PixelAspectRatio
+    ensures { result ≡ shape_from other vertical horizontal }
+{
+    let (vertical, horizontal) = (u64::from(vertical), u64::from(horizontal));
+    if vertical == horizontal {
+        PixelAspectRatio::Square
+    } else if vertical == 2 * horizontal {
+        PixelAspectRatio::Ratio2To1
+    } else if vertical == 3 * horizontal {
+        PixelAspectRatio::Ratio3To1
+    } else if vertical == 5 * horizontal {
+        PixelAspectRatio::Ratio5To1
+    } else {
+        other
+    }
+}
+
+/// A color that hides what is behind it.
+fn opaque(color: [u8; 3]) -> [u8; 4]
+    ensures { result ≡ color ++ 255 ∷ [] }
+{
+    let [red, green, blue] = color;
+    [red, green, blue, 255]
+}

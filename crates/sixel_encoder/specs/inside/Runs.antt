@@ -1,0 +1,8 @@
+-- Equal sixels next to each other in a row, which the encoder counts some at a time. How a row is cut into pieces does
+-- not know of this.
+use Rattle.std.specs.Prelude.{◌≡◌, ℕ, ◌+◌, ◌<◌, ◌≤◌, List, length, slice_index}
+
+-- so many sixels of the row from a place on are these
+pub record IsRun (row : List ℕ) (at bits count : ℕ) : Type 0 where
+  pub within : at + count ≤ length row
+  pub same : (k : ℕ) → at ≤ k → k < at + count → slice_index row k ≡ bits

@@ -1,0 +1,25 @@
+//! Whole images.
+
+use icy_sixel::{DcsSettings, EncodeOptions, Result, SixelDecoder, SixelImage};
+use std::alloc::Global;
+
+/// The first control string in the bytes; or, where there is none, all of them as a payload.
+pub fn decode(alloc: Global, decoder: &mut SixelDecoder, bytes: &[u8]) -> Result<SixelImage> {
+    decoder.decode(alloc, bytes)
+}
+
+/// A payload, as a terminal's own parser has it once it has read the header.
+pub fn decode_payload(
+    alloc: Global,
+    decoder: &mut SixelDecoder,
+    payload: &[u8],
+) -> Result<SixelImage> {
+    let settings = DcsSettings::new(Some(9), Some(1), None);
+    decoder.decode_from_dcs(alloc, payload, settings)
+}
+
+/// The text of an image in at most 16 colors.
+pub fn encode(alloc: Global, pixels: Vec<u8>, width: usize, height: usize) -> Result<String> {
+    let image = SixelImage::try_from_rgba(pixels, width, height)?;
+    image.encode_with(alloc, &EncodeOptions { max_colors: 16 })
+}

@@ -1,0 +1,10 @@
+//! How hosts use the library: the code that README and docs/USING.md show.
+#![tactic(auto)]
+
+pub mod in_one_call;
+pub mod multiplexer;
+pub mod streaming;
+pub mod terminal;
+#[cfg(test)]
+mod tests;
+pub mod viewer;

@@ -1,0 +1,31 @@
+//! A multiplexer that has to know which bytes of a pane's output are an image's own.
+
+use icy_sixel::receiver::SixelReceiver;
+use icy_sixel::script::Status;
+use icy_sixel::{Result, SixelDcsFeedStatus, SixelImage};
+
+/// What a pane's bytes were, as far as they are an image's.
+#[derive(Drop)]
+pub enum Came {
+    /// All of them are the image's own, and more are.
+    Part,
+    /// The image has ended, and so many bytes were its own.
+    Whole(SixelImage, usize),
+    /// It was cut short, by a cancel, by a key that was hit, by another sequence. What came of it is
+    /// an image too; so many bytes were its own, and the rest is for the pane.
+    CutShort(SixelImage, usize),
+}
+
+/// Reads bytes of the control string that was begun by [`SixelReceiver::begin_dcs`].
+pub fn read(receiver: &mut SixelReceiver, bytes: &[u8]) -> Result<Came> {
+    let received = receiver.feed(bytes)?;
+    match received.status {
+        Status::Dcs(SixelDcsFeedStatus::Complete) => {
+            Ok(Came::Whole(receiver.finish()?, received.consumed))
+        }
+        Status::Dcs(SixelDcsFeedStatus::Cancelled(_) | SixelDcsFeedStatus::Interrupted(_)) => {
+            Ok(Came::CutShort(receiver.finish()?, received.consumed))
+        }
+        _ => Ok(Came::Part),
+    }
+}

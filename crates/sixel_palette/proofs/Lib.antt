@@ -1,0 +1,15 @@
+pub mod PaletteApart
+pub mod PaletteChoices
+pub mod PaletteColors
+pub mod PaletteDistance
+pub mod PaletteFlags
+pub mod PaletteLaw
+pub mod PaletteLists
+pub mod PaletteNearer
+pub mod PaletteNearest
+pub mod PaletteOrder
+pub mod PaletteChunks
+pub mod PaletteShown
+pub mod PaletteSize
+pub mod PaletteSpans
+pub mod PaletteSpread

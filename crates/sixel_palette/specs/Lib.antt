@@ -1,0 +1,3 @@
+pub mod Palette
+pub mod PaletteBound
+pub mod inside

@@ -1,0 +1,4 @@
+pub mod PaletteCodes
+pub mod PaletteNear
+pub mod PaletteChunks
+pub mod PaletteFlags

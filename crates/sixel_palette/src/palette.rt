@@ -1,0 +1,124 @@
+//! The palette of an image, with a certificate that no palette of its size is much better.
+
+ghost use Rattle.std.specs.Prelude.{◌≡◌, ◌≢◌, ◌-◌, ◌%◌, ◌<◌, ◌≤◌, ◌↔◌, ℕ, List, [], length};
+ghost use Rattle.std.specs.Prelude.{All, Contains, IsTrue, OnOk, IfOk, IfErr};
+ghost use Rattle.sixel_palette.specs.Palette.{IsShown, HasSize, IsPalette, palette_room};
+ghost use Rattle.sixel_palette.specs.Palette.{IsNearest, AreIndices, IsError, AreWitnesses};
+ghost use Rattle.sixel_palette.specs.PaletteBound.{AreApart, NoListIsBetter};
+
+mod chunks;
+mod colors;
+mod farthest;
+mod flags;
+mod indices;
+mod spans;
+
+use crate::palette::colors::{is_apart_from, shown_codes};
+use crate::palette::farthest::choose;
+use crate::palette::indices::indices_of;
+use sixel_base::{Result, SixelError};
+use std::alloc::Global;
+
+/// A palette, the entry of each pixel, and a certificate of how good the palette is.
+#[derive(Debug, Drop)]
+pub struct PaletteChoice {
+    /// The entries: red, green, blue.
+    pub colors: Vec<[u8; 3]>,
+    /// One place among the entries a pixel, 0 for a hidden pixel.
+    pub indices: Vec<u8>,
+    /// The greatest squared distance of a shown color to its nearest entry.
+    pub error: u32,
+    /// One shown color more than there are entries, every two at least `error` apart; none where
+    /// the entries hold all shown colors.
+    pub witnesses: Vec<[u8; 3]>,
+}
+
+/// Chooses the palette of an image of four bytes a pixel: red, green, blue, alpha.
+///
+/// Only pixels whose alpha is at least 128 are shown and count; the others get index 0. The
+/// palette has room for `max_colors` entries, at least 2 and at most 256, and holds all shown
+/// colors if there is room for them. Otherwise it is chosen farthest first: the least shown color,
+/// by red, then green, then blue, and then again and again the shown color that is farthest from
+/// its nearest entry so far, the least of those. An opaque pixel's index is that of its nearest
+/// entry, the first of those. Distances are sums of squared differences of the channels.
+///
+/// No palette of as many colors, whatever they are, has an error below a fourth of this one's:
+/// the witnesses show it, since two of them share an entry of any such palette.
+///
+/// # Errors
+///
+/// `BufferSizeMismatch` if the length is no multiple of four, before any memory is asked for; it
+/// expects the length rounded down. Otherwise only `OutOfMemory`.
+pub fn choose_palette(alloc: Global, pixels: &[u8], max_colors: u16) -> Result<PaletteChoice>
+    ensures mismatch { let len = length pixels.now in
+        len % 4 ≢ 0 → result ≡ Err (SixelError.BufferSizeMismatch (len - len % 4) len) }
+    ensures memory { length pixels.now % 4 ≡ 0 → IfErr result (λ e. e ≡ SixelError.OutOfMemory) }
+
+    // The palette, the pixels' places in it, and its error.
+    ensures bytes { OnOk result (All (λ byte. byte < 256) pixels.now) }
+    ensures palette { IfOk result (λ p. IsPalette pixels.now max_colors p.colors.items) }
+    ensures indices { IfOk result (λ p. AreIndices pixels.now p.colors.items p.indices.items) }
+    ensures error { IfOk result (λ p. IsError (IsShown pixels.now) p.colors.items p.error) }
+
+    // Where there is room for all shown colors, the entries are these.
+    ensures occur { IfOk result (λ p. All (IsShown pixels.now) p.colors.items) }
+    ensures complete { IfOk result (λ p. (n : ℕ) → HasSize (IsShown pixels.now) n
+        → n ≤ palette_room max_colors
+        → (c : List ℕ) → IsShown pixels.now c → Contains p.colors.items c) }
+    ensures empty { IfOk result (λ p.
+        ((c : List ℕ) → ¬ IsShown pixels.now c) → p.colors.items ≡ []) }
+
+    // The certificate.
+    ensures witnesses { IfOk result (λ p.
+        AreWitnesses (IsShown pixels.now) p.colors.items p.witnesses.items) }
+    ensures witnesses_occur { IfOk result (λ p. All (IsShown pixels.now) p.witnesses.items) }
+    ensures witnesses_apart { IfOk result (λ p. AreApart p.witnesses.items p.error) }
+    ensures bound { IfOk result (λ p. (c : List ℕ) → IsShown pixels.now c
+        → NoListIsBetter (IsShown pixels.now) (length p.colors.items) p.error) }
+{
+    let beyond = pixels.len() % 4;
+    if beyond != 0 {
+        return Err(SixelError::BufferSizeMismatch {
+            expected: pixels.len() - beyond,
+            actual: pixels.len(),
+        });
+    }
+    let codes = shown_codes(alloc, pixels)?;
+    let spread = choose(alloc, &codes, usize::from(max_colors.clamp(2, 256)))?;
+    let indices = indices_of(alloc, pixels, &codes, &spread.nears)?;
+    let witnesses = spread.witnesses(alloc, &codes)?;
+    Ok(PaletteChoice {
+        error: spread.error(),
+        colors: spread.colors,
+        indices,
+        witnesses,
+    })
+}
+
+/// Whether every two places of the list hold colors at a squared distance of at least `error`.
+///
+/// If so, whatever list of fewer colors one takes, some witness has to each of them a squared
+/// distance whose fourfold is at least `error`. It takes no memory.
+pub fn witnesses_hold(witnesses: &[[u8; 3]], error: u32) -> bool
+    ensures apart { IsTrue result ↔ AreApart witnesses.now error }
+    ensures bound { IsTrue result → (n : ℕ) → n < length witnesses.now
+        → NoListIsBetter (Contains witnesses.now) n error }
+{
+    for (place, color) in witnesses.iter().enumerate() {
+        if !is_apart_from(*color, &witnesses[..place], error) {
+            return false;
+        }
+    }
+    true
+}
+
+/// A law, without work: images that show the same colors have the same palette, and a color has
+/// one nearest entry.
+pub fn one_palette()
+    ensures palette { (p q : List ℕ) (max_colors : ℕ) (xs ys : List (List ℕ)) → All (λ b. b < 256) p
+        → ((c : List ℕ) → IsShown p c → IsShown q c) → ((c : List ℕ) → IsShown q c → IsShown p c)
+        → IsPalette p max_colors xs → IsPalette q max_colors ys → xs ≡ ys }
+    ensures index { (entries : List (List ℕ)) (c : List ℕ) (i j : ℕ)
+        → IsNearest entries c i → IsNearest entries c j → i ≡ j }
+    ensures size { (p : List ℕ) (m n : ℕ) → HasSize (IsShown p) m → HasSize (IsShown p) n → m ≡ n }
+{}

@@ -1,0 +1,133 @@
+//! Farthest-first entries, chosen by the chunks of colors that an entry may be nearest to.
+
+ghost use Rattle.std.specs.Prelude.{◌≡◌, ◌<◌, ◌≤◌, min, ℕ, List, [], ◌∷◌, ◌++◌, length};
+ghost use Rattle.std.specs.Prelude.{All, IfOk, slice_index, slice_index_or};
+ghost use Rattle.std.specs.List.Sorted.{IsStrictlyIncreasing};
+ghost use Rattle.sixel_palette.specs.Palette.{distance, IsFarthest, IsFarthestFirst};
+ghost use Rattle.sixel_palette.specs.inside.PaletteCodes.{color_of, IsListed};
+ghost use Rattle.sixel_palette.specs.inside.PaletteNear.{IsNear, AreNear, AreKept};
+
+use crate::palette::chunks::{chunks_of, farthest_of, settle};
+use crate::palette::colors::color_of;
+use std::alloc::{AllocError, Global};
+
+/// A squared distance above that of any two colors: what a color has with no entry.
+pub const NO_ENTRY: u32 = 195_076;
+
+/// What is known of a color: its squared distance to its nearest entry, and which entry that is.
+#[derive(Clone, Copy)]
+pub struct Near {
+    pub squared: u32,
+    pub entry: u8,
+}
+
+/// The entries chosen, what is then known of each color, and the place of the farthest color.
+#[derive(Drop)]
+pub struct Spread {
+    pub colors: Vec<[u8; 3]>,
+    pub nears: Vec<Near>,
+    pub farthest: usize,
+}
+
+/// Chooses entries farthest first, as many as there is room for and there are colors.
+pub fn choose(alloc: Global, codes: &[u32], room: usize) -> Result<Spread, AllocError>
+    requires ascending { IsStrictlyIncreasing codes.now }
+    requires small { All (λ code. code < 16777216) codes.now }
+    requires room { room ≤ 256 }
+    ensures order { IfOk result (λ s. IsFarthestFirst (IsListed codes.now) s.colors.items) }
+    ensures size { IfOk result (λ s. length s.colors.items ≡ min room (length codes.now)) }
+    ensures near { IfOk result (λ s. AreNear s.colors.items codes.now s.nears.items) }
+    ensures nears_len { IfOk result (λ s. length s.nears.items ≡ length codes.now) }
+    ensures within { IfOk result (λ s. 0 < length codes.now → s.farthest < length codes.now) }
+    ensures farthest { IfOk result (λ s. let color = color_of (slice_index codes.now s.farthest) in
+        0 < length codes.now → IsFarthest (IsListed codes.now) s.colors.items color) }
+{
+    let count = room.min(codes.len());
+    let mut colors = Vec::with_capacity(alloc, count)?;
+    let mut squares = vec![in alloc; NO_ENTRY; codes.len()]?;
+    let mut places = vec![in alloc; 0; codes.len()]?;
+    let mut chunks = chunks_of(alloc, codes)?;
+    let mut farthest = 0;
+    for entry in 0..count {
+        let color = color_of(codes[farthest]);
+        settle(
+            codes,
+            &mut squares,
+            &mut places,
+            &mut chunks,
+            color,
+            entry as u8,
+        );
+        farthest = farthest_of(codes, &squares, &chunks);
+        colors.push(color)?;
+    }
+    Ok(Spread {
+        colors,
+        nears: nears_of(alloc, &squares, &places)?,
+        farthest,
+    })
+}
+
+impl Spread {
+    /// The greatest squared distance of a color to its nearest entry, 0 if there is no color.
+    pub fn error(&self) -> u32
+        ensures none { length self.now.nears.items ≡ 0 → result ≡ 0 }
+        ensures farthest { (d : Near) → self.now.farthest < length self.now.nears.items
+            → result ≡ (slice_index_or self.now.nears.items self.now.farthest d).squared }
+    {
+        self.nears.get(self.farthest).map_or(0, |near| near.squared)
+    }
+
+    /// The entries and the farthest color, if there are more colors than entries; otherwise none.
+    pub fn witnesses(&self, alloc: Global, codes: &[u32]) -> Result<Vec<[u8; 3]>, AllocError>
+        requires small { All (λ code. code < 16777216) codes.now }
+        requires within { 0 < length codes.now → self.now.farthest < length codes.now }
+        ensures none { IfOk result (λ w.
+            length codes.now ≤ length self.now.colors.items → w.items ≡ []) }
+        ensures some { IfOk result (λ w.
+            let color = color_of (slice_index codes.now self.now.farthest) in
+            length self.now.colors.items < length codes.now
+            → w.items ≡ self.now.colors.items ++ color ∷ []) }
+    {
+        let mut witnesses = Vec::new(alloc);
+        if self.colors.len() < codes.len() {
+            witnesses.extend_from_slice(&self.colors)?;
+            witnesses.push(color_of(codes[self.farthest]))?;
+        }
+        Ok(witnesses)
+    }
+}
+
+impl Near {
+    /// What is known with one more entry, at this squared distance.
+    #[inline(always)]
+    pub fn with(self, squared: u32, entry: u8) -> Near
+        ensures { (entries : List (List ℕ)) (p c : List ℕ) → length entries ≡ entry
+            → distance p c ≡ squared → IsNear entries c self
+            → IsNear (entries ++ p ∷ []) c result }
+    {
+        if squared < self.squared {
+            Near { squared, entry }
+        } else {
+            self
+        }
+    }
+}
+
+/// What is known of each color, from its two parts.
+fn nears_of(alloc: Global, squares: &[u32], places: &[u8]) -> Result<Vec<Near>, AllocError>
+    requires { length places.now ≡ length squares.now }
+    ensures len { IfOk result (λ nears. length nears.items ≡ length squares.now) }
+    ensures near { IfOk result (λ nears. (entries : List (List ℕ)) (codes : List ℕ)
+        → length codes ≡ length squares.now → AreKept entries codes squares.now places.now
+        → AreNear entries codes nears.items) }
+{
+    let mut nears = Vec::with_capacity(alloc, squares.len())?;
+    for (place, squared) in squares.iter().enumerate() {
+        nears.push(Near {
+            squared: *squared,
+            entry: places[place],
+        })?;
+    }
+    Ok(nears)
+}

@@ -1,0 +1,80 @@
+//! A host that keeps its receiver in a struct and feeds it in a loop. It proves what it promises
+//! from the receiver's contracts alone.
+
+ghost use Rattle.std.specs.Prelude.{◌≡◌, ◌<◌, [], None, OnErr, OnOk, IfOk, IfErr};
+ghost use Rattle.sixel_base.specs.Decoder.{origin_of};
+ghost use Rattle.sixel_base.specs.Fault.{Faults};
+ghost use Rattle.sixel_base.specs.Payload.{payload_fault, payload_wants};
+ghost use Rattle.sixel_base.specs.Payload.{payload_image, payload_registers};
+ghost use Rattle.icy_sixel.specs.ImageView.{image_value};
+ghost use Rattle.sixel_base.specs.OneShot.{found, found_fault, IsFoundImage, AreFoundRegisters};
+
+use icy_sixel::receiver::SixelReceiver;
+use icy_sixel::{DcsSettings, Result, SixelImage};
+use std::alloc::Global;
+
+/// A terminal, as far as its images go.
+#[derive(Drop)]
+pub struct Terminal {
+    pub receiver: SixelReceiver,
+}
+
+impl Terminal {
+    /// Decodes a payload that comes in pieces of so many bytes. Image, registers and refusals are
+    /// those of [`decode_from_dcs`](icy_sixel::SixelDecoder::decode_from_dcs) for the whole.
+    pub fn payload(
+        &mut self,
+        alloc: Global,
+        settings: DcsSettings,
+        bytes: &[u8],
+        piece_len: usize,
+    ) -> Result<SixelImage>
+        requires { 0 < piece_len }
+        ensures image { IfOk result (λ image. image_value image ≡ payload_image
+            (origin_of self.old.receiver.decoder settings) bytes.now) }
+        ensures registers { OnOk result (self.new.receiver.decoder.registers ≡ payload_registers
+            (origin_of self.old.receiver.decoder settings) bytes.now) }
+        ensures faultless { OnOk result
+            (payload_fault self.old.receiver.decoder.pixel_limit bytes.now ≡ None) }
+        ensures refused { IfErr result (λ error. Faults error
+            (payload_wants self.old.receiver.decoder.pixel_limit bytes.now)
+            (payload_fault self.old.receiver.decoder.pixel_limit bytes.now)) }
+        ensures kept { OnErr result (self.new.receiver.decoder ≡ self.old.receiver.decoder) }
+    {
+        self.receiver.begin_frame(alloc, settings);
+        let mut rest = bytes;
+        'pieces: while !rest.is_empty() {
+            let (piece, after) = rest.split_at(piece_len.min(rest.len()));
+            self.receiver.feed(piece)?;
+            rest = after;
+        }
+        self.receiver.finish()
+    }
+
+    /// Decodes a control string that comes in pieces of so many bytes. Image and registers are
+    /// those of [`decode`](icy_sixel::SixelDecoder::decode) for the whole.
+    pub fn control_string(
+        &mut self,
+        alloc: Global,
+        bytes: &[u8],
+        piece_len: usize,
+    ) -> Result<SixelImage>
+        requires { 0 < piece_len }
+        ensures image { IfOk result (λ image. IsFoundImage self.old.receiver.decoder
+            (found bytes.now) (image_value image)) }
+        ensures registers { OnOk result (AreFoundRegisters self.old.receiver.decoder
+            (found bytes.now) self.new.receiver.decoder.registers) }
+        ensures faultless { OnOk result (found_fault self.old.receiver.decoder.pixel_limit
+            (found bytes.now) ≡ None) }
+        ensures kept { OnErr result (self.new.receiver.decoder ≡ self.old.receiver.decoder) }
+    {
+        self.receiver.begin_dcs(alloc);
+        let mut rest = bytes;
+        'pieces: while !rest.is_empty() {
+            let (piece, after) = rest.split_at(piece_len.min(rest.len()));
+            self.receiver.feed(piece)?;
+            rest = after;
+        }
+        self.receiver.finish()
+    }
+}
