@@ -142,6 +142,10 @@ impl SixelDecoder {
 
     /// Decodes the first control string in the bytes, or all of them as a payload if there is none.
     ///
+    /// ```rust
+    /// decoder.decode(alloc, bytes)
+    /// ```
+    ///
     /// Bytes before the introducer are passed over, and what follows the payload has no effect.
     /// The refusals are those of [`decode_from_dcs`](Self::decode_from_dcs), and
     /// [`SixelError::InvalidData`](crate::SixelError::InvalidData) for a header that is faulty or
@@ -168,6 +172,14 @@ impl SixelDecoder {
 
     /// Begins a payload that is decoded as it comes.
     ///
+    /// ```rust
+    /// let mut session = decoder.begin_frame(alloc, DcsSettings::default())?;
+    /// session.feed(b"#1!1")?;
+    /// // 2 bytes are consumed, and the status is Terminated(0x1b): a terminator is the caller's.
+    /// session.feed(b"2~\x1b\\")?;
+    /// session.finish()
+    /// ```
+    ///
     /// It takes no memory and is always `Ok`. The session borrows this decoder until it ends, and
     /// starts from the registers, the crop and the limit that the decoder has now.
     pub fn begin_frame(
@@ -191,6 +203,16 @@ impl SixelDecoder {
 
     /// Begins a control string that is decoded as it comes, from its introducer to its end.
     ///
+    /// ```rust
+    /// let mut session = decoder.begin_dcs(alloc);
+    /// // A piece may end anywhere, also inside a number.
+    /// session.feed(b"\x1bP9;1q#1;2;100;0;0!1")?;
+    /// // 4 bytes are consumed, and the status is Complete: the rest is the caller's.
+    /// session.feed(b"2~\x1b\\the terminal's own")?;
+    /// // 12x6 pixels, all red. The decoder now knows register 1.
+    /// session.finish()
+    /// ```
+    ///
     /// It takes no memory.
     pub fn begin_dcs(&mut self, alloc: Global) -> SixelDcsStreamDecoder<'_>
         ensures owner { result.owner.ghost_name ≡ self.entry.ghost_name }
@@ -207,6 +229,11 @@ impl SixelDecoder {
     }
 
     /// Decodes one payload: the sixel data between a control string's `q` and its terminator.
+    ///
+    /// ```rust
+    /// let settings = DcsSettings::new(Some(9), Some(1), None);
+    /// decoder.decode_from_dcs(alloc, payload, settings)
+    /// ```
     ///
     /// What stands from the first terminator on has no effect, and an empty payload is an image of
     /// one pixel. The refusals are [`SixelError::InvalidData`](crate::SixelError::InvalidData) for

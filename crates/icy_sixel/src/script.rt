@@ -93,6 +93,23 @@ pub enum Outcome {
 
 /// Does the steps one after the other, and gives what each came to: one outcome a step.
 ///
+/// ```rust
+/// let steps = [
+///     Step::Dcs {
+///         bytes: string,
+///         cuts: &[4, 4],
+///         ending: End::Finish,
+///     },
+///     Step::Dcs {
+///         bytes: string,
+///         cuts: &[],
+///         ending: End::Abort,
+///     },
+///     Step::Reset,
+/// ];
+/// run(alloc, decoder, &steps)
+/// ```
+///
 /// A step that is refused is an outcome like any other, and the next one goes on from the decoder
 /// as it is. The list of outcomes is reserved first, so that the only refusal,
 /// [`SixelError::OutOfMemory`], comes before the first step.

@@ -49,6 +49,12 @@ impl SixelImage {
 
     /// Decodes the first control string in the bytes, or all of them as a payload if there is none,
     /// as [`SixelDecoder::decode`] of a new decoder does.
+    ///
+    /// ```rust
+    /// let image = SixelImage::decode(alloc, bytes)?;
+    /// let row_repeat = image.aspect_ratio.pad();
+    /// let has_transparency = image.has_transparency();
+    /// ```
     pub fn decode(alloc: Global, bytes: &[u8]) -> Result<Self>
         ensures image { IfOk result
             (λ image. IsFoundImage new_decoder (found bytes.now) (image_value image)) }
@@ -219,9 +225,9 @@ impl SixelImage {
 
     /// The SIXEL text of this image.
     ///
-    /// ```text
-    /// let options = EncodeOptions { max_colors: 16 };
-    /// let text = image.encode_with(alloc, &options)?;
+    /// ```rust
+    /// let image = SixelImage::try_from_rgba(pixels, width, height)?;
+    /// image.encode_with(alloc, &EncodeOptions { max_colors: 16 })
     /// ```
     ///
     /// Refused are, in this order: a zero size (`InvalidDimensions`), bytes above `usize::MAX`

@@ -1,6 +1,7 @@
 //! Whole images.
 
-use icy_sixel::{DcsSettings, EncodeOptions, Result, SixelDecoder, SixelImage};
+use icy_sixel::{DcsSettings, EncodeOptions, PaletteChoice, Result, SixelDecoder, SixelImage};
+use icy_sixel::{choose_palette, witnesses_hold};
 use std::alloc::Global;
 
 /// The first control string in the bytes; or, where there is none, all of them as a payload.
@@ -22,4 +23,11 @@ pub fn decode_payload(
 pub fn encode(alloc: Global, pixels: Vec<u8>, width: usize, height: usize) -> Result<String> {
     let image = SixelImage::try_from_rgba(pixels, width, height)?;
     image.encode_with(alloc, &EncodeOptions { max_colors: 16 })
+}
+
+/// A palette of at most 16 colors, whose certificate was looked at.
+pub fn palette(alloc: Global, pixels: &[u8]) -> Result<(PaletteChoice, bool)> {
+    let choice = choose_palette(alloc, pixels, 16)?;
+    let is_certified = witnesses_hold(&choice.witnesses, choice.error);
+    Ok((choice, is_certified))
 }

@@ -2,6 +2,7 @@
 #![tactic(auto)]
 
 pub mod in_one_call;
+pub mod lists;
 pub mod multiplexer;
 pub mod streaming;
 pub mod terminal;

@@ -1,6 +1,6 @@
-//! A control string as it comes.
+//! Control strings and payloads as they come.
 
-use icy_sixel::{Result, SixelDecoder, SixelImage};
+use icy_sixel::{DcsSettings, Result, SixelDecoder, SixelImage};
 use std::alloc::Global;
 
 /// Decodes a control string of two pieces, the second of which goes on after its end.
@@ -12,5 +12,14 @@ pub fn decode_pieces(alloc: Global) -> Result<SixelImage> {
     // 4 bytes are consumed, and the status is Complete: the rest is the caller's.
     session.feed(b"2~\x1b\\the terminal's own")?;
     // 12x6 pixels, all red. The decoder now knows register 1.
+    session.finish()
+}
+
+/// Decodes a payload of two pieces, whose header the caller has read.
+pub fn decode_payload_pieces(alloc: Global, decoder: &mut SixelDecoder) -> Result<SixelImage> {
+    let mut session = decoder.begin_frame(alloc, DcsSettings::default())?;
+    session.feed(b"#1!1")?;
+    // 2 bytes are consumed, and the status is Terminated(0x1b): a terminator is the caller's.
+    session.feed(b"2~\x1b\\")?;
     session.finish()
 }

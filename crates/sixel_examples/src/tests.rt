@@ -1,12 +1,14 @@
 //! Each example does what the page that shows it says.
 
-use crate::in_one_call::{decode, decode_payload, encode};
+use crate::in_one_call::{decode, decode_payload, encode, palette};
+use crate::lists::replay;
 use crate::multiplexer::{Came, read};
-use crate::streaming::decode_pieces;
+use crate::streaming::{decode_payload_pieces, decode_pieces};
 use crate::terminal::Images;
 use crate::viewer::open;
 use icy_sixel::SixelDecoder;
 use icy_sixel::receiver::SixelReceiver;
+use icy_sixel::script::Outcome;
 use std::process::Abort;
 
 #[test]
@@ -14,6 +16,33 @@ fn pieces_of_a_control_string(rt: HostRuntime) {
     let image = decode_pieces(rt.alloc()).expect(&rt, "an image");
     assert_eq!(rt; image.dimensions(), (12, 6));
     assert_eq!(rt; image.pixels.get(..4), Some([255, 0, 0, 255].as_slice()));
+}
+
+#[test]
+fn pieces_of_a_payload(rt: HostRuntime) {
+    let mut decoder = SixelDecoder::new();
+    let image = decode_payload_pieces(rt.alloc(), &mut decoder).expect(&rt, "an image");
+    assert_eq!(rt; image.dimensions(), (12, 6));
+    assert_eq!(rt; image.pixels.get(..4), Some([51, 51, 204, 255].as_slice()));
+}
+
+#[test]
+fn a_list_of_steps(rt: HostRuntime) {
+    let mut decoder = SixelDecoder::new();
+    let outcomes = replay(rt.alloc(), &mut decoder, b"\x1bPq#1;2;0;100;0~\x1b\\");
+    let outcomes = outcomes.expect(&rt, "outcomes");
+    assert_eq!(rt; outcomes.len(), 3);
+    assert!(rt; matches!(&outcomes[0], Outcome::Finished { consumed: 18, .. }));
+    assert!(rt; matches!(&outcomes[1], Outcome::Aborted { consumed: 18, .. }));
+    assert!(rt; matches!(&outcomes[2], Outcome::Reset));
+    assert_eq!(rt; decoder.register(1), [51, 51, 204]);
+}
+
+#[test]
+fn a_palette(rt: HostRuntime) {
+    let (choice, is_certified) = palette(rt.alloc(), &[1, 2, 3, 255]).expect(&rt, "a palette");
+    assert_eq!(rt; choice.colors.len(), 1);
+    assert!(rt; is_certified);
 }
 
 #[test]

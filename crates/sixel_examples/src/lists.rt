@@ -1,0 +1,23 @@
+//! Lists of what a decoder is to do.
+
+use icy_sixel::script::{End, Outcome, Step, run};
+use icy_sixel::{Result, SixelDecoder};
+use std::alloc::Global;
+
+/// Plays what was recorded: a control string as it came in pieces of 4 bytes, and one that was given up.
+pub fn replay(alloc: Global, decoder: &mut SixelDecoder, string: &[u8]) -> Result<Vec<Outcome>> {
+    let steps = [
+        Step::Dcs {
+            bytes: string,
+            cuts: &[4, 4],
+            ending: End::Finish,
+        },
+        Step::Dcs {
+            bytes: string,
+            cuts: &[],
+            ending: End::Abort,
+        },
+        Step::Reset,
+    ];
+    run(alloc, decoder, &steps)
+}
