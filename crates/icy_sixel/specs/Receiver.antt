@@ -1,7 +1,7 @@
 -- What contracts see of a decoder that owns the image it is receiving: the decoder, and the image that is open. What the bytes of an image
 -- mean is told by the words of both sessions, of a payload's and of a control string's; how the bytes were cut occurs nowhere in it.
-use Rattle.std.specs.Prelude.{ℕ, Bool, true, false, List, [], Option, Some, None, is_none}
-use Rattle.sixel_base.specs.Bytes.{first_terminator}
+use Rattle.std.specs.Prelude.{ℕ, Bool, true, false, List, [], ◌++◌, Option, Some, None, is_none}
+use Rattle.sixel_base.specs.Bytes.{first_terminator, is_terminated}
 use Rattle.sixel_base.specs.Fault.{Fault, StreamFailed, DcsStreamFailed}
 use Rattle.sixel_base.specs.Payload.{fed_fault, payload_fault, settled}
 use Rattle.sixel_base.specs.Bytes as own
@@ -26,13 +26,14 @@ pub data Form : Type 0 where
   OfString : Form
 
 -- The image that is open: its form, what the decoder kept that it began from, the bytes that it was fed, whether a feed was refused,
--- and how many pixels were written to grow its canvas.
+-- how many pixels were written to grow its canvas, and for how many the rows of the canvas have room.
 pub record Reception : Type 0 where
   pub form : Form
   pub start : DecoderState
   pub bytes : List ℕ
   pub is_refused : Bool
   pub writes : ℕ
+  pub room : ℕ
 
 -- a decoder, and the image that it is receiving
 pub record Receiver : Type 0 where
@@ -41,11 +42,11 @@ pub record Receiver : Type 0 where
 
 -- where none is open, all is refused
 abbrev pub no_image : Reception
-no_image = record { form = Nothing; start = new_decoder; bytes = []; is_refused = true; writes = 0 }
+no_image = record { form = Nothing; start = new_decoder; bytes = []; is_refused = true; writes = 0; room = 0 }
 
 -- an image that was fed nothing
 abbrev pub begun : Form → DecoderState → Reception
-begun form decoder = record { form = form; start = decoder; bytes = []; is_refused = false; writes = 0 }
+begun form decoder = record { form = form; start = decoder; bytes = []; is_refused = false; writes = 0; room = 0 }
 
 abbrev pub is_open : Form → Bool
 is_open Nothing = false
@@ -62,6 +63,12 @@ abbrev pub status : Form → List ℕ → Status
 status Nothing bytes = statuses.Payload NeedMoreData
 status (OfPayload settings) bytes = statuses.Payload (status_of (first_terminator bytes))
 status OfString bytes = statuses.Dcs (dcs_status bytes)
+
+-- whether it has ended
+abbrev pub is_over : Form → List ℕ → Bool
+is_over Nothing bytes = false
+is_over (OfPayload settings) bytes = is_terminated bytes
+is_over OfString bytes = has_ended (dcs_status bytes)
 
 -- what is wrong with the bytes so far
 abbrev pub fault : ℕ → Form → List ℕ → Option Fault
@@ -98,6 +105,12 @@ abbrev pub found : Form → List ℕ → Found
 found Nothing bytes = NoPayload StreamFailed
 found (OfPayload settings) bytes = Payload settings bytes
 found OfString bytes = one_shot.found bytes
+
+-- and where more bytes follow those of a control string
+abbrev pub found_followed : Form → List ℕ → List ℕ → Found
+found_followed Nothing bytes more = NoPayload StreamFailed
+found_followed (OfPayload settings) bytes more = Payload settings bytes
+found_followed OfString bytes more = one_shot.found (bytes ++ more)
 
 -- what its image is refused for, where no feed was
 abbrev pub end_fault : ℕ → Form → List ℕ → Option Fault

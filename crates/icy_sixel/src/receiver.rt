@@ -1,7 +1,7 @@
 //! A decoder that owns the image that it is receiving, for a host that keeps both in one struct.
 
 ghost use Rattle.std.specs.Prelude.{◌≡◌, ◌+◌, ◌*◌, ◌≤◌, ◌++◌, [], true, false, nat_lt, None};
-ghost use Rattle.std.specs.Prelude.{List, ℕ, Err, OnOk, OnErr, IfOk, IfErr, MatchBool, length};
+ghost use Rattle.std.specs.Prelude.{List, ℕ, Ok, Err, OnOk, OnErr, IfOk, IfErr, MatchBool, length};
 ghost use Rattle.std.specs.Prelude.{slice_index_or, slice_set};
 ghost use Rattle.sixel_base.specs.Color.{default_registers};
 ghost use Rattle.sixel_base.specs.Decoder.{IsSetAs, limit_of, new_decoder};
@@ -9,10 +9,11 @@ ghost use Rattle.sixel_base.specs.Fault.{Faults, IsFault};
 ghost use Rattle.sixel_base.specs.Payload.{payload_fault, payload_wants};
 ghost use Rattle.sixel_base.specs.Settings.{Settings};
 ghost use Rattle.icy_sixel.specs.ImageView.{image_value};
-ghost use Rattle.sixel_base.specs.OneShot.{found_fault, IsFoundImage, AreFoundRegisters};
+ghost use Rattle.sixel_base.specs.Dcs.{dcs_fault, dcs_growths, IsSameString};
+ghost use Rattle.sixel_base.specs.OneShot.{found_fault, IsFoundImage, AreFoundRegisters, IsDecodedAs};
 ghost use Rattle.icy_sixel.specs.Receiver.{OfPayload, OfString, begun, no_image, is_open};
-ghost use Rattle.icy_sixel.specs.Receiver.{count, status, fault, failed, growths, reached_area};
-ghost use Rattle.icy_sixel.specs.Receiver.{found, end_fault, end_wants, in_payload, size};
+ghost use Rattle.icy_sixel.specs.Receiver.{count, status, is_over, fault, failed, growths, reached_area};
+ghost use Rattle.icy_sixel.specs.Receiver.{found, found_followed, end_fault, end_wants, in_payload, size};
 
 use crate::decoder::{DcsSettings, SixelDecoder};
 use crate::script::Status;
@@ -144,6 +145,19 @@ impl SixelReceiver {
         ensures err { OnErr result (self.new.image.is_refused ≡ true) }
         ensures faultless { OnOk result (fault self.old.image.start.pixel_limit
             self.new.image.form self.new.image.bytes ≡ None) }
+        ensures sound { self.old.image.is_refused ≡ false
+            → fault self.old.image.start.pixel_limit
+            self.old.image.form self.old.image.bytes ≡ None }
+        ensures over { self.old.image.is_refused ≡ false
+            → is_over self.old.image.form self.old.image.bytes ≡ true
+            → result ≡ Ok (record {
+              consumed = 0;
+              status = status self.old.image.form self.old.image.bytes;
+            }) }
+        ensures over_for_good { (more : List ℕ) → IfOk result (λ fed.
+            self.old.image.form ≡ OfString → is_over OfString self.new.image.bytes ≡ true
+            → IsSameString self.old.image.start.pixel_limit
+            self.new.image.bytes (self.new.image.bytes ++ more)) }
         ensures consumed { IfOk result (λ fed.
             count self.old.image.form self.old.image.bytes + fed.consumed
             ≡ count self.new.image.form self.new.image.bytes) }
@@ -168,6 +182,11 @@ impl SixelReceiver {
             → Faults error (payload_wants self.old.image.start.pixel_limit
             (self.new.image.bytes ++ more))
             (payload_fault self.old.image.start.pixel_limit (self.new.image.bytes ++ more)) }
+        ensures string_refused_for_good { (error : SixelError) (more : List ℕ)
+            → self.old.image.form ≡ OfString → result ≡ Err error
+            → self.old.image.is_refused ≡ false
+            → Faults error (nat_lt 0 (dcs_growths (self.new.image.bytes ++ more)))
+            (dcs_fault self.old.image.start.pixel_limit (self.new.image.bytes ++ more)) }
     {
         match &mut self.open {
             Open::Nothing => Err(SixelError::stream_failed()),
@@ -198,6 +217,10 @@ impl SixelReceiver {
             (found self.old.image.form self.old.image.bytes) (image_value image)) }
         ensures registers { OnOk result (AreFoundRegisters self.old.image.start
             (found self.old.image.form self.old.image.bytes) self.new.decoder.registers) }
+        ensures as_decoded { (more : List ℕ) → IfOk result (λ image.
+            IsDecodedAs self.old.image.start
+            (found_followed self.old.image.form self.old.image.bytes more)
+            (image_value image) self.new.decoder.registers) }
         ensures area { IfOk result (λ image.
             image.width * image.height ≤ self.old.image.start.pixel_limit) }
         ensures set { IsSetAs self.old.decoder self.new.decoder }
@@ -248,6 +271,8 @@ impl SixelReceiver {
         ensures at_least { self.now.image.is_refused ≡ false
             → reached_area self.now.image.form self.now.image.bytes ≤ result }
         ensures at_most { result ≤ 3 * reached_area self.now.image.form self.now.image.bytes }
+        ensures room { self.now.image.room
+            ≤ 2 * reached_area self.now.image.form self.now.image.bytes }
         ensures refused { self.now.image.is_refused ≡ true → result ≡ 0 }
     {
         match &self.open {

@@ -17,6 +17,7 @@ reception_of (opened.Payload intake) = record {
   bytes = intake.bytes;
   is_refused = intake.is_refused;
   writes = intake.writes;
+  room = intake.room;
 }
 reception_of (opened.ControlString progress) = record {
   form = OfString;
@@ -24,6 +25,7 @@ reception_of (opened.ControlString progress) = record {
   bytes = progress.bytes;
   is_refused = progress.is_refused;
   writes = progress.writes;
+  room = progress.room;
 }
 
 abbrev pub receiver_of : Inside → Receiver
