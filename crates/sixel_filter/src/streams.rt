@@ -1,0 +1,51 @@
+//! Reading a stream in pieces, and writing what is made of it.
+
+use crate::fault::Fault;
+use crate::filter::Filter;
+use crate::words::Work;
+use std::alloc::Global;
+use std::io::{Read, Write};
+
+/// Reads the input to its end, in pieces of up to so many bytes, and writes what the filter makes
+/// of each.
+pub fn serve<R: Read, O: Write>(
+    alloc: Global,
+    piece_len: usize,
+    work: Work,
+    input: &mut R,
+    output: &mut O,
+) -> Result<(), Fault> {
+    let mut filter = Filter::new(alloc, work);
+    let mut piece = vec![in alloc; 0; piece_len]?;
+    let mut made = Vec::new(alloc);
+    'reads: for _ in 0..u64::MAX {
+        match input.read(&mut piece) {
+            Ok(0) => {
+                filter.end(&mut made)?;
+                return write_all(output, &made);
+            }
+            Ok(count) => {
+                filter.pass(&piece[..count], &mut made)?;
+                write_all(output, &made)?;
+                made.clear();
+            }
+            Err(_) => return Err(Fault::Input),
+        }
+    }
+    Err(Fault::Input)
+}
+
+/// Writes the bytes, or a beginning of them and then the fault `Output`.
+fn write_all<O: Write>(output: &mut O, bytes: &[u8]) -> Result<(), Fault> {
+    let mut done = 0;
+    'writes: for _ in 0..u64::MAX {
+        if done >= bytes.len() {
+            return Ok(());
+        }
+        match output.write(&bytes[done..]) {
+            Ok(0) | Err(_) => return Err(Fault::Output),
+            Ok(count) => done += count,
+        }
+    }
+    Err(Fault::Output)
+}
