@@ -1,11 +1,36 @@
-/* The SIXEL decoder of icy_sixel for C.
+/* icysixel: SIXEL images for C, encoding and streaming decoding, over the proved crate icy_sixel.
  *
- * A handle is the caller's own memory. One of zeros, as of `icysixel handle = {0};`, leads to
- * nothing: each call on it has an answer, also after icysixel_free. A handle is not copied, and one
- * call at a time is made on it; different handles are free of each other. What a handle leads to is
- * freed by icysixel_free, and by icysixel_new where it led to something before.
+ *     icysixel handle = {0};
+ *     icysixel_new(&handle);
+ *     ..
+ *     icysixel_free(&handle);
  *
- * The program that is linked defines rattle_alloc, rattle_realloc and rattle_dealloc.
+ * Handles. An `icysixel` is the caller's own memory: 16 bytes that hold a decoder, with the image that
+ * it is receiving and what it keeps for the caller, or nothing. One of zeros holds nothing. Each call
+ * has an answer on any handle, also on one of zeros or after icysixel_free: no call has a condition. A
+ * handle is neither copied nor written to by the caller; one that holds a decoder may be moved, where
+ * the old place is used no more.
+ *
+ * Ownership. What the library keeps is behind the handle, and is freed by icysixel_free. It keeps
+ * no pointer that it is passed: bytes are the caller's again once a call has answered, and images and
+ * texts are copied into the caller's own room. A pointer to bytes may be null where their number is 0;
+ * no other pointer may. No two arguments of one call share memory.
+ *
+ * Threads. One call at a time is made on one handle, from any thread. Different handles are free of
+ * each other: the library has no state of its own. No call is made from a signal handler.
+ *
+ * Memory. It comes from rattle_alloc, rattle_realloc and rattle_dealloc. The library brings these over
+ * malloc, realloc and free, as weak symbols (icysixel_memory.c); a program may define its own. A call
+ * that is refused memory answers ICYSIXEL_OUT_OF_MEMORY, and the handle is then as its text below says
+ * of a refusal. No call ends the process.
+ *
+ * Sizes are in bytes where no unit is told. A pixel is four bytes: red, green, blue, alpha. Pixels lie
+ * row by row from the top, each row from the left. A stride is how many bytes lie between the starts of
+ * two rows; 0 stands for four times the width.
+ *
+ * Answers are an ICYSIXEL_ code, where nothing else is told. What a call writes through a pointer
+ * is written where it answers ICYSIXEL_DONE, and left as it was where it does not, save the sizes
+ * `wanted`.
  */
 #ifndef ICYSIXEL_H
 #define ICYSIXEL_H
@@ -17,7 +42,7 @@
 extern "C" {
 #endif
 
-/* A decoder and the image that it is receiving, or nothing. Its members are the library's own. */
+/* A decoder, or nothing. Its members are the library's own. */
 typedef struct {
     uint8_t held;
     void *state;
@@ -25,65 +50,185 @@ typedef struct {
 
 /* What a feed did. */
 typedef struct {
-    size_t consumed; /* how many bytes of the piece are the image's own */
+    size_t consumed; /* how many bytes of the piece are the image's own: what follows is the caller's */
     uint32_t status; /* one of ICYSIXEL_MORE and those after it */
-    uint8_t byte;    /* the control that ended the image, 0 where there is none to tell */
+    uint8_t byte;    /* the control that ended the image; 0 where there is none to tell */
 } icysixel_fed;
 
-/* The sizes of an image. */
+/* Sizes in pixels. */
 typedef struct {
-    size_t width;  /* columns */
+    size_t width;
+    size_t height;
+} icysixel_size;
+
+/* An image, without its pixels. */
+typedef struct {
+    size_t width;  /* pixels in a row */
     size_t height; /* rows */
-    size_t bytes;  /* of its pixels: red, green, blue and alpha of each, row by row from the top */
+    size_t bytes;  /* 4 * width * height: what the pixels take with stride 0 */
+    uint16_t pan;  /* the width of a pixel, as it is shown */
+    uint16_t pad;  /* its height, in the same unit: 1, 2, 3 or 5 */
+    uint8_t p1;    /* a P1 that asks for this shape of a pixel: 9, 0, 3 or 2 */
+    uint8_t p2;    /* the background where nothing was drawn: 1 is transparent, 0 is register 0 */
 } icysixel_shape;
 
+/* A color, a byte a channel. */
+typedef struct {
+    uint8_t red;
+    uint8_t green;
+    uint8_t blue;
+} icysixel_color;
+
+/* Answers. */
 enum {
     ICYSIXEL_DONE = 0,
-    ICYSIXEL_NO_HANDLE = 1,     /* the handle leads to nothing */
-    ICYSIXEL_OUT_OF_MEMORY = 2, /* memory was refused */
-    ICYSIXEL_NO_SIXEL_DATA = 3, /* the control string does not begin with its introducer */
-    ICYSIXEL_OVERFLOW = 4,      /* a size does not fit its type */
-    ICYSIXEL_INVALID_DATA = 5,  /* refused bytes, an image that has not ended, or none */
-    ICYSIXEL_NO_IMAGE = 7,      /* no image was finished, or the last one was refused */
-    ICYSIXEL_OTHER_ROOM = 8     /* the room has another number of bytes than the image */
+    /* of the handle */
+    ICYSIXEL_NO_HANDLE = 1,  /* the handle holds nothing */
+    ICYSIXEL_NO_SESSION = 2, /* no image is open: begin one */
+    ICYSIXEL_NO_SIZE = 3,    /* the payload has not begun, or the image was refused */
+    ICYSIXEL_NO_IMAGE = 4,   /* no image is kept */
+    ICYSIXEL_NO_TEXT = 5,    /* no text is kept */
+    /* of the room that the caller brings */
+    ICYSIXEL_SMALL_ROOM = 6, /* the room has fewer bytes than `wanted` */
+    ICYSIXEL_BAD_STRIDE = 7, /* the stride is less than a row, or no size_t holds all rows */
+    /* of memory and sizes */
+    ICYSIXEL_OUT_OF_MEMORY = 8,
+    ICYSIXEL_OVERFLOW = 9,         /* a size does not fit its type, as too many new lines in an image */
+    ICYSIXEL_BAD_DIMENSIONS = 10,  /* a size is zero, or above what the format can hold */
+    ICYSIXEL_BUFFER_MISMATCH = 11, /* the pixels are fewer bytes than the sizes ask for */
+    /* of SIXEL data */
+    ICYSIXEL_NO_SIXEL_DATA = 12,      /* the bytes do not begin with an introducer, ESC P or 0x90 */
+    ICYSIXEL_MALFORMED = 13,          /* a command that breaks the grammar or a limit */
+    ICYSIXEL_TOO_LARGE = 14,          /* the image has more pixels than the limit */
+    ICYSIXEL_BAD_HEADER = 15,         /* a byte that has no place in the header */
+    ICYSIXEL_MISSING_COMMAND = 16,    /* the control string ended in its header */
+    ICYSIXEL_INCOMPLETE = 17,         /* the control string has not ended */
+    ICYSIXEL_STREAM_FAILED = 18,      /* the payload was refused before: begin another */
+    ICYSIXEL_DCS_STREAM_FAILED = 19   /* the control string was refused before: begin another */
 };
 
+/* What a caller does after a feed. */
 enum {
-    ICYSIXEL_MORE = 0,       /* feed more bytes */
-    ICYSIXEL_COMPLETE = 1,   /* the image has ended */
-    ICYSIXEL_CANCELLED = 2,  /* CAN or SUB cut it short */
-    ICYSIXEL_INTERRUPTED = 3 /* another control cut it short */
+    ICYSIXEL_MORE = 0,       /* feed the next bytes */
+    ICYSIXEL_COMPLETE = 1,   /* the image has ended: finish */
+    ICYSIXEL_CANCELLED = 2,  /* CAN or SUB, told in `byte`, cut it short: finish or abort */
+    ICYSIXEL_INTERRUPTED = 3 /* another control, told in `byte`, cut it short: finish or abort */
 };
 
-/* Makes the handle lead to a new decoder; what it led to is freed. */
+/* -- Handles -- */
+
+/* Makes the handle hold a new decoder: the registers of a terminal that has just been switched on, no
+ * crop, the limit of 67,108,864 pixels. What it held is freed, also where memory is refused: it then
+ * holds nothing. */
 uint32_t icysixel_new(icysixel *handle);
 
-/* Frees what the handle leads to, if it leads to anything. */
+/* Frees what the handle holds, if it holds anything. */
 void icysixel_free(icysixel *handle);
 
-/* Begins a control string, from its introducer on. An image that is open is given up. */
+/* -- Images as they come -- */
+
+/* Begins a control string, from its introducer on, with the registers, the crop and the limit that the
+ * decoder has now. An image that is open is given up. */
 uint32_t icysixel_begin(icysixel *handle);
 
-/* Reads a piece of the image that is open. `fed` is written where the answer is ICYSIXEL_DONE. */
+/* Begins a payload: what stands between a control string's `q` and its terminator. p1, p2 and grid are
+ * the parameters before the `q`; a number that is none of 0 to 65535, as -1, is an absent one. An image
+ * that is open is given up. */
+uint32_t icysixel_begin_payload(icysixel *handle, int32_t p1, int32_t p2, int32_t grid);
+
+/* Reads a piece of the image that is open. Pieces may end anywhere; how the bytes are cut changes no
+ * answer. A refusal is kept: each further feed and finish of the image is refused too. */
 uint32_t icysixel_feed(icysixel *handle, const uint8_t *piece, size_t length, icysixel_fed *fed);
 
-/* Closes the image, keeps it until the next call of this name, and writes `shape` where the answer
- * is ICYSIXEL_DONE. The decoder then has the registers that the image left; a refusal changes
- * none. */
+/* 1 where an image is open, as it was begun, and neither finished nor given up; else 0. */
+uint8_t icysixel_is_receiving(icysixel *handle);
+
+/* 1 where the payload of the image that is open has begun, and was not refused; else 0. */
+uint8_t icysixel_in_payload(icysixel *handle);
+
+/* Tells the sizes that the image that is open has so far. Takes no memory. */
+uint32_t icysixel_size_so_far(icysixel *handle, icysixel_size *size);
+
+/* How many pixels were copied or filled so far, to grow the rows of the image that is open; 0 where
+ * none is, and after a refusal. At most three times the area that its sixels reach. */
+uint64_t icysixel_canvas_writes(icysixel *handle);
+
+/* Closes the image that is open, keeps it in place of the one that was kept before, and tells its shape.
+ * The decoder then has the registers that the image left. A refusal closes the image too, and
+ * changes no register; no image is kept then. */
 uint32_t icysixel_finish(icysixel *handle, icysixel_shape *shape);
 
-/* Copies the pixels of the image that was finished last into room of just as many bytes. */
-uint32_t icysixel_pixels(icysixel *handle, uint8_t *room, size_t bytes);
-
-/* Gives up the image that is open, if one is. */
+/* Gives up the image that is open, if one is. The decoder stays as it is. */
 uint32_t icysixel_abort(icysixel *handle);
 
-/* Gives a register of the decoder this color, for the images that are begun from then on. */
+/* -- Images at once -- */
+
+/* Decodes the first control string in the bytes, or all of them as a payload if there is none, keeps the
+ * image, and tells its shape, as icysixel_finish does. An image that is open is given up. */
+uint32_t icysixel_decode(icysixel *handle, const uint8_t *bytes, size_t length, icysixel_shape *shape);
+
+/* The same of one payload, with the parameters of icysixel_begin_payload. */
+uint32_t icysixel_decode_payload(icysixel *handle, const uint8_t *bytes, size_t length, int32_t p1,
+                                 int32_t p2, int32_t grid, icysixel_shape *shape);
+
+/* -- The image that is kept -- */
+
+/* Moves the pixels of the image that is kept into the room: row n begins at n * stride, and has 4 * width
+ * bytes; what lies between two rows is left as it was. `wanted` is told how many bytes that takes, also
+ * where the room is too small; it is 0 where no image is kept, and where the stride is bad. A
+ * refusal leaves the room as it was, and the image where it is. */
+uint32_t icysixel_pixels(icysixel *handle, uint8_t *room, size_t length, size_t stride,
+                         size_t *wanted);
+
+/* Frees the image and the text that are kept, if any are. */
+uint32_t icysixel_drop(icysixel *handle);
+
+/* -- The decoder -- */
+
+/* Tells the color of a register, as the images that were finished left it. */
+uint32_t icysixel_register(icysixel *handle, uint8_t number, icysixel_color *color);
+
+/* Gives a register this color, for the images that are begun from then on. */
 uint32_t icysixel_set_register(icysixel *handle, uint8_t number, uint8_t red, uint8_t green,
                                uint8_t blue);
 
-/* Makes the decoder's registers those of a new one. */
+/* Makes the registers those of a new decoder, for the images that are begun from then on. */
 uint32_t icysixel_reset(icysixel *handle);
+
+/* 1 where images are cropped to the height that their raster attributes name; else 0. */
+uint8_t icysixel_crop(icysixel *handle);
+
+/* Sets whether images that are begun from then on are cropped so: 0 is no, any other number yes. */
+uint32_t icysixel_set_crop(icysixel *handle, uint8_t on);
+
+/* How many pixels an image may have; 0 where the handle holds nothing. */
+size_t icysixel_limit(icysixel *handle);
+
+/* Sets how many pixels an image may have that is begun from then on: at least 1, at most 67,108,864;
+ * another number is taken for the nearer of these. */
+uint32_t icysixel_set_limit(icysixel *handle, size_t pixels);
+
+/* -- Encoding -- */
+
+/* Keeps the SIXEL text of these pixels, in place of the text that was kept before, and tells how many
+ * bytes it has. p1 and p2 are those of the text's header, as in icysixel_begin_payload: the shape of a
+ * pixel and the background. A pixel whose alpha is below 128 is not drawn. The palette has at most
+ * max_colors entries; a number below 2 is taken for 2, and one above 256 for 256. `length` is that of
+ * `pixels`, which may go on after the last row. A refusal leaves no text. */
+uint32_t icysixel_encode(icysixel *handle, const uint8_t *pixels, size_t length, size_t stride,
+                         size_t width, size_t height, int32_t p1, int32_t p2, uint16_t max_colors,
+                         size_t *text_length);
+
+/* Moves the text that is kept into the room, a control string without a zero after it. `wanted` is told
+ * how many bytes it has, 0 where none is kept. A refusal leaves the room as it was, and the text where it
+ * is. */
+uint32_t icysixel_take_text(icysixel *handle, uint8_t *room, size_t length, size_t *wanted);
+
+/* -- Words -- */
+
+/* Writes what a code means, in English, and a zero after it, into the room, as far as there is room for
+ * both; answers how many bytes the text has, without the zero. What is not a code is "unknown code". */
+size_t icysixel_text(uint32_t code, uint8_t *room, size_t length);
 
 #ifdef __cplusplus
 }

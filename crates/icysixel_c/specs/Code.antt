@@ -1,20 +1,48 @@
--- The numbers that C sees: a code for each kind of refusal, and how an image stands that is received.
--- This library's own; include/icysixel.h names them for C.
-use Rattle.std.specs.Prelude.{ℕ}
+-- The numbers that C is told: a code for each cause of a refusal, and how an image stands that is received. This library's own;
+-- include/icysixel.h names them for C. Here 8 is want of memory, 9 an overflow, and from 10 on what is wrong with sizes and data.
+use Rattle.std.specs.Prelude.{◌≡◌, ℕ, nat_le, ℤ, pos, negsuc, Bool, IsTrue, if◌then◌else◌, ◌⊎◌, Option, Some, None, IsSomeAnd}
+use Rattle.sixel_base.specs.Fault.{Fault, text_of, Malformed, TooLarge, MissingCommand, BadHeader, StreamFailed, DcsStreamFailed, Incomplete, NoIntroducer, Overflow}
+use Rattle.sixel_base.specs.Settings.{Settings}
 use Rattle.sixel_base.specs.declared.error.SixelError.{SixelError}
-use Rattle.sixel_base.specs.declared.error.SixelError.TheVariants.{InvalidDimensions, BufferSizeMismatch, InvalidData, NoSixelData, IntegerOverflow, OutOfMemory}
+use Rattle.sixel_base.specs.declared.error.SixelError.TheVariants as error
 use Rattle.sixel_base.specs.declared.status.SixelFeedStatus.TheVariants as payload
 use Rattle.sixel_base.specs.declared.status.SixelDcsFeedStatus.TheVariants as string
 use Rattle.icy_sixel.specs.declared.script.Status.{Status}
 use Rattle.icy_sixel.specs.declared.script.Status.TheVariants.{Payload, Dcs}
 
-abbrev pub code_of : SixelError → ℕ
-code_of OutOfMemory = 2
-code_of NoSixelData = 3
-code_of IntegerOverflow = 4
-code_of (InvalidData text) = 5
-code_of (InvalidDimensions width height) = 6
-code_of (BufferSizeMismatch expected actual) = 6
+-- the code of what is wrong with data
+abbrev pub fault_code : Fault → ℕ
+fault_code Overflow = 9
+fault_code NoIntroducer = 12
+fault_code Malformed = 13
+fault_code TooLarge = 14
+fault_code BadHeader = 15
+fault_code MissingCommand = 16
+fault_code Incomplete = 17
+fault_code StreamFailed = 18
+fault_code DcsStreamFailed = 19
+
+-- what may be told where this fault was found: its code, or want of memory where that may come
+abbrev pub IsTold : ℕ → Bool → Option Fault → Type 0
+IsTold code may_want found = ((code ≡ 8) × IsTrue may_want) ⊎ IsSomeAnd found (λ fault. code ≡ fault_code fault)
+
+-- the code of an error
+abbrev pub IsCodeOf : ℕ → SixelError → Type 0
+IsCodeOf code error.OutOfMemory = code ≡ 8
+IsCodeOf code error.IntegerOverflow = code ≡ 9
+IsCodeOf code (error.InvalidDimensions width height) = code ≡ 10
+IsCodeOf code (error.BufferSizeMismatch expected actual) = code ≡ 11
+IsCodeOf code error.NoSixelData = code ≡ 12
+IsCodeOf code (error.InvalidData text) = (fault : Fault) → text_of fault ≡ Some text.now → code ≡ fault_code fault
+
+-- a parameter of a control string: a number that is none of 0 to 65535 is an absent one
+abbrev pub given : ℤ → Option ℕ
+given (pos number) = if nat_le number 65535 then Some number else None
+given (negsuc below) = None
+
+-- the parameters that C names
+abbrev pub settings_of : ℤ → ℤ → ℤ → Settings
+settings_of p1 p2 grid = record { aspect_ratio = given p1; zero_color = given p2; grid_size = given grid }
 
 -- 0 where more bytes are wanted, 1 where the image is complete, 2 where it was cancelled, 3 where it was interrupted
 abbrev pub status_code : Status → ℕ

@@ -1,2 +1,7 @@
 pub mod Code
+pub mod Drawn
+pub mod Kept
+pub mod Rows
+pub mod Shape
+pub mod Words
 pub mod inside

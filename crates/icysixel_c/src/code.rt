@@ -1,33 +1,86 @@
 //! The numbers that C sees.
 
-ghost use Rattle.std.specs.Prelude.{◌≡◌};
-ghost use Rattle.icysixel_c.specs.Code.{code_of, status_code, status_byte};
+ghost use Rattle.std.specs.Prelude.{◌≡◌, ◌≢◌, Bool, Option, Some};
+ghost use Rattle.sixel_base.specs.Fault.{Fault, Faults, IsFault, text_of};
+ghost use Rattle.icysixel_c.specs.Code.{IsCodeOf, IsTold, fault_code};
+ghost use Rattle.icysixel_c.specs.Code.{status_code, status_byte};
 
 use icy_sixel::script::Status;
 use icy_sixel::{SixelDcsFeedStatus, SixelError, SixelFeedStatus};
 
 /// The call was done.
 pub const DONE: u32 = 0;
-/// The handle leads to nothing.
+/// The handle holds nothing.
 pub const NO_HANDLE: u32 = 1;
+/// No image is open.
+pub const NO_SESSION: u32 = 2;
+/// The image that is open has no size yet.
+pub const NO_SIZE: u32 = 3;
+/// No image is kept.
+pub const NO_IMAGE: u32 = 4;
+/// No text is kept.
+pub const NO_TEXT: u32 = 5;
+/// The room is too small.
+pub const SMALL_ROOM: u32 = 6;
+/// The stride is less than a row, or too large for the rows to be counted.
+pub const BAD_STRIDE: u32 = 7;
 /// Memory was refused.
-pub const OUT_OF_MEMORY: u32 = 2;
-
-/// No image was finished, or the last one was refused.
-pub const NO_IMAGE: u32 = 7;
-/// The room has another number of bytes than the image.
-pub const OTHER_ROOM: u32 = 8;
+pub const OUT_OF_MEMORY: u32 = 8;
+/// A size does not fit its type.
+pub const OVERFLOW: u32 = 9;
+/// A size is zero or too large.
+pub const BAD_DIMENSIONS: u32 = 10;
+/// The pixels are too few.
+pub const BUFFER_MISMATCH: u32 = 11;
+/// There is no introducer.
+pub const NO_SIXEL_DATA: u32 = 12;
+/// The data break the grammar or a limit of one command.
+pub const MALFORMED: u32 = 13;
+/// The image is above the limit of pixels.
+pub const TOO_LARGE: u32 = 14;
+/// The header has a byte that has no place in it.
+pub const BAD_HEADER: u32 = 15;
+/// The control string ended in its header.
+pub const MISSING_COMMAND: u32 = 16;
+/// The control string has not ended.
+pub const INCOMPLETE: u32 = 17;
+/// The payload was refused before.
+pub const STREAM_FAILED: u32 = 18;
+/// The control string was refused before.
+pub const DCS_STREAM_FAILED: u32 = 19;
 
 /// The code of a refusal.
 pub fn code_of(error: &SixelError) -> u32
-    ensures { result ≡ code_of error.now }
+    ensures fault { (fault : Fault) → IsFault error.now fault → result ≡ fault_code fault }
+    ensures told { (may_want : Bool) (found : Option Fault) → Faults error.now may_want found
+        → IsTold result may_want found }
+    ensures code { IsCodeOf result error.now }
+    ensures memory { error.now ≡ SixelError.OutOfMemory → result ≡ 8 }
+    ensures refused { result ≢ 0 }
 {
     match error {
         SixelError::OutOfMemory => OUT_OF_MEMORY,
-        SixelError::NoSixelData => 3,
-        SixelError::IntegerOverflow => 4,
-        SixelError::InvalidData(_) => 5,
-        SixelError::InvalidDimensions { .. } | SixelError::BufferSizeMismatch { .. } => 6,
+        SixelError::NoSixelData => NO_SIXEL_DATA,
+        SixelError::IntegerOverflow => OVERFLOW,
+        SixelError::InvalidData(text) => text_code(text),
+        SixelError::InvalidDimensions { .. } => BAD_DIMENSIONS,
+        SixelError::BufferSizeMismatch { .. } => BUFFER_MISMATCH,
+    }
+}
+
+/// The code of data that are refused with this text.
+fn text_code(text: &str) -> u32
+    ensures fault { (fault : Fault) → text_of fault ≡ Some text.now → result ≡ fault_code fault }
+    ensures refused { result ≢ 0 }
+{
+    match text {
+        "image dimensions too large" => TOO_LARGE,
+        "invalid SIXEL DCS header" => BAD_HEADER,
+        "missing SIXEL DCS command" => MISSING_COMMAND,
+        "incomplete SIXEL DCS sequence" => INCOMPLETE,
+        "stream decoder has failed" => STREAM_FAILED,
+        "DCS stream decoder has failed" => DCS_STREAM_FAILED,
+        _ => MALFORMED,
     }
 }
 

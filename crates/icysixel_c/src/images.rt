@@ -1,32 +1,36 @@
 //! What C calls to finish an image and to take its pixels.
 
-ghost use Rattle.std.specs.Prelude.{◌≡◌, Some, None, is_some, true, length};
+ghost use Rattle.std.specs.Prelude.{◌≡◌, ◌≢◌, ◌*◌, ◌<◌, ◌≤◌, ℕ, Some, None, is_some, true, false};
+ghost use Rattle.std.specs.Prelude.{length, drop};
+ghost use Rattle.sixel_base.specs.Decoder.{IsSetAs};
+ghost use Rattle.sixel_base.specs.Payload.{Image};
 ghost use Rattle.sixel_base.specs.OneShot.{IsFoundImage, AreFoundRegisters};
 ghost use Rattle.icy_sixel.specs.ImageView.{image_value};
-ghost use Rattle.icy_sixel.specs.Receiver.{no_image, found};
+ghost use Rattle.icy_sixel.specs.Receiver.{end_fault, end_wants, failed, found, is_open, no_image};
 ghost use Rattle.icy_sixel.specs.declared.sixel_image.SixelImage.{SixelImage};
+ghost use Rattle.icysixel_c.specs.Code.{IsTold, fault_code};
+ghost use Rattle.icysixel_c.specs.Kept.{kept_image};
+ghost use Rattle.icysixel_c.specs.Rows.{AreGapsKept, bytes_of, rows_of, stride_of};
+ghost use Rattle.icysixel_c.specs.Shape.{shape_of};
 ghost use Rattle.icysixel_c.specs.declared.state.State.{State};
 
-use crate::code::{DONE, NO_HANDLE, NO_IMAGE, OTHER_ROOM, code_of};
+use crate::code::{
+    BAD_STRIDE, BUFFER_MISMATCH, DONE, NO_HANDLE, NO_IMAGE, NO_SESSION, SMALL_ROOM, code_of,
+};
+use crate::rows::{spread, stride_of, wanted};
+use crate::shape::Shape;
 use crate::slot::Slot;
 use icy_sixel::SixelImage;
 use std::alloc::Global;
 
-/// The sizes of an image: columns, rows, and the bytes of its pixels, four for each.
-#[repr(C)]
-#[derive(Clone, Copy, Debug, PartialEq, Eq)]
-pub struct Shape {
-    pub width: usize,
-    pub height: usize,
-    pub bytes: usize,
-}
-
-/// Closes the image, keeps it until the next one is finished, and tells its sizes where the answer
-/// is 0.
+/// Closes the image, keeps it in place of the one before, and tells its shape where the answer is
+/// 0.
 #[unsafe(no_mangle)]
 pub extern "C" fn icysixel_finish(alloc: Global, slot: &mut Slot, shape: &mut Shape) -> u32
     ensures held { is_some slot.new.handle.state ≡ is_some slot.old.handle.state }
     ensures none { slot.old.handle.state ≡ None → result ≡ 1 }
+    ensures unopened { (before : State) → slot.old.handle.state ≡ Some before
+        → is_open before.receiver.image.form ≡ false → result ≡ 2 }
     ensures closed { (after : State) → slot.new.handle.state ≡ Some after
         → after.receiver.image ≡ no_image }
     ensures found { (after : State) → slot.new.handle.state ≡ Some after → result ≡ 0
@@ -35,71 +39,176 @@ pub extern "C" fn icysixel_finish(alloc: Global, slot: &mut Slot, shape: &mut Sh
         → slot.old.handle.state ≡ Some before → slot.new.handle.state ≡ Some after
         → after.image ≡ Some image → IsFoundImage before.receiver.image.start
         (found before.receiver.image.form before.receiver.image.bytes) (image_value image) }
-    ensures sizes { (after : State) (image : SixelImage) → slot.new.handle.state ≡ Some after
-        → after.image ≡ Some image
-        → shape.new ≡ record {
-          width = image.width;
-          height = image.height;
-          bytes = length image.pixels.items;
-        } }
+    ensures shape { (after : State) (image : SixelImage) → slot.new.handle.state ≡ Some after
+        → after.image ≡ Some image → shape.new ≡ shape_of (image_value image) }
     ensures registers { (before after : State) → slot.old.handle.state ≡ Some before
         → slot.new.handle.state ≡ Some after → result ≡ 0
         → AreFoundRegisters before.receiver.image.start
         (found before.receiver.image.form before.receiver.image.bytes)
         after.receiver.decoder.registers }
+    ensures set { (before after : State) → slot.old.handle.state ≡ Some before
+        → slot.new.handle.state ≡ Some after
+        → IsSetAs before.receiver.decoder after.receiver.decoder }
+    ensures text { (before after : State) → slot.old.handle.state ≡ Some before
+        → slot.new.handle.state ≡ Some after → after.text ≡ before.text }
     ensures kept { (before after : State) → slot.old.handle.state ≡ Some before
-        → slot.new.handle.state ≡ Some after → (result ≡ 0 → ⊥)
+        → slot.new.handle.state ≡ Some after → result ≢ 0
         → after.receiver.decoder ≡ before.receiver.decoder }
+    ensures dropped { (after : State) → slot.new.handle.state ≡ Some after → result ≢ 0
+        → after.image ≡ None }
+    ensures refused { (before : State) → slot.old.handle.state ≡ Some before
+        → is_open before.receiver.image.form ≡ true → before.receiver.image.is_refused ≡ false
+        → result ≢ 0 → IsTold result
+        (end_wants before.receiver.image.start.pixel_limit
+        before.receiver.image.form before.receiver.image.bytes)
+        (end_fault before.receiver.image.start.pixel_limit
+        before.receiver.image.form before.receiver.image.bytes) }
+    ensures again { (before : State) → slot.old.handle.state ≡ Some before
+        → is_open before.receiver.image.form ≡ true → before.receiver.image.is_refused ≡ true
+        → result ≡ fault_code (failed before.receiver.image.form) }
+    ensures told { result ≢ 0 → shape.new ≡ shape.old }
 {
     let Some(mut state) = slot.take(alloc) else {
         return NO_HANDLE;
     };
+    state.image = None;
+    if !state.receiver.is_receiving() {
+        state.receiver.abort();
+        slot.put(state);
+        return NO_SESSION;
+    }
     match state.receiver.finish() {
         Ok(image) => {
-            *shape = Shape {
-                width: image.width,
-                height: image.height,
-                bytes: image.pixels.len(),
-            };
+            *shape = Shape::of(&image);
             state.image = Some(image);
             slot.put(state);
             DONE
         }
         Err(error) => {
-            state.image = None;
             slot.put(state);
             code_of(&error)
         }
     }
 }
 
-/// Copies the pixels of the image that was finished last into room of just as many bytes.
+/// Moves the pixels of the image that is kept into the room, and tells how many bytes that takes.
 #[unsafe(no_mangle)]
-pub extern "C" fn icysixel_pixels(alloc: Global, slot: &mut Slot, room: &mut [u8]) -> u32
-    ensures kept { slot.new.handle.state ≡ slot.old.handle.state }
+pub extern "C" fn icysixel_pixels(
+    alloc: Global,
+    slot: &mut Slot,
+    room: &mut [u8],
+    stride: usize,
+    bytes: &mut usize,
+) -> u32
+    ensures held { is_some slot.new.handle.state ≡ is_some slot.old.handle.state }
     ensures none { slot.old.handle.state ≡ None → result ≡ 1 }
-    ensures copied { (state : State) (image : SixelImage) → slot.old.handle.state ≡ Some state
-        → state.image ≡ Some image → result ≡ 0 → room.new ≡ image.pixels.items }
+    ensures no_image { (before : State) → slot.old.handle.state ≡ Some before
+        → kept_image before ≡ None → result ≡ 4 }
+    ensures bad_stride { (before : State) (image : Image) → slot.old.handle.state ≡ Some before
+        → kept_image before ≡ Some image → bytes_of stride image ≡ None → result ≡ 7 }
+    ensures small { (before : State) (image : Image) (size : ℕ)
+        → slot.old.handle.state ≡ Some before → kept_image before ≡ Some image
+        → bytes_of stride image ≡ Some size → length room.old < size → result ≡ 6 }
+    ensures bytes { (before : State) (image : Image) (size : ℕ)
+        → slot.old.handle.state ≡ Some before → kept_image before ≡ Some image
+        → bytes_of stride image ≡ Some size → bytes.new ≡ size }
+    ensures no_bytes { (before : State) → slot.old.handle.state ≡ Some before
+        → kept_image before ≡ None → bytes.new ≡ 0 }
+    ensures moved { (before : State) (image : Image) (size : ℕ)
+        → slot.old.handle.state ≡ Some before → kept_image before ≡ Some image
+        → bytes_of stride image ≡ Some size → size ≤ length room.old
+        → length image.pixels ≡ 4 * image.width * image.height → result ≡ 0 }
+    ensures pixels { (before : State) (image : Image) → slot.old.handle.state ≡ Some before
+        → kept_image before ≡ Some image → result ≡ 0
+        → rows_of (stride_of stride (4 * image.width)) (4 * image.width) image.height room.new
+        ≡ image.pixels }
+    ensures gaps { (before : State) (image : Image) (row : ℕ)
+        → slot.old.handle.state ≡ Some before → kept_image before ≡ Some image
+        → AreGapsKept (stride_of stride (4 * image.width)) (4 * image.width) row
+        room.old room.new }
+    ensures rest { (before : State) (image : Image)
+        → slot.old.handle.state ≡ Some before → kept_image before ≡ Some image
+        → drop (image.height * stride_of stride (4 * image.width)) room.new
+        ≡ drop (image.height * stride_of stride (4 * image.width)) room.old }
+    ensures unwritten { result ≢ 0 → room.new ≡ room.old }
+    ensures taken { (after : State) → slot.new.handle.state ≡ Some after
+        → result ≡ 0 → after.image ≡ None }
+    ensures same { result ≢ 0 → slot.new.handle.state ≡ slot.old.handle.state }
+    ensures decoder { (before after : State) → slot.old.handle.state ≡ Some before
+        → slot.new.handle.state ≡ Some after → after.receiver ≡ before.receiver }
+    ensures text { (before after : State) → slot.old.handle.state ≡ Some before
+        → slot.new.handle.state ≡ Some after → after.text ≡ before.text }
 {
-    let Some(state) = slot.take(alloc) else {
+    *bytes = 0;
+    let Some(mut state) = slot.take(alloc) else {
         return NO_HANDLE;
     };
-    let code = copy(&state.image, room);
+    let code = match &state.image {
+        Some(image) => copied(image, room, stride, bytes),
+        None => NO_IMAGE,
+    };
+    if code == DONE {
+        state.image = None;
+    }
     slot.put(state);
     code
 }
 
-/// Copies the pixels of an image, if there is one, and if it has just as many bytes.
-fn copy(kept: &Option<SixelImage>, room: &mut [u8]) -> u32
-    ensures { (image : SixelImage) → kept.now ≡ Some image → result ≡ 0
-        → room.new ≡ image.pixels.items }
+/// Copies the pixels of an image into the room, and tells how many bytes that takes.
+fn copied(image: &SixelImage, room: &mut [u8], stride: usize, bytes: &mut usize) -> u32
+    ensures bad_stride { bytes_of stride (image_value image.now) ≡ None → result ≡ 7 }
+    ensures no_bytes { bytes_of stride (image_value image.now) ≡ None → bytes.new ≡ bytes.old }
+    ensures small { (size : ℕ) → bytes_of stride (image_value image.now) ≡ Some size
+        → length room.old < size → result ≡ 6 }
+    ensures bytes { (size : ℕ) → bytes_of stride (image_value image.now) ≡ Some size
+        → bytes.new ≡ size }
+    ensures moved { (size : ℕ) → bytes_of stride (image_value image.now) ≡ Some size
+        → size ≤ length room.old
+        → length image.now.pixels.items ≡ 4 * image.now.width * image.now.height
+        → result ≡ 0 }
+    ensures pixels { let wide = 4 * image.now.width in result ≡ 0
+        → rows_of (stride_of stride wide) wide image.now.height room.new
+        ≡ image.now.pixels.items }
+    ensures gaps { (row : ℕ) → let wide = 4 * image.now.width in
+        AreGapsKept (stride_of stride wide) wide row room.old room.new }
+    ensures rest { let stride = stride_of stride (4 * image.now.width) in
+        drop (image.now.height * stride) room.new ≡ drop (image.now.height * stride) room.old }
+    ensures unwritten { result ≢ 0 → room.new ≡ room.old }
 {
-    let Some(image) = kept else {
-        return NO_IMAGE;
+    let Some(wide) = image.width.checked_mul(4) else {
+        return BAD_STRIDE;
     };
-    if image.pixels.len() != room.len() {
-        return OTHER_ROOM;
+    let stride = stride_of(stride, wide);
+    let Some(size) = wanted(stride, wide, image.height) else {
+        return BAD_STRIDE;
+    };
+    *bytes = size;
+    if room.len() < size {
+        return SMALL_ROOM;
     }
-    room.copy_from_slice(&image.pixels);
+    if wide.checked_mul(image.height) != Some(image.pixels.len()) {
+        return BUFFER_MISMATCH;
+    }
+    spread(room, &image.pixels, stride, wide, image.height);
+    DONE
+}
+
+/// Frees the image and the text that are kept, if any are.
+#[unsafe(no_mangle)]
+pub extern "C" fn icysixel_drop(alloc: Global, slot: &mut Slot) -> u32
+    ensures held { is_some slot.new.handle.state ≡ is_some slot.old.handle.state }
+    ensures none { slot.old.handle.state ≡ None → result ≡ 1 }
+    ensures done { is_some slot.old.handle.state ≡ true → result ≡ 0 }
+    ensures image { (after : State) → slot.new.handle.state ≡ Some after → after.image ≡ None }
+    ensures text { (after : State) → slot.new.handle.state ≡ Some after → after.text ≡ None }
+    ensures decoder { (before after : State) → slot.old.handle.state ≡ Some before
+        → slot.new.handle.state ≡ Some after → after.receiver ≡ before.receiver }
+{
+    let Some(mut state) = slot.take(alloc) else {
+        return NO_HANDLE;
+    };
+    state.image = None;
+    state.text = None;
+    slot.put(state);
     DONE
 }

@@ -1,12 +1,48 @@
 //! What C calls to read and to set the decoder's registers.
 
-ghost use Rattle.std.specs.Prelude.{◌≡◌, Some, None, is_some, true, slice_set, [], ◌∷◌};
+ghost use Rattle.std.specs.Prelude.{◌≡◌, ◌≢◌, Some, None, is_some, true, [], ◌∷◌};
+ghost use Rattle.std.specs.Prelude.{slice_index_or, slice_set};
 ghost use Rattle.sixel_base.specs.Color.{default_registers};
+ghost use Rattle.icysixel_c.specs.Kept.{AreKept};
 ghost use Rattle.icysixel_c.specs.declared.state.State.{State};
 
 use crate::code::{DONE, NO_HANDLE};
 use crate::slot::Slot;
 use std::alloc::Global;
+
+/// A color, a byte a channel.
+#[repr(C)]
+#[derive(Clone, Copy, Debug, PartialEq, Eq)]
+pub struct Color {
+    pub red: u8,
+    pub green: u8,
+    pub blue: u8,
+}
+
+/// Tells the color of a register of the decoder.
+#[unsafe(no_mangle)]
+pub extern "C" fn icysixel_register(
+    alloc: Global,
+    slot: &mut Slot,
+    register: u8,
+    color: &mut Color,
+) -> u32
+    ensures same { slot.new.handle.state ≡ slot.old.handle.state }
+    ensures none { slot.old.handle.state ≡ None → result ≡ 1 }
+    ensures done { is_some slot.old.handle.state ≡ true → result ≡ 0 }
+    ensures color { (state : State) → slot.old.handle.state ≡ Some state
+        → slice_index_or state.receiver.decoder.registers register []
+        ≡ color.new.red ∷ color.new.green ∷ color.new.blue ∷ [] }
+    ensures told { result ≢ 0 → color.new ≡ color.old }
+{
+    let Some(state) = slot.take(alloc) else {
+        return NO_HANDLE;
+    };
+    let [red, green, blue] = state.receiver.register(register);
+    slot.put(state);
+    *color = Color { red, green, blue };
+    DONE
+}
 
 /// Gives a register of the decoder this color.
 #[unsafe(no_mangle)]
@@ -29,6 +65,8 @@ pub extern "C" fn icysixel_set_register(
         } }
     ensures image { (before after : State) → slot.old.handle.state ≡ Some before
         → slot.new.handle.state ≡ Some after → after.receiver.image ≡ before.receiver.image }
+    ensures kept { (before after : State) → slot.old.handle.state ≡ Some before
+        → slot.new.handle.state ≡ Some after → AreKept before after }
 {
     let Some(mut state) = slot.take(alloc) else {
         return NO_HANDLE;
@@ -49,6 +87,8 @@ pub extern "C" fn icysixel_reset(alloc: Global, slot: &mut Slot) -> u32
         ≡ record before.receiver.decoder { registers = default_registers } }
     ensures image { (before after : State) → slot.old.handle.state ≡ Some before
         → slot.new.handle.state ≡ Some after → after.receiver.image ≡ before.receiver.image }
+    ensures kept { (before after : State) → slot.old.handle.state ≡ Some before
+        → slot.new.handle.state ≡ Some after → AreKept before after }
 {
     let Some(mut state) = slot.take(alloc) else {
         return NO_HANDLE;

@@ -1,14 +1,18 @@
 //! What C calls to begin an image, to feed it and to give it up.
 
-ghost use Rattle.std.specs.Prelude.{◌≡◌, ◌+◌, ◌≤◌, ◌++◌, Some, None, is_some, true, length};
+ghost use Rattle.std.specs.Prelude.{◌≡◌, ◌≢◌, ◌+◌, ◌≤◌, ◌++◌, Some, None, is_some, true, false};
+ghost use Rattle.std.specs.Prelude.{length, nat_lt};
 ghost use Rattle.sixel_base.specs.Decoder.{new_decoder};
-ghost use Rattle.icy_sixel.specs.Receiver.{OfString, begun, no_image, is_open};
-ghost use Rattle.icy_sixel.specs.Receiver.{count, status, fault};
+ghost use Rattle.icy_sixel.specs.Receiver.{OfPayload, OfString, begun, no_image, is_open};
+ghost use Rattle.icy_sixel.specs.Receiver.{count, status, fault, failed, growths};
+ghost use Rattle.icysixel_c.specs.Code.{IsTold, fault_code, settings_of};
 ghost use Rattle.icysixel_c.specs.Code.{status_code as code_of_status};
 ghost use Rattle.icysixel_c.specs.Code.{status_byte as byte_of_status};
+ghost use Rattle.icysixel_c.specs.Kept.{AreKept};
 ghost use Rattle.icysixel_c.specs.declared.state.State.{State};
 
-use crate::code::{DONE, NO_HANDLE, OUT_OF_MEMORY, code_of, status_byte, status_code};
+use crate::code::{DONE, NO_HANDLE, NO_SESSION, OUT_OF_MEMORY, code_of, status_byte, status_code};
+use crate::parameters::settings;
 use crate::slot::Slot;
 use crate::state::State;
 use icy_sixel::receiver::SixelReceiver;
@@ -27,16 +31,21 @@ pub struct Fed {
 /// Makes the handle lead to a new decoder; what it led to is freed.
 #[unsafe(no_mangle)]
 pub extern "C" fn icysixel_new(alloc: Global, slot: &mut Slot) -> u32
-    ensures codes { (result ≡ 0 → ⊥) → result ≡ 2 }
+    ensures codes { result ≢ 0 → result ≡ 8 }
     ensures held { result ≡ 0 → is_some slot.new.handle.state ≡ true }
     ensures made { (state : State) → slot.new.handle.state ≡ Some state
         → state.receiver ≡ record { decoder = new_decoder; image = no_image } }
-    ensures refused { result ≡ 2 → slot.new.handle.state ≡ None }
+    ensures no_image { (state : State) → slot.new.handle.state ≡ Some state
+        → state.image ≡ None }
+    ensures no_text { (state : State) → slot.new.handle.state ≡ Some state
+        → state.text ≡ None }
+    ensures refused { result ≢ 0 → slot.new.handle.state ≡ None }
 {
     let _former = slot.take(alloc);
     let state = State {
         receiver: SixelReceiver::new(),
         image: None,
+        text: None,
     };
     match Box::new(alloc, state) {
         Ok(state) => {
@@ -64,6 +73,8 @@ pub extern "C" fn icysixel_begin(alloc: Global, slot: &mut Slot) -> u32
     ensures decoder { (before after : State) → slot.old.handle.state ≡ Some before
         → slot.new.handle.state ≡ Some after
         → after.receiver.decoder ≡ before.receiver.decoder }
+    ensures kept { (before after : State) → slot.old.handle.state ≡ Some before
+        → slot.new.handle.state ≡ Some after → AreKept before after }
     ensures image { (before after : State) → slot.old.handle.state ≡ Some before
         → slot.new.handle.state ≡ Some after
         → after.receiver.image ≡ begun OfString before.receiver.decoder }
@@ -76,14 +87,53 @@ pub extern "C" fn icysixel_begin(alloc: Global, slot: &mut Slot) -> u32
     DONE
 }
 
+/// Begins a payload with these parameters. An image that is open is given up.
+#[unsafe(no_mangle)]
+pub extern "C" fn icysixel_begin_payload(
+    alloc: Global,
+    slot: &mut Slot,
+    p1: i32,
+    p2: i32,
+    grid: i32,
+) -> u32
+    ensures held { is_some slot.new.handle.state ≡ is_some slot.old.handle.state }
+    ensures none { slot.old.handle.state ≡ None → result ≡ 1 }
+    ensures done { is_some slot.old.handle.state ≡ true → result ≡ 0 }
+    ensures decoder { (before after : State) → slot.old.handle.state ≡ Some before
+        → slot.new.handle.state ≡ Some after
+        → after.receiver.decoder ≡ before.receiver.decoder }
+    ensures kept { (before after : State) → slot.old.handle.state ≡ Some before
+        → slot.new.handle.state ≡ Some after → AreKept before after }
+    ensures image { (before after : State) → slot.old.handle.state ≡ Some before
+        → slot.new.handle.state ≡ Some after → after.receiver.image
+        ≡ begun (OfPayload (settings_of p1 p2 grid)) before.receiver.decoder }
+{
+    let Some(mut state) = slot.take(alloc) else {
+        return NO_HANDLE;
+    };
+    state.receiver.begin_frame(alloc, settings(p1, p2, grid));
+    slot.put(state);
+    DONE
+}
+
 /// Reads a piece of the image that is open, and tells what it did where the answer is 0.
 #[unsafe(no_mangle)]
 pub extern "C" fn icysixel_feed(alloc: Global, slot: &mut Slot, piece: &[u8], fed: &mut Fed) -> u32
     ensures held { is_some slot.new.handle.state ≡ is_some slot.old.handle.state }
     ensures none { slot.old.handle.state ≡ None → result ≡ 1 }
+    ensures closed { (before : State) → slot.old.handle.state ≡ Some before
+        → is_open before.receiver.image.form ≡ false → result ≡ 2 }
     ensures decoder { (before after : State) → slot.old.handle.state ≡ Some before
         → slot.new.handle.state ≡ Some after
         → after.receiver.decoder ≡ before.receiver.decoder }
+    ensures kept { (before after : State) → slot.old.handle.state ≡ Some before
+        → slot.new.handle.state ≡ Some after → AreKept before after }
+    ensures form { (before after : State) → slot.old.handle.state ≡ Some before
+        → slot.new.handle.state ≡ Some after
+        → after.receiver.image.form ≡ before.receiver.image.form }
+    ensures start { (before after : State) → slot.old.handle.state ≡ Some before
+        → slot.new.handle.state ≡ Some after
+        → after.receiver.image.start ≡ before.receiver.image.start }
     ensures bytes { (before after : State) → slot.old.handle.state ≡ Some before
         → slot.new.handle.state ≡ Some after → is_open before.receiver.image.form ≡ true
         → after.receiver.image.bytes ≡ before.receiver.image.bytes ++ piece.now }
@@ -102,10 +152,26 @@ pub extern "C" fn icysixel_feed(alloc: Global, slot: &mut Slot, piece: &[u8], fe
     ensures byte { (after : State) → slot.new.handle.state ≡ Some after → result ≡ 0
         → fed.new.byte
         ≡ byte_of_status (status after.receiver.image.form after.receiver.image.bytes) }
+    ensures refused { (before after : State) → slot.old.handle.state ≡ Some before
+        → slot.new.handle.state ≡ Some after → is_open before.receiver.image.form ≡ true
+        → before.receiver.image.is_refused ≡ false → result ≢ 0
+        → IsTold result
+        (nat_lt (growths before.receiver.image.form before.receiver.image.bytes)
+        (growths after.receiver.image.form after.receiver.image.bytes))
+        (fault before.receiver.image.start.pixel_limit
+        after.receiver.image.form after.receiver.image.bytes) }
+    ensures again { (before : State) → slot.old.handle.state ≡ Some before
+        → is_open before.receiver.image.form ≡ true → before.receiver.image.is_refused ≡ true
+        → result ≡ fault_code (failed before.receiver.image.form) }
+    ensures told { result ≢ 0 → fed.new ≡ fed.old }
 {
     let Some(mut state) = slot.take(alloc) else {
         return NO_HANDLE;
     };
+    if !state.receiver.is_receiving() {
+        slot.put(state);
+        return NO_SESSION;
+    }
     let answer = state.receiver.feed(piece);
     slot.put(state);
     match answer {
@@ -130,6 +196,8 @@ pub extern "C" fn icysixel_abort(alloc: Global, slot: &mut Slot) -> u32
     ensures decoder { (before after : State) → slot.old.handle.state ≡ Some before
         → slot.new.handle.state ≡ Some after
         → after.receiver.decoder ≡ before.receiver.decoder }
+    ensures kept { (before after : State) → slot.old.handle.state ≡ Some before
+        → slot.new.handle.state ≡ Some after → AreKept before after }
     ensures closed { (before after : State) → slot.old.handle.state ≡ Some before
         → slot.new.handle.state ≡ Some after → after.receiver.image ≡ no_image }
 {

@@ -3,9 +3,10 @@
 use icy_sixel::SixelImage;
 use icy_sixel::receiver::SixelReceiver;
 
-/// A receiver, and the image that it finished last, until the host takes its pixels.
+/// A receiver, and what is kept until the host takes it: the image that came last, and a text.
 #[derive(Drop)]
 pub struct State {
     pub receiver: SixelReceiver,
     pub image: Option<SixelImage>,
+    pub text: Option<String>,
 }

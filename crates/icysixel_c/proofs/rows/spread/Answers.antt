@@ -1,0 +1,22 @@
+use Rattle.std.proofs.Common.{◌≡◌, ◌+◌, ◌-◌, ◌*◌, ◌≤◌, length, drop, ◌∙◌, arith, length-take, length-drop}
+use Rattle.std.proofs.lemmas.Nat.{mul-le}
+use Rattle.std.proofs.Math.Nat.{mul_comm}
+use Rattle.icysixel_c.proofs.Spread.{row_more, gap_kept, rest_kept}
+use Rattle.icysixel_c.proofs.rows.spread.Goals as goal
+
+pub loop-row-preserved : goal.loop-row-preserved
+loop-row-preserved c =
+    let stride = c.args.stride in
+    let wide = c.args.wide in
+    let row = c.loop-row.row in
+    let room = c.loop-row.room in
+    let written = c.copy_from_slice.new.self in
+    let k = row * stride + wide - row * stride in
+    let inside : row * stride + wide ≤ length room =
+    omega (arith, mul-le row stride (c.args.height - 1) stride (omega arith) (omega arith), mul_comm stride (c.args.height - 1), c.requires.room, c.loop-row.auto.room) in
+    let long : length written ≡ wide =
+    omega (arith, inside, c.copy_from_slice.ensures.len, length-take k (drop (row * stride) room), length-drop (row * stride) room) in (
+      row_more stride wide row k room written c.args.rows.now c.requires.stride inside (omega arith) long c.copy_from_slice.ensures.after c.loop-row.invariant.0,
+      (λ at. gap_kept stride wide row k at room written c.requires.stride inside (omega arith) long ∙ c.loop-row.invariant.1 at),
+      rest_kept stride wide row k room written c.args.room.now c.requires.stride inside (omega arith) long c.loop-row.invariant.2,
+    )

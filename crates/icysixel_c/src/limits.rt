@@ -1,0 +1,86 @@
+//! What C calls to read and to set the crop and the limit of pixels.
+
+ghost use Rattle.std.specs.Prelude.{◌≡◌, ◌==◌, Some, None, is_some, true, not, cond};
+ghost use Rattle.sixel_base.specs.Decoder.{limit_of};
+ghost use Rattle.icysixel_c.specs.Kept.{AreKept};
+ghost use Rattle.icysixel_c.specs.declared.state.State.{State};
+
+use crate::code::{DONE, NO_HANDLE};
+use crate::slot::Slot;
+use std::alloc::Global;
+
+/// Whether images are cropped to their raster attributes: 1 or 0.
+#[unsafe(no_mangle)]
+pub extern "C" fn icysixel_crop(alloc: Global, slot: &mut Slot) -> u8
+    ensures same { slot.new.handle.state ≡ slot.old.handle.state }
+    ensures none { slot.old.handle.state ≡ None → result ≡ 0 }
+    ensures value { (state : State) → slot.old.handle.state ≡ Some state
+        → result ≡ cond state.receiver.decoder.raster_crop 1 0 }
+{
+    let Some(state) = slot.take(alloc) else {
+        return 0;
+    };
+    let is_cropped = state.receiver.decoder().raster_crop();
+    slot.put(state);
+    u8::from(is_cropped)
+}
+
+/// Sets whether images are cropped to their raster attributes: 0 is no, any other number yes.
+#[unsafe(no_mangle)]
+pub extern "C" fn icysixel_set_crop(alloc: Global, slot: &mut Slot, on: u8) -> u32
+    ensures held { is_some slot.new.handle.state ≡ is_some slot.old.handle.state }
+    ensures none { slot.old.handle.state ≡ None → result ≡ 1 }
+    ensures done { is_some slot.old.handle.state ≡ true → result ≡ 0 }
+    ensures decoder { (before after : State) → slot.old.handle.state ≡ Some before
+        → slot.new.handle.state ≡ Some after → after.receiver.decoder
+        ≡ record before.receiver.decoder { raster_crop = not (on == 0) } }
+    ensures image { (before after : State) → slot.old.handle.state ≡ Some before
+        → slot.new.handle.state ≡ Some after → after.receiver.image ≡ before.receiver.image }
+    ensures kept { (before after : State) → slot.old.handle.state ≡ Some before
+        → slot.new.handle.state ≡ Some after → AreKept before after }
+{
+    let Some(mut state) = slot.take(alloc) else {
+        return NO_HANDLE;
+    };
+    state.receiver.set_raster_crop(on != 0);
+    slot.put(state);
+    DONE
+}
+
+/// How many pixels an image may have, 0 where the handle holds nothing.
+#[unsafe(no_mangle)]
+pub extern "C" fn icysixel_limit(alloc: Global, slot: &mut Slot) -> usize
+    ensures same { slot.new.handle.state ≡ slot.old.handle.state }
+    ensures none { slot.old.handle.state ≡ None → result ≡ 0 }
+    ensures value { (state : State) → slot.old.handle.state ≡ Some state
+        → result ≡ state.receiver.decoder.pixel_limit }
+{
+    let Some(state) = slot.take(alloc) else {
+        return 0;
+    };
+    let pixels = state.receiver.decoder().pixel_limit();
+    slot.put(state);
+    pixels
+}
+
+/// Sets how many pixels an image may have, at least 1, at most 67,108,864.
+#[unsafe(no_mangle)]
+pub extern "C" fn icysixel_set_limit(alloc: Global, slot: &mut Slot, pixels: usize) -> u32
+    ensures held { is_some slot.new.handle.state ≡ is_some slot.old.handle.state }
+    ensures none { slot.old.handle.state ≡ None → result ≡ 1 }
+    ensures done { is_some slot.old.handle.state ≡ true → result ≡ 0 }
+    ensures decoder { (before after : State) → slot.old.handle.state ≡ Some before
+        → slot.new.handle.state ≡ Some after → after.receiver.decoder
+        ≡ record before.receiver.decoder { pixel_limit = limit_of pixels } }
+    ensures image { (before after : State) → slot.old.handle.state ≡ Some before
+        → slot.new.handle.state ≡ Some after → after.receiver.image ≡ before.receiver.image }
+    ensures kept { (before after : State) → slot.old.handle.state ≡ Some before
+        → slot.new.handle.state ≡ Some after → AreKept before after }
+{
+    let Some(mut state) = slot.take(alloc) else {
+        return NO_HANDLE;
+    };
+    state.receiver.set_pixel_limit(pixels);
+    slot.put(state);
+    DONE
+}

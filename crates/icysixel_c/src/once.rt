@@ -1,0 +1,146 @@
+//! What C calls to decode in one call.
+
+ghost use Rattle.std.specs.Prelude.{◌≡◌, ◌≢◌, Some, None, is_some, true};
+ghost use Rattle.sixel_base.specs.Decoder.{IsSetAs, origin_of};
+ghost use Rattle.sixel_base.specs.OneShot.{IsFoundImage, AreFoundRegisters};
+ghost use Rattle.sixel_base.specs.OneShot.{found, found_fault, found_wants};
+ghost use Rattle.sixel_base.specs.Payload.{payload_fault, payload_image};
+ghost use Rattle.sixel_base.specs.Payload.{payload_registers, payload_wants};
+ghost use Rattle.icy_sixel.specs.ImageView.{image_value};
+ghost use Rattle.icy_sixel.specs.Receiver.{no_image};
+ghost use Rattle.icy_sixel.specs.declared.sixel_image.SixelImage.{SixelImage};
+ghost use Rattle.icysixel_c.specs.Code.{IsTold, settings_of};
+ghost use Rattle.icysixel_c.specs.Shape.{shape_of};
+ghost use Rattle.icysixel_c.specs.declared.state.State.{State};
+
+use crate::code::{DONE, NO_HANDLE, code_of};
+use crate::parameters::settings;
+use crate::shape::Shape;
+use crate::slot::Slot;
+use icy_sixel::receiver::SixelReceiver;
+use std::alloc::Global;
+use std::mem;
+
+/// Decodes the first control string in the bytes, or all of them as a payload if there is none,
+/// keeps the image in place of the one before, and tells its shape where the answer is 0. An image
+/// that is open is given up.
+#[unsafe(no_mangle)]
+pub extern "C" fn icysixel_decode(
+    alloc: Global,
+    slot: &mut Slot,
+    bytes: &[u8],
+    shape: &mut Shape,
+) -> u32
+    ensures held { is_some slot.new.handle.state ≡ is_some slot.old.handle.state }
+    ensures none { slot.old.handle.state ≡ None → result ≡ 1 }
+    ensures closed { (after : State) → slot.new.handle.state ≡ Some after
+        → after.receiver.image ≡ no_image }
+    ensures found { (after : State) → slot.new.handle.state ≡ Some after → result ≡ 0
+        → is_some after.image ≡ true }
+    ensures image { (before after : State) (image : SixelImage)
+        → slot.old.handle.state ≡ Some before → slot.new.handle.state ≡ Some after
+        → after.image ≡ Some image
+        → IsFoundImage before.receiver.decoder (found bytes.now) (image_value image) }
+    ensures shape { (after : State) (image : SixelImage) → slot.new.handle.state ≡ Some after
+        → after.image ≡ Some image → shape.new ≡ shape_of (image_value image) }
+    ensures registers { (before after : State) → slot.old.handle.state ≡ Some before
+        → slot.new.handle.state ≡ Some after → result ≡ 0
+        → AreFoundRegisters before.receiver.decoder (found bytes.now)
+        after.receiver.decoder.registers }
+    ensures set { (before after : State) → slot.old.handle.state ≡ Some before
+        → slot.new.handle.state ≡ Some after
+        → IsSetAs before.receiver.decoder after.receiver.decoder }
+    ensures text { (before after : State) → slot.old.handle.state ≡ Some before
+        → slot.new.handle.state ≡ Some after → after.text ≡ before.text }
+    ensures kept { (before after : State) → slot.old.handle.state ≡ Some before
+        → slot.new.handle.state ≡ Some after → result ≢ 0
+        → after.receiver.decoder ≡ before.receiver.decoder }
+    ensures dropped { (after : State) → slot.new.handle.state ≡ Some after → result ≢ 0
+        → after.image ≡ None }
+    ensures refused { (before : State) → slot.old.handle.state ≡ Some before → result ≢ 0
+        → IsTold result (found_wants before.receiver.decoder.pixel_limit (found bytes.now))
+        (found_fault before.receiver.decoder.pixel_limit (found bytes.now)) }
+    ensures told { result ≢ 0 → shape.new ≡ shape.old }
+{
+    let Some(mut state) = slot.take(alloc) else {
+        return NO_HANDLE;
+    };
+    let mut decoder = mem::replace(&mut state.receiver, SixelReceiver::new()).into_decoder();
+    let answer = decoder.decode(alloc, bytes);
+    state.receiver = SixelReceiver::with_decoder(decoder);
+    match answer {
+        Ok(image) => {
+            *shape = Shape::of(&image);
+            state.image = Some(image);
+            slot.put(state);
+            DONE
+        }
+        Err(error) => {
+            state.image = None;
+            slot.put(state);
+            code_of(&error)
+        }
+    }
+}
+
+/// As [`icysixel_decode`] of one payload, with these parameters.
+#[unsafe(no_mangle)]
+pub extern "C" fn icysixel_decode_payload(
+    alloc: Global,
+    slot: &mut Slot,
+    bytes: &[u8],
+    p1: i32,
+    p2: i32,
+    grid: i32,
+    shape: &mut Shape,
+) -> u32
+    ensures held { is_some slot.new.handle.state ≡ is_some slot.old.handle.state }
+    ensures none { slot.old.handle.state ≡ None → result ≡ 1 }
+    ensures closed { (after : State) → slot.new.handle.state ≡ Some after
+        → after.receiver.image ≡ no_image }
+    ensures found { (after : State) → slot.new.handle.state ≡ Some after → result ≡ 0
+        → is_some after.image ≡ true }
+    ensures image { (before after : State) (image : SixelImage)
+        → slot.old.handle.state ≡ Some before → slot.new.handle.state ≡ Some after
+        → after.image ≡ Some image → image_value image
+        ≡ payload_image (origin_of before.receiver.decoder (settings_of p1 p2 grid)) bytes.now }
+    ensures shape { (after : State) (image : SixelImage) → slot.new.handle.state ≡ Some after
+        → after.image ≡ Some image → shape.new ≡ shape_of (image_value image) }
+    ensures registers { (before after : State) → slot.old.handle.state ≡ Some before
+        → slot.new.handle.state ≡ Some after → result ≡ 0 → after.receiver.decoder.registers
+        ≡ payload_registers (origin_of before.receiver.decoder (settings_of p1 p2 grid)) bytes.now }
+    ensures set { (before after : State) → slot.old.handle.state ≡ Some before
+        → slot.new.handle.state ≡ Some after
+        → IsSetAs before.receiver.decoder after.receiver.decoder }
+    ensures text { (before after : State) → slot.old.handle.state ≡ Some before
+        → slot.new.handle.state ≡ Some after → after.text ≡ before.text }
+    ensures kept { (before after : State) → slot.old.handle.state ≡ Some before
+        → slot.new.handle.state ≡ Some after → result ≢ 0
+        → after.receiver.decoder ≡ before.receiver.decoder }
+    ensures dropped { (after : State) → slot.new.handle.state ≡ Some after → result ≢ 0
+        → after.image ≡ None }
+    ensures refused { (before : State) → slot.old.handle.state ≡ Some before → result ≢ 0
+        → IsTold result (payload_wants before.receiver.decoder.pixel_limit bytes.now)
+        (payload_fault before.receiver.decoder.pixel_limit bytes.now) }
+    ensures told { result ≢ 0 → shape.new ≡ shape.old }
+{
+    let Some(mut state) = slot.take(alloc) else {
+        return NO_HANDLE;
+    };
+    let mut decoder = mem::replace(&mut state.receiver, SixelReceiver::new()).into_decoder();
+    let answer = decoder.decode_from_dcs(alloc, bytes, settings(p1, p2, grid));
+    state.receiver = SixelReceiver::with_decoder(decoder);
+    match answer {
+        Ok(image) => {
+            *shape = Shape::of(&image);
+            state.image = Some(image);
+            slot.put(state);
+            DONE
+        }
+        Err(error) => {
+            state.image = None;
+            slot.put(state);
+            code_of(&error)
+        }
+    }
+}

@@ -1,0 +1,107 @@
+//! What C calls to ask how far the image has come that is open.
+
+ghost use Rattle.std.specs.Prelude.{◌≡◌, ◌≢◌, ◌*◌, ◌≤◌, Some, None, ℕ, true, false, cond};
+ghost use Rattle.icy_sixel.specs.Receiver.{in_payload, is_open, reached_area};
+ghost use Rattle.icy_sixel.specs.Receiver.{size as size_of};
+ghost use Rattle.icysixel_c.specs.declared.state.State.{State};
+
+use crate::code::{DONE, NO_HANDLE, NO_SESSION, NO_SIZE};
+use crate::slot::Slot;
+use std::alloc::Global;
+
+/// Sizes in pixels.
+#[repr(C)]
+#[derive(Clone, Copy, Debug, PartialEq, Eq)]
+pub struct Size {
+    pub width: usize,
+    pub height: usize,
+}
+
+/// Whether an image is open: 1 or 0.
+#[unsafe(no_mangle)]
+pub extern "C" fn icysixel_is_receiving(alloc: Global, slot: &mut Slot) -> u8
+    ensures same { slot.new.handle.state ≡ slot.old.handle.state }
+    ensures none { slot.old.handle.state ≡ None → result ≡ 0 }
+    ensures value { (state : State) → slot.old.handle.state ≡ Some state
+        → result ≡ cond (is_open state.receiver.image.form) 1 0 }
+{
+    let Some(state) = slot.take(alloc) else {
+        return 0;
+    };
+    let is_receiving = state.receiver.is_receiving();
+    slot.put(state);
+    u8::from(is_receiving)
+}
+
+/// Whether the payload of the image that is open has begun, and was not refused: 1 or 0.
+#[unsafe(no_mangle)]
+pub extern "C" fn icysixel_in_payload(alloc: Global, slot: &mut Slot) -> u8
+    ensures same { slot.new.handle.state ≡ slot.old.handle.state }
+    ensures none { slot.old.handle.state ≡ None → result ≡ 0 }
+    ensures accepted { (state : State) → slot.old.handle.state ≡ Some state
+        → state.receiver.image.is_refused ≡ false
+        → result ≡ cond (in_payload state.receiver.image.form state.receiver.image.bytes) 1 0 }
+    ensures refused { (state : State) → slot.old.handle.state ≡ Some state
+        → state.receiver.image.is_refused ≡ true → result ≡ 0 }
+{
+    let Some(state) = slot.take(alloc) else {
+        return 0;
+    };
+    let in_payload = state.receiver.in_payload();
+    slot.put(state);
+    u8::from(in_payload)
+}
+
+/// How many pixels were copied or filled to grow the rows of the image that is open, 0 where none
+/// is.
+#[unsafe(no_mangle)]
+pub extern "C" fn icysixel_canvas_writes(alloc: Global, slot: &mut Slot) -> u64
+    ensures same { slot.new.handle.state ≡ slot.old.handle.state }
+    ensures none { slot.old.handle.state ≡ None → result ≡ 0 }
+    ensures value { (state : State) → slot.old.handle.state ≡ Some state
+        → result ≡ state.receiver.image.writes }
+    ensures at_most { (state : State) → slot.old.handle.state ≡ Some state
+        → result ≤ 3 * reached_area state.receiver.image.form state.receiver.image.bytes }
+{
+    let Some(state) = slot.take(alloc) else {
+        return 0;
+    };
+    let writes = state.receiver.canvas_writes();
+    slot.put(state);
+    writes
+}
+
+/// Tells the sizes that the image that is open has so far.
+#[unsafe(no_mangle)]
+pub extern "C" fn icysixel_size_so_far(alloc: Global, slot: &mut Slot, size: &mut Size) -> u32
+    ensures same { slot.new.handle.state ≡ slot.old.handle.state }
+    ensures none { slot.old.handle.state ≡ None → result ≡ 1 }
+    ensures closed { (state : State) → slot.old.handle.state ≡ Some state
+        → is_open state.receiver.image.form ≡ false → result ≡ 2 }
+    ensures refused { (state : State) → slot.old.handle.state ≡ Some state
+        → is_open state.receiver.image.form ≡ true → state.receiver.image.is_refused ≡ true
+        → result ≡ 3 }
+    ensures no_size { (state : State) → slot.old.handle.state ≡ Some state
+        → is_open state.receiver.image.form ≡ true → state.receiver.image.is_refused ≡ false
+        → size_of state.receiver.image.form state.receiver.image.bytes ≡ None → result ≡ 3 }
+    ensures size { (state : State) (width height : ℕ) → slot.old.handle.state ≡ Some state
+        → is_open state.receiver.image.form ≡ true → state.receiver.image.is_refused ≡ false
+        → size_of state.receiver.image.form state.receiver.image.bytes ≡ Some (width, height)
+        → (result ≡ 0) × (size.new ≡ record { width = width; height = height }) }
+    ensures told { result ≢ 0 → size.new ≡ size.old }
+{
+    let Some(state) = slot.take(alloc) else {
+        return NO_HANDLE;
+    };
+    let is_receiving = state.receiver.is_receiving();
+    let so_far = state.receiver.size_so_far();
+    slot.put(state);
+    if !is_receiving {
+        return NO_SESSION;
+    }
+    let Some((width, height)) = so_far else {
+        return NO_SIZE;
+    };
+    *size = Size { width, height };
+    DONE
+}

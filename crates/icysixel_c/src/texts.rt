@@ -1,0 +1,199 @@
+//! What C calls to write the text of an image, and to take it.
+
+ghost use Rattle.std.specs.Prelude.{◌≡◌, ◌≢◌, ◌+◌, ◌*◌, ◌<◌, ◌≤◌, ℕ, List, Some, None, is_some, true};
+ghost use Rattle.std.specs.Prelude.{Ok, OnErr, IfOk, IfErr, IsErrAnd, length, drop, ◌++◌, string_bytes};
+ghost use Rattle.sixel_base.specs.Size.{encode_fault};
+ghost use Rattle.sixel_base.specs.declared.error.SixelError.{SixelError};
+ghost use Rattle.sixel_encoder.specs.Encoding.{IsText};
+ghost use Rattle.icysixel_c.specs.Code.{IsCodeOf};
+ghost use Rattle.icysixel_c.specs.Drawn.{image_of};
+ghost use Rattle.icysixel_c.specs.Kept.{kept_text};
+ghost use Rattle.icysixel_c.specs.Rows.{bytes_of};
+ghost use Rattle.icysixel_c.specs.declared.state.State.{State};
+
+use crate::code::{
+    BAD_STRIDE, BUFFER_MISMATCH, DONE, NO_HANDLE, NO_TEXT, OUT_OF_MEMORY, SMALL_ROOM, code_of,
+};
+use crate::parameters::settings;
+use crate::rows::{gathered, stride_of, wanted};
+use crate::slot::Slot;
+use icy_sixel::{EncodeOptions, SixelImage, validate_encode_dimensions};
+use std::alloc::Global;
+
+/// Keeps the text of these pixels in place of the one before, and tells how many bytes it has where
+/// the answer is 0.
+#[unsafe(no_mangle)]
+pub extern "C" fn icysixel_encode(
+    alloc: Global,
+    slot: &mut Slot,
+    pixels: &[u8],
+    stride: usize,
+    width: usize,
+    height: usize,
+    p1: i32,
+    p2: i32,
+    max_colors: u16,
+    bytes: &mut usize,
+) -> u32
+    ensures held { is_some slot.new.handle.state ≡ is_some slot.old.handle.state }
+    ensures none { slot.old.handle.state ≡ None → result ≡ 1 }
+    ensures sizes { (before : State) (fault : SixelError) → slot.old.handle.state ≡ Some before
+        → encode_fault width height ≡ Some fault → IsCodeOf result fault }
+    ensures stride { (before : State) → slot.old.handle.state ≡ Some before
+        → encode_fault width height ≡ None
+        → bytes_of stride (image_of stride width height p1 p2 pixels.now) ≡ None → result ≡ 7 }
+    ensures buffer { (before : State) (size : ℕ) → slot.old.handle.state ≡ Some before
+        → encode_fault width height ≡ None
+        → bytes_of stride (image_of stride width height p1 p2 pixels.now) ≡ Some size
+        → length pixels.now < size → result ≡ 11 }
+    ensures memory { (before : State) (size : ℕ) → slot.old.handle.state ≡ Some before
+        → encode_fault width height ≡ None
+        → bytes_of stride (image_of stride width height p1 p2 pixels.now) ≡ Some size
+        → size ≤ length pixels.now → result ≢ 0 → result ≡ 8 }
+    ensures found { (after : State) → slot.new.handle.state ≡ Some after → result ≡ 0
+        → is_some after.text ≡ true }
+    ensures text { (after : State) (text : List ℕ) → slot.new.handle.state ≡ Some after
+        → kept_text after ≡ Some text
+        → IsText (image_of stride width height p1 p2 pixels.now) max_colors text }
+    ensures bytes { (after : State) (text : List ℕ) → slot.new.handle.state ≡ Some after
+        → kept_text after ≡ Some text → bytes.new ≡ length text }
+    ensures dropped { (after : State) → slot.new.handle.state ≡ Some after → result ≢ 0
+        → after.text ≡ None }
+    ensures told { result ≢ 0 → bytes.new ≡ bytes.old }
+    ensures decoder { (before after : State) → slot.old.handle.state ≡ Some before
+        → slot.new.handle.state ≡ Some after → after.receiver ≡ before.receiver }
+    ensures image { (before after : State) → slot.old.handle.state ≡ Some before
+        → slot.new.handle.state ≡ Some after → after.image ≡ before.image }
+{
+    let Some(mut state) = slot.take(alloc) else {
+        return NO_HANDLE;
+    };
+    match encoded(alloc, pixels, stride, width, height, p1, p2, max_colors) {
+        Ok(text) => {
+            *bytes = text.len();
+            state.text = Some(text);
+            slot.put(state);
+            DONE
+        }
+        Err(code) => {
+            state.text = None;
+            slot.put(state);
+            code
+        }
+    }
+}
+
+/// The text of these pixels, or the code of what is wrong with them.
+fn encoded(
+    alloc: Global,
+    pixels: &[u8],
+    stride: usize,
+    width: usize,
+    height: usize,
+    p1: i32,
+    p2: i32,
+    max_colors: u16,
+) -> Result<String, u32>
+    ensures sizes { (fault : SixelError) → encode_fault width height ≡ Some fault
+        → IsErrAnd result (λ code. IsCodeOf code fault) }
+    ensures stride { encode_fault width height ≡ None
+        → bytes_of stride (image_of stride width height p1 p2 pixels.now) ≡ None
+        → result ≡ Err 7 }
+    ensures buffer { (size : ℕ) → encode_fault width height ≡ None
+        → bytes_of stride (image_of stride width height p1 p2 pixels.now) ≡ Some size
+        → length pixels.now < size → result ≡ Err 11 }
+    ensures memory { (size : ℕ) → encode_fault width height ≡ None
+        → bytes_of stride (image_of stride width height p1 p2 pixels.now) ≡ Some size
+        → size ≤ length pixels.now → IfErr result (λ code. code ≡ 8) }
+    ensures refused { IfErr result (λ code. code ≢ 0) }
+    ensures text { IfOk result (λ text.
+        IsText (image_of stride width height p1 p2 pixels.now) max_colors (string_bytes text)) }
+{
+    if let Err(error) = validate_encode_dimensions(width, height) {
+        return Err(code_of(&error));
+    }
+    let wide = 4 * width;
+    let stride = stride_of(stride, wide);
+    let Some(size) = wanted(stride, wide, height) else {
+        return Err(BAD_STRIDE);
+    };
+    if pixels.len() < size {
+        return Err(BUFFER_MISMATCH);
+    }
+    let Ok(rows) = gathered(alloc, pixels, stride, wide, height) else {
+        return Err(OUT_OF_MEMORY);
+    };
+    let settings = settings(p1, p2, -1);
+    let image = SixelImage {
+        pixels: rows,
+        width,
+        height,
+        aspect_ratio: settings.pixel_aspect_ratio(),
+        background_mode: settings.background_mode(),
+    };
+    match image.encode_with(alloc, &EncodeOptions { max_colors }) {
+        Ok(text) => Ok(text),
+        Err(error) => Err(code_of(&error)),
+    }
+}
+
+/// Moves the text that is kept into the room, and tells how many bytes it has.
+#[unsafe(no_mangle)]
+pub extern "C" fn icysixel_take_text(
+    alloc: Global,
+    slot: &mut Slot,
+    room: &mut [u8],
+    bytes: &mut usize,
+) -> u32
+    ensures held { is_some slot.new.handle.state ≡ is_some slot.old.handle.state }
+    ensures none { slot.old.handle.state ≡ None → result ≡ 1 }
+    ensures no_text { (before : State) → slot.old.handle.state ≡ Some before
+        → kept_text before ≡ None → (result ≡ 5) × (bytes.new ≡ 0) }
+    ensures small { (before : State) (text : List ℕ) → slot.old.handle.state ≡ Some before
+        → kept_text before ≡ Some text → length room.old < length text → result ≡ 6 }
+    ensures moved { (before : State) (text : List ℕ) → slot.old.handle.state ≡ Some before
+        → kept_text before ≡ Some text → length text ≤ length room.old → result ≡ 0 }
+    ensures text { (before : State) (text : List ℕ) → slot.old.handle.state ≡ Some before
+        → kept_text before ≡ Some text → result ≡ 0
+        → room.new ≡ text ++ drop (length text) room.old }
+    ensures bytes { (before : State) (text : List ℕ) → slot.old.handle.state ≡ Some before
+        → kept_text before ≡ Some text → bytes.new ≡ length text }
+    ensures unwritten { result ≢ 0 → room.new ≡ room.old }
+    ensures taken { (after : State) → slot.new.handle.state ≡ Some after
+        → result ≡ 0 → after.text ≡ None }
+    ensures same { result ≢ 0 → slot.new.handle.state ≡ slot.old.handle.state }
+    ensures decoder { (before after : State) → slot.old.handle.state ≡ Some before
+        → slot.new.handle.state ≡ Some after → after.receiver ≡ before.receiver }
+    ensures image { (before after : State) → slot.old.handle.state ≡ Some before
+        → slot.new.handle.state ≡ Some after → after.image ≡ before.image }
+{
+    *bytes = 0;
+    let Some(mut state) = slot.take(alloc) else {
+        return NO_HANDLE;
+    };
+    let code = match &state.text {
+        Some(text) => written(text.as_bytes(), room, bytes),
+        None => NO_TEXT,
+    };
+    if code == DONE {
+        state.text = None;
+    }
+    slot.put(state);
+    code
+}
+
+/// Copies a text into the room, and tells how many bytes it has.
+fn written(text: &[u8], room: &mut [u8], bytes: &mut usize) -> u32
+    ensures small { length room.old < length text.now → result ≡ 6 }
+    ensures moved { length text.now ≤ length room.old → result ≡ 0 }
+    ensures text { result ≡ 0 → room.new ≡ text.now ++ drop (length text.now) room.old }
+    ensures bytes { bytes.new ≡ length text.now }
+    ensures unwritten { result ≢ 0 → room.new ≡ room.old }
+{
+    *bytes = text.len();
+    if room.len() < text.len() {
+        return SMALL_ROOM;
+    }
+    room[..text.len()].copy_from_slice(text);
+    DONE
+}

@@ -1,0 +1,53 @@
+//! What C calls to tell a person what a code means.
+
+ghost use Rattle.std.specs.Prelude.{◌≡◌, ◌<◌, ◌≤◌, length, slice_index, slice_range};
+ghost use Rattle.icysixel_c.specs.Words.{words};
+
+/// Writes what a code means and a zero into the room, if both fit, and tells how many bytes the
+/// words have. Into room that is too small it writes a zero alone.
+#[unsafe(no_mangle)]
+pub extern "C" fn icysixel_text(code: u32, room: &mut [u8]) -> usize
+    ensures length { result ≡ length (words code) }
+    ensures text { result < length room.old → slice_range room.new 0 result ≡ words code }
+    ensures zero { result < length room.old → slice_index room.new result ≡ 0 }
+    ensures empty { 0 < length room.old → length room.old ≤ result
+        → slice_index room.new 0 ≡ 0 }
+{
+    let text = words(code).as_bytes();
+    if text.len() < room.len() {
+        room[..text.len()].copy_from_slice(text);
+        room[text.len()] = 0;
+    } else if !room.is_empty() {
+        room[0] = 0;
+    }
+    text.len()
+}
+
+/// What a code means.
+fn words(code: u32) -> &'static str
+    ensures { result.now ≡ words code }
+{
+    match code {
+        0 => "done",
+        1 => "the handle holds nothing",
+        2 => "no image is open",
+        3 => "the image has no size yet",
+        4 => "no image is kept",
+        5 => "no text is kept",
+        6 => "the room is too small",
+        7 => "the stride does not fit the rows",
+        8 => "out of memory",
+        9 => "integer overflow",
+        10 => "invalid dimensions",
+        11 => "buffer size mismatch",
+        12 => "no SIXEL data found (missing DCS introducer)",
+        13 => "malformed SIXEL data",
+        14 => "image dimensions too large",
+        15 => "invalid SIXEL DCS header",
+        16 => "missing SIXEL DCS command",
+        17 => "incomplete SIXEL DCS sequence",
+        18 => "stream decoder has failed",
+        19 => "DCS stream decoder has failed",
+        _ => "unknown code",
+    }
+}
