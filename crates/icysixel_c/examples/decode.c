@@ -3,26 +3,29 @@
 #include <stdio.h>
 #include <stdlib.h>
 
-int main(void)
+/* The pixels of the control string that comes from a file, for the caller to free; null where there are none. */
+static uint8_t *read_image(FILE *file, icysixel_shape *shape)
 {
     icysixel decoder = {0};
     icysixel_fed fed = {0};
-    icysixel_shape shape = {0};
-    uint8_t piece[4096];
+    uint8_t piece[4096], *pixels = NULL;
     size_t length, wanted;
-    uint32_t code = icysixel_new(&decoder);
-    if (code == ICYSIXEL_DONE)
-        code = icysixel_begin(&decoder);
-    while (code == ICYSIXEL_DONE && fed.status == ICYSIXEL_MORE && (length = fread(piece, 1, sizeof piece, stdin)) > 0)
-        code = icysixel_feed(&decoder, piece, length, &fed);
-    if (code == ICYSIXEL_DONE)
-        code = icysixel_finish(&decoder, &shape);
-    uint8_t *pixels = malloc(shape.bytes + 1);
-    if (code == ICYSIXEL_DONE && pixels != NULL)
-        code = icysixel_pixels(&decoder, pixels, shape.bytes, 0, &wanted);
-    if (code == ICYSIXEL_DONE && pixels != NULL)
-        fwrite(pixels, 1, shape.bytes, stdout);
-    free(pixels);
+    icysixel_new(&decoder);
+    icysixel_begin(&decoder);
+    while (fed.status == ICYSIXEL_MORE && (length = fread(piece, 1, sizeof piece, file)) > 0)
+        if (icysixel_feed(&decoder, piece, length, &fed) != ICYSIXEL_DONE) break;
+    if (icysixel_finish(&decoder, shape) == ICYSIXEL_DONE && (pixels = malloc(shape->bytes)) != NULL)
+        icysixel_pixels(&decoder, pixels, shape->bytes, 0, &wanted);
     icysixel_free(&decoder);
-    return (int)code;
+    return pixels;
+}
+
+int main(void)
+{
+    icysixel_shape shape;
+    uint8_t *pixels = read_image(stdin, &shape);
+    if (pixels == NULL) return 1;
+    fwrite(pixels, 1, shape.bytes, stdout);
+    free(pixels);
+    return 0;
 }

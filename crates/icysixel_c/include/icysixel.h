@@ -226,8 +226,9 @@ uint32_t icysixel_take_text(icysixel *handle, uint8_t *room, size_t length, size
 
 /* -- Words -- */
 
-/* Writes what a code means, in English, and a zero after it, into the room, as far as there is room for
- * both; answers how many bytes the text has, without the zero. What is not a code is "unknown code". */
+/* Writes what a code means, in English, and a zero after it, into the room; into room that is too small for
+ * both, a zero alone. Answers how many bytes the text has, without the zero. What is not a code is
+ * "unknown code". */
 size_t icysixel_text(uint32_t code, uint8_t *room, size_t length);
 
 #ifdef __cplusplus

@@ -46,6 +46,11 @@ pub extern "C" fn icysixel_finish(alloc: Global, slot: &mut Slot, shape: &mut Sh
         → AreFoundRegisters before.receiver.image.start
         (found before.receiver.image.form before.receiver.image.bytes)
         after.receiver.decoder.registers }
+    ensures accepted { (before : State) → slot.old.handle.state ≡ Some before → result ≡ 0
+        → before.receiver.image.is_refused ≡ false }
+    ensures faultless { (before : State) → slot.old.handle.state ≡ Some before → result ≡ 0
+        → end_fault before.receiver.image.start.pixel_limit
+        before.receiver.image.form before.receiver.image.bytes ≡ None }
     ensures set { (before after : State) → slot.old.handle.state ≡ Some before
         → slot.new.handle.state ≡ Some after
         → IsSetAs before.receiver.decoder after.receiver.decoder }
@@ -71,7 +76,7 @@ pub extern "C" fn icysixel_finish(alloc: Global, slot: &mut Slot, shape: &mut Sh
     let Some(mut state) = slot.take(alloc) else {
         return NO_HANDLE;
     };
-    state.image = None;
+    let _former = state.image.take();
     if !state.receiver.is_receiving() {
         state.receiver.abort();
         slot.put(state);

@@ -47,6 +47,8 @@ pub extern "C" fn icysixel_decode(
         → slot.new.handle.state ≡ Some after → result ≡ 0
         → AreFoundRegisters before.receiver.decoder (found bytes.now)
         after.receiver.decoder.registers }
+    ensures faultless { (before : State) → slot.old.handle.state ≡ Some before → result ≡ 0
+        → found_fault before.receiver.decoder.pixel_limit (found bytes.now) ≡ None }
     ensures set { (before after : State) → slot.old.handle.state ≡ Some before
         → slot.new.handle.state ≡ Some after
         → IsSetAs before.receiver.decoder after.receiver.decoder }
@@ -109,6 +111,8 @@ pub extern "C" fn icysixel_decode_payload(
     ensures registers { (before after : State) → slot.old.handle.state ≡ Some before
         → slot.new.handle.state ≡ Some after → result ≡ 0 → after.receiver.decoder.registers
         ≡ payload_registers (origin_of before.receiver.decoder (settings_of p1 p2 grid)) bytes.now }
+    ensures faultless { (before : State) → slot.old.handle.state ≡ Some before → result ≡ 0
+        → payload_fault before.receiver.decoder.pixel_limit bytes.now ≡ None }
     ensures set { (before after : State) → slot.old.handle.state ≡ Some before
         → slot.new.handle.state ≡ Some after
         → IsSetAs before.receiver.decoder after.receiver.decoder }

@@ -93,10 +93,10 @@ pub extern "C" fn icysixel_size_so_far(alloc: Global, slot: &mut Slot, size: &mu
     let Some(state) = slot.take(alloc) else {
         return NO_HANDLE;
     };
-    let is_receiving = state.receiver.is_receiving();
+    let is_open = state.receiver.is_receiving();
     let so_far = state.receiver.size_so_far();
     slot.put(state);
-    if !is_receiving {
+    if !is_open {
         return NO_SESSION;
     }
     let Some((width, height)) = so_far else {

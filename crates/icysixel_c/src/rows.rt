@@ -57,8 +57,8 @@ pub fn spread(room: &mut [u8], rows: &[u8], stride: usize, wide: usize, height: 
     ensures after { drop (height * stride) room.new ≡ drop (height * stride) room.old }
 {
     for row in 0..height {
-        let start = row * stride;
+        let to = row * stride;
         let from = row * wide;
-        room[start..start + wide].copy_from_slice(&rows[from..from + wide]);
+        room[to..to + wide].copy_from_slice(&rows[from..from + wide]);
     }
 }

@@ -61,7 +61,7 @@ pub extern "C" fn icysixel_new(alloc: Global, slot: &mut Slot) -> u32
 pub extern "C" fn icysixel_free(alloc: Global, slot: &mut Slot)
     ensures { slot.new.handle.state ≡ None }
 {
-    let _former = slot.take(alloc);
+    let _freed = slot.take(alloc);
 }
 
 /// Begins a control string. An image that is open is given up.
@@ -137,6 +137,14 @@ pub extern "C" fn icysixel_feed(alloc: Global, slot: &mut Slot, piece: &[u8], fe
     ensures bytes { (before after : State) → slot.old.handle.state ≡ Some before
         → slot.new.handle.state ≡ Some after → is_open before.receiver.image.form ≡ true
         → after.receiver.image.bytes ≡ before.receiver.image.bytes ++ piece.now }
+    ensures unchanged { (before : State) → slot.old.handle.state ≡ Some before
+        → is_open before.receiver.image.form ≡ false
+        → slot.new.handle.state ≡ slot.old.handle.state }
+    ensures accepted { (after : State) → slot.new.handle.state ≡ Some after → result ≡ 0
+        → after.receiver.image.is_refused ≡ false }
+    ensures failed { (before after : State) → slot.old.handle.state ≡ Some before
+        → slot.new.handle.state ≡ Some after → is_open before.receiver.image.form ≡ true
+        → result ≢ 0 → after.receiver.image.is_refused ≡ true }
     ensures faultless { (before after : State) → slot.old.handle.state ≡ Some before
         → slot.new.handle.state ≡ Some after → result ≡ 0
         → fault before.receiver.image.start.pixel_limit after.receiver.image.form

@@ -1,0 +1,93 @@
+/* A terminal's filter: copies standard input to standard output, and in place of each SIXEL image that it reads as it comes
+ * a line that says its sizes. A control string that is no SIXEL, or is refused, is passed on from its first byte. */
+#include "icysixel.h"
+#include <stdio.h>
+#include <stdlib.h>
+#include <string.h>
+
+/* The bytes of the control string that is open, for the case that they have to be passed on. */
+typedef struct {
+    uint8_t *bytes;
+    size_t length, room;
+} kept;
+
+static int keep(kept *string, uint8_t byte)
+{
+    if (string->length == string->room) {
+        size_t room = string->room ? 2 * string->room : 4096;
+        uint8_t *bytes = realloc(string->bytes, room);
+        if (bytes == NULL) return 0;
+        string->bytes = bytes;
+        string->room = room;
+    }
+    string->bytes[string->length++] = byte;
+    return 1;
+}
+
+static void pass_on(kept *string)
+{
+    fwrite(string->bytes, 1, string->length, stdout);
+    string->length = 0;
+}
+
+/* Ends the control string: with its image, or with its bytes. */
+static void finish(icysixel *decoder, kept *string)
+{
+    icysixel_shape shape;
+    if (icysixel_finish(decoder, &shape) == ICYSIXEL_DONE) {
+        printf("[image of %zu x %zu pixels]", shape.width, shape.height * shape.pad / shape.pan);
+        string->length = 0;
+    } else {
+        pass_on(string);
+    }
+    icysixel_drop(decoder);
+}
+
+/* Reads a byte outside of control strings: 0x1b waits for the byte after it, and `P` then opens one. */
+static void outside(icysixel *decoder, kept *string, uint8_t byte)
+{
+    if (byte == 0x1b) pass_on(string);
+    if (!keep(string, byte)) exit(3);
+    if (byte == 0x1b) return;
+    if (string->length == 2 && byte == 'P' && icysixel_begin(decoder) == ICYSIXEL_DONE) {
+        icysixel_fed fed;
+        icysixel_feed(decoder, string->bytes, string->length, &fed);
+        return;
+    }
+    pass_on(string);
+}
+
+/* Reads a byte of the control string that is open, and says whether it was the string's own. */
+static int inside(icysixel *decoder, kept *string, uint8_t byte)
+{
+    icysixel_fed fed = {0};
+    if (icysixel_feed(decoder, &byte, 1, &fed) != ICYSIXEL_DONE) {
+        icysixel_abort(decoder);
+        pass_on(string);
+        return 0;
+    }
+    if (fed.consumed == 1 && !keep(string, byte)) exit(3);
+    if (fed.status != ICYSIXEL_MORE) {
+        /* An ESC that cut the string short was consumed, and begins what follows. */
+        int is_cut = fed.status == ICYSIXEL_INTERRUPTED && fed.byte == 0x1b;
+        string->length -= (size_t)is_cut;
+        finish(decoder, string);
+        if (is_cut) outside(decoder, string, 0x1b);
+    }
+    return fed.consumed == 1;
+}
+
+int main(void)
+{
+    icysixel decoder = {0};
+    kept string = {0};
+    int byte;
+    if (icysixel_new(&decoder) != ICYSIXEL_DONE) return 3;
+    while ((byte = getchar()) != EOF)
+        if (!icysixel_is_receiving(&decoder) || !inside(&decoder, &string, (uint8_t)byte))
+            outside(&decoder, &string, (uint8_t)byte);
+    pass_on(&string);
+    icysixel_free(&decoder);
+    free(string.bytes);
+    return 0;
+}
