@@ -5,3 +5,4 @@ pub mod Spans
 pub mod Strokes
 pub mod Totals
 pub mod Underway
+pub mod Widening

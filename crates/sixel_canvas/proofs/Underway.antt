@@ -86,7 +86,7 @@ IsUnderway-none stroke struck top canvas rows above made few sound same =
     }
 
 -- each row, once all six were looked at
-rows-all : (stroke : ℕ → RowState → RowState) (struck : ℕ → Bool) (top bit : ℕ) (canvas : CanvasState) (background : List ℕ) (rows : List RowState) → IsUnderway stroke struck top bit canvas background rows → 6 ≤ bit → ((row : ℕ) → top + 6 ≤ row → struck row ≡ false) → (row : ℕ) → get_or rows row (empty_row canvas.background) ≡ (if struck row then stroke row (row_at canvas row) else row_at canvas row)
+pub rows-all : (stroke : ℕ → RowState → RowState) (struck : ℕ → Bool) (top bit : ℕ) (canvas : CanvasState) (background : List ℕ) (rows : List RowState) → IsUnderway stroke struck top bit canvas background rows → 6 ≤ bit → ((row : ℕ) → top + 6 ≤ row → struck row ≡ false) → (row : ℕ) → get_or rows row (empty_row canvas.background) ≡ (if struck row then stroke row (row_at canvas row) else row_at canvas row)
 rows-all stroke struck top bit canvas background rows done six below row =
     struck_all stroke struck (top + bit) (row_at canvas) (λ k. get_or rows k (empty_row canvas.background)) done.struck
     (λ k h. below k (omega arith)) row
@@ -116,7 +116,7 @@ in_band top row = nat_le top row && nat_lt row (top + 6)
 pub in_band-above : (top row : ℕ) → row < top → in_band top row ≡ false
 in_band-above top row above = rw (lt-leb top row above) refl
 
-in_band-below : (top row : ℕ) → top + 6 ≤ row → in_band top row ≡ false
+pub in_band-below : (top row : ℕ) → top + 6 ≤ row → in_band top row ≡ false
 in_band-below top row below = rw (le-leb top row (omega arith), le-ltb row (top + 6) below) refl
 
 pub in_band-inside : (top bit : ℕ) → bit < 6 → in_band top (top + bit) ≡ true

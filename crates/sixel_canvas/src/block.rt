@@ -25,19 +25,13 @@ fn mix_pixels(pixels: &mut [[u8; 4]], sixels: [u8; 4], bit: usize, color: [u8; 4
     requires six { bit < 6 }
     ensures { pixels.new ≡ mixed bit color sixels pixels.old }
 {
-    let tests = [
-        test(sixels[0], bit),
-        test(sixels[1], bit),
-        test(sixels[2], bit),
-        test(sixels[3], bit),
-    ];
     let old = [
         number(pixels[0]),
         number(pixels[1]),
         number(pixels[2]),
         number(pixels[3]),
     ];
-    let new = chosen(tests, number(color), old);
+    let new = chosen(sixels, bit, number(color), old);
     pixels.copy_from_slice(&[
         new[0].to_le_bytes(),
         new[1].to_le_bytes(),
@@ -54,22 +48,17 @@ fn number(pixel: [u8; 4]) -> u32
     u32::from_le_bytes(pixel)
 }
 
-/// 1 where the sixel has the bit.
+/// Lane by lane the new number where the sixel has the bit, and else the old one.
 #[inline(always)]
-fn test(sixel: u8, bit: usize) -> u32
+fn chosen(sixels: [u8; 4], bit: usize, new: u32, old: [u32; 4]) -> [u32; 4]
     requires { bit < 6 }
-    ensures { result ≡ (sixel / 2 ^ bit) % 2 }
+    ensures { (k : ℕ) → k < 4 → slice_index result k
+        ≡ (if (slice_index sixels k / 2 ^ bit) % 2 == 1 then new else slice_index old k) }
 {
-    u32::from((sixel >> bit) % 2)
-}
-
-/// Lane by lane the new number where the test is 1, and else the old one.
-#[inline(always)]
-fn chosen(tests: [u32; 4], new: u32, old: [u32; 4]) -> [u32; 4]
-    ensures { (k : ℕ) → k < 4
-        → slice_index result k ≡ (if slice_index tests k == 1 then new else slice_index old k) }
-{
-    u32x4::from_array(tests)
+    let [a, b, c, d] = sixels;
+    let lanes = u32x4::from_array([u32::from(a), u32::from(b), u32::from(c), u32::from(d)]);
+    let tests = (lanes >> u32x4::splat(bit as u32)) % u32x4::splat(2);
+    tests
         .simd_eq(u32x4::splat(1))
         .select(u32x4::splat(new), u32x4::from_array(old))
         .to_array()

@@ -1,6 +1,7 @@
 //! The canvas that a decoder draws on: rows that are filled only as far as a stroke reaches.
-ghost use Rattle.std.specs.Prelude.{◌≡◌, ℕ, ◌+◌, ◌*◌, ◌^◌, ◌<◌, ◌≤◌, ◌++◌, [], max};
-ghost use Rattle.std.specs.Prelude.{length, vec_len, slice_index_or, slice_set, if◌then◌else◌};
+ghost use Rattle.std.specs.Prelude.{◌≡◌, ℕ, ◌+◌, ◌-◌, ◌*◌, ◌^◌, ◌<◌, ◌≤◌, ◌&&◌, ◌++◌, [], max};
+ghost use Rattle.std.specs.Prelude.{length, vec_len, slice_index, slice_index_or, slice_set, if◌then◌else◌};
+ghost use Rattle.std.specs.Prelude.{nat_le, nat_lt};
 ghost use Rattle.std.specs.Prelude.{All, IfOk, IfErr, OnErr, OnOk};
 ghost use Rattle.sixel_base.specs.declared.error.SixelError.TheVariants.{OutOfMemory};
 ghost use Rattle.sixel_base.specs.Picture.{covers, is_struck, joined, picture};
@@ -113,6 +114,29 @@ impl Canvas {
         }
     }
 
+    /// Makes each of the six rows from `top` on hold so many columns, where it holds fewer: those
+    /// that are added are background. Where memory is refused, some of the rows may.
+    #[inline(never)]
+    pub fn widen(&mut self, top: usize, columns: [usize; 6]) -> Result<()>
+        requires within { (k : ℕ) → k < 6 → slice_index columns k ≤ 1000000 }
+        requires above_bottom { top + 6 ≤ 1000000 }
+        ensures shown { OnOk result ((column row : ℕ) → shown self.new column row
+            ≡ shown self.old column row) }
+        ensures grown { OnOk result ((row : ℕ) → reached self.new row
+            ≡ (if nat_le top row && nat_lt row (top + 6)
+            then max (reached self.old row) (slice_index columns (row - top))
+            else reached self.old row)) }
+        ensures background { self.new.background ≡ self.old.background }
+        ensures error { IfErr result (λ e. e ≡ OutOfMemory) }
+    {
+        let background = self.background;
+        make_rows(&mut self.rows, top + 6, background)?;
+        'widened: for bit in 0..6 {
+            reach(&mut self.rows, top + bit, columns[bit])?;
+        }
+        Ok(())
+    }
+
     /// The bytes of the picture of this size: red, green, blue and alpha a pixel, row by row from
     /// the top. Places that no stroke has reached are background.
     pub fn pack(&self, width: usize, height: usize) -> Result<Vec<u8>>
@@ -177,6 +201,20 @@ fn make_rows(rows: &mut Vec<Row>, count: usize, background: [u8; 4]) -> Result<(
         rows.push(Row::new(alloc, background))?;
     }
     Ok(())
+}
+
+// Makes one row hold so many columns, where it holds fewer.
+fn reach(rows: &mut Vec<Row>, row: usize, columns: usize) -> Result<()>
+    requires within { columns ≤ 1000000 }
+    requires made { row < vec_len rows.old }
+    ensures ok { OnOk result ((d : RowState) → rows.new.items ≡ slice_set rows.old.items row
+        (reached_to columns (slice_index_or rows.old.items row d))) }
+    ensures thrifty { OnOk result ((d : RowState)
+        → IsThrifty (slice_index_or rows.new.items row d)) }
+    ensures refused { OnErr result (rows.new.items ≡ rows.old.items) }
+    ensures error { IfErr result (λ e. e ≡ OutOfMemory) }
+{
+    rows[row].reach(columns)
 }
 
 // Paints a part of one row, which is grown first where it is too short.

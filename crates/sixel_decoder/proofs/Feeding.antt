@@ -1,12 +1,12 @@
 -- How far a frame has come in a piece, and what stays true of the whole piece's history.
-use Rattle.std.proofs.Common.{◌≡◌, ℕ, zero, suc, ◌+◌, ◌<◌, ◌≤◌, Bool, true, false, cond, List, [], ◌∷◌, ◌++◌, refl, ap, sym, ◌∙◌, subst, arith, Some, None, length, take, drop, drop-cons, get_or, add-one}
+use Rattle.std.proofs.Common.{◌≡◌, ℕ, zero, suc, ◌+◌, ◌<◌, ◌≤◌, Bool, true, false, cond, List, [], ◌∷◌, ◌++◌, refl, ap, sym, ◌∙◌, subst, arith, Some, None, length, take, drop, drop-cons, get_or, get_or-drop, add-one}
 use Rattle.std.specs.Prelude.{IsTrue, nat_lt, fold, ◌||◌, is_none}
 use Rattle.std.proofs.lemmas.Bool.Decides.{nat_tests}
 use Rattle.std.proofs.lemmas.List.{drop-drop, drop_all}
 use Rattle.std.proofs.lemmas.List.Sums.{fold-append}
 use Rattle.sixel_base.specs.declared.error.SixelError.{SixelError}
 use Rattle.sixel_base.specs.Fault.{Fault, Faults}
-use Rattle.sixel_base.specs.Bytes.{is_terminator, is_ignored, before_terminator, front, count, first_terminator, is_terminated}
+use Rattle.sixel_base.specs.Bytes.{is_sixel, is_terminator, is_ignored, before_terminator, front, count, first_terminator, is_terminated}
 use Rattle.sixel_base.specs.History.{Token, Sixel, Repeat, Raster, Color, Return, Newline, Skip, History, begun, longer, goes_on, read, history_of}
 use Rattle.sixel_base.specs.Stroke.{Origin}
 use Rattle.sixel_base.specs.Payload.{first_fault, closed, growths, settled, payload_fault, payload_wants}
@@ -172,19 +172,12 @@ reaches_run o frame frame' h index n piece are le r stands =
 -- the frame once sixels at the front of what is ahead were drawn
 pub reaches_drawn : (o : Origin) (frame frame' : Frame) (h : History) (index n : ℕ) (piece bytes : List ℕ) → bytes ≡ drop index piece
     → ((k : ℕ) → k < n → IsSixelByte (get_or bytes k 0)) → n ≤ length bytes
-    → ((o : Origin) (h : History) → Stands o frame h → Stands o frame' (fold read h (take n bytes)))
-    → Reaches o frame h index piece → Reaches o frame' h (index + n) piece
-reaches_drawn o frame frame' h index n piece bytes is are le moves r =
+    → (r : Reaches o frame h index piece) → Stands o frame' (fold read r.now (take n bytes)) → Reaches o frame' h (index + n) piece
+reaches_drawn o frame frame' h index n piece bytes is are le r stands =
     reaches_run o frame frame' h index n piece
     (subst (λ (bs : List ℕ). (k : ℕ) → k < n → IsSixelByte (get_or bs k 0)) is are)
     (omega (arith, le, ap length is)) r
-    (subst (λ (bs : List ℕ). Stands o frame' (fold read r.now (take n bs))) is (moves o r.now r.stands))
-
--- and where there was none
-pub reaches_none : (o : Origin) (frame : Frame) (h : History) (index n : ℕ) (piece : List ℕ) → n ≡ 0 → Reaches o frame h (index + n) piece → Reaches o frame h index piece
-reaches_none o frame h index n piece none r =
-    let same : index + n ≡ index = omega (arith, none) in
-    subst (λ (k : ℕ). Reaches o frame h k piece) same r
+    (subst (λ (bs : List ℕ). Stands o frame' (fold read r.now (take n bs))) is stands)
 
 count_most : (bytes : List ℕ) → count bytes ≤ length bytes
 count_most [] = omega arith
@@ -237,6 +230,24 @@ feeds_refused e o frame h index piece byte splits ends is r refused =
     let whole : fold read next rest ≡ after h piece =
     ap (λ w. fold read r.now w) (sym (ap front splits ∙ front-carried byte (drop (index + 1) piece) ends is)) ∙ r.ahead in
     refused_settled e o.pixel_limit h r.now next rest piece whole r.grown refused
+
+-- and at a run of sixels, what its first one is
+pub feeds_refused_run : (e : SixelError) (o : Origin) (frame : Frame) (h : History) (index : ℕ) (piece bytes : List ℕ)
+    → bytes ≡ drop index piece → index < length piece → is_sixel (get_or piece index 0) ≡ true
+    → (r : Reaches o frame h index piece)
+    → Faults e (nat_lt (growths (closed r.now)) (growths (closed (read r.now (get_or bytes 0 0))))) (first_fault o.pixel_limit (closed (read r.now (get_or bytes 0 0))))
+    → Faults e (nat_lt (growths (closed h)) (growths (settled_after h piece))) (first_fault o.pixel_limit (settled_after h piece))
+feeds_refused_run e o frame h index piece bytes is lt test r refused =
+    let byte : ℕ = get_or bytes 0 0 in
+    let place : index + 0 ≡ index = omega arith in
+    let first : byte ≡ get_or piece index 0 = ap (λ (bs : List ℕ). get_or bs 0 0) is ∙ get_or-drop index piece 0 0 ∙ ap (λ (k : ℕ). get_or piece k 0) place in
+    let splits : drop index piece ≡ byte ∷ drop (index + 1) piece = splits_at piece index lt ∙ ap (λ (b : ℕ). b ∷ drop (index + 1) piece) (sym first) in
+    let same : is_sixel byte ≡ true = ap is_sixel first ∙ test in
+    let above : 63 ≤ byte = grind (arith, nat_tests, same) in
+    let below : byte < 127 = grind (arith, nat_tests, same) in
+    let ends : is_terminator byte ≡ false = grind (arith, nat_tests, above, below) in
+    let carries : is_ignored byte ≡ false = grind (arith, nat_tests, above, below) in
+    feeds_refused e o frame h index piece byte splits ends carries r refused
 
 -- what a whole payload is refused for while it is fed is what it is refused for at its end
 settled_fault : (limit : ℕ) (bytes : List ℕ) (f : Fault) → first_fault limit (settled bytes) ≡ Some f → payload_fault limit bytes ≡ Some f

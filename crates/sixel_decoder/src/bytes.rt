@@ -2,10 +2,11 @@
 //!
 //! Printable bytes are asked for first, since nearly all of a payload are.
 
-ghost use Rattle.std.specs.Prelude.{◌≡◌, ◌⊎◌, ◌≤◌, IfSome, IsTrue, length, drop};
+ghost use Rattle.std.specs.Prelude.{◌≡◌, ◌⊎◌, ℕ, ◌+◌, ◌-◌, ◌<◌, ◌≤◌, IsTrue, length, slice_index, take, drop};
 ghost use Rattle.sixel_base.specs.Bytes.{is_ignored as ignored, is_terminator as terminator};
 ghost use Rattle.sixel_base.specs.Bytes.{is_parameter as parameter, is_sixel as sixel};
-ghost use Rattle.sixel_decoder.specs.inside.Runs.{AreSixels};
+ghost use Rattle.sixel_base.specs.Picture.{is_set};
+ghost use Rattle.sixel_decoder.specs.inside.Runs.{IsSixelByte, four_of, end_of, columns_for};
 ghost use Rattle.sixel_base.specs.inside.Parameters.{IsDigit};
 
 /// Whether the byte is a control that is as if it were not there: C0 or DEL, but no terminator.
@@ -38,19 +39,115 @@ pub fn is_sixel(byte: u8) -> bool
     matches!(byte, 0x3f..=0x7e)
 }
 
-/// The bits of the four sixels that the bytes begin with, where they do.
+/// How many sixels the bytes begin with.
 #[inline(always)]
-pub fn four_sixels(bytes: &[u8]) -> Option<[u8; 4]>
-    ensures { IfSome result (λ sixels. (length sixels ≡ 4) × AreSixels sixels bytes.now) }
+pub fn run_len(bytes: &[u8]) -> usize
+    ensures within { result ≤ length bytes.now }
+    ensures sixels { (k : ℕ) → k < result → IsSixelByte (slice_index bytes.now k) }
 {
-    if bytes.len() < 4 {
-        return None;
+    let mut len = 0;
+    'sixels: while len < bytes.len() {
+        if !is_sixel(bytes[len]) {
+            return len;
+        }
+        len += 1;
     }
-    let (a, b, c, d) = (bytes[0], bytes[1], bytes[2], bytes[3]);
-    if is_sixel(a) && is_sixel(b) && is_sixel(c) && is_sixel(d) {
-        return Some([a - 0x3f, b - 0x3f, c - 0x3f, d - 0x3f]);
+    len
+}
+
+/// The bits of the four sixels of a run from an index on, and no bit past its end.
+#[inline(always)]
+pub fn sixels_at(run: &[u8], at: usize) -> [u8; 4]
+    requires sixels { (k : ℕ) → k < length run.now → IsSixelByte (slice_index run.now k) }
+    requires inside { at < length run.now }
+    ensures { result ≡ four_of (drop at run.now) }
+{
+    if at + 4 <= run.len() {
+        return [
+            run[at] - 0x3f,
+            run[at + 1] - 0x3f,
+            run[at + 2] - 0x3f,
+            run[at + 3] - 0x3f,
+        ];
     }
-    None
+    [
+        run[at] - 0x3f,
+        bits_at(run, at + 1),
+        bits_at(run, at + 2),
+        bits_at(run, at + 3),
+    ]
+}
+
+/// The bits of the sixel of a run at an index, and no bit past its end.
+#[inline(always)]
+fn bits_at(run: &[u8], at: usize) -> u8
+    requires { (k : ℕ) → k < length run.now → IsSixelByte (slice_index run.now k) }
+    ensures { result ≡ slice_index run.now at - 63 }
+{
+    if at < run.len() { run[at] - 0x3f } else { 0 }
+}
+
+/// Whether a sixel has the bit.
+#[inline(always)]
+fn has_bit(sixel: u8, bit: usize) -> bool
+    requires sixel { IsSixelByte sixel }
+    requires six { bit < 6 }
+    ensures { result ≡ is_set (sixel - 63) bit }
+{
+    ((sixel - 0x3f) >> bit) % 2 == 1
+}
+
+/// One more than the index of a run's last sixel that has the bit, and 0 where none has.
+fn run_end(run: &[u8], bit: usize) -> usize
+    requires sixels { (k : ℕ) → k < length run.now → IsSixelByte (slice_index run.now k) }
+    requires six { bit < 6 }
+    ensures end { result ≡ end_of bit run.now }
+    ensures within { result ≤ length run.now }
+{
+    let mut end = run.len();
+    'blank: while end > 0 {
+        if has_bit(run[end - 1], bit) {
+            return end;
+        }
+        end -= 1;
+    }
+    0
+}
+
+/// How many columns the row of a bit is to hold for a run that begins at a column.
+fn column_of(run: &[u8], from: usize, bit: usize) -> usize
+    requires sixels { (k : ℕ) → k < length run.now → IsSixelByte (slice_index run.now k) }
+    requires within { from + length run.now ≤ 1000000 }
+    requires six { bit < 6 }
+    ensures value { result ≡ columns_for from (end_of bit run.now) }
+    ensures few { result ≤ 1000000 }
+{
+    let end = run_end(run, bit);
+    if end > 0 { from + end } else { 0 }
+}
+
+/// How many columns each of the six rows is to hold for a run that begins at a column.
+pub fn columns_of(run: &[u8], from: usize) -> [usize; 6]
+    requires sixels { (k : ℕ) → k < length run.now → IsSixelByte (slice_index run.now k) }
+    requires within { from + length run.now ≤ 1000000 }
+    ensures value { (bit : ℕ) → bit < 6
+        → slice_index result bit ≡ columns_for from (end_of bit run.now) }
+    ensures few { (bit : ℕ) → bit < 6 → slice_index result bit ≤ 1000000 }
+{
+    let mut columns = [0; 6];
+    'rows: for bit in 0..6 {
+        columns[bit] = column_of(run, from, bit);
+    }
+    columns
+}
+
+/// So many bytes from the front.
+#[inline(always)]
+pub fn front(bytes: &[u8], len: usize) -> &[u8]
+    requires { len ≤ length bytes.now }
+    ensures { result.now ≡ take len bytes.now }
+{
+    &bytes[..len]
 }
 
 /// The bytes from an index on.

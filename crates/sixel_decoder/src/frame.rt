@@ -4,9 +4,9 @@
 //! terminator, or by the end. So a piece may end within one, and nothing is decided there.
 
 ghost use Rattle.std.specs.Prelude.{◌≡◌, ◌<◌, ◌≤◌, ◌*◌, ◌∷◌, ◌++◌, List, ℕ, true, false, []};
-ghost use Rattle.std.specs.Prelude.{length, slice_index, take};
+ghost use Rattle.std.specs.Prelude.{length, slice_index, IfOk};
 ghost use Rattle.sixel_decoder.specs.inside.Runs.{IsSixelByte};
-ghost use Rattle.std.specs.Prelude.{nat_lt, fold, IsOk, IsTrue, ◌⊎◌, Bool, if◌then◌else◌};
+ghost use Rattle.std.specs.Prelude.{IsOk, IsTrue, ◌⊎◌, Bool, if◌then◌else◌};
 ghost use Rattle.sixel_canvas.specs.inside.Canvas.{canvas_writes, canvas_room};
 ghost use Rattle.sixel_base.specs.History.{History, begun, goes_on, read};
 ghost use Rattle.sixel_base.specs.Decoder.{origin_of};
@@ -14,7 +14,7 @@ ghost use Rattle.sixel_base.specs.inside.Parameters.{Keeps, IsDigit};
 ghost use Rattle.sixel_base.specs.Stroke.{Origin};
 ghost use Rattle.sixel_decoder.specs.declared.frame.Phase.TheVariants.{Ground};
 
-use crate::bytes::{four_sixels, is_ignored, is_parameter, is_sixel, is_terminator, tail};
+use crate::bytes::{is_ignored, is_parameter, is_sixel, is_terminator, tail};
 use crate::painter::{Painter, Picture};
 use sixel_base::Result;
 use sixel_base::parameters::Parameters;
@@ -72,7 +72,7 @@ impl Start {
 
 impl Frame {
     ghost use Rattle.sixel_decoder.specs.inside.Painter.{Shows, Draws};
-    ghost use Rattle.sixel_decoder.specs.inside.Frame.{Stands, Reads, Feeds, StandsAfter};
+    ghost use Rattle.sixel_decoder.specs.inside.Frame.{Stands, Reads, Feeds, StandsAfter, DrawsSixels};
     ghost use Rattle.sixel_decoder.specs.inside.Painter.{Ends};
     ghost use Rattle.sixel_base.specs.Reach.{reached_area, size};
     ghost use Rattle.sixel_base.specs.Payload.{closed};
@@ -169,23 +169,26 @@ impl Frame {
         self.begin(byte)
     }
 
-    /// Draws sixels that no command is open before and nothing can refuse, and answers how many:
-    /// none, where it is not asked to try.
+    /// Ends the open command and draws sixels at the front of the bytes, one at least, and answers how
+    /// many.
     #[inline(always)]
-    fn draw_held(&mut self, tries: bool, bytes: &[u8]) -> usize
-        ensures within { result ≤ length bytes.now }
-        ensures sixels { (k : ℕ) → k < result → IsSixelByte (slice_index bytes.now k) }
+    fn draw_sixels(&mut self, bytes: &[u8]) -> Result<usize>
+        requires some { 0 < length bytes.now }
+        requires sixel { IsSixelByte (slice_index bytes.now 0) }
+        ensures some { IfOk result (λ drawn. 0 < drawn) }
+        ensures within { IfOk result (λ drawn. drawn ≤ length bytes.now) }
+        ensures sixels { IfOk result (λ drawn. (k : ℕ) → k < drawn
+            → IsSixelByte (slice_index bytes.now k)) }
         ensures stands { (o : Origin) (h : History) → Stands o self.old h
-            → Stands o self.new (fold read h (take result bytes.now)) }
+            → DrawsSixels result o self.new h bytes.now }
     {
-        match self.phase {
-            Phase::Ground => {}
-            _ => return 0,
+        self.close()?;
+        let drawn = self.painter.draw_run(bytes)?;
+        if drawn > 0 {
+            return Ok(drawn);
         }
-        if !tries || four_sixels(bytes).is_none() {
-            return 0;
-        }
-        self.painter.draw_held(bytes)
+        self.painter.draw(bytes[0] - 0x3f)?;
+        Ok(1)
     }
 
     /// Reads a piece up to its first terminator, which ends the open command.
@@ -194,22 +197,19 @@ impl Frame {
             → Feeds result o self.new h piece.now }
     {
         let mut index = 0;
-        // Where a sixel's columns aren't held yet, those of the next ones mostly aren't either.
-        let mut tries = true;
         'bytes: while index < piece.len() {
             let byte = piece[index];
-            if is_terminator(byte) {
-                self.close()?;
-                return Ok(SixelFeedResult {
-                    consumed: index,
-                    status: SixelFeedStatus::Terminated(byte),
-                });
-            }
-            let drawn = self.draw_held(tries, tail(piece, index));
-            tries = drawn > 0 || self.phase != Phase::Ground || !is_sixel(byte);
-            if drawn > 0 {
+            if is_sixel(byte) {
+                let drawn = self.draw_sixels(tail(piece, index))?;
                 index += drawn;
             } else {
+                if is_terminator(byte) {
+                    self.close()?;
+                    return Ok(SixelFeedResult {
+                        consumed: index,
+                        status: SixelFeedStatus::Terminated(byte),
+                    });
+                }
                 if !is_ignored(byte) {
                     self.push(byte)?;
                 }

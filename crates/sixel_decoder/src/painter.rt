@@ -2,8 +2,12 @@
 
 ghost use Rattle.std.specs.Prelude.{◌≡◌, ◌<◌, ◌≤◌, ◌*◌, ◌∷◌, ◌++◌, List, ℕ, true, false, []};
 ghost use Rattle.std.specs.Prelude.{length, max, nat_le, slice_set, if◌then◌else◌};
-ghost use Rattle.std.specs.Prelude.{fold, slice_index, take};
-ghost use Rattle.sixel_decoder.specs.inside.Runs.{IsSixelByte};
+ghost use Rattle.std.specs.Prelude.{◌+◌, ◌-◌, fold, slice_index, take, IfOk, IfErr, OnOk};
+ghost use Rattle.sixel_base.specs.Picture.{is_set};
+ghost use Rattle.sixel_base.specs.declared.error.SixelError.TheVariants.{OutOfMemory};
+ghost use Rattle.sixel_canvas.specs.inside.Block.{drawn_over};
+ghost use Rattle.sixel_canvas.specs.inside.Canvas.{shown, reached};
+ghost use Rattle.sixel_decoder.specs.inside.Runs.{IsSixelByte, IsRun, Holds, bits_of};
 ghost use Rattle.sixel_base.specs.History.{read};
 ghost use Rattle.sixel_canvas.specs.inside.Canvas.{canvas_writes, canvas_room};
 ghost use Rattle.sixel_base.specs.History.{History, Sixel, Repeat, Raster, Color, Return, Newline};
@@ -13,7 +17,7 @@ ghost use Rattle.sixel_base.specs.Fields.{fields, field};
 ghost use Rattle.sixel_base.specs.Stroke.{Origin, is_definition, definition};
 ghost use Rattle.sixel_base.specs.Stroke.{ratio_from as shape_from};
 
-use crate::bytes::{four_sixels, tail};
+use crate::bytes::{columns_of, front, run_len, sixels_at};
 use sixel_base::limits::{MAX_REPEAT, MAX_SIDE};
 use sixel_base::parameters::Parameters;
 use sixel_base::registers::Registers;
@@ -117,31 +121,75 @@ impl Painter {
         Ok(())
     }
 
-    /// Draws the sixels at the front of the bytes four at once, while they are of one column each,
-    /// inside the picture and over columns that the canvas holds, and answers how many they are.
+    /// Draws the sixels at the front of the bytes at once, where the next ones are of one column each
+    /// and inside the picture, and answers how many they are: none elsewhere.
     #[inline(never)]
-    pub fn draw_held(&mut self, bytes: &[u8]) -> usize
-        ensures within { result ≤ length bytes.now }
-        ensures sixels { (k : ℕ) → k < result → IsSixelByte (slice_index bytes.now k) }
-        ensures shows { (o : Origin) (h : History) → Shows o self.old h
-            → Shows o self.new (fold read h (take result bytes.now)) }
+    pub fn draw_run(&mut self, bytes: &[u8]) -> Result<usize>
+        ensures within { IfOk result (λ drawn. drawn ≤ length bytes.now) }
+        ensures sixels { IfOk result (λ drawn. (k : ℕ) → k < drawn
+            → IsSixelByte (slice_index bytes.now k)) }
+        ensures shows { IfOk result (λ drawn. (o : Origin) (h : History) → Shows o self.old h
+            → Shows o self.new (fold read h (take drawn bytes.now))) }
+        ensures error { IfErr result (λ e. e ≡ OutOfMemory) }
     {
         if self.span != 1 || self.height < 6 || self.down > self.height - 6 {
-            return 0;
+            return Ok(0);
         }
-        let held = self.canvas.held(self.down).min(self.width);
-        let mut done = 0;
-        'fours: while self.across + 4 <= held {
-            let Some(sixels) = four_sixels(tail(bytes, done)) else {
-                return done;
-            };
-            self.canvas
-                .block(self.across, self.down, sixels, self.color);
-            self.across += 4;
-            done += 4;
+        let len = run_len(bytes);
+        if self.across + len > self.width {
+            return Ok(0);
         }
-        done
+        let run = front(bytes, len);
+        hold(&mut self.canvas, self.down, self.across, run)?;
+        paint(&mut self.canvas, self.down, self.across, run, self.color)?;
+        self.across += len;
+        Ok(len)
     }
+}
+
+/// Makes the canvas hold the columns of a run, in each of the six rows from `top` on up to its last
+/// dot there.
+#[inline(always)]
+fn hold(canvas: &mut Canvas, top: usize, from: usize, run: &[u8]) -> Result<()>
+    requires sixels { IsRun run.now }
+    requires within { from + length run.now ≤ 1000000 }
+    requires above_bottom { top + 6 ≤ 1000000 }
+    ensures holds { OnOk result (Holds canvas.old canvas.new top from run.now) }
+    ensures error { IfErr result (λ e. e ≡ OutOfMemory) }
+{
+    if from + run.len() <= canvas.held(top) {
+        return Ok(());
+    }
+    canvas.widen(top, columns_of(run, from))
+}
+
+/// Draws a run on a canvas that holds its dots: four sixels at once, where it holds all six rows of
+/// their columns.
+#[inline(always)]
+fn paint(canvas: &mut Canvas, top: usize, from: usize, run: &[u8], color: [u8; 4]) -> Result<()>
+    requires sixels { IsRun run.now }
+    requires within { from + length run.now ≤ 1000000 }
+    requires above_bottom { top + 6 ≤ 1000000 }
+    requires held { (k j : ℕ) → k < 6 → j < length run.now
+        → is_set (slice_index run.now j - 63) k ≡ true → from + j < reached canvas.old (top + k) }
+    ensures drawn { OnOk result ((column row : ℕ) → shown canvas.new column row
+        ≡ drawn_over from (bits_of run.now) top color column row (shown canvas.old column row)) }
+    ensures kept { OnOk result ((row : ℕ) → reached canvas.new row ≡ reached canvas.old row) }
+    ensures error { IfErr result (λ e. e ≡ OutOfMemory) }
+{
+    let held = canvas.held(top);
+    let by_four = run.len().min(held.saturating_sub(from + 3));
+    let mut done = 0;
+    'fours: while done < by_four {
+        canvas.block(from + done, top, sixels_at(run, done), color);
+        done += 4;
+    }
+    'singly: while done < run.len() {
+        let column = from + done;
+        canvas.draw(column, column + 1, top, run[done] - 0x3f, color)?;
+        done += 1;
+    }
+    Ok(())
 }
 
 impl Painter {

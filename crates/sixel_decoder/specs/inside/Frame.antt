@@ -1,6 +1,6 @@
 -- How a frame, which reads a payload's bytes, stands in the history that they are so far: every token was drawn but a newest one that
 -- could go on. An invariant of this library's own: what a payload means, by DEC's manual, is in Payload of sixel_base.
-use Rattle.std.specs.Prelude.{ℕ, ◌<◌, ◌≡◌, Bool, true, false, nat_lt, MatchResult, Result, List, [], ◌∷◌, fold, if◌then◌else◌}
+use Rattle.std.specs.Prelude.{ℕ, ◌<◌, ◌≡◌, Bool, true, false, nat_lt, MatchResult, Result, List, [], ◌∷◌, fold, slice_index, take, if◌then◌else◌}
 use Rattle.sixel_base.specs.Status.{status_of}
 use Rattle.sixel_base.specs.declared.status.SixelFeedResult.{SixelFeedResult}
 use Rattle.sixel_base.specs.Bytes.{front, count, first_terminator, is_terminated}
@@ -54,6 +54,13 @@ abbrev pub Reads : {A : Type 0} → Result A SixelError → Origin → Frame →
 Reads result origin frame before history =
     MatchResult result (λ _. Stands origin frame history)
     (λ error. Faults error (nat_lt (growths (closed before)) (growths (closed history))) (first_fault origin.pixel_limit (closed history)))
+
+-- The frame stands in the history with so many of the bytes at the front; or the first of them is refused.
+abbrev pub DrawsSixels : Result ℕ SixelError → Origin → Frame → History → List ℕ → Type 0
+DrawsSixels result origin frame history bytes =
+    MatchResult result (λ drawn. Stands origin frame (fold read history (take drawn bytes)))
+    (λ error. Faults error (nat_lt (growths (closed history)) (growths (closed (read history (slice_index bytes 0)))))
+    (first_fault origin.pixel_limit (closed (read history (slice_index bytes 0)))))
 
 -- the history after a piece of bytes
 abbrev pub after : History → List ℕ → History

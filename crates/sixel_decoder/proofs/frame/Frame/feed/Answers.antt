@@ -1,49 +1,51 @@
 use Rattle.std.proofs.Common.{◌≡◌, true, false, get_or, arith}
 use Rattle.std.proofs.lemmas.Result.{err_from_is_err_and}
-use Rattle.sixel_base.specs.Bytes.{is_ignored, is_terminator}
-use Rattle.sixel_decoder.proofs.Feeding.{reaches_drawn, reaches_ignored, reaches_none, reaches_pushed, feeds_end, feeds_refused, splits_at}
+use Rattle.sixel_base.specs.Bytes.{is_ignored, is_sixel, is_terminator}
+use Rattle.sixel_decoder.proofs.Feeding.{reaches_drawn, reaches_ignored, reaches_pushed, feeds_end, feeds_refused, feeds_refused_run, splits_at}
 use Rattle.sixel_decoder.proofs.frame.Frame.feed.Goals as goal
 use Rattle.sixel_decoder.proofs.frame.Frame.feed.Goals.{then-not-is_ignored+in_ok-push, else-not-is_ignored}
 
 pub returns : goal.returns
 returns c = λ o h stands. feeds_end o c.bytes.self h c.bytes.index c.args.piece.now c.bytes-test.false (c.bytes.invariant o h stands)
 
-pub bytes-preserved-then-drawn-gt0-2 : goal.bytes-preserved-then-drawn-gt0-2
-bytes-preserved-then-drawn-gt0-2 c = λ o h stands.
-    let drawn = c.draw_held-drawn in
-    reaches_drawn o c.bytes.self drawn.new.self h c.bytes.index drawn.result c.args.piece.now c.tail.result.now c.tail.ensures
-    drawn.ensures.sixels drawn.ensures.within drawn.ensures.stands (c.bytes.invariant o h stands)
+pub bytes-preserved-then-is_sixel : goal.bytes-preserved-then-is_sixel
+bytes-preserved-then-is_sixel c = λ o h stands.
+    let r = c.bytes.invariant o h stands in
+    let drawn = c.in_ok-drawn in
+    reaches_drawn o c.bytes.self c.draw_sixels.new.self h c.bytes.index drawn.drawn c.args.piece.now c.tail.result.now c.tail.ensures
+    drawn.ensures.sixels drawn.ensures.within r (drawn.ensures.stands o r.now r.stands)
+
+pub returns-in_err-drawn : goal.returns-in_err-drawn
+returns-in_err-drawn c = λ o h stands.
+    let test : is_sixel (get_or c.args.piece.now c.bytes.index 0) ≡ true = cc (c.if-is_sixel.ensures, c.if-is_sixel.true) in
+    let r = c.bytes.invariant o h stands in
+    let p = err_from_is_err_and c.from_residual.result c.from_residual.ensures.1 in
+    rw (p.1, p.2) (feeds_refused_run _ o c.bytes.self h c.bytes.index c.args.piece.now c.tail.result.now c.tail.ensures c.bytes-test.true test r (c.in_err-drawn.ensures.stands o r.now r.stands))
 
 pub returns-in_err-push : goal.returns-in_err-push
 returns-in_err-push c = λ o h stands.
     let piece = c.args.piece.now in
     let index = c.bytes.index in
     let byte = get_or piece index 0 in
-    let drawn = c.draw_held-drawn in
-    let r = reaches_none o drawn.new.self h index drawn.result piece (omega (arith, c.if-drawn-gt0-2.false))
-    (reaches_drawn o c.bytes.self drawn.new.self h index drawn.result piece c.tail.result.now c.tail.ensures
-    drawn.ensures.sixels drawn.ensures.within drawn.ensures.stands (c.bytes.invariant o h stands)) in
+    let r = c.bytes.invariant o h stands in
     let ends : is_terminator byte ≡ false = grind (arith, c.if-is_terminator.ensures, c.if-is_terminator.false) in
     let carries : is_ignored byte ≡ false = grind (arith, c.if-not-is_ignored.ensures, c.if-not-is_ignored.true) in
     let p = err_from_is_err_and c.from_residual-in_err-push.result c.from_residual-in_err-push.ensures.1 in
-    rw (p.1, p.2) (feeds_refused _ o drawn.new.self h index piece byte (splits_at piece index c.bytes-test.true) ends carries r (c.in_err-push.ensures o r.now r.stands))
+    rw (p.1, p.2) (feeds_refused _ o c.bytes.self h index piece byte (splits_at piece index c.bytes-test.true) ends carries r (c.in_err-push.ensures o r.now r.stands))
 
 pub bytes-preserved : goal.bytes-preserved
 bytes-preserved c = λ o h stands.
     let piece = c.args.piece.now in
     let index = c.bytes.index in
     let byte = get_or piece index 0 in
-    let drawn = c.draw_held-drawn in
-    let r = reaches_none o drawn.new.self h index drawn.result piece (omega (arith, c.if-drawn-gt0-2.false))
-    (reaches_drawn o c.bytes.self drawn.new.self h index drawn.result piece c.tail.result.now c.tail.ensures
-    drawn.ensures.sixels drawn.ensures.within drawn.ensures.stands (c.bytes.invariant o h stands)) in
+    let r = c.bytes.invariant o h stands in
     let splits = splits_at piece index c.bytes-test.true in
     let ends : is_terminator byte ≡ false = cc (c.is_terminator.ensures, c.if-is_terminator.false) in
     elim c.if-not-is_ignored.branch [
       | then-not-is_ignored+in_ok-push w ↦
           let carries : is_ignored byte ≡ false = cc (c.is_ignored.ensures, w.if-not-is_ignored.true) in
-          reaches_pushed o drawn.new.self _ h index piece byte splits ends carries r (rw w.self-is (w.in_ok-push.ensures o r.now r.stands))
+          reaches_pushed o c.bytes.self _ h index piece byte splits ends carries r (rw w.self-is (w.in_ok-push.ensures o r.now r.stands))
       | else-not-is_ignored w ↦
           let ignored : is_ignored byte ≡ true = cc (c.is_ignored.ensures, w.if-not-is_ignored.false) in
-          rw w.self-is (reaches_ignored o drawn.new.self h index piece byte splits ends ignored r)
+          rw w.self-is (reaches_ignored o c.bytes.self h index piece byte splits ends ignored r)
     ]

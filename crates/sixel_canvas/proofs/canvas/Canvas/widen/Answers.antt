@@ -1,0 +1,40 @@
+use Rattle.std.proofs.Common.{◌≡◌, ℕ, ◌+◌, ◌-◌, get_or, refl, sym, ap, ◌∙◌, arith}
+use Rattle.std.proofs.Math.ListN.{set}
+use Rattle.sixel_canvas.specs.Row.{reached_to}
+use Rattle.sixel_canvas.proofs.Underway.{IsUnderway-hit, IsUnderway-none, in_band, in_band-above, in_band-inside}
+use Rattle.sixel_canvas.proofs.Widening.{reached-widened, shown-widened, widened_at}
+use Rattle.sixel_canvas.proofs.canvas.Canvas.widen.Goals as goal
+
+pub widened-init : goal.widened-init
+widened-init c =
+    let canvas = c.self.inside in
+    rw (← c.self.view_is)
+    (IsUnderway-none (widened_at c.args.columns c.args.top) (in_band c.args.top) c.args.top (record { background = canvas.background; rows = canvas.rows.items }) c.make_rows.new.rows.items
+    (in_band-above c.args.top) (omega (arith, c.in_ok-make_rows.ensures.enough)) (omega (arith, c.make_rows.ensures.few, c.self.invariant.0)) (c.make_rows.ensures.rows c.self.invariant.1) c.make_rows.ensures.same)
+
+pub reach-requires-clause-within : goal.reach-requires-clause-within
+reach-requires-clause-within c = c.requires.within c.widened.bit c.widened-test.true
+
+pub widened-preserved : goal.widened-preserved
+widened-preserved c =
+    let columns = c.args.columns in
+    let top = c.args.top in
+    let bit = c.widened.bit in
+    let rows = c.widened.self-inside.rows.items in
+    let same : top + bit - top ≡ bit = omega arith in
+    IsUnderway-hit (widened_at columns top) (in_band top) top bit c.args.self.now c.widened.self-inside.background rows c.reach.new.rows.items
+    c.widened.invariant c.widened-test.true (in_band-inside top bit c.widened-test.true) (λ k row. refl)
+    (λ d. c.in_ok-reach.ensures.ok d ∙ ap (λ (k : ℕ). set rows (top + bit) (reached_to (get_or columns k 0) (get_or rows (top + bit) d))) (sym same))
+    c.in_ok-reach.ensures.thrifty
+
+pub returns-clause-shown : goal.returns-clause-shown
+returns-clause-shown c =
+    let canvas = c.widened.self-inside in
+    shown-widened c.args.columns c.args.top c.widened.bit c.args.self.now canvas.background canvas.rows.items
+    c.widened.invariant c.widened-test.false (rw (← c.self.view_is) c.self.invariant.1)
+
+pub returns-clause-grown : goal.returns-clause-grown
+returns-clause-grown c =
+    let canvas = c.widened.self-inside in
+    reached-widened c.args.columns c.args.top c.widened.bit c.args.self.now canvas.background canvas.rows.items
+    c.widened.invariant c.widened-test.false
