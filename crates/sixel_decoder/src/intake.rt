@@ -97,7 +97,7 @@ impl Intake {
                 Ok(fed)
             }
             Err(error) => {
-                self.frame = None;
+                refuse(&mut self.frame);
                 Err(error)
             }
         }
@@ -151,6 +151,14 @@ impl Intake {
             None => Err(SixelError::stream_failed()),
         }
     }
+}
+
+/// Drops what was read. It stands apart, so that no other feed clears the memory that this moves.
+#[inline(never)]
+fn refuse(frame: &mut Option<Frame>)
+    ensures { frame.new ≡ None }
+{
+    *frame = None;
 }
 
 /// Reads a piece, unless the payload has ended.

@@ -122,7 +122,7 @@ impl Painter {
     }
 
     /// Draws the sixels at the front of the bytes at once, where the next ones are of one column each
-    /// and inside the picture, and answers how many they are: none elsewhere.
+    /// and inside the picture, and answers how many they are: none elsewhere, nor of a single byte.
     #[inline(never)]
     pub fn draw_run(&mut self, bytes: &[u8]) -> Result<usize>
         ensures within { IfOk result (λ drawn. drawn ≤ length bytes.now) }
@@ -132,6 +132,9 @@ impl Painter {
             → Shows o self.new (fold read h (take drawn bytes.now))) }
         ensures error { IfErr result (λ e. e ≡ OutOfMemory) }
     {
+        if bytes.len() < 2 {
+            return Ok(0);
+        }
         if self.span != 1 || self.height < 6 || self.down > self.height - 6 {
             return Ok(0);
         }

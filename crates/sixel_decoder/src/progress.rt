@@ -10,6 +10,7 @@ ghost use Rattle.sixel_base.specs.Fault.{Faults, IsFault, DcsStreamFailed};
 ghost use Rattle.sixel_base.specs.OneShot.{found, found_fault, IsDecodedAs};
 ghost use Rattle.sixel_base.specs.OneShot.{IsFoundImage, AreFoundRegisters};
 ghost use Rattle.sixel_decoder.specs.PictureView.{picture_value};
+ghost use Rattle.sixel_decoder.specs.declared.dcs_stream.Phase.TheVariants.{Refused};
 
 use crate::dcs_stream::{Phase, follow};
 use crate::log::Log;
@@ -90,7 +91,7 @@ impl Progress {
         ) {
             Ok(fed) => Ok(fed),
             Err(error) => {
-                self.phase = Phase::Refused;
+                refuse(&mut self.phase);
                 Err(error)
             }
         }
@@ -166,6 +167,14 @@ impl Progress {
             Phase::Start | Phase::Escape | Phase::Header(_) => Err(SixelError::incomplete()),
         }
     }
+}
+
+/// Drops what was read. It stands apart, so that no other feed clears the memory that this moves.
+#[inline(never)]
+fn refuse(phase: &mut Phase)
+    ensures { phase.new ≡ Refused }
+{
+    *phase = Phase::Refused;
 }
 
 /// Whether the end of a control string came, and no byte more is its own.
