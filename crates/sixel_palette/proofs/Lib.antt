@@ -11,5 +11,5 @@ pub mod PaletteOrder
 pub mod PaletteChunks
 pub mod PaletteShown
 pub mod PaletteSize
-pub mod PaletteSpans
+pub mod PaletteStarts
 pub mod PaletteSpread

@@ -146,8 +146,8 @@ kept_still entries codes old squares first places place h g kept k i =
     rw (h.after k i.from, g.after k i.from) (kept k i.within)
 
 -- a chunk whose box is far enough: the new entry is no nearer
-pub kept_far : (entries : List (List ℕ)) (color codes squares places : List ℕ) (place gap : ℕ) (chunk : Chunk) → IsChunk codes squares place chunk → chunk.greatest ≤ gap → ((c : List ℕ) → IsInBox chunk c → gap ≤ distance color c) → AreKeptIn entries codes squares places place → AreKeptIn (entries ++ color ∷ []) codes squares places place
-kept_far entries color codes squares places place gap chunk h far box kept k i =
+pub kept_far : (entries : List (List ℕ)) (color codes squares places : List ℕ) (place : ℕ) (chunk : Chunk) → IsChunk codes squares place chunk → ((c : List ℕ) → IsInBox chunk c → chunk.greatest ≤ distance color c) → AreKeptIn entries codes squares places place → AreKeptIn (entries ++ color ∷ []) codes squares places place
+kept_far entries color codes squares places place chunk h box kept k i =
     near_kept entries color (color_of (get_or codes k 0)) (kept_at squares places k) (omega (arith, h.greatest.upper k i, box (color_of (get_or codes k 0)) (h.box k i))) (kept k i)
 
 -- no number is above the greatest of the first chunk with the greatest

@@ -1,17 +1,18 @@
 -- From what is kept for each listed color to the farthest color, and from the places of entries to the nearest ones.
-use Rattle.std.proofs.Common.{◌≡◌, ℕ, ◌<◌, ◌≤◌, List, [], length, get_or, refl, ap, sym, ◌∙◌, ⊎_elim, arith}
+use Rattle.std.proofs.Common.{◌≡◌, ℕ, ◌+◌, ◌*◌, ◌/◌, ◌%◌, ◌<◌, ◌≤◌, List, [], length, get_or, refl, ap, sym, ◌∙◌, ⊎_elim, arith}
 use Rattle.std.specs.List.{Contains}
 use Rattle.std.specs.List.Sorted.{IsStrictlyIncreasing}
 use Rattle.std.proofs.lemmas.Bool.{cases_lt}
 use Rattle.std.proofs.lemmas.List.{get_or_default}
 use Rattle.sixel_palette.specs.declared.palette.farthest.Near.{Near}
-use Rattle.sixel_palette.specs.Palette.{nearest, rank, IsFarthest, IsNearest}
+use Rattle.sixel_palette.specs.Palette.{nearest, rank, color_at, IsOpaque, IsShown, IsFarthest, IsNearest}
 use Rattle.sixel_palette.specs.inside.PaletteCodes.{color_of, IsListed}
-use Rattle.sixel_palette.specs.inside.PaletteNear.{IsNear, AreKept}
+use Rattle.sixel_palette.specs.inside.PaletteNear.{IsNear, AreKept, IsIndexOf, IsIndex}
 use Rattle.sixel_palette.specs.inside.PaletteChunks.{IsFirstGreatest}
 use Rattle.sixel_palette.proofs.PaletteLists.{increasing-le}
 use Rattle.sixel_palette.proofs.PaletteNearest.{nearest-nil, nearest-le}
-use Rattle.sixel_palette.proofs.PaletteColors.{rank-color_of}
+use Rattle.sixel_palette.proofs.PaletteColors.{rank-color_of, color_of-rank}
+use Rattle.sixel_palette.proofs.PaletteShown.{IsColor-color_at}
 
 -- an earlier place has a color that is no later in order
 rank-le : (codes : List ℕ) → IsStrictlyIncreasing codes → (i j : ℕ) → i ≤ j → j < length codes → rank (color_of (get_or codes i 0)) ≤ rank (color_of (get_or codes j 0))
@@ -57,3 +58,20 @@ code_from_listed codes c m = sym (rank-color_of (get_or codes m.0 0)) ∙ ap ran
 pub Contains-listed : (codes : List ℕ) (c : List ℕ) (code : ℕ) → code ≡ rank c → IsListed codes c → Contains codes code
 Contains-listed codes c code same m =
     (m.0, m.1, get_or_default codes m.0 code 0 m.1 ∙ code_from_listed codes c m ∙ sym same)
+
+-- the color of a pixel is that of its word
+color_of_word : (pixels : List ℕ) (pixel word : ℕ) → ((k : ℕ) → get_or pixels k 0 < 256) → word / 256 ≡ rank (color_at pixels pixel) → color_of (word / 256) ≡ color_at pixels pixel
+color_of_word pixels pixel word bytes code =
+    ap color_of code ∙ color_of-rank (color_at pixels pixel) (IsColor-color_at pixels pixel bytes)
+
+-- what holds of shown colors holds of that of an opaque pixel's word
+pub word_below : (pixels : List ℕ) (entries : List (List ℕ)) (pixel word : ℕ) → ((k : ℕ) → get_or pixels k 0 < 256) → word / 256 ≡ rank (color_at pixels pixel) → pixel < length pixels / 4 → IsOpaque pixels pixel → ((c : List ℕ) → IsShown pixels c → nearest entries c < 195076) → nearest entries (color_of (word / 256)) < 195076
+word_below pixels entries pixel word bytes code l opaque below =
+    rw (color_of_word pixels pixel word bytes code) (below (color_at pixels pixel) (pixel, l, opaque, refl))
+
+-- the index for a word is that of each pixel with the word
+pub index_from_word : (pixels : List ℕ) (entries : List (List ℕ)) (pixel word index : ℕ) → ((k : ℕ) → get_or pixels k 0 < 256) → word / 256 ≡ rank (color_at pixels pixel) → word % 256 ≡ get_or pixels (4 * pixel + 3) 0 → IsIndexOf entries word index → IsIndex pixels entries pixel index
+index_from_word pixels entries pixel word index bytes code alpha h = record {
+  opaque = λ o. rw (color_of_word pixels pixel word bytes code) at h.opaque (omega (arith, alpha, o));
+  hidden = λ l. h.hidden (omega (arith, alpha, l));
+}

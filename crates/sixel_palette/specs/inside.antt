@@ -2,3 +2,4 @@ pub mod PaletteCodes
 pub mod PaletteNear
 pub mod PaletteChunks
 pub mod PaletteFlags
+pub mod PaletteStarts

@@ -1,6 +1,6 @@
 -- Colors as numbers of 24 bits, and what the palette's working keeps for each color. It follows from the order of
 -- colors: red is the highest byte, blue the lowest.
-use Rattle.std.specs.Prelude.{◌≡◌, ℕ, ◌*◌, ◌/◌, ◌%◌, ◌<◌, ◌≤◌, List, [], ◌∷◌, length, All, Contains, slice_index}
+use Rattle.std.specs.Prelude.{◌≡◌, ℕ, ◌/◌, ◌%◌, ◌<◌, List, [], ◌∷◌, length, All, Contains, slice_index}
 use Rattle.sixel_palette.specs.Palette.{rank, color_at, IsOpaque}
 
 -- the color of a code
@@ -20,14 +20,3 @@ HasPixel pixels count code =
 pub record AreCodes (pixels : List ℕ) (count : ℕ) (codes : List ℕ) : Type 0 where
   pub all : All (HasPixel pixels count) codes
   pub complete : (pixel : ℕ) → pixel < count → IsOpaque pixels pixel → Contains codes (rank (color_at pixels pixel))
-
--- the place parts the codes: those before it are below the limit, the others are not
-pub record IsStart (codes : List ℕ) (limit start : ℕ) : Type 0 where
-  pub within : start ≤ length codes
-  pub below : (k : ℕ) → k < start → slice_index codes k < limit
-  pub above : (k : ℕ) → start ≤ k → k < length codes → limit ≤ slice_index codes k
-
--- the places where each span of 4096 codes begins, and the end of the last
-pub record AreStarts (codes starts : List ℕ) : Type 0 where
-  pub all : length starts ≡ 4097
-  pub each : (span : ℕ) → span < 4097 → IsStart codes (4096 * span) (slice_index starts span)

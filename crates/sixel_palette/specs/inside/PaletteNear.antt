@@ -1,6 +1,6 @@
 -- What the palette's working keeps for each color: its squared distance to the nearest of the entries so far and the
 -- place of that entry, the first one of those. It follows from the rule that ties go to the least index.
-use Rattle.std.specs.Prelude.{◌≡◌, ℕ, ◌+◌, ◌*◌, ◌<◌, List, [], length, slice_index, slice_index_or}
+use Rattle.std.specs.Prelude.{◌≡◌, ℕ, ◌+◌, ◌*◌, ◌/◌, ◌%◌, ◌<◌, ◌≤◌, List, [], length, slice_index, slice_index_or}
 use Rattle.sixel_palette.specs.declared.palette.farthest.Near.{Near}
 use Rattle.sixel_palette.specs.Palette.{distance, nearest, color_at, IsOpaque, IsNearest}
 use Rattle.sixel_palette.specs.inside.PaletteCodes.{color_of}
@@ -25,6 +25,12 @@ kept_at squares places k = record { squared = slice_index squares k; entry = sli
 abbrev pub AreKept : List (List ℕ) → List ℕ → List ℕ → List ℕ → Type 0
 AreKept entries codes squares places =
     (k : ℕ) → k < length codes → IsNear entries (color_of (slice_index codes k)) (kept_at squares places k)
+
+-- the place of the nearest entry for a pixel of this word, 0 if it is hidden: the word is 256 times the code of the
+-- pixel's color and its alpha
+pub record IsIndexOf (entries : List (List ℕ)) (word index : ℕ) : Type 0 where
+  pub opaque : 128 ≤ word % 256 → IsNearest entries (color_of (word / 256)) index
+  pub hidden : word % 256 < 128 → index ≡ 0
 
 -- the place of the nearest entry of an opaque pixel, 0 for a hidden one
 pub record IsIndex (pixels : List ℕ) (entries : List (List ℕ)) (pixel index : ℕ) : Type 0 where

@@ -1,7 +1,7 @@
 //! Colors next to each other in order, the box round them, and how far the farthest one is.
 
 ghost use Rattle.std.specs.Prelude.{◌≡◌, ◌<◌, ◌≤◌, ◌*◌, ℕ, List, [], ◌∷◌, ◌++◌, length};
-ghost use Rattle.std.specs.Prelude.{All, IfOk, slice_index};
+ghost use Rattle.std.specs.Prelude.{All, IfOk, IsTrue, slice_index};
 ghost use Rattle.std.specs.Int.{abs_diff};
 ghost use Rattle.sixel_palette.specs.Palette.{distance};
 ghost use Rattle.sixel_palette.specs.inside.PaletteNear.{AreKept};
@@ -54,6 +54,16 @@ impl Chunk {
         ensures { (c : List ℕ) → IsInBox self.now c → result ≤ distance color c }
     {
         self.red.gap(color[0]) + self.green.gap(color[1]) + self.blue.gap(color[2])
+    }
+
+    /// Whether each color of the chunk is as near to its entry as this color is to the box. Mostly
+    /// the side of red alone tells.
+    #[inline(always)]
+    fn is_beyond(&self, color: [u8; 3]) -> bool
+        ensures { IsTrue result → (c : List ℕ) → IsInBox self.now c
+            → self.now.greatest ≤ distance color c }
+    {
+        self.red.gap(color[0]) >= self.greatest || self.gap(color) >= self.greatest
     }
 }
 
@@ -166,7 +176,7 @@ pub fn settle(
 {
     for place in 0..chunks.len() {
         let chunk = chunks[place];
-        if chunk.gap(color) < chunk.greatest {
+        if !chunk.is_beyond(color) {
             let greatest = settle_chunk(codes, squares, places, place, color, entry);
             chunks[place] = Chunk { greatest, ..chunk };
         }

@@ -1,72 +1,57 @@
 //! The place of each pixel's nearest entry, found by its color among the distinct colors.
 
-ghost use Rattle.std.specs.Prelude.{◌≡◌, ℕ, ◌+◌, ◌-◌, ◌*◌, ◌/◌, ◌<◌, List, length, IfOk, IsTrue};
-ghost use Rattle.std.specs.Prelude.{slice_index};
+ghost use Rattle.std.specs.Prelude.{◌≡◌, ℕ, ◌*◌, ◌/◌, ◌%◌, ◌<◌, ◌≤◌, List, length, All, Contains, IfOk};
 ghost use Rattle.std.specs.List.Sorted.{IsStrictlyIncreasing};
-ghost use Rattle.sixel_palette.specs.Palette.{nearest, color_at, IsOpaque, IsShown};
-ghost use Rattle.sixel_palette.specs.Palette.{IsNearest, AreIndices};
-ghost use Rattle.sixel_palette.specs.inside.PaletteCodes.{IsListed, AreStarts};
-ghost use Rattle.sixel_palette.specs.inside.PaletteNear.{AreNear, IsIndex, AreIndicesTo};
+ghost use Rattle.sixel_palette.specs.Palette.{nearest, IsShown, AreIndices};
+ghost use Rattle.sixel_palette.specs.inside.PaletteCodes.{color_of, IsListed};
+ghost use Rattle.sixel_palette.specs.inside.PaletteStarts.{AreStarts};
+ghost use Rattle.sixel_palette.specs.inside.PaletteNear.{AreNear, IsIndexOf, AreIndicesTo};
 
-use crate::palette::colors::shown_code;
+use crate::palette::colors::pixel_word;
 use crate::palette::farthest::Near;
-use crate::palette::spans::{place_of, starts_of};
+use crate::palette::spans::{Starts, place_of, starts_of};
 use std::alloc::{AllocError, Global};
 
-/// The place of a pixel's nearest entry, 0 for a hidden pixel.
-fn index_of(pixels: &[u8], pixel: usize, codes: &[u32], starts: &[usize], nears: &[Near]) -> u8
-    requires pixel { pixel < length pixels.now / 4 }
-    requires starts { AreStarts codes.now starts.now }
-    requires same { length codes.now ≡ length nears.now }
-    requires ascending { IsStrictlyIncreasing codes.now }
-    requires listed { (c : List ℕ) → IsShown pixels.now c → IsListed codes.now c }
-    ensures hidden { slice_index pixels.now (4 * pixel + 3) < 128 → result ≡ 0 }
-    ensures opaque { (entries : List (List ℕ)) → AreNear entries codes.now nears.now
-        → IsOpaque pixels.now pixel
-        → nearest entries (color_at pixels.now pixel) < 195076
-        → IsNearest entries (color_at pixels.now pixel) result }
-{
-    match shown_code(pixels, pixel) {
-        Some(code) => nears[place_of(codes, starts, code)].entry,
-        None => 0,
-    }
-}
-
-/// Whether a pixel is the one before it again.
+/// The place of the nearest entry for a pixel of this word, 0 if it is hidden.
 #[inline(always)]
-fn is_repeated(pixels: &[u8], pixel: usize) -> bool
-    requires some { 0 < pixel }
-    requires pixel { pixel < length pixels.now / 4 }
-    ensures color { IsTrue result
-        → color_at pixels.now pixel ≡ color_at pixels.now (pixel - 1) }
-    ensures alpha { IsTrue result → slice_index pixels.now (4 * pixel + 3)
-        ≡ slice_index pixels.now (4 * (pixel - 1) + 3) }
+fn index_of(word: u32, codes: &[u32], starts: &Starts, nears: &[Near]) -> u8
+    requires starts { AreStarts codes.now starts.now }
+    requires same { length codes.now ≡ length nears.now }
+    requires ascending { IsStrictlyIncreasing codes.now }
+    requires listed { 128 ≤ word % 256 → Contains codes.now (word / 256) }
+    ensures { (entries : List (List ℕ)) → AreNear entries codes.now nears.now
+        → (128 ≤ word % 256 → nearest entries (color_of (word / 256)) < 195076)
+        → IsIndexOf entries word result }
 {
-    let at = 4 * pixel;
-    pixels[at] == pixels[at - 4]
-        && pixels[at + 1] == pixels[at - 3]
-        && pixels[at + 2] == pixels[at - 2]
-        && pixels[at + 3] == pixels[at - 1]
+    if word % 256 < 128 {
+        return 0;
+    }
+    nears[place_of(codes, starts, word / 256)].entry
 }
 
-/// The place of the next pixel's nearest entry, 0 for a hidden pixel, where those of the pixels
-/// before it are known.
-fn next_index(pixels: &[u8], indices: &[u8], codes: &[u32], starts: &[usize], nears: &[Near]) -> u8
-    requires pixel { length indices.now < length pixels.now / 4 }
+/// Fills in the place of each pixel's nearest entry. A pixel that is as the one before it has the
+/// same.
+fn fill_indices(indices: &mut [u8], pixels: &[u8], codes: &[u32], starts: &Starts, nears: &[Near])
+    requires size { length indices.old ≡ length pixels.now / 4 }
     requires starts { AreStarts codes.now starts.now }
     requires same { length codes.now ≡ length nears.now }
     requires ascending { IsStrictlyIncreasing codes.now }
     requires listed { (c : List ℕ) → IsShown pixels.now c → IsListed codes.now c }
-    ensures { (entries : List (List ℕ)) → AreNear entries codes.now nears.now
+    ensures size { length indices.new ≡ length pixels.now / 4 }
+    ensures indices { (entries : List (List ℕ)) → AreNear entries codes.now nears.now
         → ((c : List ℕ) → IsShown pixels.now c → nearest entries c < 195076)
-        → AreIndicesTo pixels.now entries (length indices.now) indices.now
-        → IsIndex pixels.now entries (length indices.now) result }
+        → AreIndicesTo pixels.now entries (length pixels.now / 4) indices.new }
 {
-    let pixel = indices.len();
-    if pixel > 0 && is_repeated(pixels, pixel) {
-        return indices[pixel - 1];
+    let mut last = 0;
+    let mut index = 0;
+    for pixel in 0..indices.len() {
+        let word = pixel_word(pixels, pixel);
+        if word != last {
+            index = index_of(word, codes, starts, nears);
+            last = word;
+        }
+        indices[pixel] = index;
     }
-    index_of(pixels, pixel, codes, starts, nears)
 }
 
 /// The place of each pixel's nearest entry.
@@ -78,6 +63,7 @@ pub fn indices_of(
 ) -> Result<Vec<u8>, AllocError>
     requires same { length codes.now ≡ length nears.now }
     requires ascending { IsStrictlyIncreasing codes.now }
+    requires small { All (λ code. code < 16777216) codes.now }
     requires listed { (c : List ℕ) → IsShown pixels.now c → IsListed codes.now c }
     ensures { IfOk result (λ indices. (entries : List (List ℕ))
         → AreNear entries codes.now nears.now
@@ -85,11 +71,7 @@ pub fn indices_of(
         → AreIndices pixels.now entries indices.items) }
 {
     let starts = starts_of(alloc, codes)?;
-    let count = pixels.len() / 4;
-    let mut indices = Vec::with_capacity(alloc, count)?;
-    for _ in 0..count {
-        let index = next_index(pixels, &indices, codes, &starts, nears);
-        indices.push(index)?;
-    }
+    let mut indices = vec![in alloc; 0; pixels.len() / 4]?;
+    fill_indices(&mut indices, pixels, codes, &starts, nears);
     Ok(indices)
 }

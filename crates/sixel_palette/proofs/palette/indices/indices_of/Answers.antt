@@ -1,25 +1,14 @@
-use Rattle.std.proofs.Common.{◌≡◌, ◌/◌, length, arith}
-use Rattle.std.proofs.lemmas.List.{length_push}
-use Rattle.sixel_palette.specs.inside.PaletteNear.{IsIndex}
-use Rattle.sixel_palette.proofs.PaletteLists.{push_cases}
+use Rattle.std.proofs.Common.{drop, length, arith}
+use Rattle.std.proofs.lemmas.List.{take_at}
 use Rattle.sixel_palette.proofs.palette.indices.indices_of.Goals as goal
-
-pub loop-preserved : goal.loop-preserved
-loop-preserved c =
-    let indices = c.loop.indices.items in
-    let index = c.next_index-index.result in
-    let before = c.loop.invariant in
-    let told = rw (c.deref.ensures.value, before.size) at c.next_index-index.ensures in
-    rw c.in_ok-push.ensures.items (record {
-      size = omega (arith, length_push indices index, before.size);
-      each = λ entries near below k l. push_cases (λ k x. IsIndex c.args.pixels.now entries k x) indices index c.loop.counter k before.size l (λ m. before.each entries near below k m) (told entries near below (before.each entries near below));
-    })
 
 pub returns : goal.returns
 returns c = λ entries near below.
-    let all : c.loop.counter ≡ length c.args.pixels.now / 4 = omega arith in
-    record {
-      one_each = omega (arith, c.loop.invariant.size);
-      opaque = λ k l o. (c.loop.invariant.each entries near below k (omega arith)).opaque o;
-      hidden = λ k l h. (c.loop.invariant.each entries near below k (omega arith)).hidden h;
-    }
+    let indices = c.fill_indices.new.indices in
+    let whole = take_at indices (drop (length indices) c.in_ok-indices.indices.items) c.in_ok-indices.indices.len (omega arith) in
+    let each = c.fill_indices.ensures.indices entries near below in
+    rw whole (record {
+      one_each = c.fill_indices.ensures.size;
+      opaque = λ k l o. (each k l).opaque o;
+      hidden = λ k l h. (each k l).hidden h;
+    })
