@@ -60,6 +60,7 @@ fn add_line(rows: &mut [u8], used: &mut [bool], image: &IndexedImage<'_>, start:
 }
 
 /// Sets the dots of a band in rows that have none.
+#[inline(never)]
 pub fn fill_band(rows: &mut [u8], used: &mut [bool], image: &IndexedImage<'_>, band: usize)
     requires image { IsIndexed image.now }
     requires entries { length used.old ≡ length image.now.colors.now }

@@ -11,6 +11,7 @@ use std::alloc::AllocError;
 const LONGEST: usize = 65535;
 
 /// Appends the shortest spelling of a row of sixels, each given by its six bits.
+#[inline(never)]
 pub fn push_row(text: &mut String, row: &[u8]) -> Result<(), AllocError>
     requires { All (λ bits. bits < 64) row.now }
     ensures text { OnOk result

@@ -157,6 +157,7 @@ fn settle_chunk(
 
 /// Tells each color of one more entry. A chunk whose box is no nearer to it than each of its
 /// colors is to an entry that it has stays as it is.
+#[inline(never)]
 pub fn settle(
     codes: &[u32],
     squares: &mut [u32],

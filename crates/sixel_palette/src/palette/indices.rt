@@ -31,6 +31,7 @@ fn index_of(word: u32, codes: &[u32], starts: &Starts, nears: &[Near]) -> u8
 
 /// Fills in the place of each pixel's nearest entry. A pixel that is as the one before it has the
 /// same.
+#[inline(never)]
 fn fill_indices(indices: &mut [u8], pixels: &[u8], codes: &[u32], starts: &Starts, nears: &[Near])
     requires size { length indices.old ≡ length pixels.now / 4 }
     requires starts { AreStarts codes.now starts.now }
