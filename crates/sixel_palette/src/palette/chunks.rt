@@ -9,7 +9,7 @@ ghost use Rattle.sixel_palette.specs.inside.PaletteChunks.{IsInSide, IsInBox, Is
 ghost use Rattle.sixel_palette.specs.inside.PaletteChunks.{AreKeptIn, AreElsewhere, AreAll};
 ghost use Rattle.sixel_palette.specs.inside.PaletteChunks.{IsGreatestIn, IsFirstGreatest, channel};
 
-use crate::palette::colors::distance_to;
+use crate::palette::colors::{distance_to, wrapped_gap};
 use crate::palette::farthest::{NO_ENTRY, Near};
 use std::alloc::{AllocError, Global};
 
@@ -40,10 +40,9 @@ impl Side {
         ensures least { (x : ℕ) → IsInSide self x → result ≤ abs_diff value x * abs_diff value x }
         ensures small { result ≤ 65025 }
     {
-        let below = self.low.saturating_sub(value);
-        let above = value.saturating_sub(self.high);
-        let gap = u32::from(below.max(above));
-        gap * gap
+        let own = u32::from(value);
+        let near = own.max(u32::from(self.low)).min(u32::from(self.high));
+        wrapped_gap(own, near)
     }
 }
 
@@ -185,6 +184,7 @@ pub fn settle(
 }
 
 /// The place of the first of the farthest colors.
+#[inline(never)]
 pub fn farthest_of(codes: &[u32], squares: &[u32], chunks: &[Chunk]) -> usize
     requires some { 0 < length codes.now }
     requires squares { length squares.now ≡ length codes.now }

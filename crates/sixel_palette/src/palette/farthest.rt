@@ -115,6 +115,7 @@ impl Near {
 }
 
 /// What is known of each color, from its two parts.
+#[inline(never)]
 fn nears_of(alloc: Global, squares: &[u32], places: &[u8]) -> Result<Vec<Near>, AllocError>
     requires { length places.now ≡ length squares.now }
     ensures len { IfOk result (λ nears. length nears.items ≡ length squares.now) }

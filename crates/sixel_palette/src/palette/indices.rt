@@ -13,7 +13,7 @@ use crate::palette::spans::{Starts, place_of, starts_of};
 use std::alloc::{AllocError, Global};
 
 /// The place of the nearest entry for a pixel of this word, 0 if it is hidden.
-#[inline(always)]
+#[inline(never)]
 fn index_of(word: u32, codes: &[u32], starts: &Starts, nears: &[Near]) -> u8
     requires starts { AreStarts codes.now starts.now }
     requires same { length codes.now ≡ length nears.now }

@@ -5,11 +5,7 @@ use Rattle.sixel_palette.proofs.palette.chunks.Side.gap.Goals as goal
 
 pub returns-clause-least : goal.returns-clause-least
 returns-clause-least c x side =
-    let gap = c.from-gap.result in
-    let more = abs_diff c.args.value x in
-    square-le gap more (more - gap) (omega (arith, c.from-gap.ensures, side.low, side.high))
-
-pub returns-clause-small : goal.returns-clause-small
-returns-clause-small c =
-    let gap = c.from-gap.result in
-    square-le gap 255 (255 - gap) (omega (arith, c.from-gap.ensures))
+    let value = c.args.value in
+    let gap = abs_diff c.from-own.result c.min-near.result in
+    let more = abs_diff value x in
+    omega (arith, c.wrapped_gap.ensures.value, square-le gap more (more - gap) (omega (arith, side.low, side.high)))
