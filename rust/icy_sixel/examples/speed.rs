@@ -1,0 +1,109 @@
+//! Nanoseconds a pixel, in process: `cargo run --release --example speed -- [SECONDS] FILE..`
+//!
+//! A file of SIXEL data is decoded at once, then in pieces of 4096 bytes by a session on one
+//! decoder, and its image is encoded. A file of raw RGBA, named as `FILE:WIDTHxHEIGHT`, is encoded.
+//! Each is done over and over for as many seconds, one where none are named, and the best and the
+//! median run are told.
+
+use icy_sixel::{EncodeOptions, SixelDcsFeedStatus, SixelDecoder, SixelImage};
+use std::env;
+use std::error::Error;
+use std::fs;
+use std::hint::black_box;
+use std::process::ExitCode;
+use std::time::{Duration, Instant};
+
+const PIECE: usize = 4096;
+const LEAST_RUNS: usize = 5;
+
+type Answer<T> = Result<T, Box<dyn Error>>;
+
+/// The best and the median run, in nanoseconds a pixel.
+fn measure<T>(
+    time: Duration,
+    pixels: usize,
+    mut run: impl FnMut() -> icy_sixel::Result<T>,
+) -> Answer<String> {
+    let mut runs = Vec::new();
+    let mut whole = Duration::ZERO;
+    while whole < time || runs.len() < LEAST_RUNS {
+        let start = Instant::now();
+        let answer = black_box(run());
+        let taken = start.elapsed();
+        answer?;
+        whole += taken;
+        runs.push(taken);
+    }
+    runs.sort_unstable();
+    let in_nanoseconds = |run: Duration| run.as_secs_f64() * 1e9 / pixels as f64;
+    let best = in_nanoseconds(runs[0]);
+    let median = in_nanoseconds(runs[runs.len() / 2]);
+    Ok(format!("{best:8.2} {median:8.2}  {:6} runs", runs.len()))
+}
+
+/// The first control string of the bytes, fed in pieces.
+fn decode_in_pieces(decoder: &mut SixelDecoder, bytes: &[u8]) -> icy_sixel::Result<SixelImage> {
+    let mut session = decoder.begin_dcs();
+    for piece in bytes.chunks(PIECE) {
+        if session.feed(piece)?.status != SixelDcsFeedStatus::NeedMoreData {
+            break;
+        }
+    }
+    session.finish()
+}
+
+/// The file's name, and the size of its image where it is raw.
+fn split(word: &str) -> (&str, Option<(usize, usize)>) {
+    let size = |text: &str| {
+        let (width, height) = text.split_once('x')?;
+        Some((width.parse().ok()?, height.parse().ok()?))
+    };
+    match word.rsplit_once(':').map(|(file, text)| (file, size(text))) {
+        Some((file, Some(size))) => (file, Some(size)),
+        _ => (word, None),
+    }
+}
+
+fn tell(time: Duration, word: &str) -> Answer<()> {
+    let (file, size) = split(word);
+    let bytes = fs::read(file)?;
+    let title = |image: &SixelImage| println!("{file}, {}x{}", image.width, image.height);
+    let options = EncodeOptions::default();
+    if let Some((width, height)) = size {
+        let image = SixelImage::try_from_rgba(bytes, width, height)?;
+        title(&image);
+        println!("  encode    {}", measure(time, width * height, || image.encode_with(&options))?);
+        return Ok(());
+    }
+    let image = SixelImage::decode(&bytes)?;
+    let pixels = image.width * image.height;
+    title(&image);
+    println!("  decode    {}", measure(time, pixels, || SixelImage::decode(&bytes))?);
+    let start = bytes.iter().position(|byte| matches!(byte, 0x1b | 0x90)).unwrap_or(0);
+    let mut decoder = SixelDecoder::new();
+    let pieces = || decode_in_pieces(&mut decoder, &bytes[start..]);
+    println!("  in pieces {}", measure(time, pixels, pieces)?);
+    println!("  encode    {}", measure(time, pixels, || image.encode_with(&options))?);
+    Ok(())
+}
+
+fn main() -> ExitCode {
+    let mut words: Vec<String> = env::args().skip(1).collect();
+    let mut time = Duration::from_secs(1);
+    if let Some(seconds) = words.first().and_then(|word| word.parse().ok()) {
+        time = Duration::from_secs(seconds);
+        words.remove(0);
+    }
+    if words.is_empty() {
+        eprintln!("usage: speed [SECONDS] FILE..");
+        return ExitCode::from(2);
+    }
+    println!("nanoseconds a pixel, best and median");
+    for word in &words {
+        if let Err(error) = tell(time, word) {
+            eprintln!("{word}: {error}");
+            return ExitCode::FAILURE;
+        }
+    }
+    ExitCode::SUCCESS
+}

@@ -1,0 +1,41 @@
+//! The numbers that the library answers, under the names that `icysixel.h` gives them.
+
+use crate::error::SixelError;
+
+pub(crate) const DONE: u32 = 0;
+pub(crate) const NO_SESSION: u32 = 2;
+pub(crate) const OUT_OF_MEMORY: u32 = 8;
+pub(crate) const OVERFLOW: u32 = 9;
+pub(crate) const BAD_DIMENSIONS: u32 = 10;
+pub(crate) const NO_SIXEL_DATA: u32 = 12;
+pub(crate) const MALFORMED: u32 = 13;
+pub(crate) const TOO_LARGE: u32 = 14;
+pub(crate) const BAD_HEADER: u32 = 15;
+pub(crate) const MISSING_COMMAND: u32 = 16;
+pub(crate) const INCOMPLETE: u32 = 17;
+pub(crate) const STREAM_FAILED: u32 = 18;
+pub(crate) const DCS_STREAM_FAILED: u32 = 19;
+
+/// The image wants more bytes.
+pub(crate) const MORE: u32 = 0;
+/// The image has ended.
+pub(crate) const COMPLETE: u32 = 1;
+/// CAN or SUB cut the image short.
+pub(crate) const CANCELLED: u32 = 2;
+
+/// The refusal that a code stands for, of decoding.
+pub(crate) fn refusal(code: u32) -> SixelError {
+    match code {
+        OUT_OF_MEMORY => SixelError::OutOfMemory,
+        OVERFLOW => SixelError::IntegerOverflow,
+        NO_SIXEL_DATA => SixelError::NoSixelData,
+        MALFORMED => SixelError::of_data("malformed SIXEL data"),
+        TOO_LARGE => SixelError::of_data("image dimensions too large"),
+        BAD_HEADER => SixelError::of_data("invalid SIXEL DCS header"),
+        MISSING_COMMAND => SixelError::of_data("missing SIXEL DCS command"),
+        INCOMPLETE => SixelError::of_data("incomplete SIXEL DCS sequence"),
+        STREAM_FAILED | NO_SESSION => SixelError::of_data("stream decoder has failed"),
+        DCS_STREAM_FAILED => SixelError::of_data("DCS stream decoder has failed"),
+        other => unreachable!("the library answered {other}"),
+    }
+}

@@ -1,0 +1,250 @@
+//! Decoding: of a payload or a control string, in one piece or as it comes.
+//!
+//! A payload is what stands between a control string's `q` and its terminator.
+
+mod dcs_session;
+mod stream;
+
+use crate::codes::refusal;
+use crate::error::Result;
+use crate::ffi::Handle;
+pub use crate::settings::DcsSettings;
+use crate::sixel_image::SixelImage;
+pub use crate::status::{SixelDcsFeedResult, SixelDcsFeedStatus, SixelFeedResult, SixelFeedStatus};
+pub use dcs_session::SixelDcsStreamDecoder;
+pub(crate) use dcs_session::string_status;
+use std::alloc::{Layout, handle_alloc_error};
+use std::fmt;
+use std::sync::{Mutex, MutexGuard, PoisonError};
+pub use stream::SixelStreamDecoder;
+pub(crate) use stream::payload_status;
+
+/// A decoder, which keeps the 256 color registers from one image to the next, and what its host has
+/// set: whether images are cropped, and how many pixels one may have.
+///
+/// A register keeps what it was set to, or what an image that was decoded defined; a refusal
+/// changes none. What the host has set of crop and limit holds for each image and each session
+/// that is begun after it, until it is set again.
+///
+/// The library takes one call at a time on a decoder. Those that change one have it to themselves;
+/// those that only read it take turns, by a lock that no other call pays for. So a decoder is
+/// `Send` and `Sync`, and so are its sessions.
+pub struct SixelDecoder {
+    handle: Mutex<Handle>,
+}
+
+impl SixelDecoder {
+    /// A decoder with the registers of a terminal that has just been switched on, which crops no
+    /// image and has the limit of 67,108,864 pixels.
+    ///
+    /// It takes memory, some kilobytes, and ends the process where that is refused, as a `Box`
+    /// does;
+    /// [`try_new`](Self::try_new) doesn't.
+    #[must_use]
+    pub fn new() -> Self {
+        Self::try_new().unwrap_or_else(|_| end_without_memory())
+    }
+
+    /// As [`new`](Self::new).
+    ///
+    /// # Errors
+    ///
+    /// [`OutOfMemory`](crate::SixelError::OutOfMemory).
+    pub fn try_new() -> Result<Self> {
+        Handle::new().map(Self::of).map_err(refusal)
+    }
+
+    /// As `clone`.
+    ///
+    /// # Errors
+    ///
+    /// [`OutOfMemory`](crate::SixelError::OutOfMemory).
+    pub fn try_clone(&self) -> Result<Self> {
+        self.shared().copy().map(Self::of)
+    }
+
+    fn of(handle: Handle) -> Self {
+        Self { handle: Mutex::new(handle) }
+    }
+
+    /// The handle, for a call that has the decoder to itself.
+    pub(crate) fn handle(&mut self) -> &mut Handle {
+        self.handle.get_mut().unwrap_or_else(PoisonError::into_inner)
+    }
+
+    /// The handle, for a call that only reads.
+    pub(crate) fn shared(&self) -> MutexGuard<'_, Handle> {
+        self.handle.lock().unwrap_or_else(PoisonError::into_inner)
+    }
+
+    /// The color of a register: red, green and blue, a byte each.
+    #[must_use]
+    pub fn register(&self, register: u8) -> [u8; 3] {
+        self.shared().register(register)
+    }
+
+    /// Gives a register this color: red, green and blue, a byte each.
+    ///
+    /// A terminal has a palette of its own, and register 0 is the background of an opaque image.
+    pub fn set_register(&mut self, register: u8, color: [u8; 3]) {
+        self.handle().set_register(register, color);
+    }
+
+    /// Makes the registers those of a new decoder, and keeps crop and limit.
+    ///
+    /// An image does not: it leaves the registers that it defined to the next one.
+    pub fn reset_palette(&mut self) {
+        self.handle().reset();
+    }
+
+    /// Whether images are cropped to their raster attributes; off in a new decoder.
+    #[must_use]
+    pub fn raster_crop(&self) -> bool {
+        self.shared().crop()
+    }
+
+    /// Sets whether images are cropped to their raster attributes.
+    ///
+    /// Sixels come in bands of six rows, so that an image whose height is no multiple of six is
+    /// read with rows that it does not have. With crop its height is the last height above zero
+    /// that raster attributes name, where they name one; width, pixels of the rows that are left,
+    /// registers and refusals are as without.
+    pub fn set_raster_crop(&mut self, on: bool) {
+        self.handle().set_crop(on);
+    }
+
+    /// How many pixels an image may have; 67,108,864 in a new decoder, and never more.
+    #[must_use]
+    pub fn pixel_limit(&self) -> usize {
+        self.shared().limit()
+    }
+
+    /// Sets how many pixels an image may have: at least 1, and at most 67,108,864.
+    ///
+    /// It is the extent of all sixels and raster attributes that counts, also where the image is
+    /// cropped, and it is refused as soon as it passes the limit. Encoding has no part in this.
+    pub fn set_pixel_limit(&mut self, pixels: usize) {
+        self.handle().set_limit(pixels);
+    }
+
+    /// Decodes the first control string in the bytes, or all of them as a payload if there is none.
+    ///
+    /// Bytes before the introducer are passed over, and what follows the payload has no effect.
+    ///
+    /// # Errors
+    ///
+    /// Those of [`decode_from_dcs`](Self::decode_from_dcs), and
+    /// [`InvalidData`](crate::SixelError::InvalidData) for a header that is faulty or does not end;
+    /// after any of them the registers are those before.
+    pub fn decode(&mut self, bytes: &[u8]) -> Result<SixelImage> {
+        self.by_copy(|copy| copy.decode(bytes))
+    }
+
+    /// Decodes one payload: the sixel data between a control string's `q` and its terminator.
+    ///
+    /// What stands from the first terminator on has no effect, and an empty payload is an image of
+    /// one pixel.
+    ///
+    /// # Errors
+    ///
+    /// [`InvalidData`](crate::SixelError::InvalidData) for a repeat above 65,535, a side above
+    /// 1,000,000 or an area above [`pixel_limit`](Self::pixel_limit), `IntegerOverflow` for more
+    /// new lines than a row number holds, and `OutOfMemory`; after any of them the registers are
+    /// those before.
+    pub fn decode_from_dcs(&mut self, bytes: &[u8], settings: DcsSettings) -> Result<SixelImage> {
+        self.by_copy(|copy| copy.decode_payload(bytes, settings))
+    }
+
+    /// Has a copy decode, and takes its place where that gives an image: so a refusal, also of the
+    /// room for the caller's pixels, leaves the registers.
+    fn by_copy(
+        &mut self,
+        decode: impl FnOnce(&mut Handle) -> Result<SixelImage>,
+    ) -> Result<SixelImage> {
+        let mut copy = self.handle().copy()?;
+        let image = decode(&mut copy)?;
+        *self.handle() = copy;
+        Ok(image)
+    }
+
+    /// Begins a payload that is decoded as it comes.
+    ///
+    /// It takes no memory and is always `Ok`. The session borrows this decoder until it ends, and
+    /// starts from the registers, the crop and the limit that the decoder has now.
+    ///
+    /// # Errors
+    ///
+    /// None.
+    pub fn begin_frame(&mut self, settings: DcsSettings) -> Result<SixelStreamDecoder<'_>> {
+        self.begin_payload(settings);
+        Ok(SixelStreamDecoder::new(self))
+    }
+
+    /// Begins a control string that is decoded as it comes, from its introducer to its end.
+    ///
+    /// It takes no memory.
+    pub fn begin_dcs(&mut self) -> SixelDcsStreamDecoder<'_> {
+        self.begin_string();
+        SixelDcsStreamDecoder::new(self)
+    }
+
+    /// Begins a payload, in the place of what is open.
+    pub(crate) fn begin_payload(&mut self, settings: DcsSettings) {
+        self.handle().begin_payload(settings.parameters());
+    }
+
+    /// Begins a control string, in the place of what is open.
+    pub(crate) fn begin_string(&mut self) {
+        self.handle().begin();
+    }
+
+    /// The size of the image that is open.
+    pub(crate) fn size_so_far(&self) -> Option<(usize, usize)> {
+        let size = self.shared().size_so_far().ok()?;
+        Some((size.width, size.height))
+    }
+}
+
+/// Ends the process as Rust's own collections do where memory is refused.
+fn end_without_memory() -> ! {
+    handle_alloc_error(Layout::new::<Handle>())
+}
+
+impl Default for SixelDecoder {
+    fn default() -> Self {
+        Self::new()
+    }
+}
+
+impl Clone for SixelDecoder {
+    fn clone(&self) -> Self {
+        self.try_clone().unwrap_or_else(|_| end_without_memory())
+    }
+}
+
+impl fmt::Debug for SixelDecoder {
+    fn fmt(&self, f: &mut fmt::Formatter<'_>) -> fmt::Result {
+        f.debug_struct("SixelDecoder")
+            .field("raster_crop", &self.raster_crop())
+            .field("pixel_limit", &self.pixel_limit())
+            .finish_non_exhaustive()
+    }
+}
+
+/// As [`SixelImage::decode`].
+///
+/// # Errors
+///
+/// As of [`SixelDecoder::decode`].
+pub fn sixel_decode(bytes: &[u8]) -> Result<SixelImage> {
+    SixelImage::decode(bytes)
+}
+
+/// As [`SixelImage::decode_from_dcs`].
+///
+/// # Errors
+///
+/// As of [`SixelDecoder::decode_from_dcs`].
+pub fn sixel_decode_from_dcs(bytes: &[u8], settings: DcsSettings) -> Result<SixelImage> {
+    SixelImage::decode_from_dcs(bytes, settings)
+}

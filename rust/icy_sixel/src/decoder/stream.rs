@@ -1,0 +1,101 @@
+//! The session that decodes one payload as it comes.
+
+use crate::codes::{MORE, refusal};
+use crate::decoder::SixelDecoder;
+use crate::error::Result;
+use crate::ffi::Fed;
+use crate::sixel_image::SixelImage;
+use crate::status::{SixelFeedResult, SixelFeedStatus};
+
+/// A payload that is decoded as it comes.
+///
+/// It borrows its decoder until it is finished, aborted or dropped, and the decoder's registers
+/// change by a successful [`finish`](Self::finish) alone.
+#[derive(Debug)]
+#[must_use = "a session gives its image by `finish`"]
+pub struct SixelStreamDecoder<'a> {
+    owner: &'a mut SixelDecoder,
+}
+
+impl<'a> SixelStreamDecoder<'a> {
+    /// The session of the payload that the decoder has begun.
+    pub(crate) fn new(owner: &'a mut SixelDecoder) -> Self {
+        Self { owner }
+    }
+
+    /// Reads a piece up to its first terminator, which is left to the caller.
+    ///
+    /// A piece may end anywhere, also within a number: how the payload is cut has no effect on what
+    /// it means. After a terminator each later feed consumes nothing and gives the same status.
+    ///
+    /// # Errors
+    ///
+    /// A piece is refused as soon as the bytes so far are, for the same reasons as by
+    /// [`decode_from_dcs`](SixelDecoder::decode_from_dcs); after a refusal each later feed answers
+    /// [`InvalidData`](crate::SixelError::InvalidData) with `stream decoder has failed`.
+    pub fn feed(&mut self, piece: &[u8]) -> Result<SixelFeedResult> {
+        let fed = self.owner.handle().feed(piece).map_err(refusal)?;
+        Ok(SixelFeedResult { consumed: fed.consumed, status: payload_status(fed) })
+    }
+
+    /// How many pixels were copied or filled so far, to grow the rows of the canvas; 0 after a
+    /// refusal. Painting over pixels doesn't count. It takes no memory.
+    ///
+    /// It is at most three times the area that the sixels reach.
+    #[must_use]
+    pub fn canvas_writes(&self) -> u64 {
+        self.owner.shared().canvas_writes()
+    }
+
+    /// The width and the height that the image has so far: of the closed sixels and raster
+    /// attributes, at least 1 each. `None` after a refusal. It takes no memory.
+    ///
+    /// The image of the whole payload is at least as large, where it is not cropped.
+    #[must_use]
+    pub fn size_so_far(&self) -> Option<(usize, usize)> {
+        self.owner.size_so_far()
+    }
+
+    /// Ends the payload, gives its image, and then gives the decoder the registers that it defined.
+    ///
+    /// It need not have met a terminator; an open command then ends here, and may be refused.
+    ///
+    /// # Errors
+    ///
+    /// Those of [`feed`](Self::feed), and `OutOfMemory`; the decoder is then as it was.
+    pub fn finish(self) -> Result<SixelImage> {
+        self.owner.handle().finish_payload()
+    }
+
+    /// As [`finish`](Self::finish), with the number of pixels that were copied or filled for the
+    /// image: [`canvas_writes`](Self::canvas_writes), and the image's own as they are packed.
+    ///
+    /// # Errors
+    ///
+    /// Those of [`finish`](Self::finish).
+    pub fn finish_counted(self) -> Result<(SixelImage, u64)> {
+        let writes = self.canvas_writes();
+        let image = self.finish()?;
+        let packed = image.width * image.height;
+        Ok((image, writes + packed as u64))
+    }
+
+    /// Ends the session, and changes nothing, as dropping it does.
+    pub fn abort(self) {
+        drop(self);
+    }
+}
+
+impl Drop for SixelStreamDecoder<'_> {
+    fn drop(&mut self) {
+        self.owner.handle().abort();
+    }
+}
+
+/// How a payload stands.
+pub(crate) fn payload_status(fed: Fed) -> SixelFeedStatus {
+    match fed.status {
+        MORE => SixelFeedStatus::NeedMoreData,
+        _ => SixelFeedStatus::Terminated(fed.byte),
+    }
+}

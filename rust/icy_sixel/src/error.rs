@@ -1,0 +1,74 @@
+//! Why a call was refused.
+
+use std::collections::TryReserveError;
+use std::error::Error;
+use std::fmt;
+
+/// The answer of a call that can be refused.
+pub type Result<T> = std::result::Result<T, SixelError>;
+
+/// Why a call was refused.
+#[derive(Clone, Debug, PartialEq, Eq)]
+pub enum SixelError {
+    /// A size is zero, or above what the format can hold.
+    InvalidDimensions {
+        /// Pixels in a row.
+        width: usize,
+        /// Rows.
+        height: usize,
+    },
+    /// The pixels are not as many bytes as the sizes ask for.
+    BufferSizeMismatch {
+        /// Bytes that the sizes ask for.
+        expected: usize,
+        /// Bytes that came.
+        actual: usize,
+    },
+    /// The bytes are no SIXEL data, for this reason.
+    InvalidData(String),
+    /// A control string does not begin with its introducer.
+    NoSixelData,
+    /// A size does not fit its type.
+    IntegerOverflow,
+    /// Memory was refused.
+    OutOfMemory,
+}
+
+impl SixelError {
+    /// The refusal of data for this reason, or want of memory where there is none for the words.
+    pub(crate) fn of_data(reason: &str) -> Self {
+        let mut text = String::new();
+        match text.try_reserve_exact(reason.len()) {
+            Ok(()) => {
+                text.push_str(reason);
+                Self::InvalidData(text)
+            }
+            Err(refused) => refused.into(),
+        }
+    }
+}
+
+impl fmt::Display for SixelError {
+    fn fmt(&self, f: &mut fmt::Formatter<'_>) -> fmt::Result {
+        match self {
+            Self::InvalidDimensions { width, height } => {
+                write!(f, "invalid dimensions: {width}x{height}")
+            }
+            Self::BufferSizeMismatch { expected, actual } => {
+                write!(f, "buffer size mismatch: expected {expected} bytes, got {actual}")
+            }
+            Self::InvalidData(text) => write!(f, "invalid SIXEL data: {text}"),
+            Self::NoSixelData => f.write_str("no SIXEL data found (missing DCS introducer)"),
+            Self::IntegerOverflow => f.write_str("integer overflow"),
+            Self::OutOfMemory => f.write_str("out of memory"),
+        }
+    }
+}
+
+impl Error for SixelError {}
+
+impl From<TryReserveError> for SixelError {
+    fn from(_: TryReserveError) -> Self {
+        Self::OutOfMemory
+    }
+}

@@ -1,0 +1,478 @@
+//! The border to the proved archive: every `unsafe` of this crate stands here, and what it trusts.
+//!
+//! What is called is documented by `icysixel.h`, and `scripts/rust` compares these declarations
+//! with it. Each of these functions is proved to return, and to keep to what it was passed, for all
+//! bytes and numbers and for any handle that it left; none has a further condition. What is trusted
+//! beside that proof is this file, and the compilers on both sides.
+
+use crate::codes::DONE;
+use std::alloc::{Layout, alloc, dealloc, realloc};
+use std::ffi::c_void;
+
+/// What C calls a handle: a place for a pointer that is the library's own, or zeros.
+#[repr(C)]
+struct Raw {
+    held: u8,
+    state: *mut c_void,
+}
+
+/// What a feed did.
+#[repr(C)]
+#[derive(Clone, Copy, Default)]
+pub(crate) struct Fed {
+    pub(crate) consumed: usize,
+    pub(crate) status: u32,
+    pub(crate) byte: u8,
+}
+
+/// Sizes in pixels.
+#[repr(C)]
+#[derive(Clone, Copy, Default)]
+pub(crate) struct Size {
+    pub(crate) width: usize,
+    pub(crate) height: usize,
+}
+
+/// An image, without its pixels.
+#[repr(C)]
+#[derive(Clone, Copy, Default)]
+pub(crate) struct Shape {
+    pub(crate) width: usize,
+    pub(crate) height: usize,
+    pub(crate) bytes: usize,
+    pub(crate) pan: u16,
+    pub(crate) pad: u16,
+    pub(crate) p1: u8,
+    pub(crate) p2: u8,
+}
+
+/// The color of a register.
+#[repr(C)]
+#[derive(Clone, Copy, Default)]
+pub(crate) struct Color {
+    pub(crate) red: u8,
+    pub(crate) green: u8,
+    pub(crate) blue: u8,
+}
+
+// SAFETY: these are the declarations of `icysixel.h`. Those that are `safe` take numbers, a handle
+// and places to write to, and have an answer for all of these: a `Raw` is zeros or what the library
+// left there, since nothing else writes to one, and a `&mut` is a place that nothing else reaches.
+unsafe extern "C" {
+    safe fn icysixel_new(handle: &mut Raw) -> u32;
+    safe fn icysixel_free(handle: &mut Raw);
+    safe fn icysixel_begin(handle: &mut Raw) -> u32;
+    safe fn icysixel_begin_payload(handle: &mut Raw, p1: i32, p2: i32, grid: i32) -> u32;
+    safe fn icysixel_in_payload(handle: &mut Raw) -> u8;
+    safe fn icysixel_size_so_far(handle: &mut Raw, size: &mut Size) -> u32;
+    safe fn icysixel_canvas_writes(handle: &mut Raw) -> u64;
+    safe fn icysixel_finish(handle: &mut Raw, shape: &mut Shape) -> u32;
+    safe fn icysixel_abort(handle: &mut Raw) -> u32;
+    safe fn icysixel_drop(handle: &mut Raw) -> u32;
+    safe fn icysixel_register(handle: &mut Raw, number: u8, color: &mut Color) -> u32;
+    safe fn icysixel_set_register(
+        handle: &mut Raw,
+        number: u8,
+        red: u8,
+        green: u8,
+        blue: u8,
+    ) -> u32;
+    safe fn icysixel_reset(handle: &mut Raw) -> u32;
+    safe fn icysixel_crop(handle: &mut Raw) -> u8;
+    safe fn icysixel_set_crop(handle: &mut Raw, on: u8) -> u32;
+    safe fn icysixel_limit(handle: &mut Raw) -> usize;
+    safe fn icysixel_set_limit(handle: &mut Raw, pixels: usize) -> u32;
+
+    fn icysixel_feed(handle: &mut Raw, piece: *const u8, length: usize, fed: &mut Fed) -> u32;
+    fn icysixel_decode(handle: &mut Raw, bytes: *const u8, length: usize, shape: &mut Shape)
+    -> u32;
+    fn icysixel_decode_payload(
+        handle: &mut Raw,
+        bytes: *const u8,
+        length: usize,
+        p1: i32,
+        p2: i32,
+        grid: i32,
+        shape: &mut Shape,
+    ) -> u32;
+    fn icysixel_pixels(
+        handle: &mut Raw,
+        room: *mut u8,
+        length: usize,
+        stride: usize,
+        wanted: &mut usize,
+    ) -> u32;
+    fn icysixel_encode(
+        handle: &mut Raw,
+        pixels: *const u8,
+        length: usize,
+        stride: usize,
+        width: usize,
+        height: usize,
+        p1: i32,
+        p2: i32,
+        max_colors: u16,
+        text_length: &mut usize,
+    ) -> u32;
+    fn icysixel_take_text(
+        handle: &mut Raw,
+        room: *mut u8,
+        length: usize,
+        wanted: &mut usize,
+    ) -> u32;
+}
+
+/// An answer, or the code of a refusal.
+pub(crate) type Answer<T> = Result<T, u32>;
+
+/// What a code and what was written beside it say together.
+fn answer<T>(code: u32, value: T) -> Answer<T> {
+    if code == DONE { Ok(value) } else { Err(code) }
+}
+
+/// The parameters of a control string as C has them, where -1 is an absent one.
+pub(crate) type Parameters = [i32; 3];
+
+/// The pixels that are to be encoded, four bytes each, and what their text says of them.
+pub(crate) struct Source<'a> {
+    pub(crate) pixels: &'a [u8],
+    pub(crate) width: usize,
+    pub(crate) height: usize,
+    pub(crate) p1: u8,
+    pub(crate) p2: u8,
+    pub(crate) max_colors: u16,
+}
+
+/// A decoder of the library, with the image that it is receiving, and what it keeps for its caller.
+pub(crate) struct Handle(Raw);
+
+// SAFETY: what a handle leads to is reached by it alone, the library has no state beside its
+// handles and no tie to a thread, and its memory is Rust's global allocator's, which serves all
+// threads. So it is the same from which thread its calls come, as long as they come one at a time,
+// which `&mut` in each of them sees to. It is not `Sync`, and need not be: no call takes a shared
+// reference.
+unsafe impl Send for Handle {}
+
+impl Drop for Handle {
+    fn drop(&mut self) {
+        icysixel_free(&mut self.0);
+    }
+}
+
+impl Handle {
+    /// A new decoder.
+    pub(crate) fn new() -> Answer<Self> {
+        let mut handle = Self(Raw { held: 0, state: std::ptr::null_mut() });
+        let code = icysixel_new(&mut handle.0);
+        answer(code, handle)
+    }
+
+    pub(crate) fn begin(&mut self) {
+        icysixel_begin(&mut self.0);
+    }
+
+    pub(crate) fn begin_payload(&mut self, [p1, p2, grid]: Parameters) {
+        icysixel_begin_payload(&mut self.0, p1, p2, grid);
+    }
+
+    pub(crate) fn feed(&mut self, piece: &[u8]) -> Answer<Fed> {
+        let mut fed = Fed::default();
+        // SAFETY: the pointer and the length are those of a slice, which is only read.
+        let code = unsafe { icysixel_feed(&mut self.0, piece.as_ptr(), piece.len(), &mut fed) };
+        answer(code, fed)
+    }
+
+    pub(crate) fn in_payload(&mut self) -> bool {
+        icysixel_in_payload(&mut self.0) != 0
+    }
+
+    pub(crate) fn size_so_far(&mut self) -> Answer<Size> {
+        let mut size = Size::default();
+        answer(icysixel_size_so_far(&mut self.0, &mut size), size)
+    }
+
+    pub(crate) fn canvas_writes(&mut self) -> u64 {
+        icysixel_canvas_writes(&mut self.0)
+    }
+
+    pub(crate) fn close(&mut self) -> Answer<Shape> {
+        let mut shape = Shape::default();
+        answer(icysixel_finish(&mut self.0, &mut shape), shape)
+    }
+
+    pub(crate) fn abort(&mut self) {
+        icysixel_abort(&mut self.0);
+    }
+
+    pub(crate) fn read(&mut self, bytes: &[u8]) -> Answer<Shape> {
+        let mut shape = Shape::default();
+        // SAFETY: the pointer and the length are those of a slice, which is only read.
+        let code = unsafe { icysixel_decode(&mut self.0, bytes.as_ptr(), bytes.len(), &mut shape) };
+        answer(code, shape)
+    }
+
+    pub(crate) fn read_payload(
+        &mut self,
+        bytes: &[u8],
+        [p1, p2, grid]: Parameters,
+    ) -> Answer<Shape> {
+        let (start, length) = (bytes.as_ptr(), bytes.len());
+        let mut shape = Shape::default();
+        // SAFETY: the pointer and the length are those of a slice, which is only read.
+        let code = unsafe {
+            icysixel_decode_payload(&mut self.0, start, length, p1, p2, grid, &mut shape)
+        };
+        answer(code, shape)
+    }
+
+    /// Appends the pixels of the image that is kept, and keeps it no more. A refusal keeps it.
+    pub(crate) fn take_pixels(&mut self, pixels: &mut Vec<u8>) -> Answer<()> {
+        append(pixels, |room, length, wanted| {
+            // SAFETY: the pointer and the length are those of the vector's own spare room, which is
+            // only written to.
+            unsafe { icysixel_pixels(&mut self.0, room, length, 0, wanted) }
+        })
+    }
+
+    /// Frees the image and the text that are kept, if any are.
+    pub(crate) fn drop_kept(&mut self) {
+        icysixel_drop(&mut self.0);
+    }
+
+    pub(crate) fn register(&mut self, number: u8) -> [u8; 3] {
+        let mut color = Color::default();
+        icysixel_register(&mut self.0, number, &mut color);
+        [color.red, color.green, color.blue]
+    }
+
+    pub(crate) fn set_register(&mut self, number: u8, [red, green, blue]: [u8; 3]) {
+        icysixel_set_register(&mut self.0, number, red, green, blue);
+    }
+
+    pub(crate) fn reset(&mut self) {
+        icysixel_reset(&mut self.0);
+    }
+
+    pub(crate) fn crop(&mut self) -> bool {
+        icysixel_crop(&mut self.0) != 0
+    }
+
+    pub(crate) fn set_crop(&mut self, on: bool) {
+        icysixel_set_crop(&mut self.0, u8::from(on));
+    }
+
+    pub(crate) fn limit(&mut self) -> usize {
+        icysixel_limit(&mut self.0)
+    }
+
+    pub(crate) fn set_limit(&mut self, pixels: usize) {
+        icysixel_set_limit(&mut self.0, pixels);
+    }
+
+    /// Keeps the text of these pixels, and tells how many bytes it has.
+    pub(crate) fn write(&mut self, source: &Source<'_>) -> Answer<usize> {
+        let &Source { pixels, width, height, p1, p2, max_colors } = source;
+        let (start, length) = (pixels.as_ptr(), pixels.len());
+        let (p1, p2) = (i32::from(p1), i32::from(p2));
+        let mut bytes = 0;
+        // SAFETY: the pointer and the length are those of a slice, which is only read.
+        let code = unsafe {
+            icysixel_encode(
+                &mut self.0,
+                start,
+                length,
+                0,
+                width,
+                height,
+                p1,
+                p2,
+                max_colors,
+                &mut bytes,
+            )
+        };
+        answer(code, bytes)
+    }
+
+    /// Appends the text that is kept, and keeps it no more. A refusal keeps it.
+    pub(crate) fn take_text(&mut self, text: &mut Vec<u8>) -> Answer<()> {
+        append(text, |room, length, wanted| {
+            // SAFETY: the pointer and the length are those of the vector's own spare room, which is
+            // only written to.
+            unsafe { icysixel_take_text(&mut self.0, room, length, wanted) }
+        })
+    }
+}
+
+/// Appends what a call writes to the spare room of a vector, and what it tells the number of.
+fn append(bytes: &mut Vec<u8>, call: impl FnOnce(*mut u8, usize, &mut usize) -> u32) -> Answer<()> {
+    let room = bytes.spare_capacity_mut();
+    let mut written = 0;
+    answer(call(room.as_mut_ptr().cast(), room.len(), &mut written), ())?;
+    assert!(written <= room.len());
+    let length = bytes.len() + written;
+    // SAFETY: the call was done, so it has written so many bytes from the start of the spare room,
+    // which was seen to have them.
+    unsafe { bytes.set_len(length) };
+    Ok(())
+}
+
+/// What a request for memory is answered by. A refused one has a pointer that leads to no memory.
+#[repr(C)]
+struct Tried {
+    ok: bool,
+    block: *mut u8,
+}
+
+/// Before each block that the library has stands how many bytes were asked for in all, which Rust's
+/// allocator has to be told when they are freed. It takes as much room as the alignment of all
+/// blocks, which is the greatest that the library asks for.
+const HEAD: usize = 16;
+
+/// The byte that a refused answer points to.
+static NOTHING: u8 = 0;
+
+impl Tried {
+    const REFUSED: Self = Self { ok: false, block: (&raw const NOTHING).cast_mut() };
+
+    /// The block in memory that was had for this layout, or a refusal where it is null.
+    ///
+    /// # Safety
+    ///
+    /// The pointer is null, or leads to memory of that layout, which holds a head.
+    unsafe fn of(start: *mut u8, layout: Layout) -> Self {
+        if start.is_null() {
+            return Self::REFUSED;
+        }
+        // SAFETY: there is room for a head, and it is aligned for a number as all of it is.
+        unsafe { start.cast::<usize>().write(layout.size()) };
+        // SAFETY: a head is within the memory.
+        let block = unsafe { start.add(HEAD) };
+        Self { ok: true, block }
+    }
+}
+
+/// The layout of a block of so many bytes, with its head.
+fn layout(size: usize, align: usize) -> Option<Layout> {
+    let all = size.checked_add(HEAD)?;
+    let layout = Layout::from_size_align(all, HEAD).ok()?;
+    (align <= HEAD).then_some(layout)
+}
+
+/// Where the memory of a block begins, and its layout.
+///
+/// # Safety
+///
+/// The block was answered by one of the functions below, and was neither freed nor moved since.
+unsafe fn memory_of(block: *mut u8) -> (*mut u8, Layout) {
+    // SAFETY: a block stands behind its head, in the same memory.
+    let start = unsafe { block.sub(HEAD) };
+    // SAFETY: the size was written there when the block was answered, and blocks are written to
+    // from their own start on.
+    let size = unsafe { start.cast::<usize>().read() };
+    // SAFETY: the size is that of a layout with this alignment, from which it was written.
+    (start, unsafe { Layout::from_size_align_unchecked(size, HEAD) })
+}
+
+/// Gets new memory for the library.
+// SAFETY: the name is the one by which the archive asks, and no other crate that Cargo links may
+// define it, since `links` lets one such archive in.
+#[unsafe(no_mangle)]
+extern "C" fn rattle_alloc(size: usize, align: usize) -> Tried {
+    let Some(layout) = layout(size, align) else {
+        return Tried::REFUSED;
+    };
+    // SAFETY: the layout has the bytes of a head at least, so they are not none.
+    let start = unsafe { alloc(layout) };
+    // SAFETY: that is what `alloc` answers for this layout.
+    unsafe { Tried::of(start, layout) }
+}
+
+/// Makes the block one of so many bytes, which may move it; a refusal leaves it as it was.
+///
+/// # Safety
+///
+/// The block is one that the library was answered and has not freed, as its proof says of it.
+// SAFETY: as of the name above.
+#[unsafe(no_mangle)]
+unsafe extern "C" fn rattle_realloc(
+    block: *mut u8,
+    _kept: usize,
+    size: usize,
+    align: usize,
+) -> Tried {
+    let Some(wanted) = layout(size, align) else {
+        return Tried::REFUSED;
+    };
+    // SAFETY: the block is one that was answered here, and is there still.
+    let (start, had) = unsafe { memory_of(block) };
+    // SAFETY: this memory was had by that layout, and the new number of bytes is one of a layout
+    // with the same alignment, and not none.
+    let start = unsafe { realloc(start, had, wanted.size()) };
+    // SAFETY: that is what `realloc` answers for this layout, with the old head in it.
+    unsafe { Tried::of(start, wanted) }
+}
+
+/// Frees a block.
+///
+/// # Safety
+///
+/// As of `rattle_realloc`.
+// SAFETY: as of the name above.
+#[unsafe(no_mangle)]
+unsafe extern "C" fn rattle_dealloc(block: *mut u8) {
+    // SAFETY: the block is one that was answered here, and is there still.
+    let (start, had) = unsafe { memory_of(block) };
+    // SAFETY: this memory was had by that layout.
+    unsafe { dealloc(start, had) };
+}
+
+#[cfg(test)]
+mod tests {
+    use super::*;
+
+    /// A block of so many bytes, which are these.
+    fn block(bytes: &[u8], align: usize) -> *mut u8 {
+        let Tried { ok, block } = rattle_alloc(bytes.len(), align);
+        assert!(ok && block.addr() % 16 == 0);
+        // SAFETY: the block was answered for so many bytes, and is new.
+        unsafe { block.copy_from_nonoverlapping(bytes.as_ptr(), bytes.len()) };
+        block
+    }
+
+    /// Whether a block begins with these bytes.
+    fn holds(block: *const u8, bytes: &[u8]) -> bool {
+        // SAFETY: the tests ask for no more bytes than their blocks have.
+        let held = unsafe { std::slice::from_raw_parts(block, bytes.len()) };
+        held == bytes
+    }
+
+    #[test]
+    fn blocks_grow_and_shrink() {
+        let bytes: Vec<u8> = (0..=255).collect();
+        for (had, wanted) in [(0, 0), (0, 9), (1, 100_000), (256, 17), (256, 0), (100, 101)] {
+            for align in [1, 2, 4, 8, 16] {
+                let old = block(&bytes[..had], align);
+                // SAFETY: the block is one that was answered, and is given up for the new one.
+                let Tried { ok, block } = unsafe { rattle_realloc(old, had, wanted, align) };
+                assert!(ok && block.addr() % 16 == 0);
+                assert!(holds(block, &bytes[..had.min(wanted)]));
+                // SAFETY: the block is one that was answered, and is used no more.
+                unsafe { rattle_dealloc(block) };
+            }
+        }
+    }
+
+    #[test]
+    fn what_no_layout_has_is_refused() {
+        for size in [usize::MAX, usize::MAX - 15, isize::MAX as usize, isize::MAX as usize - 15] {
+            assert!(!rattle_alloc(size, 1).ok);
+            let old = block(b"kept", 1);
+            // SAFETY: the block is one that was answered; a refusal leaves it as it was.
+            let Tried { ok, block } = unsafe { rattle_realloc(old, 4, size, 1) };
+            assert!(!ok && !block.is_null() && holds(old, b"kept"));
+            // SAFETY: the block is one that was answered, and is used no more.
+            unsafe { rattle_dealloc(old) };
+        }
+        assert!(!rattle_alloc(1, 32).ok);
+    }
+}

@@ -1,0 +1,24 @@
+#![doc = include_str!("../README.md")]
+
+mod codes;
+pub mod decoder;
+pub mod encoder;
+mod error;
+#[allow(unsafe_code)]
+mod ffi;
+mod handle;
+pub mod receiver;
+pub mod script;
+mod settings;
+pub mod sixel_image;
+mod size;
+mod status;
+
+pub use decoder::{
+    DcsSettings, SixelDcsFeedResult, SixelDcsFeedStatus, SixelDcsStreamDecoder, SixelDecoder,
+    SixelFeedResult, SixelFeedStatus, SixelStreamDecoder, sixel_decode, sixel_decode_from_dcs,
+};
+pub use encoder::{EncodeOptions, sixel_encode, sixel_encode_default};
+pub use error::{Result, SixelError};
+pub use sixel_image::{BackgroundMode, PixelAspectRatio, SixelImage};
+pub use size::validate_encode_dimensions;

@@ -1,0 +1,149 @@
+//! An image as its pixels, sizes, pixel shape and background.
+
+use crate::codes::refusal;
+use crate::encoder::{EncodeOptions, encode};
+use crate::error::{Result, SixelError};
+use crate::ffi::Handle;
+use crate::settings::DcsSettings;
+pub use crate::settings::{BackgroundMode, PixelAspectRatio};
+use crate::size::{pixel_bytes, validate_buffer};
+use std::fmt;
+use std::str::FromStr;
+
+/// An image: four bytes a pixel (red, green, blue, alpha), row by row from the top, each row from
+/// the left.
+#[derive(Clone, Debug, PartialEq, Eq)]
+pub struct SixelImage {
+    /// The pixels, `4 * width * height` bytes.
+    pub pixels: Vec<u8>,
+    /// Pixels in a row.
+    pub width: usize,
+    /// Rows.
+    pub height: usize,
+    /// The shape of a pixel.
+    pub aspect_ratio: PixelAspectRatio,
+    /// What stands where nothing was drawn.
+    pub background_mode: BackgroundMode,
+}
+
+impl SixelImage {
+    /// Decodes the first control string in the bytes, or all of them as a payload if there is none,
+    /// as [`SixelDecoder::decode`](crate::SixelDecoder::decode) of a new decoder does.
+    ///
+    /// # Errors
+    ///
+    /// As of [`SixelDecoder::decode`](crate::SixelDecoder::decode).
+    pub fn decode(bytes: &[u8]) -> Result<Self> {
+        Handle::new().map_err(refusal)?.decode(bytes)
+    }
+
+    /// Decodes one payload, as
+    /// [`SixelDecoder::decode_from_dcs`](crate::SixelDecoder::decode_from_dcs) of a new decoder does.
+    ///
+    /// # Errors
+    ///
+    /// As of [`SixelDecoder::decode_from_dcs`](crate::SixelDecoder::decode_from_dcs).
+    pub fn decode_from_dcs(bytes: &[u8], settings: DcsSettings) -> Result<Self> {
+        Handle::new().map_err(refusal)?.decode_payload(bytes, settings)
+    }
+
+    /// An image of these pixels, with square pixels and a transparent background. Nothing is
+    /// checked.
+    #[must_use]
+    pub fn from_rgba(pixels: Vec<u8>, width: usize, height: usize) -> Self {
+        Self {
+            pixels,
+            width,
+            height,
+            aspect_ratio: PixelAspectRatio::Square,
+            background_mode: BackgroundMode::Transparent,
+        }
+    }
+
+    /// As [`from_rgba`](Self::from_rgba), for sizes that are not zero and can be counted in bytes,
+    /// and as many bytes.
+    ///
+    /// # Errors
+    ///
+    /// A zero size is `InvalidDimensions`, bytes above `usize::MAX` are `IntegerOverflow`, and
+    /// another number of bytes is `BufferSizeMismatch`, in this order. The pixels are dropped then.
+    pub fn try_from_rgba(pixels: Vec<u8>, width: usize, height: usize) -> Result<Self> {
+        validate_buffer(pixel_bytes(width, height)?, pixels.len())?;
+        Ok(Self::from_rgba(pixels, width, height))
+    }
+
+    /// This image with another pixel shape.
+    #[must_use]
+    pub fn with_aspect_ratio(self, ratio: PixelAspectRatio) -> Self {
+        Self { aspect_ratio: ratio, ..self }
+    }
+
+    /// This image with another background.
+    #[must_use]
+    pub fn with_background_mode(self, mode: BackgroundMode) -> Self {
+        Self { background_mode: mode, ..self }
+    }
+
+    /// Width and height in pixels.
+    #[must_use]
+    pub fn dimensions(&self) -> (usize, usize) {
+        (self.width, self.height)
+    }
+
+    /// Width and height as shown, in units of a pixel's width; `usize::MAX` stands for any greater
+    /// height.
+    #[must_use]
+    pub fn corrected_dimensions(&self) -> (usize, usize) {
+        let pad = usize::from(self.aspect_ratio.pad());
+        (self.width, self.height.saturating_mul(pad))
+    }
+
+    /// Whether some pixel is hidden: its alpha, the last of its four bytes, is below 128.
+    #[must_use]
+    pub fn has_transparency(&self) -> bool {
+        self.pixels.chunks_exact(4).any(|pixel| pixel[3] < 128)
+    }
+
+    /// The SIXEL text of this image with the default options.
+    ///
+    /// # Errors
+    ///
+    /// As of [`encode_with`](Self::encode_with).
+    pub fn encode(&self) -> Result<String> {
+        self.encode_with(&EncodeOptions::default())
+    }
+
+    /// The SIXEL text of this image.
+    ///
+    /// The text is the same for all images that show the same: the color of a hidden pixel, and
+    /// its alpha as long as it is below 128, have no effect.
+    ///
+    /// # Errors
+    ///
+    /// In this order: a zero size (`InvalidDimensions`), bytes above `usize::MAX`
+    /// (`IntegerOverflow`), sizes above the limits (`InvalidDimensions`), and pixels of another
+    /// number of bytes (`BufferSizeMismatch`). `OutOfMemory` where memory was refused.
+    pub fn encode_with(&self, options: &EncodeOptions) -> Result<String> {
+        let shape = (self.aspect_ratio, self.background_mode);
+        encode(&self.pixels, self.dimensions(), shape, options)
+    }
+}
+
+/// The text of [`encode`](SixelImage::encode), or a line that says why there is none.
+impl fmt::Display for SixelImage {
+    fn fmt(&self, f: &mut fmt::Formatter<'_>) -> fmt::Result {
+        match self.encode() {
+            Ok(text) => f.write_str(&text),
+            Err(error) => write!(f, "[SIXEL encoding failed: {error}]"),
+        }
+    }
+}
+
+/// As [`decode`](SixelImage::decode) of a text's bytes.
+impl FromStr for SixelImage {
+    type Err = SixelError;
+
+    fn from_str(text: &str) -> Result<Self> {
+        Self::decode(text.as_bytes())
+    }
+}

@@ -1,0 +1,198 @@
+//! A decoder that owns the image it is receiving, in a struct and across threads.
+
+mod common;
+
+use common::*;
+use icy_sixel::receiver::{Received, SixelReceiver};
+use icy_sixel::script::Status;
+use icy_sixel::{
+    DcsSettings, Result, SixelDcsFeedStatus as Dcs, SixelDecoder, SixelError,
+    SixelFeedStatus as Payload, SixelImage,
+};
+use std::sync::{Arc, Mutex, RwLock, mpsc};
+use std::thread;
+
+const STRING: &[u8] = b"\x1bP9;1q#1;2;100;0;0!12~\x1b\\";
+
+/// A host that gets bytes when they come.
+#[derive(Default)]
+struct Host {
+    receiver: SixelReceiver,
+    images: Vec<SixelImage>,
+}
+
+impl Host {
+    /// Reads bytes of control strings that follow each other.
+    fn read(&mut self, mut bytes: &[u8]) -> Result<()> {
+        while !bytes.is_empty() {
+            if !self.receiver.is_receiving() {
+                self.receiver.begin_dcs();
+            }
+            let received = self.receiver.feed(bytes)?;
+            bytes = &bytes[received.consumed..];
+            if received.status != Status::Dcs(Dcs::NeedMoreData) {
+                self.images.push(self.receiver.finish()?);
+            }
+        }
+        Ok(())
+    }
+}
+
+#[test]
+fn a_host_reads_pieces_of_any_length() {
+    let bytes = STRING.repeat(3);
+    for length in 1..=bytes.len() {
+        let mut host = Host::default();
+        for piece in pieces(&bytes, length) {
+            host.read(piece).unwrap();
+        }
+        assert!(!host.receiver.is_receiving());
+        assert_eq!(host.images.len(), 3);
+        for image in host.images {
+            assert_filled(Ok(image), (12, 6), RED);
+        }
+    }
+}
+
+#[test]
+fn a_payload_is_received() {
+    let mut receiver = SixelReceiver::new();
+    receiver.set_register(0, [1, 2, 3]);
+    receiver.set_raster_crop(true);
+    receiver.begin_frame(DcsSettings::default());
+    assert!(receiver.is_receiving() && receiver.in_payload());
+    assert_eq!(receiver.size_so_far(), Some((1, 1)));
+    receiver.reset_palette();
+    let received = receiver.feed(b"\"1;1;2;3?\x9c").unwrap();
+    let status = Status::Payload(Payload::Terminated(0x9c));
+    assert_eq!(received, Received { consumed: 9, status });
+    assert_eq!(receiver.size_so_far(), Some((2, 6)));
+    assert_filled(receiver.finish(), (2, 3), [1, 2, 3, 255]);
+    assert_eq!(receiver.register(0), [1, 2, 3]);
+    assert!(!receiver.is_receiving());
+}
+
+#[test]
+fn nothing_is_open() {
+    let mut receiver = SixelReceiver::new();
+    assert_eq!(receiver.feed(b"~"), Err(invalid(STREAM_FAILED)));
+    assert_eq!(receiver.finish(), Err(invalid(STREAM_FAILED)));
+    assert_eq!(receiver.size_so_far(), None);
+    assert_eq!(receiver.canvas_writes(), 0);
+    assert!(!receiver.in_payload() && !receiver.is_receiving());
+    receiver.abort();
+    assert_filled(receiver.into_decoder().decode(b"#1~"), (1, 6), [51, 51, 204, 255]);
+}
+
+#[test]
+fn refusals_close_the_image() {
+    let mut receiver = SixelReceiver::new();
+    receiver.set_pixel_limit(10);
+    receiver.begin_dcs();
+    assert_eq!(receiver.feed(b"x"), Err(SixelError::NoSixelData));
+    assert!(receiver.is_receiving());
+    assert_eq!(receiver.feed(b"x"), Err(invalid(DCS_STREAM_FAILED)));
+    assert_eq!(receiver.finish(), Err(invalid(DCS_STREAM_FAILED)));
+    assert!(!receiver.is_receiving());
+    receiver.begin_dcs();
+    assert_eq!(receiver.feed(b"\x1bPq!2~"), Err(invalid(TOO_LARGE)));
+    receiver.begin_dcs();
+    assert!(receiver.feed(b"\x1bPq~").is_ok());
+    assert_eq!(receiver.finish(), Err(invalid(INCOMPLETE)));
+    assert!(!receiver.is_receiving());
+}
+
+#[test]
+fn a_receiver_owns_its_decoder() {
+    let mut decoder = SixelDecoder::new();
+    decoder.set_register(3, [3, 3, 3]);
+    std::mem::forget(decoder.begin_dcs());
+    let mut receiver = SixelReceiver::with_decoder(decoder);
+    assert_eq!(receiver.feed(b"\x1b"), Err(invalid(STREAM_FAILED)));
+    receiver.begin_dcs();
+    assert!(receiver.feed(b"\x1bPq#3;2;100;0;0!500~").is_ok());
+    assert!((3000..=9000).contains(&receiver.canvas_writes()));
+    assert_eq!(receiver.decoder().register(3), [3, 3, 3]);
+    let clone = receiver.decoder().clone();
+    assert_eq!(clone.register(3), [3, 3, 3]);
+    assert!(receiver.feed(b"\x9c").is_ok());
+    assert_eq!(receiver.finish().unwrap().dimensions(), (500, 6));
+    assert_eq!(receiver.into_decoder().register(3), [255, 0, 0]);
+}
+
+#[test]
+fn a_receiver_moves_between_threads() {
+    let (to_worker, pieces_in) = mpsc::channel::<SixelReceiver>();
+    let (to_main, pieces_out) = mpsc::channel();
+    let worker = thread::spawn(move || {
+        for (mut receiver, byte) in pieces_in.into_iter().zip(STRING) {
+            assert!(receiver.feed(&[*byte]).is_ok());
+            to_main.send(receiver).unwrap();
+        }
+    });
+    let mut receiver = SixelReceiver::new();
+    receiver.begin_dcs();
+    for _ in STRING {
+        to_worker.send(receiver).unwrap();
+        receiver = pieces_out.recv().unwrap();
+    }
+    drop(to_worker);
+    worker.join().unwrap();
+    assert_filled(receiver.finish(), (12, 6), RED);
+}
+
+#[test]
+fn threads_share_what_only_reads() {
+    let mut decoder = SixelDecoder::new();
+    decoder.set_register(200, [2, 0, 0]);
+    let mut session = decoder.begin_dcs();
+    assert!(session.feed(b"\x1bPq!40~").is_ok());
+    thread::scope(|scope| {
+        for _ in 0..4 {
+            scope.spawn(|| {
+                for _ in 0..1000 {
+                    assert_eq!(session.size_so_far(), Some((40, 6)));
+                    assert!(session.in_payload() && session.canvas_writes() >= 240);
+                }
+            });
+        }
+    });
+    session.abort();
+    thread::scope(|scope| {
+        for _ in 0..4 {
+            scope.spawn(|| {
+                for number in 0..=u8::MAX {
+                    assert_eq!(decoder.register(200), [2, 0, 0]);
+                    assert_eq!(decoder.clone().register(number), decoder.register(number));
+                }
+            });
+        }
+    });
+
+    let shared = Arc::new(RwLock::new(decoder));
+    let other = Arc::clone(&shared);
+    let image = thread::spawn(move || other.write().unwrap().decode(STRING)).join().unwrap();
+    assert_filled(image, (12, 6), RED);
+    assert_eq!(shared.read().unwrap().register(1), [255, 0, 0]);
+}
+
+#[test]
+fn each_thread_has_its_own() {
+    let images = Mutex::new(Vec::new());
+    thread::scope(|scope| {
+        for _ in 0..4 {
+            scope.spawn(|| {
+                for length in 1..=STRING.len() {
+                    let mut host = Host::default();
+                    for piece in pieces(STRING, length) {
+                        host.read(piece).unwrap();
+                    }
+                    images.lock().unwrap().append(&mut host.images);
+                }
+            });
+        }
+    });
+    let images = images.into_inner().unwrap();
+    assert_eq!(images.len(), 4 * STRING.len());
+    assert!(images.iter().all(|image| *image == images[0]));
+}
