@@ -68,7 +68,6 @@ unsafe extern "C" {
     safe fn icysixel_canvas_writes(handle: &mut Raw) -> u64;
     safe fn icysixel_finish(handle: &mut Raw, shape: &mut Shape) -> u32;
     safe fn icysixel_abort(handle: &mut Raw) -> u32;
-    safe fn icysixel_drop(handle: &mut Raw) -> u32;
     safe fn icysixel_register(handle: &mut Raw, number: u8, color: &mut Color) -> u32;
     safe fn icysixel_set_register(
         handle: &mut Raw,
@@ -232,11 +231,6 @@ impl Handle {
             // only written to.
             unsafe { icysixel_pixels(&mut self.0, room, length, 0, wanted) }
         })
-    }
-
-    /// Frees the image and the text that are kept, if any are.
-    pub(crate) fn drop_kept(&mut self) {
-        icysixel_drop(&mut self.0);
     }
 
     pub(crate) fn register(&mut self, number: u8) -> [u8; 3] {

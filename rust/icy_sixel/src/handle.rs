@@ -53,10 +53,7 @@ impl Handle {
 
     /// The image that is kept, its pixels in this room, or in more where it is too small.
     fn image(&mut self, shape: Shape, mut pixels: Vec<u8>) -> Result<SixelImage> {
-        if let Err(refused) = pixels.try_reserve_exact(shape.bytes) {
-            self.drop_kept();
-            return Err(refused.into());
-        }
+        pixels.try_reserve_exact(shape.bytes)?;
         self.take_pixels(&mut pixels).map_err(refusal)?;
         Ok(SixelImage {
             pixels,

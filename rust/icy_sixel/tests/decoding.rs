@@ -192,12 +192,14 @@ fn rows_grow() {
 #[test]
 fn a_decoder_is_cloned() {
     let mut decoder = SixelDecoder::default();
-    decoder.set_register(7, [1, 2, 3]);
+    for number in [0, 7, 255] {
+        decoder.set_register(number, [1, 2, 3]);
+    }
     decoder.set_raster_crop(true);
     decoder.set_pixel_limit(100);
     let mut clone = decoder.clone();
     decoder.reset_palette();
-    assert_eq!(clone.register(7), [1, 2, 3]);
+    assert!([0, 7, 255].iter().all(|number| clone.register(*number) == [1, 2, 3]));
     assert_eq!(clone.register(1), [51, 51, 204]);
     assert!(clone.raster_crop());
     assert_eq!(clone.pixel_limit(), 100);

@@ -110,6 +110,7 @@ fn hidden_pixels() {
     assert!(two.has_transparency());
     let text = "\x1bP9;1;0q\"1;1;2;1#0;2;100;0;0#0?@$-\x1b\\";
     assert_eq!(two.encode().as_deref(), Ok(text));
+    assert!(!image(1, 1, &[(1, [255, 0, 0, 128])]).has_transparency());
     let two = image(2, 1, &[(1, RED), (1, BLUE)]);
     assert!(!two.has_transparency());
     let text = "\x1bP9;1;0q\"1;1;2;1#0;2;0;0;100#1;2;100;0;0#0?@$#1@?$-\x1b\\";

@@ -8,7 +8,10 @@ mod common;
 
 use common::*;
 use icy_sixel::receiver::SixelReceiver;
-use icy_sixel::{DcsSettings, EncodeOptions, Result, SixelDecoder, SixelError, SixelImage};
+use icy_sixel::{
+    DcsSettings, EncodeOptions, Result, SixelDcsStreamDecoder, SixelDecoder, SixelError,
+    SixelImage, SixelStreamDecoder,
+};
 use std::alloc::{GlobalAlloc, Layout, System};
 use std::cell::Cell;
 use std::ptr::null_mut;
@@ -234,6 +237,50 @@ fn calls_that_take_no_memory() {
         receiver.abort();
     });
     assert!(!met);
+}
+
+/// A session gives back what it took as it ends, however it ends, and so does an image that a
+/// receiver gives up.
+#[test]
+fn what_ends_is_freed() {
+    let mut decoder = SixelDecoder::new();
+    let held = HELD.get();
+    let begin = |decoder: &mut SixelDecoder, end: fn(SixelStreamDecoder<'_>)| {
+        let mut session = decoder.begin_frame(DcsSettings::default()).unwrap();
+        assert!(session.feed(PAYLOAD).is_ok());
+        assert!(HELD.get() > held);
+        end(session);
+        assert_eq!(HELD.get(), held);
+    };
+    begin(&mut decoder, |session| drop(session));
+    begin(&mut decoder, |session| session.abort());
+    begin(&mut decoder, |session| drop(session.finish()));
+    let begin = |decoder: &mut SixelDecoder, end: fn(SixelDcsStreamDecoder<'_>)| {
+        let mut session = decoder.begin_dcs();
+        assert!(session.feed(STRING).is_ok());
+        assert!(HELD.get() > held);
+        end(session);
+        assert_eq!(HELD.get(), held);
+    };
+    begin(&mut decoder, |session| drop(session));
+    begin(&mut decoder, |session| session.abort());
+    begin(&mut decoder, |session| drop(session.finish()));
+
+    let mut receiver = SixelReceiver::with_decoder(decoder);
+    let ends: [fn(&mut SixelReceiver); 3] =
+        [SixelReceiver::abort, SixelReceiver::begin_dcs, |receiver| drop(receiver.finish())];
+    for end in ends {
+        receiver.begin_dcs();
+        assert!(receiver.feed(STRING).is_ok());
+        assert!(HELD.get() > held);
+        end(&mut receiver);
+        assert_eq!(HELD.get(), held);
+    }
+    receiver.begin_dcs();
+    assert!(receiver.feed(STRING).is_ok());
+    decoder = receiver.into_decoder();
+    assert_eq!(HELD.get(), held);
+    drop(decoder);
 }
 
 /// The image's pixels are the caller's from the start: a finish makes two large requests, the
