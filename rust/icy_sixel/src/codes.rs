@@ -7,6 +7,8 @@ pub(crate) const NO_SESSION: u32 = 2;
 pub(crate) const OUT_OF_MEMORY: u32 = 8;
 pub(crate) const OVERFLOW: u32 = 9;
 pub(crate) const BAD_DIMENSIONS: u32 = 10;
+#[cfg(test)]
+pub(crate) const BUFFER_MISMATCH: u32 = 11;
 pub(crate) const NO_SIXEL_DATA: u32 = 12;
 pub(crate) const MALFORMED: u32 = 13;
 pub(crate) const TOO_LARGE: u32 = 14;

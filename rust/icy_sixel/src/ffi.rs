@@ -166,14 +166,17 @@ impl Handle {
         answer(code, handle)
     }
 
+    /// Begins a control string, in the place of what is open.
     pub(crate) fn begin(&mut self) {
         icysixel_begin(&mut self.0);
     }
 
+    /// Begins a payload, in the place of what is open.
     pub(crate) fn begin_payload(&mut self, [p1, p2, grid]: Parameters) {
         icysixel_begin_payload(&mut self.0, p1, p2, grid);
     }
 
+    /// Reads a piece of the image that is open.
     pub(crate) fn feed(&mut self, piece: &[u8]) -> Answer<Fed> {
         let mut fed = Fed::default();
         // SAFETY: the pointer and the length are those of a slice, which is only read.
@@ -181,28 +184,35 @@ impl Handle {
         answer(code, fed)
     }
 
+    /// Whether the payload of the image that is open has begun.
     pub(crate) fn in_payload(&mut self) -> bool {
         icysixel_in_payload(&mut self.0) != 0
     }
 
+    /// The size that the image that is open has so far.
     pub(crate) fn size_so_far(&mut self) -> Answer<Size> {
         let mut size = Size::default();
         answer(icysixel_size_so_far(&mut self.0, &mut size), size)
     }
 
+    /// How many pixels were copied or filled so far for the image that is open.
     pub(crate) fn canvas_writes(&mut self) -> u64 {
         icysixel_canvas_writes(&mut self.0)
     }
 
+    /// Closes the image that is open, keeps it, and tells its shape.
     pub(crate) fn close(&mut self) -> Answer<Shape> {
         let mut shape = Shape::default();
         answer(icysixel_finish(&mut self.0, &mut shape), shape)
     }
 
+    /// Gives up the image that is open, if one is.
     pub(crate) fn abort(&mut self) {
         icysixel_abort(&mut self.0);
     }
 
+    /// Decodes the first control string in the bytes, or all of them, keeps the image, and tells its
+    /// shape.
     pub(crate) fn read(&mut self, bytes: &[u8]) -> Answer<Shape> {
         let mut shape = Shape::default();
         // SAFETY: the pointer and the length are those of a slice, which is only read.
@@ -210,6 +220,7 @@ impl Handle {
         answer(code, shape)
     }
 
+    /// Decodes one payload, keeps the image, and tells its shape.
     pub(crate) fn read_payload(
         &mut self,
         bytes: &[u8],

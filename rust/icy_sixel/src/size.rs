@@ -41,3 +41,42 @@ pub fn validate_encode_dimensions(width: usize, height: usize) -> Result<()> {
         width <= MAX_SIDE && banded <= MAX_SIDE && width.saturating_mul(banded) <= MAX_AREA;
     if is_within { Ok(()) } else { Err(SixelError::InvalidDimensions { width, height }) }
 }
+
+#[cfg(test)]
+mod tests {
+    use super::*;
+    use crate::codes::{BAD_DIMENSIONS, BUFFER_MISMATCH, OVERFLOW};
+    use crate::ffi::{Handle, Source};
+
+    /// What the library says of a size, where it has no pixels: that these are missing, if it fits.
+    fn of_the_library(handle: &mut Handle, width: usize, height: usize) -> Result<()> {
+        let pixels = &[];
+        let source = Source { pixels, width, height, p1: 9, p2: 1, max_colors: 2 };
+        match handle.write(&source) {
+            Err(BUFFER_MISMATCH) => Ok(()),
+            Err(BAD_DIMENSIONS) => Err(SixelError::InvalidDimensions { width, height }),
+            Err(OVERFLOW) => Err(SixelError::IntegerOverflow),
+            other => panic!("{other:?} of {width}x{height}"),
+        }
+    }
+
+    #[test]
+    fn sizes_are_those_of_the_library() {
+        let mut handle = Handle::new().unwrap();
+        let edges = [
+            0, 1, 2, 5, 6, 7, 8184, 8185, 8190, 8192, 8193, 65535, 65536, 999_995, 999_996,
+            999_997, 1_000_000, 1_000_001,
+        ];
+        let roots = [MAX_AREA / 6, MAX_AREA / 12, MAX_AREA, 1 << 31, 1 << 32, 1 << 61, 1 << 62];
+        let near = |size: usize| [size - 1, size, size + 1];
+        let largest = near(usize::MAX / 4).into_iter().chain([usize::MAX / 2, usize::MAX]);
+        let mut sizes: Vec<usize> = edges.into_iter().chain(largest).collect();
+        sizes.extend(roots.into_iter().flat_map(near));
+        for width in sizes.iter().copied() {
+            for height in sizes.iter().copied() {
+                let answer = of_the_library(&mut handle, width, height);
+                assert_eq!(validate_encode_dimensions(width, height), answer, "{width}x{height}");
+            }
+        }
+    }
+}
