@@ -1,5 +1,6 @@
 //! The calls that take memory, and how each ended.
 
+use crate::receiver::{Form, receive};
 use crate::sessions::{control_string, counted_frame, frame};
 use crate::steps::run_steps;
 use crate::unaided::{image_calls, no_memory};
@@ -21,6 +22,8 @@ pub enum Call {
     Frame,
     CountedFrame,
     ControlString,
+    ReceivedPayload,
+    ReceivedString,
     Reach,
     ReachOfRow,
     Palette,
@@ -33,7 +36,7 @@ pub enum Call {
 }
 
 /// Every call that is tried on each decoder, in this order.
-pub const CALLS: [Call; 16] = [
+pub const CALLS: [Call; 18] = [
     Call::NoMemory,
     Call::ImageCalls,
     Call::DecodeFromDcs,
@@ -41,6 +44,8 @@ pub const CALLS: [Call; 16] = [
     Call::Frame,
     Call::CountedFrame,
     Call::ControlString,
+    Call::ReceivedPayload,
+    Call::ReceivedString,
     Call::Reach,
     Call::ReachOfRow,
     Call::Palette,
@@ -92,6 +97,8 @@ impl Call {
             Call::Frame => "payload session",
             Call::CountedFrame => "payload session with a count",
             Call::ControlString => "control string session",
+            Call::ReceivedPayload => "payload received",
+            Call::ReceivedString => "control string received",
             Call::Reach => "Row::reach",
             Call::ReachOfRow => "Row::reach, by its pixels",
             Call::Palette => "choose_palette",
@@ -118,6 +125,8 @@ impl Call {
             Call::Frame => drawn(frame(alloc, decoder), decoder),
             Call::CountedFrame => drawn(counted_frame(alloc, decoder), decoder),
             Call::ControlString => drawn(control_string(alloc, decoder), decoder),
+            Call::ReceivedPayload => drawn(receive(alloc, decoder, Form::Payload), decoder),
+            Call::ReceivedString => drawn(receive(alloc, decoder, Form::ControlString), decoder),
             Call::Reach => reach(alloc),
             Call::ReachOfRow => reach_of_row(alloc),
             Call::Palette => ended(palette(alloc)),

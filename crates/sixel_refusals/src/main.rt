@@ -4,6 +4,7 @@
 #![tactic(auto)]
 
 mod calls;
+mod receiver;
 mod sessions;
 mod steps;
 mod told;

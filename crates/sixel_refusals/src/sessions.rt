@@ -8,21 +8,21 @@ use std::alloc::Global;
 
 // A payload of 301 columns and 12 rows in pieces that each make the canvas grow. It makes register
 // 42 red.
-const PIECES: [&[u8]; 3] = [b"#42;2;100;0;0~", b"!300~", b"-!5~$~"];
+pub const PIECES: [&[u8]; 3] = [b"#42;2;100;0;0~", b"!300~", b"-!5~$~"];
 
 // The same in a control string.
-const STRING_PIECES: [&[u8]; 4] = [b"\x1bPq#42;2;100;0;0~", b"!300~", b"-!5~$~", b"\x1b\\"];
+pub const STRING_PIECES: [&[u8]; 4] = [b"\x1bPq#42;2;100;0;0~", b"!300~", b"-!5~$~", b"\x1b\\"];
 
 // Pieces that a session which was refused is fed: none of them may change its answer.
-const LATER_PIECES: [&[u8]; 5] = [b"", b"~", b"\x1bPq", b"#1;2;0;0;0!9~", b"\x1b\\"];
+pub const LATER_PIECES: [&[u8]; 5] = [b"", b"~", b"\x1bPq", b"#1;2;0;0;0!9~", b"\x1b\\"];
 
 // What a session answers from its first refused feed on.
-const FAILED: SixelError = SixelError::InvalidData("stream decoder has failed");
+pub const FAILED: SixelError = SixelError::InvalidData("stream decoder has failed");
 
-const DCS_FAILED: SixelError = SixelError::InvalidData("DCS stream decoder has failed");
+pub const DCS_FAILED: SixelError = SixelError::InvalidData("DCS stream decoder has failed");
 
 // The answer of what is wrong here, which none of these calls has.
-const WRONG: SixelError = SixelError::NoSixelData;
+pub const WRONG: SixelError = SixelError::NoSixelData;
 
 /// Feeds the payload in pieces, and finishes. Where a feed is refused, all after it must be, and
 /// nothing may be counted.

@@ -1,0 +1,71 @@
+//! Receivers whose feeds may be refused for want of memory, and what they owe then.
+
+use crate::sessions::{DCS_FAILED, FAILED, LATER_PIECES, PIECES, STRING_PIECES, WRONG};
+use icy_sixel::receiver::SixelReceiver;
+use icy_sixel::{DcsSettings, Result, SixelDecoder, SixelError, SixelImage};
+use std::alloc::Global;
+
+/// What a receiver is fed.
+#[derive(Clone, Copy, Debug)]
+pub enum Form {
+    Payload,
+    ControlString,
+}
+
+impl Form {
+    fn pieces(self) -> &'static [&'static [u8]] {
+        match self {
+            Form::Payload => &PIECES,
+            Form::ControlString => &STRING_PIECES,
+        }
+    }
+
+    /// What a receiver answers from its first refused feed on.
+    fn failed(self) -> SixelError {
+        match self {
+            Form::Payload => FAILED,
+            Form::ControlString => DCS_FAILED,
+        }
+    }
+}
+
+/// Receives an image in pieces by a receiver with this decoder, and takes its decoder over.
+pub fn receive(alloc: Global, decoder: &mut SixelDecoder, form: Form) -> Result<SixelImage> {
+    let mut receiver = SixelReceiver::with_decoder(decoder.clone()?);
+    match form {
+        Form::Payload => receiver.begin_frame(alloc, DcsSettings::default()),
+        Form::ControlString => receiver.begin_dcs(alloc),
+    }
+    let image = finish_pieces(&mut receiver, form);
+    let is_closed = !receiver.is_receiving();
+    *decoder = receiver.into_decoder();
+    if is_closed { image } else { Err(WRONG) }
+}
+
+/// Feeds the pieces, and finishes. Where a feed is refused, all after it must be.
+fn finish_pieces(receiver: &mut SixelReceiver, form: Form) -> Result<SixelImage> {
+    for piece in form.pieces() {
+        if let Err(error) = receiver.feed(piece) {
+            return Err(if has_failed(receiver, form) {
+                error
+            } else {
+                WRONG
+            });
+        }
+    }
+    receiver.finish()
+}
+
+/// Whether a receiver that was refused memory answers so whatever it is fed, counts nothing, and is
+/// closed by a finish that is refused.
+fn has_failed(receiver: &mut SixelReceiver, form: Form) -> bool {
+    for piece in LATER_PIECES {
+        if receiver.feed(piece).err() != Some(form.failed())
+            || receiver.canvas_writes() != 0
+            || receiver.in_payload()
+        {
+            return false;
+        }
+    }
+    receiver.finish().err() == Some(form.failed())
+}
