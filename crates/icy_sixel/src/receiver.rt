@@ -47,6 +47,13 @@ enum Open {
 /// [`SixelDcsStreamDecoder`]. These borrow a decoder; a receiver can be kept in a struct from piece
 /// to piece. An image changes the registers by a successful [`finish`](Self::finish) alone.
 ///
+/// ```rust
+/// let mut receiver = SixelReceiver::new();
+/// receiver.set_register(0, background);
+/// receiver.set_pixel_limit(screen_pixels);
+/// receiver.set_raster_crop(true);
+/// ```
+///
 /// [`SixelStreamDecoder`]: crate::SixelStreamDecoder
 /// [`SixelDcsStreamDecoder`]: crate::SixelDcsStreamDecoder
 #[derive(Drop)]

@@ -35,6 +35,11 @@ pub struct PaletteChoice {
 
 /// Chooses the palette of an image of four bytes a pixel: red, green, blue, alpha.
 ///
+/// ```rust
+/// let choice = choose_palette(alloc, pixels, 16)?;
+/// let is_certified = witnesses_hold(&choice.witnesses, choice.error);
+/// ```
+///
 /// Only pixels whose alpha is at least 128 are shown and count; the others get index 0. The
 /// palette has room for `max_colors` entries, at least 2 and at most 256, and holds all shown
 /// colors if there is room for them. Otherwise it is chosen farthest first: the least shown color,
