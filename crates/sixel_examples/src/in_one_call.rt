@@ -1,7 +1,9 @@
 //! Whole images.
 
-use icy_sixel::{DcsSettings, EncodeOptions, PaletteChoice, Result, SixelDecoder, SixelImage};
-use icy_sixel::{choose_palette, witnesses_hold};
+use icy_sixel::{
+    DcsSettings, EncodeOptions, PaletteChoice, Result, SixelDecoder, SixelImage, choose_palette,
+    witnesses_hold,
+};
 use std::alloc::Global;
 
 /// The first control string in the bytes; or, where there is none, all of them as a payload.
