@@ -9,6 +9,9 @@ ghost use Rattle.sixel_base.specs.Picture.{is_set};
 ghost use Rattle.sixel_decoder.specs.inside.Runs.{IsSixelByte, four_of, end_of, columns_for};
 ghost use Rattle.sixel_base.specs.inside.Parameters.{IsDigit};
 
+/// How many sixels of a run are drawn at once, at most.
+const LONGEST_RUN: usize = 64;
+
 /// Whether the byte is a control that is as if it were not there: C0 or DEL, but no terminator.
 pub fn is_ignored(byte: u8) -> bool
     ensures { result ≡ ignored byte }
@@ -39,7 +42,8 @@ pub fn is_sixel(byte: u8) -> bool
     matches!(byte, 0x3f..=0x7e)
 }
 
-/// How many sixels the bytes begin with.
+/// How many sixels the bytes begin with, as far as they are looked at: a run that can't be drawn at
+/// once is looked at again with its next sixel, and must not be long then.
 #[inline(always)]
 pub fn run_len(bytes: &[u8]) -> usize
     ensures within { result ≤ length bytes.now }
@@ -47,6 +51,9 @@ pub fn run_len(bytes: &[u8]) -> usize
 {
     let mut len = 0;
     'sixels: while len < bytes.len() {
+        if len == LONGEST_RUN {
+            return len;
+        }
         if !is_sixel(bytes[len]) {
             return len;
         }
