@@ -162,6 +162,8 @@ impl SixelDecoder {
             (found_fault self.old.pixel_limit (found bytes.now))) }
         ensures area { IfOk result (λ image.
             image.width * image.height ≤ self.old.pixel_limit) }
+        ensures pixels { IfOk result (λ image.
+            length image.pixels.items ≡ 4 * (image.width * image.height)) }
         ensures set { IsSetAs self.old self.new }
         ensures kept { OnErr result (self.new ≡ self.old) }
     {
@@ -257,6 +259,8 @@ impl SixelDecoder {
             (payload_fault self.old.pixel_limit bytes.now)) }
         ensures area { IfOk result (λ image.
             image.width * image.height ≤ self.old.pixel_limit) }
+        ensures pixels { IfOk result (λ image.
+            length image.pixels.items ≡ 4 * (image.width * image.height)) }
         ensures set { IsSetAs self.old self.new }
         ensures kept { OnErr result (self.new ≡ self.old) }
     {
@@ -270,6 +274,8 @@ impl SixelDecoder {
 pub fn sixel_decode(alloc: Global, bytes: &[u8]) -> Result<SixelImage>
     ensures image { IfOk result
         (λ image. IsFoundImage new_decoder (found bytes.now) (image_value image)) }
+    ensures pixels { IfOk result (λ image.
+        length image.pixels.items ≡ 4 * (image.width * image.height)) }
     ensures faultless { OnOk result (found_fault new_decoder.pixel_limit (found bytes.now) ≡ None) }
     ensures refused { IfErr result (λ error. Faults error
         (found_wants new_decoder.pixel_limit (found bytes.now))
@@ -286,6 +292,8 @@ pub fn sixel_decode_from_dcs(
 ) -> Result<SixelImage>
     ensures image { IfOk result (λ image. image_value image ≡ payload_image
         (origin_of new_decoder settings) bytes.now) }
+    ensures pixels { IfOk result (λ image.
+        length image.pixels.items ≡ 4 * (image.width * image.height)) }
     ensures faultless { OnOk result (payload_fault new_decoder.pixel_limit bytes.now ≡ None) }
     ensures refused { IfErr result (λ error. Faults error
         (payload_wants new_decoder.pixel_limit bytes.now)

@@ -230,6 +230,8 @@ impl SixelReceiver {
             (image_value image) self.new.decoder.registers) }
         ensures area { IfOk result (λ image.
             image.width * image.height ≤ self.old.image.start.pixel_limit) }
+        ensures pixels { IfOk result (λ image.
+            length image.pixels.items ≡ 4 * (image.width * image.height)) }
         ensures set { IsSetAs self.old.decoder self.new.decoder }
         ensures faultless { OnOk result
             (found_fault self.old.image.start.pixel_limit

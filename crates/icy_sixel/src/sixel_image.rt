@@ -58,6 +58,8 @@ impl SixelImage {
     pub fn decode(alloc: Global, bytes: &[u8]) -> Result<Self>
         ensures image { IfOk result
             (λ image. IsFoundImage new_decoder (found bytes.now) (image_value image)) }
+        ensures pixels { IfOk result (λ image.
+            length image.pixels.items ≡ 4 * (image.width * image.height)) }
         ensures faultless { OnOk result
             (found_fault new_decoder.pixel_limit (found bytes.now) ≡ None) }
         ensures refused { IfErr result (λ error. Faults error
@@ -71,6 +73,8 @@ impl SixelImage {
     pub fn decode_from_dcs(alloc: Global, bytes: &[u8], settings: DcsSettings) -> Result<Self>
         ensures image { IfOk result (λ image. image_value image ≡ payload_image
             (origin_of new_decoder settings) bytes.now) }
+        ensures pixels { IfOk result (λ image.
+            length image.pixels.items ≡ 4 * (image.width * image.height)) }
         ensures faultless { OnOk result (payload_fault new_decoder.pixel_limit bytes.now ≡ None) }
         ensures refused { IfErr result (λ error. Faults error
             (payload_wants new_decoder.pixel_limit bytes.now)
@@ -83,6 +87,8 @@ impl SixelImage {
     pub fn from_str(alloc: Global, text: &str) -> Result<Self>
         ensures image { IfOk result
             (λ image. IsFoundImage new_decoder (found text.now) (image_value image)) }
+        ensures pixels { IfOk result (λ image.
+            length image.pixels.items ≡ 4 * (image.width * image.height)) }
         ensures faultless { OnOk result
             (found_fault new_decoder.pixel_limit (found text.now) ≡ None) }
         ensures refused { IfErr result (λ error. Faults error
@@ -94,7 +100,8 @@ impl SixelImage {
 
     /// The image of a payload that was decoded.
     pub(crate) fn from_picture(picture: Picture) -> Self
-        ensures { image_value result ≡ picture_value picture }
+        ensures image { image_value result ≡ picture_value picture }
+        ensures pixels { length result.pixels.items ≡ 4 * (result.width * result.height) }
     {
         Self {
             pixels: picture.pixels,

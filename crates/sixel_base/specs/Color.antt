@@ -1,6 +1,6 @@
 -- Colors as three bytes, and how a color introducer defines one: percentages of red, green and blue, or hue, lightness and
 -- saturation as DEC's terminals place them (blue at 0 degrees), here as exact fractions, rounded half up. And the table of 256
--- registers that a terminal starts with: DEC's sixteen, then a color cube and greys as in the table of xterm.
+-- registers that a terminal starts with: DEC's sixteen, then a color cube in steps of 20 percent, and greys from black to white.
 use Rattle.std.specs.Prelude.{ℕ, ◌+◌, ◌-◌, ◌*◌, ◌/◌, ◌%◌, min, nat_lt, ◌==◌, if◌then◌else◌, List, [], ◌∷◌, map, slice_index_or}
 use Rattle.std.specs.List.{range_with_len}
 

@@ -1,7 +1,7 @@
 //! The numeric parameters of one command, read a byte at a time; their text is not kept.
 
 ghost use Rattle.std.specs.Prelude.{◌≡◌, ℕ, ◌+◌, ◌*◌, ◌<◌, ◌≤◌, min};
-ghost use Rattle.std.specs.Prelude.{List, [], ◌∷◌, ◌++◌, slice_index};
+ghost use Rattle.std.specs.Prelude.{List, [], ◌∷◌, ◌++◌, length, slice_index, take};
 ghost use Rattle.sixel_base.specs.inside.Parameters.{IsDigit, IsParameterByte, Keeps};
 
 use std::marker::Model;
@@ -14,6 +14,9 @@ pub const SEPARATOR: u8 = b';';
 
 // The greatest value of a field, which stands for any greater one.
 const MAX_VALUE: u64 = 2_147_483_647;
+
+// A value to which any digit can be added, and that no command needs more of.
+const ENOUGH: u32 = 100_000_000;
 
 /// The fields of a text of digits and semicolons, of which the first five are kept.
 ///
@@ -36,6 +39,37 @@ impl Model for Parameters {
     ghost inverse = { λ p. record { values = p.values; count = p.count } };
 
     ghost invariant = { λ p. p.count ≤ 6 };
+}
+
+/// The digits that bytes begin with: the parameters that they alone are, and how many they are.
+#[derive(Debug, Clone, Copy)]
+pub struct Digits {
+    pub parameters: Parameters,
+    pub len: usize,
+}
+
+impl Digits {
+    /// The digits that the bytes begin with, without those after the ninth that counts.
+    #[inline(always)]
+    pub fn at_front(bytes: &[u8]) -> Self
+        ensures within { result.len ≤ length bytes.now }
+        ensures digits { (k : ℕ) → k < result.len → IsDigit (slice_index bytes.now k) }
+        ensures kept { Keeps result.parameters (take result.len bytes.now) }
+    {
+        let mut value: u32 = 0;
+        let mut len = 0;
+        'digits: while len < bytes.len() && value < ENOUGH && bytes[len].is_ascii_digit() {
+            value = 10 * value + u32::from(bytes[len] - b'0');
+            len += 1;
+        }
+        Self {
+            parameters: Parameters {
+                values: [value, 0, 0, 0, 0],
+                count: len.min(1),
+            },
+            len,
+        }
+    }
 }
 
 impl Parameters {

@@ -1,8 +1,12 @@
 pub mod Mixing
+pub mod OneRow
 pub mod Pixels
 pub mod RowStates
 pub mod Spans
 pub mod Strokes
+pub mod Tagging
+pub mod Tags
 pub mod Totals
 pub mod Underway
+pub mod Dots
 pub mod Widening

@@ -3,6 +3,7 @@ use Rattle.std.proofs.Common.{◌≡◌, ℕ, zero, suc, ◌+◌, ◌-◌, ◌/�
 use Rattle.std.specs.Prelude.{◌==◌, nat_lt, nat_le, if◌then◌else◌}
 use Rattle.std.specs.Int.{to_le_bytes, w32}
 use borrow.Rule.Slice.PartMut.{put_mid}
+use Rattle.std.proofs.Math.ListN.{set}
 use Rattle.std.proofs.lemmas.Bool.{cases_lt, lt-ltb, le-ltb, lt-leb, le-leb}
 use Rattle.std.proofs.lemmas.List.{get_or-append_right, get_or_append_left}
 use Rattle.sixel_base.specs.Picture.{covers, is_set, is_struck}
@@ -50,6 +51,11 @@ each_of_four P a b c d (suc (suc zero)) h = c
 each_of_four P a b c d (suc (suc (suc zero))) h = d
 each_of_four P a b c d (suc (suc (suc (suc k)))) h = absurd (omega arith)
 
+-- four values, written one by one
+pub set_four : (xs : List (List ℕ)) (a b c d : List ℕ) → length xs ≡ 4 → set (set (set (set xs 0 a) 1 b) 2 c) 3 d ≡ a ∷ b ∷ c ∷ d ∷ []
+set_four (w ∷ x ∷ y ∷ z ∷ []) a b c d four = refl
+set_four _ a b c d four = absurd (omega arith)
+
 -- one value four times
 pub get_or-four : (x d k : ℕ) → k < 4 → get_or (x ∷ x ∷ x ∷ x ∷ []) k d ≡ x
 get_or-four x d k h = each_of_four (λ k. get_or (x ∷ x ∷ x ∷ x ∷ []) k d ≡ x) refl refl refl refl k h
@@ -78,17 +84,23 @@ put_mid-mixed bit color sixels pixels part from n long le is =
     ∙ ap (λ ps. take from pixels ++ ps) (mixed-take bit color sixels rest n long (omega (arith, length-drop from pixels)))
 
 -- a test that fails last
-fails_last : (a b : Bool) → (a && b && false) ≡ false
+pub fails_last : (a b : Bool) → (a && b && false) ≡ false
 fails_last true true = refl
 fails_last true false = refl
 fails_last false true = refl
 fails_last false false = refl
 
 -- no sixel stands left of the first
-drawn_left : (from : ℕ) (sixels : List ℕ) (top : ℕ) (color : List ℕ) (column row : ℕ) (pixel : List ℕ) → column < from → drawn_over from sixels top color column row pixel ≡ pixel
+pub drawn_left : (from : ℕ) (sixels : List ℕ) (top : ℕ) (color : List ℕ) (column row : ℕ) (pixel : List ℕ) → column < from → drawn_over from sixels top color column row pixel ≡ pixel
 drawn_left from [] top color column row pixel left = refl
 drawn_left from (sixel ∷ sixels) top color column row pixel left =
     rw (lt-leb from column left) (drawn_left (from + 1) sixels top color column row pixel (omega arith))
+
+-- nor right of the last
+pub drawn_right : (from : ℕ) (sixels : List ℕ) (top : ℕ) (color : List ℕ) (column row : ℕ) (pixel : List ℕ) → from + length sixels ≤ column → drawn_over from sixels top color column row pixel ≡ pixel
+drawn_right from [] top color column row pixel right = refl
+drawn_right from (sixel ∷ sixels) top color column row pixel right =
+    rw (le-leb from column (omega arith), le-ltb column (from + 1) (omega arith)) (drawn_right (from + 1) sixels top color column row pixel (omega arith))
 
 -- no sixel sets a pixel of the row
 pub drawn_apart : (from : ℕ) (sixels : List ℕ) (top : ℕ) (color : List ℕ) (column row : ℕ) (pixel : List ℕ) → ((bits : ℕ) → is_struck top bits row ≡ false) → drawn_over from sixels top color column row pixel ≡ pixel
@@ -99,7 +111,7 @@ drawn_apart from (sixel ∷ sixels) top color column row pixel apart =
     rw here (drawn_apart (from + 1) sixels top color column row pixel apart)
 
 -- the pixel of this row under the sixel that stands over it
-covers_here : (from top bit sixel column row : ℕ) → column ≡ from → row ≡ top + bit → bit < 6 → covers from (from + 1) top sixel column row ≡ is_set sixel bit
+pub covers_here : (from top bit sixel column row : ℕ) → column ≡ from → row ≡ top + bit → bit < 6 → covers from (from + 1) top sixel column row ≡ is_set sixel bit
 covers_here from top bit sixel column row same down six =
     rw (le-leb from column (omega arith), lt-ltb column (from + 1) (omega arith), le-leb top row (omega arith), lt-ltb row (top + 6) (omega arith)) (ap (is_set sixel) (omega arith))
 

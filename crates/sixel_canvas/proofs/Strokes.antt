@@ -84,11 +84,11 @@ reached-struck from to color true old new order is = ap (λ (r : RowState). leng
 reached-struck from to color false old new order is = ap (λ (r : RowState). length r.pixels) is
 
 -- some of the rows above n are struck, each in a way of its own
-abbrev pub IsStruckAbove : (ℕ → RowState → RowState) → (ℕ → Bool) → ℕ → (ℕ → RowState) → (ℕ → RowState) → Type 0
+abbrev pub IsStruckAbove : {X : Type 0} → (ℕ → X → X) → (ℕ → Bool) → ℕ → (ℕ → X) → (ℕ → X) → Type 0
 IsStruckAbove stroke struck n before after = (row : ℕ) → after row ≡ (if nat_lt row n && struck row then stroke row (before row) else before row)
 
 -- where none was struck so far
-pub struck_none : (stroke : ℕ → RowState → RowState) (struck : ℕ → Bool) (n : ℕ) (before after : ℕ → RowState) → ((row : ℕ) → row < n → struck row ≡ false) → ((row : ℕ) → after row ≡ before row) → IsStruckAbove stroke struck n before after
+pub struck_none : {X : Type 0} (stroke : ℕ → X → X) (struck : ℕ → Bool) (n : ℕ) (before after : ℕ → X) → ((row : ℕ) → row < n → struck row ≡ false) → ((row : ℕ) → after row ≡ before row) → IsStruckAbove stroke struck n before after
 struck_none stroke struck n before after none same row =
     elim (cases_lt row n) [
       | inl below ↦ rw (lt-ltb row n below, none row below) (same row)
@@ -96,7 +96,7 @@ struck_none stroke struck n before after none same row =
     ]
 
 -- the next row is struck
-pub struck_more : (stroke : ℕ → RowState → RowState) (struck : ℕ → Bool) (n : ℕ) (before after next : ℕ → RowState) → IsStruckAbove stroke struck n before after → struck n ≡ true → next n ≡ stroke n (after n) → ((row : ℕ) → row ≢ n → next row ≡ after row) → IsStruckAbove stroke struck (n + 1) before next
+pub struck_more : {X : Type 0} (stroke : ℕ → X → X) (struck : ℕ → Bool) (n : ℕ) (before after next : ℕ → X) → IsStruckAbove stroke struck n before after → struck n ≡ true → next n ≡ stroke n (after n) → ((row : ℕ) → row ≢ n → next row ≡ after row) → IsStruckAbove stroke struck (n + 1) before next
 struck_more stroke struck n before after next above hit at others row =
     elim (cases_order row n) [
       | inl same ↦
@@ -109,7 +109,7 @@ struck_more stroke struck n before after next above hit at others row =
     ]
 
 -- the next row is left alone
-pub struck_skip : (stroke : ℕ → RowState → RowState) (struck : ℕ → Bool) (n : ℕ) (before after : ℕ → RowState) → IsStruckAbove stroke struck n before after → struck n ≡ false → IsStruckAbove stroke struck (n + 1) before after
+pub struck_skip : {X : Type 0} (stroke : ℕ → X → X) (struck : ℕ → Bool) (n : ℕ) (before after : ℕ → X) → IsStruckAbove stroke struck n before after → struck n ≡ false → IsStruckAbove stroke struck (n + 1) before after
 struck_skip stroke struck n before after above miss row =
     elim (cases_order row n) [
       | inl same ↦ rw (lt-ltb row (n + 1) (omega arith), ap struck same ∙ miss) (rw (le-ltb row n (omega arith)) at (above row))
@@ -120,7 +120,7 @@ struck_skip stroke struck n before after above miss row =
     ]
 
 -- where none is left to be struck
-pub struck_all : (stroke : ℕ → RowState → RowState) (struck : ℕ → Bool) (n : ℕ) (before after : ℕ → RowState) → IsStruckAbove stroke struck n before after → ((row : ℕ) → n ≤ row → struck row ≡ false) → (row : ℕ) → after row ≡ (if struck row then stroke row (before row) else before row)
+pub struck_all : {X : Type 0} (stroke : ℕ → X → X) (struck : ℕ → Bool) (n : ℕ) (before after : ℕ → X) → IsStruckAbove stroke struck n before after → ((row : ℕ) → n ≤ row → struck row ≡ false) → (row : ℕ) → after row ≡ (if struck row then stroke row (before row) else before row)
 struck_all stroke struck n before after above rest row =
     elim (cases_lt row n) [
       | inl below ↦ rw (lt-ltb row n below) at (above row)

@@ -61,17 +61,6 @@ IsPaid-rows background (row ∷ rows) sound =
       room_at_most = omega (arith, first.thrifty.room_at_most);
     }
 
--- a canvas of such rows
-pub IsBounded-rows : (background : List ℕ) (rows : List RowState) → length rows ≤ 1000000 → All (IsRowOf background) rows → IsBounded (record { background = background; rows = rows })
-IsBounded-rows background rows few sound =
-    let paid = IsPaid-rows background rows sound in
-    record {
-      few = few;
-      at_least = λ n enough. omega (arith, total-held rows background n enough);
-      at_most = λ n enough. omega (arith, total-held rows background n enough);
-      room_at_most = λ n enough. omega (arith, total-held rows background n enough);
-    }
-
 -- a row that was not reached
 pub IsRowOf-empty_row : (background : List ℕ) → IsRowOf background (empty_row background)
 IsRowOf-empty_row background = record {
@@ -93,6 +82,18 @@ IsRowOf-get_or background rows row sound =
       | inl made ↦ All-get_or (IsRowOf background) rows row (empty_row background) made sound
       | inr past ↦ rw (get_or_past rows row (empty_row background) past) (IsRowOf-empty_row background)
     ]
+
+-- a canvas of such rows
+pub IsBounded-rows : (background : List ℕ) (rows : List RowState) → length rows ≤ 1000000 → All (IsRowOf background) rows → IsBounded (record { background = background; rows = rows; tagged = 0 })
+IsBounded-rows background rows few sound =
+    let paid = IsPaid-rows background rows sound in
+    record {
+      few = few;
+      side = λ row. let is = (IsRowOf-get_or background rows row sound).thrifty in omega (arith, is.held, is.side);
+      at_least = λ n enough. omega (arith, total-held rows background n enough);
+      at_most = λ n enough. omega (arith, total-held rows background n enough);
+      room_at_most = λ n enough. omega (arith, total-held rows background n enough);
+    }
 
 -- all the writes fit a number
 pub writes_le : (background : List ℕ) (rows : List RowState) → length rows ≤ 1000000 → All (IsRowOf background) rows → sum_by (λ row. row.writes) rows ≤ 3000000000000

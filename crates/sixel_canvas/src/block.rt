@@ -1,6 +1,6 @@
 //! Sixels of one column each, four at once: which pixels they color is a mask, and no branch.
 
-ghost use Rattle.std.specs.Prelude.{◌≡◌, ℕ, ◌/◌, ◌%◌, ◌^◌, ◌+◌, ◌≤◌, ◌<◌, ◌==◌, ◌++◌, length, slice_index};
+ghost use Rattle.std.specs.Prelude.{◌≡◌, ℕ, ◌/◌, ◌%◌, ◌^◌, ◌+◌, ◌≤◌, ◌<◌, ◌==◌, ◌++◌, ◌∷◌, [], length, slice_index};
 ghost use Rattle.std.specs.Prelude.{if◌then◌else◌, take, drop};
 ghost use Rattle.std.specs.Int.{to_le_bytes, w32};
 ghost use Rattle.sixel_canvas.specs.inside.Block.{mixed};
@@ -18,6 +18,43 @@ pub fn mix_from(pixels: &mut [[u8; 4]], from: usize, sixels: [u8; 4], bit: usize
     mix_pixels(&mut pixels[from..from + 4], sixels, bit, color);
 }
 
+/// Gives one color to those of the pixels from `from` on whose sixel has the bit, as far as there are
+/// pixels.
+#[inline(always)]
+pub fn dot_from(pixels: &mut [[u8; 4]], from: usize, sixels: [u8; 4], bit: usize, color: [u8; 4])
+    requires within { from ≤ 1000000 }
+    requires six { bit < 6 }
+    ensures { pixels.new ≡ take from pixels.old
+        ++ mixed bit color sixels (drop from pixels.old) }
+{
+    if from >= pixels.len() {
+        return;
+    }
+    if from + 4 <= pixels.len() {
+        mix_from(pixels, from, sixels, bit, color);
+        return;
+    }
+    dot(pixels, from, sixels[0], bit, color);
+    dot(pixels, from + 1, sixels[1], bit, color);
+    dot(pixels, from + 2, sixels[2], bit, color);
+    dot(pixels, from + 3, sixels[3], bit, color);
+}
+
+/// Gives the color to a pixel, where there is one and the sixel has the bit.
+#[inline(always)]
+fn dot(pixels: &mut [[u8; 4]], at: usize, sixel: u8, bit: usize, color: [u8; 4])
+    requires { bit < 6 }
+    ensures { pixels.new ≡ take at pixels.old
+        ++ mixed bit color (sixel ∷ []) (drop at pixels.old) }
+{
+    if at >= pixels.len() {
+        return;
+    }
+    if (sixel >> bit) % 2 == 1 {
+        pixels[at] = color;
+    }
+}
+
 /// Gives one color to those of four pixels whose sixel has the bit.
 #[inline(always)]
 fn mix_pixels(pixels: &mut [[u8; 4]], sixels: [u8; 4], bit: usize, color: [u8; 4])
@@ -32,12 +69,10 @@ fn mix_pixels(pixels: &mut [[u8; 4]], sixels: [u8; 4], bit: usize, color: [u8; 4
         number(pixels[3]),
     ];
     let new = chosen(sixels, bit, number(color), old);
-    pixels.copy_from_slice(&[
-        new[0].to_le_bytes(),
-        new[1].to_le_bytes(),
-        new[2].to_le_bytes(),
-        new[3].to_le_bytes(),
-    ]);
+    pixels[0] = new[0].to_le_bytes();
+    pixels[1] = new[1].to_le_bytes();
+    pixels[2] = new[2].to_le_bytes();
+    pixels[3] = new[3].to_le_bytes();
 }
 
 /// The pixel as one number.

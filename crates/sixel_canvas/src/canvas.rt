@@ -1,14 +1,15 @@
 //! The canvas that a decoder draws on: rows that are filled only as far as a stroke reaches.
 ghost use Rattle.std.specs.Prelude.{◌≡◌, ℕ, ◌+◌, ◌-◌, ◌*◌, ◌^◌, ◌<◌, ◌≤◌, ◌&&◌, ◌++◌, [], max};
 ghost use Rattle.std.specs.Prelude.{length, vec_len, slice_index, slice_index_or, slice_set, if◌then◌else◌};
-ghost use Rattle.std.specs.Prelude.{nat_le, nat_lt};
+ghost use Rattle.std.specs.Prelude.{◌==◌, nat_le, nat_lt, true};
 ghost use Rattle.std.specs.Prelude.{All, IfOk, IfErr, OnErr, OnOk};
 ghost use Rattle.sixel_base.specs.declared.error.SixelError.TheVariants.{OutOfMemory};
-ghost use Rattle.sixel_base.specs.Picture.{covers, is_struck, joined, picture};
+ghost use Rattle.sixel_base.specs.Picture.{covers, is_set, is_struck, joined};
 ghost use Rattle.sixel_canvas.specs.Row.{RowState, IsThrifty, empty_row, reached_to, painted};
 ghost use Rattle.sixel_canvas.specs.inside.Block.{drawn_over, mixed_from};
 ghost use Rattle.sixel_canvas.specs.inside.Canvas.{shown, reached, canvas_writes};
 ghost use Rattle.sixel_canvas.specs.inside.Canvas.{IsBounded, IsRowOf};
+ghost use Rattle.sixel_canvas.specs.inside.Tags.{lies_in};
 
 use crate::row::{Row, add_pixels};
 use sixel_base::Result;
@@ -29,7 +30,11 @@ impl Model for Canvas {
 
     ghost Value = { CanvasState };
 
-    ghost view = { λ canvas. record { background = canvas.background; rows = canvas.rows.items } };
+    ghost view = { λ canvas. record {
+      background = canvas.background;
+      rows = canvas.rows.items;
+      tagged = 0;
+    } };
 
     ghost invariant = { λ canvas.
         (length canvas.rows.items ≤ 1000000) × All (IsRowOf canvas.background) canvas.rows.items };
@@ -38,7 +43,7 @@ impl Model for Canvas {
 impl Canvas {
     /// A canvas that shows the background everywhere. It takes no memory.
     pub fn new(alloc: Global, background: [u8; 4]) -> Canvas
-        ensures empty { result ≡ record { background = background; rows = [] } }
+        ensures empty { result ≡ record { background = background; rows = []; tagged = 0 } }
         ensures bounded { IsBounded result }
     {
         Canvas {
@@ -52,6 +57,7 @@ impl Canvas {
     ///
     /// Only those rows are touched, and grown where they end before `to`. Columns and rows end
     /// at a million. Where memory is refused, a part of the sixel may be drawn.
+    #[inline(always)]
     pub fn draw(
         &mut self,
         from: usize,
@@ -68,6 +74,7 @@ impl Canvas {
             ≡ (if covers from to top bits column row then color else shown self.old column row)) }
         ensures grown { OnOk result ((row : ℕ) → reached self.new row ≡ (if is_struck top bits row
             then max (reached self.old row) to else reached self.old row)) }
+        ensures never_less { (row : ℕ) → reached self.old row ≤ reached self.new row }
         ensures background { self.new.background ≡ self.old.background }
         ensures error { IfErr result (λ e. e ≡ OutOfMemory) }
         ensures bounded { IsBounded self.new }
@@ -108,9 +115,29 @@ impl Canvas {
             ≡ drawn_over from sixels top color column row (shown self.old column row) }
         ensures reached { (row : ℕ) → reached self.new row ≡ reached self.old row }
         ensures background { self.new.background ≡ self.old.background }
+        ensures bounded { IsBounded self.new }
     {
         'mixed: for bit in 0..6 {
             mix(&mut self.rows, top, bit, from, sixels, color);
+        }
+    }
+
+    /// Draws four sixels of one column each, from `from` on, where each of the six rows from `top`
+    /// on holds the columns of its own dots. It takes no memory.
+    #[inline(never)]
+    pub fn dots(&mut self, from: usize, top: usize, sixels: [u8; 4], color: [u8; 4])
+        requires within { from ≤ 1000000 }
+        requires above_bottom { top + 6 ≤ 1000000 }
+        requires held { (k j : ℕ) → k < 6 → j < 4 → is_set (slice_index sixels j) k ≡ true
+            → from + j < reached self.old (top + k) }
+        ensures drawn { (column row : ℕ) → shown self.new column row
+            ≡ drawn_over from sixels top color column row (shown self.old column row) }
+        ensures reached { (row : ℕ) → reached self.new row ≡ reached self.old row }
+        ensures background { self.new.background ≡ self.old.background }
+        ensures bounded { IsBounded self.new }
+    {
+        'dotted: for bit in 0..6 {
+            dot(&mut self.rows, top, bit, from, sixels, color);
         }
     }
 
@@ -127,7 +154,9 @@ impl Canvas {
             then max (reached self.old row) (slice_index columns (row - top))
             else reached self.old row)) }
         ensures background { self.new.background ≡ self.old.background }
+        ensures never_less { (row : ℕ) → reached self.old row ≤ reached self.new row }
         ensures error { IfErr result (λ e. e ≡ OutOfMemory) }
+        ensures bounded { IsBounded self.new }
     {
         let background = self.background;
         make_rows(&mut self.rows, top + 6, background)?;
@@ -135,20 +164,6 @@ impl Canvas {
             reach(&mut self.rows, top + bit, columns[bit])?;
         }
         Ok(())
-    }
-
-    /// The bytes of the picture of this size: red, green, blue and alpha a pixel, row by row from
-    /// the top. Places that no stroke has reached are background.
-    pub fn pack(&self, width: usize, height: usize) -> Result<Vec<u8>>
-        requires { width * height ≤ 67108864 }
-        ensures ok { IfOk result (λ bytes. bytes.items ≡ picture (shown self.now) width height) }
-        ensures error { IfErr result (λ e. e ≡ OutOfMemory) }
-    {
-        let mut bytes = Vec::with_capacity(*self.rows.allocator(), 4 * (width * height))?;
-        'packed: for row in 0..height {
-            self.pack_row(&mut bytes, row, width)?;
-        }
-        Ok(bytes)
     }
 
     /// How many pixels were copied or filled so far, to grow the rows. Painting doesn't count, nor
@@ -165,8 +180,8 @@ impl Canvas {
         writes
     }
 
-    // Appends a row of the picture of this width.
-    fn pack_row(&self, bytes: &mut Vec<u8>, row: usize, width: usize) -> Result<()>
+    /// Appends a row of the picture of this width.
+    pub(crate) fn pack_row(&self, bytes: &mut Vec<u8>, row: usize, width: usize) -> Result<()>
         requires { vec_len bytes.old + 4 * width < 2 ^ 63 }
         ensures ok { OnOk result (bytes.new.items ≡ bytes.old.items
             ++ joined (λ column. shown self.now column row) width) }
@@ -176,6 +191,73 @@ impl Canvas {
         match self.rows.get(row) {
             Some(held) => held.pack(bytes, width),
             None => add_pixels(bytes, width, self.background),
+        }
+    }
+
+    /// What the rows take their memory from.
+    pub(crate) fn allocator(&self) -> Global {
+        *self.rows.allocator()
+    }
+
+    /// How many rows were made.
+    pub(crate) fn height(&self) -> usize
+        ensures { result ≡ length self.now.rows }
+    {
+        self.rows.len()
+    }
+
+    /// How many columns of the row were reached.
+    pub(crate) fn width(&self, row: usize) -> usize
+        ensures value { result ≡ reached self.now row }
+        ensures side { result ≤ 1000000 }
+    {
+        match self.rows.get(row) {
+            Some(held) => held.len(),
+            None => 0,
+        }
+    }
+
+    /// The pixel at this place, whether it was reached or not.
+    pub(crate) fn pixel(&self, column: usize, row: usize) -> [u8; 4]
+        ensures { result ≡ shown self.now column row }
+    {
+        match self.rows.get(row) {
+            Some(held) => held.pixel(column),
+            None => self.background,
+        }
+    }
+
+    /// Makes the row hold so many columns, where it holds fewer: those that are added are
+    /// background. Where memory is refused, the canvas shows what it showed.
+    pub(crate) fn reach_row(&mut self, row: usize, columns: usize) -> Result<()>
+        requires within { columns ≤ 1000000 }
+        requires above_bottom { row < 1000000 }
+        ensures shown { (column k : ℕ) → shown self.new column k ≡ shown self.old column k }
+        ensures grown { OnOk result ((k : ℕ) → reached self.new k
+            ≡ (if k == row then max (reached self.old k) columns else reached self.old k)) }
+        ensures refused { OnErr result ((k : ℕ) → reached self.new k ≡ reached self.old k) }
+        ensures background { self.new.background ≡ self.old.background }
+        ensures error { IfErr result (λ e. e ≡ OutOfMemory) }
+        ensures bounded { IsBounded self.new }
+    {
+        let background = self.background;
+        make_rows(&mut self.rows, row + 1, background)?;
+        reach(&mut self.rows, row, columns)?;
+        Ok(())
+    }
+
+    /// Gives one color to columns that the row holds. It takes no memory.
+    pub(crate) fn fill_row(&mut self, row: usize, from: usize, to: usize, color: [u8; 4])
+        requires ordered { from ≤ to }
+        requires held { from < to → to ≤ reached self.old row }
+        ensures drawn { (column k : ℕ) → shown self.new column k
+            ≡ (if lies_in row from to column k then color else shown self.old column k) }
+        ensures reached { (k : ℕ) → reached self.new k ≡ reached self.old k }
+        ensures background { self.new.background ≡ self.old.background }
+        ensures bounded { IsBounded self.new }
+    {
+        if from < to {
+            fill(&mut self.rows, row, from, to, color);
         }
     }
 }
@@ -235,6 +317,18 @@ fn strike(rows: &mut Vec<Row>, row: usize, from: usize, to: usize, color: [u8; 4
     Ok(())
 }
 
+// Gives one color to columns that the row holds.
+fn fill(rows: &mut Vec<Row>, row: usize, from: usize, to: usize, color: [u8; 4])
+    requires ordered { from ≤ to }
+    requires made { row < vec_len rows.old }
+    requires held { (d : RowState) → to ≤ length (slice_index_or rows.old.items row d).pixels }
+    ensures filled { (d : RowState) → rows.new.items ≡ slice_set rows.old.items row
+        (painted from to color (slice_index_or rows.old.items row d)) }
+    ensures thrifty { (d : RowState) → IsThrifty (slice_index_or rows.new.items row d) }
+{
+    rows[row].paint(from, to, color);
+}
+
 // Draws one row of four sixels.
 #[inline(always)]
 fn mix(rows: &mut Vec<Row>, top: usize, bit: usize, from: usize, sixels: [u8; 4], color: [u8; 4])
@@ -247,4 +341,20 @@ fn mix(rows: &mut Vec<Row>, top: usize, bit: usize, from: usize, sixels: [u8; 4]
     ensures thrifty { (d : RowState) → IsThrifty (slice_index_or rows.new.items (top + bit) d) }
 {
     rows[top + bit].mix(from, sixels, bit, color);
+}
+
+// Draws one row of four sixels, as far as it holds their columns.
+#[inline(always)]
+fn dot(rows: &mut Vec<Row>, top: usize, bit: usize, from: usize, sixels: [u8; 4], color: [u8; 4])
+    requires within { from ≤ 1000000 }
+    requires above_bottom { top + 6 ≤ 1000000 }
+    requires six { bit < 6 }
+    ensures dotted { (d : RowState) → rows.new.items ≡ slice_set rows.old.items (top + bit)
+        (mixed_from from sixels bit color (slice_index_or rows.old.items (top + bit) d)) }
+    ensures thrifty { (d : RowState) → top + bit < vec_len rows.old
+        → IsThrifty (slice_index_or rows.new.items (top + bit) d) }
+{
+    if top + bit < rows.len() {
+        rows[top + bit].dot(from, sixels, bit, color);
+    }
 }

@@ -5,7 +5,8 @@ mod block;
 mod canvas;
 mod row;
 mod span;
+mod tagged;
 
-pub use canvas::Canvas;
 pub use row::Row;
 pub use span::fill_rgba_span;
+pub use tagged::TaggedCanvas as Canvas;

@@ -8,7 +8,7 @@ ghost use Rattle.sixel_canvas.specs.Row.{IsThrifty, empty_row, painted, reached_
 ghost use Rattle.sixel_canvas.specs.Row.{room_for};
 ghost use Rattle.sixel_canvas.specs.inside.Block.{mixed_from};
 
-use crate::block::mix_from;
+use crate::block::{dot_from, mix_from};
 use crate::span::fill_rgba_span;
 use sixel_base::Result;
 use sixel_base::limits::MAX_SIDE;
@@ -99,6 +99,18 @@ impl Row {
         mix_from(&mut self.pixels, from, sixels, bit, color);
     }
 
+    // Gives one color to those of the columns from `from` on whose sixel has the bit, as far as the
+    // row holds them.
+    #[inline(always)]
+    pub(crate) fn dot(&mut self, from: usize, sixels: [u8; 4], bit: usize, color: [u8; 4])
+        requires within { from ≤ 1000000 }
+        requires six { bit < 6 }
+        ensures after { self.new ≡ mixed_from from sixels bit color self.old }
+        ensures thrifty { IsThrifty self.new }
+    {
+        dot_from(&mut self.pixels, from, sixels, bit, color);
+    }
+
     /// How many pixels the row holds.
     pub fn len(&self) -> usize
         ensures value { result ≡ length self.now.pixels }
@@ -129,6 +141,17 @@ impl Row {
         ensures thrifty { IsThrifty self.now }
     {
         self.writes
+    }
+
+    // The pixel of this column, background where the row is short.
+    pub(super) fn pixel(&self, column: usize) -> [u8; 4]
+        ensures value { result ≡ slice_index_or self.now.pixels column self.now.background }
+        ensures thrifty { IsThrifty self.now }
+    {
+        match self.pixels.get(column) {
+            Some(pixel) => *pixel,
+            None => self.background,
+        }
     }
 
     // Appends the row's first `width` pixels, with background where it is short.

@@ -6,7 +6,7 @@ use Rattle.std.proofs.lemmas.List.{drop-drop, drop_all}
 use Rattle.std.proofs.lemmas.List.Sums.{fold-append}
 use Rattle.sixel_base.specs.declared.error.SixelError.{SixelError}
 use Rattle.sixel_base.specs.Fault.{Fault, Faults}
-use Rattle.sixel_base.specs.Bytes.{is_sixel, is_terminator, is_ignored, before_terminator, front, count, first_terminator, is_terminated}
+use Rattle.sixel_base.specs.Bytes.{is_terminator, is_ignored, before_terminator, front, count, first_terminator, is_terminated}
 use Rattle.sixel_base.specs.History.{Token, Sixel, Repeat, Raster, Color, Return, Newline, Skip, History, begun, longer, goes_on, read, history_of}
 use Rattle.sixel_base.specs.Stroke.{Origin}
 use Rattle.sixel_base.specs.Payload.{first_fault, closed, growths, settled, payload_fault, payload_wants}
@@ -14,7 +14,7 @@ use Rattle.sixel_decoder.specs.declared.frame.Frame.{Frame}
 use Rattle.sixel_base.specs.Status.{status_of}
 use Rattle.sixel_base.specs.declared.status.SixelFeedStatus.TheVariants.{NeedMoreData}
 use Rattle.sixel_decoder.specs.inside.Frame.{Stands, StandsAfter, after, settled_after}
-use Rattle.sixel_decoder.specs.inside.Runs.{IsSixelByte}
+use Rattle.sixel_decoder.specs.inside.Runs.{IsPrintable}
 use Rattle.sixel_decoder.proofs.Framing.{Faults-along, fault_stays, growths-closed}
 
 -- ---- what is refused stays refused
@@ -128,34 +128,34 @@ reaches_pushed o frame frame' h index piece byte splits ends is r stands =
       grown = omega (arith, r.grown, growths-read r.now byte);
     }
 
--- what sixels at the front do to the words of a piece
-front-run : (n : ℕ) (bytes : List ℕ) → ((k : ℕ) → k < n → IsSixelByte (get_or bytes k 0)) → n ≤ length bytes → front bytes ≡ take n bytes ++ front (drop n bytes)
+-- what printable bytes at the front do to the words of a piece
+front-run : (n : ℕ) (bytes : List ℕ) → ((k : ℕ) → k < n → IsPrintable (get_or bytes k 0)) → n ≤ length bytes → front bytes ≡ take n bytes ++ front (drop n bytes)
 front-run zero bytes are le = refl
 front-run (suc n) [] are le = absurd (omega arith)
 front-run (suc n) (byte ∷ bytes) are le =
-    let here : IsSixelByte byte = are 0 (omega arith) in
+    let here : IsPrintable byte = are 0 (omega arith) in
     let ends : is_terminator byte ≡ false = grind (arith, nat_tests, here.0, here.1) in
     let carries : is_ignored byte ≡ false = grind (arith, nat_tests, here.0, here.1) in
     front-carried byte bytes ends carries ∙ ap (λ bs. byte ∷ bs) (front-run n bytes (λ k lt. are (suc k) (omega arith)) (omega arith))
 
-first_terminator-run : (n : ℕ) (bytes : List ℕ) → ((k : ℕ) → k < n → IsSixelByte (get_or bytes k 0)) → n ≤ length bytes → first_terminator bytes ≡ first_terminator (drop n bytes)
+first_terminator-run : (n : ℕ) (bytes : List ℕ) → ((k : ℕ) → k < n → IsPrintable (get_or bytes k 0)) → n ≤ length bytes → first_terminator bytes ≡ first_terminator (drop n bytes)
 first_terminator-run zero bytes are le = refl
 first_terminator-run (suc n) [] are le = absurd (omega arith)
 first_terminator-run (suc n) (byte ∷ bytes) are le =
-    let here : IsSixelByte byte = are 0 (omega arith) in
+    let here : IsPrintable byte = are 0 (omega arith) in
     let ends : is_terminator byte ≡ false = grind (arith, nat_tests, here.0, here.1) in
     first_terminator-cons byte bytes ends ∙ first_terminator-run n bytes (λ k lt. are (suc k) (omega arith)) (omega arith)
 
-count-run : (n : ℕ) (bytes : List ℕ) → ((k : ℕ) → k < n → IsSixelByte (get_or bytes k 0)) → n ≤ length bytes → count bytes ≡ n + count (drop n bytes)
+count-run : (n : ℕ) (bytes : List ℕ) → ((k : ℕ) → k < n → IsPrintable (get_or bytes k 0)) → n ≤ length bytes → count bytes ≡ n + count (drop n bytes)
 count-run zero bytes are le = omega arith
 count-run (suc n) [] are le = absurd (omega arith)
 count-run (suc n) (byte ∷ bytes) are le =
-    let here : IsSixelByte byte = are 0 (omega arith) in
+    let here : IsPrintable byte = are 0 (omega arith) in
     let ends : is_terminator byte ≡ false = grind (arith, nat_tests, here.0, here.1) in
     omega (arith, count-cons byte bytes ends, count-run n bytes (λ k lt. are (suc k) (omega arith)) (omega arith))
 
 pub reaches_run : (o : Origin) (frame frame' : Frame) (h : History) (index n : ℕ) (piece : List ℕ)
-    → ((k : ℕ) → k < n → IsSixelByte (get_or (drop index piece) k 0)) → n ≤ length (drop index piece)
+    → ((k : ℕ) → k < n → IsPrintable (get_or (drop index piece) k 0)) → n ≤ length (drop index piece)
     → (r : Reaches o frame h index piece) → Stands o frame' (fold read r.now (take n (drop index piece))) → Reaches o frame' h (index + n) piece
 reaches_run o frame frame' h index n piece are le r stands =
     let rest : List ℕ = drop index piece in
@@ -169,13 +169,13 @@ reaches_run o frame frame' h index n piece are le r stands =
       grown = omega (arith, r.grown, growths-fold r.now (take n rest));
     }
 
--- the frame once sixels at the front of what is ahead were drawn
-pub reaches_drawn : (o : Origin) (frame frame' : Frame) (h : History) (index n : ℕ) (piece bytes : List ℕ) → bytes ≡ drop index piece
-    → ((k : ℕ) → k < n → IsSixelByte (get_or bytes k 0)) → n ≤ length bytes
+-- the frame once bytes at the front of what is ahead were read
+pub reaches_read : (o : Origin) (frame frame' : Frame) (h : History) (index n : ℕ) (piece bytes : List ℕ) → bytes ≡ drop index piece
+    → ((k : ℕ) → k < n → IsPrintable (get_or bytes k 0)) → n ≤ length bytes
     → (r : Reaches o frame h index piece) → Stands o frame' (fold read r.now (take n bytes)) → Reaches o frame' h (index + n) piece
-reaches_drawn o frame frame' h index n piece bytes is are le r stands =
+reaches_read o frame frame' h index n piece bytes is are le r stands =
     reaches_run o frame frame' h index n piece
-    (subst (λ (bs : List ℕ). (k : ℕ) → k < n → IsSixelByte (get_or bs k 0)) is are)
+    (subst (λ (bs : List ℕ). (k : ℕ) → k < n → IsPrintable (get_or bs k 0)) is are)
     (omega (arith, le, ap length is)) r
     (subst (λ (bs : List ℕ). Stands o frame' (fold read r.now (take n bs))) is stands)
 
@@ -231,22 +231,20 @@ feeds_refused e o frame h index piece byte splits ends is r refused =
     ap (λ w. fold read r.now w) (sym (ap front splits ∙ front-carried byte (drop (index + 1) piece) ends is)) ∙ r.ahead in
     refused_settled e o.pixel_limit h r.now next rest piece whole r.grown refused
 
--- and at a run of sixels, what its first one is
-pub feeds_refused_run : (e : SixelError) (o : Origin) (frame : Frame) (h : History) (index : ℕ) (piece bytes : List ℕ)
-    → bytes ≡ drop index piece → index < length piece → is_sixel (get_or piece index 0) ≡ true
+-- and where bytes are read at once, what their first one is
+pub feeds_refused_front : (e : SixelError) (o : Origin) (frame : Frame) (h : History) (index : ℕ) (piece bytes : List ℕ)
+    → bytes ≡ drop index piece → index < length piece → IsPrintable (get_or piece index 0)
     → (r : Reaches o frame h index piece)
     → Faults e (nat_lt (growths (closed r.now)) (growths (closed (read r.now (get_or bytes 0 0))))) (first_fault o.pixel_limit (closed (read r.now (get_or bytes 0 0))))
     → Faults e (nat_lt (growths (closed h)) (growths (settled_after h piece))) (first_fault o.pixel_limit (settled_after h piece))
-feeds_refused_run e o frame h index piece bytes is lt test r refused =
+feeds_refused_front e o frame h index piece bytes is lt test r refused =
     let byte : ℕ = get_or bytes 0 0 in
     let place : index + 0 ≡ index = omega arith in
     let first : byte ≡ get_or piece index 0 = ap (λ (bs : List ℕ). get_or bs 0 0) is ∙ get_or-drop index piece 0 0 ∙ ap (λ (k : ℕ). get_or piece k 0) place in
     let splits : drop index piece ≡ byte ∷ drop (index + 1) piece = splits_at piece index lt ∙ ap (λ (b : ℕ). b ∷ drop (index + 1) piece) (sym first) in
-    let same : is_sixel byte ≡ true = ap is_sixel first ∙ test in
-    let above : 63 ≤ byte = grind (arith, nat_tests, same) in
-    let below : byte < 127 = grind (arith, nat_tests, same) in
-    let ends : is_terminator byte ≡ false = grind (arith, nat_tests, above, below) in
-    let carries : is_ignored byte ≡ false = grind (arith, nat_tests, above, below) in
+    let same : IsPrintable byte = subst IsPrintable (sym first) test in
+    let ends : is_terminator byte ≡ false = grind (arith, nat_tests, same.0, same.1) in
+    let carries : is_ignored byte ≡ false = grind (arith, nat_tests, same.0, same.1) in
     feeds_refused e o frame h index piece byte splits ends carries r refused
 
 -- what a whole payload is refused for while it is fed is what it is refused for at its end

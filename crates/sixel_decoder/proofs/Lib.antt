@@ -1,5 +1,6 @@
 pub mod Reached
 pub mod Framing
+pub mod Opening
 pub mod Feeding
 pub mod Appending
 pub mod Heading
@@ -12,4 +13,5 @@ pub mod Continuing
 pub mod Finishing
 pub mod Ended
 pub mod Answering
+pub mod Lanes
 pub mod Runs

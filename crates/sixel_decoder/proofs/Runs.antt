@@ -1,7 +1,8 @@
 -- What sixels of one column each that stand inside the picture do to the words of a history: they change pixels and the place alone.
-use Rattle.std.proofs.Common.{◌≡◌, ℕ, zero, suc, ◌+◌, ◌*◌, ◌<◌, ◌≤◌, ◌-◌, ◌%◌, ◌^◌, Bool, true, false, max, List, [], ◌∷◌, ◌++◌, length, get_or, take, drop, length-take, length-drop, get_or-take, get_or-drop, take-add, take_all, subst, refl, sym, ap, ◌∙◌, inl, inr, None, arith}
+use Rattle.std.proofs.Common.{◌≡◌, ℕ, zero, suc, ◌+◌, ◌*◌, ◌<◌, ◌≤◌, ◌-◌, ◌%◌, ◌^◌, Bool, true, false, max, List, [], ◌∷◌, ◌++◌, length, get_or, take, drop, length-take, get_or-take, get_or-drop, take-add, take_all, subst, refl, sym, ap, ◌∙◌, inl, inr, None, arith}
 use Rattle.std.specs.Prelude.{fold, nat_lt, nat_le, ◌&&◌, ◌==◌, if◌then◌else◌}
 use Rattle.std.proofs.Math.Nat.{zero-div}
+use Rattle.std.proofs.lemmas.List.{get_or_past}
 use Rattle.std.proofs.lemmas.Bool.{cases_lt, le-ltb, lt-leb, le-leb, lt-ltb}
 use Rattle.sixel_base.specs.History.{Sixel, Repeat, Raster, Color, Return, Newline, Skip, History, goes_on, read}
 use Rattle.sixel_base.specs.Payload.{first_fault, closed, growths}
@@ -13,6 +14,7 @@ use Rattle.sixel_base.specs.Reach.{row_reach}
 use Rattle.sixel_base.specs.Settings.{ratio_of}
 use Rattle.sixel_base.specs.Stroke.{Origin, pixel, registers, color, ratio}
 use Rattle.sixel_base.proofs.Reading.{fold-spelling}
+use Rattle.sixel_canvas.proofs.Mixing.{each_of_four}
 use Rattle.sixel_canvas.specs.inside.Block.{drawn_over}
 use Rattle.sixel_canvas.specs.inside.Canvas.{CanvasState, shown, reached}
 use Rattle.sixel_decoder.specs.declared.painter.Painter.{Painter}
@@ -230,45 +232,30 @@ drawn_by_four done old now new top from run ink sixels le before four drawn =
     drawn_more done 4 old now new top from run ink sixels le before
     (λ column row p. ap (λ (bs : List ℕ). drawn_over (from + done) bs top ink column row p) four ∙ drawn_four (from + done) (drop done run) top ink column row p) drawn
 
-take_one : (run : List ℕ) → 0 < length run → take 1 (bits_of run) ≡ (get_or run 0 0 - 63) ∷ []
-take_one [] lt = absurd (omega (arith, lt))
-take_one (byte ∷ run) lt = refl
-
--- one more
-pub drawn_by_one : (done : ℕ) (old now new : CanvasState) (top from : ℕ) (run ink : List ℕ) → done < length run → IsDrawnTo done old now top from run ink
-    → ((column row : ℕ) → shown new column row ≡ (if covers (from + done) (from + done + 1) top (get_or run done 0 - 63) column row then ink else shown now column row)) → IsDrawnTo (done + 1) old new top from run ink
-drawn_by_one done old now new top from run ink lt before drawn =
-    let bits : ℕ = get_or run done 0 - 63 in
-    let here : get_or (drop done run) 0 0 ≡ get_or run done 0 = get_or-drop done run 0 0 ∙ ap (λ (k : ℕ). get_or run k 0) (omega arith) in
-    let one : take 1 (bits_of (drop done run)) ≡ bits ∷ [] = take_one (drop done run) (omega (arith, length-drop done run, lt)) ∙ ap (λ (b : ℕ). (b - 63) ∷ []) here in
-    drawn_more done 1 old now new top from run ink (bits ∷ []) (omega (arith, lt)) before
-    (λ column row p. ap (λ (bs : List ℕ). drawn_over (from + done) bs top ink column row p) (sym one)) drawn
-
 -- all of them
 pub drawn_whole : (done : ℕ) (old new : CanvasState) (top from : ℕ) (run ink : List ℕ) → length run ≤ done → IsDrawnTo done old new top from run ink
     → (column row : ℕ) → shown new column row ≡ drawn_over from (bits_of run) top ink column row (shown old column row)
 drawn_whole done old new top from run ink past before column row =
     before column row ∙ ap (λ (bs : List ℕ). drawn_over from bs top ink column row (shown old column row)) (take_all done (bits_of run) (omega (arith, length-bits_of run, past)))
 
--- a sixel whose dots stand on held columns grows no row
-pub kept_singly : (old new : CanvasState) (top column bits : ℕ) → ((k : ℕ) → k < 6 → is_set bits k ≡ true → column < reached old (top + k))
-    → ((row : ℕ) → reached new row ≡ (if is_struck top bits row then max (reached old row) (column + 1) else reached old row)) → (row : ℕ) → reached new row ≡ reached old row
-kept_singly old new top column bits held grown row =
-    elim (cases_lt row top) [
-      | inl above ↦ rw (lt-leb top row above) at (grown row)
-      | inr begun ↦ elim (cases_lt row (top + 6)) [
-        | inl within ↦
-            let k : ℕ = row - top in
-            let place : top + k ≡ row = omega (arith, begun) in
-            let here : reached new row ≡ (if is_set bits k then max (reached old row) (column + 1) else reached old row) = rw (le-leb top row begun, lt-ltb row (top + 6) within) at (grown row) in
-            here ∙ (elim (is_set bits k) as (λ (t : Bool). is_set bits k ≡ t → (if t then max (reached old row) (column + 1) else reached old row) ≡ reached old row) [
-              | true ↦ λ set.
-                  let wide : column < reached old row = subst (λ (r : ℕ). column < reached old r) place (held k (omega (arith, within)) set) in
-                  omega (arith, wide)
-              | false ↦ λ unset. refl
-            ]) refl
-        | inr past ↦ rw (le-leb top row begun, le-ltb row (top + 6) past) at (grown row)
-      ]
+-- each of four sixels is one of the run, or blank
+four_is : (run sixels : List ℕ) (done j : ℕ) → sixels ≡ four_of (drop done run) → j < 4 → get_or sixels j 0 ≡ get_or run (done + j) 0 - 63
+four_is run sixels done j is lt =
+    let four = (get_or run done 0 - 63) ∷ (get_or run (done + 1) 0 - 63) ∷ (get_or run (done + 2) 0 - 63) ∷ (get_or run (done + 3) 0 - 63) ∷ [] in
+    ap (λ (ss : List ℕ). get_or ss j 0) (is ∙ four_at run done)
+    ∙ each_of_four (λ k. get_or four k 0 ≡ get_or run (done + k) 0 - 63) (ap (λ (k : ℕ). get_or run k 0 - 63) (omega arith)) refl refl refl j lt
+
+-- the dots of four sixels stand on held columns
+pub four_held : (canvas : CanvasState) (top from : ℕ) (run sixels : List ℕ) (done : ℕ) → sixels ≡ four_of (drop done run)
+    → ((k j : ℕ) → k < 6 → j < length run → is_set (get_or run j 0 - 63) k ≡ true → from + j < reached canvas (top + k))
+    → (k j : ℕ) → k < 6 → j < 4 → is_set (get_or sixels j 0) k ≡ true → from + done + j < reached canvas (top + k)
+four_held canvas top from run sixels done is held k j six lt hit =
+    let here : is_set (get_or run (done + j) 0 - 63) k ≡ true = ap (λ (bits : ℕ). is_set bits k) (sym (four_is run sixels done j is lt)) ∙ hit in
+    elim (cases_lt (done + j) (length run)) [
+      | inl inside ↦ omega (arith, held k (done + j) six inside here)
+      | inr past ↦
+          let blank : is_set (get_or run (done + j) 0 - 63) k ≡ false = ap (λ (byte : ℕ). is_set (byte - 63) k) (get_or_past run (done + j) 0 past) ∙ blank_set k in
+          absurd (cc (here, blank))
     ]
 
 -- so many sixels to come are of one column each, and inside the picture

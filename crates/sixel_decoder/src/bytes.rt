@@ -9,8 +9,13 @@ ghost use Rattle.sixel_base.specs.Picture.{is_set};
 ghost use Rattle.sixel_decoder.specs.inside.Runs.{IsSixelByte, four_of, end_of, columns_for};
 ghost use Rattle.sixel_base.specs.inside.Parameters.{IsDigit};
 
+use std::simd::prelude::*;
+
 /// How many sixels of a run are drawn at once, at most.
 const LONGEST_RUN: usize = 64;
+
+/// How many bytes are compared at once.
+const LANES: usize = 16;
 
 /// Whether the byte is a control that is as if it were not there: C0 or DEL, but no terminator.
 pub fn is_ignored(byte: u8) -> bool
@@ -42,6 +47,14 @@ pub fn is_sixel(byte: u8) -> bool
     matches!(byte, 0x3f..=0x7e)
 }
 
+/// Whether the byte opens a command that has a number first, and mostly nothing else.
+#[inline(always)]
+pub fn is_numbered(byte: u8) -> bool
+    ensures { IsTrue result → (byte ≡ 33) ⊎ (byte ≡ 35) }
+{
+    matches!(byte, b'!' | b'#')
+}
+
 /// How many sixels the bytes begin with, as far as they are looked at: a run that can't be drawn at
 /// once is looked at again with its next sixel, and must not be long then.
 #[inline(always)]
@@ -49,36 +62,62 @@ pub fn run_len(bytes: &[u8]) -> usize
     ensures within { result ≤ length bytes.now }
     ensures sixels { (k : ℕ) → k < result → IsSixelByte (slice_index bytes.now k) }
 {
+    let most = bytes.len().min(LONGEST_RUN);
     let mut len = 0;
-    'sixels: while len < bytes.len() {
-        if len == LONGEST_RUN {
+    'lanes: while len + LANES <= most {
+        let more = sixels_in_lanes(bytes, len);
+        len += more;
+        if more < LANES {
             return len;
         }
-        if !is_sixel(bytes[len]) {
-            return len;
-        }
+    }
+    'singly: while len < most && is_sixel(bytes[len]) {
         len += 1;
     }
     len
 }
 
+/// How many of sixteen bytes from an index on are sixels, before the first that is not.
+#[inline(always)]
+fn sixels_in_lanes(bytes: &[u8], at: usize) -> usize
+    requires { at + 16 ≤ length bytes.now }
+    ensures few { result ≤ 16 }
+    ensures sixels { (k : ℕ) → at ≤ k → k < at + result
+        → IsSixelByte (slice_index bytes.now k) }
+{
+    let lanes = u8x16::from_slice(&bytes[at..]) - u8x16::splat(0x3f);
+    let others = lanes.simd_gt(u8x16::splat(0x3f)).to_bitmask();
+    if others == 0 {
+        LANES
+    } else {
+        others.trailing_zeros() as usize
+    }
+}
+
+/// The bits of the four sixels of a run from an index on.
+#[inline(always)]
+pub fn four_sixels(run: &[u8], at: usize) -> [u8; 4]
+    requires sixels { (k : ℕ) → k < length run.now → IsSixelByte (slice_index run.now k) }
+    requires inside { at + 4 ≤ length run.now }
+    ensures { result ≡ four_of (drop at run.now) }
+{
+    [
+        run[at] - 0x3f,
+        run[at + 1] - 0x3f,
+        run[at + 2] - 0x3f,
+        run[at + 3] - 0x3f,
+    ]
+}
+
 /// The bits of the four sixels of a run from an index on, and no bit past its end.
 #[inline(always)]
-pub fn sixels_at(run: &[u8], at: usize) -> [u8; 4]
+pub fn last_sixels(run: &[u8], at: usize) -> [u8; 4]
     requires sixels { (k : ℕ) → k < length run.now → IsSixelByte (slice_index run.now k) }
     requires inside { at < length run.now }
     ensures { result ≡ four_of (drop at run.now) }
 {
-    if at + 4 <= run.len() {
-        return [
-            run[at] - 0x3f,
-            run[at + 1] - 0x3f,
-            run[at + 2] - 0x3f,
-            run[at + 3] - 0x3f,
-        ];
-    }
     [
-        run[at] - 0x3f,
+        bits_at(run, at),
         bits_at(run, at + 1),
         bits_at(run, at + 2),
         bits_at(run, at + 3),

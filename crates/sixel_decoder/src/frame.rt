@@ -5,19 +5,19 @@
 
 ghost use Rattle.std.specs.Prelude.{◌≡◌, ◌<◌, ◌≤◌, ◌*◌, ◌∷◌, ◌++◌, List, ℕ, true, false, []};
 ghost use Rattle.std.specs.Prelude.{length, slice_index, IfOk};
-ghost use Rattle.sixel_decoder.specs.inside.Runs.{IsSixelByte};
+ghost use Rattle.sixel_decoder.specs.inside.Runs.{IsPrintable, IsSixelByte};
 ghost use Rattle.std.specs.Prelude.{IsOk, IsTrue, ◌⊎◌, Bool, if◌then◌else◌};
 ghost use Rattle.sixel_canvas.specs.inside.Canvas.{canvas_writes, canvas_room};
 ghost use Rattle.sixel_base.specs.History.{History, begun, goes_on, read};
 ghost use Rattle.sixel_base.specs.Decoder.{origin_of};
 ghost use Rattle.sixel_base.specs.inside.Parameters.{Keeps, IsDigit};
 ghost use Rattle.sixel_base.specs.Stroke.{Origin};
-ghost use Rattle.sixel_decoder.specs.declared.frame.Phase.TheVariants.{Ground};
+ghost use Rattle.sixel_decoder.specs.declared.frame.Phase.TheVariants.{Ground, InRepeat, InColor};
 
-use crate::bytes::{is_ignored, is_parameter, is_sixel, is_terminator, tail};
+use crate::bytes::{is_ignored, is_numbered, is_parameter, is_sixel, is_terminator, tail};
 use crate::painter::{Painter, Picture};
 use sixel_base::Result;
-use sixel_base::parameters::Parameters;
+use sixel_base::parameters::{Digits, Parameters};
 use sixel_base::settings::DcsSettings;
 use sixel_base::state::DecoderState;
 use sixel_base::status::{SixelFeedResult, SixelFeedStatus};
@@ -51,6 +51,21 @@ pub struct Frame {
     pub painter: Painter,
 }
 
+impl Phase {
+    /// The command that such a byte opens.
+    #[inline(always)]
+    fn opened_by(byte: u8) -> Phase
+        ensures repeat { byte ≡ 33 → result ≡ InRepeat }
+        ensures color { byte ≡ 35 → result ≡ InColor }
+    {
+        if byte == b'!' {
+            Phase::InRepeat
+        } else {
+            Phase::InColor
+        }
+    }
+}
+
 impl Start {
     ghost use Rattle.sixel_decoder.specs.inside.Frame.{Begins};
 
@@ -72,7 +87,7 @@ impl Start {
 
 impl Frame {
     ghost use Rattle.sixel_decoder.specs.inside.Painter.{Shows, Draws};
-    ghost use Rattle.sixel_decoder.specs.inside.Frame.{Stands, Reads, Feeds, StandsAfter, DrawsSixels};
+    ghost use Rattle.sixel_decoder.specs.inside.Frame.{Stands, Reads, Feeds, StandsAfter, ReadsFront};
     ghost use Rattle.sixel_decoder.specs.inside.Painter.{Ends};
     ghost use Rattle.sixel_base.specs.Reach.{reached_area, size};
     ghost use Rattle.sixel_base.specs.Payload.{closed};
@@ -180,7 +195,7 @@ impl Frame {
         ensures sixels { IfOk result (λ drawn. (k : ℕ) → k < drawn
             → IsSixelByte (slice_index bytes.now k)) }
         ensures stands { (o : Origin) (h : History) → Stands o self.old h
-            → DrawsSixels result o self.new h bytes.now }
+            → ReadsFront result o self.new h bytes.now }
     {
         self.close()?;
         let drawn = self.painter.draw_run(bytes)?;
@@ -189,6 +204,26 @@ impl Frame {
         }
         self.painter.draw(bytes[0] - 0x3f)?;
         Ok(1)
+    }
+
+    /// Ends the open command and opens the one at the front of the bytes, with the digits after it, and
+    /// answers how many bytes that are.
+    #[inline(always)]
+    fn open_with_digits(&mut self, bytes: &[u8]) -> Result<usize>
+        requires some { 0 < length bytes.now }
+        requires numbered { (slice_index bytes.now 0 ≡ 33) ⊎ (slice_index bytes.now 0 ≡ 35) }
+        ensures some { IfOk result (λ read. 0 < read) }
+        ensures within { IfOk result (λ read. read ≤ length bytes.now) }
+        ensures printable { IfOk result (λ read. (k : ℕ) → k < read
+            → IsPrintable (slice_index bytes.now k)) }
+        ensures stands { (o : Origin) (h : History) → Stands o self.old h
+            → ReadsFront result o self.new h bytes.now }
+    {
+        self.close()?;
+        let digits = Digits::at_front(tail(bytes, 1));
+        self.phase = Phase::opened_by(bytes[0]);
+        self.parameters = digits.parameters;
+        Ok(digits.len + 1)
     }
 
     /// Reads a piece up to its first terminator, which ends the open command.
@@ -202,6 +237,9 @@ impl Frame {
             if is_sixel(byte) {
                 let drawn = self.draw_sixels(tail(piece, index))?;
                 index += drawn;
+            } else if is_numbered(byte) {
+                let read = self.open_with_digits(tail(piece, index))?;
+                index += read;
             } else {
                 if is_terminator(byte) {
                     self.close()?;

@@ -17,7 +17,7 @@ ghost use Rattle.sixel_base.specs.Fields.{fields, field};
 ghost use Rattle.sixel_base.specs.Stroke.{Origin, is_definition, definition};
 ghost use Rattle.sixel_base.specs.Stroke.{ratio_from as shape_from};
 
-use crate::bytes::{columns_of, front, run_len, sixels_at};
+use crate::bytes::{columns_of, four_sixels, front, last_sixels, run_len};
 use sixel_base::limits::{MAX_REPEAT, MAX_SIDE};
 use sixel_base::parameters::Parameters;
 use sixel_base::registers::Registers;
@@ -62,6 +62,7 @@ pub struct Picture {
     pub aspect_ratio: PixelAspectRatio,
     pub background_mode: BackgroundMode,
     pub registers: Registers,
+    pub ghost whole: { length pixels.items ≡ 4 * (width * height) },
 }
 
 impl Painter {
@@ -98,6 +99,7 @@ impl Painter {
     /// Draws a sixel, and goes on by its span.
     ///
     /// One without a dot paints nothing, but widens and heightens the picture as any other.
+    #[inline(always)]
     pub fn draw(&mut self, bits: u8) -> Result<()>
         requires { bits < 64 }
         ensures { (o : Origin) (h : History) → Shows o self.old h
@@ -123,7 +125,7 @@ impl Painter {
 
     /// Draws the sixels at the front of the bytes at once, where the next ones are of one column each
     /// and inside the picture, and answers how many they are: none elsewhere, nor of a single byte.
-    #[inline(never)]
+    #[inline(always)]
     pub fn draw_run(&mut self, bytes: &[u8]) -> Result<usize>
         ensures within { IfOk result (λ drawn. drawn ≤ length bytes.now) }
         ensures sixels { IfOk result (λ drawn. (k : ℕ) → k < drawn
@@ -138,61 +140,103 @@ impl Painter {
         if self.span != 1 || self.height < 6 || self.down > self.height - 6 {
             return Ok(0);
         }
+        self.draw_inside(bytes)
+    }
+
+    /// Draws the sixels at the front of the bytes at once, where they are inside the picture.
+    #[inline(always)]
+    fn draw_inside(&mut self, bytes: &[u8]) -> Result<usize>
+        requires single { self.old.span ≡ 1 }
+        requires above_bottom { self.old.down + 6 ≤ self.old.height }
+        ensures within { IfOk result (λ drawn. drawn ≤ length bytes.now) }
+        ensures sixels { IfOk result (λ drawn. (k : ℕ) → k < drawn
+            → IsSixelByte (slice_index bytes.now k)) }
+        ensures shows { IfOk result (λ drawn. (o : Origin) (h : History) → Shows o self.old h
+            → Shows o self.new (fold read h (take drawn bytes.now))) }
+        ensures error { IfErr result (λ e. e ≡ OutOfMemory) }
+    {
         let len = run_len(bytes);
         if self.across + len > self.width {
             return Ok(0);
         }
         let run = front(bytes, len);
-        hold(&mut self.canvas, self.down, self.across, run)?;
-        paint(&mut self.canvas, self.down, self.across, run, self.color)?;
+        let held = hold(&mut self.canvas, self.down, self.across, run)?;
+        paint(
+            &mut self.canvas,
+            held,
+            self.down,
+            self.across,
+            run,
+            self.color,
+        );
         self.across += len;
         Ok(len)
     }
 }
 
 /// Makes the canvas hold the columns of a run, in each of the six rows from `top` on up to its last
-/// dot there.
+/// dot there, and answers how many columns each of them holds.
 #[inline(always)]
-fn hold(canvas: &mut Canvas, top: usize, from: usize, run: &[u8]) -> Result<()>
+fn hold(canvas: &mut Canvas, top: usize, from: usize, run: &[u8]) -> Result<usize>
     requires sixels { IsRun run.now }
     requires within { from + length run.now ≤ 1000000 }
     requires above_bottom { top + 6 ≤ 1000000 }
     ensures holds { OnOk result (Holds canvas.old canvas.new top from run.now) }
-    ensures error { IfErr result (λ e. e ≡ OutOfMemory) }
-{
-    if from + run.len() <= canvas.held(top) {
-        return Ok(());
-    }
-    canvas.widen(top, columns_of(run, from))
-}
-
-/// Draws a run on a canvas that holds its dots: four sixels at once, where it holds all six rows of
-/// their columns.
-#[inline(always)]
-fn paint(canvas: &mut Canvas, top: usize, from: usize, run: &[u8], color: [u8; 4]) -> Result<()>
-    requires sixels { IsRun run.now }
-    requires within { from + length run.now ≤ 1000000 }
-    requires above_bottom { top + 6 ≤ 1000000 }
-    requires held { (k j : ℕ) → k < 6 → j < length run.now
-        → is_set (slice_index run.now j - 63) k ≡ true → from + j < reached canvas.old (top + k) }
-    ensures drawn { OnOk result ((column row : ℕ) → shown canvas.new column row
-        ≡ drawn_over from (bits_of run.now) top color column row (shown canvas.old column row)) }
-    ensures kept { OnOk result ((row : ℕ) → reached canvas.new row ≡ reached canvas.old row) }
+    ensures held { IfOk result (λ held. (k : ℕ) → k < 6 → held ≤ reached canvas.new (top + k)) }
+    ensures plain { IfOk result (λ held. 0 < held → canvas.new.tagged ≤ top) }
     ensures error { IfErr result (λ e. e ≡ OutOfMemory) }
 {
     let held = canvas.held(top);
+    if from + run.len() <= held {
+        return Ok(held);
+    }
+    widen(canvas, top, from, run)
+}
+
+/// Makes the canvas hold the columns of a run, where it doesn't.
+#[inline(never)]
+fn widen(canvas: &mut Canvas, top: usize, from: usize, run: &[u8]) -> Result<usize>
+    requires sixels { IsRun run.now }
+    requires within { from + length run.now ≤ 1000000 }
+    requires above_bottom { top + 6 ≤ 1000000 }
+    ensures holds { OnOk result (Holds canvas.old canvas.new top from run.now) }
+    ensures held { IfOk result (λ held. (k : ℕ) → k < 6 → held ≤ reached canvas.new (top + k)) }
+    ensures plain { IfOk result (λ held. 0 < held → canvas.new.tagged ≤ top) }
+    ensures error { IfErr result (λ e. e ≡ OutOfMemory) }
+{
+    canvas.widen(top, columns_of(run, from))?;
+    Ok(canvas.held(top))
+}
+
+/// Draws a run on a canvas that holds its dots: four sixels at once, also where rows end before the
+/// last of them.
+#[inline(always)]
+fn paint(canvas: &mut Canvas, held: usize, top: usize, from: usize, run: &[u8], color: [u8; 4])
+    requires sixels { IsRun run.now }
+    requires within { from + length run.now ≤ 1000000 }
+    requires above_bottom { top + 6 ≤ 1000000 }
+    requires held { (k : ℕ) → k < 6 → held ≤ reached canvas.old (top + k) }
+    requires plain { 0 < held → canvas.old.tagged ≤ top }
+    requires dots { (k j : ℕ) → k < 6 → j < length run.now
+        → is_set (slice_index run.now j - 63) k ≡ true → from + j < reached canvas.old (top + k) }
+    ensures drawn { (column row : ℕ) → shown canvas.new column row
+        ≡ drawn_over from (bits_of run.now) top color column row (shown canvas.old column row) }
+    ensures kept { (row : ℕ) → reached canvas.new row ≡ reached canvas.old row }
+{
     let by_four = run.len().min(held.saturating_sub(from + 3));
     let mut done = 0;
-    'fours: while done < by_four {
-        canvas.block(from + done, top, sixels_at(run, done), color);
+    'fours: while done + 4 <= by_four {
+        canvas.block(from + done, top, four_sixels(run, done), color);
         done += 4;
     }
-    'singly: while done < run.len() {
-        let column = from + done;
-        canvas.draw(column, column + 1, top, run[done] - 0x3f, color)?;
-        done += 1;
+    'last: while done < by_four {
+        canvas.block(from + done, top, last_sixels(run, done), color);
+        done += 4;
     }
-    Ok(())
+    'ends: while done < run.len() {
+        canvas.dots(from + done, top, last_sixels(run, done), color);
+        done += 4;
+    }
 }
 
 impl Painter {

@@ -146,3 +146,95 @@ fn empty_canvas_is_background(rt: HostRuntime) -> Result<(), Fail> {
     assert_eq!(rt; canvas.writes(), 0);
     Ok(())
 }
+
+/// The width of the picture that strokes are drawn on, and its height.
+const PLAIN_WIDTH: usize = 2000;
+
+const PLAIN_HEIGHT: usize = 12;
+
+/// The next of some numbers without a pattern.
+fn next(seed: &mut u64) -> usize {
+    *seed = seed
+        .wrapping_mul(6364136223846793005)
+        .wrapping_add(1442695040888963407);
+    (*seed >> 40) as usize
+}
+
+/// A stroke's columns: from the first up to before the second.
+fn columns(seed: &mut u64, longest: usize) -> (usize, usize)
+    requires { longest ≤ 1000 }
+    ensures ordered { result.0 ≤ result.1 }
+    ensures within { result.1 ≤ 2000 }
+{
+    let from = next(seed) % 1000;
+    let width = next(seed) % (longest + 1);
+    (from, from + width)
+}
+
+/// Draws a sixel on a picture all of whose pixels are stored.
+fn draw_plainly(
+    pixels: &mut Vec<[u8; 4]>,
+    from: usize,
+    to: usize,
+    top: usize,
+    bits: u8,
+    color: [u8; 4],
+)
+    requires within { to ≤ 2001 }
+    requires above_bottom { top ≤ 6 }
+{
+    for bit in 0..6 {
+        if (bits >> bit) % 2 == 1 {
+            for column in from..to {
+                if let Some(pixel) = pixels.get_mut((top + bit) * PLAIN_WIDTH + column) {
+                    *pixel = color;
+                }
+            }
+        }
+    }
+}
+
+/// Draws a stroke on both, up to so many columns wide, and a sixel of one column.
+fn draw_on_both(
+    canvas: &mut Canvas,
+    plain: &mut Vec<[u8; 4]>,
+    seed: &mut u64,
+    top: usize,
+    longest: usize,
+) -> Result<(), Fail>
+    requires within { longest ≤ 1000 }
+    requires above_bottom { top ≤ 6 }
+{
+    let (from, to) = columns(seed, longest);
+    let bits = (next(seed) % 64) as u8;
+    let color = [bits, (to % 256) as u8, 7, (from % 3 * 100) as u8];
+    canvas.draw(from, to, top, bits, color)?;
+    draw_plainly(plain, from, to, top, bits, color);
+    canvas.draw(to, to + 1, top, 63 - bits, RED)?;
+    draw_plainly(plain, to, to + 1, top, 63 - bits, RED);
+    Ok(())
+}
+
+/// Asserts that both show the same.
+fn check_both(rt: &(impl Abort + Alloc), canvas: &Canvas, plain: &[[u8; 4]]) -> Result<(), Fail> {
+    let shown = canvas.pack(PLAIN_WIDTH, PLAIN_HEIGHT)?;
+    assert!(rt; shown.as_slice() == plain.as_flattened(), "what is shown");
+    Ok(())
+}
+
+#[test]
+fn tagged_strokes_show_what_plain_ones_do(rt: HostRuntime) -> Result<(), Fail> {
+    let mut canvas = Canvas::new(rt.alloc(), BACKGROUND);
+    let mut plain = vec![in rt.alloc(); BACKGROUND; PLAIN_WIDTH * PLAIN_HEIGHT]?;
+    let mut seed = 1;
+    for top in [0usize, 6, 3, 0, 5, 6] {
+        let row = top.min(6);
+        for _step in 0..40u8 {
+            draw_on_both(&mut canvas, &mut plain, &mut seed, row, 1000)?;
+            draw_on_both(&mut canvas, &mut plain, &mut seed, row, 300)?;
+            draw_on_both(&mut canvas, &mut plain, &mut seed, row, 30)?;
+            check_both(&rt, &canvas, &plain)?;
+        }
+    }
+    Ok(())
+}

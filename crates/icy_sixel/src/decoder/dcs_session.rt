@@ -159,6 +159,8 @@ impl<'a> SixelDcsStreamDecoder<'a> {
             (image_value image) self.exit.0.now.registers) }
         ensures area { IfOk result (λ image.
             image.width * image.height ≤ self.entry.progress.decoder.pixel_limit) }
+        ensures pixels { IfOk result (λ image.
+            length image.pixels.items ≡ 4 * (image.width * image.height)) }
         ensures set { IsSetAs self.entry.owner.now self.exit.0.now }
         ensures accepted { OnOk result (self.entry.progress.is_refused ≡ false) }
         ensures ended { OnOk result (has_ended (dcs_status self.entry.progress.bytes) ≡ true) }

@@ -151,6 +151,8 @@ impl<'a> SixelStreamDecoder<'a> {
             ≡ payload_registers self.entry.intake.origin self.entry.intake.bytes) }
         ensures area { IfOk result (λ image.
             image.width * image.height ≤ self.entry.intake.origin.pixel_limit) }
+        ensures pixels { IfOk result (λ image.
+            length image.pixels.items ≡ 4 * (image.width * image.height)) }
         ensures set { IsSetAs self.entry.owner.now self.exit.0.now }
         ensures accepted { OnOk result (self.entry.intake.is_refused ≡ false) }
         ensures kept { OnErr result (self.exit.0.now ≡ self.entry.owner.now) }
@@ -189,6 +191,8 @@ impl<'a> SixelStreamDecoder<'a> {
             ≡ payload_registers self.entry.intake.origin self.entry.intake.bytes) }
         ensures area { IfOk result (λ counted.
             counted.0.width * counted.0.height ≤ self.entry.intake.origin.pixel_limit) }
+        ensures pixels { IfOk result (λ counted.
+            length counted.0.pixels.items ≡ 4 * (counted.0.width * counted.0.height)) }
         ensures set { IsSetAs self.entry.owner.now self.exit.0.now }
         ensures accepted { OnOk result (self.entry.intake.is_refused ≡ false) }
         ensures kept { OnErr result (self.exit.0.now ≡ self.entry.owner.now) }

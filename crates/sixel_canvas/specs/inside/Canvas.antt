@@ -4,10 +4,11 @@ use Rattle.std.specs.Prelude.{◌≡◌, ℕ, ◌*◌, ◌≤◌, List, length, 
 use Rattle.sixel_base.specs.Picture.{total}
 use Rattle.sixel_canvas.specs.Row.{RowState, IsThrifty, empty_row}
 
--- the rows from the top, as far down as a stroke has come
+-- the rows from the top, as far down as a stroke has come, and from which row on no block has a tag
 pub record CanvasState : Type 0 where
   pub background : List ℕ
   pub rows : List RowState
+  pub tagged : ℕ
 
 -- a row that a canvas with this background may hold
 pub record IsRowOf (background : List ℕ) (row : RowState) : Type 0 where
@@ -35,9 +36,10 @@ abbrev pub canvas_room : CanvasState → ℕ
 canvas_room canvas = sum_by (λ row. row.room) canvas.rows
 
 -- what is true of every canvas, for any n from the number of rows on: the writes are from once to three times the
--- pixels that were reached, and the room is at most twice these
+-- pixels that were reached, and the room is at most twice these; and no row passes a million columns
 pub record IsBounded (canvas : CanvasState) : Type 0 where
   pub few : length canvas.rows ≤ 1000000
+  pub side : (row : ℕ) → reached canvas row ≤ 1000000
   pub at_least : (n : ℕ) → length canvas.rows ≤ n → total (reached canvas) n ≤ canvas_writes canvas
   pub at_most : (n : ℕ) → length canvas.rows ≤ n → canvas_writes canvas ≤ 3 * total (reached canvas) n
   pub room_at_most : (n : ℕ) → length canvas.rows ≤ n → canvas_room canvas ≤ 2 * total (reached canvas) n

@@ -56,9 +56,9 @@ Reads result origin frame before history =
     (λ error. Faults error (nat_lt (growths (closed before)) (growths (closed history))) (first_fault origin.pixel_limit (closed history)))
 
 -- The frame stands in the history with so many of the bytes at the front; or the first of them is refused.
-abbrev pub DrawsSixels : Result ℕ SixelError → Origin → Frame → History → List ℕ → Type 0
-DrawsSixels result origin frame history bytes =
-    MatchResult result (λ drawn. Stands origin frame (fold read history (take drawn bytes)))
+abbrev pub ReadsFront : Result ℕ SixelError → Origin → Frame → History → List ℕ → Type 0
+ReadsFront result origin frame history bytes =
+    MatchResult result (λ count. Stands origin frame (fold read history (take count bytes)))
     (λ error. Faults error (nat_lt (growths (closed history)) (growths (closed (read history (slice_index bytes 0)))))
     (first_fault origin.pixel_limit (closed (read history (slice_index bytes 0)))))
 

@@ -4,6 +4,10 @@ use Rattle.std.specs.Prelude.{ℕ, suc, Bool, ◌+◌, ◌-◌, ◌<◌, ◌≤�
 use Rattle.sixel_base.specs.Picture.{is_set}
 use Rattle.sixel_canvas.specs.inside.Canvas.{CanvasState, shown, reached}
 
+-- a space to `~`: neither an ignored control nor a terminator
+abbrev pub IsPrintable : ℕ → Type 0
+IsPrintable byte = (32 ≤ byte) × (byte < 127)
+
 -- `?` to `~`
 abbrev pub IsSixelByte : ℕ → Type 0
 IsSixelByte byte = (63 ≤ byte) × (byte < 127)

@@ -1,5 +1,5 @@
-use Rattle.std.proofs.Common.{◌+◌, ◌-◌, ◌<◌, length, get_or, ◌∙◌, arith}
-use Rattle.sixel_decoder.proofs.Runs.{drawn_by_four, drawn_by_one, drawn_whole, kept_singly}
+use Rattle.std.proofs.Common.{◌+◌, ◌<◌, ◌≤◌, length, ◌∙◌, arith}
+use Rattle.sixel_decoder.proofs.Runs.{drawn_by_four, drawn_whole, four_held}
 use Rattle.sixel_decoder.proofs.painter.paint.Goals as goal
 
 pub fours-preserved : goal.fours-preserved
@@ -7,28 +7,50 @@ fours-preserved c =
     let done = c.fours.done in
     let run = c.args.run.now in
     let before = c.fours.invariant in
-    let lt : done < length run = omega (arith, c.fours-test.true, c.min-by_four.ensures) in (
-      omega (arith, lt),
-      drawn_by_four done c.args.canvas.now c.fours.canvas c.block.new.self c.args.top c.args.from run c.args.color c.sixels_at.result
-          (omega (arith, lt)) before.1 c.sixels_at.ensures c.block.ensures.drawn,
+    let le : done + 4 ≤ length run = omega (arith, c.fours-test.true, c.min-by_four.ensures) in (
+      le,
+      drawn_by_four done c.args.canvas.now c.fours.canvas c.block.new.self c.args.top c.args.from run c.args.color c.four_sixels.result
+          (omega (arith, le)) before.1 c.four_sixels.ensures c.block.ensures.drawn,
       λ row. c.block.ensures.reached row ∙ before.2 row,
+      λ more. omega (arith, before.3 (omega (arith, c.fours-test.true)), c.block.ensures.plain),
     )
 
-pub singly-init : goal.singly-init
-singly-init c = c.fours.invariant
+pub last-init : goal.last-init
+last-init c = (omega (arith, c.fours.invariant.0), c.fours.invariant.1, c.fours.invariant.2, c.fours.invariant.3)
 
-pub singly-preserved : goal.singly-preserved
-singly-preserved c =
-    let done = c.singly.done in
+pub last-preserved : goal.last-preserved
+last-preserved c =
+    let done = c.last.done in
     let run = c.args.run.now in
-    let before = c.singly.invariant in
-    let lt : done < length run = c.singly-test.true in (
+    let before = c.last.invariant in
+    let lt : done < length run = omega (arith, c.last-test.true, c.min-by_four.ensures) in (
       omega (arith, lt),
-      drawn_by_one done c.args.canvas.now c.singly.canvas c.draw.new.self c.args.top c.args.from run c.args.color lt before.1 c.in_ok-draw.ensures.drawn,
-      λ row. kept_singly c.singly.canvas c.draw.new.self c.args.top (c.args.from + done) (get_or run done 0 - 63)
-          (λ k six set. omega (arith, c.requires.held k done six lt set, before.2 (c.args.top + k))) c.in_ok-draw.ensures.grown row ∙ before.2 row,
+      drawn_by_four done c.args.canvas.now c.last.canvas c.block-in-last.new.self c.args.top c.args.from run c.args.color c.last_sixels.result
+          (omega (arith, lt)) before.1 c.last_sixels.ensures c.block-in-last.ensures.drawn,
+      λ row. c.block-in-last.ensures.reached row ∙ before.2 row,
+      λ more. omega (arith, before.3 (omega (arith, c.last-test.true)), c.block-in-last.ensures.plain),
+    )
+
+pub ends-init : goal.ends-init
+ends-init c = (c.last.invariant.0, c.last.invariant.1, c.last.invariant.2)
+
+pub dots-requires-clause-held : goal.dots-requires-clause-held
+dots-requires-clause-held c =
+    four_held c.ends.canvas c.args.top c.args.from c.args.run.now c.last_sixels-in-ends.result c.ends.done c.last_sixels-in-ends.ensures
+    (λ k j six lt hit. omega (arith, c.requires.dots k j six lt hit, c.ends.invariant.2 (c.args.top + k)))
+
+pub ends-preserved : goal.ends-preserved
+ends-preserved c =
+    let done = c.ends.done in
+    let run = c.args.run.now in
+    let before = c.ends.invariant in
+    let lt : done < length run = c.ends-test.true in (
+      omega (arith, lt),
+      drawn_by_four done c.args.canvas.now c.ends.canvas c.dots.new.self c.args.top c.args.from run c.args.color c.last_sixels-in-ends.result
+          (omega (arith, lt)) before.1 c.last_sixels-in-ends.ensures c.dots.ensures.drawn,
+      λ row. c.dots.ensures.reached row ∙ before.2 row,
     )
 
 pub returns-clause-drawn : goal.returns-clause-drawn
 returns-clause-drawn c =
-    drawn_whole c.singly.done c.args.canvas.now c.singly.canvas c.args.top c.args.from c.args.run.now c.args.color (omega (arith, c.singly-test.false)) c.singly.invariant.1
+    drawn_whole c.ends.done c.args.canvas.now c.ends.canvas c.args.top c.args.from c.args.run.now c.args.color (omega (arith, c.ends-test.false)) c.ends.invariant.1

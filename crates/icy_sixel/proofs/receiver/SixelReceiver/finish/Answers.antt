@@ -1,4 +1,4 @@
-use Rattle.std.proofs.Common.{◌≡◌, ℕ, List, refl, ap, sym, ◌∙◌, subst, None, Result, Ok, Err}
+use Rattle.std.proofs.Common.{◌≡◌, ℕ, List, ap, sym, ◌∙◌, subst, None, Result, Ok, Err}
 use Rattle.std.specs.Prelude.{IfOk, OnOk}
 use Rattle.sixel_base.specs.declared.error.SixelError.{SixelError}
 use Rattle.sixel_base.specs.Payload.{payload_fault, payload_image, payload_registers}
@@ -37,4 +37,4 @@ returns-clause-as_decoded c = λ more.
       | in-ControlString w ↦
           rw w.branch'-is (subst (Decoded w.finish-in-ControlString.result more) (sym (ap reception_of w.in-ControlString.is) ∙ held) (w.finish-in-ControlString.ensures.as_decoded more))
     ] in
-    rw c.from_picture.ensures (subst (λ r. Decoded r more c.args.self.now.image) was all)
+    rw c.from_picture.ensures.image (subst (λ r. Decoded r more c.args.self.now.image) was all)

@@ -5,6 +5,7 @@ use Rattle.std.proofs.lemmas.List.{get_or_default}
 use Rattle.sixel_canvas.specs.Row.{RowState, empty_row}
 use Rattle.sixel_canvas.specs.inside.Block.{mixed_from}
 use Rattle.sixel_canvas.specs.inside.Canvas.{CanvasState, row_at}
+use Rattle.sixel_canvas.proofs.Totals.{IsBounded-rows}
 use Rattle.sixel_canvas.proofs.Underway.{IsUnderway-hit, IsUnderway-none, in_band, in_band-above, in_band-inside, made_from_held, mixed_at, reached-mixed, shown-mixed}
 use Rattle.sixel_canvas.proofs.canvas.Canvas.block.Goals as goal
 
@@ -14,7 +15,7 @@ mixed-init c =
     let top = c.args.top in
     let made = made_from_held c.args.from top 5 c.args.self.now (c.requires.held 5 (omega arith)) in
     rw (← c.self.view_is)
-    (IsUnderway-none (mixed_at c.args.from c.args.sixels top c.args.color) (in_band top) top (record { background = canvas.background; rows = canvas.rows.items }) canvas.rows.items
+    (IsUnderway-none (mixed_at c.args.from c.args.sixels top c.args.color) (in_band top) top (record { background = canvas.background; rows = canvas.rows.items; tagged = 0 }) canvas.rows.items
     (in_band-above top) (omega (arith, made, ap (λ (s : CanvasState). length s.rows) c.self.view_is)) c.self.invariant.0 c.self.invariant.1 (λ row. refl))
 
 pub mix-requires-clause-held : goal.mix-requires-clause-held
@@ -53,3 +54,8 @@ returns-clause-reached c =
     let canvas = c.mixed.self-inside in
     reached-mixed c.args.from c.args.sixels c.args.top c.args.color c.mixed.bit c.args.self.now canvas.background canvas.rows.items
     c.mixed.invariant c.mixed-test.false (λ k h. omega (arith, c.requires.held k h))
+
+pub returns-clause-bounded : goal.returns-clause-bounded
+returns-clause-bounded c =
+    let done = c.mixed.invariant in
+    rw done.over (IsBounded-rows c.args.self.now.background c.mixed.self-inside.rows.items done.few done.sound)

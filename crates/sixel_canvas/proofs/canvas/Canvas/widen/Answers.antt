@@ -1,6 +1,7 @@
 use Rattle.std.proofs.Common.{◌≡◌, ℕ, ◌+◌, ◌-◌, get_or, refl, sym, ap, ◌∙◌, arith}
 use Rattle.std.proofs.Math.ListN.{set}
 use Rattle.sixel_canvas.specs.Row.{reached_to}
+use Rattle.sixel_canvas.proofs.Totals.{IsBounded-rows}
 use Rattle.sixel_canvas.proofs.Underway.{IsUnderway-hit, IsUnderway-none, in_band, in_band-above, in_band-inside}
 use Rattle.sixel_canvas.proofs.Widening.{reached-widened, shown-widened, widened_at}
 use Rattle.sixel_canvas.proofs.canvas.Canvas.widen.Goals as goal
@@ -9,7 +10,7 @@ pub widened-init : goal.widened-init
 widened-init c =
     let canvas = c.self.inside in
     rw (← c.self.view_is)
-    (IsUnderway-none (widened_at c.args.columns c.args.top) (in_band c.args.top) c.args.top (record { background = canvas.background; rows = canvas.rows.items }) c.make_rows.new.rows.items
+    (IsUnderway-none (widened_at c.args.columns c.args.top) (in_band c.args.top) c.args.top (record { background = canvas.background; rows = canvas.rows.items; tagged = 0 }) c.make_rows.new.rows.items
     (in_band-above c.args.top) (omega (arith, c.in_ok-make_rows.ensures.enough)) (omega (arith, c.make_rows.ensures.few, c.self.invariant.0)) (c.make_rows.ensures.rows c.self.invariant.1) c.make_rows.ensures.same)
 
 pub reach-requires-clause-within : goal.reach-requires-clause-within
@@ -38,3 +39,17 @@ returns-clause-grown c =
     let canvas = c.widened.self-inside in
     reached-widened c.args.columns c.args.top c.widened.bit c.args.self.now canvas.background canvas.rows.items
     c.widened.invariant c.widened-test.false
+
+pub returns-in_err-make_rows-clause-bounded : goal.returns-in_err-make_rows-clause-bounded
+returns-in_err-make_rows-clause-bounded c =
+    IsBounded-rows c.self.inside.background c.make_rows.new.rows.items (omega (arith, c.make_rows.ensures.few, c.self.invariant.0)) (c.make_rows.ensures.rows c.self.invariant.1)
+
+pub returns-in_err-reach-clause-bounded : goal.returns-in_err-reach-clause-bounded
+returns-in_err-reach-clause-bounded c =
+    let before = c.widened.invariant in
+    rw (before.over, c.in_err-reach.ensures.refused) (IsBounded-rows c.args.self.now.background c.widened.self-inside.rows.items before.few before.sound)
+
+pub returns-clause-bounded : goal.returns-clause-bounded
+returns-clause-bounded c =
+    let done = c.widened.invariant in
+    rw done.over (IsBounded-rows c.args.self.now.background c.widened.self-inside.rows.items done.few done.sound)

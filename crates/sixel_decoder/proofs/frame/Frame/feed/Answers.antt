@@ -1,7 +1,9 @@
-use Rattle.std.proofs.Common.{◌≡◌, true, false, get_or, arith}
+use Rattle.std.proofs.Common.{◌≡◌, true, false, get_or, inl, inr, arith}
+use Rattle.std.proofs.lemmas.Bool.Decides.{nat_tests}
 use Rattle.std.proofs.lemmas.Result.{err_from_is_err_and}
 use Rattle.sixel_base.specs.Bytes.{is_ignored, is_sixel, is_terminator}
-use Rattle.sixel_decoder.proofs.Feeding.{reaches_drawn, reaches_ignored, reaches_pushed, feeds_end, feeds_refused, feeds_refused_run, splits_at}
+use Rattle.sixel_decoder.specs.inside.Runs.{IsPrintable}
+use Rattle.sixel_decoder.proofs.Feeding.{reaches_read, reaches_ignored, reaches_pushed, feeds_end, feeds_refused, feeds_refused_front, splits_at}
 use Rattle.sixel_decoder.proofs.frame.Frame.feed.Goals as goal
 use Rattle.sixel_decoder.proofs.frame.Frame.feed.Goals.{then-not-is_ignored+in_ok-push, else-not-is_ignored}
 
@@ -12,15 +14,35 @@ pub bytes-preserved-then-is_sixel : goal.bytes-preserved-then-is_sixel
 bytes-preserved-then-is_sixel c = λ o h stands.
     let r = c.bytes.invariant o h stands in
     let drawn = c.in_ok-drawn in
-    reaches_drawn o c.bytes.self c.draw_sixels.new.self h c.bytes.index drawn.drawn c.args.piece.now c.tail.result.now c.tail.ensures
-    drawn.ensures.sixels drawn.ensures.within r (drawn.ensures.stands o r.now r.stands)
+    reaches_read o c.bytes.self c.draw_sixels.new.self h c.bytes.index drawn.drawn c.args.piece.now c.tail.result.now c.tail.ensures
+    (λ k lt. (omega (arith, drawn.ensures.sixels k lt), omega (arith, drawn.ensures.sixels k lt))) drawn.ensures.within r (drawn.ensures.stands o r.now r.stands)
+
+pub bytes-preserved-then-is_numbered : goal.bytes-preserved-then-is_numbered
+bytes-preserved-then-is_numbered c = λ o h stands.
+    let r = c.bytes.invariant o h stands in
+    let read = c.in_ok-read in
+    reaches_read o c.bytes.self c.open_with_digits.new.self h c.bytes.index read.read c.args.piece.now c.tail-then-is_numbered.result.now c.tail-then-is_numbered.ensures
+    read.ensures.printable read.ensures.within r (read.ensures.stands o r.now r.stands)
 
 pub returns-in_err-drawn : goal.returns-in_err-drawn
 returns-in_err-drawn c = λ o h stands.
-    let test : is_sixel (get_or c.args.piece.now c.bytes.index 0) ≡ true = cc (c.if-is_sixel.ensures, c.if-is_sixel.true) in
+    let byte = get_or c.args.piece.now c.bytes.index 0 in
+    let test : is_sixel byte ≡ true = cc (c.if-is_sixel.ensures, c.if-is_sixel.true) in
+    let printable : IsPrintable byte = (grind (arith, nat_tests, test), grind (arith, nat_tests, test)) in
     let r = c.bytes.invariant o h stands in
     let p = err_from_is_err_and c.from_residual.result c.from_residual.ensures.1 in
-    rw (p.1, p.2) (feeds_refused_run _ o c.bytes.self h c.bytes.index c.args.piece.now c.tail.result.now c.tail.ensures c.bytes-test.true test r (c.in_err-drawn.ensures.stands o r.now r.stands))
+    rw (p.1, p.2) (feeds_refused_front _ o c.bytes.self h c.bytes.index c.args.piece.now c.tail.result.now c.tail.ensures c.bytes-test.true printable r (c.in_err-drawn.ensures.stands o r.now r.stands))
+
+pub returns-in_err-read : goal.returns-in_err-read
+returns-in_err-read c = λ o h stands.
+    let byte = get_or c.args.piece.now c.bytes.index 0 in
+    let printable : IsPrintable byte = elim (c.is_numbered.ensures c.if-is_numbered.true) [
+      | inl is ↦ (omega (arith, is), omega (arith, is))
+      | inr is ↦ (omega (arith, is), omega (arith, is))
+    ] in
+    let r = c.bytes.invariant o h stands in
+    let p = err_from_is_err_and c.from_residual-in_err-read.result c.from_residual-in_err-read.ensures.1 in
+    rw (p.1, p.2) (feeds_refused_front _ o c.bytes.self h c.bytes.index c.args.piece.now c.tail-then-is_numbered.result.now c.tail-then-is_numbered.ensures c.bytes-test.true printable r (c.in_err-read.ensures.stands o r.now r.stands))
 
 pub returns-in_err-push : goal.returns-in_err-push
 returns-in_err-push c = λ o h stands.

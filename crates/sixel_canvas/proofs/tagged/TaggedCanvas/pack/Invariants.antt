@@ -1,7 +1,7 @@
 use Rattle.std.proofs.Common.{◌≡◌, ◌*◌, vec_len}
 use Rattle.sixel_canvas.specs.inside.Canvas.{shown}
 use Rattle.sixel_base.specs.Picture.{joined}
-use Rattle.sixel_canvas.proofs.canvas.Canvas.pack.Given as goal
+use Rattle.sixel_canvas.proofs.tagged.TaggedCanvas.pack.Given as goal
 
 abbrev pub invariant-packed : goal.invariant-packed
 invariant-packed l =

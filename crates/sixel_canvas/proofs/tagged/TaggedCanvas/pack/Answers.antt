@@ -1,7 +1,7 @@
 use Rattle.std.proofs.Common.{◌++◌, ap, ◌∙◌, add-one, arith}
 use Rattle.sixel_canvas.specs.inside.Canvas.{shown}
 use Rattle.sixel_base.specs.Picture.{joined, picture}
-use Rattle.sixel_canvas.proofs.canvas.Canvas.pack.Goals as goal
+use Rattle.sixel_canvas.proofs.tagged.TaggedCanvas.pack.Goals as goal
 
 pub packed-init : goal.packed-init
 unfolding joined

@@ -1,0 +1,46 @@
+use Rattle.std.proofs.Common.{◌≡◌, ◌<◌, max, length, get_or, ap, ◌∙◌, refl, arith}
+use Rattle.std.specs.Prelude.{◌==◌, if◌then◌else◌}
+use Rattle.sixel_canvas.specs.Row.{RowState, empty_row, reached_to}
+use Rattle.sixel_canvas.specs.inside.Canvas.{CanvasState, shown, reached}
+use Rattle.sixel_canvas.proofs.OneRow.{IsBounded-row_set, length-row_reached, shown-row_reached, sound-row_set}
+use Rattle.sixel_canvas.proofs.Totals.{IsBounded-rows}
+use Rattle.sixel_canvas.proofs.canvas.Canvas.reach_row.Goals as goal
+
+pub returns-in_err-make_rows-clause-bounded : goal.returns-in_err-make_rows-clause-bounded
+returns-in_err-make_rows-clause-bounded c =
+    IsBounded-rows c.self.inside.background c.make_rows.new.rows.items (omega (arith, c.make_rows.ensures.few, c.self.invariant.0)) (c.make_rows.ensures.rows c.self.invariant.1)
+
+pub returns-in_err-reach-clause-bounded : goal.returns-in_err-reach-clause-bounded
+returns-in_err-reach-clause-bounded c =
+    rw c.in_err-reach.ensures.refused (IsBounded-rows c.self.inside.background c.make_rows.new.rows.items (omega (arith, c.make_rows.ensures.few, c.self.invariant.0)) (c.make_rows.ensures.rows c.self.invariant.1))
+
+pub invariant_of-self-2 : goal.invariant_of-self-2
+invariant_of-self-2 c =
+    let rows = c.make_rows.new.rows.items in
+    let made : c.args.row < length rows = omega (arith, c.in_ok-make_rows.ensures.enough) in
+    let is = sound-row_set (reached_to c.args.columns) c.args.row rows c.reach.new.rows.items c.self.inside.background c.in_ok-reach.ensures.ok made (c.make_rows.ensures.rows c.self.invariant.1) (λ _. refl) c.in_ok-reach.ensures.thrifty in
+    (omega (arith, is.0, c.make_rows.ensures.few, c.self.invariant.0), is.1)
+
+pub returns-clause-bounded : goal.returns-clause-bounded
+returns-clause-bounded c =
+    let rows = c.make_rows.new.rows.items in
+    let made : c.args.row < length rows = omega (arith, c.in_ok-make_rows.ensures.enough) in
+    IsBounded-row_set (reached_to c.args.columns) c.args.row rows c.reach.new.rows.items c.self.inside.background c.in_ok-reach.ensures.ok made (omega (arith, c.make_rows.ensures.few, c.self.invariant.0)) (c.make_rows.ensures.rows c.self.invariant.1) (λ _. refl) c.in_ok-reach.ensures.thrifty
+
+pub returns-clause-shown : goal.returns-clause-shown
+returns-clause-shown c = λ column k.
+    let background = c.self.inside.background in
+    let rows = c.make_rows.new.rows.items in
+    let made : c.args.row < length rows = omega (arith, c.in_ok-make_rows.ensures.enough) in
+    shown-row_reached c.args.columns c.args.row rows c.reach.new.rows.items background c.in_ok-reach.ensures.ok made (c.make_rows.ensures.rows c.self.invariant.1) column k
+    ∙ ap (λ (r : RowState). get_or r.pixels column background) (c.make_rows.ensures.same k)
+    ∙ ap (λ (s : CanvasState). shown s column k) c.self.view_is
+
+pub returns-clause-grown : goal.returns-clause-grown
+returns-clause-grown c = λ k.
+    let rows = c.make_rows.new.rows.items in
+    let made : c.args.row < length rows = omega (arith, c.in_ok-make_rows.ensures.enough) in
+    let before : length (get_or rows k (empty_row c.self.inside.background)).pixels ≡ reached c.args.self.now k =
+    ap (λ (r : RowState). length r.pixels) (c.make_rows.ensures.same k) ∙ ap (λ (s : CanvasState). reached s k) c.self.view_is in
+    length-row_reached c.args.columns c.args.row rows c.reach.new.rows.items c.self.inside.background c.in_ok-reach.ensures.ok made k
+    ∙ ap (λ n. if k == c.args.row then max n c.args.columns else n) before

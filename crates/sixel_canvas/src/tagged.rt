@@ -1,0 +1,457 @@
+//! A canvas on which a wide stroke over what is there costs no more than its blocks and two ends.
+ghost use Rattle.std.specs.Prelude.{◌≡◌, ℕ, ◌+◌, ◌-◌, ◌*◌, ◌/◌, ◌^◌, ◌<◌, ◌≤◌, ◌==◌, ◌&&◌, ◌++◌, [], max};
+ghost use Rattle.std.specs.Prelude.{length, vec_len, slice_index, true, false, if◌then◌else◌};
+ghost use Rattle.std.specs.Prelude.{◌%◌, min};
+ghost use Rattle.std.specs.Prelude.{nat_le, nat_lt, IfOk, IfErr, OnErr, OnOk};
+ghost use Rattle.sixel_base.specs.declared.error.SixelError.TheVariants.{OutOfMemory};
+ghost use Rattle.sixel_base.specs.Picture.{covers, is_set, is_struck, joined, picture};
+ghost use Rattle.sixel_canvas.specs.inside.Block.{drawn_over};
+ghost use Rattle.sixel_canvas.specs.inside.Canvas.{shown, reached, canvas_writes, IsBounded};
+ghost use Rattle.sixel_canvas.specs.inside.Tags.{is_tag, lies_in, seen, IsTagged};
+
+use crate::canvas::Canvas;
+use sixel_base::Result;
+use std::alloc::Global;
+use std::marker::Model;
+
+/// How many columns of a row have a tag in common.
+const BLOCK: usize = 128;
+
+/// From how many columns on a stroke may be tagged.
+const WIDE: usize = 256;
+
+/// What stands where a block has no tag.
+const NO_TAG: [u8; 4] = [0; 4];
+
+/// A canvas without an edge: its rows hold pixels only up to their last painted column, and
+/// every other place shows the background.
+///
+/// A block of 128 columns of a row may have a tag: it shows this color, whatever is stored. So a
+/// stroke that covers the block whole need not paint it.
+#[derive(Drop)]
+pub struct TaggedCanvas {
+    sheet: Canvas,
+    tags: Canvas,
+    top: usize,
+    painted: usize,
+}
+
+impl Model for TaggedCanvas {
+    ghost use Rattle.std.specs.Prelude.{◌≤◌};
+    ghost use Rattle.sixel_canvas.specs.inside.Canvas.{CanvasState};
+    ghost use Rattle.sixel_canvas.specs.inside.Tags.{tagged, IsTagged};
+
+    ghost Value = { CanvasState };
+
+    ghost view = { λ canvas. tagged canvas.sheet canvas.tags };
+
+    ghost invariant = { λ canvas. IsTagged canvas.sheet canvas.tags × (canvas.painted ≤ 18000000) };
+}
+
+impl TaggedCanvas {
+    /// A canvas that shows the background everywhere. It takes no memory.
+    pub fn new(alloc: Global, background: [u8; 4]) -> TaggedCanvas
+        ensures empty { result ≡ record { background = background; rows = []; tagged = 0 } }
+        ensures bounded { IsBounded result }
+    {
+        TaggedCanvas {
+            sheet: Canvas::new(alloc, background),
+            tags: Canvas::new(alloc, NO_TAG),
+            top: 0,
+            painted: 0,
+        }
+    }
+
+    /// Draws a sixel over the columns from `from` up to before `to`: of the six rows from `top`
+    /// on, those whose bit is set get the color. The least bit is the top row's.
+    ///
+    /// Only those rows are touched, and grown where they end before `to`. Columns and rows end
+    /// at a million. Where memory is refused, a part of the sixel may be drawn.
+    #[inline(never)]
+    pub fn draw(
+        &mut self,
+        from: usize,
+        to: usize,
+        top: usize,
+        bits: u8,
+        color: [u8; 4],
+    ) -> Result<()>
+        requires ordered { from ≤ to }
+        requires within { to ≤ 1000000 }
+        requires above_bottom { top + 6 ≤ 1000000 }
+        requires six { bits < 64 }
+        ensures drawn { OnOk result ((column row : ℕ) → shown self.new column row
+            ≡ (if covers from to top bits column row then color else shown self.old column row)) }
+        ensures grown { OnOk result ((row : ℕ) → reached self.new row ≡ (if is_struck top bits row
+            then max (reached self.old row) to else reached self.old row)) }
+        ensures background { self.new.background ≡ self.old.background }
+        ensures error { IfErr result (λ e. e ≡ OutOfMemory) }
+        ensures bounded { IsBounded self.new }
+    {
+        if to - from < WIDE && self.tags.height() <= top {
+            return self.sheet.draw(from, to, top, bits, color);
+        }
+        self.draw_over(from, to, top, bits, color)
+    }
+
+    /// How many columns each of the six rows from `top` on holds, from the left.
+    ///
+    /// None, where one of their blocks may have a tag.
+    pub fn held(&self, top: usize) -> usize
+        ensures held { (k : ℕ) → k < 6 → result ≤ reached self.now (top + k) }
+        ensures plain { 0 < result → self.now.tagged ≤ top }
+    {
+        if self.tags.height() > top {
+            return 0;
+        }
+        self.sheet.held(top)
+    }
+
+    /// Draws four sixels of one column each, from `from` on, where each of the six rows from `top`
+    /// on holds their columns and no block has a tag. It takes no memory.
+    #[inline(always)]
+    pub fn block(&mut self, from: usize, top: usize, sixels: [u8; 4], color: [u8; 4])
+        requires held { (k : ℕ) → k < 6 → from + 4 ≤ reached self.old (top + k) }
+        requires plain { self.old.tagged ≤ top }
+        ensures drawn { (column row : ℕ) → shown self.new column row
+            ≡ drawn_over from sixels top color column row (shown self.old column row) }
+        ensures reached { (row : ℕ) → reached self.new row ≡ reached self.old row }
+        ensures background { self.new.background ≡ self.old.background }
+        ensures plain { self.new.tagged ≡ self.old.tagged }
+    {
+        self.sheet.block(from, top, sixels, color);
+    }
+
+    /// Draws four sixels of one column each, from `from` on, where each of the six rows from `top`
+    /// on holds the columns of its own dots. It takes no memory.
+    #[inline(always)]
+    pub fn dots(&mut self, from: usize, top: usize, sixels: [u8; 4], color: [u8; 4])
+        requires within { from ≤ 1000000 }
+        requires above_bottom { top + 6 ≤ 1000000 }
+        requires held { (k j : ℕ) → k < 6 → j < 4 → is_set (slice_index sixels j) k ≡ true
+            → from + j < reached self.old (top + k) }
+        ensures drawn { (column row : ℕ) → shown self.new column row
+            ≡ drawn_over from sixels top color column row (shown self.old column row) }
+        ensures reached { (row : ℕ) → reached self.new row ≡ reached self.old row }
+        ensures background { self.new.background ≡ self.old.background }
+    {
+        clear_block(&mut self.sheet, &mut self.tags, top, from);
+        self.sheet.dots(from, top, sixels, color);
+    }
+
+    /// Makes each of the six rows from `top` on hold so many columns, where it holds fewer: those
+    /// that are added are background. Where memory is refused, some of the rows may.
+    #[inline(always)]
+    pub fn widen(&mut self, top: usize, columns: [usize; 6]) -> Result<()>
+        requires within { (k : ℕ) → k < 6 → slice_index columns k ≤ 1000000 }
+        requires above_bottom { top + 6 ≤ 1000000 }
+        ensures shown { OnOk result ((column row : ℕ) → shown self.new column row
+            ≡ shown self.old column row) }
+        ensures grown { OnOk result ((row : ℕ) → reached self.new row
+            ≡ (if nat_le top row && nat_lt row (top + 6)
+            then max (reached self.old row) (slice_index columns (row - top))
+            else reached self.old row)) }
+        ensures background { self.new.background ≡ self.old.background }
+        ensures error { IfErr result (λ e. e ≡ OutOfMemory) }
+    {
+        self.sheet.widen(top, columns)
+    }
+
+    /// The bytes of the picture of this size: red, green, blue and alpha a pixel, row by row from
+    /// the top. Places that no stroke has reached are background.
+    ///
+    /// They get room for an eighth more, which is never touched.
+    pub fn pack(&self, width: usize, height: usize) -> Result<Vec<u8>>
+        requires { width * height ≤ 67108864 }
+        ensures ok { IfOk result (λ bytes. bytes.items ≡ picture (shown self.now) width height) }
+        ensures len { IfOk result (λ bytes. length bytes.items ≡ 4 * (width * height)) }
+        ensures error { IfErr result (λ e. e ≡ OutOfMemory) }
+    {
+        let pixels = width * height;
+        let mut bytes = Vec::with_capacity(self.sheet.allocator(), 4 * pixels + pixels / 2)?;
+        'packed: for row in 0..height {
+            self.pack_row(&mut bytes, row, width)?;
+        }
+        Ok(bytes)
+    }
+
+    /// How many pixels were copied or filled so far, to grow the rows. Painting doesn't count, nor
+    /// does packing.
+    pub fn writes(&self) -> u64
+        ensures value { result ≡ canvas_writes self.now }
+        ensures at_most { result ≤ 3000000000000 }
+        ensures bounded { IsBounded self.now }
+    {
+        self.sheet.writes()
+    }
+
+    // Appends a row of the picture of this width.
+    fn pack_row(&self, bytes: &mut Vec<u8>, row: usize, width: usize) -> Result<()>
+        requires { vec_len bytes.old + 4 * width < 2 ^ 63 }
+        ensures ok { OnOk result (bytes.new.items ≡ bytes.old.items
+            ++ joined (λ column. shown self.now column row) width) }
+        ensures len { OnOk result (vec_len bytes.new ≡ vec_len bytes.old + 4 * width) }
+        ensures error { IfErr result (λ e. e ≡ OutOfMemory) }
+    {
+        if row >= self.tags.height() {
+            return self.sheet.pack_row(bytes, row, width);
+        }
+        'pixels: for column in 0..width {
+            bytes.extend_from_slice(&self.pixel(column, row))?;
+        }
+        Ok(())
+    }
+
+    // The pixel at this place.
+    fn pixel(&self, column: usize, row: usize) -> [u8; 4]
+        ensures { result ≡ shown self.now column row }
+    {
+        let tag = self.tags.pixel(column / BLOCK, row);
+        if tag[3] == 0 {
+            return self.sheet.pixel(column, row);
+        }
+        tag
+    }
+
+    // Draws a sixel that is wide, or that a tag may lie under.
+    #[cold]
+    #[inline(never)]
+    fn draw_over(
+        &mut self,
+        from: usize,
+        to: usize,
+        top: usize,
+        bits: u8,
+        color: [u8; 4],
+    ) -> Result<()>
+        requires ordered { from ≤ to }
+        requires within { to ≤ 1000000 }
+        requires above_bottom { top + 6 ≤ 1000000 }
+        requires six { bits < 64 }
+        ensures drawn { OnOk result ((column row : ℕ) → shown self.new column row
+            ≡ (if covers from to top bits column row then color else shown self.old column row)) }
+        ensures grown { OnOk result ((row : ℕ) → reached self.new row ≡ (if is_struck top bits row
+            then max (reached self.old row) to else reached self.old row)) }
+        ensures background { self.new.background ≡ self.old.background }
+        ensures error { IfErr result (λ e. e ≡ OutOfMemory) }
+        ensures bounded { IsBounded self.new }
+    {
+        let lazy = color[3] > 0 && self.is_spent(from, to, top, bits);
+        'struck: for bit in 0..6 {
+            if (bits >> bit) % 2 == 1 {
+                strike(
+                    &mut self.sheet,
+                    &mut self.tags,
+                    top + bit,
+                    from,
+                    to,
+                    color,
+                    lazy,
+                )?;
+            }
+        }
+        Ok(())
+    }
+
+    // Whether the strokes of this band have painted so much that this one is to be tagged: with it,
+    // more than three times what the band's rows hold then. So is one in rows above the band, which
+    // no decoder draws.
+    fn is_spent(&mut self, from: usize, to: usize, top: usize, bits: u8) -> bool
+        requires ordered { from ≤ to }
+        requires within { to ≤ 1000000 }
+        requires above_bottom { top + 6 ≤ 1000000 }
+        ensures same { self.new ≡ self.old }
+    {
+        if top.saturating_sub(self.top) >= 6 {
+            self.top = top;
+            self.painted = 0;
+        }
+        if top != self.top {
+            return true;
+        }
+        let mut painted = self.painted;
+        let mut held = 0;
+        'rows: for bit in 0..6 {
+            let mut columns = self.sheet.width(top + bit);
+            if (bits >> bit) % 2 == 1 {
+                painted += to - from;
+                columns = columns.max(to);
+            }
+            held += columns;
+        }
+        if painted > 3 * held {
+            return true;
+        }
+        self.painted = painted;
+        false
+    }
+}
+
+// Draws a part of one row, which is grown first where it is too short: painted, or tagged where that
+// is asked and it covers a block.
+fn strike(
+    sheet: &mut Canvas,
+    tags: &mut Canvas,
+    row: usize,
+    from: usize,
+    to: usize,
+    color: [u8; 4],
+    lazy: bool,
+) -> Result<()>
+    requires ordered { from ≤ to }
+    requires within { to ≤ 1000000 }
+    requires above_bottom { row < 1000000 }
+    requires tagged { IsTagged sheet.old tags.old }
+    requires visible { lazy ≡ true → is_tag color ≡ true }
+    ensures drawn { OnOk result ((column k : ℕ) → seen sheet.new tags.new column k
+        ≡ (if lies_in row from to column k then color else seen sheet.old tags.old column k)) }
+    ensures grown { OnOk result ((k : ℕ) → reached sheet.new k
+        ≡ (if k == row then max (reached sheet.old k) to else reached sheet.old k)) }
+    ensures background { sheet.new.background ≡ sheet.old.background }
+    ensures tagged { IsTagged sheet.new tags.new }
+    ensures error { IfErr result (λ e. e ≡ OutOfMemory) }
+{
+    sheet.reach_row(row, to)?;
+    if lazy && from.div_ceil(BLOCK) < to / BLOCK {
+        tag(sheet, tags, row, from, to, color)?;
+    } else {
+        paint(sheet, tags, row, from, to, color);
+    }
+    Ok(())
+}
+
+// Paints columns that the row holds.
+fn paint(sheet: &mut Canvas, tags: &mut Canvas, row: usize, from: usize, to: usize, color: [u8; 4])
+    requires ordered { from ≤ to }
+    requires within { to ≤ 1000000 }
+    requires held { to ≤ reached sheet.old row }
+    requires tagged { IsTagged sheet.old tags.old }
+    ensures drawn { (column k : ℕ) → seen sheet.new tags.new column k
+        ≡ (if lies_in row from to column k then color else seen sheet.old tags.old column k) }
+    ensures reached { (k : ℕ) → reached sheet.new k ≡ reached sheet.old k }
+    ensures background { sheet.new.background ≡ sheet.old.background }
+    ensures tagged { IsTagged sheet.new tags.new }
+{
+    settle_ends(sheet, tags, row, from, to);
+    let first = from.div_ceil(BLOCK);
+    let last = tags.width(row).min(to / BLOCK).max(first);
+    tags.fill_row(row, first, last, NO_TAG);
+    sheet.fill_row(row, from, to, color);
+}
+
+// Tags the blocks that lie whole in columns that the row holds, and paints the two ends.
+fn tag(
+    sheet: &mut Canvas,
+    tags: &mut Canvas,
+    row: usize,
+    from: usize,
+    to: usize,
+    color: [u8; 4],
+) -> Result<()>
+    requires whole { from / 128 + min 1 (from % 128) < to / 128 }
+    requires within { to ≤ 1000000 }
+    requires above_bottom { row < 1000000 }
+    requires held { to ≤ reached sheet.old row }
+    requires tagged { IsTagged sheet.old tags.old }
+    requires visible { is_tag color ≡ true }
+    ensures drawn { OnOk result ((column k : ℕ) → seen sheet.new tags.new column k
+        ≡ (if lies_in row from to column k then color else seen sheet.old tags.old column k)) }
+    ensures reached { (k : ℕ) → reached sheet.new k ≡ reached sheet.old k }
+    ensures background { sheet.new.background ≡ sheet.old.background }
+    ensures tagged { IsTagged sheet.new tags.new }
+    ensures error { IfErr result (λ e. e ≡ OutOfMemory) }
+{
+    let first = from.div_ceil(BLOCK);
+    let last = to / BLOCK;
+    tags.reach_row(row, last)?;
+    settle_ends(sheet, tags, row, from, to);
+    sheet.fill_row(row, from, first * BLOCK, color);
+    sheet.fill_row(row, last * BLOCK, to, color);
+    tags.fill_row(row, first, last, color);
+    Ok(())
+}
+
+// Takes the tags off the blocks at both ends of a stroke.
+fn settle_ends(sheet: &mut Canvas, tags: &mut Canvas, row: usize, from: usize, to: usize)
+    requires ordered { from ≤ to }
+    requires within { to ≤ 1000000 }
+    requires tagged { IsTagged sheet.old tags.old }
+    ensures seen { (column k : ℕ) → lies_in row from to column k ≡ false
+        → seen sheet.new tags.new column k ≡ seen sheet.old tags.old column k }
+    ensures left { is_tag (shown tags.new (from / 128) row) ≡ false }
+    ensures right { is_tag (shown tags.new (to / 128) row) ≡ false }
+    ensures reached { (k : ℕ) → reached sheet.new k ≡ reached sheet.old k }
+    ensures tags_reached { (k : ℕ) → reached tags.new k ≡ reached tags.old k }
+    ensures background { sheet.new.background ≡ sheet.old.background }
+    ensures tagged { IsTagged sheet.new tags.new }
+{
+    settle(sheet, tags, row, from / BLOCK, from, to);
+    settle(sheet, tags, row, to / BLOCK, from, to);
+}
+
+// Takes the tag off a block, which is painted in it, but for the columns from `from` up to before
+// `to`.
+fn settle(sheet: &mut Canvas, tags: &mut Canvas, row: usize, block: usize, from: usize, to: usize)
+    requires ordered { from ≤ to }
+    requires small { block ≤ 1000000 }
+    requires tagged { IsTagged sheet.old tags.old }
+    ensures seen { (column k : ℕ) → lies_in row from to column k ≡ false
+        → seen sheet.new tags.new column k ≡ seen sheet.old tags.old column k }
+    ensures settled { is_tag (shown tags.new block row) ≡ false }
+    ensures fewer { (b k : ℕ) → is_tag (shown tags.new b k) ≡ true
+        → shown tags.new b k ≡ shown tags.old b k }
+    ensures reached { (k : ℕ) → reached sheet.new k ≡ reached sheet.old k }
+    ensures tags_reached { (k : ℕ) → reached tags.new k ≡ reached tags.old k }
+    ensures background { sheet.new.background ≡ sheet.old.background }
+    ensures tagged { IsTagged sheet.new tags.new }
+{
+    let tag = tags.pixel(block, row);
+    if tag[3] == 0 {
+        return;
+    }
+    let start = block * BLOCK;
+    let end = start + BLOCK;
+    sheet.fill_row(row, start, from.clamp(start, end), tag);
+    sheet.fill_row(row, to.clamp(start, end), end, tag);
+    tags.fill_row(row, block, block + 1, NO_TAG);
+}
+
+// Takes the tags off the blocks of these four columns, in six rows, where the rows may have some.
+#[inline(always)]
+fn clear_block(sheet: &mut Canvas, tags: &mut Canvas, top: usize, from: usize)
+    requires within { from ≤ 1000000 }
+    requires above_bottom { top + 6 ≤ 1000000 }
+    requires tagged { IsTagged sheet.old tags.old }
+    ensures seen { (column k : ℕ) → seen sheet.new tags.new column k
+        ≡ seen sheet.old tags.old column k }
+    ensures settled { (column bit : ℕ) → from ≤ column → column < from + 4 → bit < 6
+        → is_tag (shown tags.new (column / 128) (top + bit)) ≡ false }
+    ensures reached { (k : ℕ) → reached sheet.new k ≡ reached sheet.old k }
+    ensures background { sheet.new.background ≡ sheet.old.background }
+    ensures tagged { IsTagged sheet.new tags.new }
+{
+    if tags.height() > top {
+        settle_four(sheet, tags, top, from);
+    }
+}
+
+// Takes the tags off the blocks of these four columns, in six rows.
+#[cold]
+#[inline(never)]
+fn settle_four(sheet: &mut Canvas, tags: &mut Canvas, top: usize, from: usize)
+    requires within { from ≤ 1000000 }
+    requires above_bottom { top + 6 ≤ 1000000 }
+    requires tagged { IsTagged sheet.old tags.old }
+    ensures seen { (column k : ℕ) → seen sheet.new tags.new column k
+        ≡ seen sheet.old tags.old column k }
+    ensures settled { (column bit : ℕ) → from ≤ column → column < from + 4 → bit < 6
+        → is_tag (shown tags.new (column / 128) (top + bit)) ≡ false }
+    ensures reached { (k : ℕ) → reached sheet.new k ≡ reached sheet.old k }
+    ensures background { sheet.new.background ≡ sheet.old.background }
+    ensures tagged { IsTagged sheet.new tags.new }
+{
+    'settled: for bit in 0..6 {
+        settle(sheet, tags, top + bit, from / BLOCK, 0, 0);
+        settle(sheet, tags, top + bit, (from + 3) / BLOCK, 0, 0);
+    }
+}
