@@ -16,7 +16,8 @@ use icy_sixel::{DcsSettings, EncodeOptions, SixelImage, sixel_encode};
 use std::alloc::Global;
 use std::io::{Read, Write};
 
-/// Does what the word asks for with the bytes of the input, which is read to its end first.
+/// Does what the word asks for with the bytes of the input, which is read to its end first. It may
+/// be known to have so many bytes; 0 says that it is not.
 ///
 /// The pieces of [`Word::Frames`] have at least one byte, as `read_word` sees to.
 ///
@@ -24,6 +25,7 @@ use std::io::{Read, Write};
 pub fn serve<R: Read, O: Write>(
     alloc: Global,
     word: Word,
+    known: usize,
     input: &mut R,
     output: &mut O,
 ) -> Result<(), Fault>
@@ -40,8 +42,17 @@ pub fn serve<R: Read, O: Write>(
         Writes (Begins (IsAnswer word bytes)) (O.contents output.old) (O.contents output.new)) }
     ensures at_end { OnOk result (IsAtEnd (R.remaining input.new)) }
 {
-    let bytes = read_all(alloc, input)?;
+    let bytes = read_all(alloc, input, expected_len(word, known))?;
     answer(alloc, word, &bytes, output)
+}
+
+/// How many bytes are expected for the word, whose input may be known to have so many: raw pixels
+/// have four bytes each.
+fn expected_len(word: Word, known: usize) -> usize {
+    match word {
+        Word::Encode(width, height, _) => width.saturating_mul(height).saturating_mul(4),
+        Word::Payload | Word::Decode | Word::Frames(_) => known,
+    }
 }
 
 /// Does what the word asks for with these bytes.

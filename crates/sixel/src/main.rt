@@ -14,11 +14,17 @@ mod words;
 use fault::Fault;
 use response::{Response, respond};
 use std::process::ExitCode;
-use std::{env, io};
+use std::{env, fs, io};
 
 fn main(rt: HostRuntime) -> io::Result<ExitCode> {
     let response = match arguments(&rt) {
-        Ok(words) => respond(rt.alloc(), &words, &mut rt.stdin(), &mut rt.stdout()),
+        Ok(words) => respond(
+            rt.alloc(),
+            &words,
+            known_len(&rt),
+            &mut rt.stdin(),
+            &mut rt.stdout(),
+        ),
         Err(fault) => Response::Failed(fault),
     };
     tell(&rt, &response)?;
@@ -36,6 +42,14 @@ fn arguments(rt: &HostRuntime) -> Result<Vec<String>, Fault> {
         words.push(word).map_err(|_| Fault::Input)?;
     }
     Ok(words)
+}
+
+/// How many bytes standard input has, if it is a file; 0 where the system can't say.
+fn known_len(rt: &HostRuntime) -> usize {
+    match fs::metadata(rt, "/dev/stdin") {
+        Ok(data) => usize::try_from(data.len()).unwrap_or(0),
+        Err(_) => 0,
+    }
 }
 
 /// Writes a line to standard error where something is wrong.

@@ -43,12 +43,14 @@ impl Response {
 }
 
 /// Does what the words after the program's own name ask for. Where they ask for nothing that it
-/// does, it reads and writes nothing.
+/// does, it reads and writes nothing. The input may be known to have so many bytes; 0 says that it
+/// is not.
 ///
 /// The clauses on bytes hold where the reader tells what it has left and the writer what it holds.
 pub fn respond<R: Read, O: Write>(
     alloc: Global,
     words: &[String],
+    known: usize,
     input: &mut R,
     output: &mut O,
 ) -> Response
@@ -72,7 +74,7 @@ pub fn respond<R: Read, O: Write>(
     let Some(word) = asked(words) else {
         return Response::Usage;
     };
-    match serve(alloc, word, input, output) {
+    match serve(alloc, word, known, input, output) {
         Ok(()) => Response::Done,
         Err(fault) => Response::Failed(fault),
     }

@@ -1,17 +1,17 @@
-ghost use Rattle.std.specs.Prelude.{◌≡◌, ◌⊎◌, ℕ, take, IfOk, IfErr, OnOk, OnErr, IfSome};
+ghost use Rattle.std.specs.Prelude.{◌≡◌, ◌⊎◌, ℕ, ◌++◌, take, IfOk, IfErr, OnOk, OnErr, IfSome};
 ghost use Rattle.std.specs.Io.KnownBytes.{Appends, IsAtEnd};
 ghost use Rattle.sixel_base.specs.declared.error.SixelError.TheVariants.{OutOfMemory};
 ghost use Rattle.sixel.specs.declared.fault.Fault.TheVariants.{Sixel, Input, Output};
 
 use crate::fault::Fault;
-use std::alloc::Global;
+use std::alloc::{AllocError, Global};
 use std::io::{Read, Write};
 
 /// How many bytes are read at once.
 const PIECE: usize = 65536;
 
-/// Reads the input to its end.
-pub fn read_all<R: Read>(alloc: Global, input: &mut R) -> Result<Vec<u8>, Fault>
+/// Reads the input to its end, into room for so many bytes where it has at least half of them.
+pub fn read_all<R: Read>(alloc: Global, input: &mut R, expected: usize) -> Result<Vec<u8>, Fault>
     ensures bytes { IfOk result (λ bytes. IfSome (R.remaining input.old) (λ all. bytes.items ≡ all)) }
     ensures at_end { OnOk result (IsAtEnd (R.remaining input.new)) }
     ensures refused { IfErr result (λ fault. (fault ≡ Input) ⊎ (fault ≡ Sixel OutOfMemory)) }
@@ -21,11 +21,24 @@ pub fn read_all<R: Read>(alloc: Global, input: &mut R) -> Result<Vec<u8>, Fault>
     'reads: for _ in 0..u64::MAX {
         match input.read(&mut piece) {
             Ok(0) => return Ok(bytes),
-            Ok(count) => bytes.extend_from_slice(&piece[..count])?,
+            Ok(count) => append(&mut bytes, &piece[..count], expected)?,
             Err(_) => return Err(Fault::Input),
         }
     }
     Err(Fault::Input)
+}
+
+/// Appends a piece to bytes that are expected to become so many. They get room for as many more as
+/// there are with the piece, or for those that are left to come, if these are fewer: an input that
+/// ends early has asked for little.
+fn append(bytes: &mut Vec<u8>, piece: &[u8], expected: usize) -> Result<(), AllocError>
+    ensures { OnOk result (bytes.new.items ≡ bytes.old.items ++ piece.now) }
+{
+    let left = expected.saturating_sub(bytes.len());
+    if bytes.capacity() - bytes.len() < piece.len() && piece.len() <= left {
+        bytes.reserve_exact(left.min(bytes.len().saturating_add(piece.len())))?;
+    }
+    bytes.extend_from_slice(piece)
 }
 
 /// Writes the bytes, or a beginning of them and then the fault `Output`.

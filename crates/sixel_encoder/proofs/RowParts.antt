@@ -40,6 +40,13 @@ put-before xs ys a k n h l = grind (arith, places)
 put-after : (xs ys : List ℕ) (a k n : ℕ) → a + k ≤ length xs → length ys ≡ k → a + k ≤ n → get_or (put_mid a k xs ys) n 0 ≡ get_or xs n 0
 put-after xs ys a k n h e l = grind (arith, places)
 
+put-within : (xs ys : List ℕ) (a k n : ℕ) → a + k ≤ length xs → length ys ≡ k → n < k → get_or (put_mid a k xs ys) (a + n) 0 ≡ get_or ys n 0
+put-within xs ys a k n h e l = grind (arith, places)
+
+-- a write to an entry's row gives it these sixels
+pub cell-put_own : (rows ys : List ℕ) (width entry k x : ℕ) → k ≡ width → length ys ≡ k → entry * width + width ≤ length rows → x < width → cell (put_mid (entry * width) k rows ys) width entry x ≡ get_or ys x 0
+cell-put_own rows ys width entry k x ek el h lx = put-within rows ys (entry * width) k x (omega arith) el (omega arith)
+
 -- a write to an entry's row changes no other row
 pub cell-put_other : (rows ys : List ℕ) (width entry k e x : ℕ) → k ≡ width → length ys ≡ k → entry * width + width ≤ length rows → e ≢ entry → x < width → cell (put_mid (entry * width) k rows ys) width e x ≡ cell rows width e x
 cell-put_other rows ys width entry k e x ek el h apart lx =

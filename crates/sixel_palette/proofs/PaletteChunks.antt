@@ -32,12 +32,10 @@ pub record IsGreatestOf (squares : List ℕ) (from to greatest : ℕ) : Type 0 w
   pub upper : (k : ℕ) → from ≤ k → k < to → get_or squares k 0 ≤ greatest
   pub reached : (to ≤ from × greatest ≡ 0) ⊎ ((k : ℕ) × (from ≤ k) × (k < to) × (get_or squares k 0 ≡ greatest))
 
--- of the first chunks this one is the first of those with the greatest distance
-pub record IsFirstChunk (chunks : List Chunk) (count best : ℕ) : Type 0 where
-  pub within : 0 < length chunks → best < length chunks
-  pub reached : best ≤ count
-  pub upper : (j : ℕ) (d : Chunk) → j < count → j < length chunks → (get_or chunks j d).greatest ≤ (get_or chunks best none).greatest
-  pub first : (j : ℕ) (d : Chunk) → j < best → (get_or chunks j d).greatest < (get_or chunks best none).greatest
+-- no chunk has a greater number, and those before this one have lesser ones
+pub record IsFirstChunk (chunks : List Chunk) (greatest best : ℕ) : Type 0 where
+  pub upper : (j : ℕ) → j < length chunks → (get_or chunks j none).greatest ≤ greatest
+  pub first : (j : ℕ) → j < best → (get_or chunks j none).greatest < greatest
 
 -- a write leaves the places before it
 get_or-set_before : (xs : List ℕ) (at x k : ℕ) → k < at → get_or (set xs at x) k 0 ≡ get_or xs k 0
@@ -150,24 +148,32 @@ pub kept_far : (entries : List (List ℕ)) (color codes squares places : List �
 kept_far entries color codes squares places place chunk h box kept k i =
     near_kept entries color (color_of (get_or codes k 0)) (kept_at squares places k) (omega (arith, h.greatest.upper k i, box (color_of (get_or codes k 0)) (h.box k i))) (kept k i)
 
--- no number is above the greatest of the first chunk with the greatest
-below_best : (codes squares : List ℕ) (chunks : List Chunk) (count best k : ℕ) → AreChunks codes squares chunks → IsFirstChunk chunks count best → length chunks ≤ count → k < length codes → get_or squares k 0 ≤ (get_or chunks best none).greatest
-below_best codes squares chunks count best k h first all l =
-    let j = k / 64 in
-    let within : j < length chunks = omega (arith, h.all) in
-    omega (arith, (h.each j none within).greatest.upper k (record { from = omega arith; to = omega arith; within = l }), first.upper j none (omega arith) within)
+-- the greatest of one more chunk
+pub greatest_chunk : (chunks : List Chunk) (n greatest : ℕ) → n < length chunks → ((j : ℕ) → j < n → (get_or chunks j none).greatest ≤ greatest) → (greatest ≡ 0) ⊎ ((j : ℕ) × (j < length chunks) × ((get_or chunks j none).greatest ≡ greatest))
+    → ((j : ℕ) → j < n + 1 → (get_or chunks j none).greatest ≤ max (get_or chunks n none).greatest greatest) × ((max (get_or chunks n none).greatest greatest ≡ 0) ⊎ ((j : ℕ) × (j < length chunks) × ((get_or chunks j none).greatest ≡ max (get_or chunks n none).greatest greatest)))
+greatest_chunk chunks n greatest l upper reached = (
+  λ j m. ⊎_elim (λ b. omega (arith, upper j b)) (λ (b : n ≤ j). let e : j ≡ n = omega arith in rw e (omega arith)) (cases_lt j n),
+  ⊎_elim (λ b. ⊎_elim (λ z. absurd (omega arith)) (λ r. inr (r.0, r.1, omega (arith, r.2))) reached) (λ b. inr (n, l, omega arith)) (cases_lt (get_or chunks n none).greatest greatest),
+)
 
--- before that chunk each number is below it
-before_best : (codes squares : List ℕ) (chunks : List Chunk) (count best k : ℕ) → AreChunks codes squares chunks → IsFirstChunk chunks count best → k < length codes → k < 64 * best → get_or squares k 0 < (get_or chunks best none).greatest
-before_best codes squares chunks count best k h first l m =
+-- no number is above the greatest of the chunks'
+below_best : (codes squares : List ℕ) (chunks : List Chunk) (greatest best k : ℕ) → AreChunks codes squares chunks → IsFirstChunk chunks greatest best → k < length codes → get_or squares k 0 ≤ greatest
+below_best codes squares chunks greatest best k h first l =
     let j = k / 64 in
     let within : j < length chunks = omega (arith, h.all) in
-    omega (arith, (h.each j none within).greatest.upper k (record { from = omega arith; to = omega arith; within = l }), first.first j none (omega arith))
+    omega (arith, (h.each j none within).greatest.upper k (record { from = omega arith; to = omega arith; within = l }), first.upper j within)
+
+-- before the first chunk with the greatest each number is below it
+before_best : (codes squares : List ℕ) (chunks : List Chunk) (greatest best k : ℕ) → AreChunks codes squares chunks → IsFirstChunk chunks greatest best → k < length codes → k < 64 * best → get_or squares k 0 < greatest
+before_best codes squares chunks greatest best k h first l m =
+    let j = k / 64 in
+    let within : j < length chunks = omega (arith, h.all) in
+    omega (arith, (h.each j none within).greatest.upper k (record { from = omega arith; to = omega arith; within = l }), first.first j (omega arith))
 
 -- the first place in that chunk with the greatest number is the first of all
-pub first_greatest : (codes squares : List ℕ) (chunks : List Chunk) (count best farthest : ℕ) → length squares ≡ length codes → AreChunks codes squares chunks → IsFirstChunk chunks count best → length chunks ≤ count → farthest < length codes → ((k : ℕ) → 64 * best ≤ k → k < farthest → get_or squares k 0 < (get_or chunks best none).greatest) → (get_or chunks best none).greatest ≤ get_or squares farthest 0 → IsFirstGreatest squares farthest
-first_greatest codes squares chunks count best farthest same h first all within before reached = record {
+pub first_greatest : (codes squares : List ℕ) (chunks : List Chunk) (greatest best farthest : ℕ) → length squares ≡ length codes → AreChunks codes squares chunks → IsFirstChunk chunks greatest best → farthest < length codes → ((k : ℕ) → 64 * best ≤ k → k < farthest → get_or squares k 0 < greatest) → greatest ≤ get_or squares farthest 0 → IsFirstGreatest squares farthest
+first_greatest codes squares chunks greatest best farthest same h first within before reached = record {
   within = omega arith;
-  greatest = λ k l. omega (arith, below_best codes squares chunks count best k h first all (omega arith));
-  first = λ k l. ⊎_elim (λ b. omega (arith, before_best codes squares chunks count best k h first (omega arith) b)) (λ b. omega (arith, before k b l)) (cases_lt k (64 * best));
+  greatest = λ k l. omega (arith, below_best codes squares chunks greatest best k h first (omega arith));
+  first = λ k l. ⊎_elim (λ b. omega (arith, before_best codes squares chunks greatest best k h first (omega arith) b)) (λ b. omega (arith, before k b l)) (cases_lt k (64 * best));
 }

@@ -191,14 +191,16 @@ pub fn farthest_of(codes: &[u32], squares: &[u32], chunks: &[Chunk]) -> usize
     requires chunks { AreChunks codes.now squares.now chunks.now }
     ensures { IsFirstGreatest squares.now result }
 {
+    let mut greatest = 0;
+    for chunk in chunks {
+        greatest = chunk.greatest.max(greatest);
+    }
     let mut best = 0;
-    for place in 0..chunks.len() {
-        if chunks[best].greatest < chunks[place].greatest {
-            best = place;
-        }
+    'chunks: while chunks[best].greatest < greatest {
+        best += 1;
     }
     let mut farthest = CHUNK * best;
-    'places: while squares[farthest] < chunks[best].greatest {
+    'places: while squares[farthest] < greatest {
         farthest += 1;
     }
     farthest

@@ -22,10 +22,14 @@ pub struct Near {
 }
 
 /// The entries chosen, what is then known of each color, and the place of the farthest color.
+///
+/// The nearest entries stand by themselves too: a look-up for each pixel goes through an eighth of
+/// the memory.
 #[derive(Drop)]
 pub struct Spread {
     pub colors: Vec<[u8; 3]>,
     pub nears: Vec<Near>,
+    pub places: Vec<u8>,
     pub farthest: usize,
 }
 
@@ -38,6 +42,9 @@ pub fn choose(alloc: Global, codes: &[u32], room: usize) -> Result<Spread, Alloc
     ensures size { IfOk result (λ s. length s.colors.items ≡ min room (length codes.now)) }
     ensures near { IfOk result (λ s. AreNear s.colors.items codes.now s.nears.items) }
     ensures nears_len { IfOk result (λ s. length s.nears.items ≡ length codes.now) }
+    ensures kept { IfOk result (λ s. (squares : List ℕ)
+        × AreKept s.colors.items codes.now squares s.places.items) }
+    ensures places_len { IfOk result (λ s. length s.places.items ≡ length codes.now) }
     ensures within { IfOk result (λ s. 0 < length codes.now → s.farthest < length codes.now) }
     ensures farthest { IfOk result (λ s. let color = color_of (slice_index codes.now s.farthest) in
         0 < length codes.now → IsFarthest (IsListed codes.now) s.colors.items color) }
@@ -64,6 +71,7 @@ pub fn choose(alloc: Global, codes: &[u32], room: usize) -> Result<Spread, Alloc
     Ok(Spread {
         colors,
         nears: nears_of(alloc, &squares, &places)?,
+        places,
         farthest,
     })
 }
@@ -125,10 +133,10 @@ fn nears_of(alloc: Global, squares: &[u32], places: &[u8]) -> Result<Vec<Near>, 
 {
     let mut nears = Vec::with_capacity(alloc, squares.len())?;
     for (place, squared) in squares.iter().enumerate() {
-        nears.push(Near {
+        nears.push_reserved(Near {
             squared: *squared,
             entry: places[place],
-        })?;
+        });
     }
     Ok(nears)
 }

@@ -1,10 +1,15 @@
-use Rattle.std.proofs.Common.{◌<◌, length, ◌∙◌, sym, ap, arith}
+use Rattle.std.proofs.Common.{ℕ, ◌<◌, ◌≤◌, ◌+◌, ◌*◌, length, ◌∙◌, sym, ap, arith}
 use Rattle.std.proofs.lemmas.Grind.{pow_more}
+use Rattle.std.proofs.lemmas.Nat.{mul-le}
 use Rattle.sixel_encoder.specs.inside.Grid.{cell}
 use Rattle.sixel_encoder.proofs.Cells.{AreMarks-clear, AreMarks-same}
 use Rattle.sixel_encoder.proofs.Masks.{hits, mask-none, mask-lt, weight-le, mask-line, mask-below}
 use Rattle.sixel_encoder.proofs.band.fill_band.Goals as goal
 use Rattle.sixel_encoder.proofs.band.fill_band.Goals.{then-row-image, else-row-image}
+
+-- a line ends within the image
+line-within : (row width height : ℕ) → row < height → row * width + width ≤ width * height
+line-within row width height l = omega (arith, mul-le (row + 1) width height width (omega arith) (omega arith))
 
 pub loop-bit-init : goal.loop-bit-init
 loop-bit-init c = record {
@@ -40,3 +45,8 @@ loop-bit-preserved c = record {
     | else-row-image w ↦ AreMarks-same w.rows-is w.used-is c.loop-bit.invariant.marks
   ];
 }
+
+pub add_line-requires-clause-line : goal.add_line-requires-clause-line
+add_line-requires-clause-line c =
+    let row = 6 * c.args.band + c.loop-bit.bit in
+    line-within row c.args.image.now.width c.args.image.now.height c.if-row-image.true

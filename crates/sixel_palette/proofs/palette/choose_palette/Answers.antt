@@ -1,4 +1,5 @@
 use Rattle.std.proofs.Common.{◌≡◌, ℕ, ◌<◌, List, length, get_or, ap, ◌∙◌, arith}
+use Rattle.std.proofs.lemmas.List.{get_or_default}
 use Rattle.sixel_palette.specs.declared.palette.farthest.Near.{Near}
 use Rattle.sixel_palette.specs.Palette.{nearest, palette_room, IsShown}
 use Rattle.sixel_palette.specs.inside.PaletteCodes.{color_of}
@@ -54,7 +55,8 @@ returns-clause-palette c = record {
 
 pub returns-clause-indices : goal.returns-clause-indices
 returns-clause-indices c =
-    c.in_ok-indices.ensures c.in_ok-spread.spread.colors.items (rw (c.deref-2.ensures.value, c.deref-3.ensures.value) (the_nears c)) (chosen.chosen_near _ _ _ _ _ _ _ (the_choice c) (λ k. omega (arith, c.type_inv.pixels k)) (omega arith))
+    let kept = c.in_ok-spread.ensures.kept in
+    c.in_ok-indices.ensures c.in_ok-spread.spread.colors.items kept.0 (rw (c.deref-2.ensures.value, c.deref-3.ensures.value) (rw c.deref.ensures.value at kept.1)) (chosen.chosen_near _ _ _ _ _ _ _ (the_choice c) (λ k. omega (arith, c.type_inv.pixels k)) (omega arith))
 
 pub returns-clause-error : goal.returns-clause-error
 returns-clause-error c = chosen.chosen_error _ _ _ _ _ _ _ (the_choice c)
@@ -80,3 +82,6 @@ returns-clause-complete c = chosen.chosen_complete _ _ _ _ _ _ _ (the_choice c)
 
 pub returns-clause-empty : goal.returns-clause-empty
 returns-clause-empty c = chosen.chosen_empty _ _ _ _ _ _ _ (the_choice c)
+
+pub returns-clause-bytes : goal.returns-clause-bytes
+returns-clause-bytes c = λ k d l. omega (arith, get_or_default c.args.pixels.now k d 0 l, c.type_inv.pixels k)

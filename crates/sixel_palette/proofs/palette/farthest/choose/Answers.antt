@@ -55,3 +55,24 @@ pub returns-clause-near : goal.returns-clause-near
 returns-clause-near c =
     let told = rw (c.deref-2.ensures.value, c.deref-3.ensures.value) at c.in_ok-nears_of.ensures.near in
     told c.loop-entry.colors.items c.args.codes.now (omega (arith, c.loop-entry.invariant.squares)) c.loop-entry.invariant.kept
+
+pub returns-clause-kept : goal.returns-clause-kept
+returns-clause-kept c = (c.loop-entry.squares.items, c.loop-entry.invariant.kept)
+
+pub farthest_of-farthest-requires-clause-chunks : goal.farthest_of-farthest-requires-clause-chunks
+farthest_of-farthest-requires-clause-chunks c =
+    let squares = c.settle.new.squares in
+    let chunks = c.settle.new.chunks in
+    let new_squares = take_at squares (drop (length squares) c.loop-entry.squares.items) c.loop-entry.squares.len (omega arith) in
+    let new_chunks = take_at chunks (drop (length chunks) c.loop-entry.chunks.items) c.loop-entry.chunks.len (omega arith) in
+    rw (c.deref.ensures.value, c.deref-in-loop-entry.ensures.value, new_squares, new_chunks) c.settle.ensures.chunks
+
+pub settle-requires-clause-chunks : goal.settle-requires-clause-chunks
+settle-requires-clause-chunks c =
+    rw (c.deref_mut.ensures.value, c.deref_mut-in-loop-entry-2.ensures.value) c.loop-entry.invariant.chunks
+
+pub settle-requires-clause-small : goal.settle-requires-clause-small
+settle-requires-clause-small c = c.requires.small
+
+pub color_of-color-requires : goal.color_of-color-requires
+color_of-color-requires c = c.requires.small c.loop-entry.farthest 0 (c.loop-entry.invariant.within (omega arith))

@@ -3,10 +3,10 @@ use Rattle.std.proofs.lemmas.List.{take_at}
 use Rattle.sixel_palette.proofs.palette.indices.indices_of.Goals as goal
 
 pub returns : goal.returns
-returns c = λ entries near below.
+returns c = λ entries squares near below.
     let indices = c.fill_indices.new.indices in
     let whole = take_at indices (drop (length indices) c.in_ok-indices.indices.items) c.in_ok-indices.indices.len (omega arith) in
-    let each = c.fill_indices.ensures.indices entries near below in
+    let each = c.fill_indices.ensures.indices entries squares near below in
     rw whole (record {
       one_each = c.fill_indices.ensures.size;
       opaque = λ k l o. (each k l).opaque o;
