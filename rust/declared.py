@@ -23,7 +23,12 @@ STRUCTS = {
     "Color": "icysixel_color",
     "Palette": "icysixel_palette",
 }
-POINTERS = {"*const u8": "const uint8_t *", "*mut u8": "uint8_t *", "*mut c_void": "void *"}
+POINTERS = {
+    "*const u8": "const uint8_t *",
+    "*mut u8": "uint8_t *",
+    "*mut Color": "icysixel_color *",
+    "*mut c_void": "void *",
+}
 
 
 def c_type(rust):

@@ -168,6 +168,47 @@ static void encoding(icysixel *h)
     WANT(icysixel_take_text(h, (uint8_t *)text, sizeof text, &wanted) == ICYSIXEL_NO_TEXT);
 }
 
+/* Whether a color has these channels. */
+static int is_color(icysixel_color color, uint8_t red, uint8_t green, uint8_t blue)
+{
+    return color.red == red && color.green == green && color.blue == blue;
+}
+
+static uint32_t distance(icysixel_color a, icysixel_color b)
+{
+    int red = a.red - b.red, green = a.green - b.green, blue = a.blue - b.blue;
+    return (uint32_t)(red * red + green * green + blue * blue);
+}
+
+/* White, near black, black, a hidden pixel, white. */
+static void palettes(void)
+{
+    static const uint8_t pixels[] = {255, 255, 255, 255, 10, 0, 0, 128, 0, 0, 0, 200, 90, 90, 90, 127, 255, 255, 255, 255};
+    icysixel_color colors[256], witnesses[257];
+    uint8_t indices[6] = {7, 7, 7, 7, 7, 7};
+    icysixel_palette palette = {7, 7, 7};
+    memset(colors, 7, sizeof colors), memset(witnesses, 7, sizeof witnesses);
+    WANT(icysixel_choose_palette(pixels, 19, 2, colors, 256, witnesses, 257, indices, 6, &palette) == ICYSIXEL_BUFFER_MISMATCH);
+    WANT(icysixel_choose_palette(pixels, 20, 2, colors, 1, witnesses, 257, indices, 6, &palette) == ICYSIXEL_SMALL_ROOM);
+    WANT(icysixel_choose_palette(pixels, 20, 2, colors, 256, witnesses, 2, indices, 6, &palette) == ICYSIXEL_SMALL_ROOM);
+    WANT(icysixel_choose_palette(pixels, 20, 2, colors, 256, witnesses, 257, indices, 4, &palette) == ICYSIXEL_SMALL_ROOM);
+    WANT(icysixel_choose_palette(pixels, 20, 999, colors, 255, witnesses, 257, indices, 6, &palette) == ICYSIXEL_SMALL_ROOM);
+    WANT(icysixel_choose_palette(pixels, 20, 0, NULL, 0, NULL, 0, NULL, 0, &palette) == ICYSIXEL_SMALL_ROOM);
+    WANT(palette.colors == 7 && palette.error == 7 && indices[0] == 7 && is_color(colors[0], 7, 7, 7));
+    WANT(icysixel_choose_palette(pixels, 20, 2, colors, 2, witnesses, 3, indices, 6, &palette) == ICYSIXEL_DONE);
+    WANT(palette.colors == 2 && palette.witnesses == 3 && palette.error == 100);
+    WANT(is_color(colors[0], 0, 0, 0) && is_color(colors[1], 255, 255, 255) && is_color(colors[2], 7, 7, 7));
+    WANT(is_color(witnesses[2], 10, 0, 0) && is_color(witnesses[3], 7, 7, 7));
+    for (size_t one = 0; one < palette.witnesses; one++)
+        for (size_t other = 0; other < one; other++) WANT(distance(witnesses[one], witnesses[other]) >= palette.error);
+    WANT(memcmp(indices, "\1\0\0\0\1\7", 6) == 0);
+    WANT(icysixel_choose_palette(pixels, 20, 256, colors, 256, witnesses, 257, indices, 5, &palette) == ICYSIXEL_DONE);
+    WANT(palette.colors == 3 && palette.witnesses == 0 && palette.error == 0 && is_color(colors[2], 10, 0, 0));
+    WANT(memcmp(indices, "\1\2\0\0\1\7", 6) == 0 && is_color(colors[3], 7, 7, 7));
+    WANT(icysixel_choose_palette(NULL, 0, 2, colors, 2, witnesses, 3, NULL, 0, &palette) == ICYSIXEL_DONE);
+    WANT(palette.colors == 0 && palette.witnesses == 0 && palette.error == 0);
+}
+
 static void words(void)
 {
     char room[64];
@@ -197,6 +238,7 @@ int main(void)
     encoding(&h);
     icysixel_free(&h);
     on_nothing(&h);
+    palettes();
     words();
     return 0;
 }

@@ -27,6 +27,8 @@ uint32_t (*const set_limit)(icysixel *, size_t) = icysixel_set_limit;
 uint32_t (*const encoded)(icysixel *, const uint8_t *, size_t, size_t, size_t, size_t, int32_t, int32_t, uint16_t, size_t *) =
     icysixel_encode;
 uint32_t (*const taken)(icysixel *, uint8_t *, size_t, size_t *) = icysixel_take_text;
+uint32_t (*const chosen)(const uint8_t *, size_t, uint16_t, icysixel_color *, size_t, icysixel_color *, size_t, uint8_t *, size_t,
+                         icysixel_palette *) = icysixel_choose_palette;
 size_t (*const text)(uint32_t, uint8_t *, size_t) = icysixel_text;
 
 /* The sizes that the library's own types have. */
@@ -40,3 +42,4 @@ SAME(16, icysixel_fed);
 SAME(16, icysixel_size);
 SAME(32, icysixel_shape);
 SAME(3, icysixel_color);
+SAME(24, icysixel_palette);

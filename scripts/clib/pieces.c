@@ -1,17 +1,6 @@
 /* What `sixel decode` does, by the C library: the first control string of standard input is fed in pieces of N bytes, and
  * written as `sixel` writes an image. The words of a refusal go to standard error. */
-#include "icysixel.h"
-#include <stdio.h>
-#include <stdlib.h>
-
-static void want(uint32_t code)
-{
-    char words[64];
-    if (code == ICYSIXEL_DONE) return;
-    icysixel_text(code, (uint8_t *)words, sizeof words);
-    fprintf(stderr, "%s\n", words);
-    exit(1);
-}
+#include "want.h"
 
 static uint8_t *read_all(size_t *length)
 {

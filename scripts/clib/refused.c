@@ -95,6 +95,14 @@ static bool work(icysixel *h)
         return false;
     }
     WANT(icysixel_take_text(h, room, sizeof room, &wanted) == ICYSIXEL_DONE && wanted == bytes);
+    icysixel_color colors[256], witnesses[257];
+    icysixel_palette palette = {0};
+    uint8_t indices[40 * 18];
+    if (!done(icysixel_choose_palette(pixels, sizeof pixels, 256, colors, 256, witnesses, 257, indices, sizeof indices, &palette))) {
+        WANT(palette.colors == 0);
+        return false;
+    }
+    WANT(palette.colors == 2 && palette.error == 0);
     if (!done(icysixel_decode(h, room, bytes, &shape))) return false;
     return icysixel_pixels(h, again, sizeof again, 0, &wanted) == ICYSIXEL_DONE && !memcmp(pixels, again, sizeof again);
 }

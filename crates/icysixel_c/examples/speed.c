@@ -1,81 +1,57 @@
 /* Times decoding and encoding in process: speed FILE TURNS [COLORS]
  *
+ * A FILE of a control string is decoded, and its image encoded; one of raw pixels, named as FILE:WIDTHxHEIGHT, is encoded.
  * A line for each: the word, nanoseconds a pixel of the best turn and of the median, and the bytes of its text. */
 #define _POSIX_C_SOURCE 200809L
-#include "icysixel.h"
-#include <stdio.h>
-#include <stdlib.h>
-#include <time.h>
+#include "timing.h"
+#include "want.h"
 
-static void want(uint32_t code)
+/* Decodes the bytes in each turn, and gives the pixels, for the caller to free. */
+static uint8_t *decode(icysixel *decoder, const uint8_t *bytes, size_t length, icysixel_shape *shape, double *times, size_t turns)
 {
-    char words[64];
-    if (code == ICYSIXEL_DONE) return;
-    icysixel_text(code, (uint8_t *)words, sizeof words);
-    fprintf(stderr, "speed: %s\n", words);
-    exit(1);
-}
-
-static double now(void)
-{
-    struct timespec time;
-    clock_gettime(CLOCK_MONOTONIC, &time);
-    return 1e9 * (double)time.tv_sec + (double)time.tv_nsec;
-}
-
-static int by_value(const void *left, const void *right)
-{
-    double a = *(const double *)left, b = *(const double *)right;
-    return (a > b) - (a < b);
-}
-
-static void report(const char *word, double *times, size_t turns, size_t pixels, size_t bytes)
-{
-    qsort(times, turns, sizeof *times, by_value);
-    printf("%s %.3f %.3f %zu\n", word, times[0] / (double)pixels, times[turns / 2] / (double)pixels, bytes);
-}
-
-static uint8_t *read_file(const char *name, size_t *length)
-{
-    FILE *file = fopen(name, "rb");
-    uint8_t *bytes = NULL;
-    if (file != NULL && fseek(file, 0, SEEK_END) == 0 && (bytes = malloc((size_t)ftell(file) + 1)) != NULL) {
-        rewind(file);
-        *length = fread(bytes, 1, (size_t)1 << 31, file);
-        fclose(file);
+    size_t wanted;
+    want(icysixel_decode(decoder, bytes, length, shape));
+    uint8_t *pixels = malloc(shape->bytes);
+    if (pixels == NULL) want(ICYSIXEL_OUT_OF_MEMORY);
+    for (size_t turn = 0; turn < turns; turn++) {
+        double begun = now();
+        want(icysixel_decode(decoder, bytes, length, shape));
+        want(icysixel_pixels(decoder, pixels, shape->bytes, 0, &wanted));
+        times[turn] = now() - begun;
     }
-    return bytes;
+    report("decode", times, turns, shape->width * shape->height, length);
+    return pixels;
+}
+
+/* Encodes the pixels in each turn. */
+static void encode(icysixel *encoder, const uint8_t *pixels, size_t length, const icysixel_shape *shape, uint16_t colors,
+                   double *times, size_t turns)
+{
+    size_t text = 0;
+    for (size_t turn = 0; turn < turns; turn++) {
+        double begun = now();
+        want(icysixel_encode(encoder, pixels, length, 0, shape->width, shape->height, shape->p1, shape->p2, colors, &text));
+        times[turn] = now() - begun;
+    }
+    report("encode", times, turns, shape->width * shape->height, text);
 }
 
 int main(int argc, char **argv)
 {
-    size_t length = 0, turns = argc > 2 ? strtoull(argv[2], NULL, 10) : 0, wanted, text = 0;
+    size_t length = 0, turns = argc > 2 ? strtoull(argv[2], NULL, 10) : 0;
     uint16_t colors = argc > 3 ? (uint16_t)strtoul(argv[3], NULL, 10) : 256;
-    uint8_t *bytes = argc > 2 ? read_file(argv[1], &length) : NULL;
-    if (bytes == NULL || turns == 0) return fputs("usage: speed FILE TURNS [COLORS]\n", stderr), 2;
-    icysixel decoder = {0};
-    icysixel_shape shape = {0};
-    want(icysixel_new(&decoder));
-    want(icysixel_decode(&decoder, bytes, length, &shape));
-    uint8_t *pixels = malloc(shape.bytes);
-    double *times = malloc(turns * sizeof *times);
-    if (pixels == NULL || times == NULL) return 3;
-    for (size_t turn = 0; turn < turns; turn++) {
-        double begun = now();
-        want(icysixel_decode(&decoder, bytes, length, &shape));
-        want(icysixel_pixels(&decoder, pixels, shape.bytes, 0, &wanted));
-        times[turn] = now() - begun;
-    }
-    report("decode", times, turns, shape.width * shape.height, length);
-    for (size_t turn = 0; turn < turns; turn++) {
-        double begun = now();
-        want(icysixel_encode(&decoder, pixels, shape.bytes, 0, shape.width, shape.height, shape.p1, shape.p2, colors, &text));
-        times[turn] = now() - begun;
-    }
-    report("encode", times, turns, shape.width * shape.height, text);
-    icysixel_free(&decoder);
+    icysixel_shape shape = {.p1 = 9, .p2 = 1};
+    int is_raw = turns > 0 && part_size(argv[1], &shape.width, &shape.height);
+    uint8_t *bytes = turns > 0 ? read_file(argv[1], &length) : NULL;
+    double *times = calloc(turns, sizeof *times);
+    if (bytes == NULL || times == NULL) return fputs("usage: speed FILE TURNS [COLORS]\n", stderr), 2;
+    icysixel handle = {0};
+    want(icysixel_new(&handle));
+    uint8_t *pixels = is_raw ? bytes : decode(&handle, bytes, length, &shape, times, turns);
+    encode(&handle, pixels, is_raw ? length : shape.bytes, &shape, colors, times, turns);
+    icysixel_free(&handle);
+    if (!is_raw) free(pixels);
     free(times);
-    free(pixels);
     free(bytes);
     return 0;
 }

@@ -7,9 +7,10 @@
  *
  * Handles. An `icysixel` is the caller's own memory: 16 bytes that hold a decoder, with the image that
  * it is receiving and what it keeps for the caller, or nothing. One of zeros holds nothing. Each call
- * has an answer on any handle, also on one of zeros or after icysixel_free: no call has a condition. A
- * handle is neither copied nor written to by the caller; one that holds a decoder may be moved, where
- * the old place is used no more.
+ * has an answer on any handle, also on one of zeros or after icysixel_free: no call has a condition, and
+ * one that needs a decoder answers ICYSIXEL_NO_HANDLE where there is none. A handle is neither copied
+ * nor written to by the caller; one that holds a decoder may be moved, where the old place is used no
+ * more.
  *
  * Ownership. What the library keeps is behind the handle, and is freed by icysixel_free. It keeps
  * no pointer that it is passed: bytes are the caller's again once a call has answered, and images and
@@ -31,6 +32,8 @@
  * Answers are an ICYSIXEL_ code, where nothing else is told. What a call writes through a pointer
  * is written where it answers ICYSIXEL_DONE, and left as it was where it does not, save the sizes
  * `wanted`.
+ *
+ * The library is for x86-64 Linux.
  */
 #ifndef ICYSIXEL_H
 #define ICYSIXEL_H
@@ -79,6 +82,13 @@ typedef struct {
     uint8_t blue;
 } icysixel_color;
 
+/* A palette, without its colors. */
+typedef struct {
+    size_t colors;    /* entries: at most as many as were asked for */
+    size_t witnesses; /* entries and one more color, or 0 where the entries are all shown colors */
+    uint32_t error;   /* the greatest squared distance of a shown color to its nearest entry */
+} icysixel_palette;
+
 /* Answers. */
 enum {
     ICYSIXEL_DONE = 0,
@@ -89,13 +99,13 @@ enum {
     ICYSIXEL_NO_IMAGE = 4,   /* no image is kept */
     ICYSIXEL_NO_TEXT = 5,    /* no text is kept */
     /* of the room that the caller brings */
-    ICYSIXEL_SMALL_ROOM = 6, /* the room has fewer bytes than `wanted` */
+    ICYSIXEL_SMALL_ROOM = 6, /* a room is smaller than `wanted`, or than the call asks for */
     ICYSIXEL_BAD_STRIDE = 7, /* the stride is less than a row, or no size_t holds all rows */
     /* of memory and sizes */
     ICYSIXEL_OUT_OF_MEMORY = 8,
     ICYSIXEL_OVERFLOW = 9,         /* a size does not fit its type, as too many new lines in an image */
     ICYSIXEL_BAD_DIMENSIONS = 10,  /* a size is zero, or above what the format can hold */
-    ICYSIXEL_BUFFER_MISMATCH = 11, /* the pixels are fewer bytes than the sizes ask for */
+    ICYSIXEL_BUFFER_MISMATCH = 11, /* the pixels are fewer bytes than the sizes ask for, or not whole */
     /* of SIXEL data */
     ICYSIXEL_NO_SIXEL_DATA = 12,      /* the bytes do not begin with an introducer, ESC P or 0x90 */
     ICYSIXEL_MALFORMED = 13,          /* a command that breaks the grammar or a limit */
@@ -118,8 +128,8 @@ enum {
 /* -- Handles -- */
 
 /* Makes the handle hold a new decoder: the registers of a terminal that has just been switched on, no
- * crop, the limit of 67,108,864 pixels. What it held is freed, also where memory is refused: it then
- * holds nothing. */
+ * crop, the limit of 67,108,864 pixels. What it held is freed, also where the answer is
+ * ICYSIXEL_OUT_OF_MEMORY: it then holds nothing. */
 uint32_t icysixel_new(icysixel *handle);
 
 /* Frees what the handle holds, if it holds anything. */
@@ -137,7 +147,9 @@ uint32_t icysixel_begin(icysixel *handle);
 uint32_t icysixel_begin_payload(icysixel *handle, int32_t p1, int32_t p2, int32_t grid);
 
 /* Reads a piece of the image that is open. Pieces may end anywhere; how the bytes are cut changes no
- * answer. A refusal is kept: each further feed and finish of the image is refused too. */
+ * answer. It is refused with ICYSIXEL_NO_SESSION where no image is open, with what is wrong with the
+ * bytes so far, or for want of memory. A refusal is kept: each further feed and finish of the image is
+ * ICYSIXEL_STREAM_FAILED of a payload, ICYSIXEL_DCS_STREAM_FAILED of a control string. */
 uint32_t icysixel_feed(icysixel *handle, const uint8_t *piece, size_t length, icysixel_fed *fed);
 
 /* 1 where an image is open, as it was begun, and neither finished nor given up; else 0. */
@@ -146,7 +158,8 @@ uint8_t icysixel_is_receiving(icysixel *handle);
 /* 1 where the payload of the image that is open has begun, and was not refused; else 0. */
 uint8_t icysixel_in_payload(icysixel *handle);
 
-/* Tells the sizes that the image that is open has so far. Takes no memory. */
+/* Tells the sizes that the image that is open has so far; ICYSIXEL_NO_SESSION where none is open, and
+ * ICYSIXEL_NO_SIZE before the payload and after a refusal. Takes no memory. */
 uint32_t icysixel_size_so_far(icysixel *handle, icysixel_size *size);
 
 /* How many pixels were copied or filled so far, to grow the rows of the image that is open; 0 where
@@ -154,8 +167,9 @@ uint32_t icysixel_size_so_far(icysixel *handle, icysixel_size *size);
 uint64_t icysixel_canvas_writes(icysixel *handle);
 
 /* Closes the image that is open, keeps it in place of the one that was kept before, and tells its shape.
- * The decoder then has the registers that the image left. A refusal closes the image too, and
- * changes no register; no image is kept then. */
+ * The decoder then has the registers that the image left. It is refused as icysixel_feed is, and with
+ * ICYSIXEL_MISSING_COMMAND or ICYSIXEL_INCOMPLETE where a control string has not ended; a payload may
+ * end anywhere. A refusal closes the image too, and changes no register; no image is kept then. */
 uint32_t icysixel_finish(icysixel *handle, icysixel_shape *shape);
 
 /* Gives up the image that is open, if one is. The decoder stays as it is. */
@@ -164,7 +178,8 @@ uint32_t icysixel_abort(icysixel *handle);
 /* -- Images at once -- */
 
 /* Decodes the first control string in the bytes, or all of them as a payload if there is none, keeps the
- * image, and tells its shape, as icysixel_finish does. An image that is open is given up. */
+ * image, and tells its shape, as icysixel_finish does. It need not have ended. It is refused with what is
+ * wrong with the bytes, or for want of memory. An image that is open is given up. */
 uint32_t icysixel_decode(icysixel *handle, const uint8_t *bytes, size_t length, icysixel_shape *shape);
 
 /* The same of one payload, with the parameters of icysixel_begin_payload. */
@@ -175,8 +190,8 @@ uint32_t icysixel_decode_payload(icysixel *handle, const uint8_t *bytes, size_t 
 
 /* Moves the pixels of the image that is kept into the room: row n begins at n * stride, and has 4 * width
  * bytes; what lies between two rows is left as it was. `wanted` is told how many bytes that takes, also
- * where the room is too small; it is 0 where no image is kept, and where the stride is bad. A
- * refusal leaves the room as it was, and the image where it is. */
+ * where the answer is ICYSIXEL_SMALL_ROOM; it is 0 with ICYSIXEL_NO_IMAGE and ICYSIXEL_BAD_STRIDE. A
+ * refusal leaves the room as it was, and the image where it is. It takes no memory. */
 uint32_t icysixel_pixels(icysixel *handle, uint8_t *room, size_t length, size_t stride,
                          size_t *wanted);
 
@@ -214,15 +229,43 @@ uint32_t icysixel_set_limit(icysixel *handle, size_t pixels);
  * bytes it has. p1 and p2 are those of the text's header, as in icysixel_begin_payload: the shape of a
  * pixel and the background. A pixel whose alpha is below 128 is not drawn. The palette has at most
  * max_colors entries; a number below 2 is taken for 2, and one above 256 for 256. `length` is that of
- * `pixels`, which may go on after the last row. A refusal leaves no text. */
+ * `pixels`, which may go on after the last row. Rows that lie one behind the other are not copied.
+ * Refused are, in this order: a zero size, bytes that no size_t counts and sizes above the format's
+ * limits, a bad stride, pixels that are too few (ICYSIXEL_BAD_DIMENSIONS, ICYSIXEL_OVERFLOW,
+ * ICYSIXEL_BAD_STRIDE, ICYSIXEL_BUFFER_MISMATCH), and memory. A refusal leaves no text. */
 uint32_t icysixel_encode(icysixel *handle, const uint8_t *pixels, size_t length, size_t stride,
                          size_t width, size_t height, int32_t p1, int32_t p2, uint16_t max_colors,
                          size_t *text_length);
 
 /* Moves the text that is kept into the room, a control string without a zero after it. `wanted` is told
- * how many bytes it has, 0 where none is kept. A refusal leaves the room as it was, and the text where it
- * is. */
+ * how many bytes it has, also where the answer is ICYSIXEL_SMALL_ROOM; it is 0 with ICYSIXEL_NO_TEXT. A
+ * refusal leaves the room as it was, and the text where it is. It takes no memory. */
 uint32_t icysixel_take_text(icysixel *handle, uint8_t *room, size_t length, size_t *wanted);
+
+/* -- Palettes -- */
+
+/* Chooses the palette of these pixels, as icysixel_encode does, and shows how good it is. It needs no
+ * handle. `length` is a multiple of four, or the answer is ICYSIXEL_BUFFER_MISMATCH.
+ *
+ * A pixel is shown where its alpha is at least 128. The palette has at most max_colors entries, taken as
+ * by icysixel_encode, and holds every shown color if there is room. Otherwise it is chosen farthest
+ * first: the least shown color, by red, then green, then blue, and then again and again the one that is
+ * farthest from its nearest entry so far, the least of those. Distances are sums of the squared
+ * differences of the channels.
+ *
+ * `colors` gets the entries, and `indices` a byte a pixel: the place of its nearest entry, the first of
+ * those, and 0 for a hidden one. `witnesses` gets the certificate, where the entries are not all shown
+ * colors: shown colors, one more than there are entries, every two of them at least `error` apart. Of
+ * these two share an entry in any palette of as many entries, whatever its colors are, so that none has
+ * an error below a fourth of this one's.
+ *
+ * Rooms are counted in colors, and in bytes for the indices. They are ICYSIXEL_SMALL_ROOM where `colors`
+ * has fewer than max_colors, `witnesses` than one more, and `indices` than there are pixels; what the
+ * palette leaves of them is left as it was. */
+uint32_t icysixel_choose_palette(const uint8_t *pixels, size_t length, uint16_t max_colors,
+                                 icysixel_color *colors, size_t color_room,
+                                 icysixel_color *witnesses, size_t witness_room, uint8_t *indices,
+                                 size_t index_room, icysixel_palette *palette);
 
 /* -- Words -- */
 

@@ -1,2 +1,4 @@
 pub mod AsBox
+pub mod Dense
 pub mod Spread
+pub mod Witnesses

@@ -1,15 +1,21 @@
 -- The image whose text C asks for: its rows as they lie in the caller's memory, the shape of a pixel and the background by P1 and P2.
 use Rattle.std.specs.Prelude.{ℕ, ◌*◌, ℤ, negsuc, List}
 use Rattle.sixel_base.specs.Payload.{Image}
-use Rattle.sixel_base.specs.Settings.{ratio_of, mode_of}
+use Rattle.sixel_base.specs.Settings.{Settings, ratio_of, mode_of}
 use Rattle.icysixel_c.specs.Code.{settings_of}
 use Rattle.icysixel_c.specs.Rows.{rows_of, stride_of}
 
-abbrev pub image_of : ℕ → ℕ → ℕ → ℤ → ℤ → List ℕ → Image
-image_of stride width height p1 p2 bytes = record {
-  pixels = rows_of (stride_of stride (4 * width)) (4 * width) height bytes;
+-- the image of these pixels, with the shape and the background of these parameters
+abbrev pub drawn : ℕ → ℕ → Settings → List ℕ → Image
+drawn width height settings pixels = record {
+  pixels = pixels;
   width = width;
   height = height;
-  aspect_ratio = ratio_of (settings_of p1 p2 (negsuc 0));
-  background_mode = mode_of (settings_of p1 p2 (negsuc 0));
+  aspect_ratio = ratio_of settings;
+  background_mode = mode_of settings;
 }
+
+-- the image of the rows that lie so in these bytes
+abbrev pub image_of : ℕ → ℕ → ℕ → ℤ → ℤ → List ℕ → Image
+image_of stride width height p1 p2 bytes =
+    drawn width height (settings_of p1 p2 (negsuc 0)) (rows_of (stride_of stride (4 * width)) (4 * width) height bytes)

@@ -1,4 +1,5 @@
 pub mod Code
+pub mod Colors
 pub mod Drawn
 pub mod Kept
 pub mod Rows

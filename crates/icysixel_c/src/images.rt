@@ -14,9 +14,7 @@ ghost use Rattle.icysixel_c.specs.Rows.{AreGapsKept, bytes_of, rows_of, stride_o
 ghost use Rattle.icysixel_c.specs.Shape.{shape_of};
 ghost use Rattle.icysixel_c.specs.declared.state.State.{State};
 
-use crate::code::{
-    BAD_STRIDE, BUFFER_MISMATCH, DONE, NO_HANDLE, NO_IMAGE, NO_SESSION, SMALL_ROOM, code_of,
-};
+use crate::code::{BAD_STRIDE, DONE, NO_HANDLE, NO_IMAGE, NO_SESSION, SMALL_ROOM, code_of};
 use crate::rows::{spread, stride_of, wanted};
 use crate::shape::Shape;
 use crate::slot::Slot;
@@ -121,8 +119,7 @@ pub extern "C" fn icysixel_pixels(
         → kept_image before ≡ None → bytes.new ≡ 0 }
     ensures moved { (before : State) (image : Image) (size : ℕ)
         → slot.old.handle.state ≡ Some before → kept_image before ≡ Some image
-        → bytes_of stride image ≡ Some size → size ≤ length room.old
-        → length image.pixels ≡ 4 * image.width * image.height → result ≡ 0 }
+        → bytes_of stride image ≡ Some size → size ≤ length room.old → result ≡ 0 }
     ensures pixels { (before : State) (image : Image) → slot.old.handle.state ≡ Some before
         → kept_image before ≡ Some image → result ≡ 0
         → rows_of (stride_of stride (4 * image.width)) (4 * image.width) image.height room.new
@@ -161,6 +158,7 @@ pub extern "C" fn icysixel_pixels(
 
 /// Copies the pixels of an image into the room, and tells how many bytes that takes.
 fn copied(image: &SixelImage, room: &mut [u8], stride: usize, bytes: &mut usize) -> u32
+    requires { length image.now.pixels.items ≡ 4 * (image.now.width * image.now.height) }
     ensures bad_stride { bytes_of stride (image_value image.now) ≡ None → result ≡ 7 }
     ensures no_bytes { bytes_of stride (image_value image.now) ≡ None → bytes.new ≡ bytes.old }
     ensures small { (size : ℕ) → bytes_of stride (image_value image.now) ≡ Some size
@@ -168,9 +166,7 @@ fn copied(image: &SixelImage, room: &mut [u8], stride: usize, bytes: &mut usize)
     ensures bytes { (size : ℕ) → bytes_of stride (image_value image.now) ≡ Some size
         → bytes.new ≡ size }
     ensures moved { (size : ℕ) → bytes_of stride (image_value image.now) ≡ Some size
-        → size ≤ length room.old
-        → length image.now.pixels.items ≡ 4 * image.now.width * image.now.height
-        → result ≡ 0 }
+        → size ≤ length room.old → result ≡ 0 }
     ensures pixels { let wide = 4 * image.now.width in result ≡ 0
         → rows_of (stride_of stride wide) wide image.now.height room.new
         ≡ image.now.pixels.items }
@@ -190,9 +186,6 @@ fn copied(image: &SixelImage, room: &mut [u8], stride: usize, bytes: &mut usize)
     *bytes = size;
     if room.len() < size {
         return SMALL_ROOM;
-    }
-    if wide.checked_mul(image.height) != Some(image.pixels.len()) {
-        return BUFFER_MISMATCH;
     }
     spread(room, &image.pixels, stride, wide, image.height);
     DONE

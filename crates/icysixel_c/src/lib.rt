@@ -9,6 +9,7 @@ mod handle;
 pub mod images;
 pub mod limits;
 pub mod once;
+pub mod palette;
 pub mod parameters;
 pub mod progress;
 pub mod registers;

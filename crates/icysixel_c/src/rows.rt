@@ -24,6 +24,15 @@ pub fn wanted(stride: usize, wide: usize, height: usize) -> Option<usize>
         .and_then(|above| above.checked_add(wide))
 }
 
+/// The rows, where one follows another.
+pub fn dense(bytes: &[u8], wide: usize, height: usize) -> &[u8]
+    requires { extent wide wide height ≤ length bytes.now }
+    ensures rows { result.now ≡ rows_of wide wide height bytes.now }
+    ensures size { length result.now ≡ wide * height }
+{
+    &bytes[..wide * height]
+}
+
 /// The rows, joined.
 #[tactic(auto, unfolding(sixel_base::specs::Picture::joined))]
 pub fn gathered(

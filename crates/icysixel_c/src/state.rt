@@ -1,5 +1,8 @@
 //! What a handle leads to.
 
+ghost use Rattle.std.specs.Prelude.{◌≡◌, ◌*◌, length};
+ghost use Rattle.std.specs.Option.{ForSome};
+
 use icy_sixel::SixelImage;
 use icy_sixel::receiver::SixelReceiver;
 
@@ -9,4 +12,5 @@ pub struct State {
     pub receiver: SixelReceiver,
     pub image: Option<SixelImage>,
     pub text: Option<String>,
+    pub ghost whole: { ForSome image (λ i. length i.pixels.items ≡ 4 * (i.width * i.height)) },
 }

@@ -6,7 +6,7 @@ ghost use Rattle.sixel_base.specs.Size.{encode_fault};
 ghost use Rattle.sixel_base.specs.declared.error.SixelError.{SixelError};
 ghost use Rattle.sixel_encoder.specs.Encoding.{IsText};
 ghost use Rattle.icysixel_c.specs.Code.{IsCodeOf};
-ghost use Rattle.icysixel_c.specs.Drawn.{image_of};
+ghost use Rattle.icysixel_c.specs.Drawn.{drawn, image_of};
 ghost use Rattle.icysixel_c.specs.Kept.{kept_text};
 ghost use Rattle.icysixel_c.specs.Rows.{bytes_of};
 ghost use Rattle.icysixel_c.specs.declared.state.State.{State};
@@ -15,9 +15,10 @@ use crate::code::{
     BAD_STRIDE, BUFFER_MISMATCH, DONE, NO_HANDLE, NO_TEXT, OUT_OF_MEMORY, SMALL_ROOM, code_of,
 };
 use crate::parameters::settings;
-use crate::rows::{gathered, stride_of, wanted};
+use crate::rows::{dense, gathered, stride_of, wanted};
 use crate::slot::Slot;
-use icy_sixel::{EncodeOptions, SixelImage, validate_encode_dimensions};
+use icy_sixel::{DcsSettings, validate_encode_dimensions};
+use sixel_encoder::{Source, encode_source};
 use std::alloc::Global;
 
 /// Keeps the text of these pixels in place of the one before, and tells how many bytes it has where
@@ -120,18 +121,40 @@ fn encoded(
     if pixels.len() < size {
         return Err(BUFFER_MISMATCH);
     }
-    let Ok(rows) = gathered(alloc, pixels, stride, wide, height) else {
-        return Err(OUT_OF_MEMORY);
-    };
     let settings = settings(p1, p2, -1);
-    let image = SixelImage {
-        pixels: rows,
+    if stride == wide {
+        let rows = dense(pixels, wide, height);
+        return text_of(alloc, rows, width, height, settings, max_colors);
+    }
+    match gathered(alloc, pixels, stride, wide, height) {
+        Ok(rows) => text_of(alloc, &rows, width, height, settings, max_colors),
+        Err(_) => Err(OUT_OF_MEMORY),
+    }
+}
+
+/// The text of pixels that lie row behind row, or the code of what is wrong with them.
+fn text_of(
+    alloc: Global,
+    pixels: &[u8],
+    width: usize,
+    height: usize,
+    settings: DcsSettings,
+    max_colors: u16,
+) -> Result<String, u32>
+    ensures memory { encode_fault width height ≡ None
+        → length pixels.now ≡ 4 * width * height → IfErr result (λ code. code ≡ 8) }
+    ensures refused { IfErr result (λ code. code ≢ 0) }
+    ensures text { IfOk result (λ text.
+        IsText (drawn width height settings pixels.now) max_colors (string_bytes text)) }
+{
+    let source = Source {
+        pixels,
         width,
         height,
         aspect_ratio: settings.pixel_aspect_ratio(),
         background_mode: settings.background_mode(),
     };
-    match image.encode_with(alloc, &EncodeOptions { max_colors }) {
+    match encode_source(alloc, &source, max_colors) {
         Ok(text) => Ok(text),
         Err(error) => Err(code_of(&error)),
     }

@@ -1,9 +1,10 @@
-//! Nanoseconds a pixel, in process: `cargo run --release --example speed -- [SECONDS] FILE..`
+//! Nanoseconds a pixel, in process:
+//! `cargo run --release --example speed -- [-k COLORS] [-t SECONDS] FILE..`
 //!
 //! A file of SIXEL data is decoded at once, then in pieces of 4096 bytes by a session on one
 //! decoder, and its image is encoded. A file of raw RGBA, named as `FILE:WIDTHxHEIGHT`, is encoded.
-//! Each is done over and over for as many seconds, one where none are named, and the best and the
-//! median run are told.
+//! Each is done over and over, for one second or as many as named, and the best and the median run
+//! are told. A text has at most 256 colors, or as many as named.
 
 use icy_sixel::{EncodeOptions, SixelDcsFeedStatus, SixelDecoder, SixelImage};
 use std::env;
@@ -64,43 +65,61 @@ fn split(word: &str) -> (&str, Option<(usize, usize)>) {
     }
 }
 
-fn tell(time: Duration, word: &str) -> Answer<()> {
+/// How each file is measured.
+struct Plan {
+    time: Duration,
+    options: EncodeOptions,
+    files: Vec<String>,
+}
+
+/// What the words ask for, if they can be read.
+fn plan(mut words: impl Iterator<Item = String>) -> Option<Plan> {
+    let (time, options) = (Duration::from_secs(1), EncodeOptions::default());
+    let mut plan = Plan { time, options, files: Vec::new() };
+    while let Some(word) = words.next() {
+        match word.as_str() {
+            "-k" => plan.options.max_colors = words.next()?.parse().ok()?,
+            "-t" => plan.time = Duration::from_secs(words.next()?.parse().ok()?),
+            _ => plan.files.push(word),
+        }
+    }
+    (!plan.files.is_empty()).then_some(plan)
+}
+
+fn tell(plan: &Plan, word: &str) -> Answer<()> {
     let (file, size) = split(word);
     let bytes = fs::read(file)?;
     let title = |image: &SixelImage| println!("{file}, {}x{}", image.width, image.height);
-    let options = EncodeOptions::default();
+    let encode = |image: &SixelImage| {
+        let pixels = image.width * image.height;
+        measure(plan.time, pixels, || image.encode_with(&plan.options))
+    };
     if let Some((width, height)) = size {
         let image = SixelImage::try_from_rgba(bytes, width, height)?;
         title(&image);
-        println!("  encode    {}", measure(time, width * height, || image.encode_with(&options))?);
+        println!("  encode    {}", encode(&image)?);
         return Ok(());
     }
     let image = SixelImage::decode(&bytes)?;
     let pixels = image.width * image.height;
     title(&image);
-    println!("  decode    {}", measure(time, pixels, || SixelImage::decode(&bytes))?);
+    println!("  decode    {}", measure(plan.time, pixels, || SixelImage::decode(&bytes))?);
     let start = bytes.iter().position(|byte| matches!(byte, 0x1b | 0x90)).unwrap_or(0);
     let mut decoder = SixelDecoder::new();
     let pieces = || decode_in_pieces(&mut decoder, &bytes[start..]);
-    println!("  in pieces {}", measure(time, pixels, pieces)?);
-    println!("  encode    {}", measure(time, pixels, || image.encode_with(&options))?);
+    println!("  in pieces {}", measure(plan.time, pixels, pieces)?);
+    println!("  encode    {}", encode(&image)?);
     Ok(())
 }
 
 fn main() -> ExitCode {
-    let mut words: Vec<String> = env::args().skip(1).collect();
-    let mut time = Duration::from_secs(1);
-    if let Some(seconds) = words.first().and_then(|word| word.parse().ok()) {
-        time = Duration::from_secs(seconds);
-        words.remove(0);
-    }
-    if words.is_empty() {
-        eprintln!("usage: speed [SECONDS] FILE..");
+    let Some(plan) = plan(env::args().skip(1)) else {
+        eprintln!("usage: speed [-k COLORS] [-t SECONDS] FILE..");
         return ExitCode::from(2);
-    }
+    };
     println!("nanoseconds a pixel, best and median");
-    for word in &words {
-        if let Err(error) = tell(time, word) {
+    for word in &plan.files {
+        if let Err(error) = tell(&plan, word) {
             eprintln!("{word}: {error}");
             return ExitCode::FAILURE;
         }

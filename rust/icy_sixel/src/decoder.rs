@@ -131,6 +131,16 @@ impl SixelDecoder {
     ///
     /// Bytes before the introducer are passed over, and what follows the payload has no effect.
     ///
+    /// ```
+    /// use icy_sixel::SixelDecoder;
+    ///
+    /// let mut decoder = SixelDecoder::new();
+    /// let image = decoder.decode(b"text\x1bP9;1q#1;2;100;0;0!12~\x1b\\")?;
+    /// assert_eq!(image.dimensions(), (12, 6));
+    /// assert_eq!(decoder.register(1), [255, 0, 0]);
+    /// # Ok::<(), icy_sixel::SixelError>(())
+    /// ```
+    ///
     /// # Errors
     ///
     /// Those of [`decode_from_dcs`](Self::decode_from_dcs), and
@@ -144,6 +154,15 @@ impl SixelDecoder {
     ///
     /// What stands from the first terminator on has no effect, and an empty payload is an image of
     /// one pixel.
+    ///
+    /// ```
+    /// use icy_sixel::{DcsSettings, SixelDecoder};
+    ///
+    /// let settings = DcsSettings::new(Some(2), Some(1), None);
+    /// let image = SixelDecoder::new().decode_from_dcs(b"#1!12~", settings)?;
+    /// assert_eq!(image.corrected_dimensions(), (12, 30));
+    /// # Ok::<(), icy_sixel::SixelError>(())
+    /// ```
     ///
     /// # Errors
     ///
@@ -172,6 +191,18 @@ impl SixelDecoder {
     /// It takes no memory and is always `Ok`. The session borrows this decoder until it ends, and
     /// starts from the registers, the crop and the limit that the decoder has now.
     ///
+    /// ```
+    /// use icy_sixel::{DcsSettings, SixelDecoder, SixelFeedStatus::Terminated};
+    ///
+    /// let mut decoder = SixelDecoder::new();
+    /// let mut session = decoder.begin_frame(DcsSettings::default())?;
+    /// assert_eq!(session.feed(b"#1!1")?.consumed, 4);
+    /// let fed = session.feed(b"2~\x1b\\")?; // a terminator is the caller's
+    /// assert_eq!((fed.consumed, fed.status), (2, Terminated(0x1b)));
+    /// assert_eq!(session.finish()?.dimensions(), (12, 6));
+    /// # Ok::<(), icy_sixel::SixelError>(())
+    /// ```
+    ///
     /// # Errors
     ///
     /// None.
@@ -183,6 +214,18 @@ impl SixelDecoder {
     /// Begins a control string that is decoded as it comes, from its introducer to its end.
     ///
     /// It takes no memory.
+    ///
+    /// ```
+    /// use icy_sixel::{SixelDcsFeedStatus::Complete, SixelDecoder};
+    ///
+    /// let mut decoder = SixelDecoder::new();
+    /// let mut session = decoder.begin_dcs();
+    /// assert_eq!(session.feed(b"\x1bP9;1q#1!1")?.consumed, 10);
+    /// let fed = session.feed(b"2~\x1b\\text")?; // what follows is the caller's
+    /// assert_eq!((fed.consumed, fed.status), (4, Complete));
+    /// assert_eq!(session.finish()?.dimensions(), (12, 6));
+    /// # Ok::<(), icy_sixel::SixelError>(())
+    /// ```
     pub fn begin_dcs(&mut self) -> SixelDcsStreamDecoder<'_> {
         self.begin_string();
         SixelDcsStreamDecoder::new(self)

@@ -22,6 +22,14 @@ impl Default for EncodeOptions {
 
 /// The SIXEL text of pixels of four bytes each, as [`encode_with`] of an image of them.
 ///
+/// ```
+/// use icy_sixel::{EncodeOptions, sixel_encode};
+///
+/// let text = sixel_encode(&[255, 0, 0, 255], 1, 1, &EncodeOptions::default())?;
+/// assert_eq!(text, "\x1bP9;1;0q\"1;1;1;1#0;2;100;0;0#0@$-\x1b\\");
+/// # Ok::<(), icy_sixel::SixelError>(())
+/// ```
+///
 /// # Errors
 ///
 /// As of [`encode_with`].

@@ -46,13 +46,22 @@ pub(crate) struct Shape {
     pub(crate) p2: u8,
 }
 
-/// The color of a register.
+/// A color.
 #[repr(C)]
 #[derive(Clone, Copy, Default)]
 pub(crate) struct Color {
     pub(crate) red: u8,
     pub(crate) green: u8,
     pub(crate) blue: u8,
+}
+
+/// A palette, without its colors.
+#[repr(C)]
+#[derive(Clone, Copy, Default)]
+pub(crate) struct Palette {
+    pub(crate) colors: usize,
+    pub(crate) witnesses: usize,
+    pub(crate) error: u32,
 }
 
 // SAFETY: these are the declarations of `icysixel.h`. Those that are `safe` take numbers, a handle
@@ -118,6 +127,18 @@ unsafe extern "C" {
         room: *mut u8,
         length: usize,
         wanted: &mut usize,
+    ) -> u32;
+    fn icysixel_choose_palette(
+        pixels: *const u8,
+        length: usize,
+        max_colors: u16,
+        colors: *mut Color,
+        color_room: usize,
+        witnesses: *mut Color,
+        witness_room: usize,
+        indices: *mut u8,
+        index_room: usize,
+        palette: &mut Palette,
     ) -> u32;
 }
 
@@ -306,6 +327,38 @@ impl Handle {
             unsafe { icysixel_take_text(&mut self.0, room, length, wanted) }
         })
     }
+}
+
+/// Writes the palette of these pixels and its witnesses into their rooms, and appends a byte for
+/// each pixel to the indices.
+pub(crate) fn choose_palette(
+    pixels: &[u8],
+    max_colors: u16,
+    colors: &mut [Color],
+    witnesses: &mut [Color],
+    indices: &mut Vec<u8>,
+) -> Answer<Palette> {
+    let mut palette = Palette::default();
+    append(indices, |room, length, written| {
+        *written = pixels.len() / 4;
+        // SAFETY: the pointers and the lengths are those of slices, the first of which is only
+        // read, and of the vector's own spare room, which is only written to.
+        unsafe {
+            icysixel_choose_palette(
+                pixels.as_ptr(),
+                pixels.len(),
+                max_colors,
+                colors.as_mut_ptr(),
+                colors.len(),
+                witnesses.as_mut_ptr(),
+                witnesses.len(),
+                room,
+                length,
+                &mut palette,
+            )
+        }
+    })?;
+    Ok(palette)
 }
 
 /// Appends what a call writes to the spare room of a vector, and what it tells the number of.

@@ -7,6 +7,7 @@ mod error;
 #[allow(unsafe_code)]
 mod ffi;
 mod handle;
+pub mod palette;
 pub mod receiver;
 pub mod script;
 mod settings;
@@ -20,5 +21,6 @@ pub use decoder::{
 };
 pub use encoder::{EncodeOptions, sixel_encode, sixel_encode_default};
 pub use error::{Result, SixelError};
+pub use palette::{PaletteChoice, choose_palette, witnesses_hold};
 pub use sixel_image::{BackgroundMode, PixelAspectRatio, SixelImage};
 pub use size::validate_encode_dimensions;

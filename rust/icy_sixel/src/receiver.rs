@@ -31,6 +31,20 @@ enum Open {
 /// [`SixelDcsStreamDecoder`]. These borrow a decoder; a receiver can be kept in a struct from piece
 /// to piece. An image changes the registers by a successful [`finish`](Self::finish) alone.
 ///
+/// ```
+/// use icy_sixel::receiver::SixelReceiver;
+/// use icy_sixel::script::Status;
+/// use icy_sixel::SixelDcsFeedStatus::{Complete, NeedMoreData};
+///
+/// let mut receiver = SixelReceiver::new();
+/// receiver.begin_dcs();
+/// assert_eq!(receiver.feed(b"\x1bP9;1q#1!1")?.status, Status::Dcs(NeedMoreData));
+/// let fed = receiver.feed(b"2~\x1b\\text")?; // what follows is the caller's
+/// assert_eq!((fed.consumed, fed.status), (4, Status::Dcs(Complete)));
+/// assert_eq!(receiver.finish()?.dimensions(), (12, 6));
+/// # Ok::<(), icy_sixel::SixelError>(())
+/// ```
+///
 /// [`SixelStreamDecoder`]: crate::SixelStreamDecoder
 /// [`SixelDcsStreamDecoder`]: crate::SixelDcsStreamDecoder
 #[derive(Debug)]

@@ -30,6 +30,16 @@ impl SixelImage {
     /// Decodes the first control string in the bytes, or all of them as a payload if there is none,
     /// as [`SixelDecoder::decode`](crate::SixelDecoder::decode) of a new decoder does.
     ///
+    /// ```
+    /// use icy_sixel::SixelImage;
+    ///
+    /// let image = SixelImage::decode(b"\x1bP2;1q#1!12@\x1b\\")?;
+    /// assert_eq!(image.dimensions(), (12, 6));
+    /// assert_eq!(image.corrected_dimensions(), (12, 30));
+    /// assert!(image.has_transparency());
+    /// # Ok::<(), icy_sixel::SixelError>(())
+    /// ```
+    ///
     /// # Errors
     ///
     /// As of [`SixelDecoder::decode`](crate::SixelDecoder::decode).
@@ -114,6 +124,15 @@ impl SixelImage {
     }
 
     /// The SIXEL text of this image.
+    ///
+    /// ```
+    /// use icy_sixel::{EncodeOptions, SixelImage};
+    ///
+    /// let red = SixelImage::try_from_rgba([255, 0, 0, 255].repeat(12 * 6), 12, 6)?;
+    /// let text = red.encode_with(&EncodeOptions { max_colors: 16 })?;
+    /// assert!(text.starts_with("\x1bP9;1;0q"));
+    /// # Ok::<(), icy_sixel::SixelError>(())
+    /// ```
     ///
     /// The text is the same for all images that show the same: the color of a hidden pixel, and
     /// its alpha as long as it is below 128, have no effect.

@@ -10,7 +10,7 @@ use common::*;
 use icy_sixel::receiver::SixelReceiver;
 use icy_sixel::{
     DcsSettings, EncodeOptions, Result, SixelDcsStreamDecoder, SixelDecoder, SixelError,
-    SixelImage, SixelStreamDecoder,
+    SixelImage, SixelStreamDecoder, choose_palette,
 };
 use std::alloc::{GlobalAlloc, Layout, System};
 use std::cell::Cell;
@@ -115,6 +115,11 @@ fn is_unchanged(decoder: &SixelDecoder) {
     assert_eq!(decoder.register(42), [0, 204, 102]);
 }
 
+/// Feeds small pieces, until one is refused.
+fn feed_pieces<T>(bytes: &[u8], feed: impl FnMut(&[u8]) -> Result<T>) -> Result<()> {
+    pieces(bytes, 7).map(feed).try_for_each(|fed| fed.map(|_| ()))
+}
+
 #[test]
 fn decoding() {
     let default = DcsSettings::default();
@@ -134,9 +139,7 @@ fn decoding() {
         SixelDecoder::new,
         |decoder| {
             let mut session = decoder.begin_frame(default)?;
-            for piece in pieces(PAYLOAD, 7) {
-                let _ = session.feed(piece)?;
-            }
+            feed_pieces(PAYLOAD, |piece| session.feed(piece))?;
             session.finish()
         },
         is_unchanged,
@@ -146,9 +149,7 @@ fn decoding() {
         SixelDecoder::new,
         |decoder| {
             let mut session = decoder.begin_dcs();
-            for piece in pieces(STRING, 7) {
-                let _ = session.feed(piece)?;
-            }
+            feed_pieces(STRING, |piece| session.feed(piece))?;
             session.finish()
         },
         is_unchanged,
@@ -158,9 +159,7 @@ fn decoding() {
         SixelReceiver::new,
         |receiver| {
             receiver.begin_dcs();
-            for piece in pieces(STRING, 7) {
-                let _ = receiver.feed(piece)?;
-            }
+            feed_pieces(STRING, |piece| receiver.feed(piece))?;
             receiver.finish()
         },
         |receiver| is_unchanged(receiver.decoder()),
@@ -193,6 +192,7 @@ fn encoding() {
     refuse_each("encode", || (), |()| image.encode(), |()| ());
     let options = EncodeOptions { max_colors: 16 };
     refuse_each("encode_with", || (), |()| image.encode_with(&options), |()| ());
+    refuse_each("choose_palette", || (), |()| choose_palette(&image.pixels, 16), |()| ());
 }
 
 #[test]
@@ -239,32 +239,34 @@ fn calls_that_take_no_memory() {
     assert!(!met);
 }
 
+/// Whether more than this is held until the end, and this after it.
+#[track_caller]
+fn is_freed_by(held: i64, end: impl FnOnce()) {
+    assert!(HELD.get() > held);
+    end();
+    assert_eq!(HELD.get(), held);
+}
+
 /// A session gives back what it took as it ends, however it ends, and so does an image that a
 /// receiver gives up.
 #[test]
 fn what_ends_is_freed() {
     let mut decoder = SixelDecoder::new();
     let held = HELD.get();
-    let begin = |decoder: &mut SixelDecoder, end: fn(SixelStreamDecoder<'_>)| {
+    let ends: [fn(SixelStreamDecoder<'_>); 3] =
+        [|session| drop(session), |session| session.abort(), |session| drop(session.finish())];
+    for end in ends {
         let mut session = decoder.begin_frame(DcsSettings::default()).unwrap();
         assert!(session.feed(PAYLOAD).is_ok());
-        assert!(HELD.get() > held);
-        end(session);
-        assert_eq!(HELD.get(), held);
-    };
-    begin(&mut decoder, |session| drop(session));
-    begin(&mut decoder, |session| session.abort());
-    begin(&mut decoder, |session| drop(session.finish()));
-    let begin = |decoder: &mut SixelDecoder, end: fn(SixelDcsStreamDecoder<'_>)| {
+        is_freed_by(held, || end(session));
+    }
+    let ends: [fn(SixelDcsStreamDecoder<'_>); 3] =
+        [|session| drop(session), |session| session.abort(), |session| drop(session.finish())];
+    for end in ends {
         let mut session = decoder.begin_dcs();
         assert!(session.feed(STRING).is_ok());
-        assert!(HELD.get() > held);
-        end(session);
-        assert_eq!(HELD.get(), held);
-    };
-    begin(&mut decoder, |session| drop(session));
-    begin(&mut decoder, |session| session.abort());
-    begin(&mut decoder, |session| drop(session.finish()));
+        is_freed_by(held, || end(session));
+    }
 
     let mut receiver = SixelReceiver::with_decoder(decoder);
     let ends: [fn(&mut SixelReceiver); 3] =
@@ -272,9 +274,7 @@ fn what_ends_is_freed() {
     for end in ends {
         receiver.begin_dcs();
         assert!(receiver.feed(STRING).is_ok());
-        assert!(HELD.get() > held);
-        end(&mut receiver);
-        assert_eq!(HELD.get(), held);
+        is_freed_by(held, || end(&mut receiver));
     }
     receiver.begin_dcs();
     assert!(receiver.feed(STRING).is_ok());

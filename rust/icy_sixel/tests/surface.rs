@@ -1,6 +1,6 @@
 //! The names, paths, signatures and traits that callers rely on.
 
-use icy_sixel::{decoder, encoder, receiver, script, sixel_image};
+use icy_sixel::{decoder, encoder, palette, receiver, script, sixel_image};
 use std::error::Error;
 use std::fmt::{Debug, Display};
 use std::panic::{RefUnwindSafe, UnwindSafe};
@@ -111,6 +111,12 @@ fn what_is_ours() {
     let _: fn(&mut Decoder, usize) = Decoder::set_pixel_limit;
     let _: fn() -> Answer<Decoder> = Decoder::try_new;
     let _: fn(&Decoder) -> Answer<Decoder> = Decoder::try_clone;
+    type Choice = icy_sixel::PaletteChoice;
+    let _: fn(&[u8], u16) -> Answer<palette::PaletteChoice> = palette::choose_palette;
+    let _: fn(&[u8], u16) -> Answer<Choice> = icy_sixel::choose_palette;
+    let _: fn(&[[u8; 3]], u32) -> bool = palette::witnesses_hold;
+    let _: fn(&[[u8; 3]], u32) -> bool = icy_sixel::witnesses_hold;
+    is_shared::<Choice>();
     let receiver = receiver::SixelReceiver::new();
     assert!(format!("{receiver:?}").starts_with("SixelReceiver"));
     let mut decoder = Decoder::new();

@@ -1,0 +1,97 @@
+//! The palette of an image, with a certificate that no palette of its size is much better.
+
+use crate::codes::refusal;
+use crate::error::{Result, SixelError};
+use crate::ffi::{self, Color};
+
+/// A palette, the entry of each pixel, and a certificate of how good the palette is.
+#[derive(Clone, Debug, PartialEq, Eq)]
+pub struct PaletteChoice {
+    /// The entries: red, green, blue.
+    pub colors: Vec<[u8; 3]>,
+    /// One place among the entries a pixel, 0 for a hidden pixel.
+    pub indices: Vec<u8>,
+    /// The greatest squared distance of a shown color to its nearest entry.
+    pub error: u32,
+    /// One shown color more than there are entries, every two at least `error` apart; none where
+    /// the entries hold all shown colors.
+    pub witnesses: Vec<[u8; 3]>,
+}
+
+/// Chooses the palette of an image of four bytes a pixel: red, green, blue, alpha.
+///
+/// ```
+/// use icy_sixel::palette::{choose_palette, witnesses_hold};
+///
+/// let pixels = [[255, 255, 255, 255], [10, 0, 0, 255], [0, 0, 0, 255]].concat();
+/// let choice = choose_palette(&pixels, 2)?;
+/// assert_eq!(choice.colors, [[0, 0, 0], [255, 255, 255]]);
+/// assert_eq!(choice.indices, [1, 0, 0]);
+/// assert_eq!(choice.error, 100);
+/// assert!(witnesses_hold(&choice.witnesses, choice.error));
+/// # Ok::<(), icy_sixel::SixelError>(())
+/// ```
+///
+/// Only pixels whose alpha is at least 128 are shown and count; the others get index 0. The
+/// palette has room for `max_colors` entries, at least 2 and at most 256, and holds all shown
+/// colors if there is room for them. Otherwise it is chosen farthest first: the least shown color,
+/// by red, then green, then blue, and then again and again the shown color that is farthest from
+/// its nearest entry so far, the least of those. An opaque pixel's index is that of its nearest
+/// entry, the first of those. Distances are sums of squared differences of the channels.
+///
+/// No palette of as many colors, whatever they are, has an error below a fourth of this one's:
+/// the witnesses show it, since two of them share an entry of any such palette.
+///
+/// # Errors
+///
+/// `BufferSizeMismatch` if the length is no multiple of four, before any memory is asked for; it
+/// expects the length rounded down. Otherwise only `OutOfMemory`.
+pub fn choose_palette(pixels: &[u8], max_colors: u16) -> Result<PaletteChoice> {
+    let beyond = pixels.len() % 4;
+    if beyond != 0 {
+        let (expected, actual) = (pixels.len() - beyond, pixels.len());
+        return Err(SixelError::BufferSizeMismatch { expected, actual });
+    }
+    let mut colors = [Color::default(); MOST_COLORS];
+    let mut witnesses = [Color::default(); MOST_COLORS + 1];
+    let mut indices = Vec::new();
+    indices.try_reserve_exact(pixels.len() / 4)?;
+    let palette =
+        ffi::choose_palette(pixels, max_colors, &mut colors, &mut witnesses, &mut indices)
+            .map_err(refusal)?;
+    Ok(PaletteChoice {
+        colors: listed(&colors[..palette.colors])?,
+        indices,
+        error: palette.error,
+        witnesses: listed(&witnesses[..palette.witnesses])?,
+    })
+}
+
+/// Whether every two places of the list hold colors at a squared distance of at least `error`.
+///
+/// If so, whatever list of fewer colors one takes, some witness has to each of them a squared
+/// distance whose fourfold is at least `error`.
+#[must_use]
+pub fn witnesses_hold(witnesses: &[[u8; 3]], error: u32) -> bool {
+    let is_apart = |(place, color): (usize, &[u8; 3])| {
+        witnesses[..place].iter().all(|other| distance(color, other) >= error)
+    };
+    witnesses.iter().enumerate().all(is_apart)
+}
+
+/// The most entries that a palette has.
+const MOST_COLORS: usize = 256;
+
+/// The colors as a list of their channels.
+fn listed(colors: &[Color]) -> Result<Vec<[u8; 3]>> {
+    let mut list = Vec::new();
+    list.try_reserve_exact(colors.len())?;
+    list.extend(colors.iter().map(|color| [color.red, color.green, color.blue]));
+    Ok(list)
+}
+
+/// The squared distance of two colors.
+fn distance(one: &[u8; 3], other: &[u8; 3]) -> u32 {
+    let gap = |channel: usize| u32::from(one[channel].abs_diff(other[channel]));
+    (0..3).map(|channel| gap(channel) * gap(channel)).sum()
+}
