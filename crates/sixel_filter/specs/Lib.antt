@@ -1,3 +1,4 @@
 pub mod Making
 pub mod Stream
+pub mod Words
 pub mod inside

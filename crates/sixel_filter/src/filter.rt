@@ -2,6 +2,8 @@
 
 ghost use Rattle.std.specs.Prelude.{◌≡◌, ◌==◌, ◌+◌, ◌*◌, ◌<◌, ◌≤◌, ◌++◌, ◌∷◌, ◌&&◌, ◌||◌, []};
 ghost use Rattle.std.specs.Prelude.{true, false, not, ℕ, List, length, drop, slice_index, OnOk, IfOk};
+ghost use Rattle.std.specs.Prelude.{IfErr};
+ghost use Rattle.sixel_base.specs.declared.error.SixelError.TheVariants.{OutOfMemory};
 ghost use Rattle.sixel_base.specs.Decoder.{new_decoder};
 ghost use Rattle.sixel_base.specs.Dcs.{Heading, stage, dcs_status, dcs_in_payload, has_ended};
 ghost use Rattle.sixel_base.specs.declared.status.SixelDcsFeedStatus.{SixelDcsFeedStatus};
@@ -78,6 +80,7 @@ impl Filter {
         ensures passes { (more whole : List ℕ) → OnOk result
             (Leads self.new output.new.items more whole
             → Leads self.old output.old.items (piece.now ++ more) whole) }
+        ensures error { IfErr result (λ e. e ≡ OutOfMemory) }
     {
         let mut rest = piece;
         'steps: while !rest.is_empty() {
@@ -91,6 +94,7 @@ impl Filter {
     pub fn end(&mut self, output: &mut Vec<u8>) -> Result<()>
         requires sound { IsSound self.old }
         ensures ends { OnOk result (Leads self.old output.old.items [] output.new.items) }
+        ensures error { IfErr result (λ e. e ≡ OutOfMemory) }
     {
         match self.place {
             Place::Header => self.pass_held(output),
@@ -110,6 +114,7 @@ impl Filter {
         ensures passes { (more whole : List ℕ) → IfOk result (λ count.
             Leads self.new output.new.items (drop count bytes.now ++ more) whole
             → Leads self.old output.old.items (bytes.now ++ more) whole) }
+        ensures error { IfErr result (λ e. e ≡ OutOfMemory) }
     {
         let byte = bytes[0];
         match self.place {
@@ -132,6 +137,7 @@ impl Filter {
             (Leads self.new output.new.items more whole
             → Writes self.old.work self.old.in_character self.old.receiver.decoder
             output.old.items (byte ∷ more) whole) }
+        ensures error { IfErr result (λ e. e ≡ OutOfMemory) }
     {
         if may_begin(self.in_character, byte) {
             self.begin(byte)?;
@@ -153,6 +159,7 @@ impl Filter {
         ensures decoder { OnOk result (self.new.receiver.decoder ≡ self.old.receiver.decoder) }
         ensures work { OnOk result (self.new.work ≡ self.old.work) }
         ensures character { OnOk result (self.new.in_character ≡ self.old.in_character) }
+        ensures error { IfErr result (λ e. e ≡ OutOfMemory) }
     {
         self.receiver.begin_dcs(self.alloc);
         self.receiver.feed(&[byte])?;
@@ -171,6 +178,7 @@ impl Filter {
         ensures passes { (more whole : List ℕ) → OnOk result
             (Leads self.new output.new.items more whole
             → Leads self.old output.old.items (byte ∷ more) whole) }
+        ensures error { IfErr result (λ e. e ≡ OutOfMemory) }
     {
         let _received = match self.receiver.feed(&[byte]) {
             Ok(received) => received,
@@ -203,6 +211,7 @@ impl Filter {
             output.new.items more whole
             → Writes self.old.work self.old.in_character self.old.receiver.decoder
             output.old.items (self.old.held.items ++ more) whole) }
+        ensures error { IfErr result (λ e. e ≡ OutOfMemory) }
     {
         output.extend_from_slice(&self.held)?;
         self.in_character = is_lone_dcs(&self.held);
@@ -222,6 +231,7 @@ impl Filter {
         ensures passes { (more whole : List ℕ) → IfOk result (λ count.
             Leads self.new output.new.items (drop count bytes.now ++ more) whole
             → Leads self.old output.old.items (bytes.now ++ more) whole) }
+        ensures error { IfErr result (λ e. e ≡ OutOfMemory) }
     {
         let received = match self.receiver.feed(bytes) {
             Ok(received) => received,
@@ -256,6 +266,7 @@ impl Filter {
             → OnOk result (IsClosed self.old.work self.old.receiver.decoder
             (self.old.receiver.image.bytes ++ more) output.old.items
             self.new.receiver.decoder output.new.items) }
+        ensures error { IfErr result (λ e. e ≡ OutOfMemory) }
     {
         self.in_character = false;
         self.place = Place::Text;
@@ -306,6 +317,7 @@ impl Filter {
         ensures passes { (written more whole : List ℕ) → IfOk result (λ count.
             Leads self.new written (drop count (byte ∷ more)) whole
             → Leads self.old written (byte ∷ more) whole) }
+        ensures error { IfErr result (λ e. e ≡ OutOfMemory) }
     {
         if byte == b'\\' {
             self.place = Place::Text;
@@ -319,8 +331,9 @@ impl Filter {
 /// What a filter writes of a whole stream that comes in pieces of up to so many bytes.
 pub fn filter_pieces(alloc: Global, work: Work, stream: &[u8], piece_len: usize) -> Result<Vec<u8>>
     requires { 0 < piece_len }
-    ensures { IfOk result (λ output.
+    ensures filtered { IfOk result (λ output.
         IsFiltered work false new_decoder stream.now output.items) }
+    ensures error { IfErr result (λ e. e ≡ OutOfMemory) }
 {
     let mut filter = Filter::new(alloc, work);
     let mut output = Vec::new(alloc);

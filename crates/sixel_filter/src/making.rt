@@ -1,6 +1,7 @@
 //! What is written in the place of an image.
 
-ghost use Rattle.std.specs.Prelude.{◌≡◌, ◌++◌, List, ℕ, OnOk};
+ghost use Rattle.std.specs.Prelude.{◌≡◌, ◌++◌, List, ℕ, OnOk, IfErr};
+ghost use Rattle.sixel_base.specs.declared.error.SixelError.TheVariants.{OutOfMemory};
 ghost use Rattle.icy_sixel.specs.ImageView.{image_value};
 ghost use Rattle.sixel_filter.specs.Making.{IsWritten, refusal_note, size_note};
 ghost use Rattle.sixel_filter.specs.declared.words.Work.TheVariants.{Colors};
@@ -16,8 +17,9 @@ pub fn write_image(
     image: &SixelImage,
     output: &mut Vec<u8>,
 ) -> Result<()>
-    ensures { OnOk result ((text : List ℕ) × IsWritten work (image_value image.now) text
+    ensures written { OnOk result ((text : List ℕ) × IsWritten work (image_value image.now) text
         × (output.new.items ≡ output.old.items ++ text)) }
+    ensures error { IfErr result (λ e. e ≡ OutOfMemory) }
 {
     match work {
         Work::Size => write_size(alloc, image, output),
@@ -28,8 +30,9 @@ pub fn write_image(
 
 /// Writes a note of the image's width and height.
 fn write_size(alloc: Global, image: &SixelImage, output: &mut Vec<u8>) -> Result<()>
-    ensures { OnOk result
+    ensures written { OnOk result
         (output.new.items ≡ output.old.items ++ size_note (image_value image.now)) }
+    ensures error { IfErr result (λ e. e ≡ OutOfMemory) }
 {
     let (width, height) = (image.width, image.height);
     let note = format!(in alloc; "[image {width}x{height}]")?;
@@ -44,9 +47,10 @@ fn write_anew(
     image: &SixelImage,
     output: &mut Vec<u8>,
 ) -> Result<()>
-    ensures { OnOk result ((text : List ℕ)
+    ensures written { OnOk result ((text : List ℕ)
         × IsWritten (Colors max_colors) (image_value image.now) text
         × (output.new.items ≡ output.old.items ++ text)) }
+    ensures error { IfErr result (λ e. e ≡ OutOfMemory) }
 {
     match image.encode_with(alloc, &EncodeOptions { max_colors }) {
         Ok(text) => {
@@ -59,7 +63,9 @@ fn write_anew(
 
 /// Writes a note of why an image is refused.
 pub fn write_refusal(alloc: Global, error: &SixelError, output: &mut Vec<u8>) -> Result<()>
-    ensures { OnOk result (output.new.items ≡ output.old.items ++ refusal_note error.now) }
+    ensures written { OnOk result
+        (output.new.items ≡ output.old.items ++ refusal_note error.now) }
+    ensures error { IfErr result (λ e. e ≡ OutOfMemory) }
 {
     let note = format!(in alloc; "[image refused: {error}]")?;
     output.extend_from_slice(note.as_bytes())?;

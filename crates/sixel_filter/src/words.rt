@@ -1,6 +1,7 @@
 //! The words of the command line.
 
-ghost use Rattle.std.specs.Prelude.{◌<◌, IfSome};
+ghost use Rattle.std.specs.Prelude.{◌≡◌, ◌<◌, ◌^◌, ◌∷◌, [], ℕ, IfSome, IfNone, codes};
+ghost use Rattle.sixel_filter.specs.Words.{IsAskedBy, IsLength, IsNumber, words_of};
 
 /// What is made of an image that was decoded.
 #[derive(Clone, Copy, Debug, PartialEq, Eq)]
@@ -14,26 +15,46 @@ pub enum Work {
 }
 
 /// The length of a piece and the work that the words after the program's own name ask for.
+///
+/// `None` is for words that ask for nothing that the program does.
 pub fn asked(words: &[String]) -> Option<(usize, Work)>
-    ensures { IfSome result (λ asked. 0 < asked.0) }
+    ensures asked { IfSome result (λ asked. IsAskedBy (words_of words.now) asked.0 asked.1) }
+    ensures usage { IfNone result ((length : ℕ) (work : Work)
+        → ¬ IsAskedBy (words_of words.now) length work) }
+    ensures some { IfSome result (λ asked. 0 < asked.0) }
 {
-    let (length, work) = match words {
-        [length, work] => (length, read_work(work, None)?),
-        [length, work, count] => (length, read_work(work, Some(count))?),
-        _ => return None,
-    };
-    match length.parse().ok()? {
-        0 => None,
-        length => Some((length, work)),
+    match words {
+        [piece, word] => match (word.as_str(), length(piece)?) {
+            ("size", length) => Some((length, Work::Size)),
+            ("refusals", length) => Some((length, Work::Refusals)),
+            _ => None,
+        },
+        [piece, word, count] => match (word.as_str(), length(piece)?) {
+            ("colors", length) => Some((length, Work::Colors(u16::try_from(number(count)?).ok()?))),
+            _ => None,
+        },
+        _ => None,
     }
 }
 
-/// The work that a word asks for, and a number after it.
-fn read_work(word: &str, count: Option<&str>) -> Option<Work> {
-    match (word, count) {
-        ("size", None) => Some(Work::Size),
-        ("refusals", None) => Some(Work::Refusals),
-        ("colors", Some(count)) => Some(Work::Colors(count.parse().ok()?)),
-        _ => None,
+/// The length of a piece, of at least one byte.
+fn length(text: &str) -> Option<usize>
+    ensures read { IfSome result (IsLength text.now) }
+    ensures other { IfNone result ((length : ℕ) → ¬ IsLength text.now length) }
+{
+    match number(text)? {
+        0 => None,
+        length => Some(length),
     }
+}
+
+/// The number that decimal digits write, with no sign before them.
+fn number(text: &str) -> Option<usize>
+    ensures read { IfSome result (λ n. IsNumber text.now n × (n < 2 ^ 64)) }
+    ensures other { IfNone result ((n : ℕ) → n < 2 ^ 64 → ¬ IsNumber text.now n) }
+{
+    if text.starts_with('+') {
+        return None;
+    }
+    text.parse().ok()
 }

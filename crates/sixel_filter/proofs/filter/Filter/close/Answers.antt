@@ -18,7 +18,7 @@ returns-in-Ok-clause-closed c = λ more last.
     on_ok c.write_image.result
     (closed_shown f.work f.receiver.decoder c.finish.new.self.decoder f.receiver.image.bytes more c.args.output.now.items c.write_image.new.output.items (image_value c.in-Ok.image) r.sound ended decoded
     c.in-Ok.ensures.set)
-    c.write_image.ensures
+    c.write_image.ensures.written
 
 pub returns-in-Err-clause-closed : goal.returns-in-Err-clause-closed
 returns-in-Err-clause-closed c = λ more last.
@@ -29,4 +29,4 @@ returns-in-Err-clause-closed c = λ more last.
     on_ok c.write_refusal.result
     (closed_refused f.work f.receiver.decoder c.finish.new.self.decoder f.receiver.image.bytes more c.args.output.now.items c.write_refusal.new.output.items c.in-Err.error r.sound refused last
     c.in-Err.ensures.kept)
-    c.write_refusal.ensures
+    c.write_refusal.ensures.written
