@@ -1,6 +1,6 @@
 //! The pieces that a row of sixels is written in.
 
-ghost use Rattle.std.specs.Prelude.{◌≡◌, ◌+◌, ◌<◌, ◌∷◌, ◌++◌, [], OnOk, All, decimal, string_bytes};
+ghost use Rattle.std.specs.Prelude.{◌≡◌, ◌+◌, ◌<◌, ◌≤◌, ◌∷◌, ◌++◌, [], OnOk, All, decimal, string_bytes};
 ghost use Rattle.sixel_encoder.specs.Pieces.{One, Many, spelling, Spells, IsShortest, written};
 ghost use Rattle.sixel_encoder.specs.Pieces.{run_pieces, rest_pieces, row_pieces};
 
@@ -38,7 +38,21 @@ pub fn push_row(text: &mut String, row: &[u8]) -> Result<(), AllocError>
 }
 
 /// Appends equal sixels, cut from the left into pieces of the greatest count and a rest.
+#[inline(always)]
 fn push_run(text: &mut String, count: usize, bits: u8) -> Result<(), AllocError>
+    requires { bits < 64 }
+    ensures { OnOk result
+        (string_bytes text.new ≡ string_bytes text.old ++ written (run_pieces count bits)) }
+{
+    if count < LONGEST {
+        return push_rest(text, count, bits);
+    }
+    push_long(text, count, bits)
+}
+
+/// Appends equal sixels, as [`push_run`], that are mostly at least the greatest count.
+#[inline(never)]
+fn push_long(text: &mut String, count: usize, bits: u8) -> Result<(), AllocError>
     requires { bits < 64 }
     ensures { OnOk result
         (string_bytes text.new ≡ string_bytes text.old ++ written (run_pieces count bits)) }
@@ -50,6 +64,7 @@ fn push_run(text: &mut String, count: usize, bits: u8) -> Result<(), AllocError>
 }
 
 /// Appends equal sixels, fewer than the greatest count.
+#[inline(always)]
 fn push_rest(text: &mut String, count: usize, bits: u8) -> Result<(), AllocError>
     requires { bits < 64 }
     ensures { OnOk result
@@ -65,6 +80,7 @@ fn push_rest(text: &mut String, count: usize, bits: u8) -> Result<(), AllocError
 }
 
 /// Appends a repeat introducer and its sixel.
+#[inline(never)]
 fn push_many(text: &mut String, count: usize, bits: u8) -> Result<(), AllocError>
     requires { bits < 64 }
     ensures { OnOk result
@@ -90,11 +106,26 @@ pub fn push_number(text: &mut String, number: usize) -> Result<(), AllocError>
     if number < 10 {
         return push_digit(text, number as u8);
     }
+    if number < 100 {
+        return push_two_digits(text, number as u8);
+    }
     push_number(text, number / 10)?;
     push_digit(text, (number % 10) as u8)
 }
 
+/// Appends a number of two digits.
+#[inline(always)]
+fn push_two_digits(text: &mut String, number: u8) -> Result<(), AllocError>
+    requires two { 10 ≤ number }
+    requires digits { number < 100 }
+    ensures { OnOk result (string_bytes text.new ≡ string_bytes text.old ++ decimal number) }
+{
+    push_digit(text, number / 10)?;
+    push_digit(text, number % 10)
+}
+
 /// Appends a decimal digit.
+#[inline(always)]
 fn push_digit(text: &mut String, digit: u8) -> Result<(), AllocError>
     requires { digit < 10 }
     ensures { OnOk result (string_bytes text.new ≡ string_bytes text.old ++ (48 + digit) ∷ []) }
