@@ -50,7 +50,7 @@ fn push_run(text: &mut String, count: usize, bits: u8) -> Result<(), AllocError>
     push_long(text, count, bits)
 }
 
-/// Appends equal sixels, as [`push_run`], that are mostly at least the greatest count.
+/// Appends equal sixels, as [`push_run`] does, however many there are.
 #[inline(never)]
 fn push_long(text: &mut String, count: usize, bits: u8) -> Result<(), AllocError>
     requires { bits < 64 }
