@@ -2,7 +2,7 @@
 ghost use Rattle.std.specs.Prelude.{◌≡◌, ℕ, ◌+◌, ◌-◌, ◌*◌, ◌^◌, ◌<◌, ◌≤◌, ◌&&◌, ◌++◌, [], max};
 ghost use Rattle.std.specs.Prelude.{length, vec_len, slice_index, slice_index_or, slice_set, if◌then◌else◌};
 ghost use Rattle.std.specs.Prelude.{◌==◌, nat_le, nat_lt, true};
-ghost use Rattle.std.specs.Prelude.{All, IfOk, IfErr, OnErr, OnOk};
+ghost use Rattle.std.specs.Prelude.{All, IfOk, IfErr, IsOk, OnErr, OnOk};
 ghost use Rattle.sixel_base.specs.declared.error.SixelError.TheVariants.{OutOfMemory};
 ghost use Rattle.sixel_base.specs.Picture.{covers, is_set, is_struck, joined};
 ghost use Rattle.sixel_canvas.specs.Row.{RowState, IsThrifty, empty_row, reached_to, painted};
@@ -76,6 +76,8 @@ impl Canvas {
             then max (reached self.old row) to else reached self.old row)) }
         ensures never_less { (row : ℕ) → reached self.old row ≤ reached self.new row }
         ensures background { self.new.background ≡ self.old.background }
+        ensures held { 0 < to → ((k : ℕ) → k < 6 → to ≤ reached self.old (top + k))
+            → IsOk result }
         ensures error { IfErr result (λ e. e ≡ OutOfMemory) }
         ensures bounded { IsBounded self.new }
     {
@@ -236,6 +238,7 @@ impl Canvas {
         ensures grown { OnOk result ((k : ℕ) → reached self.new k
             ≡ (if k == row then max (reached self.old k) columns else reached self.old k)) }
         ensures refused { OnErr result ((k : ℕ) → reached self.new k ≡ reached self.old k) }
+        ensures held { 0 < columns → columns ≤ reached self.old row → IsOk result }
         ensures background { self.new.background ≡ self.old.background }
         ensures error { IfErr result (λ e. e ≡ OutOfMemory) }
         ensures bounded { IsBounded self.new }
@@ -265,6 +268,7 @@ impl Canvas {
 // Makes rows until there are so many.
 fn make_rows(rows: &mut Vec<Row>, count: usize, background: [u8; 4]) -> Result<()>
     requires { count ≤ 1000000 }
+    ensures made { count ≤ vec_len rows.old → IsOk result }
     ensures enough { OnOk result (count ≤ vec_len rows.new) }
     ensures same { (row : ℕ) → slice_index_or rows.new.items row (empty_row background)
         ≡ slice_index_or rows.old.items row (empty_row background) }
@@ -294,6 +298,8 @@ fn reach(rows: &mut Vec<Row>, row: usize, columns: usize) -> Result<()>
     ensures thrifty { OnOk result ((d : RowState)
         → IsThrifty (slice_index_or rows.new.items row d)) }
     ensures refused { OnErr result (rows.new.items ≡ rows.old.items) }
+    ensures held { (d : RowState) → columns ≤ length (slice_index_or rows.old.items row d).pixels
+        → IsOk result }
     ensures error { IfErr result (λ e. e ≡ OutOfMemory) }
 {
     rows[row].reach(columns)
@@ -309,6 +315,8 @@ fn strike(rows: &mut Vec<Row>, row: usize, from: usize, to: usize, color: [u8; 4
     ensures thrifty { OnOk result ((d : RowState)
         → IsThrifty (slice_index_or rows.new.items row d)) }
     ensures refused { OnErr result (rows.new.items ≡ rows.old.items) }
+    ensures held { (d : RowState) → to ≤ length (slice_index_or rows.old.items row d).pixels
+        → IsOk result }
     ensures error { IfErr result (λ e. e ≡ OutOfMemory) }
 {
     let struck = &mut rows[row];

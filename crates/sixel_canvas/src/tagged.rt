@@ -2,7 +2,7 @@
 ghost use Rattle.std.specs.Prelude.{◌≡◌, ℕ, ◌+◌, ◌-◌, ◌*◌, ◌/◌, ◌^◌, ◌<◌, ◌≤◌, ◌==◌, ◌&&◌, ◌++◌, [], max};
 ghost use Rattle.std.specs.Prelude.{length, vec_len, slice_index, true, false, if◌then◌else◌};
 ghost use Rattle.std.specs.Prelude.{◌%◌, min};
-ghost use Rattle.std.specs.Prelude.{nat_le, nat_lt, IfOk, IfErr, OnErr, OnOk};
+ghost use Rattle.std.specs.Prelude.{nat_le, nat_lt, IfOk, IfErr, IsOk, OnErr, OnOk};
 ghost use Rattle.sixel_base.specs.declared.error.SixelError.TheVariants.{OutOfMemory};
 ghost use Rattle.sixel_base.specs.Picture.{covers, is_set, is_struck, joined, picture};
 ghost use Rattle.sixel_canvas.specs.inside.Block.{drawn_over};
@@ -85,6 +85,8 @@ impl TaggedCanvas {
         ensures grown { OnOk result ((row : ℕ) → reached self.new row ≡ (if is_struck top bits row
             then max (reached self.old row) to else reached self.old row)) }
         ensures background { self.new.background ≡ self.old.background }
+        ensures held { 0 < to → ((k : ℕ) → k < 6 → to ≤ reached self.old (top + k))
+            → IsOk result }
         ensures error { IfErr result (λ e. e ≡ OutOfMemory) }
         ensures bounded { IsBounded self.new }
     {
@@ -233,6 +235,8 @@ impl TaggedCanvas {
         ensures grown { OnOk result ((row : ℕ) → reached self.new row ≡ (if is_struck top bits row
             then max (reached self.old row) to else reached self.old row)) }
         ensures background { self.new.background ≡ self.old.background }
+        ensures held { 0 < to → ((k : ℕ) → k < 6 → to ≤ reached self.old (top + k))
+            → IsOk result }
         ensures error { IfErr result (λ e. e ≡ OutOfMemory) }
         ensures bounded { IsBounded self.new }
     {
@@ -288,7 +292,7 @@ impl TaggedCanvas {
 }
 
 // Draws a part of one row, which is grown first where it is too short: painted, or tagged where that
-// is asked and it covers a block.
+// is asked, it covers a block, and there is memory for the tags.
 fn strike(
     sheet: &mut Canvas,
     tags: &mut Canvas,
@@ -309,11 +313,13 @@ fn strike(
         ≡ (if k == row then max (reached sheet.old k) to else reached sheet.old k)) }
     ensures background { sheet.new.background ≡ sheet.old.background }
     ensures tagged { IsTagged sheet.new tags.new }
+    ensures held { 0 < to → to ≤ reached sheet.old row → IsOk result }
     ensures error { IfErr result (λ e. e ≡ OutOfMemory) }
 {
     sheet.reach_row(row, to)?;
-    if lazy && from.div_ceil(BLOCK) < to / BLOCK {
-        tag(sheet, tags, row, from, to, color)?;
+    let (first, last) = (from.div_ceil(BLOCK), to / BLOCK);
+    if lazy && first < last && tags.reach_row(row, last).is_ok() {
+        tag(sheet, tags, row, from, to, color);
     } else {
         paint(sheet, tags, row, from, to, color);
     }
@@ -339,36 +345,27 @@ fn paint(sheet: &mut Canvas, tags: &mut Canvas, row: usize, from: usize, to: usi
     sheet.fill_row(row, from, to, color);
 }
 
-// Tags the blocks that lie whole in columns that the row holds, and paints the two ends.
-fn tag(
-    sheet: &mut Canvas,
-    tags: &mut Canvas,
-    row: usize,
-    from: usize,
-    to: usize,
-    color: [u8; 4],
-) -> Result<()>
+// Tags the blocks that lie whole in columns that the row holds, where it holds their tags, and paints
+// the two ends. It takes no memory.
+fn tag(sheet: &mut Canvas, tags: &mut Canvas, row: usize, from: usize, to: usize, color: [u8; 4])
     requires whole { from / 128 + min 1 (from % 128) < to / 128 }
     requires within { to ≤ 1000000 }
-    requires above_bottom { row < 1000000 }
     requires held { to ≤ reached sheet.old row }
+    requires tags_held { to / 128 ≤ reached tags.old row }
     requires tagged { IsTagged sheet.old tags.old }
     requires visible { is_tag color ≡ true }
-    ensures drawn { OnOk result ((column k : ℕ) → seen sheet.new tags.new column k
-        ≡ (if lies_in row from to column k then color else seen sheet.old tags.old column k)) }
+    ensures drawn { (column k : ℕ) → seen sheet.new tags.new column k
+        ≡ (if lies_in row from to column k then color else seen sheet.old tags.old column k) }
     ensures reached { (k : ℕ) → reached sheet.new k ≡ reached sheet.old k }
     ensures background { sheet.new.background ≡ sheet.old.background }
     ensures tagged { IsTagged sheet.new tags.new }
-    ensures error { IfErr result (λ e. e ≡ OutOfMemory) }
 {
     let first = from.div_ceil(BLOCK);
     let last = to / BLOCK;
-    tags.reach_row(row, last)?;
     settle_ends(sheet, tags, row, from, to);
     sheet.fill_row(row, from, first * BLOCK, color);
     sheet.fill_row(row, last * BLOCK, to, color);
     tags.fill_row(row, first, last, color);
-    Ok(())
 }
 
 // Takes the tags off the blocks at both ends of a stroke.

@@ -1,6 +1,6 @@
-use Rattle.std.proofs.Common.{◌/◌, ap, ◌∙◌, arith}
+use Rattle.std.proofs.Common.{◌/◌, arith}
 use Rattle.sixel_canvas.specs.inside.Canvas.{shown}
-use Rattle.sixel_canvas.specs.inside.Tags.{seen, under}
+use Rattle.sixel_canvas.specs.inside.Tags.{seen}
 use Rattle.sixel_canvas.proofs.Tagging.{IsSettled, tagged_seen}
 use Rattle.sixel_canvas.proofs.tagged.tag.Goals as goal
 
@@ -15,11 +15,7 @@ returns-clause-drawn c =
     let tags = c.settle_ends.new.tags in
     let before = seen c.args.sheet.now c.args.tags.now in
     let settled : IsSettled row from to (to / 128) before (shown sheet) (shown tags) =
-    record {
-      outside = λ column k miss. ends.seen column k miss ∙ ap (λ t. under t (shown c.args.sheet.now column k)) (c.reach_row.ensures.shown (column / 128) k);
-      left = ends.left;
-      right = ends.right;
-    } in
+    record { outside = ends.seen; left = ends.left; right = ends.right } in
     tagged_seen row from to first (to / 128) c.args.color before
     (shown sheet) (shown c.fill_row.new.self) (shown c.fill_row-2.new.self) (shown tags) (shown c.fill_row-3.new.self)
     (omega arith) (omega arith) (omega arith) c.requires.visible settled c.fill_row.ensures.drawn c.fill_row-2.ensures.drawn c.fill_row-3.ensures.drawn

@@ -1,5 +1,8 @@
-use Rattle.std.proofs.Common.{ℕ, refl, arith}
+use Rattle.std.proofs.Common.{◌≡◌, ℕ, ◌+◌, ◌≤◌, length, get_or, refl, sym, ap, inl, inr, arith}
+use Rattle.std.proofs.lemmas.Bool.{cases_Bool, le-ltb, true≢false}
 use Rattle.sixel_base.specs.Picture.{is_struck}
+use Rattle.sixel_canvas.specs.Row.{RowState, empty_row}
+use Rattle.sixel_canvas.specs.inside.Canvas.{row_at}
 use Rattle.sixel_canvas.proofs.Strokes.{struck_row}
 use Rattle.sixel_canvas.proofs.Totals.{IsBounded-rows}
 use Rattle.sixel_canvas.proofs.Underway.{IsUnderway-hit, IsUnderway-miss, IsUnderway-none, is_struck-above, is_struck-hit, is_struck-miss, reached-all, shown-all}
@@ -55,6 +58,25 @@ returns-clause-grown c =
     let canvas = c.struck.self-inside in
     reached-all c.args.from c.args.to c.args.top c.args.bits c.args.color c.struck.bit c.args.self.now canvas.background canvas.rows.items
     c.struck.invariant c.struck-test.false c.requires.ordered
+
+pub returns-clause-never_less : goal.returns-clause-never_less
+returns-clause-never_less c = λ row.
+    let canvas = c.struck.self-inside in
+    let grown = reached-all c.args.from c.args.to c.args.top c.args.bits c.args.color c.struck.bit c.args.self.now canvas.background canvas.rows.items c.struck.invariant c.struck-test.false c.requires.ordered row in
+    elim (cases_Bool (is_struck c.args.top c.args.bits row)) [
+      | inl hit ↦ omega (arith, rw hit at grown)
+      | inr miss ↦ omega (arith, rw miss at grown)
+    ]
+
+pub returns-in_err-strike-clause-held : goal.returns-in_err-strike-clause-held
+returns-in_err-strike-clause-held c = λ some held.
+    let rows = c.struck.self-inside.rows.items in
+    let row = c.args.top + c.struck.bit in
+    let canvas = c.args.self.now in
+    let empty = empty_row canvas.background in
+    let old : get_or rows row empty ≡ row_at canvas row = rw (le-ltb row row (omega arith)) at (c.struck.invariant.struck row) in
+    let fits : c.args.to ≤ length (get_or rows row empty).pixels = omega (arith, held c.struck.bit c.struck-test.true, ap (λ (r : RowState). length r.pixels) old) in
+    absurd (true≢false (sym (c.in_err-strike.ensures.held empty fits)))
 
 pub returns-clause-bounded : goal.returns-clause-bounded
 returns-clause-bounded c =

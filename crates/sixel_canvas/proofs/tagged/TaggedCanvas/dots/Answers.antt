@@ -1,4 +1,4 @@
-use Rattle.std.proofs.Common.{◌≡◌, ℕ, ◌+◌, ◌<◌, sym, ap, ◌∙◌, arith}
+use Rattle.std.proofs.Common.{◌+◌, sym, ap, ◌∙◌, arith}
 use Rattle.sixel_canvas.specs.inside.Canvas.{CanvasState, reached, shown}
 use Rattle.sixel_canvas.proofs.Tagging.{IsCleared, seen-mixed}
 use Rattle.sixel_canvas.proofs.Tags.{IsTagged-grown, reached-tagged, shown-tagged}

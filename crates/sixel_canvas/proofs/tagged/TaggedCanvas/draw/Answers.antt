@@ -1,4 +1,4 @@
-use Rattle.std.proofs.Common.{◌≡◌, ◌/◌, max, sym, ap, ◌∙◌, arith}
+use Rattle.std.proofs.Common.{◌≡◌, ◌+◌, ◌/◌, max, sym, ap, ◌∙◌, arith}
 use Rattle.std.specs.Prelude.{if◌then◌else◌}
 use Rattle.std.proofs.lemmas.Result.{on_ok_weaker}
 use Rattle.sixel_base.specs.Picture.{covers, is_struck}
@@ -31,6 +31,14 @@ returns-then-height-top-clause-grown c =
     reached-tagged c.draw.new.self tags row ∙ grown row
     ∙ ap (λ n. if is_struck c.args.top c.args.bits row then max n c.args.to else n) before)
     c.draw.ensures.grown
+
+pub returns-then-height-top-clause-held : goal.returns-then-height-top-clause-held
+returns-then-height-top-clause-held c = λ some held.
+    let sheet = c.self.inside.sheet in
+    let tags = c.self.inside.tags in
+    c.draw.ensures.held some (λ k six.
+    let row = c.args.top + k in
+    omega (arith, held k six, ap (λ (s : CanvasState). reached s row) c.self.view_is, reached-tagged sheet tags row))
 
 pub returns-then-height-top-clause-bounded : goal.returns-then-height-top-clause-bounded
 returns-then-height-top-clause-bounded c = IsBounded-tagged c.draw.new.self c.self.inside.tags c.draw.ensures.bounded
