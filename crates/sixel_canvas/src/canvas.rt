@@ -82,9 +82,6 @@ impl Canvas {
         ensures bounded { IsBounded self.new }
     {
         let background = self.background;
-        if bits == 0 {
-            return Ok(());
-        }
         make_rows(&mut self.rows, top + 6, background)?;
         'struck: for bit in 0..6 {
             if (bits >> bit) % 2 == 1 {

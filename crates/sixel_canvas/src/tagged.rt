@@ -67,7 +67,7 @@ impl TaggedCanvas {
     ///
     /// Only those rows are touched, and grown where they end before `to`. Columns and rows end
     /// at a million. Where memory is refused, a part of the sixel may be drawn.
-    #[inline(never)]
+    #[inline(always)]
     pub fn draw(
         &mut self,
         from: usize,
@@ -90,10 +90,11 @@ impl TaggedCanvas {
         ensures error { IfErr result (λ e. e ≡ OutOfMemory) }
         ensures bounded { IsBounded self.new }
     {
-        if to - from < WIDE && self.tags.height() <= top {
-            return self.sheet.draw(from, to, top, bits, color);
+        let _sheet = &self.sheet;
+        if bits == 0 {
+            return Ok(());
         }
-        self.draw_over(from, to, top, bits, color)
+        self.draw_dots(from, to, top, bits, color)
     }
 
     /// How many columns each of the six rows from `top` on holds, from the left.
@@ -213,6 +214,36 @@ impl TaggedCanvas {
             return self.sheet.pixel(column, row);
         }
         tag
+    }
+
+    // Draws a sixel that has dots.
+    #[inline(never)]
+    fn draw_dots(
+        &mut self,
+        from: usize,
+        to: usize,
+        top: usize,
+        bits: u8,
+        color: [u8; 4],
+    ) -> Result<()>
+        requires ordered { from ≤ to }
+        requires within { to ≤ 1000000 }
+        requires above_bottom { top + 6 ≤ 1000000 }
+        requires six { bits < 64 }
+        ensures drawn { OnOk result ((column row : ℕ) → shown self.new column row
+            ≡ (if covers from to top bits column row then color else shown self.old column row)) }
+        ensures grown { OnOk result ((row : ℕ) → reached self.new row ≡ (if is_struck top bits row
+            then max (reached self.old row) to else reached self.old row)) }
+        ensures background { self.new.background ≡ self.old.background }
+        ensures held { 0 < to → ((k : ℕ) → k < 6 → to ≤ reached self.old (top + k))
+            → IsOk result }
+        ensures error { IfErr result (λ e. e ≡ OutOfMemory) }
+        ensures bounded { IsBounded self.new }
+    {
+        if to - from < WIDE && self.tags.height() <= top {
+            return self.sheet.draw(from, to, top, bits, color);
+        }
+        self.draw_over(from, to, top, bits, color)
     }
 
     // Draws a sixel that is wide, or that a tag may lie under.

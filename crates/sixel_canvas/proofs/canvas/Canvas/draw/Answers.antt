@@ -9,10 +9,6 @@ use Rattle.sixel_canvas.proofs.Underway.{IsUnderway-hit, IsUnderway-miss, IsUnde
 use Rattle.sixel_canvas.proofs.canvas.Canvas.draw.Goals as goal
 use Rattle.sixel_canvas.proofs.canvas.Canvas.draw.Goals.{then-bits-bit-eq1+in_ok-strike, else-bits-bit-eq1}
 
-pub returns-then-bits-eq0-clause-bounded : goal.returns-then-bits-eq0-clause-bounded
-returns-then-bits-eq0-clause-bounded c =
-    rw (← c.self.view_is) (IsBounded-rows c.self.inside.background c.self.inside.rows.items c.self.invariant.0 c.self.invariant.1)
-
 pub returns-in_err-make_rows-clause-bounded : goal.returns-in_err-make_rows-clause-bounded
 returns-in_err-make_rows-clause-bounded c =
     IsBounded-rows c.self.inside.background c.make_rows.new.rows.items (omega (arith, c.make_rows.ensures.few, c.self.invariant.0)) (c.make_rows.ensures.rows c.self.invariant.1)

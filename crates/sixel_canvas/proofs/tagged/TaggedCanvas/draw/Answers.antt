@@ -1,44 +1,6 @@
-use Rattle.std.proofs.Common.{◌≡◌, ◌+◌, ◌/◌, max, sym, ap, ◌∙◌, arith}
-use Rattle.std.specs.Prelude.{if◌then◌else◌}
-use Rattle.std.proofs.lemmas.Result.{on_ok_weaker}
-use Rattle.sixel_base.specs.Picture.{covers, is_struck}
-use Rattle.sixel_canvas.specs.inside.Canvas.{CanvasState, reached, shown}
-use Rattle.sixel_canvas.specs.inside.Tags.{under}
-use Rattle.sixel_canvas.proofs.Tagging.{under-covered}
-use Rattle.sixel_canvas.proofs.Tags.{IsBounded-tagged, IsTagged-grown, reached-tagged, shown-tagged}
+use Rattle.sixel_canvas.proofs.Tags.{IsBounded-tagged}
 use Rattle.sixel_canvas.proofs.tagged.TaggedCanvas.draw.Goals as goal
 
-pub returns-then-height-top-clause-drawn : goal.returns-then-height-top-clause-drawn
-returns-then-height-top-clause-drawn c =
-    let sheet = c.self.inside.sheet in
-    let next = c.draw.new.self in
-    let tags = c.self.inside.tags in
-    let is = IsTagged-grown sheet next tags c.self.invariant.0 c.draw.ensures.bounded c.draw.ensures.never_less in
-    on_ok_weaker c.draw.result (λ drawn column row.
-    let covered = covers c.args.from c.args.to c.args.top c.args.bits column row in
-    shown-tagged next tags is column row
-    ∙ ap (under (shown tags (column / 128) row)) (drawn column row)
-    ∙ under-covered c.args.from c.args.to c.args.top c.args.bits column row c.args.color sheet tags c.self.invariant.0 (omega (arith, c.if-height-top.true, c.height.ensures))
-    ∙ ap (λ p. if covered then c.args.color else p) (sym (shown-tagged sheet tags c.self.invariant.0 column row) ∙ ap (λ (s : CanvasState). shown s column row) c.self.view_is))
-    c.draw.ensures.drawn
-
-pub returns-then-height-top-clause-grown : goal.returns-then-height-top-clause-grown
-returns-then-height-top-clause-grown c =
-    let sheet = c.self.inside.sheet in
-    let tags = c.self.inside.tags in
-    on_ok_weaker c.draw.result (λ grown row.
-    let before : reached sheet row ≡ reached c.args.self.now row = sym (reached-tagged sheet tags row) ∙ ap (λ (s : CanvasState). reached s row) c.self.view_is in
-    reached-tagged c.draw.new.self tags row ∙ grown row
-    ∙ ap (λ n. if is_struck c.args.top c.args.bits row then max n c.args.to else n) before)
-    c.draw.ensures.grown
-
-pub returns-then-height-top-clause-held : goal.returns-then-height-top-clause-held
-returns-then-height-top-clause-held c = λ some held.
-    let sheet = c.self.inside.sheet in
-    let tags = c.self.inside.tags in
-    c.draw.ensures.held some (λ k six.
-    let row = c.args.top + k in
-    omega (arith, held k six, ap (λ (s : CanvasState). reached s row) c.self.view_is, reached-tagged sheet tags row))
-
-pub returns-then-height-top-clause-bounded : goal.returns-then-height-top-clause-bounded
-returns-then-height-top-clause-bounded c = IsBounded-tagged c.draw.new.self c.self.inside.tags c.draw.ensures.bounded
+pub returns-then-bits-eq0-clause-bounded : goal.returns-then-bits-eq0-clause-bounded
+returns-then-bits-eq0-clause-bounded c =
+    rw (← c.self.view_is) (IsBounded-tagged c.self.inside.sheet c.self.inside.tags c.self.invariant.0.bounded)
