@@ -1,5 +1,6 @@
-use Rattle.std.proofs.Common.{◌≡◌, ℕ, zero, suc, ◌+◌, ◌-◌, ◌*◌, ◌<◌, ◌≤◌, min, List, [], ◌∷◌, ◌++◌, length, get_or, take, drop, refl, sym, ap, ◌∙◌, take_all, arith}
+use Rattle.std.proofs.Common.{◌≡◌, ℕ, zero, suc, ◌+◌, ◌-◌, ◌*◌, ◌<◌, ◌≤◌, min, List, [], ◌∷◌, ◌++◌, length, get_or, take, drop, refl, sym, ap, ◌∙◌, inl, inr, take_all, get_or-drop, length-drop, arith}
 use Rattle.std.specs.List.{flat_map}
+use Rattle.std.proofs.lemmas.Bool.{cases_lt}
 use Rattle.std.proofs.lemmas.List.{append-nil, drop_all, get_or_past}
 use Rattle.std.proofs.lemmas.Slice.{put_mid-paste}
 use borrow.Rule.Slice.PartMut.{put_mid}
@@ -39,7 +40,7 @@ joined-pixels (pixel ∷ pixels) d (suc n) le =
     joined-front (λ k. get_or (pixel ∷ pixels) k d) n ∙ ap (λ xs. pixel ++ xs) (joined-pixels pixels d n (omega arith))
 
 -- the bytes of a row of this width, with the background where the pixels end
-pub joined-row : (pixels : List (List ℕ)) (background : List ℕ) (held width : ℕ) → held ≡ min (length pixels) width → joined (λ column. get_or pixels column background) width ≡ flat_map (λ x. x) (take held pixels) ++ joined (λ _. background) (width - held)
+joined-row : (pixels : List (List ℕ)) (background : List ℕ) (held width : ℕ) → held ≡ min (length pixels) width → joined (λ column. get_or pixels column background) width ≡ flat_map (λ x. x) (take held pixels) ++ joined (λ _. background) (width - held)
 joined-row pixels background held width least =
     let pixel = λ (k : ℕ). get_or pixels k background in
     let rest = width - held in
@@ -49,3 +50,18 @@ joined-row pixels background held width least =
     ∙ joined-add pixel held rest
     ∙ ap (λ xs. xs ++ joined (λ k. pixel (held + k)) rest) (joined-pixels pixels background held (omega arith))
     ∙ ap (λ xs. flat_map (λ x. x) (take held pixels) ++ xs) (joined-same (λ k. pixel (held + k)) (λ _. background) rest past)
+
+-- the bytes of so many pixels from a column on, with the background where the pixels end
+pub joined-part : (pixels : List (List ℕ)) (background : List ℕ) (from begin held count : ℕ) → begin ≡ min from (length pixels) → held ≡ min count (length pixels - begin) → joined (λ k. get_or pixels (from + k) background) count ≡ flat_map (λ x. x) (take held (drop begin pixels)) ++ joined (λ _. background) (count - held)
+joined-part pixels background from begin held count begins least =
+    let rest = drop begin pixels in
+    let same : (k : ℕ) → k < count → get_or pixels (from + k) background ≡ get_or rest k background =
+    λ k h. elim (cases_lt (length pixels) from) [
+      | inl past ↦
+          get_or_past pixels (from + k) background (omega arith)
+          ∙ sym (get_or_past rest k background (omega (arith, length-drop begin pixels)))
+      | inr within ↦
+          ap (λ i. get_or pixels (i + k) background) (omega arith) ∙ sym (get_or-drop begin pixels k background)
+    ] in
+    joined-same (λ k. get_or pixels (from + k) background) (λ k. get_or rest k background) count same
+    ∙ joined-row rest background held count (omega (arith, length-drop begin pixels))

@@ -179,17 +179,23 @@ impl Canvas {
         writes
     }
 
-    /// Appends a row of the picture of this width.
-    pub(crate) fn pack_row(&self, bytes: &mut Vec<u8>, row: usize, width: usize) -> Result<()>
-        requires { vec_len bytes.old + 4 * width < 2 ^ 63 }
+    /// Appends so many pixels of the row from `from` on.
+    pub(crate) fn pack_row(
+        &self,
+        bytes: &mut Vec<u8>,
+        row: usize,
+        from: usize,
+        count: usize,
+    ) -> Result<()>
+        requires { vec_len bytes.old + 4 * count < 2 ^ 63 }
         ensures ok { OnOk result (bytes.new.items ≡ bytes.old.items
-            ++ joined (λ column. shown self.now column row) width) }
-        ensures len { OnOk result (vec_len bytes.new ≡ vec_len bytes.old + 4 * width) }
+            ++ joined (λ k. shown self.now (from + k) row) count) }
+        ensures len { OnOk result (vec_len bytes.new ≡ vec_len bytes.old + 4 * count) }
         ensures error { IfErr result (λ e. e ≡ OutOfMemory) }
     {
         match self.rows.get(row) {
-            Some(held) => held.pack(bytes, width),
-            None => add_pixels(bytes, width, self.background),
+            Some(held) => held.pack(bytes, from, count),
+            None => add_pixels(bytes, count, self.background),
         }
     }
 

@@ -154,17 +154,19 @@ impl Row {
         }
     }
 
-    // Appends the row's first `width` pixels, with background where it is short.
-    pub(super) fn pack(&self, bytes: &mut Vec<u8>, width: usize) -> Result<()>
-        requires { vec_len bytes.old + 4 * width < 2 ^ 63 }
-        ensures ok { OnOk result (bytes.new.items ≡ bytes.old.items
-            ++ joined (λ column. slice_index_or self.now.pixels column self.now.background) width) }
-        ensures len { OnOk result (vec_len bytes.new ≡ vec_len bytes.old + 4 * width) }
+    // Appends so many of the row's pixels from `from` on, with background where it is short.
+    pub(super) fn pack(&self, bytes: &mut Vec<u8>, from: usize, count: usize) -> Result<()>
+        requires { vec_len bytes.old + 4 * count < 2 ^ 63 }
+        ensures ok { OnOk result (bytes.new.items ≡ bytes.old.items ++ joined (λ k.
+            slice_index_or self.now.pixels (from + k) self.now.background) count) }
+        ensures len { OnOk result (vec_len bytes.new ≡ vec_len bytes.old + 4 * count) }
         ensures error { IfErr result (λ e. e ≡ OutOfMemory) }
     {
-        let held = self.len().min(width);
-        bytes.extend_from_slice(self.pixels[..held].as_flattened())?;
-        add_pixels(bytes, width - held, self.background)
+        let begin = from.min(self.len());
+        let rest = &self.pixels[begin..];
+        let held = count.min(rest.len());
+        bytes.extend_from_slice(rest[..held].as_flattened())?;
+        add_pixels(bytes, count - held, self.background)
     }
 }
 

@@ -10,6 +10,7 @@ ghost use Rattle.sixel_canvas.specs.inside.Canvas.{shown, reached, canvas_writes
 ghost use Rattle.sixel_canvas.specs.inside.Tags.{is_tag, lies_in, seen, IsTagged};
 
 use crate::canvas::Canvas;
+use crate::row::add_pixels;
 use sixel_base::Result;
 use std::alloc::Global;
 use std::marker::Model;
@@ -197,23 +198,29 @@ impl TaggedCanvas {
         ensures error { IfErr result (λ e. e ≡ OutOfMemory) }
     {
         if row >= self.tags.height() {
-            return self.sheet.pack_row(bytes, row, width);
+            return self.sheet.pack_row(bytes, row, 0, width);
         }
-        'pixels: for column in 0..width {
-            bytes.extend_from_slice(&self.pixel(column, row))?;
+        'segments: for block in 0..width.div_ceil(BLOCK) {
+            self.pack_block(bytes, row, block, BLOCK.min(width - block * BLOCK))?;
         }
         Ok(())
     }
 
-    // The pixel at this place.
-    fn pixel(&self, column: usize, row: usize) -> [u8; 4]
-        ensures { result ≡ shown self.now column row }
+    // Appends so many pixels of a block of the row, from its left.
+    fn pack_block(&self, bytes: &mut Vec<u8>, row: usize, block: usize, count: usize) -> Result<()>
+        requires within { count ≤ 128 }
+        requires columns_fit { block * 128 < 2 ^ 63 }
+        requires bytes_fit { vec_len bytes.old + 4 * count < 2 ^ 63 }
+        ensures ok { OnOk result (bytes.new.items ≡ bytes.old.items
+            ++ joined (λ k. shown self.now (block * 128 + k) row) count) }
+        ensures len { OnOk result (vec_len bytes.new ≡ vec_len bytes.old + 4 * count) }
+        ensures error { IfErr result (λ e. e ≡ OutOfMemory) }
     {
-        let tag = self.tags.pixel(column / BLOCK, row);
+        let tag = self.tags.pixel(block, row);
         if tag[3] == 0 {
-            return self.sheet.pixel(column, row);
+            return self.sheet.pack_row(bytes, row, block * BLOCK, count);
         }
-        tag
+        add_pixels(bytes, count, tag)
     }
 
     // Draws a sixel that has dots.

@@ -1,8 +1,8 @@
-use Rattle.std.proofs.Common.{◌/◌, ◌++◌, ℕ, sym, ap, ◌∙◌, add-one, append_assoc, arith}
+use Rattle.std.proofs.Common.{◌≡◌, ◌+◌, ◌*◌, ◌/◌, ◌++◌, ℕ, min, sym, ap, ◌∙◌, append_assoc, arith}
 use Rattle.std.proofs.lemmas.List.{append-nil}
 use Rattle.std.proofs.lemmas.Result.{on_ok_weaker}
 use Rattle.sixel_base.specs.Picture.{joined}
-use Rattle.sixel_base.proofs.Joined.{joined-same}
+use Rattle.sixel_base.proofs.Joined.{joined-add, joined-same}
 use Rattle.sixel_canvas.specs.inside.Canvas.{CanvasState, shown}
 use Rattle.sixel_canvas.proofs.Tags.{shown-tagged, under-none}
 use Rattle.sixel_canvas.proofs.Tagging.{none_past_rows}
@@ -15,29 +15,42 @@ returns-then-row-height-clause-ok c =
     let row = c.args.row in
     let front = c.args.bytes.now.items in
     let same = λ (column : ℕ).
-    sym (under-none (shown tags (column / 128) row) (shown sheet column row) (none_past_rows sheet tags (column / 128) row c.self.invariant.0 (omega (arith, c.if-row-height.true, c.height.ensures))))
+    ap (λ k. shown sheet k row) (omega arith)
+    ∙ sym (under-none (shown tags (column / 128) row) (shown sheet column row) (none_past_rows sheet tags (column / 128) row c.self.invariant.0 (omega (arith, c.if-row-height.true, c.height.ensures))))
     ∙ sym (shown-tagged sheet tags c.self.invariant.0 column row)
     ∙ ap (λ (s : CanvasState). shown s column row) c.self.view_is in
-    let whole = joined-same (λ column. shown sheet column row) (λ column. shown c.args.self.now column row) c.args.width (λ column h. same column) in
+    let whole = joined-same (λ column. shown sheet (0 + column) row) (λ column. shown c.args.self.now column row) c.args.width (λ column h. same column) in
     on_ok_weaker c.pack_row.result (λ packed. packed ∙ ap (λ xs. front ++ xs) whole) c.pack_row.ensures.ok
 
-pub pixels-init : goal.pixels-init
+pub segments-init : goal.segments-init
 unfolding joined
-pixels-init c = (sym (append-nil c.args.bytes.now.items), omega arith)
+segments-init c =
+    let front = c.args.bytes.now.items in
+    let none : min (0 * 128) c.args.width ≡ 0 = omega arith in
+    rw none (sym (append-nil front), omega arith)
 
-pub pixels-preserved : goal.pixels-preserved
-unfolding joined
-pixels-preserved c =
-    let before = joined (λ column. shown c.args.self.now column c.args.row) c.pixels.column in (
-      rw add-one (c.in_ok-extend_from_slice.ensures.items ∙ ap (λ xs. xs ++ c.pixel.result) c.pixels.invariant.0
-          ∙ append_assoc c.args.bytes.now.items before c.pixel.result
-          ∙ ap (λ xs. c.args.bytes.now.items ++ (before ++ xs)) c.pixel.ensures),
-      omega (arith, c.in_ok-extend_from_slice.ensures.len, c.pixels.invariant.1),
+pub segments-preserved : goal.segments-preserved
+segments-preserved c =
+    let width = c.args.width in
+    let from = c.segments.block * 128 in
+    let count = c.min.result in
+    let pixel = λ (column : ℕ). shown c.args.self.now column c.args.row in
+    let before : min from width ≡ from = omega (arith, c.segments-test.true, c.div_ceil-block-end.ensures) in
+    let after : min ((c.segments.block + 1) * 128) width ≡ from + count = omega (arith, c.segments-test.true, c.div_ceil-block-end.ensures, c.min.ensures) in
+    let front = c.args.bytes.now.items in
+    let rest = joined (λ k. pixel (from + k)) count in
+    rw after (
+      c.in_ok-pack_block.ensures.ok
+          ∙ ap (λ xs. xs ++ rest) (c.segments.invariant.0 ∙ ap (λ n. front ++ joined pixel n) before)
+          ∙ append_assoc front (joined pixel from) rest
+          ∙ ap (λ xs. front ++ xs) (sym (joined-add pixel from count)),
+      omega (arith, c.in_ok-pack_block.ensures.len, c.segments.invariant.1, before),
     )
 
 pub returns-clause-ok : goal.returns-clause-ok
 returns-clause-ok c =
-    c.pixels.invariant.0 ∙ ap (λ n. c.args.bytes.now.items ++ joined (λ column. shown c.args.self.now column c.args.row) n) (omega arith)
+    let all : min (c.segments.block * 128) c.args.width ≡ c.args.width = omega (arith, c.segments-test.false, c.div_ceil-block-end.ensures) in
+    c.segments.invariant.0 ∙ ap (λ n. c.args.bytes.now.items ++ joined (λ column. shown c.args.self.now column c.args.row) n) all
 
 pub returns-clause-len : goal.returns-clause-len
-returns-clause-len c = omega (arith, c.pixels.invariant.1)
+returns-clause-len c = omega (arith, c.segments.invariant.1, c.segments-test.false, c.div_ceil-block-end.ensures)
