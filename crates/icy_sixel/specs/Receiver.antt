@@ -18,6 +18,7 @@ use Rattle.sixel_base.specs.Status.{status_of}
 use Rattle.sixel_base.specs.OneShot.{Found, Payload, NoPayload}
 use Rattle.sixel_base.specs.OneShot as one_shot
 use Rattle.sixel_base.specs.Reach as reach
+use Rattle.sixel_decoder.specs.Paints as paints
 
 -- what is received: nothing, a payload that is read with these settings, or a control string
 pub data Form : Type 0 where
@@ -26,7 +27,7 @@ pub data Form : Type 0 where
   OfString : Form
 
 -- The image that is open: its form, what the decoder kept that it began from, the bytes that it was fed, whether a feed was refused,
--- how many pixels were written to grow its canvas, and for how many the rows of the canvas have room.
+-- how many pixels were written to grow its canvas, for how many the rows of the canvas have room, and how many sixels have painted, at most.
 pub record Reception : Type 0 where
   pub form : Form
   pub start : DecoderState
@@ -34,6 +35,7 @@ pub record Reception : Type 0 where
   pub is_refused : Bool
   pub writes : ℕ
   pub room : ℕ
+  pub paints : ℕ
 
 -- a decoder, and the image that it is receiving
 pub record Receiver : Type 0 where
@@ -42,11 +44,11 @@ pub record Receiver : Type 0 where
 
 -- where none is open, all is refused
 abbrev pub no_image : Reception
-no_image = record { form = Nothing; start = new_decoder; bytes = []; is_refused = true; writes = 0; room = 0 }
+no_image = record { form = Nothing; start = new_decoder; bytes = []; is_refused = true; writes = 0; room = 0; paints = 0 }
 
 -- an image that was fed nothing
 abbrev pub begun : Form → DecoderState → Reception
-begun form decoder = record { form = form; start = decoder; bytes = []; is_refused = false; writes = 0; room = 0 }
+begun form decoder = record { form = form; start = decoder; bytes = []; is_refused = false; writes = 0; room = 0; paints = 0 }
 
 abbrev pub is_open : Form → Bool
 is_open Nothing = false
@@ -87,6 +89,12 @@ abbrev pub reached_area : Form → List ℕ → ℕ
 reached_area Nothing bytes = 0
 reached_area (OfPayload settings) bytes = reach.reached_area (settled bytes)
 reached_area OfString bytes = dcs_reached_area bytes
+
+-- how many closed sixels it has
+abbrev pub sixels : Form → List ℕ → ℕ
+sixels Nothing bytes = 0
+sixels (OfPayload settings) bytes = paints.sixels (settled bytes)
+sixels OfString bytes = paints.dcs_sixels bytes
 
 -- whether the payload has begun
 abbrev pub in_payload : Form → List ℕ → Bool

@@ -198,6 +198,7 @@ impl SixelDecoder {
           is_refused = false;
           writes = 0;
           room = 0;
+          paints = 0;
         }) }
     {
         Ok(SixelStreamDecoder::begin(alloc, self, settings))
@@ -225,6 +226,7 @@ impl SixelDecoder {
           is_refused = false;
           writes = 0;
           room = 0;
+          paints = 0;
         } }
     {
         SixelDcsStreamDecoder::begin(alloc, self)

@@ -3,6 +3,7 @@ pub mod OneRow
 pub mod Pixels
 pub mod RowStates
 pub mod Spans
+pub mod Spread
 pub mod Strokes
 pub mod Tagging
 pub mod Tags

@@ -38,7 +38,7 @@ sound-row_set stroke row rows next background changed inside sound keeps thrifty
     )
 
 -- the canvas stays bounded
-pub IsBounded-row_set : (stroke : RowState → RowState) (row : ℕ) (rows next : List RowState) (background : List ℕ) → IsRowSet stroke row rows next → row < length rows → length rows ≤ 1000000 → All (IsRowOf background) rows → ((old : RowState) → (stroke old).background ≡ old.background) → ((d : RowState) → IsThrifty (get_or next row d)) → IsBounded (record { background = background; rows = next; tagged = 0 })
+pub IsBounded-row_set : (stroke : RowState → RowState) (row : ℕ) (rows next : List RowState) (background : List ℕ) → IsRowSet stroke row rows next → row < length rows → length rows ≤ 1000000 → All (IsRowOf background) rows → ((old : RowState) → (stroke old).background ≡ old.background) → ((d : RowState) → IsThrifty (get_or next row d)) → IsBounded (record { background = background; rows = next; tagged = 0; paints = 0; spread = 0 })
 IsBounded-row_set stroke row rows next background changed inside few sound keeps thrifty =
     let is = sound-row_set stroke row rows next background changed inside sound keeps thrifty in
     IsBounded-rows background next (omega (arith, is.0)) is.1

@@ -1,16 +1,16 @@
 -- Strokes over a canvas with tags, row by row.
-use Rattle.std.proofs.Common.{◌≡◌, ◌≢◌, ℕ, ◌+◌, ◌-◌, ◌*◌, ◌/◌, ◌%◌, ◌<◌, ◌≤◌, Bool, true, false, ◌&&◌, ◌⊎◌, min, List, length, refl, sym, ap, ◌∙◌, inl, inr, eq-eqb, arith}
+use Rattle.std.proofs.Common.{◌≡◌, ◌≢◌, ℕ, ◌+◌, ◌-◌, ◌*◌, ◌/◌, ◌%◌, ◌<◌, ◌≤◌, Bool, true, false, ◌&&◌, ◌⊎◌, min, max, List, length, get_or, refl, sym, ap, ◌∙◌, inl, inr, eq-eqb, arith}
 use Rattle.std.specs.Prelude.{◌==◌, nat_lt, nat_le, if◌then◌else◌}
-use Rattle.std.proofs.lemmas.Bool.{and_parts, and_from, cases_Bool, cases_lt, eqb-true, leb-true, ltb-true, lt-ltb, le-leb, true≢false}
+use Rattle.std.proofs.lemmas.Bool.{and_parts, and_from, cases_Bool, cases_lt, eqb-true, leb-true, ltb-true, lt-ltb, le-ltb, lt-leb, le-leb, true≢false}
 use Rattle.std.proofs.lemmas.List.{get_or_past}
-use Rattle.sixel_base.specs.Picture.{covers, is_struck}
+use Rattle.sixel_base.specs.Picture.{covers, is_set, is_struck}
 use Rattle.sixel_canvas.specs.Row.{RowState, empty_row}
 use Rattle.sixel_canvas.specs.inside.Block.{drawn_over}
 use Rattle.sixel_canvas.specs.inside.Canvas.{CanvasState, reached, row_at, shown}
 use Rattle.sixel_canvas.specs.inside.Tags.{IsTagged, is_tag, lies_in, no_tag, seen, under}
 use Rattle.sixel_canvas.proofs.Mixing.{drawn_apart, drawn_left, drawn_right, fails_last}
 use Rattle.sixel_canvas.proofs.Strokes.{IsStruckAbove, struck_more, struck_skip}
-use Rattle.sixel_canvas.proofs.Underway.{is_struck-above, is_struck-below}
+use Rattle.sixel_canvas.proofs.Underway.{in_band, is_struck-above, is_struck-below}
 use Rattle.sixel_canvas.proofs.Tags.{under-none, under-tag}
 
 -- a place in these columns of the row
@@ -280,4 +280,21 @@ seen-mixed from sixels top color canvas sheet next tags column row four clear dr
       | inr none ↦
           under-none tag (shown next column row) none ∙ drawn
           ∙ ap over (sym (under-none tag (shown sheet column row) none) ∙ clear.same column row)
+    ]
+
+-- rows of a band that are to hold as many columns as a sixel strikes
+pub struck_columns : (top bits to row n : ℕ) (columns : List ℕ) → ((k : ℕ) → k < 6 → get_or columns k 0 ≡ (if is_set bits k then to else 0))
+    → (if in_band top row then max n (get_or columns (row - top) 0) else n) ≡ (if is_struck top bits row then max n to else n)
+struck_columns top bits to row n columns each =
+    elim (cases_lt row top) [
+      | inl above ↦ rw (lt-leb top row above) refl
+      | inr begun ↦ elim (cases_lt row (top + 6)) [
+        | inr below ↦ rw (le-leb top row begun, le-ltb row (top + 6) below) refl
+        | inl inside ↦
+            let is = each (row - top) (omega arith) in
+            rw (le-leb top row begun, lt-ltb row (top + 6) inside) (elim (cases_Bool (is_set bits (row - top))) [
+              | inl hit ↦ rw hit (ap (max n) (rw hit at is))
+              | inr miss ↦ rw miss (omega (arith, rw miss at is))
+            ])
+      ]
     ]

@@ -40,7 +40,7 @@ get_or-tagged_pixels tags column (pixel ∷ pixels) (suc j) place d across insid
 
 -- ---- the rows
 
-length-tagged_rows : (tags rows : List RowState) → length (tagged_rows tags rows) ≡ length rows
+pub length-tagged_rows : (tags rows : List RowState) → length (tagged_rows tags rows) ≡ length rows
 length-tagged_rows [] rows = refl
 length-tagged_rows (tag ∷ tags) [] = refl
 length-tagged_rows (tag ∷ tags) (row ∷ rows) = ap suc (length-tagged_rows tags rows)
@@ -81,6 +81,7 @@ IsBounded-tagged sheet tags is =
       at_least = λ n enough. omega (arith, area n, writes, is.at_least n (omega (arith, long)));
       at_most = λ n enough. omega (arith, area n, writes, is.at_most n (omega (arith, long)));
       room_at_most = λ n enough. omega (arith, area n, room, is.room_at_most n (omega (arith, long)));
+      spread_at_most = λ n enough. omega (arith, area n, is.spread_at_most n (omega (arith, long)));
     }
 
 -- what it shows

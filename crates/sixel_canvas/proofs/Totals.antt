@@ -84,7 +84,7 @@ IsRowOf-get_or background rows row sound =
     ]
 
 -- a canvas of such rows
-pub IsBounded-rows : (background : List ℕ) (rows : List RowState) → length rows ≤ 1000000 → All (IsRowOf background) rows → IsBounded (record { background = background; rows = rows; tagged = 0 })
+pub IsBounded-rows : (background : List ℕ) (rows : List RowState) → length rows ≤ 1000000 → All (IsRowOf background) rows → IsBounded (record { background = background; rows = rows; tagged = 0; paints = 0; spread = 0 })
 IsBounded-rows background rows few sound =
     let paid = IsPaid-rows background rows sound in
     record {
@@ -93,6 +93,7 @@ IsBounded-rows background rows few sound =
       at_least = λ n enough. omega (arith, total-held rows background n enough);
       at_most = λ n enough. omega (arith, total-held rows background n enough);
       room_at_most = λ n enough. omega (arith, total-held rows background n enough);
+      spread_at_most = λ n enough. omega arith;
     }
 
 -- all the writes fit a number

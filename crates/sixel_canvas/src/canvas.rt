@@ -34,6 +34,8 @@ impl Model for Canvas {
       background = canvas.background;
       rows = canvas.rows.items;
       tagged = 0;
+      paints = 0;
+      spread = 0;
     } };
 
     ghost invariant = { λ canvas.
@@ -43,7 +45,13 @@ impl Model for Canvas {
 impl Canvas {
     /// A canvas that shows the background everywhere. It takes no memory.
     pub fn new(alloc: Global, background: [u8; 4]) -> Canvas
-        ensures empty { result ≡ record { background = background; rows = []; tagged = 0 } }
+        ensures empty { result ≡ record {
+          background = background;
+          rows = [];
+          tagged = 0;
+          paints = 0;
+          spread = 0;
+        } }
         ensures bounded { IsBounded result }
     {
         Canvas {
@@ -154,6 +162,8 @@ impl Canvas {
             else reached self.old row)) }
         ensures background { self.new.background ≡ self.old.background }
         ensures never_less { (row : ℕ) → reached self.old row ≤ reached self.new row }
+        ensures held { ((k : ℕ) → k < 6
+            → max 1 (slice_index columns k) ≤ reached self.old (top + k)) → IsOk result }
         ensures error { IfErr result (λ e. e ≡ OutOfMemory) }
         ensures bounded { IsBounded self.new }
     {

@@ -4,9 +4,10 @@ ghost use Rattle.std.specs.Prelude.{length, vec_len, slice_index, true, false, i
 ghost use Rattle.std.specs.Prelude.{◌%◌, min};
 ghost use Rattle.std.specs.Prelude.{nat_le, nat_lt, IfOk, IfErr, IsOk, OnErr, OnOk};
 ghost use Rattle.sixel_base.specs.declared.error.SixelError.TheVariants.{OutOfMemory};
-ghost use Rattle.sixel_base.specs.Picture.{covers, is_set, is_struck, joined, picture};
+ghost use Rattle.sixel_base.specs.Picture.{covers, is_set, is_struck, joined, picture, total};
 ghost use Rattle.sixel_canvas.specs.inside.Block.{drawn_over};
-ghost use Rattle.sixel_canvas.specs.inside.Canvas.{shown, reached, canvas_writes, IsBounded};
+ghost use Rattle.sixel_canvas.specs.inside.Canvas.{CanvasState, shown, reached, canvas_writes, IsBounded};
+ghost use Rattle.sixel_canvas.specs.inside.Paints.{counted, ends_and_tags, least_painted, IsSpread};
 ghost use Rattle.sixel_canvas.specs.inside.Tags.{is_tag, lies_in, seen, IsTagged};
 
 use crate::canvas::Canvas;
@@ -33,33 +34,56 @@ const NO_TAG: [u8; 4] = [0; 4];
 pub struct TaggedCanvas {
     sheet: Canvas,
     tags: Canvas,
+    band: Band,
+    paints: u64,
+}
+
+// What wide strokes have painted at once: in the six rows from `top` on, and in all.
+#[derive(Clone, Copy)]
+struct Band {
     top: usize,
     painted: usize,
+    spread: u64,
 }
 
 impl Model for TaggedCanvas {
     ghost use Rattle.std.specs.Prelude.{◌≤◌};
     ghost use Rattle.sixel_canvas.specs.inside.Canvas.{CanvasState};
     ghost use Rattle.sixel_canvas.specs.inside.Tags.{tagged, IsTagged};
+    ghost use Rattle.sixel_canvas.specs.inside.Paints.{IsSpread};
 
     ghost Value = { CanvasState };
 
-    ghost view = { λ canvas. tagged canvas.sheet canvas.tags };
+    ghost view = { λ canvas. record (tagged canvas.sheet canvas.tags) {
+      paints = canvas.paints;
+      spread = canvas.band.spread;
+    } };
 
-    ghost invariant = { λ canvas. IsTagged canvas.sheet canvas.tags × (canvas.painted ≤ 18000000) };
+    ghost invariant = { λ canvas. IsTagged canvas.sheet canvas.tags
+        × IsSpread canvas.sheet canvas.band.top canvas.band.painted canvas.band.spread };
 }
 
 impl TaggedCanvas {
     /// A canvas that shows the background everywhere. It takes no memory.
     pub fn new(alloc: Global, background: [u8; 4]) -> TaggedCanvas
-        ensures empty { result ≡ record { background = background; rows = []; tagged = 0 } }
+        ensures empty { result ≡ record {
+          background = background;
+          rows = [];
+          tagged = 0;
+          paints = 0;
+          spread = 0;
+        } }
         ensures bounded { IsBounded result }
     {
         TaggedCanvas {
             sheet: Canvas::new(alloc, background),
             tags: Canvas::new(alloc, NO_TAG),
-            top: 0,
-            painted: 0,
+            band: Band {
+                top: 0,
+                painted: 0,
+                spread: 0,
+            },
+            paints: 0,
         }
     }
 
@@ -89,6 +113,11 @@ impl TaggedCanvas {
         ensures held { 0 < to → ((k : ℕ) → k < 6 → to ≤ reached self.old (top + k))
             → IsOk result }
         ensures error { IfErr result (λ e. e ≡ OutOfMemory) }
+        ensures least { OnOk result (0 < bits → counted self.old.paints
+            (least_painted (to - from) + (self.new.spread - self.old.spread)) ≤ self.new.paints) }
+        ensures most { is_tag color ≡ true → self.new.paints ≤ self.old.paints
+            + ends_and_tags (to - from) + (self.new.spread - self.old.spread) }
+        ensures spread { self.old.spread ≤ self.new.spread }
         ensures bounded { IsBounded self.new }
     {
         let _sheet = &self.sheet;
@@ -122,7 +151,10 @@ impl TaggedCanvas {
         ensures reached { (row : ℕ) → reached self.new row ≡ reached self.old row }
         ensures background { self.new.background ≡ self.old.background }
         ensures plain { self.new.tagged ≡ self.old.tagged }
+        ensures paints { self.new.paints ≡ counted self.old.paints 24 }
+        ensures spread { self.new.spread ≡ self.old.spread }
     {
+        self.paints = self.paints.saturating_add(24);
         self.sheet.block(from, top, sixels, color);
     }
 
@@ -138,7 +170,12 @@ impl TaggedCanvas {
             ≡ drawn_over from sixels top color column row (shown self.old column row) }
         ensures reached { (row : ℕ) → reached self.new row ≡ reached self.old row }
         ensures background { self.new.background ≡ self.old.background }
+        ensures least { counted self.old.paints 24 ≤ self.new.paints }
+        ensures most { self.new.paints ≤ self.old.paints + 1572 }
+        ensures spread { self.new.spread ≡ self.old.spread }
     {
+        let settled = if self.tags.height() > top { 1548 } else { 0 };
+        self.paints = self.paints.saturating_add(24 + settled);
         clear_block(&mut self.sheet, &mut self.tags, top, from);
         self.sheet.dots(from, top, sixels, color);
     }
@@ -156,6 +193,8 @@ impl TaggedCanvas {
             then max (reached self.old row) (slice_index columns (row - top))
             else reached self.old row)) }
         ensures background { self.new.background ≡ self.old.background }
+        ensures paints { self.new.paints ≡ self.old.paints }
+        ensures spread { self.new.spread ≡ self.old.spread }
         ensures error { IfErr result (λ e. e ≡ OutOfMemory) }
     {
         self.sheet.widen(top, columns)
@@ -187,6 +226,15 @@ impl TaggedCanvas {
         ensures bounded { IsBounded self.now }
     {
         self.sheet.writes()
+    }
+
+    /// How many pixels strokes have painted, in rows and tags, at most; at the greatest number it
+    /// stays. Where memory for tags was refused, a stroke is counted as if it had them.
+    pub fn paints(&self) -> u64
+        ensures value { result ≡ self.now.paints }
+        ensures bounded { IsBounded self.now }
+    {
+        self.paints
     }
 
     // Appends a row of the picture of this width.
@@ -245,9 +293,15 @@ impl TaggedCanvas {
         ensures held { 0 < to → ((k : ℕ) → k < 6 → to ≤ reached self.old (top + k))
             → IsOk result }
         ensures error { IfErr result (λ e. e ≡ OutOfMemory) }
+        ensures least { OnOk result (0 < bits → counted self.old.paints
+            (least_painted (to - from) + (self.new.spread - self.old.spread)) ≤ self.new.paints) }
+        ensures most { is_tag color ≡ true → self.new.paints ≤ self.old.paints
+            + ends_and_tags (to - from) + (self.new.spread - self.old.spread) }
+        ensures spread { self.old.spread ≤ self.new.spread }
         ensures bounded { IsBounded self.new }
     {
         if to - from < WIDE && self.tags.height() <= top {
+            self.paints = self.paints.saturating_add(6 * (to - from) as u64);
             return self.sheet.draw(from, to, top, bits, color);
         }
         self.draw_over(from, to, top, bits, color)
@@ -276,61 +330,154 @@ impl TaggedCanvas {
         ensures held { 0 < to → ((k : ℕ) → k < 6 → to ≤ reached self.old (top + k))
             → IsOk result }
         ensures error { IfErr result (λ e. e ≡ OutOfMemory) }
+        ensures least { OnOk result (0 < bits → counted self.old.paints
+            (least_painted (to - from) + (self.new.spread - self.old.spread)) ≤ self.new.paints) }
+        ensures most { is_tag color ≡ true → self.new.paints ≤ self.old.paints
+            + ends_and_tags (to - from) + (self.new.spread - self.old.spread) }
+        ensures spread { self.old.spread ≤ self.new.spread }
         ensures bounded { IsBounded self.new }
     {
-        let lazy = color[3] > 0 && self.is_spent(from, to, top, bits);
-        'struck: for bit in 0..6 {
-            if (bits >> bit) % 2 == 1 {
-                strike(
-                    &mut self.sheet,
-                    &mut self.tags,
-                    top + bit,
-                    from,
-                    to,
-                    color,
-                    lazy,
-                )?;
-            }
-        }
+        self.sheet.widen(top, columns_struck(bits, to))?;
+        let (lazy, paints) = price(&mut self.band, &self.sheet, to - from, top, bits, color);
+        self.paints = self.paints.saturating_add(paints);
+        strike_rows(
+            &mut self.sheet,
+            &mut self.tags,
+            from,
+            to,
+            top,
+            bits,
+            color,
+            lazy,
+        );
         Ok(())
-    }
-
-    // Whether the strokes of this band have painted so much that this one is to be tagged: with it,
-    // more than three times what the band's rows hold then. So is one in rows above the band, which
-    // no decoder draws.
-    fn is_spent(&mut self, from: usize, to: usize, top: usize, bits: u8) -> bool
-        requires ordered { from ≤ to }
-        requires within { to ≤ 1000000 }
-        requires above_bottom { top + 6 ≤ 1000000 }
-        ensures same { self.new ≡ self.old }
-    {
-        if top.saturating_sub(self.top) >= 6 {
-            self.top = top;
-            self.painted = 0;
-        }
-        if top != self.top {
-            return true;
-        }
-        let mut painted = self.painted;
-        let mut held = 0;
-        'rows: for bit in 0..6 {
-            let mut columns = self.sheet.width(top + bit);
-            if (bits >> bit) % 2 == 1 {
-                painted += to - from;
-                columns = columns.max(to);
-            }
-            held += columns;
-        }
-        if painted > 3 * held {
-            return true;
-        }
-        self.painted = painted;
-        false
     }
 }
 
-// Draws a part of one row, which is grown first where it is too short: painted, or tagged where that
-// is asked, it covers a block, and there is memory for the tags.
+// The columns that each of six rows is to hold, where the struck ones are to hold so many.
+fn columns_struck(bits: u8, to: usize) -> [usize; 6]
+    ensures { (k : ℕ) → k < 6 → slice_index result k ≡ (if is_set bits k then to else 0) }
+{
+    let mut columns = [0; 6];
+    'rows: for bit in 0..6 {
+        if (bits >> bit) % 2 == 1 {
+            columns[bit] = to;
+        }
+    }
+    columns
+}
+
+// Whether a stroke is to be tagged, and what it is counted as. One that can't be seen never is.
+fn price(
+    band: &mut Band,
+    sheet: &Canvas,
+    columns: usize,
+    top: usize,
+    bits: u8,
+    color: [u8; 4],
+) -> (bool, u64)
+    requires within { columns ≤ 1000000 }
+    requires above_bottom { top + 6 ≤ 1000000 }
+    requires bounded { IsBounded sheet.now }
+    requires spread { IsSpread sheet.now band.old.top band.old.painted band.old.spread }
+    ensures spread { IsSpread sheet.now band.new.top band.new.painted band.new.spread }
+    ensures more { band.old.spread ≤ band.new.spread }
+    ensures visible { result.0 ≡ true → is_tag color ≡ true }
+    ensures painted { result.0 ≡ false
+        → total (λ k. if is_set bits k then columns else 0) 6 ≤ result.1 }
+    ensures least { ends_and_tags columns + (band.new.spread - band.old.spread) ≤ result.1 }
+    ensures most { is_tag color ≡ true
+        → result.1 ≡ ends_and_tags columns + (band.new.spread - band.old.spread) }
+{
+    let ends_and_tags = 6 * (columns / BLOCK + 258);
+    if color[3] == 0 {
+        return (false, (ends_and_tags + 6 * columns) as u64);
+    }
+    let before = band.spread;
+    let lazy = is_spent(band, sheet, columns, top, bits);
+    (lazy, ends_and_tags as u64 + (band.spread - before))
+}
+
+// Whether the strokes of this band have painted so much that this one, whose rows hold its columns,
+// is to be tagged: with it, more than three times what the band's rows hold. So is one in rows above
+// the band, which no decoder draws.
+fn is_spent(band: &mut Band, sheet: &Canvas, columns: usize, top: usize, bits: u8) -> bool
+    requires within { columns ≤ 1000000 }
+    requires above_bottom { top + 6 ≤ 1000000 }
+    requires bounded { IsBounded sheet.now }
+    requires spread { IsSpread sheet.now band.old.top band.old.painted band.old.spread }
+    ensures spread { IsSpread sheet.now band.new.top band.new.painted band.new.spread }
+    ensures more { band.old.spread ≤ band.new.spread }
+    ensures few { band.new.spread ≤ band.old.spread + 6000000 }
+    ensures counted { result ≡ false → band.new.spread
+        ≡ band.old.spread + total (λ k. if is_set bits k then columns else 0) 6 }
+{
+    enter(band, top);
+    if top != band.top {
+        return true;
+    }
+    let mut more = 0;
+    let mut held = 0;
+    'rows: for bit in 0..6 {
+        held += sheet.width(top + bit);
+        if (bits >> bit) % 2 == 1 {
+            more += columns;
+        }
+    }
+    if band.painted + more > 3 * held {
+        return true;
+    }
+    band.painted += more;
+    band.spread += more as u64;
+    false
+}
+
+// Goes on to the band of these six rows, where it lies below.
+fn enter(band: &mut Band, top: usize)
+    ensures spread { (sheet : CanvasState)
+        → IsSpread sheet band.old.top band.old.painted band.old.spread
+        → IsSpread sheet band.new.top band.new.painted band.new.spread }
+    ensures same { band.new.spread ≡ band.old.spread }
+{
+    if top.saturating_sub(band.top) >= 6 {
+        band.top = top;
+        band.painted = 0;
+    }
+}
+
+// Draws a sixel over rows that hold its columns.
+fn strike_rows(
+    sheet: &mut Canvas,
+    tags: &mut Canvas,
+    from: usize,
+    to: usize,
+    top: usize,
+    bits: u8,
+    color: [u8; 4],
+    lazy: bool,
+)
+    requires ordered { from ≤ to }
+    requires within { to ≤ 1000000 }
+    requires above_bottom { top + 6 ≤ 1000000 }
+    requires held { (k : ℕ) → is_struck top bits k ≡ true → to ≤ reached sheet.old k }
+    requires tagged { IsTagged sheet.old tags.old }
+    requires visible { lazy ≡ true → is_tag color ≡ true }
+    ensures drawn { (column row : ℕ) → seen sheet.new tags.new column row
+        ≡ (if covers from to top bits column row then color
+        else seen sheet.old tags.old column row) }
+    ensures reached { (k : ℕ) → reached sheet.new k ≡ reached sheet.old k }
+    ensures background { sheet.new.background ≡ sheet.old.background }
+    ensures tagged { IsTagged sheet.new tags.new }
+{
+    'struck: for bit in 0..6 {
+        if (bits >> bit) % 2 == 1 {
+            strike(sheet, tags, top + bit, from, to, color, lazy);
+        }
+    }
+}
+
+// Draws a part of one row that holds its columns: painted, or tagged where that is asked, it covers a
+// block, and there is memory for the tags.
 fn strike(
     sheet: &mut Canvas,
     tags: &mut Canvas,
@@ -339,29 +486,25 @@ fn strike(
     to: usize,
     color: [u8; 4],
     lazy: bool,
-) -> Result<()>
+)
     requires ordered { from ≤ to }
     requires within { to ≤ 1000000 }
     requires above_bottom { row < 1000000 }
+    requires held { to ≤ reached sheet.old row }
     requires tagged { IsTagged sheet.old tags.old }
     requires visible { lazy ≡ true → is_tag color ≡ true }
-    ensures drawn { OnOk result ((column k : ℕ) → seen sheet.new tags.new column k
-        ≡ (if lies_in row from to column k then color else seen sheet.old tags.old column k)) }
-    ensures grown { OnOk result ((k : ℕ) → reached sheet.new k
-        ≡ (if k == row then max (reached sheet.old k) to else reached sheet.old k)) }
+    ensures drawn { (column k : ℕ) → seen sheet.new tags.new column k
+        ≡ (if lies_in row from to column k then color else seen sheet.old tags.old column k) }
+    ensures reached { (k : ℕ) → reached sheet.new k ≡ reached sheet.old k }
     ensures background { sheet.new.background ≡ sheet.old.background }
     ensures tagged { IsTagged sheet.new tags.new }
-    ensures held { 0 < to → to ≤ reached sheet.old row → IsOk result }
-    ensures error { IfErr result (λ e. e ≡ OutOfMemory) }
 {
-    sheet.reach_row(row, to)?;
     let (first, last) = (from.div_ceil(BLOCK), to / BLOCK);
     if lazy && first < last && tags.reach_row(row, last).is_ok() {
         tag(sheet, tags, row, from, to, color);
     } else {
         paint(sheet, tags, row, from, to, color);
     }
-    Ok(())
 }
 
 // Paints columns that the row holds.

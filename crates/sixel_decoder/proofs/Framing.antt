@@ -79,6 +79,7 @@ pub shows_skip : (o : Origin) (painter : Painter) (h : History) (byte : ℕ) →
 shows_skip o painter h byte shows = record {
   pixels = shows.pixels;
   reached = shows.reached;
+  paid = shows.paid;
   registers = shows.registers;
   color = shows.color;
   span = shows.span;

@@ -1,3 +1,4 @@
+pub mod Paid
 pub mod Reached
 pub mod Framing
 pub mod Opening

@@ -18,7 +18,7 @@ use Rattle.sixel_canvas.proofs.Totals.{total-same}
 use Rattle.sixel_base.specs.Reach.{row_reach, reached_area}
 
 -- no sixel covers a row from the height on
-row_reach-past : (h : History) (row : ℕ) → height h ≤ row → row_reach h row ≡ 0
+pub row_reach-past : (h : History) (row : ℕ) → height h ≤ row → row_reach h row ≡ 0
 row_reach-past [] row past = refl
 row_reach-past (Sixel bits ∷ h) row past =
     let below : down h + 6 ≤ row = omega arith in
@@ -46,7 +46,7 @@ row_reach-most (Newline ∷ h) row = row_reach-most h row
 row_reach-most (Skip _ ∷ h) row = row_reach-most h row
 
 -- zeros add nothing
-total-past : (f : ℕ → ℕ) (m n : ℕ) → ((k : ℕ) → m ≤ k → f k ≡ 0) → m ≤ n → total f n ≡ total f m
+pub total-past : (f : ℕ → ℕ) (m n : ℕ) → ((k : ℕ) → m ≤ k → f k ≡ 0) → m ≤ n → total f n ≡ total f m
 unfolding total
 total-past f m zero past le =
     let none : zero ≡ m = omega arith in

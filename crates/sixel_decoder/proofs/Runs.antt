@@ -23,6 +23,7 @@ use Rattle.sixel_decoder.specs.declared.frame.Frame.{Frame}
 use Rattle.sixel_decoder.specs.declared.frame.Phase.{Phase}
 use Rattle.sixel_decoder.specs.declared.frame.Phase.TheVariants.{Ground}
 use Rattle.sixel_decoder.specs.inside.Frame.{IsDrawn, Stands, StandsIn}
+use Rattle.sixel_decoder.specs.Paints.{sixels}
 use Rattle.sixel_decoder.specs.inside.Runs.{IsSixelByte, IsRun, Holds, bits_of, four_of, next_end, end_of, columns_for}
 use Rattle.sixel_decoder.proofs.Framing.{growths-closed}
 
@@ -404,6 +405,11 @@ row_reach-held limit h old held run row inside same holds =
       ]
     ]
 
+-- some sixels more
+sixels-with : (h : History) (more : List ℕ) → sixels (with_sixels h more) ≡ sixels h + length more
+sixels-with h [] = omega arith
+sixels-with h (bits ∷ more) = omega (arith, sixels-with (Sixel bits ∷ h) more)
+
 -- the painter once a run was drawn on its canvas
 pub Shows-run : (o : Origin) (h after : History) (old new : Painter) (held : CanvasState) (run : List ℕ) → after ≡ with_sixels h (bits_of run) → Shows o old h
     → old.span ≡ 1 → old.across + length run ≤ old.width → old.down + 6 ≤ old.height
@@ -411,11 +417,12 @@ pub Shows-run : (o : Origin) (h after : History) (old new : Painter) (held : Can
     → Holds old.canvas held old.down old.across run
     → ((column row : ℕ) → shown new.canvas column row ≡ drawn_over old.across (bits_of run) old.down old.color column row (shown held column row))
     → ((row : ℕ) → reached new.canvas row ≡ reached held row)
+    → new.canvas.paints + old.canvas.spread ≤ old.canvas.paints + new.canvas.spread + 4614 * length run
     → new.registers ≡ old.registers → new.color ≡ old.color → new.span ≡ old.span → new.across ≡ old.across + length run → new.down ≡ old.down
     → new.width ≡ old.width → new.height ≡ old.height → new.raster_height ≡ old.raster_height → new.ratio ≡ old.ratio → new.settings ≡ old.settings
     → new.raster_crop ≡ old.raster_crop → new.pixel_limit ≡ old.pixel_limit
     → Shows o new after
-Shows-run o h after old new held run whole shows single right lower wide high area holds drawn kept registers' color' span' across' down' width' height' raster' ratio' settings' crop' limit' =
+Shows-run o h after old new held run whole shows single right lower wide high area holds drawn kept paid' registers' color' span' across' down' width' height' raster' ratio' settings' crop' limit' =
     let limit : ℕ = o.pixel_limit in
     let inside : IsInside limit (length run) h = record {
       single = sym shows.span ∙ single;
@@ -434,6 +441,7 @@ Shows-run o h after old new held run whole shows single right lower wide high ar
     record {
       pixels = λ column row. drawn column row ∙ ap (drawn_over old.across (bits_of run) old.down old.color column row) (holds.shows column row) ∙ (rw (shows.across, shows.down, shows.color, shows.pixels column row) (sym (pixel-sixels limit o h (bits_of run) column row inside')));
       reached = λ row. kept row ∙ row_reach-held limit h old.canvas held run row inside shows.reached holds';
+      paid = omega (arith, paid', shows.paid, sixels-with h (bits_of run), long);
       registers = registers' ∙ shows.registers ∙ sym passed.registers;
       color = color' ∙ shows.color ∙ ap (λ c. c ++ 255 ∷ []) (sym passed.color);
       span = span' ∙ single ∙ sym passed.span;

@@ -1,3 +1,4 @@
+pub mod Paints
 pub mod PictureView
 pub mod Session
 pub mod inside

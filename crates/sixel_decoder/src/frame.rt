@@ -3,7 +3,7 @@
 //! A command takes effect when it is closed, by the next byte that it can't go on with, by the
 //! terminator, or by the end. So a piece may end within one, and nothing is decided there.
 
-ghost use Rattle.std.specs.Prelude.{◌≡◌, ◌<◌, ◌≤◌, ◌*◌, ◌∷◌, ◌++◌, List, ℕ, true, false, []};
+ghost use Rattle.std.specs.Prelude.{◌≡◌, ◌<◌, ◌≤◌, ◌+◌, ◌*◌, ◌∷◌, ◌++◌, List, ℕ, true, false, []};
 ghost use Rattle.std.specs.Prelude.{length, slice_index, IfOk};
 ghost use Rattle.sixel_decoder.specs.inside.Runs.{IsPrintable, IsSixelByte};
 ghost use Rattle.std.specs.Prelude.{IsOk, IsTrue, ◌⊎◌, Bool, if◌then◌else◌};
@@ -90,6 +90,7 @@ impl Frame {
     ghost use Rattle.sixel_decoder.specs.inside.Frame.{Stands, Reads, Feeds, StandsAfter, ReadsFront};
     ghost use Rattle.sixel_decoder.specs.inside.Painter.{Ends};
     ghost use Rattle.sixel_base.specs.Reach.{reached_area, size};
+    ghost use Rattle.sixel_decoder.specs.Paints.{sixels};
     ghost use Rattle.sixel_base.specs.Payload.{closed};
 
     /// A frame of which nothing was read.
@@ -97,6 +98,7 @@ impl Frame {
         ensures stands { Stands (origin_of decoder settings) result [] }
         ensures unwritten { canvas_writes result.painter.canvas ≡ 0 }
         ensures roomless { canvas_room result.painter.canvas ≡ 0 }
+        ensures unpainted { result.painter.canvas.paints ≡ 0 }
     {
         Frame {
             phase: Phase::Ground,
@@ -273,6 +275,17 @@ impl Frame {
             → canvas_room self.now.painter.canvas ≤ 2 * reached_area (if ended then h else closed h) }
     {
         self.painter.writes()
+    }
+
+    /// How many pixels sixels have painted, at most. An open command draws nothing.
+    pub fn paints(&self) -> u64
+        ensures value { result ≡ self.now.painter.canvas.paints }
+        ensures at_most { (o : Origin) (h : History) (ended : Bool)
+            → StandsAfter ended o self.now h
+            → result ≤ 3 * reached_area (if ended then h else closed h)
+            + 4614 * sixels (if ended then h else closed h) }
+    {
+        self.painter.paints()
     }
 
     /// The width and the height of what the closed commands reach.

@@ -8,6 +8,7 @@ ghost use Rattle.sixel_base.specs.Fault.{Faults, IsFault, StreamFailed};
 ghost use Rattle.sixel_base.specs.Payload.{fed_fault, settled, growths, payload_fault};
 ghost use Rattle.sixel_base.specs.Payload.{payload_image, payload_registers};
 ghost use Rattle.sixel_base.specs.Reach.{reached_area, size};
+ghost use Rattle.sixel_decoder.specs.Paints.{sixels};
 ghost use Rattle.sixel_base.specs.Status.{status_of};
 ghost use Rattle.sixel_base.specs.Stroke.{Origin};
 ghost use Rattle.sixel_decoder.specs.PictureView.{picture_value};
@@ -55,6 +56,7 @@ impl Intake {
           is_refused = false;
           writes = 0;
           room = 0;
+          paints = 0;
         } }
     {
         Intake {
@@ -114,6 +116,19 @@ impl Intake {
     {
         match &self.frame {
             Some(frame) => frame.writes(),
+            None => 0,
+        }
+    }
+
+    /// How many pixels sixels have painted so far, at most.
+    pub fn paints(&self) -> u64
+        ensures value { result ≡ self.now.paints }
+        ensures at_most { result ≤ 3 * reached_area (settled self.now.bytes)
+            + 4614 * sixels (settled self.now.bytes) }
+        ensures refused { self.now.is_refused ≡ true → result ≡ 0 }
+    {
+        match &self.frame {
+            Some(frame) => frame.paints(),
             None => 0,
         }
     }

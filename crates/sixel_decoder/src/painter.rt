@@ -73,6 +73,7 @@ impl Painter {
         ensures shows { Shows (origin_of decoder settings) result [] }
         ensures unwritten { canvas_writes result.canvas ≡ 0 }
         ensures roomless { canvas_room result.canvas ≡ 0 }
+        ensures unpainted { result.canvas.paints ≡ 0 }
     {
         let ground = decoder.registers.get(0);
         let background = match settings.background_mode() {
@@ -184,6 +185,8 @@ fn hold(canvas: &mut Canvas, top: usize, from: usize, run: &[u8]) -> Result<usiz
     ensures holds { OnOk result (Holds canvas.old canvas.new top from run.now) }
     ensures held { IfOk result (λ held. (k : ℕ) → k < 6 → held ≤ reached canvas.new (top + k)) }
     ensures plain { IfOk result (λ held. 0 < held → canvas.new.tagged ≤ top) }
+    ensures paints { canvas.new.paints ≡ canvas.old.paints }
+    ensures spread { canvas.new.spread ≡ canvas.old.spread }
     ensures error { IfErr result (λ e. e ≡ OutOfMemory) }
 {
     let held = canvas.held(top);
@@ -202,6 +205,8 @@ fn widen(canvas: &mut Canvas, top: usize, from: usize, run: &[u8]) -> Result<usi
     ensures holds { OnOk result (Holds canvas.old canvas.new top from run.now) }
     ensures held { IfOk result (λ held. (k : ℕ) → k < 6 → held ≤ reached canvas.new (top + k)) }
     ensures plain { IfOk result (λ held. 0 < held → canvas.new.tagged ≤ top) }
+    ensures paints { canvas.new.paints ≡ canvas.old.paints }
+    ensures spread { canvas.new.spread ≡ canvas.old.spread }
     ensures error { IfErr result (λ e. e ≡ OutOfMemory) }
 {
     canvas.widen(top, columns_of(run, from))?;
@@ -222,6 +227,8 @@ fn paint(canvas: &mut Canvas, held: usize, top: usize, from: usize, run: &[u8], 
     ensures drawn { (column row : ℕ) → shown canvas.new column row
         ≡ drawn_over from (bits_of run.now) top color column row (shown canvas.old column row) }
     ensures kept { (row : ℕ) → reached canvas.new row ≡ reached canvas.old row }
+    ensures paints { canvas.new.paints ≤ canvas.old.paints + 1572 * length run.now }
+    ensures spread { canvas.new.spread ≡ canvas.old.spread }
 {
     let by_four = run.len().min(held.saturating_sub(from + 3));
     let mut done = 0;
@@ -318,6 +325,7 @@ impl Painter {
     ghost use Rattle.sixel_decoder.specs.inside.Painter.{Shows};
     ghost use Rattle.sixel_decoder.specs.inside.Painter.{Ends};
     ghost use Rattle.sixel_base.specs.Reach.{reached_area};
+    ghost use Rattle.sixel_decoder.specs.Paints.{sixels};
 
     /// How many pixels the canvas has copied or filled, to grow. It has room for at most twice those
     /// that were reached.
@@ -331,6 +339,15 @@ impl Painter {
             → canvas_room self.now.canvas ≤ 2 * reached_area h }
     {
         self.canvas.writes()
+    }
+
+    /// How many pixels sixels have painted, in rows and in the tags of their blocks, at most.
+    pub fn paints(&self) -> u64
+        ensures value { result ≡ self.now.canvas.paints }
+        ensures at_most { (o : Origin) (h : History) → Shows o self.now h
+            → result ≤ 3 * reached_area h + 4614 * sixels h }
+    {
+        self.canvas.paints()
     }
 
     /// The picture that was drawn, and the registers then.

@@ -2,6 +2,7 @@
 
 ghost use Rattle.std.specs.Prelude.{◌≡◌, ◌+◌, ◌*◌, ◌≤◌, ◌++◌, [], false, true, nat_lt, None};
 ghost use Rattle.std.specs.Prelude.{OnOk, OnErr, IfOk, IfErr, MatchBool, List, ℕ};
+ghost use Rattle.sixel_decoder.specs.Paints.{dcs_sixels};
 ghost use Rattle.sixel_base.specs.Dcs.{dcs_count, dcs_status, dcs_fault, dcs_growths};
 ghost use Rattle.sixel_base.specs.Dcs.{dcs_in_payload, dcs_size};
 ghost use Rattle.sixel_base.specs.Dcs.{dcs_reached_area, has_ended, has_come, end_fault, stage};
@@ -52,6 +53,7 @@ impl Progress {
           is_refused = false;
           writes = 0;
           room = 0;
+          paints = 0;
         } }
     {
         Progress {
@@ -108,6 +110,19 @@ impl Progress {
     {
         match &self.phase {
             Phase::Payload(intake) => intake.writes(),
+            Phase::Start | Phase::Escape | Phase::Header(_) | Phase::Refused => 0,
+        }
+    }
+
+    /// How many pixels sixels of the payload have painted so far, at most.
+    pub fn paints(&self) -> u64
+        ensures value { result ≡ self.now.paints }
+        ensures at_most { result ≤ 3 * dcs_reached_area self.now.bytes
+            + 4614 * dcs_sixels self.now.bytes }
+        ensures refused { self.now.is_refused ≡ true → result ≡ 0 }
+    {
+        match &self.phase {
+            Phase::Payload(intake) => intake.paints(),
             Phase::Start | Phase::Escape | Phase::Header(_) | Phase::Refused => 0,
         }
     }

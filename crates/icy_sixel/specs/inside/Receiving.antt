@@ -18,6 +18,7 @@ reception_of (opened.Payload intake) = record {
   is_refused = intake.is_refused;
   writes = intake.writes;
   room = intake.room;
+  paints = intake.paints;
 }
 reception_of (opened.ControlString progress) = record {
   form = OfString;
@@ -26,6 +27,7 @@ reception_of (opened.ControlString progress) = record {
   is_refused = progress.is_refused;
   writes = progress.writes;
   room = progress.room;
+  paints = progress.paints;
 }
 
 abbrev pub receiver_of : Inside → Receiver

@@ -4,6 +4,7 @@ ghost use Rattle.std.specs.Prelude.{◌≡◌, ◌+◌, ◌*◌, ◌≤◌, ◌+
 ghost use Rattle.std.specs.Prelude.{OnOk, OnErr, IfOk, IfErr, MatchBool, List, ℕ, length, Ok, Err};
 ghost use Rattle.sixel_base.specs.Dcs.{dcs_count, dcs_status, dcs_fault, dcs_growths};
 ghost use Rattle.sixel_base.specs.Dcs.{dcs_in_payload, dcs_size};
+ghost use Rattle.sixel_decoder.specs.Paints.{dcs_sixels};
 ghost use Rattle.sixel_base.specs.Dcs.{dcs_reached_area, has_ended, end_fault, stage};
 ghost use Rattle.sixel_base.specs.Dcs.{IsSameString, IsStringImage, AreStringRegisters};
 ghost use Rattle.sixel_base.specs.Decoder.{IsSetAs};
@@ -48,6 +49,7 @@ impl<'a> SixelDcsStreamDecoder<'a> {
           is_refused = false;
           writes = 0;
           room = 0;
+          paints = 0;
         } }
     {
         let state = owner.state;
@@ -117,6 +119,20 @@ impl<'a> SixelDcsStreamDecoder<'a> {
         ensures refused { self.now.progress.is_refused ≡ true → result ≡ 0 }
     {
         self.progress.writes()
+    }
+
+    /// How many pixels sixels of the payload have painted so far, at most; 0 before the payload and
+    /// after a refusal. It takes no memory.
+    ///
+    /// The bound is that of a payload session, by
+    /// [`canvas_paints`](crate::SixelStreamDecoder::canvas_paints).
+    pub fn canvas_paints(&self) -> u64
+        ensures value { result ≡ self.now.progress.paints }
+        ensures at_most { result ≤ 3 * dcs_reached_area self.now.progress.bytes
+            + 4614 * dcs_sixels self.now.progress.bytes }
+        ensures refused { self.now.progress.is_refused ≡ true → result ≡ 0 }
+    {
+        self.progress.paints()
     }
 
     /// Whether the header is read and the payload has begun; `false` after a refusal.

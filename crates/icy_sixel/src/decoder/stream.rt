@@ -10,6 +10,7 @@ ghost use Rattle.sixel_base.specs.Payload.{fed_fault, settled, growths, payload_
 ghost use Rattle.sixel_base.specs.Payload.{payload_area, payload_image, payload_registers};
 ghost use Rattle.sixel_base.specs.Payload.{payload_wants};
 ghost use Rattle.sixel_base.specs.Reach.{reached_area, size};
+ghost use Rattle.sixel_decoder.specs.Paints.{sixels};
 ghost use Rattle.sixel_base.specs.Status.{status_of};
 ghost use Rattle.icy_sixel.specs.ImageView.{image_value};
 
@@ -50,6 +51,7 @@ impl<'a> SixelStreamDecoder<'a> {
           is_refused = false;
           writes = 0;
           room = 0;
+          paints = 0;
         } }
     {
         let state = owner.state;
@@ -124,6 +126,21 @@ impl<'a> SixelStreamDecoder<'a> {
         ensures refused { self.now.intake.is_refused ≡ true → result ≡ 0 }
     {
         self.intake.writes()
+    }
+
+    /// How many pixels sixels have painted so far, at most, where a wide one over pixels that are
+    /// there may be kept as the colors of its blocks; 0 after a refusal. It takes no memory.
+    ///
+    /// It is at most three times the area that the closed sixels reach and 4614 for each of them,
+    /// which is two ends and 511 blocks in six rows. At the greatest number it stays. Where memory
+    /// for the colors of blocks was refused, a sixel is counted as if it had them.
+    pub fn canvas_paints(&self) -> u64
+        ensures value { result ≡ self.now.intake.paints }
+        ensures at_most { result ≤ 3 * reached_area (settled self.now.intake.bytes)
+            + 4614 * sixels (settled self.now.intake.bytes) }
+        ensures refused { self.now.intake.is_refused ≡ true → result ≡ 0 }
+    {
+        self.intake.paints()
     }
 
     /// The width and the height that the image has so far: of the closed sixels and raster

@@ -4,11 +4,14 @@ use Rattle.std.specs.Prelude.{◌≡◌, ℕ, ◌*◌, ◌≤◌, List, length, 
 use Rattle.sixel_base.specs.Picture.{total}
 use Rattle.sixel_canvas.specs.Row.{RowState, IsThrifty, empty_row}
 
--- the rows from the top, as far down as a stroke has come, and from which row on no block has a tag
+-- the rows from the top, as far down as a stroke has come, from which row on no block has a tag, how many pixels
+-- strokes have painted, at most, and how many of these wide strokes that were painted at once
 pub record CanvasState : Type 0 where
   pub background : List ℕ
   pub rows : List RowState
   pub tagged : ℕ
+  pub paints : ℕ
+  pub spread : ℕ
 
 -- a row that a canvas with this background may hold
 pub record IsRowOf (background : List ℕ) (row : RowState) : Type 0 where
@@ -43,3 +46,4 @@ pub record IsBounded (canvas : CanvasState) : Type 0 where
   pub at_least : (n : ℕ) → length canvas.rows ≤ n → total (reached canvas) n ≤ canvas_writes canvas
   pub at_most : (n : ℕ) → length canvas.rows ≤ n → canvas_writes canvas ≤ 3 * total (reached canvas) n
   pub room_at_most : (n : ℕ) → length canvas.rows ≤ n → canvas_room canvas ≤ 2 * total (reached canvas) n
+  pub spread_at_most : (n : ℕ) → length canvas.rows ≤ n → canvas.spread ≤ 3 * total (reached canvas) n

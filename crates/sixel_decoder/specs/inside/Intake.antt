@@ -26,6 +26,11 @@ abbrev pub room_of : Option Frame → ℕ
 room_of None = 0
 room_of (Some frame) = canvas_room frame.painter.canvas
 
+-- how many pixels sixels have painted on it
+abbrev pub paints_of : Option Frame → ℕ
+paints_of None = 0
+paints_of (Some frame) = frame.painter.canvas.paints
+
 abbrev pub session_of : Inside → Session
 session_of intake = record {
   origin = origin_of intake.start.value intake.settings;
@@ -33,6 +38,7 @@ session_of intake = record {
   is_refused = is_none intake.frame;
   writes = writes_of intake.frame;
   room = room_of intake.frame;
+  paints = paints_of intake.frame;
 }
 
 -- A frame that was not refused has read the bytes up to their first terminator.

@@ -1,6 +1,6 @@
 -- What the parts of a painter keep, in the words of the history that was read. An invariant of this library's own: the words are those
 -- of Place and Stroke of sixel_base, where DEC's manual gives the rules.
-use Rattle.std.specs.Prelude.{ℕ, ◌≡◌, ◌*◌, ◌≤◌, Bool, MatchResult, Result, None, is_none, [], ◌∷◌, ◌++◌}
+use Rattle.std.specs.Prelude.{ℕ, ◌≡◌, ◌+◌, ◌*◌, ◌≤◌, Bool, MatchResult, Result, None, is_none, [], ◌∷◌, ◌++◌}
 use Rattle.sixel_base.specs.declared.error.SixelError.{SixelError}
 use Rattle.sixel_decoder.specs.declared.painter.Painter.{Painter}
 use Rattle.sixel_base.specs.Settings.{ratio_of}
@@ -13,11 +13,13 @@ use Rattle.sixel_base.specs.Payload.{first_fault, image_of}
 use Rattle.sixel_decoder.specs.declared.painter.Picture.{Picture}
 use Rattle.sixel_decoder.specs.PictureView.{picture_value}
 use Rattle.sixel_base.specs.Reach.{row_reach}
+use Rattle.sixel_decoder.specs.Paints.{sixels}
 
 -- The painter has drawn these tokens, none of which has a fault.
 pub record Shows (origin : Origin) (painter : Painter) (history : History) : Type 0 where
   pub pixels : (column row : ℕ) → shown painter.canvas column row ≡ pixel origin history column row
   pub reached : (row : ℕ) → reached painter.canvas row ≡ row_reach history row
+  pub paid : painter.canvas.paints ≤ painter.canvas.spread + 4614 * sixels history
   pub registers : painter.registers ≡ registers origin.registers history
   pub color : painter.color ≡ color origin.registers history ++ 255 ∷ []
   pub span : painter.span ≡ span history

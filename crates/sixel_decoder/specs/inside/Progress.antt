@@ -17,6 +17,11 @@ abbrev pub room_of : Phase → ℕ
 room_of (Payload intake) = intake.room
 room_of _ = 0
 
+-- how many pixels sixels have painted on it
+abbrev pub paints_of : Phase → ℕ
+paints_of (Payload intake) = intake.paints
+paints_of _ = 0
+
 abbrev pub session_of : Inside → DcsSession
 session_of progress = record {
   decoder = progress.decoder;
@@ -24,6 +29,7 @@ session_of progress = record {
   is_refused = is_refused progress.phase;
   writes = writes_of progress.phase;
   room = room_of progress.phase;
+  paints = paints_of progress.phase;
 }
 
 abbrev pub IsFollowing : Inside → Type 0

@@ -28,6 +28,7 @@ returns-in-Ok-Some c = λ before ended head is.
       is_refused = false;
       writes = 0;
       room = 0;
+      paints = 0;
     } in
     let begun : IsInPayload fresh c.args.decoder.now ended (before ++ c.args.byte ∷ []) = record {
       reading = header_begins c.in-Header.header before c.args.byte it.0 stepped.0 stepped.1 ∙ ap (λ s. Reading s []) (sym stepped.2);

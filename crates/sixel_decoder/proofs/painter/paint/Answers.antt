@@ -12,11 +12,13 @@ fours-preserved c =
       drawn_by_four done c.args.canvas.now c.fours.canvas c.block.new.self c.args.top c.args.from run c.args.color c.four_sixels.result
           (omega (arith, le)) before.1 c.four_sixels.ensures c.block.ensures.drawn,
       λ row. c.block.ensures.reached row ∙ before.2 row,
-      λ more. omega (arith, before.3 (omega (arith, c.fours-test.true)), c.block.ensures.plain),
+      omega (arith, before.3, c.block.ensures.paints, c.fours-test.true, c.min-by_four.ensures),
+      c.block.ensures.spread ∙ before.4,
+      λ more. omega (arith, before.5 (omega (arith, c.fours-test.true)), c.block.ensures.plain),
     )
 
 pub last-init : goal.last-init
-last-init c = (omega (arith, c.fours.invariant.0), c.fours.invariant.1, c.fours.invariant.2, c.fours.invariant.3)
+last-init c = (omega (arith, c.fours.invariant.0), c.fours.invariant.1, c.fours.invariant.2, c.fours.invariant.3, c.fours.invariant.4, c.fours.invariant.5)
 
 pub last-preserved : goal.last-preserved
 last-preserved c =
@@ -28,11 +30,13 @@ last-preserved c =
       drawn_by_four done c.args.canvas.now c.last.canvas c.block-in-last.new.self c.args.top c.args.from run c.args.color c.last_sixels.result
           (omega (arith, lt)) before.1 c.last_sixels.ensures c.block-in-last.ensures.drawn,
       λ row. c.block-in-last.ensures.reached row ∙ before.2 row,
-      λ more. omega (arith, before.3 (omega (arith, c.last-test.true)), c.block-in-last.ensures.plain),
+      omega (arith, before.3, c.block-in-last.ensures.paints, c.last-test.true, c.min-by_four.ensures),
+      c.block-in-last.ensures.spread ∙ before.4,
+      λ more. omega (arith, before.5 (omega (arith, c.last-test.true)), c.block-in-last.ensures.plain),
     )
 
 pub ends-init : goal.ends-init
-ends-init c = (c.last.invariant.0, c.last.invariant.1, c.last.invariant.2)
+ends-init c = (c.last.invariant.0, c.last.invariant.1, c.last.invariant.2, c.last.invariant.3, c.last.invariant.4)
 
 pub dots-requires-clause-held : goal.dots-requires-clause-held
 dots-requires-clause-held c =
@@ -49,6 +53,8 @@ ends-preserved c =
       drawn_by_four done c.args.canvas.now c.ends.canvas c.dots.new.self c.args.top c.args.from run c.args.color c.last_sixels-in-ends.result
           (omega (arith, lt)) before.1 c.last_sixels-in-ends.ensures c.dots.ensures.drawn,
       λ row. c.dots.ensures.reached row ∙ before.2 row,
+      omega (arith, before.3, c.dots.ensures.most, c.ends-test.true, c.min-by_four.ensures),
+      c.dots.ensures.spread ∙ before.4,
     )
 
 pub returns-clause-drawn : goal.returns-clause-drawn

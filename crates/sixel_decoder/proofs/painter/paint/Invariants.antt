@@ -1,4 +1,4 @@
-use Rattle.std.proofs.Common.{◌≡◌, ℕ, ◌+◌, ◌-◌, ◌<◌, ◌≤◌, length}
+use Rattle.std.proofs.Common.{◌≡◌, ℕ, ◌+◌, ◌-◌, ◌<◌, ◌≤◌, ◌*◌, min, length}
 use Rattle.sixel_canvas.specs.inside.Canvas.{reached}
 use Rattle.sixel_decoder.proofs.Runs.{IsDrawnTo}
 use Rattle.sixel_decoder.proofs.painter.paint.Given as goal
@@ -8,6 +8,8 @@ invariant-fours l =
     (l.done ≤ length l.run)
     × IsDrawnTo l.done l.fn.canvas l.canvas l.top l.from l.run l.color
     × ((row : ℕ) → reached l.canvas row ≡ reached l.fn.canvas row)
+    × (l.canvas.paints ≤ l.fn.canvas.paints + 1572 * min l.done (length l.run))
+    × (l.canvas.spread ≡ l.fn.canvas.spread)
     × (l.done < l.by_four → l.canvas.tagged ≤ l.top)
 
 abbrev pub decreases-fours : goal.decreases-fours
@@ -18,6 +20,8 @@ invariant-last l =
     (l.done ≤ length l.run + 3)
     × IsDrawnTo l.done l.fn.canvas l.canvas l.top l.from l.run l.color
     × ((row : ℕ) → reached l.canvas row ≡ reached l.fn.canvas row)
+    × (l.canvas.paints ≤ l.fn.canvas.paints + 1572 * min l.done (length l.run))
+    × (l.canvas.spread ≡ l.fn.canvas.spread)
     × (l.done < l.by_four → l.canvas.tagged ≤ l.top)
 
 abbrev pub decreases-last : goal.decreases-last
@@ -28,6 +32,8 @@ invariant-ends l =
     (l.done ≤ length l.run + 3)
     × IsDrawnTo l.done l.fn.canvas l.canvas l.top l.from l.run l.color
     × ((row : ℕ) → reached l.canvas row ≡ reached l.fn.canvas row)
+    × (l.canvas.paints ≤ l.fn.canvas.paints + 1572 * min l.done (length l.run))
+    × (l.canvas.spread ≡ l.fn.canvas.spread)
 
 abbrev pub decreases-ends : goal.decreases-ends
 decreases-ends l = length l.run - l.done

@@ -22,7 +22,7 @@ pub struck-init : goal.struck-init
 struck-init c =
     let canvas = c.self.inside in
     rw (← c.self.view_is)
-    (IsUnderway-none (λ _. struck_row c.args.from c.args.to c.args.color) (is_struck c.args.top c.args.bits) c.args.top (record { background = canvas.background; rows = canvas.rows.items; tagged = 0 }) c.make_rows.new.rows.items
+    (IsUnderway-none (λ _. struck_row c.args.from c.args.to c.args.color) (is_struck c.args.top c.args.bits) c.args.top (record { background = canvas.background; rows = canvas.rows.items; tagged = 0; paints = 0; spread = 0 }) c.make_rows.new.rows.items
     (is_struck-above c.args.top c.args.bits) (omega (arith, c.in_ok-make_rows.ensures.enough)) (omega (arith, c.make_rows.ensures.few, c.self.invariant.0)) (c.make_rows.ensures.rows c.self.invariant.1) c.make_rows.ensures.same)
 
 pub struck-preserved : goal.struck-preserved

@@ -1,6 +1,9 @@
-use Rattle.std.proofs.Common.{◌≡◌, ℕ, ◌+◌, ◌-◌, get_or, refl, sym, ap, ◌∙◌, arith}
+use Rattle.std.proofs.Common.{◌≡◌, ℕ, ◌+◌, ◌-◌, ◌≤◌, length, get_or, refl, sym, ap, ◌∙◌, arith}
 use Rattle.std.proofs.Math.ListN.{set}
 use Rattle.sixel_canvas.specs.Row.{reached_to}
+use Rattle.sixel_canvas.specs.inside.Canvas.{CanvasState}
+use Rattle.std.proofs.lemmas.Bool.{true≢false}
+use Rattle.sixel_canvas.proofs.OneRow.{made_from_reached}
 use Rattle.sixel_canvas.proofs.Totals.{IsBounded-rows}
 use Rattle.sixel_canvas.proofs.Underway.{IsUnderway-hit, IsUnderway-none, in_band, in_band-above, in_band-inside}
 use Rattle.sixel_canvas.proofs.Widening.{reached-widened, shown-widened, widened_at}
@@ -10,7 +13,7 @@ pub widened-init : goal.widened-init
 widened-init c =
     let canvas = c.self.inside in
     rw (← c.self.view_is)
-    (IsUnderway-none (widened_at c.args.columns c.args.top) (in_band c.args.top) c.args.top (record { background = canvas.background; rows = canvas.rows.items; tagged = 0 }) c.make_rows.new.rows.items
+    (IsUnderway-none (widened_at c.args.columns c.args.top) (in_band c.args.top) c.args.top (record { background = canvas.background; rows = canvas.rows.items; tagged = 0; paints = 0; spread = 0 }) c.make_rows.new.rows.items
     (in_band-above c.args.top) (omega (arith, c.in_ok-make_rows.ensures.enough)) (omega (arith, c.make_rows.ensures.few, c.self.invariant.0)) (c.make_rows.ensures.rows c.self.invariant.1) c.make_rows.ensures.same)
 
 pub reach-requires-clause-within : goal.reach-requires-clause-within
@@ -53,3 +56,10 @@ pub returns-clause-bounded : goal.returns-clause-bounded
 returns-clause-bounded c =
     let done = c.widened.invariant in
     rw done.over (IsBounded-rows c.args.self.now.background c.widened.self-inside.rows.items done.few done.sound)
+
+pub returns-in_err-make_rows-clause-held : goal.returns-in_err-make_rows-clause-held
+returns-in_err-make_rows-clause-held c = λ held.
+    let canvas = c.args.self.now in
+    let made = made_from_reached canvas (c.args.top + 5) (omega (arith, held 5 (omega arith))) in
+    let enough : c.args.top + 6 ≤ length c.self.inside.rows.items = omega (arith, made, ap (λ (s : CanvasState). length s.rows) c.self.view_is) in
+    absurd (true≢false (sym (c.in_err-make_rows.ensures.made (omega (arith, enough)))))

@@ -5,7 +5,8 @@ use Rattle.sixel_base.specs.Picture.{covers, is_struck}
 use Rattle.sixel_canvas.specs.inside.Canvas.{CanvasState, reached, shown}
 use Rattle.sixel_canvas.specs.inside.Tags.{under}
 use Rattle.sixel_canvas.proofs.Tagging.{under-covered}
-use Rattle.sixel_canvas.proofs.Tags.{IsBounded-tagged, IsTagged-grown, reached-tagged, shown-tagged}
+use Rattle.sixel_canvas.proofs.Tags.{IsTagged-grown, reached-tagged, shown-tagged}
+use Rattle.sixel_canvas.proofs.Spread.{IsBounded-counted, IsSpread-grown}
 use Rattle.sixel_canvas.proofs.tagged.TaggedCanvas.draw_dots.Goals as goal
 
 pub returns-then-height-top-clause-drawn : goal.returns-then-height-top-clause-drawn
@@ -40,5 +41,16 @@ returns-then-height-top-clause-held c = λ some held.
     let row = c.args.top + k in
     omega (arith, held k six, ap (λ (s : CanvasState). reached s row) c.self.view_is, reached-tagged sheet tags row))
 
+pub invariant_of-self : goal.invariant_of-self
+invariant_of-self c =
+    let sheet = c.self.inside.sheet in
+    let band = c.self.inside.band in (
+      IsTagged-grown sheet c.draw.new.self c.self.inside.tags c.self.invariant.0 c.draw.ensures.bounded c.draw.ensures.never_less,
+      IsSpread-grown sheet c.draw.new.self band.top band.painted band.spread c.self.invariant.1 c.draw.ensures.never_less,
+    )
+
 pub returns-then-height-top-clause-bounded : goal.returns-then-height-top-clause-bounded
-returns-then-height-top-clause-bounded c = IsBounded-tagged c.draw.new.self c.self.inside.tags c.draw.ensures.bounded
+returns-then-height-top-clause-bounded c =
+    let band = c.self.inside.band in
+    let is = IsSpread-grown c.self.inside.sheet c.draw.new.self band.top band.painted band.spread c.self.invariant.1 c.draw.ensures.never_less in
+    IsBounded-counted c.draw.new.self c.self.inside.tags band.top band.painted band.spread _ c.draw.ensures.bounded is

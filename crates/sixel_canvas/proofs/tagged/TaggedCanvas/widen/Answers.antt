@@ -5,6 +5,7 @@ use Rattle.sixel_canvas.specs.inside.Canvas.{CanvasState, reached, shown}
 use Rattle.sixel_canvas.specs.inside.Tags.{under}
 use Rattle.sixel_canvas.proofs.Tags.{IsTagged-grown, reached-tagged, shown-tagged}
 use Rattle.sixel_canvas.proofs.Underway.{in_band}
+use Rattle.sixel_canvas.proofs.Spread.{IsSpread-grown}
 use Rattle.sixel_canvas.proofs.tagged.TaggedCanvas.widen.Goals as goal
 
 pub returns-clause-shown : goal.returns-clause-shown
@@ -30,3 +31,11 @@ returns-clause-grown c =
     reached-tagged c.widen.new.self tags row ∙ grown row
     ∙ ap (λ n. if in_band c.args.top row then max n (get_or columns (row - c.args.top) 0) else n) before)
     c.widen.ensures.grown
+
+pub invariant_of-self : goal.invariant_of-self
+invariant_of-self c =
+    let sheet = c.self.inside.sheet in
+    let band = c.self.inside.band in (
+      IsTagged-grown sheet c.widen.new.self c.self.inside.tags c.self.invariant.0 c.widen.ensures.bounded c.widen.ensures.never_less,
+      IsSpread-grown sheet c.widen.new.self band.top band.painted band.spread c.self.invariant.1 c.widen.ensures.never_less,
+    )

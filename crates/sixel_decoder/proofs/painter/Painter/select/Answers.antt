@@ -11,6 +11,7 @@ returns c = λ o h text keeps shows.
     record {
       pixels = shows.pixels;
       reached = shows.reached;
+      paid = shows.paid;
       registers = defined;
       color = c.opaque-self.ensures ∙ ap (λ w. w ++ 255 ∷ []) (c.get-2.ensures.color ∙ rw (defined, named) refl);
       span = shows.span;
