@@ -20,6 +20,7 @@ STRUCTS = {
     "Fed": "icysixel_fed",
     "Size": "icysixel_size",
     "Shape": "icysixel_shape",
+    "Bytes": "icysixel_bytes",
     "Color": "icysixel_color",
     "Palette": "icysixel_palette",
 }

@@ -25,6 +25,7 @@ static void on_nothing(icysixel *h)
     icysixel_shape shape = {7, 7, 7, 7, 7, 7, 7};
     icysixel_size size = {7, 7};
     icysixel_color color = {7, 7, 7};
+    icysixel_bytes pixels = {&(uint8_t){7}, 7, 7};
     uint8_t room[4] = {7, 7, 7, 7};
     size_t wanted = 7;
     WANT(icysixel_begin(h) == ICYSIXEL_NO_HANDLE);
@@ -38,6 +39,7 @@ static void on_nothing(icysixel *h)
     WANT(icysixel_decode(h, BYTES(red), &shape) == ICYSIXEL_NO_HANDLE && shape.height == 7);
     WANT(icysixel_decode_payload(h, BYTES("~"), 9, 1, -1, &shape) == ICYSIXEL_NO_HANDLE && shape.bytes == 7);
     WANT(icysixel_pixels(h, room, 4, 0, &wanted) == ICYSIXEL_NO_HANDLE && wanted == 0 && room[0] == 7);
+    WANT(icysixel_take_pixels(h, &pixels) == ICYSIXEL_NO_HANDLE && *pixels.at == 7 && pixels.length == 7 && pixels.room == 7);
     WANT(icysixel_register(h, 1, &color) == ICYSIXEL_NO_HANDLE && color.red == 7);
     WANT(icysixel_set_register(h, 1, 2, 3, 4) == ICYSIXEL_NO_HANDLE);
     WANT(icysixel_crop(h) == 0 && icysixel_set_crop(h, 1) == ICYSIXEL_NO_HANDLE);
@@ -81,6 +83,25 @@ static void in_pieces(icysixel *h, size_t cut)
         for (size_t gap = 48; gap < 64; gap++) WANT(room[64 * row + gap] == 7);
     }
     WANT(icysixel_pixels(h, room, sizeof room, 0, &wanted) == ICYSIXEL_NO_IMAGE && wanted == 0);
+}
+
+/* The pixels in the library's own block, which outlives the handle's next image. */
+static void handed_over(icysixel *h)
+{
+    icysixel_shape shape = {0};
+    icysixel_bytes first = {0}, second = {0};
+    uint8_t room[288];
+    size_t wanted;
+    WANT(icysixel_decode(h, BYTES(red), &shape) == ICYSIXEL_DONE && icysixel_take_pixels(h, &first) == ICYSIXEL_DONE);
+    WANT(first.length == 288 && first.room >= 288 && is_red(first.at, 72));
+    WANT(icysixel_take_pixels(h, &second) == ICYSIXEL_NO_IMAGE && second.at == NULL && second.length == 0 && second.room == 0);
+    WANT(icysixel_pixels(h, room, sizeof room, 0, &wanted) == ICYSIXEL_NO_IMAGE && wanted == 0);
+    WANT(icysixel_decode(h, BYTES("\033P9;1q!5~\033\\"), &shape) == ICYSIXEL_DONE && is_red(first.at, 72));
+    WANT(icysixel_take_pixels(h, &second) == ICYSIXEL_DONE && second.length == 120 && second.at != first.at);
+    WANT(icysixel_drop(h) == ICYSIXEL_DONE && is_red(first.at, 72));
+    memset(first.at, 7, first.room);
+    rattle_dealloc(first.at);
+    rattle_dealloc(second.at);
 }
 
 static void refusals(icysixel *h)
@@ -233,6 +254,7 @@ int main(void)
     in_pieces(&h, 7);
     in_pieces(&h, 4096);
     refusals(&h);
+    handed_over(&h);
     WANT(icysixel_new(&h) == ICYSIXEL_DONE);
     settings(&h);
     encoding(&h);

@@ -16,6 +16,7 @@ uint32_t (*const decoded)(icysixel *, const uint8_t *, size_t, icysixel_shape *)
 uint32_t (*const decoded_payload)(icysixel *, const uint8_t *, size_t, int32_t, int32_t, int32_t, icysixel_shape *) =
     icysixel_decode_payload;
 uint32_t (*const pixels)(icysixel *, uint8_t *, size_t, size_t, size_t *) = icysixel_pixels;
+uint32_t (*const took_pixels)(icysixel *, icysixel_bytes *) = icysixel_take_pixels;
 uint32_t (*const dropped)(icysixel *) = icysixel_drop;
 uint32_t (*const color)(icysixel *, uint8_t, icysixel_color *) = icysixel_register;
 uint32_t (*const set_color)(icysixel *, uint8_t, uint8_t, uint8_t, uint8_t) = icysixel_set_register;
@@ -42,4 +43,5 @@ SAME(16, icysixel_fed);
 SAME(16, icysixel_size);
 SAME(32, icysixel_shape);
 SAME(3, icysixel_color);
+SAME(24, icysixel_bytes);
 SAME(24, icysixel_palette);

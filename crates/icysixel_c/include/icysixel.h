@@ -14,8 +14,9 @@
  *
  * Ownership. What the library keeps is behind the handle, and is freed by icysixel_free. It keeps
  * no pointer that it is passed: bytes are the caller's again once a call has answered, and images and
- * texts are copied into the caller's own room. A pointer to bytes may be null where their number is 0;
- * no other pointer may. No two arguments of one call share memory.
+ * texts are copied into the caller's own room, save by icysixel_take_pixels, which hands over the
+ * library's block. A pointer to bytes may be null where their number is 0; no other pointer may. No two
+ * arguments of one call share memory.
  *
  * Threads. One call at a time is made on one handle, from any thread. Different handles are free of
  * each other: the library has no state of its own. No call is made from a signal handler.
@@ -82,12 +83,23 @@ typedef struct {
     uint8_t blue;
 } icysixel_color;
 
+/* Bytes in a block that the library has handed over: it is the caller's, who frees it by
+ * rattle_dealloc(at). No block where room is 0. */
+typedef struct {
+    uint8_t *at;
+    size_t length; /* how many bytes are there */
+    size_t room;   /* how many bytes the block was asked for with, at an alignment of 1 */
+} icysixel_bytes;
+
 /* A palette, without its colors. */
 typedef struct {
     size_t colors;    /* entries: at most as many as were asked for */
     size_t witnesses; /* entries and one more color, or 0 where the entries are all shown colors */
     uint32_t error;   /* the greatest squared distance of a shown color to its nearest entry */
 } icysixel_palette;
+
+/* Frees a block that the library had or has handed over: one of the three calls for memory. */
+void rattle_dealloc(uint8_t *block);
 
 /* Answers. */
 enum {
@@ -194,6 +206,11 @@ uint32_t icysixel_decode_payload(icysixel *handle, const uint8_t *bytes, size_t 
  * refusal leaves the room as it was, and the image where it is. It takes no memory. */
 uint32_t icysixel_pixels(icysixel *handle, uint8_t *room, size_t length, size_t stride,
                          size_t *wanted);
+
+/* Hands over the pixels of the image that is kept, row by row with stride 0, in the block in which they
+ * lie: nothing is copied, and the image is kept no more. ICYSIXEL_NO_IMAGE where none is. It takes no
+ * memory, and does not free what `pixels` held before. */
+uint32_t icysixel_take_pixels(icysixel *handle, icysixel_bytes *pixels);
 
 /* Frees the image and the text that are kept, if any are. */
 uint32_t icysixel_drop(icysixel *handle);

@@ -1,4 +1,5 @@
 pub mod AsBox
+pub mod AsBytes
 pub mod Dense
 pub mod Spread
 pub mod Witnesses

@@ -1,2 +1,3 @@
 -- Words that hold inside the code alone.
+pub mod Bytes
 pub mod Handle

@@ -14,6 +14,7 @@ ghost use Rattle.icysixel_c.specs.Rows.{AreGapsKept, bytes_of, rows_of, stride_o
 ghost use Rattle.icysixel_c.specs.Shape.{shape_of};
 ghost use Rattle.icysixel_c.specs.declared.state.State.{State};
 
+use crate::bytes::Bytes;
 use crate::code::{BAD_STRIDE, DONE, NO_HANDLE, NO_IMAGE, NO_SESSION, SMALL_ROOM, code_of};
 use crate::rows::{spread, stride_of, wanted};
 use crate::shape::Shape;
@@ -188,6 +189,42 @@ fn copied(image: &SixelImage, room: &mut [u8], stride: usize, bytes: &mut usize)
         return SMALL_ROOM;
     }
     spread(room, &image.pixels, stride, wide, image.height);
+    DONE
+}
+
+/// Hands over the pixels of the image that is kept, in the memory in which they lie.
+#[unsafe(no_mangle)]
+pub extern "C" fn icysixel_take_pixels(alloc: Global, slot: &mut Slot, bytes: &mut Bytes) -> u32
+    ensures held { is_some slot.new.handle.state ≡ is_some slot.old.handle.state }
+    ensures none { slot.old.handle.state ≡ None → result ≡ 1 }
+    ensures no_image { (before : State) → slot.old.handle.state ≡ Some before
+        → kept_image before ≡ None → result ≡ 4 }
+    ensures done { (before : State) (image : Image) → slot.old.handle.state ≡ Some before
+        → kept_image before ≡ Some image → result ≡ 0 }
+    ensures pixels { (before : State) (image : Image) → slot.old.handle.state ≡ Some before
+        → kept_image before ≡ Some image → bytes.new.items ≡ image.pixels }
+    ensures length { (before : State) (image : Image) → slot.old.handle.state ≡ Some before
+        → kept_image before ≡ Some image → bytes.new.len ≡ 4 * (image.width * image.height) }
+    ensures room { bytes.new.len ≤ bytes.new.room }
+    ensures unwritten { result ≢ 0 → bytes.new ≡ bytes.old }
+    ensures taken { (after : State) → slot.new.handle.state ≡ Some after → after.image ≡ None }
+    ensures same { result ≢ 0 → slot.new.handle.state ≡ slot.old.handle.state }
+    ensures decoder { (before after : State) → slot.old.handle.state ≡ Some before
+        → slot.new.handle.state ≡ Some after → after.receiver ≡ before.receiver }
+    ensures text { (before after : State) → slot.old.handle.state ≡ Some before
+        → slot.new.handle.state ≡ Some after → after.text ≡ before.text }
+{
+    let Some(mut state) = slot.take(alloc) else {
+        return NO_HANDLE;
+    };
+    if state.image.is_none() {
+        slot.put(state);
+        return NO_IMAGE;
+    }
+    if let Some(image) = state.image.take() {
+        *bytes = Bytes::of(alloc, image.pixels);
+    }
+    slot.put(state);
     DONE
 }
 

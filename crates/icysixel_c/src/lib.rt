@@ -4,6 +4,7 @@
 //! so that each call on it has an answer, also after it was freed.
 #![tactic(auto)]
 
+mod bytes;
 mod code;
 mod handle;
 pub mod images;

@@ -128,11 +128,7 @@ impl SixelReceiver {
     /// Those of the sessions, and where none is open that of [`feed`](Self::feed). A refusal closes
     /// the image too, and leaves the decoder as it was.
     pub fn finish(&mut self) -> Result<SixelImage> {
-        let handle = self.decoder.handle();
-        let answer = match self.open {
-            Open::ControlString => handle.finish_string(),
-            Open::Payload | Open::Nothing => handle.finish_payload(),
-        };
+        let answer = self.decoder.handle().finish();
         self.abort();
         answer
     }

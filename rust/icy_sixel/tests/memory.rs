@@ -25,15 +25,16 @@ static COUNTING: Counting = Counting;
 thread_local! {
     /// How many requests are granted before one is refused; none is where it is negative.
     static GRANTED: Cell<i64> = const { Cell::new(-1) };
-    /// Requests that were made while they were counted.
+    /// The requests that are counted, for at least so many bytes, and how many there were.
+    static LEAST: Cell<usize> = const { Cell::new(0) };
     static REQUESTS: Cell<u64> = const { Cell::new(0) };
     /// Bytes that are held.
     static HELD: Cell<i64> = const { Cell::new(0) };
 }
 
-/// Whether the next request is refused.
-fn is_refused() -> bool {
-    REQUESTS.set(REQUESTS.get() + 1);
+/// Whether the next request is refused, which is one for so many bytes.
+fn is_refused(size: usize) -> bool {
+    REQUESTS.set(REQUESTS.get() + u64::from(size >= LEAST.get()));
     let granted = GRANTED.get();
     GRANTED.set(granted - i64::from(granted >= 0));
     granted == 0
@@ -42,7 +43,7 @@ fn is_refused() -> bool {
 // SAFETY: each call is handed on to the system's allocator as it is, or refused, as any may be.
 unsafe impl GlobalAlloc for Counting {
     unsafe fn alloc(&self, layout: Layout) -> *mut u8 {
-        if is_refused() {
+        if is_refused(layout.size()) {
             return null_mut();
         }
         HELD.set(HELD.get() + layout.size() as i64);
@@ -51,7 +52,7 @@ unsafe impl GlobalAlloc for Counting {
     }
 
     unsafe fn realloc(&self, start: *mut u8, layout: Layout, size: usize) -> *mut u8 {
-        if is_refused() {
+        if is_refused(size) {
             return null_mut();
         }
         HELD.set(HELD.get() + size as i64 - layout.size() as i64);
@@ -177,7 +178,7 @@ fn finishing() {
         if !met {
             assert_eq!(answer.unwrap().dimensions(), (50, 50));
             assert_eq!(decoder.register(42), [255, 0, 0]);
-            assert!(place > 1);
+            assert_eq!(place, 1);
             return;
         }
         assert_eq!(answer, Err(SixelError::OutOfMemory));
@@ -283,17 +284,68 @@ fn what_ends_is_freed() {
     drop(decoder);
 }
 
-/// The image's pixels are the caller's from the start: a finish makes two large requests, the
-/// library's for the image that it packs and the one for the vector that the caller gets, and both
-/// are had at their full size.
-#[test]
-fn no_vector_grows() {
-    let bytes = b"\x1bPq\"1;1;512;512~\x1b\\";
-    let mut decoder = SixelDecoder::new();
-    let mut session = decoder.begin_dcs();
-    assert!(session.feed(bytes).is_ok());
+/// How many requests a call makes for at least as many bytes as the pixels have of the image that it
+/// gives, whose size is this one; the image is freed as any `Vec` is.
+#[track_caller]
+fn blocks_for_pixels((width, height): (usize, usize), call: impl FnOnce() -> SixelImage) -> u64 {
+    LEAST.set(4 * width * height);
     REQUESTS.set(0);
-    let image = session.finish().unwrap();
-    assert_eq!(image.pixels.capacity(), 4 * 512 * 512);
-    assert!(REQUESTS.get() <= 2, "{} requests", REQUESTS.get());
+    let image = call();
+    LEAST.set(0);
+    assert_eq!(image.dimensions(), (width, height));
+    assert_eq!(image.pixels.len(), 4 * width * height);
+    let held_by_image = image.pixels.capacity() as i64;
+    let with_image = HELD.get();
+    drop(image);
+    assert_eq!(HELD.get(), with_image - held_by_image);
+    REQUESTS.get()
+}
+
+/// The image is packed into the vector that the caller gets: one block is had for its pixels.
+#[test]
+fn the_pixels_are_one_block() {
+    let default = DcsSettings::default();
+    for (width, height) in [(100, 102), (512, 510), (60_000, 6)] {
+        let size = (width, height);
+        let bands = format!("!{width}~-").repeat(height / 6 - 1);
+        let payload = format!("#1{bands}!{width}~");
+        let payload = payload.as_bytes();
+        let string = [b"\x1bP9;1q", payload, b"\x1b\\"].concat();
+        let mut decoder = SixelDecoder::new();
+        let mut receiver = SixelReceiver::new();
+        assert_eq!(blocks_for_pixels(size, || SixelImage::decode(&string).unwrap()), 1);
+        assert_eq!(blocks_for_pixels(size, || decoder.decode(&string).unwrap()), 1);
+        let decode = || SixelImage::decode_from_dcs(payload, default).unwrap();
+        assert_eq!(blocks_for_pixels(size, decode), 1);
+
+        let mut session = decoder.begin_frame(default).unwrap();
+        assert!(session.feed(payload).is_ok());
+        assert_eq!(blocks_for_pixels(size, || session.finish().unwrap()), 1);
+        receiver.begin_dcs();
+        assert!(receiver.feed(&string).is_ok());
+        assert_eq!(blocks_for_pixels(size, || receiver.finish().unwrap()), 1);
+    }
+}
+
+/// An image of few rows that are cropped from more may be smaller than one row's room: then it is
+/// copied where it is decoded at once, and still not where it comes in pieces.
+#[test]
+fn a_cropped_row() {
+    let string = b"\x1bP9;1q\"1;1;1000;1#1!1000~\x1b\\";
+    let mut decoder = SixelDecoder::new();
+    decoder.set_raster_crop(true);
+    let expected = decoder.decode(string).unwrap();
+    assert_eq!(expected.dimensions(), (1000, 1));
+    assert_eq!(expected.pixels, [51, 51, 204, 255].repeat(1000));
+    let mut session = decoder.begin_dcs();
+    assert!(session.feed(string).is_ok());
+    REQUESTS.set(0);
+    assert_eq!(session.finish(), Ok(expected));
+    assert_eq!(REQUESTS.get(), 1);
+    refuse_each(
+        "decode",
+        || decoder.try_clone().unwrap(),
+        |decoder| decoder.decode(string),
+        is_unchanged,
+    );
 }

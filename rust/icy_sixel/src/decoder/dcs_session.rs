@@ -80,7 +80,7 @@ impl<'a> SixelDcsStreamDecoder<'a> {
     /// `incomplete SIXEL DCS sequence`, and after a refused feed; `OutOfMemory`. The decoder is
     /// then as it was.
     pub fn finish(self) -> Result<SixelImage> {
-        self.owner.handle().finish_string()
+        self.owner.handle().finish()
     }
 
     /// Ends the session, and changes nothing, as dropping it does.

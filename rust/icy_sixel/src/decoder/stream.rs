@@ -64,7 +64,7 @@ impl<'a> SixelStreamDecoder<'a> {
     ///
     /// Those of [`feed`](Self::feed), and `OutOfMemory`; the decoder is then as it was.
     pub fn finish(self) -> Result<SixelImage> {
-        self.owner.handle().finish_payload()
+        self.owner.handle().finish()
     }
 
     /// As [`finish`](Self::finish), with the number of pixels that were copied or filled for the

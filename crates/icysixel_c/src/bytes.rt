@@ -1,0 +1,55 @@
+//! Bytes in memory that the library hands over.
+
+ghost use Rattle.std.specs.Prelude.{◌≡◌, ◌≤◌, ℕ, List, length};
+ghost use Rattle.std.specs.Mem.{manually_drop_value};
+ghost use Rattle.icysixel_c.specs.inside.Bytes.{bytes_own};
+
+mod measured;
+
+use measured::Measured;
+use std::alloc::Global;
+use std::marker::Model;
+
+/// A block of so much room with so many bytes at its start, and the right to both; without room
+/// there is no block.
+#[repr(C)]
+#[derive(Drop)]
+pub struct Bytes {
+    at: *mut u8,
+    pub len: usize,
+    pub room: usize,
+    alloc: Global,
+    pub ghost items: { List ℕ },
+    ghost fit: { (len ≡ length items) × (len ≤ room) },
+}
+
+impl Model for Bytes {
+    ghost also_owns = { λ b. bytes_own b.alloc b.at b.len b.room b.items };
+}
+
+impl Bytes {
+    /// The block of a vector.
+    pub fn of(alloc: Global, bytes: Vec<u8>) -> Bytes
+        ensures { result.items ≡ bytes.items }
+    {
+        Bytes::of_measured(Measured::of(alloc, bytes))
+    }
+
+    fn of_measured(measured: Measured) -> Bytes
+        ensures { result.items ≡ (manually_drop_value measured.bytes).items }
+    {
+        let Measured {
+            at,
+            len,
+            room,
+            alloc,
+            bytes: _,
+        } = measured;
+        Bytes {
+            at,
+            len,
+            room,
+            alloc,
+        }
+    }
+}
