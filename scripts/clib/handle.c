@@ -100,8 +100,12 @@ static void handed_over(icysixel *h)
     WANT(icysixel_take_pixels(h, &second) == ICYSIXEL_DONE && second.length == 120 && second.at != first.at);
     WANT(icysixel_drop(h) == ICYSIXEL_DONE && is_red(first.at, 72));
     memset(first.at, 7, first.room);
-    rattle_dealloc(first.at);
-    rattle_dealloc(second.at);
+    for (int again = 0; again < 2; again++) {
+        icysixel_free_bytes(&first);
+        WANT(first.at == NULL && first.length == 0 && first.room == 0 && second.length == 120);
+    }
+    icysixel_free(h);
+    icysixel_free_bytes(&second);
 }
 
 static void refusals(icysixel *h)

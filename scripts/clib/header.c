@@ -17,6 +17,7 @@ uint32_t (*const decoded_payload)(icysixel *, const uint8_t *, size_t, int32_t, 
     icysixel_decode_payload;
 uint32_t (*const pixels)(icysixel *, uint8_t *, size_t, size_t, size_t *) = icysixel_pixels;
 uint32_t (*const took_pixels)(icysixel *, icysixel_bytes *) = icysixel_take_pixels;
+void (*const freed_bytes)(icysixel_bytes *) = icysixel_free_bytes;
 uint32_t (*const dropped)(icysixel *) = icysixel_drop;
 uint32_t (*const color)(icysixel *, uint8_t, icysixel_color *) = icysixel_register;
 uint32_t (*const set_color)(icysixel *, uint8_t, uint8_t, uint8_t, uint8_t) = icysixel_set_register;

@@ -89,7 +89,12 @@ static bool work(icysixel *h)
         WANT(icysixel_pixels(h, NULL, 0, 0, &wanted) == ICYSIXEL_NO_IMAGE);
         return false;
     }
-    WANT(icysixel_pixels(h, again, sizeof again, 0, &wanted) == ICYSIXEL_DONE && !memcmp(pixels, again, sizeof again));
+    icysixel_bytes taken = {0};
+    long asked = met;
+    WANT(icysixel_take_pixels(h, &taken) == ICYSIXEL_DONE && taken.length == sizeof pixels);
+    WANT(!memcmp(pixels, taken.at, sizeof pixels));
+    icysixel_free_bytes(&taken);
+    WANT(met == asked && taken.room == 0);
     if (!done(icysixel_encode(h, pixels, sizeof pixels, 160, 40, 18, 0, 1, 256, &bytes))) {
         WANT(icysixel_take_text(h, room, sizeof room, &wanted) == ICYSIXEL_NO_TEXT);
         return false;

@@ -83,8 +83,7 @@ typedef struct {
     uint8_t blue;
 } icysixel_color;
 
-/* Bytes in a block that the library has handed over: it is the caller's, who frees it by
- * rattle_dealloc(at). No block where room is 0. */
+/* Bytes in a block that the library has handed over, which is the caller's; zeros are no block. */
 typedef struct {
     uint8_t *at;
     size_t length; /* how many bytes are there */
@@ -97,9 +96,6 @@ typedef struct {
     size_t witnesses; /* entries and one more color, or 0 where the entries are all shown colors */
     uint32_t error;   /* the greatest squared distance of a shown color to its nearest entry */
 } icysixel_palette;
-
-/* Frees a block that the library had or has handed over: one of the three calls for memory. */
-void rattle_dealloc(uint8_t *block);
 
 /* Answers. */
 enum {
@@ -209,8 +205,13 @@ uint32_t icysixel_pixels(icysixel *handle, uint8_t *room, size_t length, size_t 
 
 /* Hands over the pixels of the image that is kept, row by row with stride 0, in the block in which they
  * lie: nothing is copied, and the image is kept no more. ICYSIXEL_NO_IMAGE where none is. It takes no
- * memory, and does not free what `pixels` held before. */
+ * memory, and does not free what `pixels` held before. The block is freed by icysixel_free_bytes, whatever
+ * became of the handle; a program that brings the calls for memory may make it one of its own instead. */
 uint32_t icysixel_take_pixels(icysixel *handle, icysixel_bytes *pixels);
+
+/* Frees the block, if there is one, and leaves none. The caller may have written to its bytes, and to no
+ * member. */
+void icysixel_free_bytes(icysixel_bytes *bytes);
 
 /* Frees the image and the text that are kept, if any are. */
 uint32_t icysixel_drop(icysixel *handle);

@@ -1,14 +1,15 @@
 //! Bytes in memory that the library hands over.
 
-ghost use Rattle.std.specs.Prelude.{◌≡◌, ◌≤◌, ℕ, List, length};
+ghost use Rattle.std.specs.Prelude.{◌≡◌, ◌≤◌, ℕ, List, [], length};
 ghost use Rattle.std.specs.Mem.{manually_drop_value};
 ghost use Rattle.icysixel_c.specs.inside.Bytes.{bytes_own};
 
 mod measured;
 
 use measured::Measured;
-use std::alloc::Global;
+use std::alloc::{Allocator, Global};
 use std::marker::Model;
+use std::ptr::null_mut;
 
 /// A block of so much room with so many bytes at its start, and the right to both; without room
 /// there is no block.
@@ -28,6 +29,19 @@ impl Model for Bytes {
 }
 
 impl Bytes {
+    /// No block.
+    pub fn none(alloc: Global) -> Bytes
+        ensures { (result.items ≡ []) × (result.room ≡ 0) }
+    {
+        let at = null_mut();
+        Bytes {
+            at,
+            len: 0,
+            room: 0,
+            alloc,
+        }
+    }
+
     /// The block of a vector.
     pub fn of(alloc: Global, bytes: Vec<u8>) -> Bytes
         ensures { result.items ≡ bytes.items }
@@ -50,6 +64,19 @@ impl Bytes {
             len,
             room,
             alloc,
+        }
+    }
+
+    /// Frees the block, if there is one.
+    pub fn free(self, alloc: &Global) {
+        let Bytes {
+            at,
+            len: _,
+            room,
+            alloc: _,
+        } = self;
+        if room != 0 {
+            unsafe { alloc.deallocate(at, room, 1) };
         }
     }
 }

@@ -1,7 +1,7 @@
 //! What C calls to finish an image and to take its pixels.
 
 ghost use Rattle.std.specs.Prelude.{◌≡◌, ◌≢◌, ◌*◌, ◌<◌, ◌≤◌, ℕ, Some, None, is_some, true, false};
-ghost use Rattle.std.specs.Prelude.{length, drop};
+ghost use Rattle.std.specs.Prelude.{[], length, drop};
 ghost use Rattle.sixel_base.specs.Decoder.{IsSetAs};
 ghost use Rattle.sixel_base.specs.Payload.{Image};
 ghost use Rattle.sixel_base.specs.OneShot.{IsFoundImage, AreFoundRegisters};
@@ -21,6 +21,7 @@ use crate::shape::Shape;
 use crate::slot::Slot;
 use icy_sixel::SixelImage;
 use std::alloc::Global;
+use std::mem;
 
 /// Closes the image, keeps it in place of the one before, and tells its shape where the answer is
 /// 0.
@@ -226,6 +227,16 @@ pub extern "C" fn icysixel_take_pixels(alloc: Global, slot: &mut Slot, bytes: &m
     }
     slot.put(state);
     DONE
+}
+
+/// Frees a block that was handed over, if there is one.
+#[unsafe(no_mangle)]
+pub extern "C" fn icysixel_free_bytes(alloc: Global, bytes: &mut Bytes)
+    ensures bytes { bytes.new.items ≡ [] }
+    ensures room { bytes.new.room ≡ 0 }
+{
+    let none = Bytes::none(alloc);
+    mem::replace(bytes, none).free(&alloc);
 }
 
 /// Frees the image and the text that are kept, if any are.

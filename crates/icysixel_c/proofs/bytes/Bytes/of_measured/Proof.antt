@@ -2,9 +2,7 @@
 use Rattle.std.proofs.Common.{arith}
 use mathlib.Core.Path.{refl, sym, subst, ap, ◌∙◌}
 use mathlib.Core.List.{List, [], ◌∷◌, ◌++◌}
-use mathlib.Core.Bool.{Bool, true, false, ◌&&◌}
 use Prim.Native.Nat.{ℕ, ◌^◌}
-use lib.Dec.{T}
 use seplogic.Ra.Ura.{Ura}
 use mir.Syntax.{w64}
 use mir.Val.{Val, vint, vptr, vstruct, of_list, has_ty}
@@ -37,7 +35,7 @@ use Rattle.std_alloc.proofs.VecSteps.El.{el_d, handle, vec_val, vec_typed}
 use Rattle.std_alloc.proofs.VecSteps.Opens.{Blk, vec_had}
 use Rattle.std_alloc.proofs.ResultValues.{and_tt}
 use Rattle.std_heap.specs.contracts.Global as Heap
-use Rattle.icysixel_c.proofs.AsBytes.{E}
+use Rattle.icysixel_c.proofs.AsBytes.{E, both}
 use Rattle.icysixel_c.specs.contracts.bytes.measured.Measured as Measured
 use Rattle.icysixel_c.specs.contracts.bytes.Bytes as Bytes
 use Rattle.icysixel_c.specs.contracts.bytes.Bytes.of_measured as F
@@ -50,10 +48,6 @@ From = plain (λ _. Measured.the_row)
 
 abbrev stayed : Stays (F.ended).signature.params (F.ended).kept
 stayed = (stay_dropped From yes, tt)
-
-both : (y z : Bool) → T y → T z → T (y && z)
-both true z s t = t
-both false z s t = absurd s
 
 module _ {M : Type 1} {𝓤 : Ura M} (𝓛 : Logic 𝓤) (at_mem : Memory → SProp 𝓤) (run : Routine → Fun 𝓤) (𝓣 : Tables 𝓤 𝓛.H) where
   open 𝓛 use {H}
