@@ -6,17 +6,16 @@
 #include "timing.h"
 #include "want.h"
 
-/* Decodes the bytes in each turn, and gives the pixels, for the caller to free. */
-static uint8_t *decode(icysixel *decoder, const uint8_t *bytes, size_t length, icysixel_shape *shape, double *times, size_t turns)
+/* Decodes the bytes in each turn, and gives the pixels of the last, for the caller to free. */
+static icysixel_bytes decode(icysixel *decoder, const uint8_t *bytes, size_t length, icysixel_shape *shape, double *times,
+                             size_t turns)
 {
-    size_t wanted;
-    want(icysixel_decode(decoder, bytes, length, shape));
-    uint8_t *pixels = malloc(shape->bytes);
-    if (pixels == NULL) want(ICYSIXEL_OUT_OF_MEMORY);
+    icysixel_bytes pixels = {0};
     for (size_t turn = 0; turn < turns; turn++) {
         double begun = now();
+        icysixel_free_bytes(&pixels);
         want(icysixel_decode(decoder, bytes, length, shape));
-        want(icysixel_pixels(decoder, pixels, shape->bytes, 0, &wanted));
+        want(icysixel_take_pixels(decoder, &pixels));
         times[turn] = now() - begun;
     }
     report("decode", times, turns, shape->width * shape->height, length);
@@ -47,10 +46,11 @@ int main(int argc, char **argv)
     if (bytes == NULL || times == NULL) return fputs("usage: speed FILE TURNS [COLORS]\n", stderr), 2;
     icysixel handle = {0};
     want(icysixel_new(&handle));
-    uint8_t *pixels = is_raw ? bytes : decode(&handle, bytes, length, &shape, times, turns);
-    encode(&handle, pixels, is_raw ? length : shape.bytes, &shape, colors, times, turns);
+    icysixel_bytes decoded = {0};
+    if (!is_raw) decoded = decode(&handle, bytes, length, &shape, times, turns);
+    encode(&handle, is_raw ? bytes : decoded.at, is_raw ? length : decoded.length, &shape, colors, times, turns);
+    icysixel_free_bytes(&decoded);
     icysixel_free(&handle);
-    if (!is_raw) free(pixels);
     free(times);
     free(bytes);
     return 0;

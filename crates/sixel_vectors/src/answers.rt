@@ -59,6 +59,14 @@ pub fn repeated(
     Ok(bytes)
 }
 
+/// The next of some numbers without a pattern.
+pub fn next(seed: &mut u64) -> usize {
+    *seed = seed
+        .wrapping_mul(6364136223846793005)
+        .wrapping_add(1442695040888963407);
+    (*seed >> 40) as usize
+}
+
 /// What a new decoder makes of a payload.
 pub fn decoded(alloc: Global, payload: &[u8], settings: DcsSettings) -> Result<SixelImage> {
     SixelDecoder::new().decode_from_dcs(alloc, payload, settings)

@@ -2,7 +2,7 @@
 
 ghost use Rattle.std.specs.Prelude.{◌≤◌};
 
-use crate::answers::{BLACK, RED};
+use crate::answers::{BLACK, RED, next};
 use icy_sixel::canvas::{Row, fill_rgba_span};
 use sixel_canvas::Canvas;
 use std::process::Abort;
@@ -151,14 +151,6 @@ fn empty_canvas_is_background(rt: HostRuntime) -> Result<(), Fail> {
 const PLAIN_WIDTH: usize = 2000;
 
 const PLAIN_HEIGHT: usize = 12;
-
-/// The next of some numbers without a pattern.
-fn next(seed: &mut u64) -> usize {
-    *seed = seed
-        .wrapping_mul(6364136223846793005)
-        .wrapping_add(1442695040888963407);
-    (*seed >> 40) as usize
-}
 
 /// A stroke's columns: from the first up to before the second.
 fn columns(seed: &mut u64, longest: usize) -> (usize, usize)

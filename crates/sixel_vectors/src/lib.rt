@@ -60,4 +60,6 @@ mod steps;
 #[cfg(test)]
 mod unfinished;
 #[cfg(test)]
+mod wide_strokes;
+#[cfg(test)]
 mod work;

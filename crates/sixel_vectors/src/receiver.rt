@@ -45,6 +45,7 @@ fn assert_idle(rt: &impl Abort, receiver: &mut SixelReceiver) {
     assert!(rt; !receiver.in_payload());
     assert_eq!(rt; receiver.size_so_far(), None);
     assert_eq!(rt; receiver.canvas_writes(), 0);
+    assert_eq!(rt; receiver.canvas_paints(), 0);
     assert_eq!(rt; receiver.feed(b"~").err(), failed);
     assert_refused(rt, "nothing open", receiver.finish(), FAILED);
 }

@@ -23,6 +23,12 @@ fn columns(count: u32) -> Bounds {
     (6 * u64::from(count), 18 * u64::from(count))
 }
 
+/// Asserts that what painting wrote is within its bound, by the area that is reached and by sixels.
+fn assert_painted(rt: &impl Abort, name: &str, paints: u64, (area, sixels): (u32, u32)) {
+    let most = 3 * u64::from(area) + 4614 * u64::from(sixels);
+    assert!(rt; 0 < paints && paints <= most, "{paints} paints of {name}");
+}
+
 /// Finishes, and asserts that the count is the canvas's own and the image's pixels.
 fn counted(rt: &impl Abort, session: SixelStreamDecoder<'_>) -> Result<(SixelImage, u64)> {
     let drawn = session.canvas_writes();
@@ -69,6 +75,7 @@ fn follow_columns(
         session.feed(b"~")?;
         assert_within(rt, "columns", session.canvas_writes(), columns(column));
     }
+    assert_painted(rt, "columns", session.canvas_paints(), (12000, 2000));
     Ok(())
 }
 
@@ -100,6 +107,30 @@ fn a_line_that_is_drawn_over(rt: HostRuntime) {
     let outcome = drawn(&rt, &mut SixelDecoder::new(), &payload, bounds);
     let (image, _) = outcome.expect(&rt, "a line");
     assert_eq!(rt; image.dimensions(), (65535, 6));
+}
+
+/// Feeds wide sixels that go over one another, in pieces of so many bytes, and asserts the bound of
+/// what painting wrote: without tags of blocks it would be 393210 pixels each.
+fn paint_over(rt: &(impl Abort + AllocGlobal), payload: &[u8], length: usize) -> Result<()>
+    requires { 0 < length }
+{
+    let mut decoder = SixelDecoder::new();
+    let mut session = decoder.begin_frame(rt.alloc(), DcsSettings::default())?;
+    assert_eq!(rt; session.canvas_paints(), 0);
+    for piece in payload.chunks(length) {
+        session.feed(piece)?;
+    }
+    assert_painted(rt, "wide sixels", session.canvas_paints(), (393210, 200));
+    session.abort();
+    Ok(())
+}
+
+#[test]
+fn painting_over_a_line(rt: HostRuntime) {
+    let payload = repeated(rt.alloc(), "!65535~$", 200).expect(&rt, "a payload");
+    for length in [1, 7, 4096] {
+        assert!(rt; paint_over(&rt, &payload, length).is_ok());
+    }
 }
 
 #[test]
