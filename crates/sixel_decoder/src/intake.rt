@@ -127,10 +127,10 @@ impl Intake {
             + 4614 * sixels (settled self.now.bytes) }
         ensures refused { self.now.is_refused ≡ true → result ≡ 0 }
     {
-        match &self.frame {
-            Some(frame) => frame.paints(),
-            None => 0,
-        }
+        let Some(frame) = &self.frame else {
+            return 0;
+        };
+        frame.paints()
     }
 
     /// The width and the height of what was fed, unless it was refused.

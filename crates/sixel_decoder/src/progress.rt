@@ -121,10 +121,10 @@ impl Progress {
             + 4614 * dcs_sixels self.now.bytes }
         ensures refused { self.now.is_refused ≡ true → result ≡ 0 }
     {
-        match &self.phase {
-            Phase::Payload(intake) => intake.paints(),
-            Phase::Start | Phase::Escape | Phase::Header(_) | Phase::Refused => 0,
-        }
+        let Phase::Payload(intake) = &self.phase else {
+            return 0;
+        };
+        intake.paints()
     }
 
     /// Whether the payload has begun, unless it was refused.
