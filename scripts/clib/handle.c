@@ -35,6 +35,7 @@ static void on_nothing(icysixel *h)
     WANT(icysixel_abort(h) == ICYSIXEL_NO_HANDLE && icysixel_reset(h) == ICYSIXEL_NO_HANDLE);
     WANT(icysixel_drop(h) == ICYSIXEL_NO_HANDLE);
     WANT(icysixel_is_receiving(h) == 0 && icysixel_in_payload(h) == 0 && icysixel_canvas_writes(h) == 0);
+    WANT(icysixel_canvas_paints(h) == 0);
     WANT(icysixel_size_so_far(h, &size) == ICYSIXEL_NO_HANDLE && size.width == 7 && size.height == 7);
     WANT(icysixel_decode(h, BYTES(red), &shape) == ICYSIXEL_NO_HANDLE && shape.height == 7);
     WANT(icysixel_decode_payload(h, BYTES("~"), 9, 1, -1, &shape) == ICYSIXEL_NO_HANDLE && shape.bytes == 7);
@@ -66,6 +67,7 @@ static void in_pieces(icysixel *h, size_t cut)
     } while (fed.status == ICYSIXEL_MORE);
     WANT(fed.status == ICYSIXEL_COMPLETE && fed.byte == 0 && at == end - 4);
     WANT(icysixel_in_payload(h) == 1 && icysixel_canvas_writes(h) >= 72 && icysixel_canvas_writes(h) <= 3 * 72);
+    WANT(icysixel_canvas_paints(h) >= 72 && icysixel_canvas_paints(h) <= 3 * 72 + 4614);
     WANT(icysixel_size_so_far(h, &size) == ICYSIXEL_DONE && size.width == 12 && size.height == 6);
     WANT(icysixel_finish(h, &shape) == ICYSIXEL_DONE && icysixel_is_receiving(h) == 0);
     WANT(shape.width == 12 && shape.height == 6 && shape.bytes == 288);

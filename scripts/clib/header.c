@@ -10,6 +10,7 @@ uint8_t (*const is_receiving)(icysixel *) = icysixel_is_receiving;
 uint8_t (*const in_payload)(icysixel *) = icysixel_in_payload;
 uint32_t (*const size_so_far)(icysixel *, icysixel_size *) = icysixel_size_so_far;
 uint64_t (*const canvas_writes)(icysixel *) = icysixel_canvas_writes;
+uint64_t (*const canvas_paints)(icysixel *) = icysixel_canvas_paints;
 uint32_t (*const finished)(icysixel *, icysixel_shape *) = icysixel_finish;
 uint32_t (*const aborted)(icysixel *) = icysixel_abort;
 uint32_t (*const decoded)(icysixel *, const uint8_t *, size_t, icysixel_shape *) = icysixel_decode;

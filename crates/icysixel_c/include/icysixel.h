@@ -174,6 +174,10 @@ uint32_t icysixel_size_so_far(icysixel *handle, icysixel_size *size);
  * none is, and after a refusal. At most three times the area that its sixels reach. */
 uint64_t icysixel_canvas_writes(icysixel *handle);
 
+/* How many pixels sixels of the image that is open have painted so far, at most; 0 where none is, and
+ * after a refusal. At most three times the area that its sixels reach, and 4614 for each sixel. */
+uint64_t icysixel_canvas_paints(icysixel *handle);
+
 /* Closes the image that is open, keeps it in place of the one that was kept before, and tells its shape.
  * The decoder then has the registers that the image left. It is refused as icysixel_feed is, and with
  * ICYSIXEL_MISSING_COMMAND or ICYSIXEL_INCOMPLETE where a control string has not ended; a payload may

@@ -1,7 +1,7 @@
 //! What C calls to ask how far the image has come that is open.
 
-ghost use Rattle.std.specs.Prelude.{◌≡◌, ◌≢◌, ◌*◌, ◌≤◌, Some, None, ℕ, true, false, cond};
-ghost use Rattle.icy_sixel.specs.Receiver.{in_payload, is_open, reached_area};
+ghost use Rattle.std.specs.Prelude.{◌≡◌, ◌≢◌, ◌+◌, ◌*◌, ◌≤◌, Some, None, ℕ, true, false, cond};
+ghost use Rattle.icy_sixel.specs.Receiver.{in_payload, is_open, reached_area, sixels};
 ghost use Rattle.icy_sixel.specs.Receiver.{size as size_of};
 ghost use Rattle.icysixel_c.specs.declared.state.State.{State};
 
@@ -69,6 +69,25 @@ pub extern "C" fn icysixel_canvas_writes(alloc: Global, slot: &mut Slot) -> u64
     let writes = state.receiver.canvas_writes();
     slot.put(state);
     writes
+}
+
+/// How many pixels sixels of the image that is open have painted so far, at most: 0 where no image is.
+#[unsafe(no_mangle)]
+pub extern "C" fn icysixel_canvas_paints(alloc: Global, slot: &mut Slot) -> u64
+    ensures same { slot.new.handle.state ≡ slot.old.handle.state }
+    ensures none { slot.old.handle.state ≡ None → result ≡ 0 }
+    ensures value { (state : State) → slot.old.handle.state ≡ Some state
+        → result ≡ state.receiver.image.paints }
+    ensures at_most { (state : State) → slot.old.handle.state ≡ Some state
+        → result ≤ 3 * reached_area state.receiver.image.form state.receiver.image.bytes
+        + 4614 * sixels state.receiver.image.form state.receiver.image.bytes }
+{
+    let Some(state) = slot.take(alloc) else {
+        return 0;
+    };
+    let paints = state.receiver.canvas_paints();
+    slot.put(state);
+    paints
 }
 
 /// Tells the sizes that the image that is open has so far.

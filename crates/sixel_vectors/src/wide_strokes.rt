@@ -12,6 +12,7 @@ const WIDTH: usize = 2000;
 const BANDS: usize = 3;
 
 /// A text, and the pixels that it draws.
+#[derive(Drop)]
 struct Picture {
     text: Vec<u8>,
     pixels: Vec<[u8; 4]>,

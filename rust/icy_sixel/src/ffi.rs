@@ -84,6 +84,7 @@ unsafe extern "C" {
     safe fn icysixel_in_payload(handle: &mut Raw) -> u8;
     safe fn icysixel_size_so_far(handle: &mut Raw, size: &mut Size) -> u32;
     safe fn icysixel_canvas_writes(handle: &mut Raw) -> u64;
+    safe fn icysixel_canvas_paints(handle: &mut Raw) -> u64;
     safe fn icysixel_finish(handle: &mut Raw, shape: &mut Shape) -> u32;
     safe fn icysixel_take_pixels(handle: &mut Raw, pixels: &mut Bytes) -> u32;
     safe fn icysixel_abort(handle: &mut Raw) -> u32;
@@ -222,6 +223,11 @@ impl Handle {
     /// How many pixels were copied or filled so far for the image that is open.
     pub(crate) fn canvas_writes(&mut self) -> u64 {
         icysixel_canvas_writes(&mut self.0)
+    }
+
+    /// How many pixels sixels of the image that is open have painted so far, at most.
+    pub(crate) fn canvas_paints(&mut self) -> u64 {
+        icysixel_canvas_paints(&mut self.0)
     }
 
     /// Closes the image that is open, and gives its shape and its pixels.

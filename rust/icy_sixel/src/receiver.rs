@@ -146,6 +146,13 @@ impl SixelReceiver {
         self.decoder.shared().canvas_writes()
     }
 
+    /// How many pixels sixels have painted so far, at most, as of the sessions; 0 where no image is
+    /// open. It takes no memory.
+    #[must_use]
+    pub fn canvas_paints(&self) -> u64 {
+        self.decoder.shared().canvas_paints()
+    }
+
     /// Whether the payload of the image that is open has begun: at once where a payload is
     /// received, and after the header of a control string.
     ///

@@ -112,6 +112,7 @@ fn a_receiver_owns_its_decoder() {
     receiver.begin_dcs();
     assert!(receiver.feed(b"\x1bPq#3;2;100;0;0!500~").is_ok());
     assert!((3000..=9000).contains(&receiver.canvas_writes()));
+    assert!((1..=9000 + 4614).contains(&receiver.canvas_paints()));
     assert_eq!(receiver.decoder().register(3), [3, 3, 3]);
     let clone = receiver.decoder().clone();
     assert_eq!(clone.register(3), [3, 3, 3]);
@@ -152,7 +153,7 @@ fn threads_share_what_only_reads() {
             scope.spawn(|| {
                 for _ in 0..1000 {
                     assert_eq!(session.size_so_far(), Some((40, 6)));
-                    assert!(session.in_payload() && session.canvas_writes() >= 240);
+                    assert!(session.in_payload() && session.canvas_writes() >= 240 && session.canvas_paints() >= 240);
                 }
             });
         }

@@ -54,6 +54,13 @@ impl<'a> SixelDcsStreamDecoder<'a> {
         self.owner.shared().canvas_writes()
     }
 
+    /// How many pixels sixels have painted so far, at most, as of a payload session, by
+    /// [`canvas_paints`](crate::SixelStreamDecoder::canvas_paints). 0 before the payload.
+    #[must_use]
+    pub fn canvas_paints(&self) -> u64 {
+        self.owner.shared().canvas_paints()
+    }
+
     /// Whether the header is read and the payload has begun; `false` after a refusal.
     ///
     /// A string that is refused before that, as one with another command than `q`, has no SIXEL

@@ -47,6 +47,14 @@ impl<'a> SixelStreamDecoder<'a> {
         self.owner.shared().canvas_writes()
     }
 
+    /// How many pixels sixels have painted so far, at most; 0 after a refusal. It takes no memory.
+    ///
+    /// It is at most three times the area that the sixels reach, and 4614 for each sixel.
+    #[must_use]
+    pub fn canvas_paints(&self) -> u64 {
+        self.owner.shared().canvas_paints()
+    }
+
     /// The width and the height that the image has so far: of the closed sixels and raster
     /// attributes, at least 1 each. `None` after a refusal. It takes no memory.
     ///
