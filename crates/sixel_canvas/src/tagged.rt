@@ -120,6 +120,7 @@ impl TaggedCanvas {
         ensures spread { self.old.spread ≤ self.new.spread }
         ensures bounded { IsBounded self.new }
     {
+        // Looked at for its invariant, which `bounded` tells.
         let _sheet = &self.sheet;
         if bits == 0 {
             return Ok(());
