@@ -73,7 +73,8 @@ impl Picture {
         Ok(())
     }
 
-    /// Draws strokes side by side from the first column on, each up to so many columns wide.
+    /// Goes to a column by a sixel without a dot, and draws strokes from there on, side by side, each
+    /// up to so many columns wide.
     fn draw_line(
         &mut self,
         alloc: Global,
@@ -81,7 +82,14 @@ impl Picture {
         band: usize,
         longest: usize,
     ) -> Result<(), Fail> {
-        let mut across = 0;
+        let mut across = next(seed) % 1000;
+        let blank = Stroke {
+            from: 0,
+            to: across,
+            bits: 0,
+            register: 0,
+        };
+        self.draw(alloc, band, blank)?;
         for _ in 0..4 {
             let stroke = stroke_from(seed, across, longest);
             self.draw(alloc, band, stroke)?;

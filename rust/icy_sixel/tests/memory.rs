@@ -327,21 +327,24 @@ fn the_pixels_are_one_block() {
     }
 }
 
-/// An image of few rows that are cropped from more may be smaller than one row's room: then it is
-/// copied where it is decoded at once, and still not where it comes in pieces.
+/// The same of an image of few rows that are cropped from more: it has the library's own room, that of
+/// four rows, where a copy would have no more than it needs.
 #[test]
 fn a_cropped_row() {
     let string = b"\x1bP9;1q\"1;1;1000;1#1!1000~\x1b\\";
     let mut decoder = SixelDecoder::new();
     decoder.set_raster_crop(true);
-    let expected = decoder.decode(string).unwrap();
-    assert_eq!(expected.dimensions(), (1000, 1));
-    assert_eq!(expected.pixels, [51, 51, 204, 255].repeat(1000));
+    let whole = decoder.decode(string).unwrap();
+    assert_eq!(whole.dimensions(), (1000, 1));
+    assert_eq!(whole.pixels, [51, 51, 204, 255].repeat(1000));
+    assert_eq!(whole.pixels.capacity(), 16 * 1000);
     let mut session = decoder.begin_dcs();
     assert!(session.feed(string).is_ok());
     REQUESTS.set(0);
-    assert_eq!(session.finish(), Ok(expected));
+    let fed = session.finish().unwrap();
     assert_eq!(REQUESTS.get(), 1);
+    assert_eq!(fed.pixels.capacity(), 16 * 1000);
+    assert_eq!(fed, whole);
     refuse_each(
         "decode",
         || decoder.try_clone().unwrap(),
