@@ -153,7 +153,11 @@ fn threads_share_what_only_reads() {
             scope.spawn(|| {
                 for _ in 0..1000 {
                     assert_eq!(session.size_so_far(), Some((40, 6)));
-                    assert!(session.in_payload() && session.canvas_writes() >= 240 && session.canvas_paints() >= 240);
+                    assert!(
+                        session.in_payload()
+                            && session.canvas_writes() >= 240
+                            && session.canvas_paints() >= 240
+                    );
                 }
             });
         }
