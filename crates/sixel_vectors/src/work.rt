@@ -1,5 +1,7 @@
 //! How many pixels a canvas copies and fills for what a stream draws.
 
+ghost use Rattle.std.specs.Prelude.{◌<◌};
+
 use crate::answers::{MALFORMED, repeated};
 use icy_sixel::{
     DcsSettings, Result, SixelDcsStreamDecoder, SixelDecoder, SixelError, SixelImage,
