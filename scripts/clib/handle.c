@@ -67,7 +67,7 @@ static void in_pieces(icysixel *h, size_t cut)
     } while (fed.status == ICYSIXEL_MORE);
     WANT(fed.status == ICYSIXEL_COMPLETE && fed.byte == 0 && at == end - 4);
     WANT(icysixel_in_payload(h) == 1 && icysixel_canvas_writes(h) >= 72 && icysixel_canvas_writes(h) <= 3 * 72);
-    WANT(icysixel_canvas_paints(h) >= 72 && icysixel_canvas_paints(h) <= 3 * 72 + 4614);
+    WANT(icysixel_canvas_paints(h) >= 72 && icysixel_canvas_paints(h) <= 3 * 72 + 4602);
     WANT(icysixel_size_so_far(h, &size) == ICYSIXEL_DONE && size.width == 12 && size.height == 6);
     WANT(icysixel_finish(h, &shape) == ICYSIXEL_DONE && icysixel_is_receiving(h) == 0);
     WANT(shape.width == 12 && shape.height == 6 && shape.bytes == 288);

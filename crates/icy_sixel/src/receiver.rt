@@ -300,7 +300,7 @@ impl SixelReceiver {
     pub fn canvas_paints(&self) -> u64
         ensures value { result ≡ self.now.image.paints }
         ensures at_most { result ≤ 3 * reached_area self.now.image.form self.now.image.bytes
-            + 4614 * sixels self.now.image.form self.now.image.bytes }
+            + 4602 * sixels self.now.image.form self.now.image.bytes }
         ensures refused { self.now.image.is_refused ≡ true → result ≡ 0 }
     {
         match &self.open {

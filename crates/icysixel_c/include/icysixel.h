@@ -175,7 +175,7 @@ uint32_t icysixel_size_so_far(icysixel *handle, icysixel_size *size);
 uint64_t icysixel_canvas_writes(icysixel *handle);
 
 /* How many pixels sixels of the image that is open have painted so far, at most; 0 where none is, and
- * after a refusal. At most three times the area that its sixels reach, and 4614 for each sixel. */
+ * after a refusal. At most three times the area that its sixels reach, and 4602 for each sixel. */
 uint64_t icysixel_canvas_paints(icysixel *handle);
 
 /* Closes the image that is open, keeps it in place of the one that was kept before, and tells its shape.

@@ -80,7 +80,7 @@ pub extern "C" fn icysixel_canvas_paints(alloc: Global, slot: &mut Slot) -> u64
         → result ≡ state.receiver.image.paints }
     ensures at_most { (state : State) → slot.old.handle.state ≡ Some state
         → result ≤ 3 * reached_area state.receiver.image.form state.receiver.image.bytes
-        + 4614 * sixels state.receiver.image.form state.receiver.image.bytes }
+        + 4602 * sixels state.receiver.image.form state.receiver.image.bytes }
 {
     let Some(state) = slot.take(alloc) else {
         return 0;

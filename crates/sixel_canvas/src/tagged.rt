@@ -23,6 +23,13 @@ const BLOCK: usize = 128;
 /// From how many columns on a stroke may be tagged.
 const WIDE: usize = 256;
 
+/// How many pixels four sixels have.
+const FOUR_SIXELS: u64 = 24;
+
+/// How many pixels are painted where the blocks under four sixels lose their tags, at most: two
+/// blocks in each of six rows.
+const SETTLED: u64 = 1536;
+
 /// What stands where a block has no tag.
 const NO_TAG: [u8; 4] = [0; 4];
 
@@ -156,7 +163,7 @@ impl TaggedCanvas {
         ensures paints { self.new.paints ≡ counted self.old.paints 24 }
         ensures spread { self.new.spread ≡ self.old.spread }
     {
-        self.paints = self.paints.saturating_add(24);
+        self.paints = self.paints.saturating_add(FOUR_SIXELS);
         self.sheet.block(from, top, sixels, color);
     }
 
@@ -173,11 +180,11 @@ impl TaggedCanvas {
         ensures reached { (row : ℕ) → reached self.new row ≡ reached self.old row }
         ensures background { self.new.background ≡ self.old.background }
         ensures least { counted self.old.paints 24 ≤ self.new.paints }
-        ensures most { self.new.paints ≤ self.old.paints + 1572 }
+        ensures most { self.new.paints ≤ self.old.paints + 1560 }
         ensures spread { self.new.spread ≡ self.old.spread }
     {
-        let settled = if self.tags.height() > top { 1548 } else { 0 };
-        self.paints = self.paints.saturating_add(24 + settled);
+        let settled = if self.tags.height() > top { SETTLED } else { 0 };
+        self.paints = self.paints.saturating_add(FOUR_SIXELS + settled);
         clear_block(&mut self.sheet, &mut self.tags, top, from);
         self.sheet.dots(from, top, sixels, color);
     }
@@ -232,8 +239,9 @@ impl TaggedCanvas {
         self.sheet.writes()
     }
 
-    /// How many pixels strokes have painted, in rows and tags, at most; at the greatest number it
-    /// stays. Where memory for tags was refused, a stroke is counted as if it had them.
+    /// How many pixels strokes have painted and how many tags they have set, at most; at the greatest
+    /// number it stays. A tag that is taken off was counted when it was set. Where memory for tags
+    /// was refused, a stroke is counted as if it had them.
     pub fn paints(&self) -> u64
         ensures value { result ≡ self.now.paints }
         ensures bounded { IsBounded self.now }
@@ -393,7 +401,7 @@ fn price(
     ensures most { is_tag color ≡ true
         → result.1 ≡ ends_and_tags columns + (band.new.spread - band.old.spread) }
 {
-    let ends_and_tags = 6 * (columns / BLOCK + 258);
+    let ends_and_tags = 6 * (columns / BLOCK + 2 * BLOCK);
     if color[3] == 0 {
         return (false, (ends_and_tags + 6 * columns) as u64);
     }

@@ -10,7 +10,7 @@ use Rattle.sixel_decoder.proofs.Reached.{row_reach-past, total-past}
 
 -- what painting has written on a canvas that was reached exactly as far as these tokens reach
 pub canvas_painted : (canvas : CanvasState) (h : History) → IsBounded canvas → ((row : ℕ) → reached canvas row ≡ row_reach h row)
-    → canvas.paints ≤ canvas.spread + 4614 * sixels h → canvas.paints ≤ 3 * reached_area h + 4614 * sixels h
+    → canvas.paints ≤ canvas.spread + 4602 * sixels h → canvas.paints ≤ 3 * reached_area h + 4602 * sixels h
 canvas_painted canvas h bounded same paid =
     let n = max (length canvas.rows) (height h) in
     let equal = total-same (reached canvas) (row_reach h) n same in

@@ -417,7 +417,7 @@ pub Shows-run : (o : Origin) (h after : History) (old new : Painter) (held : Can
     → Holds old.canvas held old.down old.across run
     → ((column row : ℕ) → shown new.canvas column row ≡ drawn_over old.across (bits_of run) old.down old.color column row (shown held column row))
     → ((row : ℕ) → reached new.canvas row ≡ reached held row)
-    → new.canvas.paints + old.canvas.spread ≤ old.canvas.paints + new.canvas.spread + 4614 * length run
+    → new.canvas.paints + old.canvas.spread ≤ old.canvas.paints + new.canvas.spread + 4602 * length run
     → new.registers ≡ old.registers → new.color ≡ old.color → new.span ≡ old.span → new.across ≡ old.across + length run → new.down ≡ old.down
     → new.width ≡ old.width → new.height ≡ old.height → new.raster_height ≡ old.raster_height → new.ratio ≡ old.ratio → new.settings ≡ old.settings
     → new.raster_crop ≡ old.raster_crop → new.pixel_limit ≡ old.pixel_limit

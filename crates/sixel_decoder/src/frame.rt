@@ -283,7 +283,7 @@ impl Frame {
         ensures at_most { (o : Origin) (h : History) (ended : Bool)
             → StandsAfter ended o self.now h
             → result ≤ 3 * reached_area (if ended then h else closed h)
-            + 4614 * sixels (if ended then h else closed h) }
+            + 4602 * sixels (if ended then h else closed h) }
     {
         self.painter.paints()
     }

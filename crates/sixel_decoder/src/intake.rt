@@ -124,7 +124,7 @@ impl Intake {
     pub fn paints(&self) -> u64
         ensures value { result ≡ self.now.paints }
         ensures at_most { result ≤ 3 * reached_area (settled self.now.bytes)
-            + 4614 * sixels (settled self.now.bytes) }
+            + 4602 * sixels (settled self.now.bytes) }
         ensures refused { self.now.is_refused ≡ true → result ≡ 0 }
     {
         let Some(frame) = &self.frame else {

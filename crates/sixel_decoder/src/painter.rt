@@ -227,7 +227,7 @@ fn paint(canvas: &mut Canvas, held: usize, top: usize, from: usize, run: &[u8], 
     ensures drawn { (column row : ℕ) → shown canvas.new column row
         ≡ drawn_over from (bits_of run.now) top color column row (shown canvas.old column row) }
     ensures kept { (row : ℕ) → reached canvas.new row ≡ reached canvas.old row }
-    ensures paints { canvas.new.paints ≤ canvas.old.paints + 1572 * length run.now }
+    ensures paints { canvas.new.paints ≤ canvas.old.paints + 1560 * length run.now }
     ensures spread { canvas.new.spread ≡ canvas.old.spread }
 {
     let by_four = run.len().min(held.saturating_sub(from + 3));
@@ -345,7 +345,7 @@ impl Painter {
     pub fn paints(&self) -> u64
         ensures value { result ≡ self.now.canvas.paints }
         ensures at_most { (o : Origin) (h : History) → Shows o self.now h
-            → result ≤ 3 * reached_area h + 4614 * sixels h }
+            → result ≤ 3 * reached_area h + 4602 * sixels h }
     {
         self.canvas.paints()
     }

@@ -118,7 +118,7 @@ impl Progress {
     pub fn paints(&self) -> u64
         ensures value { result ≡ self.now.paints }
         ensures at_most { result ≤ 3 * dcs_reached_area self.now.bytes
-            + 4614 * dcs_sixels self.now.bytes }
+            + 4602 * dcs_sixels self.now.bytes }
         ensures refused { self.now.is_refused ≡ true → result ≡ 0 }
     {
         let Phase::Payload(intake) = &self.phase else {

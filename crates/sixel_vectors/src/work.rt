@@ -27,7 +27,7 @@ fn columns(count: u32) -> Bounds {
 
 /// Asserts that what painting wrote is within its bound, by the area that is reached and by sixels.
 fn assert_painted(rt: &impl Abort, name: &str, paints: u64, (area, sixels): (u32, u32)) {
-    let most = 3 * u64::from(area) + 4614 * u64::from(sixels);
+    let most = 3 * u64::from(area) + 4602 * u64::from(sixels);
     assert!(rt; 0 < paints && paints <= most, "{paints} paints of {name}");
 }
 

@@ -112,7 +112,7 @@ fn a_receiver_owns_its_decoder() {
     receiver.begin_dcs();
     assert!(receiver.feed(b"\x1bPq#3;2;100;0;0!500~").is_ok());
     assert!((3000..=9000).contains(&receiver.canvas_writes()));
-    assert!((1..=9000 + 4614).contains(&receiver.canvas_paints()));
+    assert!((1..=9000 + 4602).contains(&receiver.canvas_paints()));
     assert_eq!(receiver.decoder().register(3), [3, 3, 3]);
     let clone = receiver.decoder().clone();
     assert_eq!(clone.register(3), [3, 3, 3]);

@@ -367,7 +367,7 @@ fn counted_work() {
     assert!(session.feed(b"!100~-!50~").is_ok());
     let writes = session.canvas_writes();
     assert!((900..=3 * 900).contains(&writes));
-    assert!((900..=3 * 900 + 2 * 4614).contains(&session.canvas_paints()));
+    assert!((900..=3 * 900 + 2 * 4602).contains(&session.canvas_paints()));
     let (image, counted) = session.finish_counted().unwrap();
     assert_eq!(image.dimensions(), (100, 12));
     assert_eq!(counted, writes + 1200);

@@ -129,7 +129,7 @@ impl<'a> SixelDcsStreamDecoder<'a> {
     pub fn canvas_paints(&self) -> u64
         ensures value { result ≡ self.now.progress.paints }
         ensures at_most { result ≤ 3 * dcs_reached_area self.now.progress.bytes
-            + 4614 * dcs_sixels self.now.progress.bytes }
+            + 4602 * dcs_sixels self.now.progress.bytes }
         ensures refused { self.now.progress.is_refused ≡ true → result ≡ 0 }
     {
         self.progress.paints()

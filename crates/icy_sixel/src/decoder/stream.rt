@@ -131,13 +131,13 @@ impl<'a> SixelStreamDecoder<'a> {
     /// How many pixels sixels have painted so far, at most, where a wide one over pixels that are
     /// there may be kept as the colors of its blocks; 0 after a refusal. It takes no memory.
     ///
-    /// It is at most three times the area that the closed sixels reach and 4614 for each of them,
+    /// It is at most three times the area that the closed sixels reach and 4602 for each of them,
     /// which is two ends and 511 blocks in six rows. At the greatest number it stays. Where memory
     /// for the colors of blocks was refused, a sixel is counted as if it had them.
     pub fn canvas_paints(&self) -> u64
         ensures value { result ≡ self.now.intake.paints }
         ensures at_most { result ≤ 3 * reached_area (settled self.now.intake.bytes)
-            + 4614 * sixels (settled self.now.intake.bytes) }
+            + 4602 * sixels (settled self.now.intake.bytes) }
         ensures refused { self.now.intake.is_refused ≡ true → result ≡ 0 }
     {
         self.intake.paints()

@@ -8,9 +8,9 @@ use Rattle.sixel_canvas.specs.inside.Canvas.{CanvasState, reached}
 abbrev pub counted : ℕ → ℕ → ℕ
 counted paints more = min (paints + more) 18446744073709551615
 
--- what six rows of a stroke over so many columns paint beside what is painted at once: a tag a block, and two ends with theirs
+-- what six rows of a stroke over so many columns paint beside what is painted at once: a tag a block, and two ends
 abbrev pub ends_and_tags : ℕ → ℕ
-ends_and_tags columns = 6 * (columns / 128 + 258)
+ends_and_tags columns = 6 * (columns / 128 + 256)
 
 -- what six rows of a stroke over so many columns paint at least
 abbrev pub least_painted : ℕ → ℕ

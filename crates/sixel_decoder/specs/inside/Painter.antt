@@ -19,7 +19,7 @@ use Rattle.sixel_decoder.specs.Paints.{sixels}
 pub record Shows (origin : Origin) (painter : Painter) (history : History) : Type 0 where
   pub pixels : (column row : ℕ) → shown painter.canvas column row ≡ pixel origin history column row
   pub reached : (row : ℕ) → reached painter.canvas row ≡ row_reach history row
-  pub paid : painter.canvas.paints ≤ painter.canvas.spread + 4614 * sixels history
+  pub paid : painter.canvas.paints ≤ painter.canvas.spread + 4602 * sixels history
   pub registers : painter.registers ≡ registers origin.registers history
   pub color : painter.color ≡ color origin.registers history ++ 255 ∷ []
   pub span : painter.span ≡ span history

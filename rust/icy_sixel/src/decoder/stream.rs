@@ -49,7 +49,7 @@ impl<'a> SixelStreamDecoder<'a> {
 
     /// How many pixels sixels have painted so far, at most; 0 after a refusal. It takes no memory.
     ///
-    /// It is at most three times the area that the sixels reach, and 4614 for each sixel.
+    /// It is at most three times the area that the sixels reach, and 4602 for each sixel.
     #[must_use]
     pub fn canvas_paints(&self) -> u64 {
         self.owner.shared().canvas_paints()

@@ -8,7 +8,7 @@ invariant-fours l =
     (l.done ≤ length l.run)
     × IsDrawnTo l.done l.fn.canvas l.canvas l.top l.from l.run l.color
     × ((row : ℕ) → reached l.canvas row ≡ reached l.fn.canvas row)
-    × (l.canvas.paints ≤ l.fn.canvas.paints + 1572 * min l.done (length l.run))
+    × (l.canvas.paints ≤ l.fn.canvas.paints + 1560 * min l.done (length l.run))
     × (l.canvas.spread ≡ l.fn.canvas.spread)
     × (l.done < l.by_four → l.canvas.tagged ≤ l.top)
 
@@ -20,7 +20,7 @@ invariant-last l =
     (l.done ≤ length l.run + 3)
     × IsDrawnTo l.done l.fn.canvas l.canvas l.top l.from l.run l.color
     × ((row : ℕ) → reached l.canvas row ≡ reached l.fn.canvas row)
-    × (l.canvas.paints ≤ l.fn.canvas.paints + 1572 * min l.done (length l.run))
+    × (l.canvas.paints ≤ l.fn.canvas.paints + 1560 * min l.done (length l.run))
     × (l.canvas.spread ≡ l.fn.canvas.spread)
     × (l.done < l.by_four → l.canvas.tagged ≤ l.top)
 
@@ -32,7 +32,7 @@ invariant-ends l =
     (l.done ≤ length l.run + 3)
     × IsDrawnTo l.done l.fn.canvas l.canvas l.top l.from l.run l.color
     × ((row : ℕ) → reached l.canvas row ≡ reached l.fn.canvas row)
-    × (l.canvas.paints ≤ l.fn.canvas.paints + 1572 * min l.done (length l.run))
+    × (l.canvas.paints ≤ l.fn.canvas.paints + 1560 * min l.done (length l.run))
     × (l.canvas.spread ≡ l.fn.canvas.spread)
 
 abbrev pub decreases-ends : goal.decreases-ends
