@@ -17,7 +17,7 @@ use std::alloc::Global;
 use std::io::{Read, Write};
 
 /// Does what the word asks for with the bytes of the input, which is read to its end first. It may
-/// be known to have so many bytes; 0 says that it is not.
+/// be known to have so many bytes.
 ///
 /// The pieces of [`Word::Frames`] have at least one byte, as `read_word` sees to.
 ///
@@ -25,7 +25,7 @@ use std::io::{Read, Write};
 pub fn serve<R: Read, O: Write>(
     alloc: Global,
     word: Word,
-    known: usize,
+    known: Option<usize>,
     input: &mut R,
     output: &mut O,
 ) -> Result<(), Fault>
@@ -48,10 +48,10 @@ pub fn serve<R: Read, O: Write>(
 
 /// How many bytes are expected for the word, whose input may be known to have so many: raw pixels
 /// have four bytes each.
-fn expected_len(word: Word, known: usize) -> usize {
+fn expected_len(word: Word, known: Option<usize>) -> usize {
     match word {
         Word::Encode(width, height, _) => width.saturating_mul(height).saturating_mul(4),
-        Word::Payload | Word::Decode | Word::Frames(_) => known,
+        Word::Payload | Word::Decode | Word::Frames(_) => known.unwrap_or(0),
     }
 }
 

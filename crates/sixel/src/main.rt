@@ -44,12 +44,10 @@ fn arguments(rt: &HostRuntime) -> Result<Vec<String>, Fault> {
     Ok(words)
 }
 
-/// How many bytes standard input has, if it is a file; 0 where the system can't say.
-fn known_len(rt: &HostRuntime) -> usize {
-    match fs::metadata(rt, "/dev/stdin") {
-        Ok(data) => usize::try_from(data.len()).unwrap_or(0),
-        Err(_) => 0,
-    }
+/// How many bytes standard input has, if it is a file and the system can say.
+fn known_len(rt: &HostRuntime) -> Option<usize> {
+    let data = fs::metadata(rt, "/dev/stdin").ok()?;
+    usize::try_from(data.len()).ok()
 }
 
 /// Writes a line to standard error where something is wrong.

@@ -43,14 +43,13 @@ impl Response {
 }
 
 /// Does what the words after the program's own name ask for. Where they ask for nothing that it
-/// does, it reads and writes nothing. The input may be known to have so many bytes; 0 says that it
-/// is not.
+/// does, it reads and writes nothing. The input may be known to have so many bytes.
 ///
 /// The clauses on bytes hold where the reader tells what it has left and the writer what it holds.
 pub fn respond<R: Read, O: Write>(
     alloc: Global,
     words: &[String],
-    known: usize,
+    known: Option<usize>,
     input: &mut R,
     output: &mut O,
 ) -> Response

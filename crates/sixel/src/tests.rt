@@ -198,7 +198,7 @@ fn serve_with(
         failing: failing.write,
         trouble: failing.trouble,
     };
-    let answer = serve(rt.alloc(), word, 0, &mut input, &mut output);
+    let answer = serve(rt.alloc(), word, None, &mut input, &mut output);
     Served {
         answer,
         held: output.held,

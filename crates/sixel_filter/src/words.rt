@@ -21,7 +21,6 @@ pub fn asked(words: &[String]) -> Option<(usize, Work)>
     ensures asked { IfSome result (λ asked. IsAskedBy (words_of words.now) asked.0 asked.1) }
     ensures usage { IfNone result ((length : ℕ) (work : Work)
         → ¬ IsAskedBy (words_of words.now) length work) }
-    ensures some { IfSome result (λ asked. 0 < asked.0) }
 {
     match words {
         [piece, word] => match (word.as_str(), length(piece)?) {
