@@ -35,6 +35,12 @@ over_one-set at sixel bit color [] lt is = absurd (omega (arith, lt))
 over_one-set zero sixel bit color (pixel ∷ pixels) lt is = ap (λ t. (if t then color else pixel) ∷ pixels) (sym is)
 over_one-set (suc at) sixel bit color (pixel ∷ pixels) lt is = ap (λ ps. pixel ∷ ps) (over_one-set at sixel bit color pixels (omega (arith, lt)) is)
 
+-- one sixel, whose pixel is told
+pub over_one : (at sixel bit : ℕ) (color new d : List ℕ) (pixels : List (List ℕ)) → at < length pixels → new ≡ dotted bit color sixel (get_or pixels at d) → set pixels at new ≡ over_from at (sixel ∷ []) bit color pixels
+over_one at sixel bit color new d [] lt is = absurd (omega (arith, lt))
+over_one zero sixel bit color new d (pixel ∷ pixels) lt is = ap (λ p. p ∷ pixels) is
+over_one (suc at) sixel bit color new d (pixel ∷ pixels) lt is = ap (λ ps. pixel ∷ ps) (over_one at sixel bit color new d pixels (omega (arith, lt)) is)
+
 -- all of them past the end
 pub over_past : (from : ℕ) (sixels : List ℕ) (bit : ℕ) (color : List ℕ) (pixels : List (List ℕ)) → length pixels ≤ from → pixels ≡ over_from from sixels bit color pixels
 over_past zero sixels bit color [] past = sym (mixed-nil bit color sixels)

@@ -126,13 +126,32 @@ in_band-inside top bit six = rw (le-leb top (top + bit) (omega arith), lt-ltb (t
 abbrev pub mixed_at : ℕ → List ℕ → ℕ → List ℕ → ℕ → RowState → RowState
 mixed_at from sixels top color row old = mixed_from from sixels (row - top) color old
 
+-- a number, or the greater of it and one that is no greater
+same_or_max : (b : Bool) (n to : ℕ) → to ≤ n → n ≡ (if b then max n to else n)
+same_or_max true n to le = omega arith
+same_or_max false n to le = refl
+
+-- six rows that a stroke does not grow
+pub reached_held : (top bits to : ℕ) (canvas : CanvasState) → ((k : ℕ) → k < 6 → to ≤ reached canvas (top + k)) → (row : ℕ) → reached canvas row ≡ (if is_struck top bits row then max (reached canvas row) to else reached canvas row)
+reached_held top bits to canvas held row =
+    let n = reached canvas row in
+    elim (cases_lt row top) [
+      | inl above ↦ ap (λ t. if t then max n to else n) (sym (is_struck-above top bits row above))
+      | inr begun ↦ elim (cases_lt row (top + 6)) [
+        | inl inside ↦
+            let same : top + (row - top) ≡ row = omega arith in
+            same_or_max (is_struck top bits row) n to (omega (arith, held (row - top) (omega arith), ap (reached canvas) same))
+        | inr below ↦ ap (λ t. if t then max n to else n) (sym (is_struck-below top bits row below))
+      ]
+    ]
+
 -- a row of a band holds the columns of the sixels
 abbrev pub IsHeld : ℕ → List ℕ → ℕ → CanvasState → Type 0
 IsHeld from sixels top canvas = (k : ℕ) → k < 6 → from + length sixels ≤ reached canvas (top + k)
 
 -- a row where none was made holds no column
-pub made_from_held : (from top k : ℕ) (canvas : CanvasState) → from + 4 ≤ reached canvas (top + k) → top + k < length canvas.rows
-made_from_held from top k canvas held =
+pub made_from_held : (column top k : ℕ) (canvas : CanvasState) → column < reached canvas (top + k) → top + k < length canvas.rows
+made_from_held column top k canvas held =
     elim (cases_lt (top + k) (length canvas.rows)) [
       | inl made ↦ made
       | inr past ↦ absurd (omega (arith, ap (λ (r : RowState). length r.pixels) (get_or_past canvas.rows (top + k) (empty_row canvas.background) past)))

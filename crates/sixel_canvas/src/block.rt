@@ -18,6 +18,19 @@ pub fn mix_from(pixels: &mut [[u8; 4]], from: usize, sixels: [u8; 4], bit: usize
     mix_pixels(&mut pixels[from..from + 4], sixels, bit, color);
 }
 
+/// Gives the color to a pixel, where its sixel has the bit.
+#[inline(always)]
+pub fn mix_one(pixels: &mut [[u8; 4]], at: usize, sixel: u8, bit: usize, color: [u8; 4])
+    requires held { at < length pixels.old }
+    requires six { bit < 6 }
+    ensures { pixels.new ≡ take at pixels.old
+        ++ mixed bit color (sixel ∷ []) (drop at pixels.old) }
+{
+    let old = [number(pixels[at]), 0, 0, 0];
+    let new = chosen([sixel, 0, 0, 0], bit, number(color), old);
+    pixels[at] = new[0].to_le_bytes();
+}
+
 /// Gives one color to those of the pixels from `from` on whose sixel has the bit, as far as there are
 /// pixels.
 #[inline(always)]

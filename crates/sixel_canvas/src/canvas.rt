@@ -1,5 +1,5 @@
 //! The canvas that a decoder draws on: rows that are filled only as far as a stroke reaches.
-ghost use Rattle.std.specs.Prelude.{◌≡◌, ℕ, ◌+◌, ◌-◌, ◌*◌, ◌^◌, ◌<◌, ◌≤◌, ◌&&◌, ◌++◌, [], max};
+ghost use Rattle.std.specs.Prelude.{◌≡◌, ℕ, ◌+◌, ◌-◌, ◌*◌, ◌^◌, ◌<◌, ◌≤◌, ◌&&◌, ◌++◌, ◌∷◌, [], max};
 ghost use Rattle.std.specs.Prelude.{length, vec_len, slice_index, slice_index_or, slice_set, if◌then◌else◌};
 ghost use Rattle.std.specs.Prelude.{◌==◌, nat_le, nat_lt, true};
 ghost use Rattle.std.specs.Prelude.{All, IfOk, IfErr, IsOk, OnErr, OnOk};
@@ -126,6 +126,23 @@ impl Canvas {
     {
         'mixed: for bit in 0..6 {
             mix(&mut self.rows, top, bit, from, sixels, color);
+        }
+    }
+
+    /// Draws a sixel of one column, where each of the six rows from `top` on holds this. It takes no
+    /// memory.
+    #[inline(always)]
+    pub fn column(&mut self, at: usize, top: usize, sixel: u8, color: [u8; 4])
+        requires held { (k : ℕ) → k < 6 → at < reached self.old (top + k) }
+        ensures drawn { (column row : ℕ) → shown self.new column row
+            ≡ (if covers at (at + 1) top sixel column row then color
+            else shown self.old column row) }
+        ensures reached { (row : ℕ) → reached self.new row ≡ reached self.old row }
+        ensures background { self.new.background ≡ self.old.background }
+        ensures bounded { IsBounded self.new }
+    {
+        'mixed: for bit in 0..6 {
+            mix_one(&mut self.rows, top, bit, at, sixel, color);
         }
     }
 
@@ -362,6 +379,20 @@ fn mix(rows: &mut Vec<Row>, top: usize, bit: usize, from: usize, sixels: [u8; 4]
     ensures thrifty { (d : RowState) → IsThrifty (slice_index_or rows.new.items (top + bit) d) }
 {
     rows[top + bit].mix(from, sixels, bit, color);
+}
+
+// Draws one row of a sixel of one column.
+#[inline(always)]
+fn mix_one(rows: &mut Vec<Row>, top: usize, bit: usize, at: usize, sixel: u8, color: [u8; 4])
+    requires made { top + bit < vec_len rows.old }
+    requires held { (d : RowState)
+        → at < length (slice_index_or rows.old.items (top + bit) d).pixels }
+    requires six { bit < 6 }
+    ensures mixed { (d : RowState) → rows.new.items ≡ slice_set rows.old.items (top + bit)
+        (mixed_from at (sixel ∷ []) bit color (slice_index_or rows.old.items (top + bit) d)) }
+    ensures thrifty { (d : RowState) → IsThrifty (slice_index_or rows.new.items (top + bit) d) }
+{
+    rows[top + bit].mix_one(at, sixel, bit, color);
 }
 
 // Draws one row of four sixels, as far as it holds their columns.

@@ -1,5 +1,5 @@
 //! A row of the canvas, which doubles its room where it is too small.
-ghost use Rattle.std.specs.Prelude.{◌≡◌, ◌+◌, ◌-◌, ◌*◌, ◌^◌, ◌<◌, ◌≤◌, ◌==◌, ◌++◌};
+ghost use Rattle.std.specs.Prelude.{◌≡◌, ◌+◌, ◌-◌, ◌*◌, ◌^◌, ◌<◌, ◌≤◌, ◌==◌, ◌++◌, ◌∷◌, []};
 ghost use Rattle.std.specs.Prelude.{length, max, take, drop, replicate, slice_index_or};
 ghost use Rattle.std.specs.Prelude.{vec_len, vec_capacity, IfOk, IfErr, IsOk, OnErr, OnOk};
 ghost use Rattle.sixel_base.specs.declared.error.SixelError.TheVariants.{OutOfMemory};
@@ -8,7 +8,7 @@ ghost use Rattle.sixel_canvas.specs.Row.{IsThrifty, empty_row, painted, reached_
 ghost use Rattle.sixel_canvas.specs.Row.{room_for};
 ghost use Rattle.sixel_canvas.specs.inside.Block.{mixed_from};
 
-use crate::block::{dot_from, mix_from};
+use crate::block::{dot_from, mix_from, mix_one};
 use crate::span::fill_rgba_span;
 use sixel_base::Result;
 use sixel_base::limits::MAX_SIDE;
@@ -97,6 +97,17 @@ impl Row {
         ensures thrifty { IsThrifty self.new }
     {
         mix_from(&mut self.pixels, from, sixels, bit, color);
+    }
+
+    // Gives the color to a column, where its sixel has the bit.
+    #[inline(always)]
+    pub(crate) fn mix_one(&mut self, at: usize, sixel: u8, bit: usize, color: [u8; 4])
+        requires held { at < length self.old.pixels }
+        requires six { bit < 6 }
+        ensures after { self.new ≡ mixed_from at (sixel ∷ []) bit color self.old }
+        ensures thrifty { IsThrifty self.new }
+    {
+        mix_one(&mut self.pixels, at, sixel, bit, color);
     }
 
     // Gives one color to those of the columns from `from` on whose sixel has the bit, as far as the

@@ -23,6 +23,9 @@ const BLOCK: usize = 128;
 /// From how many columns on a stroke may be tagged.
 const WIDE: usize = 256;
 
+/// How many pixels a sixel has.
+const SIXEL: u64 = 6;
+
 /// How many pixels four sixels have.
 const FOUR_SIXELS: u64 = 24;
 
@@ -130,6 +133,10 @@ impl TaggedCanvas {
     {
         // Looked at for its invariant, which `bounded` tells.
         let _sheet = &self.sheet;
+        if to - from == 1 && self.held(top) >= to {
+            self.draw_held(from, top, bits, color);
+            return Ok(());
+        }
         if bits == 0 {
             return Ok(());
         }
@@ -281,6 +288,27 @@ impl TaggedCanvas {
             return self.sheet.pack_row(bytes, row, block * BLOCK, count);
         }
         add_pixels(bytes, count, tag)
+    }
+
+    // Draws a sixel of one column that each of the six rows from `top` on holds, where no block has a
+    // tag.
+    #[inline(always)]
+    fn draw_held(&mut self, at: usize, top: usize, bits: u8, color: [u8; 4])
+        requires held { (k : ℕ) → k < 6 → at < reached self.old (top + k) }
+        requires plain { self.old.tagged ≤ top }
+        ensures drawn { (column row : ℕ) → shown self.new column row
+            ≡ (if covers at (at + 1) top bits column row then color
+            else shown self.old column row) }
+        ensures reached { (row : ℕ) → reached self.new row ≡ reached self.old row }
+        ensures background { self.new.background ≡ self.old.background }
+        ensures least { 0 < bits → counted self.old.paints 6 ≤ self.new.paints }
+        ensures most { self.new.paints ≤ self.old.paints + 6 }
+        ensures spread { self.new.spread ≡ self.old.spread }
+        ensures bounded { IsBounded self.new }
+    {
+        let painted = if bits == 0 { 0 } else { SIXEL };
+        self.paints = self.paints.saturating_add(painted);
+        self.sheet.column(at, top, bits, color);
     }
 
     // Draws a sixel that has dots.

@@ -1,0 +1,61 @@
+use Rattle.std.proofs.Common.{◌≡◌, ◌+◌, ◌-◌, length, get_or, refl, sym, ap, ◌∙◌, [], ◌∷◌, arith}
+use Rattle.std.proofs.Math.ListN.{set}
+use Rattle.std.proofs.lemmas.Bool.{le-ltb}
+use Rattle.std.proofs.lemmas.List.{get_or_default}
+use Rattle.sixel_canvas.specs.Row.{RowState, empty_row}
+use Rattle.sixel_canvas.specs.inside.Block.{mixed_from}
+use Rattle.sixel_canvas.specs.inside.Canvas.{CanvasState, row_at}
+use Rattle.sixel_canvas.proofs.Totals.{IsBounded-rows}
+use Rattle.sixel_canvas.proofs.Underway.{IsUnderway-hit, IsUnderway-none, in_band, in_band-above, in_band-inside, made_from_held, mixed_at, reached-mixed, shown-mixed}
+use Rattle.sixel_canvas.proofs.canvas.Canvas.column.Goals as goal
+
+pub mixed-init : goal.mixed-init
+mixed-init c =
+    let canvas = c.self.inside in
+    let top = c.args.top in
+    let made = made_from_held c.args.at top 5 c.args.self.now (c.requires.held 5 (omega arith)) in
+    rw (← c.self.view_is)
+    (IsUnderway-none (mixed_at c.args.at (c.args.sixel ∷ []) top c.args.color) (in_band top) top (record { background = canvas.background; rows = canvas.rows.items; tagged = 0; paints = 0; spread = 0 }) canvas.rows.items
+    (in_band-above top) (omega (arith, made, ap (λ (s : CanvasState). length s.rows) c.self.view_is)) c.self.invariant.0 c.self.invariant.1 (λ row. refl))
+
+pub mix_one-requires-clause-held : goal.mix_one-requires-clause-held
+mix_one-requires-clause-held c = λ d.
+    let canvas = c.args.self.now in
+    let rows = c.mixed.self-inside.rows.items in
+    let row = c.args.top + c.mixed.bit in
+    let before = c.mixed.invariant in
+    let empty = empty_row canvas.background in
+    let same : get_or rows row empty ≡ row_at canvas row = rw (le-ltb row row (omega arith)) at (before.struck row) in
+    let at : get_or rows row d ≡ row_at canvas row = get_or_default rows row d empty (omega (arith, before.made, c.mixed-test.true)) ∙ same in
+    omega (arith, c.requires.held c.mixed.bit c.mixed-test.true, ap (λ (r : RowState). length r.pixels) at)
+
+pub mixed-preserved : goal.mixed-preserved
+mixed-preserved c =
+    let from = c.args.at in
+    let sixels = c.args.sixel ∷ [] in
+    let top = c.args.top in
+    let color = c.args.color in
+    let bit = c.mixed.bit in
+    let rows = c.mixed.self-inside.rows.items in
+    let same : top + bit - top ≡ bit = omega arith in
+    IsUnderway-hit (mixed_at from sixels top color) (in_band top) top bit c.args.self.now c.mixed.self-inside.background rows c.mix_one.new.rows.items
+    c.mixed.invariant c.mixed-test.true (in_band-inside top bit c.mixed-test.true) (λ k row. refl)
+    (λ d. c.mix_one.ensures.mixed d ∙ ap (λ k. set rows (top + bit) (mixed_from from sixels k color (get_or rows (top + bit) d))) (sym same))
+    c.mix_one.ensures.thrifty
+
+pub returns-clause-drawn : goal.returns-clause-drawn
+returns-clause-drawn c =
+    let canvas = c.mixed.self-inside in
+    shown-mixed c.args.at (c.args.sixel ∷ []) c.args.top c.args.color c.mixed.bit c.args.self.now canvas.background canvas.rows.items
+    c.mixed.invariant c.mixed-test.false (λ k h. omega (arith, c.requires.held k h))
+
+pub returns-clause-reached : goal.returns-clause-reached
+returns-clause-reached c =
+    let canvas = c.mixed.self-inside in
+    reached-mixed c.args.at (c.args.sixel ∷ []) c.args.top c.args.color c.mixed.bit c.args.self.now canvas.background canvas.rows.items
+    c.mixed.invariant c.mixed-test.false (λ k h. omega (arith, c.requires.held k h))
+
+pub returns-clause-bounded : goal.returns-clause-bounded
+returns-clause-bounded c =
+    let done = c.mixed.invariant in
+    rw done.over (IsBounded-rows c.args.self.now.background c.mixed.self-inside.rows.items done.few done.sound)
