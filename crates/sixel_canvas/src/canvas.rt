@@ -100,6 +100,7 @@ impl Canvas {
     }
 
     /// How many columns each of the six rows from `top` on holds, from the left.
+    #[inline(always)]
     pub fn held(&self, top: usize) -> usize
         ensures { (k : ℕ) → k < 6 → result ≤ reached self.now (top + k) }
     {

@@ -134,7 +134,7 @@ impl TaggedCanvas {
         // Looked at for its invariant, which `bounded` tells.
         let _sheet = &self.sheet;
         if to - from == 1 && self.held(top) >= to {
-            self.draw_held(from, top, bits, color);
+            self.column(from, top, bits, color);
             return Ok(());
         }
         if bits == 0 {
@@ -146,6 +146,7 @@ impl TaggedCanvas {
     /// How many columns each of the six rows from `top` on holds, from the left.
     ///
     /// None, where one of their blocks may have a tag.
+    #[inline(always)]
     pub fn held(&self, top: usize) -> usize
         ensures held { (k : ℕ) → k < 6 → result ≤ reached self.now (top + k) }
         ensures plain { 0 < result → self.now.tagged ≤ top }
@@ -154,6 +155,29 @@ impl TaggedCanvas {
             return 0;
         }
         self.sheet.held(top)
+    }
+
+    /// Draws a sixel of one column, where each of the six rows from `top` on holds this and no block has
+    /// a tag. It takes no memory.
+    #[inline(always)]
+    pub fn column(&mut self, at: usize, top: usize, bits: u8, color: [u8; 4])
+        requires held { (k : ℕ) → k < 6 → at < reached self.old (top + k) }
+        requires plain { self.old.tagged ≤ top }
+        requires six { bits < 64 }
+        ensures drawn { (column row : ℕ) → shown self.new column row
+            ≡ (if covers at (at + 1) top bits column row then color
+            else shown self.old column row) }
+        ensures reached { (row : ℕ) → reached self.new row ≡ reached self.old row }
+        ensures background { self.new.background ≡ self.old.background }
+        ensures least { 0 < bits → counted self.old.paints 6 ≤ self.new.paints }
+        ensures most { self.new.paints ≤ self.old.paints + 6 }
+        ensures spread { self.new.spread ≡ self.old.spread }
+        ensures bounded { IsBounded self.new }
+    {
+        // A sixel without a dot paints none. A test here would be a branch.
+        let painted = SIXEL * ((u64::from(bits) + 63) / 64);
+        self.paints = self.paints.saturating_add(painted);
+        self.sheet.column(at, top, bits, color);
     }
 
     /// Draws four sixels of one column each, from `from` on, where each of the six rows from `top`
@@ -288,27 +312,6 @@ impl TaggedCanvas {
             return self.sheet.pack_row(bytes, row, block * BLOCK, count);
         }
         add_pixels(bytes, count, tag)
-    }
-
-    // Draws a sixel of one column that each of the six rows from `top` on holds, where no block has a
-    // tag.
-    #[inline(always)]
-    fn draw_held(&mut self, at: usize, top: usize, bits: u8, color: [u8; 4])
-        requires held { (k : ℕ) → k < 6 → at < reached self.old (top + k) }
-        requires plain { self.old.tagged ≤ top }
-        ensures drawn { (column row : ℕ) → shown self.new column row
-            ≡ (if covers at (at + 1) top bits column row then color
-            else shown self.old column row) }
-        ensures reached { (row : ℕ) → reached self.new row ≡ reached self.old row }
-        ensures background { self.new.background ≡ self.old.background }
-        ensures least { 0 < bits → counted self.old.paints 6 ≤ self.new.paints }
-        ensures most { self.new.paints ≤ self.old.paints + 6 }
-        ensures spread { self.new.spread ≡ self.old.spread }
-        ensures bounded { IsBounded self.new }
-    {
-        let painted = if bits == 0 { 0 } else { SIXEL };
-        self.paints = self.paints.saturating_add(painted);
-        self.sheet.column(at, top, bits, color);
     }
 
     // Draws a sixel that has dots.

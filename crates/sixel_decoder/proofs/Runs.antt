@@ -15,10 +15,11 @@ use Rattle.sixel_base.specs.Settings.{ratio_of}
 use Rattle.sixel_base.specs.Stroke.{Origin, pixel, registers, color, ratio}
 use Rattle.sixel_base.proofs.Reading.{fold-spelling}
 use Rattle.sixel_canvas.proofs.Mixing.{each_of_four}
+use Rattle.sixel_canvas.proofs.Underway.{reached_held}
 use Rattle.sixel_canvas.specs.inside.Block.{drawn_over}
 use Rattle.sixel_canvas.specs.inside.Canvas.{CanvasState, shown, reached}
 use Rattle.sixel_decoder.specs.declared.painter.Painter.{Painter}
-use Rattle.sixel_decoder.specs.inside.Painter.{Shows}
+use Rattle.sixel_decoder.specs.inside.Painter.{IsAlone, Shows}
 use Rattle.sixel_decoder.specs.declared.frame.Frame.{Frame}
 use Rattle.sixel_decoder.specs.declared.frame.Phase.{Phase}
 use Rattle.sixel_decoder.specs.declared.frame.Phase.TheVariants.{Ground}
@@ -446,6 +447,48 @@ Shows-run o h after old new held run whole shows single right lower wide high ar
       color = color' ∙ shows.color ∙ ap (λ c. c ++ 255 ∷ []) (sym passed.color);
       span = span' ∙ single ∙ sym passed.span;
       across = omega (arith, across', shows.across, passed.across, long);
+      down = down' ∙ shows.down ∙ sym passed.down;
+      width = width' ∙ shows.width ∙ sym passed.width;
+      height = height' ∙ shows.height ∙ sym passed.height;
+      raster_height = raster' ∙ shows.raster_height ∙ sym passed.raster_height;
+      ratio = ratio' ∙ shows.ratio ∙ sym passed.ratio;
+      settings = settings' ∙ shows.settings;
+      crop = crop' ∙ shows.crop;
+      limit = limit' ∙ shows.limit;
+      faultless = passed.faultless;
+    }
+
+-- the painter once one sixel was drawn that stands alone
+pub Shows-alone : (o : Origin) (h : History) (old new : Painter) (bits : ℕ) → Shows o old h → IsAlone old
+    → old.width ≤ 1000000 → old.height ≤ 1000000 → old.width * old.height ≤ old.pixel_limit
+    → ((column row : ℕ) → shown new.canvas column row ≡ (if covers old.across (old.across + 1) old.down bits column row then old.color else shown old.canvas column row))
+    → ((row : ℕ) → reached new.canvas row ≡ reached old.canvas row)
+    → new.canvas.paints + old.canvas.spread ≤ old.canvas.paints + new.canvas.spread + 4602
+    → new.registers ≡ old.registers → new.color ≡ old.color → new.span ≡ old.span → new.across ≡ old.across + 1 → new.down ≡ old.down
+    → new.width ≡ old.width → new.height ≡ old.height → new.raster_height ≡ old.raster_height → new.ratio ≡ old.ratio → new.settings ≡ old.settings
+    → new.raster_crop ≡ old.raster_crop → new.pixel_limit ≡ old.pixel_limit
+    → Shows o new (Sixel bits ∷ h)
+Shows-alone o h old new bits shows alone wide high area drawn kept paid' registers' color' span' across' down' width' height' raster' ratio' settings' crop' limit' =
+    let limit : ℕ = o.pixel_limit in
+    let inside : IsInside limit 1 h = record {
+      single = sym shows.span ∙ alone.single;
+      right = omega (arith, shows.across, shows.width, alone.inside);
+      lower = omega (arith, shows.down, shows.height, alone.above_bottom);
+      wide = omega (arith, shows.width, wide);
+      high = omega (arith, shows.height, high);
+      area = rw (shows.width, shows.height, shows.limit) at area;
+      faultless = shows.faultless;
+    } in
+    let passed = IsPassed-sixels limit o h (bits ∷ []) inside in
+    let grown = reached_held old.down bits (old.across + 1) old.canvas (λ k six. omega (arith, alone.held k six)) in
+    record {
+      pixels = λ column row. drawn column row ∙ rw (shows.across, shows.down, shows.color, shows.pixels column row, inside.single) refl;
+      reached = λ row. kept row ∙ grown row ∙ rw (shows.reached row, shows.down, shows.across, inside.single) refl;
+      paid = omega (arith, paid', shows.paid);
+      registers = registers' ∙ shows.registers ∙ sym passed.registers;
+      color = color' ∙ shows.color ∙ ap (λ c. c ++ 255 ∷ []) (sym passed.color);
+      span = span' ∙ alone.single ∙ sym passed.span;
+      across = omega (arith, across', shows.across, passed.across);
       down = down' ∙ shows.down ∙ sym passed.down;
       width = width' ∙ shows.width ∙ sym passed.width;
       height = height' ∙ shows.height ∙ sym passed.height;

@@ -229,7 +229,71 @@ impl Frame {
     }
 
     /// Reads a piece up to its first terminator, which ends the open command.
+    #[inline(always)]
     pub fn feed(&mut self, piece: &[u8]) -> Result<SixelFeedResult>
+        ensures { (o : Origin) (h : History) → Stands o self.old h
+            → Feeds result o self.new h piece.now }
+    {
+        if piece.len() == 1 && self.reads_alone(piece[0]) {
+            return Ok(SixelFeedResult {
+                consumed: 1,
+                status: SixelFeedStatus::NeedMoreData,
+            });
+        }
+        self.feed_all(piece)
+    }
+
+    /// Reads a byte that nothing can refuse: it goes on with the open command, opens one, or is a sixel
+    /// whose column is held. Answers whether it is such a byte, and leaves any other.
+    #[inline(always)]
+    fn reads_alone(&mut self, byte: u8) -> bool
+        ensures printable { IsTrue result → IsPrintable byte }
+        ensures stands { IsTrue result → (o : Origin) (h : History) → Stands o self.old h
+            → Stands o self.new (read h byte) }
+        ensures left { result ≡ false → self.new ≡ self.old }
+    {
+        if is_sixel(byte) {
+            return self.draws_alone(byte);
+        }
+        if self.takes(byte) {
+            self.parameters.push(byte);
+            return true;
+        }
+        if self.phase != Phase::Ground || !is_numbered(byte) {
+            return false;
+        }
+        self.phase = Phase::opened_by(byte);
+        self.parameters = Parameters::new();
+        true
+    }
+
+    /// Draws a sixel whose column is held, and selects the color before it where that command is open.
+    /// Answers whether it did, and else changes nothing.
+    #[inline(always)]
+    fn draws_alone(&mut self, byte: u8) -> bool
+        requires { IsSixelByte byte }
+        ensures stands { IsTrue result → (o : Origin) (h : History) → Stands o self.old h
+            → Stands o self.new (read h byte) }
+        ensures left { result ≡ false → self.new ≡ self.old }
+    {
+        if !self.painter.is_alone() {
+            return false;
+        }
+        match self.phase {
+            Phase::Ground => {}
+            Phase::InColor => {
+                self.phase = Phase::Ground;
+                self.painter.select(&self.parameters);
+            }
+            Phase::InRepeat | Phase::InRaster => return false,
+        }
+        self.painter.draw_alone(byte - 0x3f);
+        true
+    }
+
+    /// Reads a piece of any bytes.
+    #[inline(never)]
+    fn feed_all(&mut self, piece: &[u8]) -> Result<SixelFeedResult>
         ensures { (o : Origin) (h : History) → Stands o self.old h
             → Feeds result o self.new h piece.now }
     {

@@ -69,6 +69,7 @@ impl Intake {
     }
 
     /// Reads a piece up to its first terminator.
+    #[inline(always)]
     pub fn feed(&mut self, piece: &[u8]) -> Result<SixelFeedResult>
         ensures origin { self.new.origin ≡ self.old.origin }
         ensures bytes { self.new.bytes ≡ self.old.bytes ++ piece.now }
@@ -177,6 +178,7 @@ fn refuse(frame: &mut Option<Frame>)
 }
 
 /// Reads a piece, unless the payload has ended.
+#[inline(always)]
 fn go_on(frame: &mut Frame, terminator: Option<u8>, piece: &[u8]) -> Result<SixelFeedResult>
     ensures { (o : Origin) (before : List ℕ) → HasRead (Some frame.old) o terminator before
         → GoesOn result o frame.new before piece.now }

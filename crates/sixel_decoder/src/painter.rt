@@ -2,7 +2,7 @@
 
 ghost use Rattle.std.specs.Prelude.{◌≡◌, ◌<◌, ◌≤◌, ◌*◌, ◌∷◌, ◌++◌, List, ℕ, true, false, []};
 ghost use Rattle.std.specs.Prelude.{length, max, nat_le, slice_set, if◌then◌else◌};
-ghost use Rattle.std.specs.Prelude.{◌+◌, ◌-◌, fold, slice_index, take, IfOk, IfErr, OnOk};
+ghost use Rattle.std.specs.Prelude.{◌+◌, ◌-◌, fold, slice_index, take, IfOk, IfErr, IsTrue, OnOk};
 ghost use Rattle.sixel_base.specs.Picture.{is_set};
 ghost use Rattle.sixel_base.specs.declared.error.SixelError.TheVariants.{OutOfMemory};
 ghost use Rattle.sixel_canvas.specs.inside.Block.{drawn_over};
@@ -66,7 +66,7 @@ pub struct Picture {
 }
 
 impl Painter {
-    ghost use Rattle.sixel_decoder.specs.inside.Painter.{Shows, Draws};
+    ghost use Rattle.sixel_decoder.specs.inside.Painter.{Shows, Draws, IsAlone};
 
     /// A painter that has drawn nothing.
     pub fn new(alloc: Global, decoder: DecoderState, settings: DcsSettings) -> Painter
@@ -124,6 +124,38 @@ impl Painter {
         Ok(())
     }
 
+    /// Whether the next sixel is of one column, inside the picture, and all six rows of the canvas hold
+    /// it and have no tag.
+    #[inline(always)]
+    pub fn is_alone(&self) -> bool
+        ensures { IsTrue result → IsAlone self.now }
+    {
+        if !self.is_single_above_bottom() {
+            return false;
+        }
+        self.across < self.width && self.across < self.canvas.held(self.down)
+    }
+
+    /// Whether the next sixel is of one column, and does not pass the bottom of the picture.
+    #[inline(always)]
+    fn is_single_above_bottom(&self) -> bool
+        ensures single { IsTrue result → self.now.span ≡ 1 }
+        ensures above_bottom { IsTrue result → self.now.down + 6 ≤ self.now.height }
+    {
+        self.span == 1 && self.height >= 6 && self.down <= self.height - 6
+    }
+
+    /// Draws such a sixel.
+    #[inline(always)]
+    pub fn draw_alone(&mut self, bits: u8)
+        requires alone { IsAlone self.old }
+        requires six { bits < 64 }
+        ensures { (o : Origin) (h : History) → Shows o self.old h → Shows o self.new (Sixel bits ∷ h) }
+    {
+        self.canvas.column(self.across, self.down, bits, self.color);
+        self.across += 1;
+    }
+
     /// Draws the sixels at the front of the bytes at once, where the next ones are of one column each
     /// and inside the picture, and answers how many they are: none elsewhere, nor of a single byte.
     #[inline(always)]
@@ -138,7 +170,7 @@ impl Painter {
         if bytes.len() < 2 {
             return Ok(0);
         }
-        if self.span != 1 || self.height < 6 || self.down > self.height - 6 {
+        if !self.is_single_above_bottom() {
             return Ok(0);
         }
         self.draw_inside(bytes)
@@ -247,7 +279,7 @@ fn paint(canvas: &mut Canvas, held: usize, top: usize, from: usize, run: &[u8], 
 }
 
 impl Painter {
-    ghost use Rattle.sixel_decoder.specs.inside.Painter.{Shows, Draws};
+    ghost use Rattle.sixel_decoder.specs.inside.Painter.{Shows, Draws, IsAlone};
 
     /// Gives the next sixel its span, where 0 means 1. What stands between the two keeps it.
     #[inline(never)]
@@ -292,8 +324,9 @@ impl Painter {
     /// Selects a register, and defines it where there are five parameters that say how.
     #[inline(never)]
     pub fn select(&mut self, parameters: &Parameters)
-        ensures { (o : Origin) (h : History) (text : List ℕ) → Keeps parameters.now text
+        ensures shows { (o : Origin) (h : History) (text : List ℕ) → Keeps parameters.now text
             → Shows o self.old h → Shows o self.new (Color text ∷ h) }
+        ensures alone { IsAlone self.old → IsAlone self.new }
     {
         let register = parameters.get(0).min(255) as u8;
         define(&mut self.registers, register, parameters);

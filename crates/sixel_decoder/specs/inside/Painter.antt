@@ -1,6 +1,6 @@
 -- What the parts of a painter keep, in the words of the history that was read. An invariant of this library's own: the words are those
 -- of Place and Stroke of sixel_base, where DEC's manual gives the rules.
-use Rattle.std.specs.Prelude.{ℕ, ◌≡◌, ◌+◌, ◌*◌, ◌≤◌, Bool, MatchResult, Result, None, is_none, [], ◌∷◌, ◌++◌}
+use Rattle.std.specs.Prelude.{ℕ, ◌≡◌, ◌+◌, ◌*◌, ◌<◌, ◌≤◌, Bool, MatchResult, Result, None, is_none, [], ◌∷◌, ◌++◌}
 use Rattle.sixel_base.specs.declared.error.SixelError.{SixelError}
 use Rattle.sixel_decoder.specs.declared.painter.Painter.{Painter}
 use Rattle.sixel_base.specs.Settings.{ratio_of}
@@ -47,3 +47,11 @@ Ends result origin history =
     (λ picture. (first_fault origin.pixel_limit history ≡ None) × (picture_value picture ≡ image_of origin history)
     × (picture.registers ≡ registers origin.registers history) × (picture.width * picture.height ≤ origin.pixel_limit))
     (λ error. Faults error (is_none (first_fault origin.pixel_limit history)) (first_fault origin.pixel_limit history))
+
+-- The next sixel is of one column, inside the picture, and all six rows of the canvas hold it and have no tag.
+pub record IsAlone (painter : Painter) : Type 0 where
+  pub single : painter.span ≡ 1
+  pub above_bottom : painter.down + 6 ≤ painter.height
+  pub inside : painter.across < painter.width
+  pub held : (k : ℕ) → k < 6 → painter.across < reached painter.canvas (painter.down + k)
+  pub plain : painter.canvas.tagged ≤ painter.down

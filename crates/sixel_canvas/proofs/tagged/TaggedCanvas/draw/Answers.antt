@@ -5,7 +5,7 @@ use Rattle.sixel_canvas.proofs.tagged.TaggedCanvas.draw.Goals as goal
 
 pub returns-then-held-to-clause-grown : goal.returns-then-held-to-clause-grown
 returns-then-held-to-clause-grown c = λ row.
-    c.draw_held.ensures.reached row
+    c.column.ensures.reached row
     ∙ reached_held c.args.top c.args.bits c.args.to c.args.self.now (λ k six. omega (arith, c.held.ensures.held k six, c.if-held-to.true)) row
 
 pub returns-then-bits-eq0-clause-bounded : goal.returns-then-bits-eq0-clause-bounded

@@ -13,4 +13,4 @@ returns-in-InRepeat-clause-drawn c = λ o h stands.
 pub returns-in-InColor-clause-drawn : goal.returns-in-InColor-clause-drawn
 returns-in-InColor-clause-drawn c = λ o h stands.
     let is : IsOpen Color o c.args.self.now h = subst (λ (p : Phase). StandsIn p o c.args.self.now h) c.in-InColor.is stands in
-    subst (λ (w : History). Shows o c.select.new.self w) (sym is.newest) (c.select.ensures o is.older is.text is.keeps is.shows)
+    subst (λ (w : History). Shows o c.select.new.self w) (sym is.newest) (c.select.ensures.shows o is.older is.text is.keeps is.shows)

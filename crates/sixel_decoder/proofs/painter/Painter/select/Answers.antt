@@ -3,8 +3,8 @@ use Rattle.sixel_base.specs.Stroke.{named_by, registers}
 use Rattle.sixel_base.specs.History.{Color}
 use Rattle.sixel_decoder.proofs.painter.Painter.select.Goals as goal
 
-pub returns : goal.returns
-returns c = λ o h text keeps shows.
+pub returns-clause-shows : goal.returns-clause-shows
+returns-clause-shows c = λ o h text keeps shows.
     let named : c.min-register.result ≡ named_by text = grind (arith, keeps.valued 0 (omega arith)) in
     let defined : c.define.new.registers ≡ registers o.registers (Color text ∷ h) =
     rw (← named, ← shows.registers) (c.define.ensures text keeps) in

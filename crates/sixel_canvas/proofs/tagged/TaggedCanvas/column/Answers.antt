@@ -6,7 +6,7 @@ use Rattle.sixel_canvas.specs.inside.Tags.{under}
 use Rattle.sixel_canvas.proofs.Tagging.{under-covered}
 use Rattle.sixel_canvas.proofs.Tags.{IsTagged-grown, reached-tagged, shown-tagged}
 use Rattle.sixel_canvas.proofs.Spread.{IsBounded-counted, IsSpread-grown}
-use Rattle.sixel_canvas.proofs.tagged.TaggedCanvas.draw_held.Goals as goal
+use Rattle.sixel_canvas.proofs.tagged.TaggedCanvas.column.Goals as goal
 
 pub column-requires : goal.column-requires
 column-requires c = record {

@@ -4,8 +4,8 @@ use Rattle.std.proofs.lemmas.Result.{err_from_is_err_and}
 use Rattle.sixel_base.specs.Bytes.{is_ignored, is_sixel, is_terminator}
 use Rattle.sixel_decoder.specs.inside.Runs.{IsPrintable}
 use Rattle.sixel_decoder.proofs.Feeding.{reaches_read, reaches_ignored, reaches_pushed, feeds_end, feeds_refused, feeds_refused_front, splits_at}
-use Rattle.sixel_decoder.proofs.frame.Frame.feed.Goals as goal
-use Rattle.sixel_decoder.proofs.frame.Frame.feed.Goals.{then-not-is_ignored+in_ok-push, else-not-is_ignored}
+use Rattle.sixel_decoder.proofs.frame.Frame.feed_all.Goals as goal
+use Rattle.sixel_decoder.proofs.frame.Frame.feed_all.Goals.{then-not-is_ignored+in_ok-push, else-not-is_ignored}
 
 pub returns : goal.returns
 returns c = λ o h stands. feeds_end o c.bytes.self h c.bytes.index c.args.piece.now c.bytes-test.false (c.bytes.invariant o h stands)
