@@ -2,7 +2,7 @@
 
 ghost use Rattle.std.specs.Prelude.{◌≡◌, ℕ, ◌+◌, ◌*◌, ◌<◌, ◌≤◌, min};
 ghost use Rattle.std.specs.Prelude.{List, [], ◌∷◌, ◌++◌, length, slice_index, take};
-ghost use Rattle.sixel_base.specs.inside.Parameters.{IsDigit, IsParameterByte, Keeps};
+ghost use Rattle.sixel_base.specs.inside.Parameters.{AreRead, IsDigit, IsParameterByte, Keeps};
 
 use std::marker::Model;
 
@@ -58,6 +58,11 @@ impl Digits {
     {
         let mut value: u32 = 0;
         let mut len = 0;
+        if bytes.len() >= 3 {
+            (value, len) = with_digit_at(bytes, 0, value, len);
+            (value, len) = with_digit_at(bytes, 1, value, len);
+            (value, len) = with_digit_at(bytes, 2, value, len);
+        }
         'digits: while len < bytes.len() && value < ENOUGH && bytes[len].is_ascii_digit() {
             value = 10 * value + u32::from(bytes[len] - b'0');
             len += 1;
@@ -69,6 +74,24 @@ impl Digits {
             },
             len,
         }
+    }
+}
+
+// The value of the digits at the front and how many they are, with the byte at this index if it is the
+// next of them. Both are chosen without a branch: few numbers are as long as the one before.
+#[inline(always)]
+fn with_digit_at(bytes: &[u8], at: usize, value: u32, len: usize) -> (u32, usize)
+    requires inside { at < length bytes.now }
+    requires room { value < 100000000 }
+    ensures few { result.0 ≤ 10 * value + 9 }
+    ensures read { AreRead bytes.now value len → AreRead bytes.now result.0 result.1 }
+{
+    let digit = u32::from(bytes[at].wrapping_sub(b'0'));
+    let longer = 10 * value + digit;
+    if len == at && digit < 10 {
+        (longer, at + 1)
+    } else {
+        (value, len)
     }
 }
 

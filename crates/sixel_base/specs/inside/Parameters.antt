@@ -1,6 +1,6 @@
 -- The parameters of one command while its text is read: how many fields there are so far, and the values of the first five.
 -- The fields of a text are those of specs/Fields.antt, and no command of the format uses more than five.
-use Rattle.std.specs.Prelude.{◌≡◌, ℕ, ◌<◌, ◌≤◌, ◌⊎◌, min, List, length, slice_index}
+use Rattle.std.specs.Prelude.{◌≡◌, ℕ, ◌<◌, ◌≤◌, ◌⊎◌, min, List, [], ◌∷◌, length, slice_index, take}
 use Rattle.sixel_base.specs.Fields.{fields, field}
 
 -- the values of the first five fields, and how many fields there are, where six stands for any more than five
@@ -20,3 +20,10 @@ IsParameterByte byte = IsDigit byte ⊎ (byte ≡ 59)
 pub record Keeps (parameters : Parameters) (text : List ℕ) : Type 0 where
   pub counted : parameters.count ≡ min 6 (length (fields text))
   pub valued : (k : ℕ) → k < 5 → slice_index parameters.values k ≡ field text k
+
+-- so many digits at the front of the bytes were read, and this is their value
+abbrev pub AreRead : List ℕ → ℕ → ℕ → Type 0
+AreRead bytes value len =
+    (len ≤ length bytes)
+    × ((k : ℕ) → k < len → IsDigit (slice_index bytes k))
+    × Keeps (record { values = value ∷ 0 ∷ 0 ∷ 0 ∷ 0 ∷ []; count = min len 1 }) (take len bytes)
