@@ -14,7 +14,7 @@ use Rattle.sixel_encoder.proofs.RowParts.{All-grid_row}
 is_dot-positive : (bits : ℕ) → 0 < bits → not (bits == 0) ≡ true
 is_dot-positive bits h = grind (arith, nat_tests)
 
-is_dot-zero : (bits : ℕ) → bits ≡ 0 → not (bits == 0) ≡ false
+pub is_dot-zero : (bits : ℕ) → bits ≡ 0 → not (bits == 0) ≡ false
 is_dot-zero bits h = grind (arith, nat_tests)
 
 pub has_dot-some : (rows : List ℕ) (width entry x : ℕ) → x < width → 0 < cell rows width entry x → has_dot (grid_row rows width entry) ≡ true
@@ -29,11 +29,11 @@ has_dot-none rows width entry blank =
     list_any_none (λ bits. not (bits == 0)) (grid_row rows width entry)
     (All-grid_row (λ bits. not (bits == 0) ≡ false) rows width entry (λ x l. is_dot-zero (cell rows width entry x) (blank x l)))
 
-pub grid_text-some : (rows : List ℕ) (width entry : ℕ) → has_dot (grid_row rows width entry) ≡ true → grid_text rows width entry ≡ row_text entry (grid_row rows width entry)
-grid_text-some rows width entry h = ap (λ b. cond b (row_text entry (grid_row rows width entry)) []) h
+pub grid_text-some : (rows : List ℕ) (width from entry : ℕ) → has_dot (grid_row rows width entry) ≡ true → grid_text rows width from entry ≡ row_text (from + entry) (grid_row rows width entry)
+grid_text-some rows width from entry h = ap (λ b. cond b (row_text (from + entry) (grid_row rows width entry)) []) h
 
-pub grid_text-none : (rows : List ℕ) (width entry : ℕ) → has_dot (grid_row rows width entry) ≡ false → grid_text rows width entry ≡ []
-grid_text-none rows width entry h = ap (λ b. cond b (row_text entry (grid_row rows width entry)) []) h
+pub grid_text-none : (rows : List ℕ) (width from entry : ℕ) → has_dot (grid_row rows width entry) ≡ false → grid_text rows width from entry ≡ []
+grid_text-none rows width from entry h = ap (λ b. cond b (row_text (from + entry) (grid_row rows width entry)) []) h
 
 -- a loop that appends what it joins: one list more
 pub appended-more : (f : ℕ → List ℕ) (n : ℕ) (start now new piece : List ℕ) → now ≡ start ++ joined f n → new ≡ now ++ piece → piece ≡ f n → new ≡ start ++ joined f (n + 1)
@@ -49,14 +49,14 @@ appended-none f n start now was none = appended-more f n start now now [] was (s
 pub appended-start : (f : ℕ → List ℕ) (start : List ℕ) → start ≡ start ++ joined f 0
 appended-start f start = sym (ap (λ s. start ++ s) (joined-none f) ∙ append-nil start)
 
-row-entry : (drawing : Drawing) (band entry : ℕ) (rows : List ℕ) → ((x : ℕ) → x < drawing.width → cell rows drawing.width entry x ≡ sixel_of drawing band entry x) → grid_row rows drawing.width entry ≡ row_of drawing band entry
-row-entry drawing band entry rows h =
-    fill_by_all (sixel_of drawing band entry) (grid_row rows drawing.width entry) drawing.width 0
+row-entry : (drawing : Drawing) (band from entry : ℕ) (rows : List ℕ) → ((x : ℕ) → x < drawing.width → cell rows drawing.width entry x ≡ sixel_of drawing band (from + entry) x) → grid_row rows drawing.width entry ≡ row_of drawing band (from + entry)
+row-entry drawing band from entry rows h =
+    fill_by_all (sixel_of drawing band (from + entry)) (grid_row rows drawing.width entry) drawing.width 0
     (length-map-range_with_len (cell rows drawing.width entry) 0 drawing.width)
     (λ x l. get_or-map-range_with_len (cell rows drawing.width entry) 0 drawing.width x x 0 l (omega arith) ∙ h x l)
 
--- rows that hold a band's sixels have the text of that band's entries
-pub joined-band : (drawing : Drawing) (band count : ℕ) (rows : List ℕ) → ((e x : ℕ) → e < count → x < drawing.width → cell rows drawing.width e x ≡ sixel_of drawing band e x) → joined (grid_text rows drawing.width) count ≡ joined (entry_text drawing band) count
-joined-band drawing band count rows h =
-    joined-same (grid_text rows drawing.width) (entry_text drawing band) count (λ e l.
-    ap (λ (r : List ℕ). cond (has_dot r) (row_text e r) []) (row-entry drawing band e rows (λ x lx. h e x l lx)))
+-- rows that hold a band's sixels of some entries have the text of these entries
+pub joined-part : (drawing : Drawing) (band from count : ℕ) (rows : List ℕ) → ((e x : ℕ) → e < count → x < drawing.width → cell rows drawing.width e x ≡ sixel_of drawing band (from + e) x) → joined (grid_text rows drawing.width from) count ≡ joined (λ e. entry_text drawing band (from + e)) count
+joined-part drawing band from count rows h =
+    joined-same (grid_text rows drawing.width from) (λ e. entry_text drawing band (from + e)) count (λ e l.
+    ap (λ (r : List ℕ). cond (has_dot r) (row_text (from + e) r) []) (row-entry drawing band from e rows (λ x lx. h e x l lx)))

@@ -18,12 +18,12 @@ image_of image = record {
   background_mode = image.background_mode;
 }
 
-entry_of-shown : (pixels indices : List ℕ) (pixel : ℕ) → 128 ≤ get_or pixels (4 * pixel + 3) 0 → entry_of pixels indices pixel ≡ Some (get_or indices pixel 0)
+pub entry_of-shown : (pixels indices : List ℕ) (pixel : ℕ) → 128 ≤ get_or pixels (4 * pixel + 3) 0 → entry_of pixels indices pixel ≡ Some (get_or indices pixel 0)
 entry_of-shown pixels indices pixel h =
     let is : nat_le 128 (get_or pixels (4 * pixel + 3) 0) ≡ true = grind (arith, nat_tests) in
     ap (λ b. cond b (Some (get_or indices pixel 0)) None) is
 
-entry_of-hidden : (pixels indices : List ℕ) (pixel : ℕ) → get_or pixels (4 * pixel + 3) 0 < 128 → entry_of pixels indices pixel ≡ None
+pub entry_of-hidden : (pixels indices : List ℕ) (pixel : ℕ) → get_or pixels (4 * pixel + 3) 0 < 128 → entry_of pixels indices pixel ≡ None
 entry_of-hidden pixels indices pixel h =
     let is : nat_le 128 (get_or pixels (4 * pixel + 3) 0) ≡ false = grind (arith, nat_tests) in
     ap (λ b. cond b (Some (get_or indices pixel 0)) None) is

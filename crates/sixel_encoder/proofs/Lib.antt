@@ -11,3 +11,6 @@ pub mod Drawn
 pub mod SameDrawing
 pub mod EqualRuns
 pub mod Lanes
+pub mod EntryLanes
+pub mod PartOfLine
+pub mod Parts

@@ -1,14 +1,18 @@
 -- The sixel of a band's column, one line more.
-use Rattle.std.proofs.Common.{◌≡◌, ℕ, zero, suc, ◌+◌, ◌*◌, ◌^◌, ◌<◌, ◌≤◌, Bool, true, false, cond, length, refl, ap, sym, ◌∙◌, arith, None}
+use Rattle.std.proofs.Common.{◌≡◌, ℕ, zero, suc, ◌+◌, ◌*◌, ◌^◌, ◌<◌, ◌≤◌, Bool, true, false, cond, length, get_or, refl, ap, sym, ◌∙◌, arith, inl, inr, None}
+use Rattle.std.specs.Prelude.{◌==◌}
+use Rattle.std.proofs.lemmas.Bool.{cases_lt}
+use Rattle.std.proofs.lemmas.Bool.Decides.{nat_tests}
 use Rattle.std.proofs.Math.Nat.{mul_comm, pow-le-pow_right}
 use Rattle.std.proofs.lemmas.Nat.{mul-add-lt, mul-le}
 use Rattle.std.proofs.lemmas.List.{get_or_past}
 use Rattle.std.proofs.lemmas.List.FromFn.{length-map-range_with_len, get_or-map-range_with_len}
 use Rattle.std.proofs.lemmas.Grind.{pow_more}
 use Rattle.sixel_encoder.specs.declared.text.IndexedImage.{IndexedImage}
-use Rattle.sixel_encoder.specs.Text.{entry_at, is_entry, mask}
+use Rattle.sixel_encoder.specs.Text.{entry_at, is_entry, mask, sixel_of}
 use Rattle.sixel_encoder.specs.inside.Indexed.{entry_of, entries_of, drawing_of, IsIndexed}
 use Rattle.sixel_encoder.specs.inside.Grid.{pixel_bit}
+use Rattle.sixel_encoder.proofs.Drawn.{entry_of-shown, entry_of-hidden}
 
 pub mask-none : (test : ℕ → Bool) → mask test 0 ≡ 0
 unfolding mask
@@ -68,3 +72,33 @@ pub mask-below : (image : IndexedImage) (band bit e x old : ℕ) → IsIndexed i
 mask-below image band bit e x old is h was =
     let none : cond (hits image band e x bit) (2 ^ bit) 0 ≡ 0 = ap (pixel_bit (2 ^ bit) e) (entry_at-below image x (6 * band + bit) is h) in
     omega (arith, was, none, mask-more (hits image band e x) bit)
+
+mask-false : (test : ℕ → Bool) (n : ℕ) → ((k : ℕ) → test k ≡ false) → mask test n ≡ 0
+unfolding mask
+mask-false test zero none = refl
+mask-false test (suc n) none = omega (arith, mask-false test n none, ap (λ b. cond b (2 ^ n) 0) (none n))
+
+-- no pixel has an entry past the palette
+entry_of-past : (image : IndexedImage) (e pixel : ℕ) → IsIndexed image → pixel < image.width * image.height → length image.colors.now ≤ e → is_entry e (entry_of image.pixels.now image.indices.now pixel) ≡ false
+entry_of-past image e pixel is inside past =
+    elim (cases_lt (get_or image.pixels.now (4 * pixel + 3) 0) 128) [
+      | inl hidden ↦ ap (is_entry e) (entry_of-hidden image.pixels.now image.indices.now pixel hidden)
+      | inr opaque ↦
+          let entry = is.shown pixel inside opaque in
+          let other : (get_or image.indices.now pixel 0 == e) ≡ false = grind (arith, nat_tests) in
+          ap (is_entry e) (entry_of-shown image.pixels.now image.indices.now pixel opaque) ∙ other
+    ]
+
+hits-past : (image : IndexedImage) (band e x bit : ℕ) → IsIndexed image → x < image.width → length image.colors.now ≤ e → hits image band e x bit ≡ false
+hits-past image band e x bit is lx past =
+    let row = 6 * band + bit in
+    elim (cases_lt row image.height) [
+      | inl above ↦
+          let inside : row * image.width + x < image.width * image.height = omega (arith, mul-add-lt row image.width x image.height above lx, mul_comm image.width image.height) in
+          ap (is_entry e) (entry_at-inside image x row is lx above) ∙ entry_of-past image e (row * image.width + x) is inside past
+      | inr below ↦ ap (is_entry e) (entry_at-below image x row is below)
+    ]
+
+-- nor does its sixel have a dot
+pub sixel-past : (image : IndexedImage) (band e x : ℕ) → IsIndexed image → x < image.width → length image.colors.now ≤ e → sixel_of (drawing_of image) band e x ≡ 0
+sixel-past image band e x is lx past = mask-false (hits image band e x) 6 (λ bit. hits-past image band e x bit is lx past)

@@ -1,13 +1,15 @@
-//! The rows of one band: six lines of an image, a row of sixels for each palette entry.
+//! The rows of one band: six lines of an image, a row of sixels for each palette entry, or for a
+//! part of the entries.
 
 ghost use Rattle.std.specs.Prelude.{◌≡◌, ◌≢◌, ℕ, ◌+◌, ◌*◌, ◌<◌, ◌≤◌, ◌++◌, All, OnOk, string_bytes};
 ghost use Rattle.std.specs.Prelude.{length};
 ghost use Rattle.sixel_base.specs.Picture.{joined};
-ghost use Rattle.sixel_encoder.specs.Text.{sixel_of, row_text};
+ghost use Rattle.sixel_encoder.specs.Text.{sixel_of, row_text, entry_text};
 ghost use Rattle.sixel_encoder.specs.inside.Indexed.{IsIndexed, drawing_of, entry_of};
 ghost use Rattle.sixel_encoder.specs.inside.Grid.{cell, dot_at, pixel_bit, grid_row, grid_text, AreRows};
-ghost use Rattle.sixel_encoder.specs.inside.Grid.{AreBelow, AreMarks, AreClear};
+ghost use Rattle.sixel_encoder.specs.inside.Grid.{AreBelow, AreMarks, AreClear, IsPart};
 
+use crate::entries::others_from;
 use crate::pieces::{push_number, push_row};
 use crate::text::IndexedImage;
 use std::alloc::AllocError;
@@ -35,8 +37,15 @@ fn add_dot(
     used[entry] = true;
 }
 
-/// Sets a dot of this weight for each shown pixel of the line that starts at this pixel.
-fn add_line(rows: &mut [u8], used: &mut [bool], image: &IndexedImage<'_>, start: usize, weight: u8)
+/// Sets a dot of this weight for each shown pixel of the line that starts at this pixel, in rows
+/// of all entries.
+fn add_whole_line(
+    rows: &mut [u8],
+    used: &mut [bool],
+    image: &IndexedImage<'_>,
+    start: usize,
+    weight: u8,
+)
     requires image { IsIndexed image.now }
     requires entries { length used.old ≡ length image.now.colors.now }
     requires rows { AreRows rows.old used.old image.now.width }
@@ -59,47 +68,124 @@ fn add_line(rows: &mut [u8], used: &mut [bool], image: &IndexedImage<'_>, start:
     }
 }
 
-/// Sets the dots of a band in rows that have none.
+/// Sets a dot of this weight for each pixel of the line that starts at this pixel which is shown
+/// and has one of the entries with a row.
 #[inline(never)]
-pub fn fill_band(rows: &mut [u8], used: &mut [bool], image: &IndexedImage<'_>, band: usize)
+fn add_part_of_line(
+    rows: &mut [u8],
+    used: &mut [bool],
+    image: &IndexedImage<'_>,
+    first: usize,
+    start: usize,
+    weight: u8,
+)
     requires image { IsIndexed image.now }
-    requires entries { length used.old ≡ length image.now.colors.now }
+    requires first { first < 256 }
+    requires count { length used.old < 256 }
+    requires rows { AreRows rows.old used.old image.now.width }
+    requires line { start + image.now.width ≤ image.now.width * image.now.height }
+    requires weight { 0 < weight }
+    requires room { (e x : ℕ) → e < length used.old → x < image.now.width
+        → cell rows.old image.now.width e x + weight < 256 }
+    requires marks { AreMarks rows.old used.old image.now.width }
+    ensures cells { (e x : ℕ) → e < length used.old → x < image.now.width
+        → cell rows.new image.now.width e x ≡ cell rows.old image.now.width e x
+        + pixel_bit weight (first + e)
+        (entry_of image.now.pixels.now image.now.indices.now (start + x)) }
+    ensures marks { AreMarks rows.new used.new image.now.width }
+{
+    let mut column = 0;
+    'columns: while column < image.width {
+        let pixel = start + column;
+        let entry = usize::from(image.indices[pixel]);
+        if first <= entry && entry < first + used.len() && image.pixels[4 * pixel + 3] >= 128 {
+            add_dot(rows, used, image.width, entry - first, column, weight);
+        }
+        column += 1 + others_from(image.indices, pixel + 1, first, used.len());
+    }
+}
+
+/// Sets a dot of this weight for each shown pixel of the line that starts at this pixel, where its
+/// entry has a row.
+fn add_line(
+    rows: &mut [u8],
+    used: &mut [bool],
+    image: &IndexedImage<'_>,
+    first: usize,
+    start: usize,
+    weight: u8,
+)
+    requires image { IsIndexed image.now }
+    requires part { IsPart first (length used.old) (length image.now.colors.now) }
+    requires rows { AreRows rows.old used.old image.now.width }
+    requires line { start + image.now.width ≤ image.now.width * image.now.height }
+    requires weight { 0 < weight }
+    requires room { (e x : ℕ) → e < length used.old → x < image.now.width
+        → cell rows.old image.now.width e x + weight < 256 }
+    requires marks { AreMarks rows.old used.old image.now.width }
+    ensures cells { (e x : ℕ) → e < length used.old → x < image.now.width
+        → cell rows.new image.now.width e x ≡ cell rows.old image.now.width e x
+        + pixel_bit weight (first + e)
+        (entry_of image.now.pixels.now image.now.indices.now (start + x)) }
+    ensures marks { AreMarks rows.new used.new image.now.width }
+{
+    if used.len() == image.colors.len() {
+        add_whole_line(rows, used, image, start, weight);
+    } else {
+        add_part_of_line(rows, used, image, first, start, weight);
+    }
+}
+
+/// Sets the dots of a band in rows that have none, which are those of some entries from the first
+/// one on.
+#[inline(never)]
+fn fill_part(
+    rows: &mut [u8],
+    used: &mut [bool],
+    image: &IndexedImage<'_>,
+    first: usize,
+    band: usize,
+)
+    requires image { IsIndexed image.now }
+    requires part { IsPart first (length used.old) (length image.now.colors.now) }
     requires rows { AreRows rows.old used.old image.now.width }
     requires band { 6 * band < image.now.height }
     requires clear { AreClear rows.old used.old image.now.width (length used.old) }
     ensures cells { (e x : ℕ) → e < length used.old → x < image.now.width
-        → cell rows.new image.now.width e x ≡ sixel_of (drawing_of image.now) band e x }
+        → cell rows.new image.now.width e x ≡ sixel_of (drawing_of image.now) band (first + e) x }
     ensures marks { AreMarks rows.new used.new image.now.width }
 {
     let mut weight = 1;
     for bit in 0..6 {
         let row = 6 * band + bit;
         if row < image.height {
-            add_line(rows, used, image, row * image.width, weight);
+            add_line(rows, used, image, first, row * image.width, weight);
         }
         weight *= 2;
     }
 }
 
-/// Appends an entry's row, and clears it.
+/// Appends an entry's row, and clears it. The rows are those of some entries from the first one on.
 fn push_entry(
     text: &mut String,
     rows: &mut [u8],
     width: usize,
+    first: usize,
     entry: usize,
 ) -> Result<(), AllocError>
+    requires number { first + entry < 512 }
     requires room { entry * width + width ≤ length rows.old }
     requires below { (x : ℕ) → x < width → cell rows.old width entry x < 64 }
     ensures text { OnOk result
         (string_bytes text.new ≡ string_bytes text.old
-        ++ row_text entry (grid_row rows.old width entry)) }
+        ++ row_text (first + entry) (grid_row rows.old width entry)) }
     ensures blank { OnOk result ((x : ℕ) → x < width → cell rows.new width entry x ≡ 0) }
     ensures others { OnOk result ((e x : ℕ) → e ≢ entry → x < width
         → cell rows.new width e x ≡ cell rows.old width e x) }
 {
     let start = entry * width;
     let row = &mut rows[start..start + width];
-    push_entry_row(text, entry, row)?;
+    push_entry_row(text, first + entry, row)?;
     row.fill(0);
     Ok(())
 }
@@ -116,26 +202,53 @@ fn push_entry_row(text: &mut String, entry: usize, row: &[u8]) -> Result<(), All
     text.push('$')
 }
 
-/// Appends the rows of the entries that have a dot, and clears them.
-pub fn push_band(
+/// Appends the rows that have a dot, and clears them. They are those of some entries from the
+/// first one on.
+fn push_rows(
     text: &mut String,
     rows: &mut [u8],
     used: &mut [bool],
     width: usize,
+    first: usize,
 ) -> Result<(), AllocError>
     requires rows { AreRows rows.old used.old width }
+    requires numbers { first + length used.old ≤ 512 }
     requires below { AreBelow rows.old width (length used.old) 64 }
     requires marks { AreMarks rows.old used.old width }
     ensures text { OnOk result
         (string_bytes text.new ≡ string_bytes text.old
-        ++ joined (grid_text rows.old width) (length used.old)) }
+        ++ joined (grid_text rows.old width first) (length used.old)) }
     ensures clear { OnOk result (AreClear rows.new used.new width (length used.old)) }
 {
     for entry in 0..used.len() {
         if used[entry] {
-            push_entry(text, rows, width, entry)?;
+            push_entry(text, rows, width, first, entry)?;
             used[entry] = false;
         }
     }
     Ok(())
+}
+
+/// Appends the rows of a band for some entries from the first one on, over rows that have no dot,
+/// and leaves them so.
+pub fn push_part(
+    text: &mut String,
+    image: &IndexedImage<'_>,
+    band: usize,
+    first: usize,
+    rows: &mut [u8],
+    used: &mut [bool],
+) -> Result<(), AllocError>
+    requires image { IsIndexed image.now }
+    requires band { 6 * band < image.now.height }
+    requires part { IsPart first (length used.old) (length image.now.colors.now) }
+    requires rows { AreRows rows.old used.old image.now.width }
+    requires clear { AreClear rows.old used.old image.now.width (length used.old) }
+    ensures text { OnOk result
+        (string_bytes text.new ≡ string_bytes text.old
+        ++ joined (λ e. entry_text (drawing_of image.now) band (first + e)) (length used.old)) }
+    ensures clear { OnOk result (AreClear rows.new used.new image.now.width (length used.old)) }
+{
+    fill_part(rows, used, image, first, band);
+    push_rows(text, rows, used, image.width, first)
 }

@@ -13,6 +13,7 @@ ghost use Rattle.sixel_encoder.specs.Encoding.{image_fault, IsDrawing, IsText, s
 ghost use Rattle.sixel_encoder.specs.Encoding.{square_value};
 
 mod band;
+mod entries;
 mod pieces;
 mod runs;
 mod source;

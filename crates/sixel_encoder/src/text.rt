@@ -1,12 +1,12 @@
 //! The text of an image whose colors are chosen.
 
-ghost use Rattle.std.specs.Prelude.{◌≡◌, ◌+◌, ◌*◌, ◌<◌, ◌++◌, IfOk, OnOk, string_bytes, length};
+ghost use Rattle.std.specs.Prelude.{◌≡◌, ◌+◌, ◌*◌, ◌<◌, ◌≤◌, ◌++◌, ℕ, IfOk, OnOk, string_bytes, length};
 ghost use Rattle.sixel_encoder.specs.Text.{percent, color_definition, parameters_text, raster_text};
 ghost use Rattle.sixel_encoder.specs.Text.{palette_text, band_text, bands_text, text_of};
 ghost use Rattle.sixel_encoder.specs.inside.Indexed.{IsIndexed, drawing_of};
 ghost use Rattle.sixel_encoder.specs.inside.Grid.{AreRows, AreClear};
 
-use crate::band::{fill_band, push_band};
+use crate::band::push_part;
 use sixel_base::settings::{BackgroundMode, PixelAspectRatio};
 use std::alloc::{AllocError, Global};
 
@@ -45,19 +45,34 @@ fn push_image(alloc: Global, text: &mut String, image: &IndexedImage<'_>) -> Res
     text.push_str("\x1b\\")
 }
 
+/// How many bytes the rows of a band may take, with a mark for each of them.
+const ROOM: usize = 2 * 1024 * 1024;
+
+/// How many entries have their rows at once: as many as there is room for, and at least one.
+fn entries_at_once(width: usize, entries: usize) -> usize
+    requires { width ≤ 1000000 }
+    ensures some { 0 < result }
+    ensures few { 0 < entries → result ≤ entries }
+    ensures room { result * (width + 1) ≤ 2097152 }
+    ensures most { (count : ℕ) → count ≤ entries → count * (width + 1) ≤ 2097152
+        → count ≤ result }
+{
+    (ROOM / (width + 1)).min(entries).max(1)
+}
+
 /// Appends the bands.
 fn push_bands(alloc: Global, text: &mut String, image: &IndexedImage<'_>) -> Result<(), AllocError>
     requires { IsIndexed image.now }
     ensures { OnOk result
         (string_bytes text.new ≡ string_bytes text.old ++ bands_text (drawing_of image.now)) }
 {
-    let count = image.colors.len();
+    let count = entries_at_once(image.width, image.colors.len());
     let mut rows = vec![in alloc; 0; count * image.width]?;
     let mut used = vec![in alloc; false; count]?;
     push_bands_over(text, image, &mut rows, &mut used)
 }
 
-/// Appends the bands, over rows that have no dot.
+/// Appends the bands, over rows of some entries at once that have no dot.
 fn push_bands_over(
     text: &mut String,
     image: &IndexedImage<'_>,
@@ -65,7 +80,10 @@ fn push_bands_over(
     used: &mut [bool],
 ) -> Result<(), AllocError>
     requires image { IsIndexed image.now }
-    requires entries { length used.old ≡ length image.now.colors.now }
+    requires some { 0 < length used.old }
+    requires few { 0 < length image.now.colors.now
+        → length used.old ≤ length image.now.colors.now }
+    requires room { length rows.old + length used.old ≤ 2097152 }
     requires rows { AreRows rows.old used.old image.now.width }
     requires clear { AreClear rows.old used.old image.now.width (length used.old) }
     ensures { OnOk result
@@ -77,7 +95,7 @@ fn push_bands_over(
     Ok(())
 }
 
-/// Appends a band, over rows that have no dot, and leaves them so.
+/// Appends a band, over rows of some entries at once that have no dot, and leaves them so.
 fn push_whole_band(
     text: &mut String,
     image: &IndexedImage<'_>,
@@ -87,15 +105,18 @@ fn push_whole_band(
 ) -> Result<(), AllocError>
     requires image { IsIndexed image.now }
     requires band { 6 * band < image.now.height }
-    requires entries { length used.old ≡ length image.now.colors.now }
+    requires some { 0 < length used.old }
+    requires few { 0 < length image.now.colors.now
+        → length used.old ≤ length image.now.colors.now }
     requires rows { AreRows rows.old used.old image.now.width }
     requires clear { AreClear rows.old used.old image.now.width (length used.old) }
     ensures text { OnOk result
         (string_bytes text.new ≡ string_bytes text.old ++ band_text (drawing_of image.now) band) }
     ensures clear { OnOk result (AreClear rows.new used.new image.now.width (length used.old)) }
 {
-    fill_band(rows, used, image, band);
-    push_band(text, rows, used, image.width)?;
+    for part in 0..image.colors.len().div_ceil(used.len()) {
+        push_part(text, image, band, part * used.len(), rows, used)?;
+    }
     text.push('-')
 }
 

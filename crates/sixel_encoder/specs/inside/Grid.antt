@@ -1,6 +1,6 @@
--- What the encoder keeps of one band: the sixels of each entry, entry after entry, and which entries have a dot. This is the working of the
--- encoder alone; what it writes is defined by the text of a drawing.
-use Rattle.std.specs.Prelude.{◌≡◌, ℕ, ◌+◌, ◌*◌, ◌<◌, ◌==◌, Bool, true, false, ◌&&◌, if◌then◌else◌, List, [], length, map, slice_index, slice_index_or, Option}
+-- What the encoder keeps of one band: the sixels of some entries from a first one on, entry after entry, and which of them have a dot. This is
+-- the working of the encoder alone; what it writes is defined by the text of a drawing.
+use Rattle.std.specs.Prelude.{◌≡◌, ℕ, ◌+◌, ◌*◌, ◌<◌, ◌≤◌, ◌==◌, Bool, true, false, ◌&&◌, if◌then◌else◌, List, [], length, map, slice_index, slice_index_or, Option}
 use Rattle.std.specs.List.{range_with_len}
 use Rattle.sixel_encoder.specs.Text.{is_entry, has_dot, row_text}
 
@@ -13,9 +13,9 @@ abbrev pub grid_row : List ℕ → ℕ → ℕ → List ℕ
 grid_row rows width entry = map (cell rows width entry) (range_with_len 0 width)
 
 -- the text of an entry's row, if it has a dot
-abbrev pub grid_text : List ℕ → ℕ → ℕ → List ℕ
-grid_text rows width entry =
-    if has_dot (grid_row rows width entry) then row_text entry (grid_row rows width entry) else []
+abbrev pub grid_text : List ℕ → ℕ → ℕ → ℕ → List ℕ
+grid_text rows width first entry =
+    if has_dot (grid_row rows width entry) then row_text (first + entry) (grid_row rows width entry) else []
 
 -- a number where the entry and the column are these, else nothing
 abbrev pub dot_at : ℕ → ℕ → ℕ → ℕ → ℕ → ℕ
@@ -24,6 +24,12 @@ dot_at weight entry column e x = if e == entry && x == column then weight else 0
 -- what a pixel adds to an entry's sixel: its line's weight where the pixel has the entry
 abbrev pub pixel_bit : ℕ → ℕ → Option ℕ → ℕ
 pixel_bit weight e place = if is_entry e place then weight else 0
+
+-- So many entries from the first one on are a part of all entries: the first is one of them, and with as many as there are it is 0.
+pub record IsPart (first count entries : ℕ) : Type 0 where
+  pub some : first < entries
+  pub few : count ≤ entries
+  pub whole : count ≡ entries → first ≡ 0
 
 -- the rows have a place for each entry and column, where each entry has a mark
 abbrev pub AreRows : List ℕ → List Bool → ℕ → Type 0

@@ -2,7 +2,7 @@ use Rattle.std.proofs.Common.{◌≡◌, ℕ, ◌+◌, ◌<◌, nat_lt, length}
 use Rattle.std.specs.Prelude.{if◌then◌else◌}
 use Rattle.sixel_encoder.specs.inside.Indexed.{entry_of}
 use Rattle.sixel_encoder.specs.inside.Grid.{cell, pixel_bit, AreMarks}
-use Rattle.sixel_encoder.proofs.band.add_line.Given as goal
+use Rattle.sixel_encoder.proofs.band.add_whole_line.Given as goal
 
 abbrev pub invariant-loop-column : goal.invariant-loop-column
 invariant-loop-column l = record {
