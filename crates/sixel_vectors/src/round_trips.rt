@@ -1,10 +1,13 @@
 //! Images that are encoded and decoded again.
 
+ghost use Rattle.std.specs.Prelude.{◌<◌};
+
 use crate::answers::{BLACK, BLUE, CLEAR, RED, Run, assert_pixels, bytes_of};
 use icy_sixel::{
-    BackgroundMode, EncodeOptions, PixelAspectRatio, Result, SixelDecoder, SixelImage, sixel_encode,
+    BackgroundMode, EncodeOptions, PixelAspectRatio, Result, SixelDecoder, SixelImage,
+    sixel_encode, sixel_encode_default,
 };
-use std::alloc::Global;
+use std::alloc::{AllocError, Global};
 use std::process::Abort;
 
 /// The pixels of an image, and its size.
@@ -110,6 +113,60 @@ fn wide_lines(rt: HostRuntime) {
         let image = trip(rt.alloc(), from, 256).expect(&rt, "a round trip");
         assert_is(&rt, &image, to);
     }
+}
+
+/// A color of a palette, whose channels are whole percentages.
+fn striped(place: usize, colors: usize) -> [u8; 4]
+    requires { 0 < colors }
+{
+    let levels = [0, 26, 51, 77, 102, 128, 153, 179, 204, 230];
+    let color = place % colors;
+    [levels[color % 10], levels[color / 10 % 10], 0, 255]
+}
+
+/// The pixels of an image of slanted stripes, each seven pixels wide.
+fn stripes(
+    alloc: Global,
+    width: usize,
+    height: usize,
+    colors: usize,
+) -> std::result::Result<Vec<u8>, AllocError>
+    requires colors { 0 < colors }
+    requires height { height < 1000 }
+{
+    let mut pixels = Vec::new(alloc);
+    for row in 0..height {
+        for column in 0..width {
+            pixels.extend_from_slice(&striped(column / 7 + 11 * row, colors))?;
+        }
+    }
+    Ok(pixels)
+}
+
+/// Asserts that stripes of so many colors come back, with the last band's other rows clear.
+fn assert_stripes_trip(rt: &(impl Abort + AllocGlobal), width: usize, height: usize, colors: usize)
+    requires colors { 0 < colors }
+    requires height { height < 1000 }
+{
+    let alloc = rt.alloc();
+    let mut pixels = stripes(alloc, width, height, colors).expect(rt, "stripes");
+    let text = sixel_encode_default(alloc, &pixels, width, height).expect(rt, "a text");
+    let image = SixelDecoder::new().decode(alloc, text.as_bytes());
+    let banded = height.next_multiple_of(6);
+    for _ in 0..width.saturating_mul(banded - height) {
+        pixels.extend_from_slice(&CLEAR).expect(rt, "clear rows");
+    }
+    let image = image.expect(rt, "an image");
+    assert_pixels(rt, "stripes", &image, (width, banded), &pixels);
+}
+
+#[test]
+fn more_entries_than_rows_at_once(rt: HostRuntime) {
+    // Two mebibytes have 32 rows of 65535 sixels, each with its mark, and 20 of 100000.
+    assert_stripes_trip(&rt, 65535, 1, 32);
+    assert_stripes_trip(&rt, 65536, 1, 32);
+    assert_stripes_trip(&rt, 65536, 1, 31);
+    assert_stripes_trip(&rt, 100000, 7, 50);
 }
 
 #[test]
