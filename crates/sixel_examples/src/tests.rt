@@ -6,9 +6,9 @@ use crate::multiplexer::{Came, read};
 use crate::streaming::{decode_payload_pieces, decode_pieces};
 use crate::terminal::Images;
 use crate::viewer::open;
-use icy_sixel::SixelDecoder;
 use icy_sixel::receiver::SixelReceiver;
 use icy_sixel::script::Outcome;
+use icy_sixel::{SixelDecoder, SixelImage};
 use std::process::Abort;
 
 #[test]
@@ -60,22 +60,26 @@ fn whole_images(rt: HostRuntime) {
     );
 }
 
+/// Reads the last bytes of an image, of which so many are its own, and gives it.
+fn ended(rt: &impl Abort, images: &mut Images, bytes: &[u8], consumed: usize) -> SixelImage {
+    let read = images.read(bytes).expect(rt, "an end");
+    assert_eq!(rt; read.consumed, consumed);
+    read.image.expect(rt, "an image")
+}
+
 #[test]
 fn a_terminal(rt: HostRuntime) {
     let mut images = Images::new([1, 2, 3], 307_200);
     images.begin(rt.alloc(), None, None);
     let first = images.read(b"!3").expect(&rt, "a part");
     assert_eq!(rt; (first.consumed, first.image.is_none()), (2, true));
-    let second = images.read(b"?@\x1b\\text").expect(&rt, "an end");
-    assert_eq!(rt; second.consumed, 2);
-    let image = second.image.expect(&rt, "an image");
+    let image = ended(&rt, &mut images, b"?@\x1b\\text", 2);
     assert_eq!(rt; image.dimensions(), (4, 6));
     assert_eq!(rt; image.pixels.get(..4), Some([1, 2, 3, 255].as_slice()));
     assert_eq!(rt; images.size_so_far(), None);
     images.begin(rt.alloc(), None, None);
-    let cropped = images.read(b"\"1;1;2;3~~\x1b\\").expect(&rt, "an end");
-    let image = cropped.image.expect(&rt, "an image");
-    assert_eq!(rt; image.dimensions(), (2, 3));
+    let cropped = ended(&rt, &mut images, b"\"1;1;2;3~~\x1b\\", 10);
+    assert_eq!(rt; cropped.dimensions(), (2, 3));
     images.begin(rt.alloc(), None, None);
     assert!(rt; images.read(b"!51201~").is_err());
 }
