@@ -1,8 +1,8 @@
 //! The canvas, its rows and the filling of spans.
 
-ghost use Rattle.std.specs.Prelude.{◌≤◌};
+ghost use Rattle.std.specs.Prelude.{◌≤◌, ◌*◌};
 
-use crate::answers::{BLACK, RED, next};
+use crate::answers::{BLACK, RED, Run, bytes_of, next};
 use icy_sixel::canvas::{Row, fill_rgba_span};
 use sixel_canvas::Canvas;
 use std::process::Abort;
@@ -54,36 +54,37 @@ fn span_starts_anywhere(rt: HostRuntime) -> Result<(), Fail> {
     Ok(())
 }
 
-#[test]
-fn row_doubles_its_room(rt: HostRuntime) -> Result<(), Fail> {
-    let mut row = Row::new(rt.alloc(), BACKGROUND);
-    assert_eq!(rt; (row.len(), row.room(), row.writes()), (0, 0, 0));
-    assert!(rt; row.is_empty());
-    row.reach(5)?;
-    assert_eq!(rt; (row.len(), row.room(), row.writes()), (5, 5, 5));
-    row.reach(6)?;
-    assert_eq!(rt; (row.len(), row.room(), row.writes()), (6, 10, 11));
-    row.reach(10)?;
-    assert_eq!(rt; (row.len(), row.room(), row.writes()), (10, 10, 15));
-    row.reach(3)?;
-    assert_eq!(rt; (row.len(), row.room(), row.writes()), (10, 10, 15));
-    row.reach(11)?;
-    assert_eq!(rt; (row.len(), row.room(), row.writes()), (11, 20, 26));
-    Ok(())
+/// How wide a row is, the room that it has, and the pixels that it has written.
+fn counts(row: &Row) -> (usize, usize, u64) {
+    (row.len(), row.room(), row.writes())
+}
+
+/// Has a row reach a width, and asserts its counts then.
+fn assert_reaches(rt: &impl Abort, row: &mut Row, width: usize, expected: (usize, usize, u64))
+    requires { width ≤ 1000000 }
+{
+    row.reach(width).expect(rt, "a row");
+    assert_eq!(rt; counts(row), expected, "a row that reaches {width}");
 }
 
 #[test]
-fn row_stops_doubling_at_the_greatest_side(rt: HostRuntime) -> Result<(), Fail> {
+fn row_doubles_its_room(rt: HostRuntime) {
     let mut row = Row::new(rt.alloc(), BACKGROUND);
-    row.reach(600_000)?;
-    row.reach(600_001)?;
-    assert_eq!(rt; (row.room(), row.writes()), (1_000_000, 1_200_001));
-    row.reach(1_000_000)?;
-    assert_eq!(rt;
-        (row.len(), row.room(), row.writes()),
-        (1_000_000, 1_000_000, 1_600_000)
-    );
-    Ok(())
+    assert!(rt; row.is_empty());
+    assert_eq!(rt; counts(&row), (0, 0, 0));
+    assert_reaches(&rt, &mut row, 5, (5, 5, 5));
+    assert_reaches(&rt, &mut row, 6, (6, 10, 11));
+    assert_reaches(&rt, &mut row, 10, (10, 10, 15));
+    assert_reaches(&rt, &mut row, 3, (10, 10, 15));
+    assert_reaches(&rt, &mut row, 11, (11, 20, 26));
+}
+
+#[test]
+fn row_stops_doubling_at_the_greatest_side(rt: HostRuntime) {
+    let mut row = Row::new(rt.alloc(), BACKGROUND);
+    assert_reaches(&rt, &mut row, 600_000, (600_000, 600_000, 600_000));
+    assert_reaches(&rt, &mut row, 600_001, (600_001, 1_000_000, 1_200_001));
+    assert_reaches(&rt, &mut row, 1_000_000, (1_000_000, 1_000_000, 1_600_000));
 }
 
 #[test]
@@ -96,17 +97,30 @@ fn painting_counts_no_write(rt: HostRuntime) -> Result<(), Fail> {
     Ok(())
 }
 
+/// Asserts how many pixels a canvas has written, and what it shows in this size.
+fn assert_shows(
+    rt: &(impl Abort + AllocGlobal),
+    canvas: &Canvas,
+    writes: u64,
+    size: (usize, usize),
+    runs: &[Run],
+)
+    requires { size.0 * size.1 ≤ 67108864 }
+{
+    let (width, height) = size;
+    assert_eq!(rt; canvas.writes(), writes);
+    let expected = bytes_of(rt.alloc(), runs).expect(rt, "pixels");
+    let shown = canvas.pack(width, height).expect(rt, "an image");
+    assert!(rt; shown.as_slice() == expected.as_slice(), "what is shown");
+}
+
 #[test]
 fn canvas_shows_its_strokes(rt: HostRuntime) -> Result<(), Fail> {
     let mut canvas = Canvas::new(rt.alloc(), BACKGROUND);
     canvas.draw(1, 2, 0, 0b10_0001, RED)?;
-    assert_eq!(rt; canvas.writes(), 4);
-    let bytes = canvas.pack(3, 7)?;
-    assert_eq!(rt; bytes.len(), 84);
-    for (i, pixel) in bytes.chunks(4).enumerate() {
-        let expected = if i == 1 || i == 16 { RED } else { BACKGROUND };
-        assert_eq!(rt; pixel, expected.as_slice(), "pixel {i}");
-    }
+    let (dot, rest) = ((1, RED), (4, BACKGROUND));
+    let runs = [(1, BACKGROUND), dot, (14, BACKGROUND), dot, rest];
+    assert_shows(&rt, &canvas, 4, (3, 7), &runs);
     Ok(())
 }
 
@@ -115,15 +129,8 @@ fn later_stroke_wins(rt: HostRuntime) -> Result<(), Fail> {
     let mut canvas = Canvas::new(rt.alloc(), BACKGROUND);
     canvas.draw(0, 40, 6, 1, RED)?;
     canvas.draw(20, 21, 6, 1, [1, 2, 3, 4])?;
-    let bytes = canvas.pack(21, 7)?;
-    for (i, pixel) in bytes.chunks(4).enumerate() {
-        let expected = match i {
-            0..126 => BACKGROUND,
-            126..146 => RED,
-            _ => [1, 2, 3, 4],
-        };
-        assert_eq!(rt; pixel, expected.as_slice(), "pixel {i}");
-    }
+    let runs = [(126, BACKGROUND), (20, RED), (1, [1, 2, 3, 4])];
+    assert_shows(&rt, &canvas, 40, (21, 7), &runs);
     Ok(())
 }
 
@@ -131,20 +138,16 @@ fn later_stroke_wins(rt: HostRuntime) -> Result<(), Fail> {
 fn strokes_far_down_make_rows_in_bulk(rt: HostRuntime) -> Result<(), Fail> {
     let mut canvas = Canvas::new(rt.alloc(), BACKGROUND);
     canvas.draw(0, 1, 999_994, 0, RED)?;
-    assert_eq!(rt; canvas.writes(), 0);
+    assert_shows(&rt, &canvas, 0, (1, 0), &[]);
     canvas.draw(999_999, 1_000_000, 999_994, 0b10_0000, RED)?;
-    assert_eq!(rt; canvas.writes(), 1_000_000);
-    let bytes = canvas.pack(1, 0)?;
-    assert!(rt; bytes.is_empty());
+    assert_shows(&rt, &canvas, 1_000_000, (1, 0), &[]);
     Ok(())
 }
 
 #[test]
-fn empty_canvas_is_background(rt: HostRuntime) -> Result<(), Fail> {
+fn empty_canvas_is_background(rt: HostRuntime) {
     let canvas = Canvas::new(rt.alloc(), BACKGROUND);
-    assert_eq!(rt; canvas.pack(1, 1)?.as_slice(), BACKGROUND.as_slice());
-    assert_eq!(rt; canvas.writes(), 0);
-    Ok(())
+    assert_shows(&rt, &canvas, 0, (1, 1), &[(1, BACKGROUND)]);
 }
 
 /// The width of the picture that strokes are drawn on, and its height.
@@ -214,19 +217,32 @@ fn check_both(rt: &(impl Abort + Alloc), canvas: &Canvas, plain: &[[u8; 4]]) -> 
     Ok(())
 }
 
+/// Draws strokes of all lengths on both in a band, and asserts after each few that both show the same.
+fn assert_band(
+    rt: &(impl Abort + Alloc),
+    canvas: &mut Canvas,
+    plain: &mut Vec<[u8; 4]>,
+    seed: &mut u64,
+    top: usize,
+) -> Result<(), Fail>
+    requires { top ≤ 6 }
+{
+    for _step in 0..40u8 {
+        for longest in [1000, 300, 30] {
+            draw_on_both(canvas, plain, seed, top, longest)?;
+        }
+        check_both(rt, canvas, plain)?;
+    }
+    Ok(())
+}
+
 #[test]
 fn tagged_strokes_show_what_plain_ones_do(rt: HostRuntime) -> Result<(), Fail> {
     let mut canvas = Canvas::new(rt.alloc(), BACKGROUND);
     let mut plain = vec![in rt.alloc(); BACKGROUND; PLAIN_WIDTH * PLAIN_HEIGHT]?;
     let mut seed = 1;
     for top in [0usize, 6, 3, 0, 5, 6] {
-        let row = top.min(6);
-        for _step in 0..40u8 {
-            draw_on_both(&mut canvas, &mut plain, &mut seed, row, 1000)?;
-            draw_on_both(&mut canvas, &mut plain, &mut seed, row, 300)?;
-            draw_on_both(&mut canvas, &mut plain, &mut seed, row, 30)?;
-            check_both(&rt, &canvas, &plain)?;
-        }
+        assert_band(&rt, &mut canvas, &mut plain, &mut seed, top.min(6))?;
     }
     Ok(())
 }
