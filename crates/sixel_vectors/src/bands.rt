@@ -8,7 +8,7 @@ use crate::answers::{
 };
 use icy_sixel::decoder::DcsSettings;
 use std::alloc::{AllocError, Global};
-use std::test::Fail;
+use std::process::Abort;
 
 /// The sixels of two layers of a band, as their six bits.
 #[derive(Clone, Copy)]
@@ -79,18 +79,31 @@ fn large_pixels(alloc: Global) -> Result<Vec<u8>, AllocError> {
     Ok(pixels)
 }
 
+/// Asserts the size and the pixels of a payload in pieces of this length.
+fn assert_draws_in_pieces(
+    rt: &(impl Abort + AllocGlobal),
+    settings: DcsSettings,
+    payload: &[u8],
+    length: usize,
+    size: (usize, usize),
+    pixels: &[u8],
+)
+    requires { 0 < length }
+{
+    let image = fed(rt.alloc(), payload, settings, length).expect(rt, "an image");
+    assert_pixels(rt, "pieces", &image, size, pixels);
+}
+
 #[test]
-fn thirty_bands_of_two_layers(rt: HostRuntime) -> Result<(), Fail> {
-    let alloc = rt.alloc();
-    let payload = large_payload(alloc)?;
-    let expected = large_pixels(alloc)?;
-    let image = decoded(alloc, &payload, DcsSettings::default())?;
+fn thirty_bands_of_two_layers(rt: HostRuntime) {
+    let settings = DcsSettings::default();
+    let payload = large_payload(rt.alloc()).expect(&rt, "a payload");
+    let expected = large_pixels(rt.alloc()).expect(&rt, "pixels");
+    let image = decoded(rt.alloc(), &payload, settings).expect(&rt, "an image");
     assert_pixels(&rt, "one piece", &image, (200, 180), &expected);
     for length in [1, 7, 100, 4096] {
-        let image = fed(alloc, &payload, DcsSettings::default(), length)?;
-        assert_pixels(&rt, "many pieces", &image, (200, 180), &expected);
+        assert_draws_in_pieces(&rt, settings, &payload, length, (200, 180), &expected);
     }
-    Ok(())
 }
 
 /// A repeat of three and then each of the 64 sixels, in red.
@@ -117,17 +130,14 @@ fn masks_pixels(alloc: Global) -> Result<Vec<u8>, AllocError> {
 }
 
 #[test]
-fn all_masks(rt: HostRuntime) -> Result<(), Fail> {
-    let alloc = rt.alloc();
-    let payload = masks_payload(alloc)?;
-    let expected = masks_pixels(alloc)?;
-    let image = decoded(alloc, &payload, transparent())?;
+fn all_masks(rt: HostRuntime) {
+    let payload = masks_payload(rt.alloc()).expect(&rt, "a payload");
+    let expected = masks_pixels(rt.alloc()).expect(&rt, "pixels");
+    let image = decoded(rt.alloc(), &payload, transparent()).expect(&rt, "an image");
     assert_pixels(&rt, "one piece", &image, (66, 6), &expected);
     for length in 1..80 {
-        let image = fed(alloc, &payload, transparent(), length)?;
-        assert_pixels(&rt, "many pieces", &image, (66, 6), &expected);
+        assert_draws_in_pieces(&rt, transparent(), &payload, length, (66, 6), &expected);
     }
-    Ok(())
 }
 
 #[test]

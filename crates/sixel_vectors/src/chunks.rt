@@ -96,6 +96,18 @@ fn a_text_in_pieces(rt: HostRuntime) {
     }
 }
 
+/// Asserts that a control string in pieces of uneven lengths gives this outcome.
+fn assert_followed(
+    rt: &(impl Abort + AllocGlobal),
+    string: &[u8],
+    start: u32,
+    expected: &Result<SixelImage>,
+) {
+    let pieces = uneven_pieces(rt.alloc(), string, start).expect(rt, "pieces");
+    let image = followed(rt.alloc(), &pieces);
+    assert_same(rt, b"uneven pieces", &image, expected);
+}
+
 #[test]
 fn a_control_string_in_pieces(rt: HostRuntime) {
     let alloc = rt.alloc();
@@ -105,7 +117,6 @@ fn a_control_string_in_pieces(rt: HostRuntime) {
     let single = followed_singly(alloc, string);
     assert_same(&rt, b"single bytes", &single, &expected);
     for start in 1..=16 {
-        let pieces = uneven_pieces(alloc, string, start).expect(&rt, "pieces");
-        assert_same(&rt, b"uneven pieces", &followed(alloc, &pieces), &expected);
+        assert_followed(&rt, string, start, &expected);
     }
 }

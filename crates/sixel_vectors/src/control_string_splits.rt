@@ -61,8 +61,8 @@ fn assert_cuts(rt: &(impl Abort + AllocGlobal), string: &[u8]) {
         for first in 0..=front.len() {
             let (left, middle) = front.split_at(first);
             let ending = fed(alloc, &[left, middle, back]).expect(rt, "an ending");
-            assert_eq!(rt; ending.consumed, string.len());
-            assert_eq!(rt; ending.status, SixelDcsFeedStatus::Complete);
+            let whole = (string.len(), SixelDcsFeedStatus::Complete);
+            assert_eq!(rt; (ending.consumed, ending.status), whole);
             assert_same(rt, string, &Ok(ending.image), &expected);
         }
     }
@@ -70,12 +70,16 @@ fn assert_cuts(rt: &(impl Abort + AllocGlobal), string: &[u8]) {
 
 #[test]
 fn two_cuts(rt: HostRuntime) {
-    assert_cuts(&rt, b"\x1bPq~\x1b\\");
-    assert_cuts(&rt, b"\x90q~\x9c");
-    assert_cuts(&rt, b"\x1bP3;1;0q#1;2;100;0;0!12~\x9c");
-    assert_cuts(&rt, b"\x90;1q\"6;2;12;6#1;2;100;0;0!1\n2~\x1b\\");
-    assert_cuts(&rt, b"\x1bP9\n;1;q#42;2;0;100;0\x1b\\");
-    assert_cuts(&rt, b"\x1bPq\x9c");
+    for string in [
+        b"\x1bPq~\x1b\\".as_slice(),
+        b"\x90q~\x9c".as_slice(),
+        b"\x1bP3;1;0q#1;2;100;0;0!12~\x9c".as_slice(),
+        b"\x90;1q\"6;2;12;6#1;2;100;0;0!1\n2~\x1b\\".as_slice(),
+        b"\x1bP9\n;1;q#42;2;0;100;0\x1b\\".as_slice(),
+        b"\x1bPq\x9c".as_slice(),
+    ] {
+        assert_cuts(&rt, string);
+    }
 }
 
 /// Asserts that a terminator ends a red column so, wherever the bytes are cut.
@@ -155,17 +159,23 @@ fn refusal_of(
     None
 }
 
+/// Asserts that a session is ended, whatever it is fed.
+fn assert_failed(rt: &impl Abort, mut session: SixelDcsStreamDecoder<'_>) {
+    let failed = SixelError::InvalidData("DCS stream decoder has failed");
+    for piece in [b"".as_slice(), b"~".as_slice()] {
+        assert_eq!(rt; session.feed(piece).err().as_ref(), Some(&failed));
+    }
+    assert_eq!(rt; session.finish().err().as_ref(), Some(&failed));
+}
+
 /// Asserts that bytes are refused in a feed, in pieces of every length, and the session ended.
 fn assert_feed_refused(rt: &(impl Abort + AllocGlobal), bytes: &[u8], error: &SixelError) {
-    let failed = SixelError::InvalidData("DCS stream decoder has failed");
     for length in 1..=bytes.len() {
         let mut decoder = SixelDecoder::new();
         let mut session = decoder.begin_dcs(rt.alloc());
         let refusal = refusal_of(&mut session, bytes, length);
         assert_eq!(rt; refusal.as_ref(), Some(error), "{bytes:?} by {length}");
-        assert_eq!(rt; session.feed(b"").err().as_ref(), Some(&failed));
-        assert_eq!(rt; session.feed(b"~").err().as_ref(), Some(&failed));
-        assert_eq!(rt; session.finish().err().as_ref(), Some(&failed));
+        assert_failed(rt, session);
         assert_eq!(rt; decoder.register(42), [0, 204, 102]);
     }
 }
