@@ -120,6 +120,20 @@ fn a_wide_line_far_down(rt: HostRuntime) {
     assert_wide_line(&rt, &outcome.expect(&rt, "a wide line"), BLACK);
 }
 
+/// Feeds one byte to a session that has written so many pixels, asserts that their count does not
+/// fall, and gives it.
+fn count_after(
+    rt: &impl Abort,
+    session: &mut SixelStreamDecoder<'_>,
+    byte: &[u8],
+    writes: u64,
+) -> Result<u64> {
+    session.feed(byte)?;
+    let drawn = session.canvas_writes();
+    assert!(rt; writes <= drawn, "{drawn} writes after {writes}");
+    Ok(drawn)
+}
+
 /// Feeds a payload in single bytes, asserts that the count never falls and where it ends, and
 /// finishes.
 fn counted_singly(
@@ -129,10 +143,7 @@ fn counted_singly(
 ) -> Result<(SixelImage, u64)> {
     let mut writes = 0;
     for piece in payload.chunks(1) {
-        session.feed(piece)?;
-        let drawn = session.canvas_writes();
-        assert!(rt; writes <= drawn);
-        writes = drawn;
+        writes = count_after(rt, &mut session, piece, writes)?;
     }
     assert!(rt; 3151680 <= writes && writes <= 9455040, "{writes} writes");
     session.finish_counted()
