@@ -4,6 +4,7 @@ use crate::answers::{BLACK, WHITE};
 use icy_sixel::SixelError;
 use icy_sixel::palette::{PaletteChoice, choose_palette, witnesses_hold};
 use std::alloc::Global;
+use std::process::Abort;
 use std::test::Fail;
 
 /// The palette of pixels given one by one.
@@ -19,13 +20,41 @@ fn palette(
     choose_palette(alloc, &bytes, max_colors)
 }
 
+/// What is expected of a palette.
+#[derive(Clone, Copy)]
+struct Expected<'a> {
+    colors: &'a [[u8; 3]],
+    indices: &'a [u8],
+    error: u32,
+    witnesses: &'a [[u8; 3]],
+}
+
+/// Asserts the palette of pixels given one by one.
+fn assert_palette(
+    rt: &(impl Abort + AllocGlobal),
+    pixels: &[[u8; 4]],
+    max_colors: u16,
+    expected: Expected<'_>,
+) {
+    let choice = palette(rt.alloc(), pixels, max_colors).expect(rt, "a palette");
+    assert!(rt; choice.colors.as_slice() == expected.colors, "the entries");
+    assert!(rt; choice.indices.as_slice() == expected.indices, "the places");
+    assert!(rt;
+        choice.witnesses.as_slice() == expected.witnesses,
+        "the witnesses"
+    );
+    assert_eq!(rt; choice.error, expected.error);
+}
+
 #[test]
-fn no_pixels_have_no_colors(rt: HostRuntime) -> Result<(), Fail> {
-    let choice = palette(rt.alloc(), &[], 256)?;
-    assert!(rt; choice.colors.is_empty() && choice.indices.is_empty());
-    assert!(rt; choice.witnesses.is_empty());
-    assert_eq!(rt; choice.error, 0);
-    Ok(())
+fn no_pixels_have_no_colors(rt: HostRuntime) {
+    let expected = Expected {
+        colors: &[],
+        indices: &[],
+        error: 0,
+        witnesses: &[],
+    };
+    assert_palette(&rt, &[], 256, expected);
 }
 
 #[test]
@@ -41,45 +70,38 @@ fn a_length_of_no_whole_pixels_is_refused(rt: HostRuntime) {
 }
 
 #[test]
-fn ties_go_to_the_least_color(rt: HostRuntime) -> Result<(), Fail> {
-    let choice = palette(rt.alloc(), &[BLACK, [0, 0, 10, 255], [0, 10, 0, 255]], 2)?;
-    assert_eq!(rt;
-        choice.colors.as_slice(),
-        [[0, 0, 0], [0, 0, 10]].as_slice()
-    );
-    assert_eq!(rt; choice.indices.as_slice(), [0, 1, 0].as_slice());
-    assert_eq!(rt; choice.error, 100);
-    assert_eq!(rt;
-        choice.witnesses.as_slice(),
-        [[0, 0, 0], [0, 0, 10], [0, 10, 0]].as_slice()
-    );
-    Ok(())
+fn ties_go_to_the_least_color(rt: HostRuntime) {
+    let expected = Expected {
+        colors: &[[0, 0, 0], [0, 0, 10]],
+        indices: &[0, 1, 0],
+        error: 100,
+        witnesses: &[[0, 0, 0], [0, 0, 10], [0, 10, 0]],
+    };
+    let pixels = [BLACK, [0, 0, 10, 255], [0, 10, 0, 255]];
+    assert_palette(&rt, &pixels, 2, expected);
 }
 
 #[test]
-fn ties_go_to_the_least_index(rt: HostRuntime) -> Result<(), Fail> {
-    let choice = palette(rt.alloc(), &[BLACK, [0, 0, 10, 255], [0, 0, 5, 255]], 0)?;
-    assert_eq!(rt;
-        choice.colors.as_slice(),
-        [[0, 0, 0], [0, 0, 10]].as_slice()
-    );
-    assert_eq!(rt; choice.indices.as_slice(), [0, 1, 0].as_slice());
-    assert_eq!(rt; choice.error, 25);
-    assert_eq!(rt;
-        choice.witnesses.as_slice(),
-        [[0, 0, 0], [0, 0, 10], [0, 0, 5]].as_slice()
-    );
-    Ok(())
+fn ties_go_to_the_least_index(rt: HostRuntime) {
+    let expected = Expected {
+        colors: &[[0, 0, 0], [0, 0, 10]],
+        indices: &[0, 1, 0],
+        error: 25,
+        witnesses: &[[0, 0, 0], [0, 0, 10], [0, 0, 5]],
+    };
+    let pixels = [BLACK, [0, 0, 10, 255], [0, 0, 5, 255]];
+    assert_palette(&rt, &pixels, 0, expected);
 }
 
 #[test]
-fn hidden_pixels_do_not_count(rt: HostRuntime) -> Result<(), Fail> {
-    let choice = palette(rt.alloc(), &[[9, 9, 9, 127], [1, 2, 3, 128]], 2)?;
-    assert_eq!(rt; choice.colors.as_slice(), [[1, 2, 3]].as_slice());
-    assert_eq!(rt; choice.indices.as_slice(), [0, 0].as_slice());
-    assert_eq!(rt; choice.error, 0);
-    assert!(rt; choice.witnesses.is_empty());
-    Ok(())
+fn hidden_pixels_do_not_count(rt: HostRuntime) {
+    let expected = Expected {
+        colors: &[[1, 2, 3]],
+        indices: &[0, 0],
+        error: 0,
+        witnesses: &[],
+    };
+    assert_palette(&rt, &[[9, 9, 9, 127], [1, 2, 3, 128]], 2, expected);
 }
 
 /// The squared distance of two colors.
@@ -116,15 +138,17 @@ fn another_palette_has_a_quarter_of_the_error(rt: HostRuntime) -> Result<(), Fai
 }
 
 #[test]
-fn the_factor_of_four_is_reached(rt: HostRuntime) -> Result<(), Fail> {
-    let choice = palette(rt.alloc(), &[BLACK, [10, 0, 0, 255], WHITE], 2)?;
-    assert_eq!(rt; choice.indices.as_slice(), [0, 0, 1].as_slice());
-    assert_eq!(rt; choice.error, 100);
+fn the_factor_of_four_is_reached(rt: HostRuntime) {
     let witnesses = [[0, 0, 0], [255, 255, 255], [10, 0, 0]];
-    assert_eq!(rt; choice.witnesses.as_slice(), witnesses.as_slice());
-    assert!(rt; witnesses_hold(&choice.witnesses, 100));
-    assert!(rt; !witnesses_hold(&choice.witnesses, 101));
-    Ok(())
+    let expected = Expected {
+        colors: &[[0, 0, 0], [255, 255, 255]],
+        indices: &[0, 0, 1],
+        error: 100,
+        witnesses: &witnesses,
+    };
+    assert_palette(&rt, &[BLACK, [10, 0, 0, 255], WHITE], 2, expected);
+    assert!(rt; witnesses_hold(&witnesses, 100));
+    assert!(rt; !witnesses_hold(&witnesses, 101));
 }
 
 #[test]
