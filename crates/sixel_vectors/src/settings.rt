@@ -14,10 +14,9 @@ fn settings_by_default(rt: HostRuntime) {
 
 #[test]
 fn ratios(rt: HostRuntime) {
-    assert_eq!(rt; PixelAspectRatio::from_p1(6).pad(), 2);
-    assert_eq!(rt; PixelAspectRatio::from_p1(2).pad(), 5);
-    assert_eq!(rt; PixelAspectRatio::from_p1(4).pad(), 3);
-    assert_eq!(rt; PixelAspectRatio::from_p1(7).pad(), 1);
+    for (p1, pad) in [(6, 2), (2, 5), (4, 3), (7, 1)] {
+        assert_eq!(rt; PixelAspectRatio::from_p1(p1).pad(), pad, "P1 of {p1}");
+    }
     let settings = DcsSettings::new(Some(9), Some(0), Some(0))
         .with_pixel_aspect_ratio(PixelAspectRatio::Ratio5To1)
         .with_background_mode(BackgroundMode::Transparent)
