@@ -6,7 +6,8 @@ use Rattle.std.proofs.lemmas.Bool.{cases_lt, lt-ltb, le-ltb, lt-leb, le-leb}
 use Rattle.std.proofs.lemmas.List.{get_or_past, get_or-append_right, get_or_append_left, set_past}
 use Rattle.std.proofs.lemmas.List.Elements.{All-set}
 use Rattle.sixel_base.specs.Picture.{covers, is_set, is_struck}
-use Rattle.sixel_canvas.specs.Row.{RowState, IsThrifty, empty_row}
+use Rattle.sixel_canvas.specs.Row.{RowState, empty_row}
+use Rattle.sixel_canvas.specs.inside.Loan.{IsRoomy}
 use Rattle.sixel_canvas.specs.inside.Block.{dotted, mixed, mixed_from, drawn_over}
 use Rattle.sixel_canvas.specs.inside.Canvas.{CanvasState, IsRowOf, reached, row_at, shown}
 use Rattle.sixel_canvas.proofs.Mixing.{covers_here, drawn_apart, drawn_left, fails_last, length-mixed}
@@ -66,22 +67,21 @@ over_four from (a ∷ b ∷ c ∷ d ∷ []) bit color old one two three new four
 over_four from _ bit color old one two three new four first second third last = absurd (omega (arith, four))
 
 -- as many pixels as before
-length-over_from : (from : ℕ) (sixels : List ℕ) (bit : ℕ) (color : List ℕ) (pixels : List (List ℕ)) → length (over_from from sixels bit color pixels) ≡ length pixels
+pub length-over_from : (from : ℕ) (sixels : List ℕ) (bit : ℕ) (color : List ℕ) (pixels : List (List ℕ)) → length (over_from from sixels bit color pixels) ≡ length pixels
 length-over_from from sixels bit color pixels =
     let rest = drop from pixels in
     omega (arith, length-append (take from pixels) (mixed bit color sixels rest), length-take from pixels, length-mixed bit color sixels rest, length-drop from pixels)
 
--- a row stays thrifty
-pub IsThrifty-dotted : (from : ℕ) (sixels : List ℕ) (bit : ℕ) (color : List ℕ) (row : RowState) → IsThrifty row → IsThrifty (mixed_from from sixels bit color row)
-IsThrifty-dotted from sixels bit color row thrifty =
+-- a row stays roomy
+pub IsRoomy-dotted : (from : ℕ) (sixels : List ℕ) (bit : ℕ) (color : List ℕ) (row : RowState) → IsRoomy row → IsRoomy (mixed_from from sixels bit color row)
+IsRoomy-dotted from sixels bit color row roomy =
     let same : length (over_from from sixels bit color row.pixels) ≡ length row.pixels = length-over_from from sixels bit color row.pixels in
     record {
-      held = omega (arith, same, thrifty.held);
-      room_at_most = omega (arith, same, thrifty.room_at_most);
-      side = thrifty.side;
-      at_least = omega (arith, same, thrifty.at_least);
-      at_most = omega (arith, same, thrifty.at_most);
-      growing = λ short. omega (arith, same, thrifty.growing short);
+      held = omega (arith, same, roomy.held);
+      side = roomy.side;
+      at_least = omega (arith, same, roomy.at_least);
+      at_most = omega (arith, same, roomy.at_most);
+      growing = λ short. omega (arith, same, roomy.growing short);
     }
 
 -- a row that was not made stays so
@@ -174,9 +174,9 @@ IsDotted-none from sixels top color canvas few sound = record {
 -- the next row
 pub IsDotted-more : (from : ℕ) (sixels : List ℕ) (top : ℕ) (color : List ℕ) (bit : ℕ) (canvas : CanvasState) (background : List ℕ) (rows next : List RowState) → IsDotted from sixels top color bit canvas background rows → bit < 6
     → ((d : RowState) → next ≡ set rows (top + bit) (mixed_from from sixels bit color (get_or rows (top + bit) d)))
-    → ((d : RowState) → top + bit < length rows → IsThrifty (get_or next (top + bit) d))
+    → ((d : RowState) → top + bit < length rows → IsRoomy (get_or next (top + bit) d))
     → IsDotted from sixels top color (bit + 1) canvas background next
-IsDotted-more from sixels top color bit canvas background rows next before six changed thrifty =
+IsDotted-more from sixels top color bit canvas background rows next before six changed roomy =
     let row = top + bit in
     let empty = empty_row canvas.background in
     let old = get_or rows row empty in
@@ -189,11 +189,11 @@ IsDotted-more from sixels top color bit canvas background rows next before six c
     elim (cases_lt row (length rows)) [
       | inl made ↦
           let here : get_or next row empty ≡ new = ap (λ (rs : List RowState). get_or rs row empty) is ∙ get_or-set_same rows row new empty made in
-          let fine : IsThrifty new = subst IsThrifty here (thrifty empty made) in
+          let fine : IsRoomy new = subst IsRoomy here (roomy empty made) in
           record {
             over = before.over;
             few = omega (arith, before.few, long);
-            sound = rw is (All-set (IsRowOf canvas.background) rows row new (record { thrifty = fine; over = (IsRowOf-get_or canvas.background rows row before.sound).over }) before.sound);
+            sound = rw is (All-set (IsRowOf canvas.background) rows row new (record { roomy = fine; over = (IsRowOf-get_or canvas.background rows row before.sound).over }) before.sound);
             struck = rw step (struck_more (mixed_at from sixels top color) (in_band top) row (row_at canvas) (λ k. get_or rows k empty) (λ k. get_or next k empty) before.struck (in_band-inside top bit six) (here ∙ sym same) others);
           }
       | inr past ↦

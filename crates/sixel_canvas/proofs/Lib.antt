@@ -1,3 +1,4 @@
+pub mod Loans
 pub mod Mixing
 pub mod OneRow
 pub mod Pixels

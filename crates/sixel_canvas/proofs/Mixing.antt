@@ -7,7 +7,8 @@ use Rattle.std.proofs.Math.ListN.{set}
 use Rattle.std.proofs.lemmas.Bool.{cases_lt, lt-ltb, le-ltb, lt-leb, le-leb}
 use Rattle.std.proofs.lemmas.List.{get_or-append_right, get_or_append_left}
 use Rattle.sixel_base.specs.Picture.{covers, is_set, is_struck}
-use Rattle.sixel_canvas.specs.Row.{RowState, IsThrifty}
+use Rattle.sixel_canvas.specs.Row.{RowState}
+use Rattle.sixel_canvas.specs.inside.Loan.{IsRoomy}
 use Rattle.sixel_canvas.specs.inside.Block.{dotted, mixed, mixed_from, drawn_over}
 
 -- as many pixels as before
@@ -21,17 +22,16 @@ length-mixed_from from sixels bit color row le =
     let rest = drop from row.pixels in
     omega (arith, length-append (take from row.pixels) (mixed bit color sixels rest), length-take from row.pixels, length-mixed bit color sixels rest, length-drop from row.pixels)
 
--- a row stays thrifty
-pub IsThrifty-mixed_from : (from : ℕ) (sixels : List ℕ) (bit : ℕ) (color : List ℕ) (row : RowState) → from ≤ length row.pixels → IsThrifty row → IsThrifty (mixed_from from sixels bit color row)
-IsThrifty-mixed_from from sixels bit color row le thrifty =
+-- a row stays roomy
+pub IsRoomy-mixed_from : (from : ℕ) (sixels : List ℕ) (bit : ℕ) (color : List ℕ) (row : RowState) → from ≤ length row.pixels → IsRoomy row → IsRoomy (mixed_from from sixels bit color row)
+IsRoomy-mixed_from from sixels bit color row le roomy =
     let same = length-mixed_from from sixels bit color row le in
     record {
-      held = omega (arith, same, thrifty.held);
-      room_at_most = omega (arith, same, thrifty.room_at_most);
-      side = thrifty.side;
-      at_least = omega (arith, same, thrifty.at_least);
-      at_most = omega (arith, same, thrifty.at_most);
-      growing = λ short. omega (arith, same, thrifty.growing short);
+      held = omega (arith, same, roomy.held);
+      side = roomy.side;
+      at_least = omega (arith, same, roomy.at_least);
+      at_most = omega (arith, same, roomy.at_most);
+      growing = λ short. omega (arith, same, roomy.growing short);
     }
 
 -- pixels that are the mixed ones, one by one

@@ -1,7 +1,8 @@
 use Rattle.std.proofs.Common.{◌≡◌, ℕ, ◌+◌, ◌-◌, ◌≤◌, List, ◌++◌, length, replicate, ap, ◌∙◌, inl, inr, length-append, arith}
 use Rattle.std.proofs.lemmas.Bool.{cases_lt, lt-ltb, le-ltb}
 use Rattle.std.proofs.lemmas.List.{length-replicate}
-use Rattle.sixel_canvas.specs.Row.{RowState, IsThrifty, row_state, reached_to, room_for, writes_for}
+use Rattle.sixel_canvas.specs.Row.{RowState, row_state, reached_to, writes_for}
+use Rattle.sixel_canvas.specs.inside.Loan.{IsRoomy, lent_to, room_from}
 
 -- how many pixels a row has that was grown
 pub length-reached_to : (columns : ℕ) (row : RowState) → length (reached_to columns row).pixels ≡ length row.pixels + (columns - length row.pixels)
@@ -9,16 +10,15 @@ length-reached_to columns row =
     length-append row.pixels (replicate (columns - length row.pixels) row.background)
     ∙ ap (λ n. length row.pixels + n) (length-replicate (columns - length row.pixels) row.background)
 
--- a row stays thrifty as it grows
-pub IsThrifty-reached_to : (columns : ℕ) (row : RowState) → columns ≤ 1000000 → IsThrifty row → IsThrifty (reached_to columns row)
-IsThrifty-reached_to columns row side thrifty =
+-- a row stays roomy as it grows
+pub IsRoomy-lent_to : (first columns : ℕ) (row : RowState) → first ≤ 1000000 → columns ≤ 1000000 → IsRoomy row → IsRoomy (lent_to first columns row)
+IsRoomy-lent_to first columns row little side roomy =
     let long = length-reached_to columns row in
     elim (cases_lt row.room columns) [
       | inl short ↦
           let test = lt-ltb row.room columns short in
           record {
             held = rw test (omega arith);
-            room_at_most = rw test (omega arith);
             side = rw test (omega arith);
             at_least = rw test (omega arith);
             at_most = rw test (omega arith);
@@ -28,7 +28,6 @@ IsThrifty-reached_to columns row side thrifty =
           let test = le-ltb row.room columns enough in
           record {
             held = rw test (omega arith);
-            room_at_most = rw test (omega arith);
             side = rw test (omega arith);
             at_least = rw test (omega arith);
             at_most = rw test (omega arith);
@@ -37,5 +36,5 @@ IsThrifty-reached_to columns row side thrifty =
     ]
 
 -- the row that is stored once background was added, room was made and the writes were counted
-pub row_state-reached_to : (background : List ℕ) (pixels pixels' : List (List ℕ)) (room room' writes written columns : ℕ) → pixels' ≡ pixels ++ replicate (columns - length pixels) background → room' ≡ room_for columns room → written ≡ writes_for columns (row_state background pixels room writes) → row_state background pixels' room' (writes + written) ≡ reached_to columns (row_state background pixels room writes)
-row_state-reached_to background pixels pixels' room room' writes written columns grown made counted = cc
+pub row_state-lent_to : (first : ℕ) (background : List ℕ) (pixels pixels' : List (List ℕ)) (room room' writes written columns : ℕ) → pixels' ≡ pixels ++ replicate (columns - length pixels) background → room' ≡ room_from first columns room → written ≡ writes_for columns (row_state background pixels room writes) → row_state background pixels' room' (writes + written) ≡ lent_to first columns (row_state background pixels room writes)
+row_state-lent_to first background pixels pixels' room room' writes written columns grown made counted = cc

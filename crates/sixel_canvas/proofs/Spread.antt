@@ -9,7 +9,7 @@ use Rattle.sixel_canvas.specs.inside.Canvas.{CanvasState, IsBounded, reached}
 use Rattle.sixel_canvas.specs.inside.Paints.{IsSpread}
 use Rattle.sixel_canvas.specs.inside.Tags.{tagged}
 use Rattle.sixel_canvas.proofs.Tags.{IsBounded-tagged, length-tagged_rows, reached-tagged}
-use Rattle.sixel_canvas.proofs.Totals.{total-same}
+use Rattle.sixel_canvas.proofs.Totals.{total-add, total-same}
 
 -- greater numbers one by one
 total-grown : (f g : ℕ → ℕ) (n : ℕ) → ((k : ℕ) → f k ≤ g k) → total f n ≤ total g n
@@ -22,16 +22,6 @@ pub total-bounded : (f : ℕ → ℕ) (bound n : ℕ) → ((k : ℕ) → f k ≤
 unfolding total
 total-bounded f bound zero most = omega arith
 total-bounded f bound (suc n) most = rw mul-suc (omega (arith, total-bounded f bound n most, most n))
-
--- first some, then others
-total-add : (f : ℕ → ℕ) (n m : ℕ) → total f (n + m) ≡ total f n + total (λ k. f (n + k)) m
-unfolding total
-total-add f n zero =
-    let none : n + 0 ≡ n = omega arith in
-    omega (arith, ap (total f) none)
-total-add f n (suc m) =
-    let step : n + suc m ≡ suc (n + m) = omega arith in
-    rw step (omega (arith, total-add f n m))
 
 -- more of them
 total-further : (f : ℕ → ℕ) (n m : ℕ) → n ≤ m → total f n ≤ total f m

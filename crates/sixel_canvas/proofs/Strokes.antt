@@ -2,20 +2,29 @@ use Rattle.std.proofs.Common.{◌≡◌, ◌≢◌, ℕ, zero, suc, ◌+◌, ◌
 use Rattle.std.specs.Prelude.{nat_lt, nat_le, if◌then◌else◌}
 use Rattle.std.proofs.lemmas.Bool.{cases_lt, cases_order, lt-ltb, le-ltb, lt-leb, le-leb}
 use Rattle.std.proofs.lemmas.List.{length-replicate, get_or-replicate, get_or-append_right, get_or_append_left}
-use Rattle.sixel_canvas.specs.Row.{RowState, painted, reached_to}
+use Rattle.sixel_canvas.specs.Row.{RowState, painted}
+use Rattle.sixel_canvas.specs.inside.Loan.{lent_to}
 use Rattle.sixel_canvas.proofs.RowStates.{length-reached_to}
 
 -- a row that was grown, and painted from this column up to before that one
-abbrev pub struck_row : ℕ → ℕ → List ℕ → RowState → RowState
-struck_row from to color row = painted from to color (reached_to to row)
+abbrev pub struck_row : ℕ → ℕ → ℕ → List ℕ → RowState → RowState
+struck_row first from to color row = painted from to color (lent_to first to row)
 
 -- how many pixels it holds
-pub length-struck_row : (from to : ℕ) (color : List ℕ) (row : RowState) → from ≤ to → length (struck_row from to color row).pixels ≡ max (length row.pixels) to
-length-struck_row from to color row order =
-    let pixels = (reached_to to row).pixels in
+pub length-struck_row : (first from to : ℕ) (color : List ℕ) (row : RowState) → from ≤ to → length (struck_row first from to color row).pixels ≡ max (length row.pixels) to
+length-struck_row first from to color row order =
+    let pixels = (lent_to first to row).pixels in
     let front = take from pixels in
     let middle = replicate (to - from) color in
     omega (arith, length-append (front ++ middle) (drop to pixels), length-append front middle, length-take from pixels, length-drop to pixels, length-replicate (to - from) color, length-reached_to to row)
+
+-- a row that was painted holds as many
+pub length-painted : (from to : ℕ) (color : List ℕ) (row : RowState) → from ≤ to → to ≤ length row.pixels → length (painted from to color row).pixels ≡ length row.pixels
+length-painted from to color row order held =
+    let pixels = row.pixels in
+    let front = take from pixels in
+    let middle = replicate (to - from) color in
+    omega (arith, length-append (front ++ middle) (drop to pixels), length-append front middle, length-take from pixels, length-drop to pixels, length-replicate (to - from) color)
 
 -- any place of a list of one value, and past its end
 get_or-replicate_same : {X : Type 0} (n i : ℕ) (x : X) → get_or (replicate n x) i x ≡ x
@@ -53,12 +62,12 @@ get_or-painted from to color row column d order held =
     ]
 
 -- a pixel of the row once it was grown and painted
-get_or-struck_row : (from to : ℕ) (color background : List ℕ) (row : RowState) (column : ℕ) → from ≤ to → row.background ≡ background → get_or (struck_row from to color row).pixels column background ≡ (if nat_le from column && nat_lt column to then color else get_or row.pixels column background)
-get_or-struck_row from to color background row column order over =
+get_or-struck_row : (first from to : ℕ) (color background : List ℕ) (row : RowState) (column : ℕ) → from ≤ to → row.background ≡ background → get_or (struck_row first from to color row).pixels column background ≡ (if nat_le from column && nat_lt column to then color else get_or row.pixels column background)
+get_or-struck_row first from to color background row column order over =
     let added = to - length row.pixels in
     let grown : get_or (row.pixels ++ replicate added row.background) column background ≡ get_or row.pixels column background =
     rw over (get_or-append_replicate row.pixels added column background) in
-    get_or-painted from to color (reached_to to row) column background order (omega (arith, length-reached_to to row))
+    get_or-painted from to color (lent_to first to row) column background order (omega (arith, length-reached_to to row))
     ∙ ap (λ p. if nat_le from column && nat_lt column to then color else p) grown
 
 -- a choice that two tests decide
@@ -69,19 +78,19 @@ if_and false true x y = refl
 if_and false false x y = refl
 
 -- what a row shows that may have been struck
-pub shown-struck : (from to : ℕ) (color background : List ℕ) (hit : Bool) (old new : RowState) (column : ℕ) → from ≤ to → old.background ≡ background → new ≡ (if hit then struck_row from to color old else old) → get_or new.pixels column background ≡ (if nat_le from column && nat_lt column to && hit then color else get_or old.pixels column background)
-shown-struck from to color background true old new column order over is =
+pub shown-struck : (first from to : ℕ) (color background : List ℕ) (hit : Bool) (old new : RowState) (column : ℕ) → from ≤ to → old.background ≡ background → new ≡ (if hit then struck_row first from to color old else old) → get_or new.pixels column background ≡ (if nat_le from column && nat_lt column to && hit then color else get_or old.pixels column background)
+shown-struck first from to color background true old new column order over is =
     ap (λ (r : RowState). get_or r.pixels column background) is
-    ∙ get_or-struck_row from to color background old column order over
+    ∙ get_or-struck_row first from to color background old column order over
     ∙ sym (if_and (nat_le from column && nat_lt column to) true color (get_or old.pixels column background))
-shown-struck from to color background false old new column order over is =
+shown-struck first from to color background false old new column order over is =
     ap (λ (r : RowState). get_or r.pixels column background) is
     ∙ sym (if_and (nat_le from column && nat_lt column to) false color (get_or old.pixels column background))
 
 -- how many pixels a row holds that may have been struck
-pub reached-struck : (from to : ℕ) (color : List ℕ) (hit : Bool) (old new : RowState) → from ≤ to → new ≡ (if hit then struck_row from to color old else old) → length new.pixels ≡ (if hit then max (length old.pixels) to else length old.pixels)
-reached-struck from to color true old new order is = ap (λ (r : RowState). length r.pixels) is ∙ length-struck_row from to color old order
-reached-struck from to color false old new order is = ap (λ (r : RowState). length r.pixels) is
+pub reached-struck : (first from to : ℕ) (color : List ℕ) (hit : Bool) (old new : RowState) → from ≤ to → new ≡ (if hit then struck_row first from to color old else old) → length new.pixels ≡ (if hit then max (length old.pixels) to else length old.pixels)
+reached-struck first from to color true old new order is = ap (λ (r : RowState). length r.pixels) is ∙ length-struck_row first from to color old order
+reached-struck first from to color false old new order is = ap (λ (r : RowState). length r.pixels) is
 
 -- some of the rows above n are struck, each in a way of its own
 abbrev pub IsStruckAbove : {X : Type 0} → (ℕ → X → X) → (ℕ → Bool) → ℕ → (ℕ → X) → (ℕ → X) → Type 0

@@ -8,7 +8,8 @@ use Rattle.sixel_canvas.specs.inside.Canvas.{CanvasState, IsRowOf, reached, row_
 use Rattle.sixel_base.specs.Picture.{covers, is_struck}
 use Rattle.sixel_canvas.specs.inside.Block.{mixed_from, drawn_over}
 use Rattle.sixel_canvas.proofs.Mixing.{drawn_apart, get_or-mixed_from, length-mixed_from}
-use Rattle.sixel_canvas.specs.Row.{RowState, IsThrifty, empty_row}
+use Rattle.sixel_canvas.specs.Row.{RowState, empty_row}
+use Rattle.sixel_canvas.specs.inside.Loan.{IsRoomy}
 use Rattle.sixel_canvas.proofs.Strokes.{IsStruckAbove, reached-struck, shown-struck, struck_all, struck_more, struck_none, struck_row, struck_skip}
 use Rattle.sixel_canvas.proofs.Totals.{IsRowOf-get_or}
 
@@ -41,8 +42,8 @@ is_struck-miss top bits bit six miss =
     (ne_eqb ((bits / 2 ^ (top + bit - top)) % 2) 1 (λ hit. miss (ap (λ k. (bits / 2 ^ k) % 2) (omega arith) ∙ hit)))
 
 -- the next row, where it is struck
-pub IsUnderway-hit : (stroke : ℕ → RowState → RowState) (struck : ℕ → Bool) (top bit : ℕ) (canvas : CanvasState) (background : List ℕ) (rows next : List RowState) → IsUnderway stroke struck top bit canvas background rows → bit < 6 → struck (top + bit) ≡ true → ((k : ℕ) (row : RowState) → (stroke k row).background ≡ row.background) → ((d : RowState) → next ≡ set rows (top + bit) (stroke (top + bit) (get_or rows (top + bit) d))) → ((d : RowState) → IsThrifty (get_or next (top + bit) d)) → IsUnderway stroke struck top (bit + 1) canvas background next
-IsUnderway-hit stroke struck top bit canvas background rows next before six hit keeps changed thrifty =
+pub IsUnderway-hit : (stroke : ℕ → RowState → RowState) (struck : ℕ → Bool) (top bit : ℕ) (canvas : CanvasState) (background : List ℕ) (rows next : List RowState) → IsUnderway stroke struck top bit canvas background rows → bit < 6 → struck (top + bit) ≡ true → ((k : ℕ) (row : RowState) → (stroke k row).background ≡ row.background) → ((d : RowState) → next ≡ set rows (top + bit) (stroke (top + bit) (get_or rows (top + bit) d))) → ((d : RowState) → IsRoomy (get_or next (top + bit) d)) → IsUnderway stroke struck top (bit + 1) canvas background next
+IsUnderway-hit stroke struck top bit canvas background rows next before six hit keeps changed roomy =
     let row = top + bit in
     let empty = empty_row canvas.background in
     let old = get_or rows row empty in
@@ -50,14 +51,14 @@ IsUnderway-hit stroke struck top bit canvas background rows next before six hit 
     let inside : row < length rows = omega (arith, before.made) in
     let long : length next ≡ length rows = ap length (changed empty) ∙ length-set rows row new in
     let at : get_or next row empty ≡ new = ap (λ rs. get_or rs row empty) (changed empty) ∙ get_or-set_same rows row new empty inside in
-    let is : IsThrifty new = rw at at (thrifty empty) in
+    let is : IsRoomy new = rw at at (roomy empty) in
     let others = λ (k : ℕ) (apart : k ≢ row). ap (λ rs. get_or rs k empty) (changed empty) ∙ get_or-set_other rows row k new empty apart in
     let step : top + (bit + 1) ≡ row + 1 = omega arith in
     record {
       over = before.over;
       made = omega (arith, before.made);
       few = omega (arith, before.few);
-      sound = rw (changed empty) (All-set (IsRowOf canvas.background) rows row new (record { thrifty = is; over = keeps row old ∙ (IsRowOf-get_or canvas.background rows row before.sound).over }) before.sound);
+      sound = rw (changed empty) (All-set (IsRowOf canvas.background) rows row new (record { roomy = is; over = keeps row old ∙ (IsRowOf-get_or canvas.background rows row before.sound).over }) before.sound);
       struck = rw step (struck_more stroke struck row (row_at canvas) (λ k. get_or rows k empty) (λ k. get_or next k empty) before.struck hit at others);
     }
 
@@ -92,20 +93,20 @@ rows-all stroke struck top bit canvas background rows done six below row =
     (λ k h. below k (omega arith)) row
 
 -- what the canvas shows then
-pub shown-all : (from to top bits : ℕ) (color : List ℕ) (bit : ℕ) (canvas : CanvasState) (background : List ℕ) (rows : List RowState) → IsUnderway (λ _. struck_row from to color) (is_struck top bits) top bit canvas background rows → 6 ≤ bit → All (IsRowOf canvas.background) canvas.rows → from ≤ to → (column row : ℕ) → shown (record { background = background; rows = rows; tagged = 0; paints = 0; spread = 0 }) column row ≡ (if covers from to top bits column row then color else shown canvas column row)
-shown-all from to top bits color bit canvas background rows done six sound order column row =
+pub shown-all : (shares : ℕ → ℕ) (from to top bits : ℕ) (color : List ℕ) (bit : ℕ) (canvas : CanvasState) (background : List ℕ) (rows : List RowState) → IsUnderway (λ k. struck_row (shares k) from to color) (is_struck top bits) top bit canvas background rows → 6 ≤ bit → All (IsRowOf canvas.background) canvas.rows → from ≤ to → (column row : ℕ) → shown (record { background = background; rows = rows; tagged = 0; paints = 0; spread = 0 }) column row ≡ (if covers from to top bits column row then color else shown canvas column row)
+shown-all shares from to top bits color bit canvas background rows done six sound order column row =
     let old = row_at canvas row in
     let new = get_or rows row (empty_row canvas.background) in
     let over = (IsRowOf-get_or canvas.background canvas.rows row sound).over in
-    let is = rows-all (λ _. struck_row from to color) (is_struck top bits) top bit canvas background rows done six (is_struck-below top bits) row in
-    rw done.over (shown-struck from to color canvas.background (is_struck top bits row) old new column order over is)
+    let is = rows-all (λ k. struck_row (shares k) from to color) (is_struck top bits) top bit canvas background rows done six (is_struck-below top bits) row in
+    rw done.over (shown-struck (shares row) from to color canvas.background (is_struck top bits row) old new column order over is)
 
 -- how far its rows were reached then
-pub reached-all : (from to top bits : ℕ) (color : List ℕ) (bit : ℕ) (canvas : CanvasState) (background : List ℕ) (rows : List RowState) → IsUnderway (λ _. struck_row from to color) (is_struck top bits) top bit canvas background rows → 6 ≤ bit → from ≤ to → (row : ℕ) → reached (record { background = background; rows = rows; tagged = 0; paints = 0; spread = 0 }) row ≡ (if is_struck top bits row then max (reached canvas row) to else reached canvas row)
-reached-all from to top bits color bit canvas background rows done six order row =
+pub reached-all : (shares : ℕ → ℕ) (from to top bits : ℕ) (color : List ℕ) (bit : ℕ) (canvas : CanvasState) (background : List ℕ) (rows : List RowState) → IsUnderway (λ k. struck_row (shares k) from to color) (is_struck top bits) top bit canvas background rows → 6 ≤ bit → from ≤ to → (row : ℕ) → reached (record { background = background; rows = rows; tagged = 0; paints = 0; spread = 0 }) row ≡ (if is_struck top bits row then max (reached canvas row) to else reached canvas row)
+reached-all shares from to top bits color bit canvas background rows done six order row =
     let new = get_or rows row (empty_row canvas.background) in
-    let is = rows-all (λ _. struck_row from to color) (is_struck top bits) top bit canvas background rows done six (is_struck-below top bits) row in
-    rw done.over (reached-struck from to color (is_struck top bits row) (row_at canvas row) new order is)
+    let is = rows-all (λ k. struck_row (shares k) from to color) (is_struck top bits) top bit canvas background rows done six (is_struck-below top bits) row in
+    rw done.over (reached-struck (shares row) from to color (is_struck top bits row) (row_at canvas row) new order is)
 
 -- ---- six rows that are mixed with sixels of one column each
 

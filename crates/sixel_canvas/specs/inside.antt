@@ -1,5 +1,6 @@
 -- What holds inside the code alone: a reader of the public contracts may skip it.
 pub mod Block
 pub mod Canvas
+pub mod Loan
 pub mod Paints
 pub mod Tags

@@ -5,28 +5,43 @@ ghost use Rattle.std.specs.Prelude.{◌==◌, nat_le, nat_lt, true};
 ghost use Rattle.std.specs.Prelude.{All, IfOk, IfErr, IsOk, OnErr, OnOk};
 ghost use Rattle.sixel_base.specs.declared.error.SixelError.TheVariants.{OutOfMemory};
 ghost use Rattle.sixel_base.specs.Picture.{covers, is_set, is_struck, joined};
-ghost use Rattle.sixel_canvas.specs.Row.{RowState, IsThrifty, empty_row, reached_to, painted};
+ghost use Rattle.sixel_canvas.specs.Row.{RowState, empty_row, painted};
 ghost use Rattle.sixel_canvas.specs.inside.Block.{drawn_over, mixed_from};
 ghost use Rattle.sixel_canvas.specs.inside.Canvas.{shown, reached, canvas_writes};
 ghost use Rattle.sixel_canvas.specs.inside.Canvas.{IsBounded, IsRowOf};
+ghost use Rattle.sixel_canvas.specs.inside.Loan.{IsLent, IsRoomy, len_at, lent_to, room_at, share};
 ghost use Rattle.sixel_canvas.specs.inside.Tags.{lies_in};
 
-use crate::row::{Row, add_pixels};
-use sixel_base::Result;
+use crate::line::{Line, add_pixels};
+use sixel_base::{Result, SixelError};
 use std::alloc::Global;
 use std::marker::Model;
 
 /// A canvas without an edge: its rows hold pixels only up to their last painted column, and
 /// every other place shows the background.
+///
+/// The six rows of a band have as much room from the beginning as the widest row of the band above
+/// holds, where the rows above have that much less than twice what they hold.
 #[derive(Drop)]
 pub struct Canvas {
-    rows: Vec<Row>,
+    rows: Vec<Line>,
     background: [u8; 4],
+    loan: Loan,
+}
+
+// What the rows above `top` have less than twice what they hold, and how much room each of the six
+// rows from `top` on is lent of that.
+#[derive(Clone, Copy)]
+struct Loan {
+    top: usize,
+    credit: usize,
+    room: usize,
 }
 
 impl Model for Canvas {
     ghost use Rattle.std.specs.Prelude.{◌≤◌, length, All};
     ghost use Rattle.sixel_canvas.specs.inside.Canvas.{CanvasState, IsRowOf};
+    ghost use Rattle.sixel_canvas.specs.inside.Loan.{IsLent};
 
     ghost Value = { CanvasState };
 
@@ -39,7 +54,8 @@ impl Model for Canvas {
     } };
 
     ghost invariant = { λ canvas.
-        (length canvas.rows.items ≤ 1000000) × All (IsRowOf canvas.background) canvas.rows.items };
+        (length canvas.rows.items ≤ 1000000) × All (IsRowOf canvas.background) canvas.rows.items
+        × IsLent canvas.rows.items canvas.loan.top canvas.loan.credit canvas.loan.room };
 }
 
 impl Canvas {
@@ -57,6 +73,11 @@ impl Canvas {
         Canvas {
             rows: Vec::new(alloc),
             background,
+            loan: Loan {
+                top: 0,
+                credit: 0,
+                room: 0,
+            },
         }
     }
 
@@ -64,7 +85,8 @@ impl Canvas {
     /// on, those whose bit is set get the color. The least bit is the top row's.
     ///
     /// Only those rows are touched, and grown where they end before `to`. Columns and rows end
-    /// at a million. Where memory is refused, a part of the sixel may be drawn.
+    /// at a million. Where memory is refused, a part of the sixel may be drawn. So it is where a row
+    /// would need more room above the band that was entered last, which no decoder does.
     #[inline(always)]
     pub fn draw(
         &mut self,
@@ -91,9 +113,10 @@ impl Canvas {
     {
         let background = self.background;
         make_rows(&mut self.rows, top + 6, background)?;
+        enter(&mut self.loan, &self.rows, top);
         'struck: for bit in 0..6 {
             if (bits >> bit) % 2 == 1 {
-                strike(&mut self.rows, top + bit, from, to, color)?;
+                strike(&mut self.rows, self.loan, top + bit, from, to, color)?;
             }
         }
         Ok(())
@@ -187,8 +210,9 @@ impl Canvas {
     {
         let background = self.background;
         make_rows(&mut self.rows, top + 6, background)?;
+        enter(&mut self.loan, &self.rows, top);
         'widened: for bit in 0..6 {
-            reach(&mut self.rows, top + bit, columns[bit])?;
+            reach(&mut self.rows, self.loan, top + bit, columns[bit])?;
         }
         Ok(())
     }
@@ -276,7 +300,7 @@ impl Canvas {
     {
         let background = self.background;
         make_rows(&mut self.rows, row + 1, background)?;
-        reach(&mut self.rows, row, columns)?;
+        reach(&mut self.rows, self.loan, row, columns)?;
         Ok(())
     }
 
@@ -297,7 +321,7 @@ impl Canvas {
 }
 
 // Makes rows until there are so many.
-fn make_rows(rows: &mut Vec<Row>, count: usize, background: [u8; 4]) -> Result<()>
+fn make_rows(rows: &mut Vec<Line>, count: usize, background: [u8; 4]) -> Result<()>
     requires { count ≤ 1000000 }
     ensures made { count ≤ vec_len rows.old → IsOk result }
     ensures enough { OnOk result (count ≤ vec_len rows.new) }
@@ -315,97 +339,169 @@ fn make_rows(rows: &mut Vec<Row>, count: usize, background: [u8; 4]) -> Result<(
     rows.reserve(count - held)?;
     let alloc = *rows.allocator();
     'made: for _made in held..count {
-        rows.push(Row::new(alloc, background))?;
+        rows.push(Line::new(alloc, background))?;
     }
     Ok(())
 }
 
+// Goes on to the band of these six rows, where it lies below.
+#[inline(always)]
+fn enter(loan: &mut Loan, rows: &Vec<Line>, top: usize)
+    requires above_bottom { top ≤ 1000000 }
+    requires side { (k : ℕ) → len_at rows.now.items k ≤ 1000000 }
+    requires lent { IsLent rows.now.items loan.old.top loan.old.credit loan.old.room }
+    ensures lent { IsLent rows.now.items loan.new.top loan.new.credit loan.new.room }
+{
+    if top.saturating_sub(loan.top) >= 6 {
+        leave(loan, rows, top);
+    }
+}
+
+// Leaves a band for one below: what its rows have less than twice what they hold can be lent.
+#[inline(never)]
+fn leave(loan: &mut Loan, rows: &Vec<Line>, top: usize)
+    requires below { loan.old.top + 6 ≤ top }
+    requires above_bottom { top ≤ 1000000 }
+    requires side { (k : ℕ) → len_at rows.now.items k ≤ 1000000 }
+    requires lent { IsLent rows.now.items loan.old.top loan.old.credit loan.old.room }
+    ensures lent { IsLent rows.now.items loan.new.top loan.new.credit loan.new.room }
+{
+    let mut held = 0;
+    let mut taken = 0;
+    let mut widest = 0;
+    'rows: for bit in 0..6 {
+        let (len, room) = sizes(rows, loan.top + bit);
+        held += len;
+        taken += room;
+        if len > widest {
+            widest = len;
+        }
+    }
+    loan.credit = loan.credit.saturating_add(2 * held) - taken;
+    loan.room = widest.min(loan.credit / 6);
+    loan.top = top;
+}
+
+// How many columns the row holds, and its room.
+fn sizes(rows: &Vec<Line>, row: usize) -> (usize, usize)
+    ensures len { result.0 ≡ len_at rows.now.items row }
+    ensures room { result.1 ≡ room_at rows.now.items row }
+{
+    match rows.get(row) {
+        Some(line) => (line.len(), line.room()),
+        None => (0, 0),
+    }
+}
+
 // Makes one row hold so many columns, where it holds fewer.
-fn reach(rows: &mut Vec<Row>, row: usize, columns: usize) -> Result<()>
+fn reach(rows: &mut Vec<Line>, loan: Loan, row: usize, columns: usize) -> Result<()>
     requires within { columns ≤ 1000000 }
     requires made { row < vec_len rows.old }
+    requires lent { loan.room ≤ 1000000 }
+    requires top { loan.top ≤ 1000000 }
     ensures ok { OnOk result ((d : RowState) → rows.new.items ≡ slice_set rows.old.items row
-        (reached_to columns (slice_index_or rows.old.items row d))) }
-    ensures thrifty { OnOk result ((d : RowState)
-        → IsThrifty (slice_index_or rows.new.items row d)) }
+        (lent_to (share loan.top loan.room row) columns (slice_index_or rows.old.items row d))) }
+    ensures roomy { OnOk result ((d : RowState)
+        → IsRoomy (slice_index_or rows.new.items row d)) }
+    ensures stays { OnOk result (row < loan.top → (d : RowState)
+        → columns ≤ (slice_index_or rows.old.items row d).room) }
     ensures refused { OnErr result (rows.new.items ≡ rows.old.items) }
     ensures held { (d : RowState) → columns ≤ length (slice_index_or rows.old.items row d).pixels
         → IsOk result }
     ensures error { IfErr result (λ e. e ≡ OutOfMemory) }
 {
-    rows[row].reach(columns)
+    let line = &mut rows[row];
+    if row < loan.top && columns > line.room() {
+        return Err(SixelError::OutOfMemory);
+    }
+    line.reach(columns, if row < loan.top + 6 { loan.room } else { 0 })
 }
 
 // Paints a part of one row, which is grown first where it is too short.
-fn strike(rows: &mut Vec<Row>, row: usize, from: usize, to: usize, color: [u8; 4]) -> Result<()>
+fn strike(
+    rows: &mut Vec<Line>,
+    loan: Loan,
+    row: usize,
+    from: usize,
+    to: usize,
+    color: [u8; 4],
+) -> Result<()>
     requires ordered { from ≤ to }
     requires within { to ≤ 1000000 }
     requires made { row < vec_len rows.old }
+    requires lent { loan.room ≤ 1000000 }
+    requires top { loan.top ≤ 1000000 }
     ensures ok { OnOk result ((d : RowState) → rows.new.items ≡ slice_set rows.old.items row
-        (painted from to color (reached_to to (slice_index_or rows.old.items row d)))) }
-    ensures thrifty { OnOk result ((d : RowState)
-        → IsThrifty (slice_index_or rows.new.items row d)) }
+        (painted from to color (lent_to (share loan.top loan.room row) to
+        (slice_index_or rows.old.items row d)))) }
+    ensures roomy { OnOk result ((d : RowState)
+        → IsRoomy (slice_index_or rows.new.items row d)) }
+    ensures stays { OnOk result (row < loan.top → (d : RowState)
+        → to ≤ (slice_index_or rows.old.items row d).room) }
     ensures refused { OnErr result (rows.new.items ≡ rows.old.items) }
     ensures held { (d : RowState) → to ≤ length (slice_index_or rows.old.items row d).pixels
         → IsOk result }
     ensures error { IfErr result (λ e. e ≡ OutOfMemory) }
 {
     let struck = &mut rows[row];
-    struck.reach(to)?;
+    if row < loan.top && to > struck.room() {
+        return Err(SixelError::OutOfMemory);
+    }
+    struck.reach(to, if row < loan.top + 6 { loan.room } else { 0 })?;
     struck.paint(from, to, color);
     Ok(())
 }
 
 // Gives one color to columns that the row holds.
-fn fill(rows: &mut Vec<Row>, row: usize, from: usize, to: usize, color: [u8; 4])
+fn fill(rows: &mut Vec<Line>, row: usize, from: usize, to: usize, color: [u8; 4])
     requires ordered { from ≤ to }
     requires made { row < vec_len rows.old }
     requires held { (d : RowState) → to ≤ length (slice_index_or rows.old.items row d).pixels }
     ensures filled { (d : RowState) → rows.new.items ≡ slice_set rows.old.items row
         (painted from to color (slice_index_or rows.old.items row d)) }
-    ensures thrifty { (d : RowState) → IsThrifty (slice_index_or rows.new.items row d) }
+    ensures roomy { (d : RowState) → IsRoomy (slice_index_or rows.new.items row d) }
 {
     rows[row].paint(from, to, color);
 }
 
 // Draws one row of four sixels.
 #[inline(always)]
-fn mix(rows: &mut Vec<Row>, top: usize, bit: usize, from: usize, sixels: [u8; 4], color: [u8; 4])
+fn mix(rows: &mut Vec<Line>, top: usize, bit: usize, from: usize, sixels: [u8; 4], color: [u8; 4])
     requires made { top + bit < vec_len rows.old }
     requires held { (d : RowState)
         → from + 4 ≤ length (slice_index_or rows.old.items (top + bit) d).pixels }
     requires six { bit < 6 }
     ensures mixed { (d : RowState) → rows.new.items ≡ slice_set rows.old.items (top + bit)
         (mixed_from from sixels bit color (slice_index_or rows.old.items (top + bit) d)) }
-    ensures thrifty { (d : RowState) → IsThrifty (slice_index_or rows.new.items (top + bit) d) }
+    ensures roomy { (d : RowState) → IsRoomy (slice_index_or rows.new.items (top + bit) d) }
 {
     rows[top + bit].mix(from, sixels, bit, color);
 }
 
 // Draws one row of a sixel of one column.
 #[inline(always)]
-fn mix_one(rows: &mut Vec<Row>, top: usize, bit: usize, at: usize, sixel: u8, color: [u8; 4])
+fn mix_one(rows: &mut Vec<Line>, top: usize, bit: usize, at: usize, sixel: u8, color: [u8; 4])
     requires made { top + bit < vec_len rows.old }
     requires held { (d : RowState)
         → at < length (slice_index_or rows.old.items (top + bit) d).pixels }
     requires six { bit < 6 }
     ensures mixed { (d : RowState) → rows.new.items ≡ slice_set rows.old.items (top + bit)
         (mixed_from at (sixel ∷ []) bit color (slice_index_or rows.old.items (top + bit) d)) }
-    ensures thrifty { (d : RowState) → IsThrifty (slice_index_or rows.new.items (top + bit) d) }
+    ensures roomy { (d : RowState) → IsRoomy (slice_index_or rows.new.items (top + bit) d) }
 {
     rows[top + bit].mix_one(at, sixel, bit, color);
 }
 
 // Draws one row of four sixels, as far as it holds their columns.
 #[inline(always)]
-fn dot(rows: &mut Vec<Row>, top: usize, bit: usize, from: usize, sixels: [u8; 4], color: [u8; 4])
+fn dot(rows: &mut Vec<Line>, top: usize, bit: usize, from: usize, sixels: [u8; 4], color: [u8; 4])
     requires within { from ≤ 1000000 }
     requires above_bottom { top + 6 ≤ 1000000 }
     requires six { bit < 6 }
     ensures dotted { (d : RowState) → rows.new.items ≡ slice_set rows.old.items (top + bit)
         (mixed_from from sixels bit color (slice_index_or rows.old.items (top + bit) d)) }
-    ensures thrifty { (d : RowState) → top + bit < vec_len rows.old
-        → IsThrifty (slice_index_or rows.new.items (top + bit) d) }
+    ensures roomy { (d : RowState) → top + bit < vec_len rows.old
+        → IsRoomy (slice_index_or rows.new.items (top + bit) d) }
 {
     if top + bit < rows.len() {
         rows[top + bit].dot(from, sixels, bit, color);

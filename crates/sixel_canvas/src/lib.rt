@@ -3,6 +3,7 @@
 
 mod block;
 mod canvas;
+mod line;
 mod row;
 mod span;
 mod tagged;

@@ -1,17 +1,10 @@
 //! A row of the canvas, which doubles its room where it is too small.
-ghost use Rattle.std.specs.Prelude.{◌≡◌, ◌+◌, ◌-◌, ◌*◌, ◌^◌, ◌<◌, ◌≤◌, ◌==◌, ◌++◌, ◌∷◌, []};
-ghost use Rattle.std.specs.Prelude.{length, max, take, drop, replicate, slice_index_or};
-ghost use Rattle.std.specs.Prelude.{vec_len, vec_capacity, IfOk, IfErr, IsOk, OnErr, OnOk};
+ghost use Rattle.std.specs.Prelude.{◌≡◌, ◌≤◌, ◌==◌, length, IfErr, IsOk, OnErr, OnOk};
 ghost use Rattle.sixel_base.specs.declared.error.SixelError.TheVariants.{OutOfMemory};
-ghost use Rattle.sixel_base.specs.Picture.{joined};
 ghost use Rattle.sixel_canvas.specs.Row.{IsThrifty, empty_row, painted, reached_to};
-ghost use Rattle.sixel_canvas.specs.Row.{room_for};
-ghost use Rattle.sixel_canvas.specs.inside.Block.{mixed_from};
 
-use crate::block::{dot_from, mix_from, mix_one};
-use crate::span::fill_rgba_span;
+use crate::line::Line;
 use sixel_base::Result;
-use sixel_base::limits::MAX_SIDE;
 use std::alloc::Global;
 use std::marker::Model;
 
@@ -21,22 +14,17 @@ use std::marker::Model;
 /// the list of pixels, the room and the writes.
 #[derive(Drop)]
 pub struct Row {
-    pixels: Vec<[u8; 4]>,
-    room: usize,
-    writes: u64,
-    background: [u8; 4],
+    line: Line,
 }
 
 impl Model for Row {
-    ghost use Rattle.std.specs.Prelude.{◌≤◌, vec_capacity};
-    ghost use Rattle.sixel_canvas.specs.Row.{RowState, row_state, IsThrifty};
+    ghost use Rattle.sixel_canvas.specs.Row.{RowState, IsThrifty};
 
     ghost Value = { RowState };
 
-    ghost view = { λ row. row_state row.background row.pixels.items row.room row.writes };
+    ghost view = { λ row. row.line };
 
-    ghost invariant = { λ row. (row.room ≤ vec_capacity row.pixels)
-        × IsThrifty (row_state row.background row.pixels.items row.room row.writes) };
+    ghost invariant = { λ row. IsThrifty row.line };
 }
 
 impl Row {
@@ -46,10 +34,7 @@ impl Row {
         ensures thrifty { IsThrifty result }
     {
         Row {
-            pixels: Vec::new(alloc),
-            room: 0,
-            writes: 0,
-            background,
+            line: Line::new(alloc, background),
         }
     }
 
@@ -66,16 +51,7 @@ impl Row {
         ensures error { IfErr result (λ e. e ≡ OutOfMemory) }
         ensures thrifty { IsThrifty self.new }
     {
-        let held = self.len();
-        if columns <= held {
-            return Ok(());
-        }
-        let moved = if columns > self.room { held } else { 0 };
-        let room = make_room(&mut self.pixels, columns, self.room)?;
-        self.pixels.resize(columns, self.background)?;
-        self.room = room;
-        self.writes += (columns - held + moved) as u64;
-        Ok(())
+        self.line.reach(columns, 0)
     }
 
     /// Gives one color to the columns from `from` up to before `to`.
@@ -85,41 +61,7 @@ impl Row {
         ensures after { self.new ≡ painted from to color self.old }
         ensures thrifty { IsThrifty self.new }
     {
-        self.pixels[from..to].fill(color);
-    }
-
-    // Gives one color to those of the four columns from `from` on whose sixel has the bit.
-    #[inline(always)]
-    pub(crate) fn mix(&mut self, from: usize, sixels: [u8; 4], bit: usize, color: [u8; 4])
-        requires held { from + 4 ≤ length self.old.pixels }
-        requires six { bit < 6 }
-        ensures after { self.new ≡ mixed_from from sixels bit color self.old }
-        ensures thrifty { IsThrifty self.new }
-    {
-        mix_from(&mut self.pixels, from, sixels, bit, color);
-    }
-
-    // Gives the color to a column, where its sixel has the bit.
-    #[inline(always)]
-    pub(crate) fn mix_one(&mut self, at: usize, sixel: u8, bit: usize, color: [u8; 4])
-        requires held { at < length self.old.pixels }
-        requires six { bit < 6 }
-        ensures after { self.new ≡ mixed_from at (sixel ∷ []) bit color self.old }
-        ensures thrifty { IsThrifty self.new }
-    {
-        mix_one(&mut self.pixels, at, sixel, bit, color);
-    }
-
-    // Gives one color to those of the columns from `from` on whose sixel has the bit, as far as the
-    // row holds them.
-    #[inline(always)]
-    pub(crate) fn dot(&mut self, from: usize, sixels: [u8; 4], bit: usize, color: [u8; 4])
-        requires within { from ≤ 1000000 }
-        requires six { bit < 6 }
-        ensures after { self.new ≡ mixed_from from sixels bit color self.old }
-        ensures thrifty { IsThrifty self.new }
-    {
-        dot_from(&mut self.pixels, from, sixels, bit, color);
+        self.line.paint(from, to, color);
     }
 
     /// How many pixels the row holds.
@@ -127,7 +69,7 @@ impl Row {
         ensures value { result ≡ length self.now.pixels }
         ensures thrifty { IsThrifty self.now }
     {
-        self.pixels.len()
+        self.line.len()
     }
 
     /// Whether the row holds no pixel.
@@ -135,7 +77,7 @@ impl Row {
         ensures value { result ≡ (length self.now.pixels == 0) }
         ensures thrifty { IsThrifty self.now }
     {
-        self.pixels.is_empty()
+        self.line.is_empty()
     }
 
     /// For how many pixels the row has memory.
@@ -143,7 +85,7 @@ impl Row {
         ensures value { result ≡ self.now.room }
         ensures thrifty { IsThrifty self.now }
     {
-        self.room
+        self.line.room()
     }
 
     /// How many pixels were copied or filled so far, to grow the row. Painting doesn't count.
@@ -151,82 +93,6 @@ impl Row {
         ensures value { result ≡ self.now.writes }
         ensures thrifty { IsThrifty self.now }
     {
-        self.writes
+        self.line.writes()
     }
-
-    // The pixel of this column, background where the row is short.
-    pub(super) fn pixel(&self, column: usize) -> [u8; 4]
-        ensures value { result ≡ slice_index_or self.now.pixels column self.now.background }
-        ensures thrifty { IsThrifty self.now }
-    {
-        match self.pixels.get(column) {
-            Some(pixel) => *pixel,
-            None => self.background,
-        }
-    }
-
-    // Appends so many of the row's pixels from `from` on, with background where it is short.
-    pub(super) fn pack(&self, bytes: &mut Vec<u8>, from: usize, count: usize) -> Result<()>
-        requires { vec_len bytes.old + 4 * count < 2 ^ 63 }
-        ensures ok { OnOk result (bytes.new.items ≡ bytes.old.items ++ joined (λ k.
-            slice_index_or self.now.pixels (from + k) self.now.background) count) }
-        ensures len { OnOk result (vec_len bytes.new ≡ vec_len bytes.old + 4 * count) }
-        ensures error { IfErr result (λ e. e ≡ OutOfMemory) }
-    {
-        let begin = from.min(self.len());
-        let rest = &self.pixels[begin..];
-        let held = count.min(rest.len());
-        bytes.extend_from_slice(rest[..held].as_flattened())?;
-        add_pixels(bytes, count - held, self.background)
-    }
-}
-
-// Makes memory for so many columns where the room is too small, and answers the room then.
-#[inline(never)]
-fn make_room(pixels: &mut Vec<[u8; 4]>, columns: usize, room: usize) -> Result<usize>
-    requires side { columns ≤ 1000000 }
-    requires held { vec_len pixels.old ≤ room }
-    requires capacity { room ≤ vec_capacity pixels.old }
-    ensures room { IfOk result (λ made. made ≡ room_for columns room) }
-    ensures enough { IfOk result (λ made. made ≤ vec_capacity pixels.new) }
-    ensures no_more { IfOk result (λ made.
-        vec_capacity pixels.new ≤ max made (vec_capacity pixels.old)) }
-    ensures within_room { columns ≤ room → IsOk result }
-    ensures error { IfErr result (λ e. e ≡ OutOfMemory) }
-    ensures items { pixels.new.items ≡ pixels.old.items }
-    ensures never_less { vec_capacity pixels.old ≤ vec_capacity pixels.new }
-{
-    if columns <= room {
-        return Ok(room);
-    }
-    let room = columns.max(MAX_SIDE.min(2 * room));
-    pixels.reserve_exact(room - pixels.len())?;
-    Ok(room)
-}
-
-// Appends `count` pixels of one color.
-pub(super) fn add_pixels(bytes: &mut Vec<u8>, count: usize, color: [u8; 4]) -> Result<()>
-    requires { vec_len bytes.old + 4 * count < 2 ^ 63 }
-    ensures ok { OnOk result (bytes.new.items ≡ bytes.old.items ++ joined (λ _. color) count) }
-    ensures len { OnOk result (vec_len bytes.new ≡ vec_len bytes.old + 4 * count) }
-    ensures within_capacity { vec_len bytes.old + 4 * count ≤ vec_capacity bytes.old → IsOk result }
-    ensures refused { OnErr result (bytes.new.items ≡ bytes.old.items) }
-    ensures error { IfErr result (λ e. e ≡ OutOfMemory) }
-    ensures capacity { vec_capacity bytes.old ≤ vec_capacity bytes.new }
-{
-    if count == 1 {
-        bytes.extend_from_slice(&color)?;
-        return Ok(());
-    }
-    let start = bytes.len();
-    bytes.resize(start + 4 * count, 0)?;
-    fill_from(bytes, start, count, color);
-    Ok(())
-}
-
-fn fill_from(bytes: &mut [u8], start: usize, count: usize, color: [u8; 4])
-    requires { start + 4 * count ≡ length bytes.old }
-    ensures { bytes.new ≡ take start bytes.old ++ joined (λ _. color) count }
-{
-    fill_rgba_span(&mut bytes[start..], color);
 }

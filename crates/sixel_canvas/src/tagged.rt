@@ -11,7 +11,7 @@ ghost use Rattle.sixel_canvas.specs.inside.Paints.{counted, ends_and_tags, least
 ghost use Rattle.sixel_canvas.specs.inside.Tags.{is_tag, lies_in, seen, IsTagged};
 
 use crate::canvas::Canvas;
-use crate::row::add_pixels;
+use crate::line::add_pixels;
 use sixel_base::Result;
 use sixel_base::limits::MAX_SIDE;
 use std::alloc::Global;
@@ -243,7 +243,7 @@ impl TaggedCanvas {
     /// The bytes of the picture of this size: red, green, blue and alpha a pixel, row by row from
     /// the top. Places that no stroke has reached are background.
     ///
-    /// They get room for an eighth more and for four rows at least, which is never touched. So they
+    /// They get room for a quarter more and for four rows at least, which is never touched. So they
     /// have at least twice the room of any row that is no wider.
     pub fn pack(&self, width: usize, height: usize) -> Result<Vec<u8>>
         requires { width * height ≤ 67108864 }
@@ -252,7 +252,7 @@ impl TaggedCanvas {
         ensures error { IfErr result (λ e. e ≡ OutOfMemory) }
     {
         let pixels = width * height;
-        let room = (4 * pixels + pixels / 2).max(16 * width.min(MAX_SIDE));
+        let room = (5 * pixels).max(16 * width.min(MAX_SIDE));
         let mut bytes = Vec::with_capacity(self.sheet.allocator(), room)?;
         'packed: for row in 0..height {
             self.pack_row(&mut bytes, row, width)?;

@@ -2,7 +2,8 @@
 -- The rules are this library's own: a row holds pixels only up to its last painted column.
 use Rattle.std.specs.Prelude.{◌≡◌, ℕ, ◌*◌, ◌≤◌, List, length, slice_index_or, sum_by}
 use Rattle.sixel_base.specs.Picture.{total}
-use Rattle.sixel_canvas.specs.Row.{RowState, IsThrifty, empty_row}
+use Rattle.sixel_canvas.specs.Row.{RowState, empty_row}
+use Rattle.sixel_canvas.specs.inside.Loan.{IsRoomy}
 
 -- the rows from the top, as far down as a stroke has come, from which row on no block has a tag, how many pixels
 -- strokes have painted, at most, and how many of these wide strokes that were painted at once
@@ -15,7 +16,7 @@ pub record CanvasState : Type 0 where
 
 -- a row that a canvas with this background may hold
 pub record IsRowOf (background : List ℕ) (row : RowState) : Type 0 where
-  pub thrifty : IsThrifty row
+  pub roomy : IsRoomy row
   pub over : row.background ≡ background
 
 -- the row at this place, with no pixels where none was made

@@ -1,68 +1,114 @@
-use Rattle.std.proofs.Common.{◌≡◌, ℕ, ◌+◌, ◌≤◌, length, get_or, refl, sym, ap, inl, inr, arith}
+use Rattle.std.proofs.Common.{◌≡◌, [], ℕ, ◌+◌, ◌≤◌, ◌&&◌, length, get_or, refl, sym, ap, inl, inr, arith}
+use Rattle.std.specs.Prelude.{nat_lt}
 use Rattle.std.proofs.lemmas.Bool.{cases_Bool, le-ltb, true≢false}
 use Rattle.sixel_base.specs.Picture.{is_struck}
 use Rattle.sixel_canvas.specs.Row.{RowState, empty_row}
 use Rattle.sixel_canvas.specs.inside.Canvas.{row_at}
-use Rattle.sixel_canvas.proofs.Strokes.{struck_row}
-use Rattle.sixel_canvas.proofs.Totals.{IsBounded-rows}
+use Rattle.sixel_canvas.specs.inside.Loan.{share}
+use Rattle.sixel_canvas.proofs.Strokes.{length-struck_row, reached-struck, struck_row}
+use Rattle.sixel_canvas.proofs.Loans.{IsBounded-rows, IsLent-made, IsLent-set, len_at-side}
 use Rattle.sixel_canvas.proofs.Underway.{IsUnderway-hit, IsUnderway-miss, IsUnderway-none, is_struck-above, is_struck-hit, is_struck-miss, reached-all, shown-all}
 use Rattle.sixel_canvas.proofs.canvas.Canvas.draw.Goals as goal
 use Rattle.sixel_canvas.proofs.canvas.Canvas.draw.Goals.{then-bits-bit-eq1+in_ok-strike, else-bits-bit-eq1}
 
 pub returns-in_err-make_rows-clause-bounded : goal.returns-in_err-make_rows-clause-bounded
 returns-in_err-make_rows-clause-bounded c =
-    IsBounded-rows c.self.inside.background c.make_rows.new.rows.items (omega (arith, c.make_rows.ensures.few, c.self.invariant.0)) (c.make_rows.ensures.rows c.self.invariant.1)
+    let loan = c.self.inside.loan in
+    IsBounded-rows c.self.inside.background c.make_rows.new.rows.items loan.top loan.credit loan.room (omega (arith, c.make_rows.ensures.few, c.self.invariant.0)) (c.make_rows.ensures.rows c.self.invariant.1)
+    (IsLent-made c.self.inside.background c.self.inside.rows.items c.make_rows.new.rows.items loan.top loan.credit loan.room c.self.invariant.2 c.make_rows.ensures.same)
 
 pub returns-in_err-strike-clause-bounded : goal.returns-in_err-strike-clause-bounded
 returns-in_err-strike-clause-bounded c =
-    let before = c.struck.invariant in
-    rw (before.over, c.in_err-strike.ensures.refused) (IsBounded-rows c.args.self.now.background c.struck.self-inside.rows.items before.few before.sound)
+    let before = c.struck.invariant.0 in
+    let loan = c.struck.self-inside.loan in
+    rw (before.over, c.in_err-strike.ensures.refused) (IsBounded-rows c.args.self.now.background c.struck.self-inside.rows.items loan.top loan.credit loan.room before.few before.sound c.struck.invariant.1)
+
+pub invariant_of-self : goal.invariant_of-self
+invariant_of-self c =
+    let loan = c.self.inside.loan in (
+      omega (arith, c.make_rows.ensures.few, c.self.invariant.0),
+      c.make_rows.ensures.rows c.self.invariant.1,
+      IsLent-made c.self.inside.background c.self.inside.rows.items c.make_rows.new.rows.items loan.top loan.credit loan.room c.self.invariant.2 c.make_rows.ensures.same,
+    )
+
+pub enter-requires-clause-side : goal.enter-requires-clause-side
+enter-requires-clause-side c = len_at-side c.self.inside.background c.make_rows.new.rows.items (c.make_rows.ensures.rows c.self.invariant.1)
+
+pub enter-requires-clause-lent : goal.enter-requires-clause-lent
+enter-requires-clause-lent c =
+    let loan = c.self.inside.loan in
+    IsLent-made c.self.inside.background c.self.inside.rows.items c.make_rows.new.rows.items loan.top loan.credit loan.room c.self.invariant.2 c.make_rows.ensures.same
 
 pub struck-init : goal.struck-init
 struck-init c =
     let canvas = c.self.inside in
-    rw (← c.self.view_is)
-    (IsUnderway-none (λ _. struck_row c.args.from c.args.to c.args.color) (is_struck c.args.top c.args.bits) c.args.top (record { background = canvas.background; rows = canvas.rows.items; tagged = 0; paints = 0; spread = 0 }) c.make_rows.new.rows.items
-    (is_struck-above c.args.top c.args.bits) (omega (arith, c.in_ok-make_rows.ensures.enough)) (omega (arith, c.make_rows.ensures.few, c.self.invariant.0)) (c.make_rows.ensures.rows c.self.invariant.1) c.make_rows.ensures.same)
+    let loan = c.enter.new.loan in (
+      rw (← c.self.view_is)
+          (IsUnderway-none (λ row. struck_row (share loan.top loan.room row) c.args.from c.args.to c.args.color) (is_struck c.args.top c.args.bits) c.args.top (record { background = canvas.background; rows = canvas.rows.items; tagged = 0; paints = 0; spread = 0 }) c.make_rows.new.rows.items
+          (is_struck-above c.args.top c.args.bits) (omega (arith, c.in_ok-make_rows.ensures.enough)) (omega (arith, c.make_rows.ensures.few, c.self.invariant.0)) (c.make_rows.ensures.rows c.self.invariant.1) c.make_rows.ensures.same),
+      c.enter.ensures.lent,
+    )
 
 pub struck-preserved : goal.struck-preserved
 struck-preserved c =
-    let stroke = λ (row : ℕ). struck_row c.args.from c.args.to c.args.color in
+    let loan = c.struck.self-inside.loan in
+    let stroke = λ (row : ℕ). struck_row (share loan.top loan.room row) c.args.from c.args.to c.args.color in
     let struck = is_struck c.args.top c.args.bits in
     let canvas = c.args.self.now in
     let background = c.struck.self-inside.background in
     let rows = c.struck.self-inside.rows.items in
     elim c.if-bits-bit-eq1.branch [
       | then-bits-bit-eq1+in_ok-strike w ↦
-          rw w.self-inside-is
-          (IsUnderway-hit stroke struck c.args.top c.struck.bit canvas background rows w.strike.new.rows.items
-          c.struck.invariant c.struck-test.true (is_struck-hit c.args.top c.args.bits c.struck.bit c.struck-test.true w.if-bits-bit-eq1.true) (λ k row. refl) w.in_ok-strike.ensures.ok w.in_ok-strike.ensures.thrifty)
+          let row = c.args.top + c.struck.bit in
+          let old = get_or rows row (empty_row []) in
+          let new = stroke row old in
+          let long = length-struck_row (share loan.top loan.room row) c.args.from c.args.to c.args.color old c.requires.ordered in
+          rw w.self-inside-is (
+            IsUnderway-hit stroke struck c.args.top c.struck.bit canvas background rows w.strike.new.rows.items
+                c.struck.invariant.0 c.struck-test.true (is_struck-hit c.args.top c.args.bits c.struck.bit c.struck-test.true w.if-bits-bit-eq1.true) (λ k row. refl) w.in_ok-strike.ensures.ok w.in_ok-strike.ensures.roomy,
+            IsLent-set rows w.strike.new.rows.items row c.args.to new loan.top loan.credit loan.room c.struck.invariant.1 (omega (arith, c.struck.invariant.0.made, c.struck-test.true)) (w.in_ok-strike.ensures.ok (empty_row [])) refl (omega (arith, long)) (omega (arith, long)) (λ above. w.in_ok-strike.ensures.stays above (empty_row [])),
+          )
       | else-bits-bit-eq1 w ↦
-          rw w.self-inside-is
-          (IsUnderway-miss stroke struck c.args.top c.struck.bit canvas background rows
-          c.struck.invariant (is_struck-miss c.args.top c.args.bits c.struck.bit c.struck-test.true w.if-bits-bit-eq1.false))
+          rw w.self-inside-is (
+            IsUnderway-miss stroke struck c.args.top c.struck.bit canvas background rows
+                c.struck.invariant.0 (is_struck-miss c.args.top c.args.bits c.struck.bit c.struck-test.true w.if-bits-bit-eq1.false),
+            c.struck.invariant.1,
+          )
     ]
 
 pub returns-clause-drawn : goal.returns-clause-drawn
 returns-clause-drawn c =
     let canvas = c.struck.self-inside in
-    shown-all c.args.from c.args.to c.args.top c.args.bits c.args.color c.struck.bit c.args.self.now canvas.background canvas.rows.items
-    c.struck.invariant c.struck-test.false (rw (← c.self.view_is) c.self.invariant.1) c.requires.ordered
+    shown-all (share canvas.loan.top canvas.loan.room) c.args.from c.args.to c.args.top c.args.bits c.args.color c.struck.bit c.args.self.now canvas.background canvas.rows.items
+    c.struck.invariant.0 c.struck-test.false (rw (← c.self.view_is) c.self.invariant.1) c.requires.ordered
 
 pub returns-clause-grown : goal.returns-clause-grown
 returns-clause-grown c =
     let canvas = c.struck.self-inside in
-    reached-all c.args.from c.args.to c.args.top c.args.bits c.args.color c.struck.bit c.args.self.now canvas.background canvas.rows.items
-    c.struck.invariant c.struck-test.false c.requires.ordered
+    reached-all (share canvas.loan.top canvas.loan.room) c.args.from c.args.to c.args.top c.args.bits c.args.color c.struck.bit c.args.self.now canvas.background canvas.rows.items
+    c.struck.invariant.0 c.struck-test.false c.requires.ordered
 
 pub returns-clause-never_less : goal.returns-clause-never_less
 returns-clause-never_less c = λ row.
     let canvas = c.struck.self-inside in
-    let grown = reached-all c.args.from c.args.to c.args.top c.args.bits c.args.color c.struck.bit c.args.self.now canvas.background canvas.rows.items c.struck.invariant c.struck-test.false c.requires.ordered row in
+    let grown = reached-all (share canvas.loan.top canvas.loan.room) c.args.from c.args.to c.args.top c.args.bits c.args.color c.struck.bit c.args.self.now canvas.background canvas.rows.items c.struck.invariant.0 c.struck-test.false c.requires.ordered row in
     elim (cases_Bool (is_struck c.args.top c.args.bits row)) [
       | inl hit ↦ omega (arith, rw hit at grown)
       | inr miss ↦ omega (arith, rw miss at grown)
     ]
+
+pub returns-in_err-strike-clause-never_less : goal.returns-in_err-strike-clause-never_less
+returns-in_err-strike-clause-never_less c = λ row.
+    let before = c.struck.invariant.0 in
+    let loan = c.struck.self-inside.loan in
+    let canvas = c.args.self.now in
+    let hit = nat_lt row (c.args.top + c.struck.bit) && is_struck c.args.top c.args.bits row in
+    let grown = reached-struck (share loan.top loan.room row) c.args.from c.args.to c.args.color hit (row_at canvas row) (get_or c.struck.self-inside.rows.items row (empty_row canvas.background)) c.requires.ordered (before.struck row) in
+    rw (before.over, c.in_err-strike.ensures.refused)
+    (elim (cases_Bool hit) [
+      | inl struck ↦ omega (arith, rw struck at grown)
+      | inr left ↦ omega (arith, rw left at grown)
+    ])
 
 pub returns-in_err-strike-clause-held : goal.returns-in_err-strike-clause-held
 returns-in_err-strike-clause-held c = λ some held.
@@ -70,11 +116,12 @@ returns-in_err-strike-clause-held c = λ some held.
     let row = c.args.top + c.struck.bit in
     let canvas = c.args.self.now in
     let empty = empty_row canvas.background in
-    let old : get_or rows row empty ≡ row_at canvas row = rw (le-ltb row row (omega arith)) at (c.struck.invariant.struck row) in
+    let old : get_or rows row empty ≡ row_at canvas row = rw (le-ltb row row (omega arith)) at (c.struck.invariant.0.struck row) in
     let fits : c.args.to ≤ length (get_or rows row empty).pixels = omega (arith, held c.struck.bit c.struck-test.true, ap (λ (r : RowState). length r.pixels) old) in
     absurd (true≢false (sym (c.in_err-strike.ensures.held empty fits)))
 
 pub returns-clause-bounded : goal.returns-clause-bounded
 returns-clause-bounded c =
-    let done = c.struck.invariant in
-    rw done.over (IsBounded-rows c.args.self.now.background c.struck.self-inside.rows.items done.few done.sound)
+    let done = c.struck.invariant.0 in
+    let loan = c.struck.self-inside.loan in
+    rw done.over (IsBounded-rows c.args.self.now.background c.struck.self-inside.rows.items loan.top loan.credit loan.room done.few done.sound c.struck.invariant.1)

@@ -1,46 +1,83 @@
-use Rattle.std.proofs.Common.{◌≡◌, ◌<◌, max, length, get_or, ap, ◌∙◌, refl, arith}
+use Rattle.std.proofs.Common.{◌≡◌, [], ◌<◌, max, length, get_or, ap, ◌∙◌, refl, arith}
 use Rattle.std.specs.Prelude.{◌==◌, if◌then◌else◌}
-use Rattle.sixel_canvas.specs.Row.{RowState, empty_row, reached_to}
+use Rattle.sixel_canvas.specs.Row.{RowState, empty_row}
+use Rattle.sixel_canvas.specs.inside.Loan.{lent_to, share}
+use Rattle.sixel_canvas.proofs.RowStates.{length-reached_to}
 use Rattle.sixel_canvas.specs.inside.Canvas.{CanvasState, shown, reached}
 use Rattle.sixel_canvas.proofs.OneRow.{IsBounded-row_set, length-row_reached, shown-row_reached, sound-row_set}
-use Rattle.sixel_canvas.proofs.Totals.{IsBounded-rows}
+use Rattle.sixel_canvas.proofs.Loans.{IsBounded-rows, IsLent-made, IsLent-set}
 use Rattle.sixel_canvas.proofs.canvas.Canvas.reach_row.Goals as goal
 
 pub returns-in_err-make_rows-clause-bounded : goal.returns-in_err-make_rows-clause-bounded
 returns-in_err-make_rows-clause-bounded c =
-    IsBounded-rows c.self.inside.background c.make_rows.new.rows.items (omega (arith, c.make_rows.ensures.few, c.self.invariant.0)) (c.make_rows.ensures.rows c.self.invariant.1)
+    IsBounded-rows c.self.inside.background c.make_rows.new.rows.items c.self.inside.loan.top c.self.inside.loan.credit c.self.inside.loan.room (omega (arith, c.make_rows.ensures.few, c.self.invariant.0)) (c.make_rows.ensures.rows c.self.invariant.1)
+    (IsLent-made c.self.inside.background c.self.inside.rows.items c.make_rows.new.rows.items c.self.inside.loan.top c.self.inside.loan.credit c.self.inside.loan.room c.self.invariant.2 c.make_rows.ensures.same)
 
 pub returns-in_err-reach-clause-bounded : goal.returns-in_err-reach-clause-bounded
 returns-in_err-reach-clause-bounded c =
-    rw c.in_err-reach.ensures.refused (IsBounded-rows c.self.inside.background c.make_rows.new.rows.items (omega (arith, c.make_rows.ensures.few, c.self.invariant.0)) (c.make_rows.ensures.rows c.self.invariant.1))
+    rw c.in_err-reach.ensures.refused (IsBounded-rows c.self.inside.background c.make_rows.new.rows.items c.self.inside.loan.top c.self.inside.loan.credit c.self.inside.loan.room (omega (arith, c.make_rows.ensures.few, c.self.invariant.0)) (c.make_rows.ensures.rows c.self.invariant.1)
+    (IsLent-made c.self.inside.background c.self.inside.rows.items c.make_rows.new.rows.items c.self.inside.loan.top c.self.inside.loan.credit c.self.inside.loan.room c.self.invariant.2 c.make_rows.ensures.same))
+
+pub invariant_of-self : goal.invariant_of-self
+invariant_of-self c =
+    let loan = c.self.inside.loan in (
+      omega (arith, c.make_rows.ensures.few, c.self.invariant.0),
+      c.make_rows.ensures.rows c.self.invariant.1,
+      IsLent-made c.self.inside.background c.self.inside.rows.items c.make_rows.new.rows.items loan.top loan.credit loan.room c.self.invariant.2 c.make_rows.ensures.same,
+    )
+
+pub invariant_of-self-in_err-reach : goal.invariant_of-self-in_err-reach
+invariant_of-self-in_err-reach c =
+    rw c.in_err-reach.ensures.refused (
+    let loan = c.self.inside.loan in (
+      omega (arith, c.make_rows.ensures.few, c.self.invariant.0),
+      c.make_rows.ensures.rows c.self.invariant.1,
+      IsLent-made c.self.inside.background c.self.inside.rows.items c.make_rows.new.rows.items loan.top loan.credit loan.room c.self.invariant.2 c.make_rows.ensures.same,
+    )
+    )
 
 pub invariant_of-self-2 : goal.invariant_of-self-2
 invariant_of-self-2 c =
     let rows = c.make_rows.new.rows.items in
+    let loan = c.self.inside.loan in
+    let first = share loan.top loan.room c.args.row in
     let made : c.args.row < length rows = omega (arith, c.in_ok-make_rows.ensures.enough) in
-    let is = sound-row_set (reached_to c.args.columns) c.args.row rows c.reach.new.rows.items c.self.inside.background c.in_ok-reach.ensures.ok made (c.make_rows.ensures.rows c.self.invariant.1) (λ _. refl) c.in_ok-reach.ensures.thrifty in
-    (omega (arith, is.0, c.make_rows.ensures.few, c.self.invariant.0), is.1)
+    let is = sound-row_set (lent_to first c.args.columns) c.args.row rows c.reach.new.rows.items c.self.inside.background c.in_ok-reach.ensures.ok made (c.make_rows.ensures.rows c.self.invariant.1) (λ _. refl) c.in_ok-reach.ensures.roomy in
+    let old = get_or rows c.args.row (empty_row []) in
+    let long = length-reached_to c.args.columns old in (
+      omega (arith, is.0, c.make_rows.ensures.few, c.self.invariant.0),
+      is.1,
+      IsLent-set rows c.reach.new.rows.items c.args.row c.args.columns (lent_to first c.args.columns old) loan.top loan.credit loan.room
+          (IsLent-made c.self.inside.background c.self.inside.rows.items c.make_rows.new.rows.items c.self.inside.loan.top c.self.inside.loan.credit c.self.inside.loan.room c.self.invariant.2 c.make_rows.ensures.same)
+          made (c.in_ok-reach.ensures.ok (empty_row [])) refl (omega (arith, long)) (omega (arith, long)) (λ above. c.in_ok-reach.ensures.stays above (empty_row [])),
+    )
 
 pub returns-clause-bounded : goal.returns-clause-bounded
 returns-clause-bounded c =
     let rows = c.make_rows.new.rows.items in
+    let loan = c.self.inside.loan in
+    let first = share loan.top loan.room c.args.row in
     let made : c.args.row < length rows = omega (arith, c.in_ok-make_rows.ensures.enough) in
-    IsBounded-row_set (reached_to c.args.columns) c.args.row rows c.reach.new.rows.items c.self.inside.background c.in_ok-reach.ensures.ok made (omega (arith, c.make_rows.ensures.few, c.self.invariant.0)) (c.make_rows.ensures.rows c.self.invariant.1) (λ _. refl) c.in_ok-reach.ensures.thrifty
+    IsBounded-row_set loan.top loan.credit loan.room (lent_to first c.args.columns) c.args.row rows c.reach.new.rows.items c.self.inside.background c.in_ok-reach.ensures.ok made (omega (arith, c.make_rows.ensures.few, c.self.invariant.0)) (c.make_rows.ensures.rows c.self.invariant.1) (λ _. refl) c.in_ok-reach.ensures.roomy (invariant_of-self-2 c).2
 
 pub returns-clause-shown : goal.returns-clause-shown
 returns-clause-shown c = λ column k.
     let background = c.self.inside.background in
     let rows = c.make_rows.new.rows.items in
+    let loan = c.self.inside.loan in
+    let first = share loan.top loan.room c.args.row in
     let made : c.args.row < length rows = omega (arith, c.in_ok-make_rows.ensures.enough) in
-    shown-row_reached c.args.columns c.args.row rows c.reach.new.rows.items background c.in_ok-reach.ensures.ok made (c.make_rows.ensures.rows c.self.invariant.1) column k
+    shown-row_reached first c.args.columns c.args.row rows c.reach.new.rows.items background c.in_ok-reach.ensures.ok made (c.make_rows.ensures.rows c.self.invariant.1) column k
     ∙ ap (λ (r : RowState). get_or r.pixels column background) (c.make_rows.ensures.same k)
     ∙ ap (λ (s : CanvasState). shown s column k) c.self.view_is
 
 pub returns-clause-grown : goal.returns-clause-grown
 returns-clause-grown c = λ k.
     let rows = c.make_rows.new.rows.items in
+    let loan = c.self.inside.loan in
+    let first = share loan.top loan.room c.args.row in
     let made : c.args.row < length rows = omega (arith, c.in_ok-make_rows.ensures.enough) in
     let before : length (get_or rows k (empty_row c.self.inside.background)).pixels ≡ reached c.args.self.now k =
     ap (λ (r : RowState). length r.pixels) (c.make_rows.ensures.same k) ∙ ap (λ (s : CanvasState). reached s k) c.self.view_is in
-    length-row_reached c.args.columns c.args.row rows c.reach.new.rows.items c.self.inside.background c.in_ok-reach.ensures.ok made k
+    length-row_reached first c.args.columns c.args.row rows c.reach.new.rows.items c.self.inside.background c.in_ok-reach.ensures.ok made k
     ∙ ap (λ n. if k == c.args.row then max n c.args.columns else n) before

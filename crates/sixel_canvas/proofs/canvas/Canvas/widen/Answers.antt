@@ -1,20 +1,41 @@
-use Rattle.std.proofs.Common.{◌≡◌, ℕ, ◌+◌, ◌-◌, ◌≤◌, length, get_or, refl, sym, ap, ◌∙◌, arith}
+use Rattle.std.proofs.Common.{◌≡◌, [], ℕ, ◌+◌, ◌-◌, ◌≤◌, length, get_or, refl, sym, ap, ◌∙◌, arith}
 use Rattle.std.proofs.Math.ListN.{set}
-use Rattle.sixel_canvas.specs.Row.{reached_to}
+use Rattle.sixel_canvas.specs.Row.{empty_row}
+use Rattle.sixel_canvas.specs.inside.Loan.{lent_to, share}
+use Rattle.sixel_canvas.proofs.RowStates.{length-reached_to}
 use Rattle.sixel_canvas.specs.inside.Canvas.{CanvasState}
 use Rattle.std.proofs.lemmas.Bool.{true≢false}
 use Rattle.sixel_canvas.proofs.OneRow.{made_from_reached}
-use Rattle.sixel_canvas.proofs.Totals.{IsBounded-rows}
+use Rattle.sixel_canvas.proofs.Loans.{IsBounded-rows, IsLent-made, IsLent-set, len_at-side}
 use Rattle.sixel_canvas.proofs.Underway.{IsUnderway-hit, IsUnderway-none, in_band, in_band-above, in_band-inside}
 use Rattle.sixel_canvas.proofs.Widening.{reached-widened, shown-widened, widened_at}
 use Rattle.sixel_canvas.proofs.canvas.Canvas.widen.Goals as goal
 
+pub invariant_of-self : goal.invariant_of-self
+invariant_of-self c =
+    let loan = c.self.inside.loan in (
+      omega (arith, c.make_rows.ensures.few, c.self.invariant.0),
+      c.make_rows.ensures.rows c.self.invariant.1,
+      IsLent-made c.self.inside.background c.self.inside.rows.items c.make_rows.new.rows.items loan.top loan.credit loan.room c.self.invariant.2 c.make_rows.ensures.same,
+    )
+
+pub enter-requires-clause-side : goal.enter-requires-clause-side
+enter-requires-clause-side c = len_at-side c.self.inside.background c.make_rows.new.rows.items (c.make_rows.ensures.rows c.self.invariant.1)
+
+pub enter-requires-clause-lent : goal.enter-requires-clause-lent
+enter-requires-clause-lent c =
+    let loan = c.self.inside.loan in
+    IsLent-made c.self.inside.background c.self.inside.rows.items c.make_rows.new.rows.items loan.top loan.credit loan.room c.self.invariant.2 c.make_rows.ensures.same
+
 pub widened-init : goal.widened-init
 widened-init c =
     let canvas = c.self.inside in
-    rw (← c.self.view_is)
-    (IsUnderway-none (widened_at c.args.columns c.args.top) (in_band c.args.top) c.args.top (record { background = canvas.background; rows = canvas.rows.items; tagged = 0; paints = 0; spread = 0 }) c.make_rows.new.rows.items
-    (in_band-above c.args.top) (omega (arith, c.in_ok-make_rows.ensures.enough)) (omega (arith, c.make_rows.ensures.few, c.self.invariant.0)) (c.make_rows.ensures.rows c.self.invariant.1) c.make_rows.ensures.same)
+    let loan = c.enter.new.loan in (
+      rw (← c.self.view_is)
+          (IsUnderway-none (widened_at (share loan.top loan.room) c.args.columns c.args.top) (in_band c.args.top) c.args.top (record { background = canvas.background; rows = canvas.rows.items; tagged = 0; paints = 0; spread = 0 }) c.make_rows.new.rows.items
+          (in_band-above c.args.top) (omega (arith, c.in_ok-make_rows.ensures.enough)) (omega (arith, c.make_rows.ensures.few, c.self.invariant.0)) (c.make_rows.ensures.rows c.self.invariant.1) c.make_rows.ensures.same),
+      c.enter.ensures.lent,
+    )
 
 pub reach-requires-clause-within : goal.reach-requires-clause-within
 reach-requires-clause-within c = c.requires.within c.widened.bit c.widened-test.true
@@ -26,36 +47,47 @@ widened-preserved c =
     let bit = c.widened.bit in
     let rows = c.widened.self-inside.rows.items in
     let same : top + bit - top ≡ bit = omega arith in
-    IsUnderway-hit (widened_at columns top) (in_band top) top bit c.args.self.now c.widened.self-inside.background rows c.reach.new.rows.items
-    c.widened.invariant c.widened-test.true (in_band-inside top bit c.widened-test.true) (λ k row. refl)
-    (λ d. c.in_ok-reach.ensures.ok d ∙ ap (λ (k : ℕ). set rows (top + bit) (reached_to (get_or columns k 0) (get_or rows (top + bit) d))) (sym same))
-    c.in_ok-reach.ensures.thrifty
+    let loan = c.widened.self-inside.loan in
+    let first = share loan.top loan.room (top + bit) in
+    let old = get_or rows (top + bit) (empty_row []) in
+    let wide = get_or columns bit 0 in
+    let long = length-reached_to wide old in (
+      IsUnderway-hit (widened_at (share loan.top loan.room) columns top) (in_band top) top bit c.args.self.now c.widened.self-inside.background rows c.reach.new.rows.items
+          c.widened.invariant.0 c.widened-test.true (in_band-inside top bit c.widened-test.true) (λ k row. refl)
+          (λ d. c.in_ok-reach.ensures.ok d ∙ ap (λ (k : ℕ). set rows (top + bit) (lent_to first (get_or columns k 0) (get_or rows (top + bit) d))) (sym same))
+          c.in_ok-reach.ensures.roomy,
+      IsLent-set rows c.reach.new.rows.items (top + bit) wide (lent_to first wide old) loan.top loan.credit loan.room c.widened.invariant.1 (omega (arith, c.widened.invariant.0.made, c.widened-test.true)) (c.in_ok-reach.ensures.ok (empty_row [])) refl (omega (arith, long)) (omega (arith, long)) (λ above. c.in_ok-reach.ensures.stays above (empty_row [])),
+    )
 
 pub returns-clause-shown : goal.returns-clause-shown
 returns-clause-shown c =
     let canvas = c.widened.self-inside in
-    shown-widened c.args.columns c.args.top c.widened.bit c.args.self.now canvas.background canvas.rows.items
-    c.widened.invariant c.widened-test.false (rw (← c.self.view_is) c.self.invariant.1)
+    shown-widened (share canvas.loan.top canvas.loan.room) c.args.columns c.args.top c.widened.bit c.args.self.now canvas.background canvas.rows.items
+    c.widened.invariant.0 c.widened-test.false (rw (← c.self.view_is) c.self.invariant.1)
 
 pub returns-clause-grown : goal.returns-clause-grown
 returns-clause-grown c =
     let canvas = c.widened.self-inside in
-    reached-widened c.args.columns c.args.top c.widened.bit c.args.self.now canvas.background canvas.rows.items
-    c.widened.invariant c.widened-test.false
+    reached-widened (share canvas.loan.top canvas.loan.room) c.args.columns c.args.top c.widened.bit c.args.self.now canvas.background canvas.rows.items
+    c.widened.invariant.0 c.widened-test.false
 
 pub returns-in_err-make_rows-clause-bounded : goal.returns-in_err-make_rows-clause-bounded
 returns-in_err-make_rows-clause-bounded c =
-    IsBounded-rows c.self.inside.background c.make_rows.new.rows.items (omega (arith, c.make_rows.ensures.few, c.self.invariant.0)) (c.make_rows.ensures.rows c.self.invariant.1)
+    let loan = c.self.inside.loan in
+    IsBounded-rows c.self.inside.background c.make_rows.new.rows.items loan.top loan.credit loan.room (omega (arith, c.make_rows.ensures.few, c.self.invariant.0)) (c.make_rows.ensures.rows c.self.invariant.1)
+    (IsLent-made c.self.inside.background c.self.inside.rows.items c.make_rows.new.rows.items loan.top loan.credit loan.room c.self.invariant.2 c.make_rows.ensures.same)
 
 pub returns-in_err-reach-clause-bounded : goal.returns-in_err-reach-clause-bounded
 returns-in_err-reach-clause-bounded c =
-    let before = c.widened.invariant in
-    rw (before.over, c.in_err-reach.ensures.refused) (IsBounded-rows c.args.self.now.background c.widened.self-inside.rows.items before.few before.sound)
+    let before = c.widened.invariant.0 in
+    let loan = c.widened.self-inside.loan in
+    rw (before.over, c.in_err-reach.ensures.refused) (IsBounded-rows c.args.self.now.background c.widened.self-inside.rows.items loan.top loan.credit loan.room before.few before.sound c.widened.invariant.1)
 
 pub returns-clause-bounded : goal.returns-clause-bounded
 returns-clause-bounded c =
-    let done = c.widened.invariant in
-    rw done.over (IsBounded-rows c.args.self.now.background c.widened.self-inside.rows.items done.few done.sound)
+    let done = c.widened.invariant.0 in
+    let loan = c.widened.self-inside.loan in
+    rw done.over (IsBounded-rows c.args.self.now.background c.widened.self-inside.rows.items loan.top loan.credit loan.room done.few done.sound c.widened.invariant.1)
 
 pub returns-in_err-make_rows-clause-held : goal.returns-in_err-make_rows-clause-held
 returns-in_err-make_rows-clause-held c = λ held.

@@ -2,7 +2,8 @@ use Rattle.std.proofs.Common.{ap, arith}
 use Rattle.std.specs.List.{sum_by}
 use Rattle.std.proofs.lemmas.List.Sums.{sum_by-take-le, sum_by_more_le}
 use Rattle.sixel_canvas.specs.Row.{RowState}
-use Rattle.sixel_canvas.proofs.Totals.{IsBounded-rows, writes_le}
+use Rattle.sixel_canvas.proofs.Loans.{IsBounded-rows}
+use Rattle.sixel_canvas.proofs.Totals.{writes_le}
 use Rattle.sixel_canvas.proofs.canvas.Canvas.writes.Goals as goal
 
 pub overflow_add-writes : goal.overflow_add-writes
@@ -16,7 +17,7 @@ overflow_add-writes c =
 pub returns-clause-bounded : goal.returns-clause-bounded
 returns-clause-bounded c =
     let canvas = c.self.inside in
-    rw (← c.self.view_is) (IsBounded-rows canvas.background canvas.rows.items c.self.invariant.0 c.self.invariant.1)
+    rw (← c.self.view_is) (IsBounded-rows canvas.background canvas.rows.items canvas.loan.top canvas.loan.credit canvas.loan.room c.self.invariant.0 c.self.invariant.1 c.self.invariant.2)
 
 pub returns-clause-at_most : goal.returns-clause-at_most
 returns-clause-at_most c =

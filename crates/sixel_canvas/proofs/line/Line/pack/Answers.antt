@@ -4,7 +4,7 @@ use Rattle.std.proofs.lemmas.Result.{on_ok_weaker}
 use Rattle.sixel_base.specs.Picture.{joined}
 use Rattle.sixel_canvas.specs.Row.{RowState}
 use Rattle.sixel_canvas.proofs.Pixels.{joined-part}
-use Rattle.sixel_canvas.proofs.row.Row.pack.Goals as goal
+use Rattle.sixel_canvas.proofs.line.Line.pack.Goals as goal
 
 pub returns-clause-ok : goal.returns-clause-ok
 returns-clause-ok c =

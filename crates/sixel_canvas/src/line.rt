@@ -1,0 +1,248 @@
+//! The pixels of a row of the canvas, which take more room where they are too many.
+ghost use Rattle.std.specs.Prelude.{◌≡◌, ◌+◌, ◌-◌, ◌*◌, ◌^◌, ◌<◌, ◌≤◌, ◌==◌, ◌++◌, ◌∷◌, []};
+ghost use Rattle.std.specs.Prelude.{length, max, take, drop, replicate, slice_index_or};
+ghost use Rattle.std.specs.Prelude.{vec_len, vec_capacity, IfOk, IfErr, IsOk, OnErr, OnOk};
+ghost use Rattle.sixel_base.specs.declared.error.SixelError.TheVariants.{OutOfMemory};
+ghost use Rattle.sixel_base.specs.Picture.{joined};
+ghost use Rattle.sixel_canvas.specs.Row.{empty_row, painted};
+ghost use Rattle.sixel_canvas.specs.inside.Loan.{IsRoomy, lent_to, room_from};
+ghost use Rattle.sixel_canvas.specs.inside.Block.{mixed_from};
+
+use crate::block::{dot_from, mix_from, mix_one};
+use crate::span::fill_rgba_span;
+use sixel_base::Result;
+use sixel_base::limits::MAX_SIDE;
+use std::alloc::Global;
+use std::marker::Model;
+
+/// One row of a canvas: its pixels from the left, up to the last column that was reached. It takes
+/// any room that it is told to.
+#[derive(Drop)]
+pub struct Line {
+    pixels: Vec<[u8; 4]>,
+    room: usize,
+    writes: u64,
+    background: [u8; 4],
+}
+
+impl Model for Line {
+    ghost use Rattle.std.specs.Prelude.{◌≤◌, vec_capacity};
+    ghost use Rattle.sixel_canvas.specs.Row.{RowState, row_state};
+    ghost use Rattle.sixel_canvas.specs.inside.Loan.{IsRoomy};
+
+    ghost Value = { RowState };
+
+    ghost view = { λ line. row_state line.background line.pixels.items line.room line.writes };
+
+    ghost invariant = { λ line. (line.room ≤ vec_capacity line.pixels)
+        × IsRoomy (row_state line.background line.pixels.items line.room line.writes) };
+}
+
+impl Line {
+    /// A row with no pixel. It takes no memory.
+    pub fn new(alloc: Global, background: [u8; 4]) -> Line
+        ensures empty { result ≡ empty_row background }
+        ensures roomy { IsRoomy result }
+    {
+        Line {
+            pixels: Vec::new(alloc),
+            room: 0,
+            writes: 0,
+            background,
+        }
+    }
+
+    /// Adds background until the row has so many columns, if it has fewer.
+    ///
+    /// Where they pass the room, this becomes the greatest of the columns, the room that is lent and
+    /// twice the room, the latter at most a million, and the pixels move. Only then can memory be
+    /// refused.
+    #[inline(always)]
+    pub fn reach(&mut self, columns: usize, lent: usize) -> Result<()>
+        requires within { columns ≤ 1000000 }
+        requires side { lent ≤ 1000000 }
+        ensures ok { OnOk result (self.new ≡ lent_to lent columns self.old) }
+        ensures held { columns ≤ length self.old.pixels → self.new ≡ self.old }
+        ensures within_room { columns ≤ self.old.room → IsOk result }
+        ensures refused { OnErr result (self.new ≡ self.old) }
+        ensures error { IfErr result (λ e. e ≡ OutOfMemory) }
+        ensures roomy { IsRoomy self.new }
+    {
+        if columns <= self.len() {
+            return Ok(());
+        }
+        self.grow(columns, lent)
+    }
+
+    // Adds background until the row has so many columns, which are more than it has.
+    fn grow(&mut self, columns: usize, lent: usize) -> Result<()>
+        requires within { columns ≤ 1000000 }
+        requires side { lent ≤ 1000000 }
+        requires more { length self.old.pixels < columns }
+        ensures ok { OnOk result (self.new ≡ lent_to lent columns self.old) }
+        ensures within_room { columns ≤ self.old.room → IsOk result }
+        ensures refused { OnErr result (self.new ≡ self.old) }
+        ensures error { IfErr result (λ e. e ≡ OutOfMemory) }
+        ensures roomy { IsRoomy self.new }
+    {
+        let held = self.len();
+        let moved = if columns > self.room { held } else { 0 };
+        let room = make_room(&mut self.pixels, columns, self.room, lent)?;
+        self.pixels.resize(columns, self.background)?;
+        self.room = room;
+        self.writes += (columns - held + moved) as u64;
+        Ok(())
+    }
+
+    /// Gives one color to the columns from `from` up to before `to`.
+    pub fn paint(&mut self, from: usize, to: usize, color: [u8; 4])
+        requires ordered { from ≤ to }
+        requires held { to ≤ length self.old.pixels }
+        ensures after { self.new ≡ painted from to color self.old }
+        ensures roomy { IsRoomy self.new }
+    {
+        self.pixels[from..to].fill(color);
+    }
+
+    // Gives one color to those of the four columns from `from` on whose sixel has the bit.
+    #[inline(always)]
+    pub(crate) fn mix(&mut self, from: usize, sixels: [u8; 4], bit: usize, color: [u8; 4])
+        requires held { from + 4 ≤ length self.old.pixels }
+        requires six { bit < 6 }
+        ensures after { self.new ≡ mixed_from from sixels bit color self.old }
+        ensures roomy { IsRoomy self.new }
+    {
+        mix_from(&mut self.pixels, from, sixels, bit, color);
+    }
+
+    // Gives the color to a column, where its sixel has the bit.
+    #[inline(always)]
+    pub(crate) fn mix_one(&mut self, at: usize, sixel: u8, bit: usize, color: [u8; 4])
+        requires held { at < length self.old.pixels }
+        requires six { bit < 6 }
+        ensures after { self.new ≡ mixed_from at (sixel ∷ []) bit color self.old }
+        ensures roomy { IsRoomy self.new }
+    {
+        mix_one(&mut self.pixels, at, sixel, bit, color);
+    }
+
+    // Gives one color to those of the columns from `from` on whose sixel has the bit, as far as the
+    // row holds them.
+    #[inline(always)]
+    pub(crate) fn dot(&mut self, from: usize, sixels: [u8; 4], bit: usize, color: [u8; 4])
+        requires within { from ≤ 1000000 }
+        requires six { bit < 6 }
+        ensures after { self.new ≡ mixed_from from sixels bit color self.old }
+        ensures roomy { IsRoomy self.new }
+    {
+        dot_from(&mut self.pixels, from, sixels, bit, color);
+    }
+
+    /// How many pixels the row holds.
+    pub fn len(&self) -> usize
+        ensures value { result ≡ length self.now.pixels }
+        ensures roomy { IsRoomy self.now }
+    {
+        self.pixels.len()
+    }
+
+    /// Whether the row holds no pixel.
+    pub fn is_empty(&self) -> bool
+        ensures value { result ≡ (length self.now.pixels == 0) }
+        ensures roomy { IsRoomy self.now }
+    {
+        self.pixels.is_empty()
+    }
+
+    /// For how many pixels the row has memory.
+    pub fn room(&self) -> usize
+        ensures value { result ≡ self.now.room }
+        ensures roomy { IsRoomy self.now }
+    {
+        self.room
+    }
+
+    /// How many pixels were copied or filled so far, to grow the row. Painting doesn't count.
+    pub fn writes(&self) -> u64
+        ensures value { result ≡ self.now.writes }
+        ensures roomy { IsRoomy self.now }
+    {
+        self.writes
+    }
+
+    // The pixel of this column, background where the row is short.
+    pub(super) fn pixel(&self, column: usize) -> [u8; 4]
+        ensures value { result ≡ slice_index_or self.now.pixels column self.now.background }
+        ensures roomy { IsRoomy self.now }
+    {
+        match self.pixels.get(column) {
+            Some(pixel) => *pixel,
+            None => self.background,
+        }
+    }
+
+    // Appends so many of the row's pixels from `from` on, with background where it is short.
+    pub(super) fn pack(&self, bytes: &mut Vec<u8>, from: usize, count: usize) -> Result<()>
+        requires { vec_len bytes.old + 4 * count < 2 ^ 63 }
+        ensures ok { OnOk result (bytes.new.items ≡ bytes.old.items ++ joined (λ k.
+            slice_index_or self.now.pixels (from + k) self.now.background) count) }
+        ensures len { OnOk result (vec_len bytes.new ≡ vec_len bytes.old + 4 * count) }
+        ensures error { IfErr result (λ e. e ≡ OutOfMemory) }
+    {
+        let begin = from.min(self.len());
+        let rest = &self.pixels[begin..];
+        let held = count.min(rest.len());
+        bytes.extend_from_slice(rest[..held].as_flattened())?;
+        add_pixels(bytes, count - held, self.background)
+    }
+}
+
+// Makes memory for so many columns where the room is too small, and answers the room then.
+fn make_room(pixels: &mut Vec<[u8; 4]>, columns: usize, room: usize, lent: usize) -> Result<usize>
+    requires side { columns ≤ 1000000 }
+    requires lent_side { lent ≤ 1000000 }
+    requires held { vec_len pixels.old ≤ room }
+    requires capacity { room ≤ vec_capacity pixels.old }
+    ensures room { IfOk result (λ made. made ≡ room_from lent columns room) }
+    ensures enough { IfOk result (λ made. made ≤ vec_capacity pixels.new) }
+    ensures no_more { IfOk result (λ made.
+        vec_capacity pixels.new ≤ max made (vec_capacity pixels.old)) }
+    ensures within_room { columns ≤ room → IsOk result }
+    ensures error { IfErr result (λ e. e ≡ OutOfMemory) }
+    ensures items { pixels.new.items ≡ pixels.old.items }
+    ensures never_less { vec_capacity pixels.old ≤ vec_capacity pixels.new }
+{
+    if columns <= room {
+        return Ok(room);
+    }
+    let room = columns.max(lent.max(MAX_SIDE.min(2 * room)));
+    pixels.reserve_exact(room - pixels.len())?;
+    Ok(room)
+}
+
+// Appends `count` pixels of one color.
+pub(super) fn add_pixels(bytes: &mut Vec<u8>, count: usize, color: [u8; 4]) -> Result<()>
+    requires { vec_len bytes.old + 4 * count < 2 ^ 63 }
+    ensures ok { OnOk result (bytes.new.items ≡ bytes.old.items ++ joined (λ _. color) count) }
+    ensures len { OnOk result (vec_len bytes.new ≡ vec_len bytes.old + 4 * count) }
+    ensures within_capacity { vec_len bytes.old + 4 * count ≤ vec_capacity bytes.old → IsOk result }
+    ensures refused { OnErr result (bytes.new.items ≡ bytes.old.items) }
+    ensures error { IfErr result (λ e. e ≡ OutOfMemory) }
+    ensures capacity { vec_capacity bytes.old ≤ vec_capacity bytes.new }
+{
+    if count == 1 {
+        bytes.extend_from_slice(&color)?;
+        return Ok(());
+    }
+    let start = bytes.len();
+    bytes.resize(start + 4 * count, 0)?;
+    fill_from(bytes, start, count, color);
+    Ok(())
+}
+
+fn fill_from(bytes: &mut [u8], start: usize, count: usize, color: [u8; 4])
+    requires { start + 4 * count ≡ length bytes.old }
+    ensures { bytes.new ≡ take start bytes.old ++ joined (λ _. color) count }
+{
+    fill_rgba_span(&mut bytes[start..], color);
+}
