@@ -102,6 +102,44 @@ fn drawn(
     counted(rt, session)
 }
 
+/// Feeds a wide band and below it columns singly, and asserts that nothing is copied to grow them: the
+/// second band has the room of the first from the beginning.
+fn feed_below(rt: &(impl Abort + AllocGlobal), decoder: &mut SixelDecoder) -> Result<()> {
+    let mut session = decoder.begin_frame(rt.alloc(), DcsSettings::default())?;
+    session.feed(b"!100~-")?;
+    assert_eq!(rt; session.canvas_writes(), 600);
+    for column in 1..=100 {
+        session.feed(b"~")?;
+        assert_eq!(rt; session.canvas_writes(), 600 + 6 * column);
+    }
+    session.abort();
+    Ok(())
+}
+
+#[test]
+fn a_band_below_a_wide_one(rt: HostRuntime) {
+    assert!(rt; feed_below(&rt, &mut SixelDecoder::new()).is_ok());
+}
+
+/// Bands whose widths rise and fall, with empty ones between, and the columns that they reach.
+const BANDS: [(&str, u32); 6] = [
+    ("!200~-~-!200~-~~-!150~", 553),
+    ("!1000~---~~~-----!999~", 2002),
+    ("~-!2~-!4~-!8~-!16~-!32~-!64~-!128~", 255),
+    ("!128~-!64~-!32~-!16~-!8~-!4~-!2~-~", 255),
+    ("!100~-!10~!91~-!50~!52~-~!200~", 504),
+    ("--!300~$~--~~$!301~-!9~", 610),
+];
+
+#[test]
+fn bands_of_other_widths(rt: HostRuntime) {
+    for (payload, reached) in BANDS {
+        let bounds = columns(reached);
+        let outcome = drawn(&rt, &mut SixelDecoder::new(), payload.as_bytes(), bounds);
+        assert!(rt; outcome.is_ok());
+    }
+}
+
 #[test]
 fn a_line_that_is_drawn_over(rt: HostRuntime) {
     let payload = repeated(rt.alloc(), "!65535~$", 200).expect(&rt, "a payload");
