@@ -1,15 +1,16 @@
 -- What room the rows of a canvas have, of which those of a band may be lent some.
-use Rattle.std.proofs.Common.{◌≡◌, ◌≢◌, ℕ, zero, suc, ◌+◌, ◌-◌, ◌*◌, ◌<◌, ◌≤◌, List, [], ◌∷◌, All, length, get_or, sym, ap, ◌∙◌, inl, inr, get_or-set_same, get_or-set_other, arith}
-use Rattle.std.proofs.Math.ListN.{set}
+use Rattle.std.proofs.Common.{◌≡◌, ◌≢◌, ℕ, zero, suc, ◌+◌, ◌-◌, ◌*◌, ◌<◌, ◌≤◌, List, [], ◌∷◌, All, length, get_or, map, sym, ap, ◌∙◌, inl, inr, get_or-set_same, get_or-set_other, arith}
+use Rattle.std.proofs.Math.ListN.{get_or-map, set}
 use Rattle.std.proofs.Math.Nat.{suc-mul}
 use Rattle.std.specs.List.{sum_by}
 use Rattle.std.proofs.lemmas.Bool.{cases_eq, cases_lt, lt-ltb, le-ltb}
 use Rattle.std.proofs.lemmas.List.{get_or_default, get_or_past, set_past}
+use Rattle.std.proofs.lemmas.List.Elements.{All-map, All-weaker}
 use Rattle.std.proofs.lemmas.List.Sums.{sum_by-cons}
 use Rattle.sixel_base.specs.Picture.{total}
 use Rattle.sixel_canvas.specs.Row.{RowState, empty_row}
 use Rattle.sixel_canvas.specs.inside.Canvas.{IsBounded, IsRowOf}
-use Rattle.sixel_canvas.specs.inside.Loan.{IsLent, len_at, room_at, room_from, share}
+use Rattle.sixel_canvas.specs.inside.Loan.{IsLent, given_back, len_at, room_at, room_from, share}
 use Rattle.sixel_canvas.proofs.Totals.{IsPaid-rows, IsRowOf-get_or, held_by, total-add, total-front, total-held, total-zero}
 
 -- no greater numbers, below a place
@@ -156,6 +157,46 @@ total-due : (room len : ℕ → ℕ) (n : ℕ) → ((k : ℕ) → room k ≤ 2 *
 unfolding total
 total-due room len zero due = omega arith
 total-due room len (suc n) due = omega (arith, total-due room len n due, due n)
+
+-- a row that gives back what it was lent
+IsRowOf-given_back : (background : List ℕ) (row : RowState) → IsRowOf background row → IsRowOf background (given_back row)
+IsRowOf-given_back background row is =
+    let due = 2 * length row.pixels in
+    record {
+      roomy = record {
+        held = omega (arith, is.roomy.held);
+        side = omega (arith, is.roomy.side);
+        at_least = is.roomy.at_least;
+        at_most = is.roomy.at_most;
+        growing = λ less. elim (cases_lt due row.room) [
+          | inl lent ↦ omega (arith, is.roomy.at_most, lent)
+          | inr own ↦ omega (arith, is.roomy.growing (omega (arith, less, own)), own)
+        ];
+      };
+      over = is.over;
+    }
+
+-- rows that gave back what they were lent
+pub AreRowsOf-given : (background : List ℕ) (rows next : List RowState) → next ≡ map given_back rows → All (IsRowOf background) rows → All (IsRowOf background) next
+AreRowsOf-given background rows next is sound =
+    rw is (All-map (IsRowOf background) given_back rows (All-weaker (IsRowOf background) (λ row. IsRowOf background (given_back row)) (IsRowOf-given_back background) rows sound))
+
+-- they are lent nothing, whichever the band is
+pub IsLent-given : (rows next : List RowState) (top : ℕ) → next ≡ map given_back rows → top ≤ 1000000 → IsLent next top 0 0
+IsLent-given rows next top is bottom =
+    let empty = empty_row [] in
+    let due : (k : ℕ) → room_at next k ≤ 2 * len_at next k = λ k.
+    let at = ap (λ rs. get_or rs k empty) is ∙ get_or-map given_back rows k empty in
+    omega (arith, ap (λ (r : RowState). r.room) at, ap (λ (r : RowState). length r.pixels) at)
+    in
+    record {
+      closed = omega (arith, total-due (room_at next) (len_at next) top due);
+      going = λ row _ _. omega (arith, due row);
+      below = λ row _. due row;
+      covered = omega arith;
+      side = omega arith;
+      bottom = bottom;
+    }
 
 -- the rooms of the six rows of a band
 total-band : (room len : ℕ → ℕ) (first n : ℕ) → n ≤ 6 → ((k : ℕ) → k < 6 → room k ≤ 2 * len k + first) → total room n ≤ 2 * total len n + n * first

@@ -1,6 +1,6 @@
 //! The canvas that a decoder draws on: rows that are filled only as far as a stroke reaches.
 ghost use Rattle.std.specs.Prelude.{◌≡◌, ℕ, ◌+◌, ◌-◌, ◌*◌, ◌^◌, ◌<◌, ◌≤◌, ◌&&◌, ◌++◌, ◌∷◌, [], max};
-ghost use Rattle.std.specs.Prelude.{length, vec_len, slice_index, slice_index_or, slice_set, if◌then◌else◌};
+ghost use Rattle.std.specs.Prelude.{length, map, vec_len, slice_index, slice_index_or, slice_set, if◌then◌else◌};
 ghost use Rattle.std.specs.Prelude.{◌==◌, nat_le, nat_lt, true};
 ghost use Rattle.std.specs.Prelude.{All, IfOk, IfErr, IsOk, OnErr, OnOk};
 ghost use Rattle.sixel_base.specs.declared.error.SixelError.TheVariants.{OutOfMemory};
@@ -9,7 +9,7 @@ ghost use Rattle.sixel_canvas.specs.Row.{RowState, empty_row, painted};
 ghost use Rattle.sixel_canvas.specs.inside.Block.{drawn_over, mixed_from};
 ghost use Rattle.sixel_canvas.specs.inside.Canvas.{shown, reached, canvas_writes};
 ghost use Rattle.sixel_canvas.specs.inside.Canvas.{IsBounded, IsRowOf};
-ghost use Rattle.sixel_canvas.specs.inside.Loan.{IsLent, IsRoomy, len_at, lent_to, room_at, share};
+ghost use Rattle.sixel_canvas.specs.inside.Loan.{IsLent, IsRoomy, given_back, len_at, lent_to, room_at, share};
 ghost use Rattle.sixel_canvas.specs.inside.Tags.{lies_in};
 
 use crate::line::{Line, add_pixels};
@@ -85,8 +85,7 @@ impl Canvas {
     /// on, those whose bit is set get the color. The least bit is the top row's.
     ///
     /// Only those rows are touched, and grown where they end before `to`. Columns and rows end
-    /// at a million. Where memory is refused, a part of the sixel may be drawn. So it is where a row
-    /// would need more room above the band that was entered last, which no decoder does.
+    /// at a million. Where memory is refused, a part of the sixel may be drawn.
     #[inline(always)]
     pub fn draw(
         &mut self,
@@ -111,15 +110,8 @@ impl Canvas {
         ensures error { IfErr result (λ e. e ≡ OutOfMemory) }
         ensures bounded { IsBounded self.new }
     {
-        let background = self.background;
-        make_rows(&mut self.rows, top + 6, background)?;
-        enter(&mut self.loan, &self.rows, top);
-        'struck: for bit in 0..6 {
-            if (bits >> bit) % 2 == 1 {
-                strike(&mut self.rows, self.loan, top + bit, from, to, color)?;
-            }
-        }
-        Ok(())
+        self.go_up(top);
+        self.draw_down(from, to, top, bits, color)
     }
 
     /// How many columns each of the six rows from `top` on holds, from the left.
@@ -208,13 +200,8 @@ impl Canvas {
         ensures error { IfErr result (λ e. e ≡ OutOfMemory) }
         ensures bounded { IsBounded self.new }
     {
-        let background = self.background;
-        make_rows(&mut self.rows, top + 6, background)?;
-        enter(&mut self.loan, &self.rows, top);
-        'widened: for bit in 0..6 {
-            reach(&mut self.rows, self.loan, top + bit, columns[bit])?;
-        }
-        Ok(())
+        self.go_up(top);
+        self.widen_down(top, columns)
     }
 
     /// How many pixels were copied or filled so far, to grow the rows. Painting doesn't count, nor
@@ -298,10 +285,8 @@ impl Canvas {
         ensures error { IfErr result (λ e. e ≡ OutOfMemory) }
         ensures bounded { IsBounded self.new }
     {
-        let background = self.background;
-        make_rows(&mut self.rows, row + 1, background)?;
-        reach(&mut self.rows, self.loan, row, columns)?;
-        Ok(())
+        self.go_up(row);
+        self.reach_down(row, columns)
     }
 
     /// Gives one color to columns that the row holds. It takes no memory.
@@ -317,6 +302,110 @@ impl Canvas {
         if from < to {
             fill(&mut self.rows, row, from, to, color);
         }
+    }
+
+    // Goes up to the rows from `top` on, where the band begins below: then no row keeps more room than
+    // twice what it holds, so that none is lent any. What can't be given back stays, and is counted on
+    // no more.
+    #[inline(always)]
+    fn go_up(&mut self, top: usize)
+        requires above_bottom { top ≤ 1000000 }
+        ensures shown { (column row : ℕ) → shown self.new column row ≡ shown self.old column row }
+        ensures reached { (row : ℕ) → reached self.new row ≡ reached self.old row }
+        ensures background { self.new.background ≡ self.old.background }
+        ensures bounded { IsBounded self.new }
+    {
+        if top < self.loan.top {
+            call_in(&mut self.rows);
+            self.loan = Loan {
+                top,
+                credit: 0,
+                room: 0,
+            };
+        }
+    }
+
+    // Draws as [`Canvas::draw`] does, where the band does not begin below.
+    #[inline(always)]
+    fn draw_down(
+        &mut self,
+        from: usize,
+        to: usize,
+        top: usize,
+        bits: u8,
+        color: [u8; 4],
+    ) -> Result<()>
+        requires ordered { from ≤ to }
+        requires within { to ≤ 1000000 }
+        requires above_bottom { top + 6 ≤ 1000000 }
+        requires six { bits < 64 }
+        ensures drawn { OnOk result ((column row : ℕ) → shown self.new column row
+            ≡ (if covers from to top bits column row then color else shown self.old column row)) }
+        ensures grown { OnOk result ((row : ℕ) → reached self.new row ≡ (if is_struck top bits row
+            then max (reached self.old row) to else reached self.old row)) }
+        ensures never_less { (row : ℕ) → reached self.old row ≤ reached self.new row }
+        ensures background { self.new.background ≡ self.old.background }
+        ensures held { 0 < to → ((k : ℕ) → k < 6 → to ≤ reached self.old (top + k))
+            → IsOk result }
+        ensures error { IfErr result (λ e. e ≡ OutOfMemory) }
+        ensures bounded { IsBounded self.new }
+    {
+        let background = self.background;
+        make_rows(&mut self.rows, top + 6, background)?;
+        enter(&mut self.loan, &self.rows, top);
+        'struck: for bit in 0..6 {
+            if (bits >> bit) % 2 == 1 {
+                strike(&mut self.rows, self.loan, top + bit, from, to, color)?;
+            }
+        }
+        Ok(())
+    }
+
+    // Widens as [`Canvas::widen`] does, where the band does not begin below.
+    #[inline(always)]
+    fn widen_down(&mut self, top: usize, columns: [usize; 6]) -> Result<()>
+        requires within { (k : ℕ) → k < 6 → slice_index columns k ≤ 1000000 }
+        requires above_bottom { top + 6 ≤ 1000000 }
+        ensures shown { OnOk result ((column row : ℕ) → shown self.new column row
+            ≡ shown self.old column row) }
+        ensures grown { OnOk result ((row : ℕ) → reached self.new row
+            ≡ (if nat_le top row && nat_lt row (top + 6)
+            then max (reached self.old row) (slice_index columns (row - top))
+            else reached self.old row)) }
+        ensures background { self.new.background ≡ self.old.background }
+        ensures never_less { (row : ℕ) → reached self.old row ≤ reached self.new row }
+        ensures held { ((k : ℕ) → k < 6
+            → max 1 (slice_index columns k) ≤ reached self.old (top + k)) → IsOk result }
+        ensures error { IfErr result (λ e. e ≡ OutOfMemory) }
+        ensures bounded { IsBounded self.new }
+    {
+        let background = self.background;
+        make_rows(&mut self.rows, top + 6, background)?;
+        enter(&mut self.loan, &self.rows, top);
+        'widened: for bit in 0..6 {
+            reach(&mut self.rows, self.loan, top + bit, columns[bit])?;
+        }
+        Ok(())
+    }
+
+    // Reaches as [`Canvas::reach_row`] does, where the band does not begin below.
+    #[inline(always)]
+    fn reach_down(&mut self, row: usize, columns: usize) -> Result<()>
+        requires within { columns ≤ 1000000 }
+        requires above_bottom { row < 1000000 }
+        ensures shown { (column k : ℕ) → shown self.new column k ≡ shown self.old column k }
+        ensures grown { OnOk result ((k : ℕ) → reached self.new k
+            ≡ (if k == row then max (reached self.old k) columns else reached self.old k)) }
+        ensures refused { OnErr result ((k : ℕ) → reached self.new k ≡ reached self.old k) }
+        ensures held { 0 < columns → columns ≤ reached self.old row → IsOk result }
+        ensures background { self.new.background ≡ self.old.background }
+        ensures error { IfErr result (λ e. e ≡ OutOfMemory) }
+        ensures bounded { IsBounded self.new }
+    {
+        let background = self.background;
+        make_rows(&mut self.rows, row + 1, background)?;
+        reach(&mut self.rows, self.loan, row, columns)?;
+        Ok(())
     }
 }
 
@@ -393,7 +482,19 @@ fn sizes(rows: &Vec<Line>, row: usize) -> (usize, usize)
     }
 }
 
-// Makes one row hold so many columns, where it holds fewer.
+// Has each row take no more room than twice what it holds.
+#[cold]
+#[inline(never)]
+fn call_in(rows: &mut Vec<Line>)
+    ensures { rows.new.items ≡ map given_back rows.old.items }
+{
+    'called: for row in 0..rows.len() {
+        rows[row].give_back();
+    }
+}
+
+// Makes one row hold so many columns, where it holds fewer. One above the band takes no more room:
+// a canvas goes up before it draws there.
 fn reach(rows: &mut Vec<Line>, loan: Loan, row: usize, columns: usize) -> Result<()>
     requires within { columns ≤ 1000000 }
     requires made { row < vec_len rows.old }

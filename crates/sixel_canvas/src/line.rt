@@ -5,7 +5,7 @@ ghost use Rattle.std.specs.Prelude.{vec_len, vec_capacity, IfOk, IfErr, IsOk, On
 ghost use Rattle.sixel_base.specs.declared.error.SixelError.TheVariants.{OutOfMemory};
 ghost use Rattle.sixel_base.specs.Picture.{joined};
 ghost use Rattle.sixel_canvas.specs.Row.{empty_row, painted};
-ghost use Rattle.sixel_canvas.specs.inside.Loan.{IsRoomy, lent_to, room_from};
+ghost use Rattle.sixel_canvas.specs.inside.Loan.{IsRoomy, given_back, lent_to, room_from};
 ghost use Rattle.sixel_canvas.specs.inside.Block.{mixed_from};
 
 use crate::block::{dot_from, mix_from, mix_one};
@@ -92,6 +92,16 @@ impl Line {
         self.room = room;
         self.writes += (columns - held + moved) as u64;
         Ok(())
+    }
+
+    /// Takes no more room than twice its pixels, and gives the rest back where that can be moved.
+    pub fn give_back(&mut self)
+        ensures after { self.new ≡ given_back self.old }
+        ensures roomy { IsRoomy self.new }
+    {
+        let room = self.room.min(2 * self.len());
+        self.pixels.shrink_to(room);
+        self.room = room;
     }
 
     /// Gives one color to the columns from `from` up to before `to`.

@@ -20,6 +20,10 @@ room_from first columns room = if nat_lt room columns then max columns (max firs
 abbrev pub lent_to : ℕ → ℕ → RowState → RowState
 lent_to first columns row = record (reached_to columns row) { room = room_from first columns row.room }
 
+-- the row with no more room than it is due
+abbrev pub given_back : RowState → RowState
+given_back row = record row { room = min row.room (2 * length row.pixels) }
+
 -- what this row is lent, where the six rows from top on are lent a first room each
 abbrev pub share : ℕ → ℕ → ℕ → ℕ
 share top first row = if nat_lt row (top + 6) then first else 0

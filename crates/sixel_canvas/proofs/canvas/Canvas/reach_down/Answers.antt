@@ -6,7 +6,7 @@ use Rattle.sixel_canvas.proofs.RowStates.{length-reached_to}
 use Rattle.sixel_canvas.specs.inside.Canvas.{CanvasState, shown, reached}
 use Rattle.sixel_canvas.proofs.OneRow.{IsBounded-row_set, length-row_reached, shown-row_reached, sound-row_set}
 use Rattle.sixel_canvas.proofs.Loans.{IsBounded-rows, IsLent-made, IsLent-set}
-use Rattle.sixel_canvas.proofs.canvas.Canvas.reach_row.Goals as goal
+use Rattle.sixel_canvas.proofs.canvas.Canvas.reach_down.Goals as goal
 
 pub returns-in_err-make_rows-clause-bounded : goal.returns-in_err-make_rows-clause-bounded
 returns-in_err-make_rows-clause-bounded c =

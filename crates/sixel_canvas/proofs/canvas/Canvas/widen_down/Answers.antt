@@ -9,7 +9,7 @@ use Rattle.sixel_canvas.proofs.OneRow.{made_from_reached}
 use Rattle.sixel_canvas.proofs.Loans.{IsBounded-rows, IsLent-made, IsLent-set, len_at-side}
 use Rattle.sixel_canvas.proofs.Underway.{IsUnderway-hit, IsUnderway-none, in_band, in_band-above, in_band-inside}
 use Rattle.sixel_canvas.proofs.Widening.{reached-widened, shown-widened, widened_at}
-use Rattle.sixel_canvas.proofs.canvas.Canvas.widen.Goals as goal
+use Rattle.sixel_canvas.proofs.canvas.Canvas.widen_down.Goals as goal
 
 pub invariant_of-self : goal.invariant_of-self
 invariant_of-self c =

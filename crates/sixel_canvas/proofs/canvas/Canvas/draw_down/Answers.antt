@@ -8,8 +8,8 @@ use Rattle.sixel_canvas.specs.inside.Loan.{share}
 use Rattle.sixel_canvas.proofs.Strokes.{length-struck_row, reached-struck, struck_row}
 use Rattle.sixel_canvas.proofs.Loans.{IsBounded-rows, IsLent-made, IsLent-set, len_at-side}
 use Rattle.sixel_canvas.proofs.Underway.{IsUnderway-hit, IsUnderway-miss, IsUnderway-none, is_struck-above, is_struck-hit, is_struck-miss, reached-all, shown-all}
-use Rattle.sixel_canvas.proofs.canvas.Canvas.draw.Goals as goal
-use Rattle.sixel_canvas.proofs.canvas.Canvas.draw.Goals.{then-bits-bit-eq1+in_ok-strike, else-bits-bit-eq1}
+use Rattle.sixel_canvas.proofs.canvas.Canvas.draw_down.Goals as goal
+use Rattle.sixel_canvas.proofs.canvas.Canvas.draw_down.Goals.{then-bits-bit-eq1+in_ok-strike, else-bits-bit-eq1}
 
 pub returns-in_err-make_rows-clause-bounded : goal.returns-in_err-make_rows-clause-bounded
 returns-in_err-make_rows-clause-bounded c =
