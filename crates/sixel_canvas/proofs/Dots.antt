@@ -248,9 +248,9 @@ module _ (from : ℕ) (sixels : List ℕ) (top : ℕ) (color : List ℕ) (bit : 
       (λ k h. in_band-below top k (omega (arith, h, six))) row)
 
   -- what the canvas shows then
-  pub shown-dotted : (column row : ℕ) → shown (record { background = background; rows = rows; tagged = 0; paints = 0; spread = 0 }) column row ≡ drawn_over from sixels top color column row (shown canvas column row)
+  pub shown-dotted : (column row : ℕ) → shown (record { background = background; rows = rows; band = 0; tagged = 0; paints = 0; spread = 0 }) column row ≡ drawn_over from sixels top color column row (shown canvas column row)
   shown-dotted column row = rw done.over ((each_row row).pixels column)
 
   -- how far its rows were reached then
-  pub reached-dotted : (row : ℕ) → reached (record { background = background; rows = rows; tagged = 0; paints = 0; spread = 0 }) row ≡ reached canvas row
+  pub reached-dotted : (row : ℕ) → reached (record { background = background; rows = rows; band = 0; tagged = 0; paints = 0; spread = 0 }) row ≡ reached canvas row
   reached-dotted row = rw done.over ((each_row row).long)

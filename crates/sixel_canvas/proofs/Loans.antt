@@ -112,9 +112,9 @@ IsLent-painted rows next row new top credit first is set_is room len =
       | inr apart ↦ ap (λ (r : RowState). length r.pixels) (others k apart)
     ])
 
--- one row is grown, which takes more room only from the band on
-pub IsLent-set : (rows next : List RowState) (row columns : ℕ) (new : RowState) (top credit first : ℕ) → IsLent rows top credit first → row < length rows → next ≡ set rows row new → new.room ≡ room_from (share top first row) columns (room_at rows row) → len_at rows row ≤ length new.pixels → columns ≤ length new.pixels → (row < top → columns ≤ room_at rows row) → IsLent next top credit first
-IsLent-set rows next row columns new top credit first is made set_is room longer enough stays =
+-- one row from the band on is grown
+pub IsLent-set : (rows next : List RowState) (row columns : ℕ) (new : RowState) (top credit first : ℕ) → IsLent rows top credit first → row < length rows → next ≡ set rows row new → new.room ≡ room_from (share top first row) columns (room_at rows row) → len_at rows row ≤ length new.pixels → columns ≤ length new.pixels → top ≤ row → IsLent next top credit first
+IsLent-set rows next row columns new top credit first is made set_is room longer enough begun =
     let empty = empty_row [] in
     let here : get_or next row empty ≡ new = ap (λ rs. get_or rs row empty) set_is ∙ get_or-set_same rows row new empty made in
     let room_here : room_at next row ≡ new.room = ap (λ (r : RowState). r.room) here in
@@ -135,14 +135,8 @@ IsLent-set rows next row columns new top credit first is made set_is room longer
       | inr fits ↦ omega (arith, kept fits, is.below row past)
     ] in
     IsLent-grown rows next top credit first is
-    (λ k above. elim (cases_eq k row) [
-      | inl same ↦ omega (arith, rw (sym same) at room_here, rw (sym same) at (kept (stays (omega (arith, same)))))
-      | inr apart ↦ omega (arith, room_other k apart)
-    ])
-    (λ k above. elim (cases_eq k row) [
-      | inl same ↦ omega (arith, rw (sym same) at len_here, rw (sym same) at longer)
-      | inr apart ↦ omega (arith, len_other k apart)
-    ])
+    (λ k above. omega (arith, room_other k (λ same. absurd (omega (arith, above, begun, same)))))
+    (λ k above. omega (arith, len_other k (λ same. absurd (omega (arith, above, begun, same)))))
     (λ k from inside. elim (cases_eq k row) [
       | inl same ↦ rw same (omega (arith, room_here, len_here, banded (omega (arith, same)) (omega (arith, same))))
       | inr apart ↦ omega (arith, room_other k apart, len_other k apart, is.going k from inside)
@@ -253,7 +247,7 @@ band-taken rows top credit first is =
     (total-down (room_at rows) (len_at rows) top credit first 0 is.closed (λ k six. is.going (top + k) (omega arith) (omega (arith, six))) is.below is.covered).1
 
 -- a canvas of such rows
-pub IsBounded-rows : (background : List ℕ) (rows : List RowState) (top credit first : ℕ) → length rows ≤ 1000000 → All (IsRowOf background) rows → IsLent rows top credit first → IsBounded (record { background = background; rows = rows; tagged = 0; paints = 0; spread = 0 })
+pub IsBounded-rows : (background : List ℕ) (rows : List RowState) (top credit first : ℕ) → length rows ≤ 1000000 → All (IsRowOf background) rows → IsLent rows top credit first → IsBounded (record { background = background; rows = rows; band = top; tagged = 0; paints = 0; spread = 0 })
 IsBounded-rows background rows top credit first few sound lent =
     let paid = IsPaid-rows background rows sound in
     record {

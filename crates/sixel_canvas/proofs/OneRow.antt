@@ -40,7 +40,7 @@ sound-row_set stroke row rows next background changed inside sound keeps roomy =
     )
 
 -- the canvas stays bounded
-pub IsBounded-row_set : (top credit first : ℕ) (stroke : RowState → RowState) (row : ℕ) (rows next : List RowState) (background : List ℕ) → IsRowSet stroke row rows next → row < length rows → length rows ≤ 1000000 → All (IsRowOf background) rows → ((old : RowState) → (stroke old).background ≡ old.background) → ((d : RowState) → IsRoomy (get_or next row d)) → IsLent next top credit first → IsBounded (record { background = background; rows = next; tagged = 0; paints = 0; spread = 0 })
+pub IsBounded-row_set : (top credit first : ℕ) (stroke : RowState → RowState) (row : ℕ) (rows next : List RowState) (background : List ℕ) → IsRowSet stroke row rows next → row < length rows → length rows ≤ 1000000 → All (IsRowOf background) rows → ((old : RowState) → (stroke old).background ≡ old.background) → ((d : RowState) → IsRoomy (get_or next row d)) → IsLent next top credit first → IsBounded (record { background = background; rows = next; band = top; tagged = 0; paints = 0; spread = 0 })
 IsBounded-row_set top credit first stroke row rows next background changed inside few sound keeps roomy lent =
     let is = sound-row_set stroke row rows next background changed inside sound keeps roomy in
     IsBounded-rows background next top credit first (omega (arith, is.0)) is.1 lent

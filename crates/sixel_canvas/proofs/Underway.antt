@@ -93,7 +93,7 @@ rows-all stroke struck top bit canvas background rows done six below row =
     (λ k h. below k (omega arith)) row
 
 -- what the canvas shows then
-pub shown-all : (shares : ℕ → ℕ) (from to top bits : ℕ) (color : List ℕ) (bit : ℕ) (canvas : CanvasState) (background : List ℕ) (rows : List RowState) → IsUnderway (λ k. struck_row (shares k) from to color) (is_struck top bits) top bit canvas background rows → 6 ≤ bit → All (IsRowOf canvas.background) canvas.rows → from ≤ to → (column row : ℕ) → shown (record { background = background; rows = rows; tagged = 0; paints = 0; spread = 0 }) column row ≡ (if covers from to top bits column row then color else shown canvas column row)
+pub shown-all : (shares : ℕ → ℕ) (from to top bits : ℕ) (color : List ℕ) (bit : ℕ) (canvas : CanvasState) (background : List ℕ) (rows : List RowState) → IsUnderway (λ k. struck_row (shares k) from to color) (is_struck top bits) top bit canvas background rows → 6 ≤ bit → All (IsRowOf canvas.background) canvas.rows → from ≤ to → (column row : ℕ) → shown (record { background = background; rows = rows; band = 0; tagged = 0; paints = 0; spread = 0 }) column row ≡ (if covers from to top bits column row then color else shown canvas column row)
 shown-all shares from to top bits color bit canvas background rows done six sound order column row =
     let old = row_at canvas row in
     let new = get_or rows row (empty_row canvas.background) in
@@ -102,7 +102,7 @@ shown-all shares from to top bits color bit canvas background rows done six soun
     rw done.over (shown-struck (shares row) from to color canvas.background (is_struck top bits row) old new column order over is)
 
 -- how far its rows were reached then
-pub reached-all : (shares : ℕ → ℕ) (from to top bits : ℕ) (color : List ℕ) (bit : ℕ) (canvas : CanvasState) (background : List ℕ) (rows : List RowState) → IsUnderway (λ k. struck_row (shares k) from to color) (is_struck top bits) top bit canvas background rows → 6 ≤ bit → from ≤ to → (row : ℕ) → reached (record { background = background; rows = rows; tagged = 0; paints = 0; spread = 0 }) row ≡ (if is_struck top bits row then max (reached canvas row) to else reached canvas row)
+pub reached-all : (shares : ℕ → ℕ) (from to top bits : ℕ) (color : List ℕ) (bit : ℕ) (canvas : CanvasState) (background : List ℕ) (rows : List RowState) → IsUnderway (λ k. struck_row (shares k) from to color) (is_struck top bits) top bit canvas background rows → 6 ≤ bit → from ≤ to → (row : ℕ) → reached (record { background = background; rows = rows; band = 0; tagged = 0; paints = 0; spread = 0 }) row ≡ (if is_struck top bits row then max (reached canvas row) to else reached canvas row)
 reached-all shares from to top bits color bit canvas background rows done six order row =
     let new = get_or rows row (empty_row canvas.background) in
     let is = rows-all (λ k. struck_row (shares k) from to color) (is_struck top bits) top bit canvas background rows done six (is_struck-below top bits) row in
@@ -191,14 +191,14 @@ mixed_row from sixels top color canvas new row held is =
     ]
 
 -- what the canvas shows then
-pub shown-mixed : (from : ℕ) (sixels : List ℕ) (top : ℕ) (color : List ℕ) (bit : ℕ) (canvas : CanvasState) (background : List ℕ) (rows : List RowState) → IsUnderway (mixed_at from sixels top color) (in_band top) top bit canvas background rows → 6 ≤ bit → IsHeld from sixels top canvas → (column row : ℕ) → shown (record { background = background; rows = rows; tagged = 0; paints = 0; spread = 0 }) column row ≡ drawn_over from sixels top color column row (shown canvas column row)
+pub shown-mixed : (from : ℕ) (sixels : List ℕ) (top : ℕ) (color : List ℕ) (bit : ℕ) (canvas : CanvasState) (background : List ℕ) (rows : List RowState) → IsUnderway (mixed_at from sixels top color) (in_band top) top bit canvas background rows → 6 ≤ bit → IsHeld from sixels top canvas → (column row : ℕ) → shown (record { background = background; rows = rows; band = 0; tagged = 0; paints = 0; spread = 0 }) column row ≡ drawn_over from sixels top color column row (shown canvas column row)
 shown-mixed from sixels top color bit canvas background rows done six held column row =
     let new = get_or rows row (empty_row canvas.background) in
     let is = rows-all (mixed_at from sixels top color) (in_band top) top bit canvas background rows done six (in_band-below top) row in
     rw done.over ((mixed_row from sixels top color canvas new row held is).pixels column)
 
 -- how far its rows were reached then
-pub reached-mixed : (from : ℕ) (sixels : List ℕ) (top : ℕ) (color : List ℕ) (bit : ℕ) (canvas : CanvasState) (background : List ℕ) (rows : List RowState) → IsUnderway (mixed_at from sixels top color) (in_band top) top bit canvas background rows → 6 ≤ bit → IsHeld from sixels top canvas → (row : ℕ) → reached (record { background = background; rows = rows; tagged = 0; paints = 0; spread = 0 }) row ≡ reached canvas row
+pub reached-mixed : (from : ℕ) (sixels : List ℕ) (top : ℕ) (color : List ℕ) (bit : ℕ) (canvas : CanvasState) (background : List ℕ) (rows : List RowState) → IsUnderway (mixed_at from sixels top color) (in_band top) top bit canvas background rows → 6 ≤ bit → IsHeld from sixels top canvas → (row : ℕ) → reached (record { background = background; rows = rows; band = 0; tagged = 0; paints = 0; spread = 0 }) row ≡ reached canvas row
 reached-mixed from sixels top color bit canvas background rows done six held row =
     let new = get_or rows row (empty_row canvas.background) in
     let is = rows-all (mixed_at from sixels top color) (in_band top) top bit canvas background rows done six (in_band-below top) row in

@@ -27,7 +27,7 @@ widened_length true first columns old new is =
 widened_length false first columns old new is = ap (λ (r : RowState). length r.pixels) is
 
 -- what the canvas shows once six rows were grown
-pub shown-widened : (shares : ℕ → ℕ) (columns : List ℕ) (top bit : ℕ) (canvas : CanvasState) (background : List ℕ) (rows : List RowState) → IsUnderway (widened_at shares columns top) (in_band top) top bit canvas background rows → 6 ≤ bit → All (IsRowOf canvas.background) canvas.rows → (column row : ℕ) → shown (record { background = background; rows = rows; tagged = 0; paints = 0; spread = 0 }) column row ≡ shown canvas column row
+pub shown-widened : (shares : ℕ → ℕ) (columns : List ℕ) (top bit : ℕ) (canvas : CanvasState) (background : List ℕ) (rows : List RowState) → IsUnderway (widened_at shares columns top) (in_band top) top bit canvas background rows → 6 ≤ bit → All (IsRowOf canvas.background) canvas.rows → (column row : ℕ) → shown (record { background = background; rows = rows; band = 0; tagged = 0; paints = 0; spread = 0 }) column row ≡ shown canvas column row
 shown-widened shares columns top bit canvas background rows done six sound column row =
     let old = row_at canvas row in
     let new = get_or rows row (empty_row canvas.background) in
@@ -36,7 +36,7 @@ shown-widened shares columns top bit canvas background rows done six sound colum
     rw done.over (widened_pixel (in_band top row) (shares row) (get_or columns (row - top) 0) canvas.background old new column over is)
 
 -- how far its rows were reached then
-pub reached-widened : (shares : ℕ → ℕ) (columns : List ℕ) (top bit : ℕ) (canvas : CanvasState) (background : List ℕ) (rows : List RowState) → IsUnderway (widened_at shares columns top) (in_band top) top bit canvas background rows → 6 ≤ bit → (row : ℕ) → reached (record { background = background; rows = rows; tagged = 0; paints = 0; spread = 0 }) row ≡ (if in_band top row then max (reached canvas row) (get_or columns (row - top) 0) else reached canvas row)
+pub reached-widened : (shares : ℕ → ℕ) (columns : List ℕ) (top bit : ℕ) (canvas : CanvasState) (background : List ℕ) (rows : List RowState) → IsUnderway (widened_at shares columns top) (in_band top) top bit canvas background rows → 6 ≤ bit → (row : ℕ) → reached (record { background = background; rows = rows; band = 0; tagged = 0; paints = 0; spread = 0 }) row ≡ (if in_band top row then max (reached canvas row) (get_or columns (row - top) 0) else reached canvas row)
 reached-widened shares columns top bit canvas background rows done six row =
     let new = get_or rows row (empty_row canvas.background) in
     let is = rows-all (widened_at shares columns top) (in_band top) top bit canvas background rows done six (in_band-below top) row in

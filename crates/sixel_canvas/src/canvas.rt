@@ -13,7 +13,7 @@ ghost use Rattle.sixel_canvas.specs.inside.Loan.{IsLent, IsRoomy, given_back, le
 ghost use Rattle.sixel_canvas.specs.inside.Tags.{lies_in};
 
 use crate::line::{Line, add_pixels};
-use sixel_base::{Result, SixelError};
+use sixel_base::Result;
 use std::alloc::Global;
 use std::marker::Model;
 
@@ -48,6 +48,7 @@ impl Model for Canvas {
     ghost view = { λ canvas. record {
       background = canvas.background;
       rows = canvas.rows.items;
+      band = canvas.loan.top;
       tagged = 0;
       paints = 0;
       spread = 0;
@@ -64,6 +65,7 @@ impl Canvas {
         ensures empty { result ≡ record {
           background = background;
           rows = [];
+          band = 0;
           tagged = 0;
           paints = 0;
           spread = 0;
@@ -313,6 +315,7 @@ impl Canvas {
         ensures shown { (column row : ℕ) → shown self.new column row ≡ shown self.old column row }
         ensures reached { (row : ℕ) → reached self.new row ≡ reached self.old row }
         ensures background { self.new.background ≡ self.old.background }
+        ensures band { self.new.band ≤ top }
         ensures bounded { IsBounded self.new }
     {
         if top < self.loan.top {
@@ -339,6 +342,7 @@ impl Canvas {
         requires within { to ≤ 1000000 }
         requires above_bottom { top + 6 ≤ 1000000 }
         requires six { bits < 64 }
+        requires band { self.old.band ≤ top }
         ensures drawn { OnOk result ((column row : ℕ) → shown self.new column row
             ≡ (if covers from to top bits column row then color else shown self.old column row)) }
         ensures grown { OnOk result ((row : ℕ) → reached self.new row ≡ (if is_struck top bits row
@@ -366,6 +370,7 @@ impl Canvas {
     fn widen_down(&mut self, top: usize, columns: [usize; 6]) -> Result<()>
         requires within { (k : ℕ) → k < 6 → slice_index columns k ≤ 1000000 }
         requires above_bottom { top + 6 ≤ 1000000 }
+        requires band { self.old.band ≤ top }
         ensures shown { OnOk result ((column row : ℕ) → shown self.new column row
             ≡ shown self.old column row) }
         ensures grown { OnOk result ((row : ℕ) → reached self.new row
@@ -393,6 +398,7 @@ impl Canvas {
     fn reach_down(&mut self, row: usize, columns: usize) -> Result<()>
         requires within { columns ≤ 1000000 }
         requires above_bottom { row < 1000000 }
+        requires band { self.old.band ≤ row }
         ensures shown { (column k : ℕ) → shown self.new column k ≡ shown self.old column k }
         ensures grown { OnOk result ((k : ℕ) → reached self.new k
             ≡ (if k == row then max (reached self.old k) columns else reached self.old k)) }
@@ -440,6 +446,7 @@ fn enter(loan: &mut Loan, rows: &Vec<Line>, top: usize)
     requires side { (k : ℕ) → len_at rows.now.items k ≤ 1000000 }
     requires lent { IsLent rows.now.items loan.old.top loan.old.credit loan.old.room }
     ensures lent { IsLent rows.now.items loan.new.top loan.new.credit loan.new.room }
+    ensures top { loan.old.top ≤ top → loan.new.top ≤ top }
 {
     if top.saturating_sub(loan.top) >= 6 {
         leave(loan, rows, top);
@@ -454,6 +461,7 @@ fn leave(loan: &mut Loan, rows: &Vec<Line>, top: usize)
     requires side { (k : ℕ) → len_at rows.now.items k ≤ 1000000 }
     requires lent { IsLent rows.now.items loan.old.top loan.old.credit loan.old.room }
     ensures lent { IsLent rows.now.items loan.new.top loan.new.credit loan.new.room }
+    ensures top { loan.new.top ≡ top }
 {
     let mut held = 0;
     let mut taken = 0;
@@ -493,29 +501,22 @@ fn call_in(rows: &mut Vec<Line>)
     }
 }
 
-// Makes one row hold so many columns, where it holds fewer. One above the band takes no more room:
-// a canvas goes up before it draws there.
+// Makes one row hold so many columns, where it holds fewer.
 fn reach(rows: &mut Vec<Line>, loan: Loan, row: usize, columns: usize) -> Result<()>
     requires within { columns ≤ 1000000 }
     requires made { row < vec_len rows.old }
     requires lent { loan.room ≤ 1000000 }
-    requires top { loan.top ≤ 1000000 }
+    requires band { loan.top ≤ row }
     ensures ok { OnOk result ((d : RowState) → rows.new.items ≡ slice_set rows.old.items row
         (lent_to (share loan.top loan.room row) columns (slice_index_or rows.old.items row d))) }
     ensures roomy { OnOk result ((d : RowState)
         → IsRoomy (slice_index_or rows.new.items row d)) }
-    ensures stays { OnOk result (row < loan.top → (d : RowState)
-        → columns ≤ (slice_index_or rows.old.items row d).room) }
     ensures refused { OnErr result (rows.new.items ≡ rows.old.items) }
     ensures held { (d : RowState) → columns ≤ length (slice_index_or rows.old.items row d).pixels
         → IsOk result }
     ensures error { IfErr result (λ e. e ≡ OutOfMemory) }
 {
-    let line = &mut rows[row];
-    if row < loan.top && columns > line.room() {
-        return Err(SixelError::OutOfMemory);
-    }
-    line.reach(columns, if row < loan.top + 6 { loan.room } else { 0 })
+    rows[row].reach(columns, if row - loan.top < 6 { loan.room } else { 0 })
 }
 
 // Paints a part of one row, which is grown first where it is too short.
@@ -531,24 +532,19 @@ fn strike(
     requires within { to ≤ 1000000 }
     requires made { row < vec_len rows.old }
     requires lent { loan.room ≤ 1000000 }
-    requires top { loan.top ≤ 1000000 }
+    requires band { loan.top ≤ row }
     ensures ok { OnOk result ((d : RowState) → rows.new.items ≡ slice_set rows.old.items row
         (painted from to color (lent_to (share loan.top loan.room row) to
         (slice_index_or rows.old.items row d)))) }
     ensures roomy { OnOk result ((d : RowState)
         → IsRoomy (slice_index_or rows.new.items row d)) }
-    ensures stays { OnOk result (row < loan.top → (d : RowState)
-        → to ≤ (slice_index_or rows.old.items row d).room) }
     ensures refused { OnErr result (rows.new.items ≡ rows.old.items) }
     ensures held { (d : RowState) → to ≤ length (slice_index_or rows.old.items row d).pixels
         → IsOk result }
     ensures error { IfErr result (λ e. e ≡ OutOfMemory) }
 {
     let struck = &mut rows[row];
-    if row < loan.top && to > struck.room() {
-        return Err(SixelError::OutOfMemory);
-    }
-    struck.reach(to, if row < loan.top + 6 { loan.room } else { 0 })?;
+    struck.reach(to, if row - loan.top < 6 { loan.room } else { 0 })?;
     struck.paint(from, to, color);
     Ok(())
 }

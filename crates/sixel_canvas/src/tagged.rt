@@ -80,6 +80,7 @@ impl TaggedCanvas {
         ensures empty { result ≡ record {
           background = background;
           rows = [];
+          band = 0;
           tagged = 0;
           paints = 0;
           spread = 0;

@@ -5,11 +5,13 @@ use Rattle.sixel_base.specs.Picture.{total}
 use Rattle.sixel_canvas.specs.Row.{RowState, empty_row}
 use Rattle.sixel_canvas.specs.inside.Loan.{IsRoomy}
 
--- the rows from the top, as far down as a stroke has come, from which row on no block has a tag, how many pixels
+-- the rows from the top, as far down as a stroke has come, where the band begins that strokes have come to, from which
+-- row on no block has a tag, how many pixels
 -- strokes have painted, at most, and how many of these wide strokes that were painted at once
 pub record CanvasState : Type 0 where
   pub background : List ℕ
   pub rows : List RowState
+  pub band : ℕ
   pub tagged : ℕ
   pub paints : ℕ
   pub spread : ℕ

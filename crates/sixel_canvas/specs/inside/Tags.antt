@@ -41,7 +41,7 @@ tagged_rows (tags ∷ others) (row ∷ rows) = tagged_row tags row ∷ tagged_ro
 
 -- a canvas with its tags over it
 abbrev pub tagged : CanvasState → CanvasState → CanvasState
-tagged sheet tags = record { background = sheet.background; rows = tagged_rows tags.rows sheet.rows; tagged = length tags.rows; paints = sheet.paints; spread = sheet.spread }
+tagged sheet tags = record { background = sheet.background; rows = tagged_rows tags.rows sheet.rows; band = sheet.band; tagged = length tags.rows; paints = sheet.paints; spread = sheet.spread }
 
 -- what is true of a canvas and its tags: a block that has a tag was reached whole
 pub record IsTagged (sheet tags : CanvasState) : Type 0 where

@@ -48,4 +48,5 @@ returns c =
     record {
       lent = IsLent-left rows loan.top loan.credit loan.room c.args.top c.rows.held c.rows.taken (c.saturating_add.result - c.rows.taken) c.min-loan.result
           c.requires.lent c.requires.below held taken (omega (arith, c.saturating_add.ensures, most, held, taken, c.rows.invariant.3, all)) (omega (arith, c.min-loan.ensures)) (omega (arith, c.min-loan.ensures, c.rows.invariant.4)) c.requires.above_bottom;
+      top = refl;
     }

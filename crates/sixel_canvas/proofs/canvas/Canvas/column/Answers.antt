@@ -16,7 +16,7 @@ mixed-init c =
     let top = c.args.top in
     let made = made_from_held c.args.at top 5 c.args.self.now (c.requires.held 5 (omega arith)) in (
       rw (← c.self.view_is)
-          (IsUnderway-none (mixed_at c.args.at (c.args.sixel ∷ []) top c.args.color) (in_band top) top (record { background = canvas.background; rows = canvas.rows.items; tagged = 0; paints = 0; spread = 0 }) canvas.rows.items
+          (IsUnderway-none (mixed_at c.args.at (c.args.sixel ∷ []) top c.args.color) (in_band top) top (record { background = canvas.background; rows = canvas.rows.items; band = canvas.loan.top; tagged = 0; paints = 0; spread = 0 }) canvas.rows.items
           (in_band-above top) (omega (arith, made, ap (λ (s : CanvasState). length s.rows) c.self.view_is)) c.self.invariant.0 c.self.invariant.1 (λ row. refl)),
       c.self.invariant.2,
     )

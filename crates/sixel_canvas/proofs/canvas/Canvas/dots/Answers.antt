@@ -9,7 +9,7 @@ pub dotted-init : goal.dotted-init
 dotted-init c =
     let canvas = c.self.inside in (
       rw (← c.self.view_is)
-          (IsDotted-none c.args.from c.args.sixels c.args.top c.args.color (record { background = canvas.background; rows = canvas.rows.items; tagged = 0; paints = 0; spread = 0 }) c.self.invariant.0 c.self.invariant.1),
+          (IsDotted-none c.args.from c.args.sixels c.args.top c.args.color (record { background = canvas.background; rows = canvas.rows.items; band = canvas.loan.top; tagged = 0; paints = 0; spread = 0 }) c.self.invariant.0 c.self.invariant.1),
       c.self.invariant.2,
     )
 

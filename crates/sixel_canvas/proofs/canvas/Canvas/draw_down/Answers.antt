@@ -3,7 +3,7 @@ use Rattle.std.specs.Prelude.{nat_lt}
 use Rattle.std.proofs.lemmas.Bool.{cases_Bool, le-ltb, true≢false}
 use Rattle.sixel_base.specs.Picture.{is_struck}
 use Rattle.sixel_canvas.specs.Row.{RowState, empty_row}
-use Rattle.sixel_canvas.specs.inside.Canvas.{row_at}
+use Rattle.sixel_canvas.specs.inside.Canvas.{CanvasState, row_at}
 use Rattle.sixel_canvas.specs.inside.Loan.{share}
 use Rattle.sixel_canvas.proofs.Strokes.{length-struck_row, reached-struck, struck_row}
 use Rattle.sixel_canvas.proofs.Loans.{IsBounded-rows, IsLent-made, IsLent-set, len_at-side}
@@ -44,9 +44,10 @@ struck-init c =
     let canvas = c.self.inside in
     let loan = c.enter.new.loan in (
       rw (← c.self.view_is)
-          (IsUnderway-none (λ row. struck_row (share loan.top loan.room row) c.args.from c.args.to c.args.color) (is_struck c.args.top c.args.bits) c.args.top (record { background = canvas.background; rows = canvas.rows.items; tagged = 0; paints = 0; spread = 0 }) c.make_rows.new.rows.items
+          (IsUnderway-none (λ row. struck_row (share loan.top loan.room row) c.args.from c.args.to c.args.color) (is_struck c.args.top c.args.bits) c.args.top (record { background = canvas.background; rows = canvas.rows.items; band = canvas.loan.top; tagged = 0; paints = 0; spread = 0 }) c.make_rows.new.rows.items
           (is_struck-above c.args.top c.args.bits) (omega (arith, c.in_ok-make_rows.ensures.enough)) (omega (arith, c.make_rows.ensures.few, c.self.invariant.0)) (c.make_rows.ensures.rows c.self.invariant.1) c.make_rows.ensures.same),
       c.enter.ensures.lent,
+      c.enter.ensures.top (omega (arith, c.requires.band, ap (λ (s : CanvasState). s.band) c.self.view_is)),
     )
 
 pub struck-preserved : goal.struck-preserved
@@ -66,13 +67,15 @@ struck-preserved c =
           rw w.self-inside-is (
             IsUnderway-hit stroke struck c.args.top c.struck.bit canvas background rows w.strike.new.rows.items
                 c.struck.invariant.0 c.struck-test.true (is_struck-hit c.args.top c.args.bits c.struck.bit c.struck-test.true w.if-bits-bit-eq1.true) (λ k row. refl) w.in_ok-strike.ensures.ok w.in_ok-strike.ensures.roomy,
-            IsLent-set rows w.strike.new.rows.items row c.args.to new loan.top loan.credit loan.room c.struck.invariant.1 (omega (arith, c.struck.invariant.0.made, c.struck-test.true)) (w.in_ok-strike.ensures.ok (empty_row [])) refl (omega (arith, long)) (omega (arith, long)) (λ above. w.in_ok-strike.ensures.stays above (empty_row [])),
+            IsLent-set rows w.strike.new.rows.items row c.args.to new loan.top loan.credit loan.room c.struck.invariant.1 (omega (arith, c.struck.invariant.0.made, c.struck-test.true)) (w.in_ok-strike.ensures.ok (empty_row [])) refl (omega (arith, long)) (omega (arith, long)) (omega (arith, c.struck.invariant.2)),
+            c.struck.invariant.2,
           )
       | else-bits-bit-eq1 w ↦
           rw w.self-inside-is (
             IsUnderway-miss stroke struck c.args.top c.struck.bit canvas background rows
                 c.struck.invariant.0 (is_struck-miss c.args.top c.args.bits c.struck.bit c.struck-test.true w.if-bits-bit-eq1.false),
             c.struck.invariant.1,
+            c.struck.invariant.2,
           )
     ]
 

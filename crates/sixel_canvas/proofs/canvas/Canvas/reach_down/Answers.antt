@@ -49,7 +49,7 @@ invariant_of-self-2 c =
       is.1,
       IsLent-set rows c.reach.new.rows.items c.args.row c.args.columns (lent_to first c.args.columns old) loan.top loan.credit loan.room
           (IsLent-made c.self.inside.background c.self.inside.rows.items c.make_rows.new.rows.items c.self.inside.loan.top c.self.inside.loan.credit c.self.inside.loan.room c.self.invariant.2 c.make_rows.ensures.same)
-          made (c.in_ok-reach.ensures.ok (empty_row [])) refl (omega (arith, long)) (omega (arith, long)) (λ above. c.in_ok-reach.ensures.stays above (empty_row [])),
+          made (c.in_ok-reach.ensures.ok (empty_row [])) refl (omega (arith, long)) (omega (arith, long)) (omega (arith, c.requires.band, ap (λ (s : CanvasState). s.band) c.self.view_is)),
     )
 
 pub returns-clause-bounded : goal.returns-clause-bounded

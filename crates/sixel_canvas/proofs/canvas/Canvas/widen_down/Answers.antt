@@ -32,9 +32,10 @@ widened-init c =
     let canvas = c.self.inside in
     let loan = c.enter.new.loan in (
       rw (← c.self.view_is)
-          (IsUnderway-none (widened_at (share loan.top loan.room) c.args.columns c.args.top) (in_band c.args.top) c.args.top (record { background = canvas.background; rows = canvas.rows.items; tagged = 0; paints = 0; spread = 0 }) c.make_rows.new.rows.items
+          (IsUnderway-none (widened_at (share loan.top loan.room) c.args.columns c.args.top) (in_band c.args.top) c.args.top (record { background = canvas.background; rows = canvas.rows.items; band = canvas.loan.top; tagged = 0; paints = 0; spread = 0 }) c.make_rows.new.rows.items
           (in_band-above c.args.top) (omega (arith, c.in_ok-make_rows.ensures.enough)) (omega (arith, c.make_rows.ensures.few, c.self.invariant.0)) (c.make_rows.ensures.rows c.self.invariant.1) c.make_rows.ensures.same),
       c.enter.ensures.lent,
+      c.enter.ensures.top (omega (arith, c.requires.band, ap (λ (s : CanvasState). s.band) c.self.view_is)),
     )
 
 pub reach-requires-clause-within : goal.reach-requires-clause-within
@@ -56,7 +57,8 @@ widened-preserved c =
           c.widened.invariant.0 c.widened-test.true (in_band-inside top bit c.widened-test.true) (λ k row. refl)
           (λ d. c.in_ok-reach.ensures.ok d ∙ ap (λ (k : ℕ). set rows (top + bit) (lent_to first (get_or columns k 0) (get_or rows (top + bit) d))) (sym same))
           c.in_ok-reach.ensures.roomy,
-      IsLent-set rows c.reach.new.rows.items (top + bit) wide (lent_to first wide old) loan.top loan.credit loan.room c.widened.invariant.1 (omega (arith, c.widened.invariant.0.made, c.widened-test.true)) (c.in_ok-reach.ensures.ok (empty_row [])) refl (omega (arith, long)) (omega (arith, long)) (λ above. c.in_ok-reach.ensures.stays above (empty_row [])),
+      IsLent-set rows c.reach.new.rows.items (top + bit) wide (lent_to first wide old) loan.top loan.credit loan.room c.widened.invariant.1 (omega (arith, c.widened.invariant.0.made, c.widened-test.true)) (c.in_ok-reach.ensures.ok (empty_row [])) refl (omega (arith, long)) (omega (arith, long)) (omega (arith, c.widened.invariant.2)),
+      c.widened.invariant.2,
     )
 
 pub returns-clause-shown : goal.returns-clause-shown
