@@ -1,5 +1,7 @@
 //! Reading a stream in pieces, and writing what is made of it.
 
+ghost use Rattle.sixel_filter.specs.inside.Standing.{IsSound};
+
 use crate::fault::Fault;
 use crate::filter::Filter;
 use crate::words::Work;
@@ -15,18 +17,31 @@ pub fn serve<R: Read, O: Write>(
     input: &mut R,
     output: &mut O,
 ) -> Result<(), Fault> {
-    let mut filter = Filter::new(alloc, work);
     let mut piece = vec![in alloc; 0; piece_len]?;
     let mut made = Vec::new(alloc);
+    let mut filter = Filter::new(alloc, work);
+    pass_all(&mut filter, &mut piece, &mut made, input, output)
+}
+
+/// Passes the input through the filter to its end, and writes what that makes of each piece.
+fn pass_all<R: Read, O: Write>(
+    filter: &mut Filter,
+    piece: &mut [u8],
+    made: &mut Vec<u8>,
+    input: &mut R,
+    output: &mut O,
+) -> Result<(), Fault>
+    requires { IsSound filter.old }
+{
     'reads: for _ in 0..u64::MAX {
-        match input.read(&mut piece) {
+        match input.read(piece) {
             Ok(0) => {
-                filter.end(&mut made)?;
-                return write_all(output, &made);
+                filter.end(made)?;
+                return write_all(output, made);
             }
             Ok(count) => {
-                filter.pass(&piece[..count], &mut made)?;
-                write_all(output, &made)?;
+                filter.pass(&piece[..count], made)?;
+                write_all(output, made)?;
                 made.clear();
             }
             Err(_) => return Err(Fault::Input),
