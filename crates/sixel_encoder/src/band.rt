@@ -59,11 +59,17 @@ fn add_whole_line(
         + pixel_bit weight e (entry_of image.now.pixels.now image.now.indices.now (start + x)) }
     ensures marks { AreMarks rows.new used.new image.now.width }
 {
-    for column in 0..image.width {
+    let IndexedImage {
+        width,
+        pixels,
+        indices,
+        ..
+    } = *image;
+    for column in 0..width {
         let pixel = start + column;
-        if image.pixels[4 * pixel + 3] >= 128 {
-            let entry = usize::from(image.indices[pixel]);
-            add_dot(rows, used, image.width, entry, column, weight);
+        if pixels[4 * pixel + 3] >= 128 {
+            let entry = usize::from(indices[pixel]);
+            add_dot(rows, used, width, entry, column, weight);
         }
     }
 }

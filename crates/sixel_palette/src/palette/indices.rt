@@ -1,18 +1,19 @@
 //! The place of each pixel's nearest entry, found by its color among the distinct colors.
 
-ghost use Rattle.std.specs.Prelude.{◌≡◌, ℕ, ◌*◌, ◌/◌, ◌%◌, ◌<◌, ◌≤◌, List, length, All, Contains, IfOk};
+ghost use Rattle.std.specs.Prelude.{◌≡◌, ℕ, ◌+◌, ◌*◌, ◌/◌, ◌%◌, ◌<◌, ◌≤◌, List, length, All, Contains, IfOk};
 ghost use Rattle.std.specs.List.Sorted.{IsStrictlyIncreasing};
 ghost use Rattle.sixel_palette.specs.Palette.{nearest, IsShown, AreIndices};
 ghost use Rattle.sixel_palette.specs.inside.PaletteCodes.{color_of, IsListed};
+ghost use Rattle.sixel_palette.specs.inside.PaletteFlags.{IsPixelWord};
 ghost use Rattle.sixel_palette.specs.inside.PaletteStarts.{AreStarts};
-ghost use Rattle.sixel_palette.specs.inside.PaletteNear.{AreKept, IsIndexOf, AreIndicesTo};
+ghost use Rattle.sixel_palette.specs.inside.PaletteNear.{AreKept, IsIndexOf, IsIndex, AreIndicesTo};
 
-use crate::palette::colors::pixel_word;
+use crate::palette::colors::{are_four_of, pixel_word};
 use crate::palette::spans::{Starts, place_of, starts_of};
 use std::alloc::{AllocError, Global};
 
 /// The place of the nearest entry for a pixel of this word, 0 if it is hidden.
-#[inline(never)]
+#[inline(always)]
 fn index_of(word: u32, codes: &[u32], starts: &Starts, places: &[u8]) -> u8
     requires starts { AreStarts codes.now starts.now }
     requires same { length codes.now ≡ length places.now }
@@ -29,8 +30,115 @@ fn index_of(word: u32, codes: &[u32], starts: &Starts, places: &[u8]) -> u8
     places[place_of(codes, starts, word / 256)]
 }
 
-/// Fills in the place of each pixel's nearest entry. A pixel that is as the one before it has the
-/// same.
+/// Fills in a pixel's index, after those of the pixels before it.
+#[inline(always)]
+fn fill_one(indices: &mut [u8], pixels: &[u8], pixel: usize, index: u8)
+    requires size { length indices.old ≡ length pixels.now / 4 }
+    requires within { pixel < length pixels.now / 4 }
+    ensures size { length indices.new ≡ length pixels.now / 4 }
+    ensures indices { (entries : List (List ℕ)) → IsIndex pixels.now entries pixel index
+        → AreIndicesTo pixels.now entries pixel indices.old
+        → AreIndicesTo pixels.now entries (pixel + 1) indices.new }
+{
+    indices[pixel] = index;
+}
+
+/// Fills in the same index for four pixels, after those of the pixels before them.
+#[inline(always)]
+fn fill_four_as(indices: &mut [u8], pixels: &[u8], pixel: usize, index: u8)
+    requires size { length indices.old ≡ length pixels.now / 4 }
+    requires within { pixel + 4 ≤ length pixels.now / 4 }
+    ensures size { length indices.new ≡ length pixels.now / 4 }
+    ensures indices { (entries : List (List ℕ))
+        → ((k : ℕ) → pixel ≤ k → k < pixel + 4 → IsIndex pixels.now entries k index)
+        → AreIndicesTo pixels.now entries pixel indices.old
+        → AreIndicesTo pixels.now entries (pixel + 4) indices.new }
+{
+    fill_one(indices, pixels, pixel, index);
+    fill_one(indices, pixels, pixel + 1, index);
+    fill_one(indices, pixels, pixel + 2, index);
+    fill_one(indices, pixels, pixel + 3, index);
+}
+
+/// Fills in the place of the nearest entry for a pixel of this word, after those of the pixels
+/// before it, and answers it.
+#[inline(always)]
+fn fill_pixel(
+    indices: &mut [u8],
+    pixels: &[u8],
+    pixel: usize,
+    word: u32,
+    codes: &[u32],
+    starts: &Starts,
+    places: &[u8],
+) -> u8
+    requires size { length indices.old ≡ length pixels.now / 4 }
+    requires within { pixel < length pixels.now / 4 }
+    requires word { IsPixelWord pixels.now pixel word }
+    requires starts { AreStarts codes.now starts.now }
+    requires same { length codes.now ≡ length places.now }
+    requires ascending { IsStrictlyIncreasing codes.now }
+    requires listed { (c : List ℕ) → IsShown pixels.now c → IsListed codes.now c }
+    ensures size { length indices.new ≡ length pixels.now / 4 }
+    ensures own { (entries : List (List ℕ)) (squares : List ℕ)
+        → AreKept entries codes.now squares places.now
+        → ((c : List ℕ) → IsShown pixels.now c → nearest entries c < 195076)
+        → IsIndexOf entries word result }
+    ensures indices { (entries : List (List ℕ)) (squares : List ℕ)
+        → AreKept entries codes.now squares places.now
+        → ((c : List ℕ) → IsShown pixels.now c → nearest entries c < 195076)
+        → AreIndicesTo pixels.now entries pixel indices.old
+        → AreIndicesTo pixels.now entries (pixel + 1) indices.new }
+{
+    let index = index_of(word, codes, starts, places);
+    fill_one(indices, pixels, pixel, index);
+    index
+}
+
+/// Fills in the places of the nearest entries for four pixels of these words, after those of the
+/// pixels before them, and answers the last of them.
+#[inline(never)]
+fn fill_four(
+    indices: &mut [u8],
+    pixels: &[u8],
+    pixel: usize,
+    first: u32,
+    second: u32,
+    third: u32,
+    fourth: u32,
+    codes: &[u32],
+    starts: &Starts,
+    places: &[u8],
+) -> u8
+    requires size { length indices.old ≡ length pixels.now / 4 }
+    requires within { pixel + 4 ≤ length pixels.now / 4 }
+    requires first { IsPixelWord pixels.now pixel first }
+    requires second { IsPixelWord pixels.now (pixel + 1) second }
+    requires third { IsPixelWord pixels.now (pixel + 2) third }
+    requires fourth { IsPixelWord pixels.now (pixel + 3) fourth }
+    requires starts { AreStarts codes.now starts.now }
+    requires same { length codes.now ≡ length places.now }
+    requires ascending { IsStrictlyIncreasing codes.now }
+    requires listed { (c : List ℕ) → IsShown pixels.now c → IsListed codes.now c }
+    ensures size { length indices.new ≡ length pixels.now / 4 }
+    ensures last { (entries : List (List ℕ)) (squares : List ℕ)
+        → AreKept entries codes.now squares places.now
+        → ((c : List ℕ) → IsShown pixels.now c → nearest entries c < 195076)
+        → IsIndexOf entries fourth result }
+    ensures indices { (entries : List (List ℕ)) (squares : List ℕ)
+        → AreKept entries codes.now squares places.now
+        → ((c : List ℕ) → IsShown pixels.now c → nearest entries c < 195076)
+        → AreIndicesTo pixels.now entries pixel indices.old
+        → AreIndicesTo pixels.now entries (pixel + 4) indices.new }
+{
+    fill_pixel(indices, pixels, pixel, first, codes, starts, places);
+    fill_pixel(indices, pixels, pixel + 1, second, codes, starts, places);
+    fill_pixel(indices, pixels, pixel + 2, third, codes, starts, places);
+    fill_pixel(indices, pixels, pixel + 3, fourth, codes, starts, places)
+}
+
+/// Fills in the place of each pixel's nearest entry. Four pixels that are all as the one before
+/// them have the same.
 #[inline(never)]
 fn fill_indices(indices: &mut [u8], pixels: &[u8], codes: &[u32], starts: &Starts, places: &[u8])
     requires size { length indices.old ≡ length pixels.now / 4 }
@@ -44,15 +152,34 @@ fn fill_indices(indices: &mut [u8], pixels: &[u8], codes: &[u32], starts: &Start
         → ((c : List ℕ) → IsShown pixels.now c → nearest entries c < 195076)
         → AreIndicesTo pixels.now entries (length pixels.now / 4) indices.new }
 {
+    let count = indices.len();
     let mut last = 0;
     let mut index = 0;
-    for pixel in 0..indices.len() {
-        let word = pixel_word(pixels, pixel);
-        if word != last {
-            index = index_of(word, codes, starts, places);
-            last = word;
+    for four in 0..count / 4 {
+        if are_four_of(pixels, 4 * four, last) {
+            fill_four_as(indices, pixels, 4 * four, index);
+        } else {
+            let first = pixel_word(pixels, 4 * four);
+            let second = pixel_word(pixels, 4 * four + 1);
+            let third = pixel_word(pixels, 4 * four + 2);
+            last = pixel_word(pixels, 4 * four + 3);
+            index = fill_four(
+                indices,
+                pixels,
+                4 * four,
+                first,
+                second,
+                third,
+                last,
+                codes,
+                starts,
+                places,
+            );
         }
-        indices[pixel] = index;
+    }
+    for pixel in count / 4 * 4..count {
+        let word = pixel_word(pixels, pixel);
+        fill_pixel(indices, pixels, pixel, word, codes, starts, places);
     }
 }
 
