@@ -1,3 +1,4 @@
+pub mod EmptyStruct
 pub mod PaletteApart
 pub mod PaletteChoices
 pub mod PaletteColors

@@ -11,6 +11,7 @@ mod colors;
 mod farthest;
 mod flags;
 mod indices;
+mod nears;
 mod spans;
 
 use crate::palette::colors::{is_apart_from, shown_codes};
@@ -93,7 +94,7 @@ pub fn choose_palette(alloc: Global, pixels: &[u8], max_colors: u16) -> Result<P
     let indices = indices_of(alloc, pixels, &codes, &spread.places)?;
     let witnesses = spread.witnesses(alloc, &codes)?;
     Ok(PaletteChoice {
-        error: spread.error(),
+        error: spread.error(&codes),
         colors: spread.colors,
         indices,
         witnesses,

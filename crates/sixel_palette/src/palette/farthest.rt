@@ -1,14 +1,15 @@
 //! Farthest-first entries, chosen by the chunks of colors that an entry may be nearest to.
 
 ghost use Rattle.std.specs.Prelude.{◌≡◌, ◌<◌, ◌≤◌, min, ℕ, List, [], ◌∷◌, ◌++◌, length};
-ghost use Rattle.std.specs.Prelude.{All, IfOk, slice_index, slice_index_or};
+ghost use Rattle.std.specs.Prelude.{All, IfOk, slice_index};
 ghost use Rattle.std.specs.List.Sorted.{IsStrictlyIncreasing};
-ghost use Rattle.sixel_palette.specs.Palette.{distance, IsFarthest, IsFarthestFirst};
+ghost use Rattle.sixel_palette.specs.Palette.{distance, nearest, IsFarthest, IsFarthestFirst};
 ghost use Rattle.sixel_palette.specs.inside.PaletteCodes.{color_of, IsListed};
 ghost use Rattle.sixel_palette.specs.inside.PaletteNear.{IsNear, AreNear, AreKept};
 
 use crate::palette::chunks::{chunks_of, farthest_of, settle};
-use crate::palette::colors::color_of;
+use crate::palette::colors::{color_of, distance};
+use crate::palette::nears::Nears;
 use std::alloc::{AllocError, Global};
 
 /// A squared distance above that of any two colors: what a color has with no entry.
@@ -21,14 +22,12 @@ pub struct Near {
     pub entry: u8,
 }
 
-/// The entries chosen, what is then known of each color, and the place of the farthest color.
-///
-/// The nearest entries stand by themselves too: a look-up for each pixel goes through an eighth of
-/// the memory.
+/// The entries chosen, what is then known of each color, of which only the nearest entry is held,
+/// and the place of the farthest color.
 #[derive(Drop)]
 pub struct Spread {
     pub colors: Vec<[u8; 3]>,
-    pub nears: Vec<Near>,
+    pub nears: Nears,
     pub places: Vec<u8>,
     pub farthest: usize,
 }
@@ -70,7 +69,7 @@ pub fn choose(alloc: Global, codes: &[u32], room: usize) -> Result<Spread, Alloc
     }
     Ok(Spread {
         colors,
-        nears: nears_of(alloc, &squares, &places)?,
+        nears: nears_of(&squares, &places),
         places,
         farthest,
     })
@@ -78,12 +77,17 @@ pub fn choose(alloc: Global, codes: &[u32], room: usize) -> Result<Spread, Alloc
 
 impl Spread {
     /// The greatest squared distance of a color to its nearest entry, 0 if there is no color.
-    pub fn error(&self) -> u32
-        ensures none { length self.now.nears.items ≡ 0 → result ≡ 0 }
-        ensures farthest { (d : Near) → self.now.farthest < length self.now.nears.items
-            → result ≡ (slice_index_or self.now.nears.items self.now.farthest d).squared }
+    pub fn error(&self, codes: &[u32]) -> u32
+        requires small { All (λ code. code < 16777216) codes.now }
+        requires within { 0 < length codes.now → self.now.farthest < length codes.now }
+        ensures none { length codes.now ≡ 0 → result ≡ 0 }
+        ensures farthest { 0 < length codes.now → result
+            ≡ nearest self.now.colors.items (color_of (slice_index codes.now self.now.farthest)) }
     {
-        self.nears.get(self.farthest).map_or(0, |near| near.squared)
+        if codes.is_empty() {
+            return 0;
+        }
+        squared_to_nearest(&self.colors, color_of(codes[self.farthest]))
     }
 
     /// The entries and the farthest color, if there are more colors than entries; otherwise none.
@@ -122,21 +126,33 @@ impl Near {
     }
 }
 
-/// What is known of each color, from its two parts.
-#[inline(never)]
-fn nears_of(alloc: Global, squares: &[u32], places: &[u8]) -> Result<Vec<Near>, AllocError>
-    requires { length places.now ≡ length squares.now }
-    ensures len { IfOk result (λ nears. length nears.items ≡ length squares.now) }
-    ensures near { IfOk result (λ nears. (entries : List (List ℕ)) (codes : List ℕ)
-        → length codes ≡ length squares.now → AreKept entries codes squares.now places.now
-        → AreNear entries codes nears.items) }
+/// The squared distance of a color to the nearest of some entries.
+fn squared_to_nearest(entries: &[[u8; 3]], color: [u8; 3]) -> u32
+    ensures { result ≡ nearest entries.now color }
 {
-    let mut nears = Vec::with_capacity(alloc, squares.len())?;
-    for (place, squared) in squares.iter().enumerate() {
-        nears.push_reserved(Near {
-            squared: *squared,
-            entry: places[place],
-        });
+    let mut least = NO_ENTRY;
+    for place in 0..entries.len() {
+        least = distance(entries[place], color).min(least);
     }
-    Ok(nears)
+    least
+}
+
+/// What is known of each color, from its two parts.
+fn nears_of(squares: &[u32], places: &[u8]) -> Nears
+    requires { length places.now ≡ length squares.now }
+    ensures len { length result.items ≡ length squares.now }
+    ensures near { (entries : List (List ℕ)) (codes : List ℕ)
+        → length codes ≡ length squares.now → AreKept entries codes squares.now places.now
+        → AreNear entries codes result.items }
+{
+    let mut nears = Nears::new();
+    for place in 0..squares.len() {
+        let near = Near {
+            squared: squares[place],
+            entry: places[place],
+        };
+        let more = nears.and(&near);
+        nears = more;
+    }
+    nears
 }

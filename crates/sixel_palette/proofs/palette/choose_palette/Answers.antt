@@ -1,9 +1,7 @@
-use Rattle.std.proofs.Common.{◌≡◌, ℕ, ◌<◌, List, length, get_or, ap, ◌∙◌, arith}
+use Rattle.std.proofs.Common.{◌≡◌, ℕ, ◌<◌, List, length, get_or, ap, arith}
 use Rattle.std.proofs.lemmas.List.{get_or_default}
-use Rattle.sixel_palette.specs.declared.palette.farthest.Near.{Near}
 use Rattle.sixel_palette.specs.Palette.{nearest, palette_room, IsShown}
 use Rattle.sixel_palette.specs.inside.PaletteCodes.{color_of}
-use Rattle.sixel_palette.specs.inside.PaletteNear.{AreNear}
 use Rattle.sixel_palette.proofs.PaletteChoices as chosen
 use Rattle.sixel_palette.proofs.PaletteChoices.{IsChosen}
 use Rattle.sixel_palette.proofs.PaletteOrder.{members_from_order}
@@ -16,18 +14,9 @@ indices_of-requires-clause-listed c = rw c.deref-2.ensures.value c.in_ok-codes.e
 abbrev far : goal.After-drop-codes-2 → List ℕ
 far c = color_of (get_or c.in_ok-codes.codes.items c.in_ok-spread.spread.farthest 0)
 
--- what is kept for each code
-the_nears : (c : goal.After-drop-codes-2) → AreNear c.in_ok-spread.spread.colors.items c.in_ok-codes.codes.items c.in_ok-spread.spread.nears.items
-the_nears c = rw c.deref.ensures.value at c.in_ok-spread.ensures.near
-
--- the error is what is kept for the farthest color
+-- the error is the farthest color's distance to its nearest entry
 the_error : (c : goal.After-drop-codes-2) → 0 < length c.in_ok-codes.codes.items → c.error.result ≡ nearest c.in_ok-spread.spread.colors.items (far c)
-the_error c some =
-    let none : Near = record { squared = 0; entry = 0 } in
-    let codes = c.deref.ensures.value in
-    let within = (rw codes at c.in_ok-spread.ensures.within) some in
-    let kept = the_nears c c.in_ok-spread.spread.farthest none within in
-    c.error.ensures.farthest none (omega (arith, within, ap length codes, c.in_ok-spread.ensures.nears_len)) ∙ kept.gap
+the_error c some = (rw c.deref-5.ensures.value at c.error.ensures.farthest) some
 
 -- what the calls ensure, of the codes themselves
 the_choice : (c : goal.After-drop-codes-2) → IsChosen c.args.pixels.now c.in_ok-codes.codes.items (palette_room c.args.max_colors) c.in_ok-spread.spread.colors.items (far c) c.error.result c.in_ok-witnesses.witnesses.items
@@ -41,7 +30,7 @@ the_choice c =
       order = rw codes at c.in_ok-spread.ensures.order;
       size = omega (arith, ap length codes, c.in_ok-spread.ensures.size, c.from.ensures, c.clamp.ensures);
       farthest = rw codes at c.in_ok-spread.ensures.farthest;
-      error_none = λ e. c.error.ensures.none (omega (arith, e, ap length codes, c.in_ok-spread.ensures.nears_len));
+      error_none = rw c.deref-5.ensures.value at c.error.ensures.none;
       error_some = λ l. the_error c l;
       witnesses_none = rw of_witnesses at c.in_ok-witnesses.ensures.none;
       witnesses_some = rw of_witnesses at c.in_ok-witnesses.ensures.some;

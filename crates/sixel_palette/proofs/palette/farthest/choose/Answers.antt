@@ -53,7 +53,7 @@ loop-entry-preserved c =
 
 pub returns-clause-near : goal.returns-clause-near
 returns-clause-near c =
-    let told = rw (c.deref-2.ensures.value, c.deref-3.ensures.value) at c.in_ok-nears_of.ensures.near in
+    let told = rw (c.deref-2.ensures.value, c.deref-3.ensures.value) at c.nears_of.ensures.near in
     told c.loop-entry.colors.items c.args.codes.now (omega (arith, c.loop-entry.invariant.squares)) c.loop-entry.invariant.kept
 
 pub returns-clause-kept : goal.returns-clause-kept
