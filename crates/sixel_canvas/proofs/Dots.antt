@@ -1,7 +1,8 @@
 -- What sixels of one column each do to rows that hold the columns of their dots, and may hold no more.
-use Rattle.std.proofs.Common.{◌≡◌, ◌≢◌, ℕ, zero, suc, ◌+◌, ◌-◌, ◌<◌, ◌≤◌, Bool, true, false, ◌&&◌, All, List, [], ◌∷◌, ◌++◌, length, get_or, take, drop, refl, sym, ap, ◌∙◌, subst, inl, inr, length-append, length-take, length-drop, length-set, get_or-take, get_or-drop, get_or-set_same, get_or-set_other, arith}
+use Rattle.std.proofs.Common.{◌≡◌, ◌≢◌, ℕ, zero, suc, ◌+◌, ◌-◌, ◌%◌, ◌^◌, ◌<◌, ◌≤◌, Bool, true, false, ◌&&◌, All, List, [], ◌∷◌, ◌++◌, length, get_or, take, drop, refl, sym, ap, ◌∙◌, subst, inl, inr, length-append, length-take, length-drop, length-set, get_or-take, get_or-drop, get_or-set_same, get_or-set_other, arith}
 use Rattle.std.proofs.Math.ListN.{set}
-use Rattle.std.specs.Prelude.{nat_lt, nat_le, if◌then◌else◌}
+use Rattle.std.proofs.Math.Nat.{zero-div}
+use Rattle.std.specs.Prelude.{◌==◌, nat_lt, nat_le, if◌then◌else◌}
 use Rattle.std.proofs.lemmas.Bool.{cases_lt, lt-ltb, le-ltb, lt-leb, le-leb}
 use Rattle.std.proofs.lemmas.List.{get_or_past, get_or-append_right, get_or_append_left, set_past}
 use Rattle.std.proofs.lemmas.List.Elements.{All-set}
@@ -48,6 +49,69 @@ over_past zero sixels bit color [] past = sym (mixed-nil bit color sixels)
 over_past (suc from) sixels bit color [] past = sym (mixed-nil bit color sixels)
 over_past zero sixels bit color (pixel ∷ pixels) past = absurd (omega (arith, past))
 over_past (suc from) sixels bit color (pixel ∷ pixels) past = ap (λ ps. pixel ∷ ps) (over_past from sixels bit color pixels (omega (arith, past)))
+
+-- a sixel without a dot
+blank_set : (bit : ℕ) → is_set 0 bit ≡ false
+blank_set bit = ap (λ (n : ℕ). n % 2 == 1) (zero-div (2 ^ bit))
+
+take-nil : (n : ℕ) → take {A = ℕ} n [] ≡ []
+take-nil zero = refl
+take-nil (suc n) = refl
+
+-- a blank one first
+over_blank : (from bit : ℕ) (sixels color : List ℕ) (pixels : List (List ℕ)) → over_from from (0 ∷ sixels) bit color pixels ≡ over_from (suc from) sixels bit color pixels
+over_blank zero bit sixels color [] = sym (mixed-nil bit color sixels)
+over_blank zero bit sixels color (pixel ∷ pixels) = ap (λ t. (if t then color else pixel) ∷ mixed bit color sixels pixels) (blank_set bit)
+over_blank (suc from) bit sixels color [] = sym (mixed-nil bit color sixels)
+over_blank (suc from) bit sixels color (pixel ∷ pixels) = ap (λ ps. pixel ∷ ps) (over_blank from bit sixels color pixels)
+
+-- those past the end left out
+over_cut : (from n bit : ℕ) (sixels color : List ℕ) (pixels : List (List ℕ)) → length pixels ≤ from + n → over_from from (take n sixels) bit color pixels ≡ over_from from sixels bit color pixels
+over_cut zero n bit [] color pixels le = ap (λ (ss : List ℕ). mixed bit color ss pixels) (take-nil n)
+over_cut zero n bit sixels color [] le = mixed-nil bit color (take n sixels) ∙ sym (mixed-nil bit color sixels)
+over_cut zero zero bit (sixel ∷ sixels) color (pixel ∷ pixels) le = absurd (omega (arith, le))
+over_cut zero (suc n) bit (sixel ∷ sixels) color (pixel ∷ pixels) le = ap (λ ps. dotted bit color sixel pixel ∷ ps) (over_cut zero n bit sixels color pixels (omega (arith, le)))
+over_cut (suc from) n bit sixels color [] le = mixed-nil bit color (take n sixels) ∙ sym (mixed-nil bit color sixels)
+over_cut (suc from) n bit sixels color (pixel ∷ pixels) le = ap (λ ps. pixel ∷ ps) (over_cut from n bit sixels color pixels (omega (arith, le)))
+
+moved_by : (from last by bit a b c d : ℕ) (color : List ℕ) (pixels : List (List ℕ)) → from ≡ last + by → (0 < by → length pixels ≤ last + 4) → over_from last (take 4 (drop (4 - by) (0 ∷ 0 ∷ 0 ∷ 0 ∷ a ∷ b ∷ c ∷ d ∷ []))) bit color pixels ≡ over_from from (a ∷ b ∷ c ∷ d ∷ []) bit color pixels
+moved_by from last zero bit a b c d color pixels is short =
+    let place : last ≡ from = omega (arith, is) in
+    ap (λ (n : ℕ). over_from n (a ∷ b ∷ c ∷ d ∷ []) bit color pixels) place
+moved_by from last (suc zero) bit a b c d color pixels is short =
+    let place : suc last ≡ from = omega (arith, is) in
+    over_blank last bit (a ∷ b ∷ c ∷ []) color pixels
+    ∙ over_cut (suc last) 3 bit (a ∷ b ∷ c ∷ d ∷ []) color pixels (omega (arith, short (omega arith)))
+    ∙ ap (λ (n : ℕ). over_from n (a ∷ b ∷ c ∷ d ∷ []) bit color pixels) place
+moved_by from last (suc (suc zero)) bit a b c d color pixels is short =
+    let place : suc (suc last) ≡ from = omega (arith, is) in
+    over_blank last bit (0 ∷ a ∷ b ∷ []) color pixels
+    ∙ over_blank (suc last) bit (a ∷ b ∷ []) color pixels
+    ∙ over_cut (suc (suc last)) 2 bit (a ∷ b ∷ c ∷ d ∷ []) color pixels (omega (arith, short (omega arith)))
+    ∙ ap (λ (n : ℕ). over_from n (a ∷ b ∷ c ∷ d ∷ []) bit color pixels) place
+moved_by from last (suc (suc (suc zero))) bit a b c d color pixels is short =
+    let place : suc (suc (suc last)) ≡ from = omega (arith, is) in
+    over_blank last bit (0 ∷ 0 ∷ a ∷ []) color pixels
+    ∙ over_blank (suc last) bit (0 ∷ a ∷ []) color pixels
+    ∙ over_blank (suc (suc last)) bit (a ∷ []) color pixels
+    ∙ over_cut (suc (suc (suc last))) 1 bit (a ∷ b ∷ c ∷ d ∷ []) color pixels (omega (arith, short (omega arith)))
+    ∙ ap (λ (n : ℕ). over_from n (a ∷ b ∷ c ∷ d ∷ []) bit color pixels) place
+moved_by from last (suc (suc (suc (suc by)))) bit a b c d color pixels is short =
+    let none : 4 - suc (suc (suc (suc by))) ≡ 0 = omega arith in
+    let blank : take 4 (drop (4 - suc (suc (suc (suc by)))) (0 ∷ 0 ∷ 0 ∷ 0 ∷ a ∷ b ∷ c ∷ d ∷ [])) ≡ 0 ∷ 0 ∷ 0 ∷ 0 ∷ [] = ap (λ (n : ℕ). take 4 (drop n (0 ∷ 0 ∷ 0 ∷ 0 ∷ a ∷ b ∷ c ∷ d ∷ []))) none in
+    ap (λ (ss : List ℕ). over_from last ss bit color pixels) blank
+    ∙ over_blank last bit (0 ∷ 0 ∷ 0 ∷ []) color pixels
+    ∙ over_blank (suc last) bit (0 ∷ 0 ∷ []) color pixels
+    ∙ over_blank (suc (suc last)) bit (0 ∷ []) color pixels
+    ∙ over_blank (suc (suc (suc last))) bit [] color pixels
+    ∙ sym (over_past (suc (suc (suc (suc last)))) [] bit color pixels (omega (arith, short (omega arith))))
+    ∙ over_past from (a ∷ b ∷ c ∷ d ∷ []) bit color pixels (omega (arith, is, short (omega arith)))
+
+-- four that were moved, so many places to the left
+pub over_moved : (from last bit : ℕ) (sixels color : List ℕ) (pixels : List (List ℕ)) → length sixels ≡ 4 → last ≤ from → (last < from → length pixels ≤ last + 4) → over_from last (take 4 (drop (4 - (from - last)) (0 ∷ 0 ∷ 0 ∷ 0 ∷ sixels))) bit color pixels ≡ over_from from sixels bit color pixels
+over_moved from last bit (a ∷ b ∷ c ∷ d ∷ []) color pixels four le short =
+    moved_by from last (from - last) bit a b c d color pixels (omega (arith, le)) (λ some. short (omega (arith, some)))
+over_moved from last bit _ color pixels four le short = absurd (omega (arith, four))
 
 -- four, one by one
 pub over_four : (from : ℕ) (sixels : List ℕ) (bit : ℕ) (color : List ℕ) (old one two three new : List (List ℕ)) → length sixels ≡ 4

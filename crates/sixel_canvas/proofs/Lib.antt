@@ -11,4 +11,5 @@ pub mod Tags
 pub mod Totals
 pub mod Underway
 pub mod Dots
+pub mod Moving
 pub mod Widening

@@ -1,6 +1,6 @@
 //! Sixels of one column each, four at once: which pixels they color is a mask, and no branch.
 
-ghost use Rattle.std.specs.Prelude.{◌≡◌, ℕ, ◌/◌, ◌%◌, ◌^◌, ◌+◌, ◌≤◌, ◌<◌, ◌==◌, ◌++◌, ◌∷◌, [], length, slice_index};
+ghost use Rattle.std.specs.Prelude.{◌≡◌, ℕ, ◌/◌, ◌%◌, ◌^◌, ◌+◌, ◌-◌, ◌≤◌, ◌<◌, ◌==◌, ◌++◌, ◌∷◌, [], length, slice_index};
 ghost use Rattle.std.specs.Prelude.{if◌then◌else◌, take, drop};
 ghost use Rattle.std.specs.Int.{to_le_bytes, w32};
 ghost use Rattle.sixel_canvas.specs.inside.Block.{mixed};
@@ -32,7 +32,8 @@ pub fn mix_one(pixels: &mut [[u8; 4]], at: usize, sixel: u8, bit: usize, color: 
 }
 
 /// Gives one color to those of the pixels from `from` on whose sixel has the bit, as far as there are
-/// pixels.
+/// pixels. Where the row ends is hard to foresee, so no branch asks: the last four pixels of a row that
+/// ends before the last sixel are mixed.
 #[inline(always)]
 pub fn dot_from(pixels: &mut [[u8; 4]], from: usize, sixels: [u8; 4], bit: usize, color: [u8; 4])
     requires within { from ≤ 1000000 }
@@ -40,17 +41,37 @@ pub fn dot_from(pixels: &mut [[u8; 4]], from: usize, sixels: [u8; 4], bit: usize
     ensures { pixels.new ≡ take from pixels.old
         ++ mixed bit color sixels (drop from pixels.old) }
 {
-    if from >= pixels.len() {
+    if pixels.len() < 4 {
+        dot_short(pixels, from, sixels, bit, color);
         return;
     }
-    if from + 4 <= pixels.len() {
-        mix_from(pixels, from, sixels, bit, color);
-        return;
-    }
+    let last = from.min(pixels.len() - 4);
+    mix_from(pixels, last, moved(sixels, from - last), bit, color);
+}
+
+/// Does so in a row of any length, pixel by pixel.
+#[cold]
+#[inline(never)]
+fn dot_short(pixels: &mut [[u8; 4]], from: usize, sixels: [u8; 4], bit: usize, color: [u8; 4])
+    requires within { from ≤ 1000000 }
+    requires six { bit < 6 }
+    ensures { pixels.new ≡ take from pixels.old
+        ++ mixed bit color sixels (drop from pixels.old) }
+{
     dot(pixels, from, sixels[0], bit, color);
     dot(pixels, from + 1, sixels[1], bit, color);
     dot(pixels, from + 2, sixels[2], bit, color);
     dot(pixels, from + 3, sixels[3], bit, color);
+}
+
+/// The sixels so many places later, blank ones before them, and none past the fourth.
+#[inline(always)]
+fn moved(sixels: [u8; 4], by: usize) -> [u8; 4]
+    ensures { result ≡ take 4 (drop (4 - by) (0 ∷ 0 ∷ 0 ∷ 0 ∷ sixels)) }
+{
+    let word = u64::from(u32::from_le_bytes(sixels)) << (8 * by.min(4));
+    let bytes = word.to_le_bytes();
+    [bytes[0], bytes[1], bytes[2], bytes[3]]
 }
 
 /// Gives the color to a pixel, where there is one and the sixel has the bit.

@@ -1,11 +1,12 @@
-use Rattle.std.proofs.Common.{arith}
-use Rattle.sixel_canvas.proofs.Dots.{over_four, over_past}
+use Rattle.std.proofs.Common.{ap, ◌∙◌, arith, rules}
+use Rattle.sixel_canvas.proofs.Dots.{over_from, over_moved}
 use Rattle.sixel_canvas.proofs.block.dot_from.Goals as goal
-
-pub returns-then-from-pixels : goal.returns-then-from-pixels
-returns-then-from-pixels c = over_past c.args.from c.args.sixels c.args.bit c.args.color c.args.pixels.now c.if-from-pixels.true
 
 pub returns : goal.returns
 returns c =
-    over_four c.args.from c.args.sixels c.args.bit c.args.color c.args.pixels.now c.dot.new.pixels c.dot-2.new.pixels c.dot-3.new.pixels c.dot-4.new.pixels (omega arith)
-    c.dot.ensures c.dot-2.ensures c.dot-3.ensures c.dot-4.ensures
+    let from = c.args.from in
+    let last = c.min-last.result in
+    let pixels = c.args.pixels.now in
+    c.mix_from.ensures
+    ∙ ap (λ ss. over_from last ss c.args.bit c.args.color pixels) c.moved.ensures
+    ∙ over_moved from last c.args.bit c.args.sixels c.args.color pixels (search rules) (omega (arith, c.min-last.ensures)) (λ less. omega (arith, c.min-last.ensures, c.if-pixels-lt4.false, less))
