@@ -1,5 +1,5 @@
 -- What sixels of one column each that stand inside the picture do to the words of a history: they change pixels and the place alone.
-use Rattle.std.proofs.Common.{◌≡◌, ℕ, zero, suc, ◌+◌, ◌*◌, ◌<◌, ◌≤◌, ◌-◌, ◌%◌, ◌^◌, Bool, true, false, max, List, [], ◌∷◌, ◌++◌, length, get_or, take, drop, length-take, get_or-take, get_or-drop, take-add, take_all, subst, refl, sym, ap, ◌∙◌, inl, inr, None, arith}
+use Rattle.std.proofs.Common.{◌≡◌, ℕ, zero, suc, ◌+◌, ◌*◌, ◌<◌, ◌≤◌, ◌-◌, ◌%◌, ◌^◌, Bool, true, false, max, List, [], ◌∷◌, ◌++◌, length, get_or, take, drop, length-take, get_or-take, get_or-drop, take-add, take_all, add-one, subst, refl, sym, ap, ◌∙◌, inl, inr, None, arith}
 use Rattle.std.specs.Prelude.{fold, nat_lt, nat_le, ◌&&◌, ◌==◌, if◌then◌else◌}
 use Rattle.std.proofs.Math.Nat.{zero-div}
 use Rattle.std.proofs.lemmas.List.{get_or_past}
@@ -89,6 +89,21 @@ end_is bit (suc zero) (byte ∷ run) le after last =
 end_is bit (suc (suc end)) (byte ∷ run) le after last =
     let rest : end_of bit run ≡ suc end = end_is bit (suc end) run (omega (arith, le)) (λ k from lt. after (suc k) (omega arith) (omega arith)) (λ k is. last (suc k) (ap suc is)) in
     ap (next_end (is_set (byte - 63) bit)) rest ∙ pos_end (is_set (byte - 63) bit) (suc end) (omega arith)
+
+-- where the first sixels end, with one more
+step_end : (has first : Bool) (at end : ℕ) → next_end first (if has then suc at else end) ≡ (if has then suc (suc at) else next_end first end)
+step_end true first at end = pos_end first (suc at) (omega arith)
+step_end false first at end = refl
+
+end_of-take : (bit at : ℕ) (run : List ℕ) → at < length run → end_of bit (take (suc at) run) ≡ (if is_set (get_or run at 0 - 63) bit then suc at else end_of bit (take at run))
+end_of-take bit at [] lt = absurd (omega (arith, lt))
+end_of-take bit zero (byte ∷ run) lt = refl
+end_of-take bit (suc at) (byte ∷ run) lt =
+    ap (next_end (is_set (byte - 63) bit)) (end_of-take bit at run (omega (arith, lt)))
+    ∙ step_end (is_set (get_or run at 0 - 63) bit) (is_set (byte - 63) bit) at (end_of bit (take at run))
+
+pub end_of-next : (bit at : ℕ) (run : List ℕ) → at < length run → end_of bit (take (at + 1) run) ≡ (if is_set (get_or run at 0 - 63) bit then at + 1 else end_of bit (take at run))
+end_of-next bit at run lt = rw add-one (end_of-take bit at run lt)
 
 -- a sixel that has the bit stands before the end
 below_end : (bit j : ℕ) (run : List ℕ) → j < length run → is_set (get_or run j 0 - 63) bit ≡ true → j < end_of bit run

@@ -3,6 +3,7 @@
 //! Printable bytes are asked for first, since nearly all of a payload are.
 
 ghost use Rattle.std.specs.Prelude.{◌≡◌, ◌⊎◌, ℕ, ◌+◌, ◌-◌, ◌<◌, ◌≤◌, IsTrue, length, slice_index, take, drop};
+ghost use Rattle.std.specs.Prelude.{false, if◌then◌else◌};
 ghost use Rattle.sixel_base.specs.Bytes.{is_ignored as ignored, is_terminator as terminator};
 ghost use Rattle.sixel_base.specs.Bytes.{is_parameter as parameter, is_sixel as sixel};
 ghost use Rattle.sixel_base.specs.Picture.{is_set};
@@ -13,6 +14,9 @@ use std::simd::prelude::*;
 
 /// How many sixels of a run are drawn at once, at most.
 const LONGEST_RUN: usize = 64;
+
+/// Up to how many sixels a run is short: then each is looked at, to find the last dot in each row.
+const SHORT_RUN: usize = 12;
 
 /// How many bytes are compared at once.
 const LANES: usize = 16;
@@ -133,6 +137,38 @@ fn bits_at(run: &[u8], at: usize) -> u8
     if at < run.len() { run[at] - 0x3f } else { 0 }
 }
 
+/// The bits of the four sixels of a run from an index on, and no bit past its end, where the run is at
+/// the front of these bytes. Nearly always there are four bytes, and then no branch asks which are the
+/// run's.
+#[inline(always)]
+pub fn sixels_in_front(bytes: &[u8], run: &[u8], at: usize) -> [u8; 4]
+    requires front { run.now ≡ take (length run.now) bytes.now }
+    requires sixels { (k : ℕ) → k < length run.now → IsSixelByte (slice_index run.now k) }
+    requires inside { at < length run.now }
+    ensures { result ≡ four_of (drop at run.now) }
+{
+    if bytes.len() - at < 4 {
+        return last_sixels(run, at);
+    }
+    let left = run.len() - at;
+    [
+        bits_if(true, bytes[at]),
+        bits_if(left > 1, bytes[at + 1]),
+        bits_if(left > 2, bytes[at + 2]),
+        bits_if(left > 3, bytes[at + 3]),
+    ]
+}
+
+/// The bits of a byte that is of the run, and none of any other.
+#[inline(always)]
+fn bits_if(of_run: bool, byte: u8) -> u8
+    ensures sixel { IsTrue of_run → 63 ≤ byte → result ≡ byte - 63 }
+    ensures other { of_run ≡ false → result ≡ 0 }
+{
+    let bits = byte.wrapping_sub(0x3f);
+    if of_run { bits } else { 0 }
+}
+
 /// Whether a sixel has the bit.
 #[inline(always)]
 fn has_bit(sixel: u8, bit: usize) -> bool
@@ -160,15 +196,58 @@ fn run_end(run: &[u8], bit: usize) -> usize
     0
 }
 
-/// How many columns the row of a bit is to hold for a run that begins at a column.
-fn column_of(run: &[u8], from: usize, bit: usize) -> usize
-    requires sixels { (k : ℕ) → k < length run.now → IsSixelByte (slice_index run.now k) }
-    requires within { from + length run.now ≤ 1000000 }
-    requires six { bit < 6 }
-    ensures value { result ≡ columns_for from (end_of bit run.now) }
+/// For each bit, one more than the index of a run's last sixel that has it, and 0 where none has.
+fn ends_of(run: &[u8]) -> [usize; 6]
+    requires { (k : ℕ) → k < length run.now → IsSixelByte (slice_index run.now k) }
+    ensures ends { (bit : ℕ) → bit < 6 → slice_index result bit ≡ end_of bit run.now }
+    ensures within { (bit : ℕ) → bit < 6 → slice_index result bit ≤ length run.now }
+{
+    if run.len() <= SHORT_RUN {
+        return short_ends(run);
+    }
+    let mut ends = [0; 6];
+    'bits: for bit in 0..6 {
+        ends[bit] = run_end(run, bit);
+    }
+    ends
+}
+
+/// These ends of a short run. Each sixel is looked at, since where a search for the last one would stop
+/// is hard to foresee.
+#[inline(always)]
+fn short_ends(run: &[u8]) -> [usize; 6]
+    requires { (k : ℕ) → k < length run.now → IsSixelByte (slice_index run.now k) }
+    ensures ends { (bit : ℕ) → bit < 6 → slice_index result bit ≡ end_of bit run.now }
+    ensures within { (bit : ℕ) → bit < 6 → slice_index result bit ≤ length run.now }
+{
+    let mut ends = [0; 6];
+    'sixels: for at in 0..run.len() {
+        move_ends(&mut ends, run[at], at + 1);
+    }
+    ends
+}
+
+/// Puts this end for each bit that the sixel has.
+#[inline(always)]
+fn move_ends(ends: &mut [usize; 6], sixel: u8, end: usize)
+    requires { IsSixelByte sixel }
+    ensures { (bit : ℕ) → bit < 6 → slice_index ends.new bit
+        ≡ (if is_set (sixel - 63) bit then end else slice_index ends.old bit) }
+{
+    'bits: for bit in 0..6 {
+        if has_bit(sixel, bit) {
+            ends[bit] = end;
+        }
+    }
+}
+
+/// How many columns a row is to hold for a run that begins at a column and ends so far on in the row.
+#[inline(always)]
+fn column_of(from: usize, end: usize) -> usize
+    requires { from + end ≤ 1000000 }
+    ensures value { result ≡ columns_for from end }
     ensures few { result ≤ 1000000 }
 {
-    let end = run_end(run, bit);
     if end > 0 { from + end } else { 0 }
 }
 
@@ -180,9 +259,10 @@ pub fn columns_of(run: &[u8], from: usize) -> [usize; 6]
         → slice_index result bit ≡ columns_for from (end_of bit run.now) }
     ensures few { (bit : ℕ) → bit < 6 → slice_index result bit ≤ 1000000 }
 {
+    let ends = ends_of(run);
     let mut columns = [0; 6];
     'rows: for bit in 0..6 {
-        columns[bit] = column_of(run, from, bit);
+        columns[bit] = column_of(from, ends[bit]);
     }
     columns
 }

@@ -17,7 +17,7 @@ ghost use Rattle.sixel_base.specs.Fields.{fields, field};
 ghost use Rattle.sixel_base.specs.Stroke.{Origin, is_definition, definition};
 ghost use Rattle.sixel_base.specs.Stroke.{ratio_from as shape_from};
 
-use crate::bytes::{columns_of, four_sixels, front, last_sixels, run_len};
+use crate::bytes::{columns_of, four_sixels, front, run_len, sixels_in_front};
 use sixel_base::limits::{MAX_REPEAT, MAX_SIDE};
 use sixel_base::parameters::Parameters;
 use sixel_base::registers::Registers;
@@ -199,6 +199,7 @@ impl Painter {
             held,
             self.down,
             self.across,
+            bytes,
             run,
             self.color,
         );
@@ -245,10 +246,19 @@ fn widen(canvas: &mut Canvas, top: usize, from: usize, run: &[u8]) -> Result<usi
     Ok(canvas.held(top))
 }
 
-/// Draws a run on a canvas that holds its dots: four sixels at once, also where rows end before the
-/// last of them.
+/// Draws the run at the front of these bytes on a canvas that holds its dots: four sixels at once, also
+/// where rows end before the last of them.
 #[inline(always)]
-fn paint(canvas: &mut Canvas, held: usize, top: usize, from: usize, run: &[u8], color: [u8; 4])
+fn paint(
+    canvas: &mut Canvas,
+    held: usize,
+    top: usize,
+    from: usize,
+    bytes: &[u8],
+    run: &[u8],
+    color: [u8; 4],
+)
+    requires front { run.now ≡ take (length run.now) bytes.now }
     requires sixels { IsRun run.now }
     requires within { from + length run.now ≤ 1000000 }
     requires above_bottom { top + 6 ≤ 1000000 }
@@ -264,16 +274,17 @@ fn paint(canvas: &mut Canvas, held: usize, top: usize, from: usize, run: &[u8], 
 {
     let by_four = run.len().min(held.saturating_sub(from + 3));
     let mut done = 0;
-    'fours: while done + 4 <= by_four {
+    // Only where many follow: short runs are left to the second loop, so that one end alone is foreseen.
+    'fours: while done + 8 <= by_four {
         canvas.block(from + done, top, four_sixels(run, done), color);
         done += 4;
     }
     'last: while done < by_four {
-        canvas.block(from + done, top, last_sixels(run, done), color);
+        canvas.block(from + done, top, sixels_in_front(bytes, run, done), color);
         done += 4;
     }
     'ends: while done < run.len() {
-        canvas.dots(from + done, top, last_sixels(run, done), color);
+        canvas.dots(from + done, top, sixels_in_front(bytes, run, done), color);
         done += 4;
     }
 }

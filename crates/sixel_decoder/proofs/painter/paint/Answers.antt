@@ -27,8 +27,8 @@ last-preserved c =
     let before = c.last.invariant in
     let lt : done < length run = omega (arith, c.last-test.true, c.min-by_four.ensures) in (
       omega (arith, lt),
-      drawn_by_four done c.args.canvas.now c.last.canvas c.block-in-last.new.self c.args.top c.args.from run c.args.color c.last_sixels.result
-          (omega (arith, lt)) before.1 c.last_sixels.ensures c.block-in-last.ensures.drawn,
+      drawn_by_four done c.args.canvas.now c.last.canvas c.block-in-last.new.self c.args.top c.args.from run c.args.color c.sixels_in_front.result
+          (omega (arith, lt)) before.1 c.sixels_in_front.ensures c.block-in-last.ensures.drawn,
       λ row. c.block-in-last.ensures.reached row ∙ before.2 row,
       omega (arith, before.3, c.block-in-last.ensures.paints, c.last-test.true, c.min-by_four.ensures),
       c.block-in-last.ensures.spread ∙ before.4,
@@ -40,7 +40,7 @@ ends-init c = (c.last.invariant.0, c.last.invariant.1, c.last.invariant.2, c.las
 
 pub dots-requires-clause-held : goal.dots-requires-clause-held
 dots-requires-clause-held c =
-    four_held c.ends.canvas c.args.top c.args.from c.args.run.now c.last_sixels-in-ends.result c.ends.done c.last_sixels-in-ends.ensures
+    four_held c.ends.canvas c.args.top c.args.from c.args.run.now c.sixels_in_front-in-ends.result c.ends.done c.sixels_in_front-in-ends.ensures
     (λ k j six lt hit. omega (arith, c.requires.dots k j six lt hit, c.ends.invariant.2 (c.args.top + k)))
 
 pub ends-preserved : goal.ends-preserved
@@ -50,8 +50,8 @@ ends-preserved c =
     let before = c.ends.invariant in
     let lt : done < length run = c.ends-test.true in (
       omega (arith, lt),
-      drawn_by_four done c.args.canvas.now c.ends.canvas c.dots.new.self c.args.top c.args.from run c.args.color c.last_sixels-in-ends.result
-          (omega (arith, lt)) before.1 c.last_sixels-in-ends.ensures c.dots.ensures.drawn,
+      drawn_by_four done c.args.canvas.now c.ends.canvas c.dots.new.self c.args.top c.args.from run c.args.color c.sixels_in_front-in-ends.result
+          (omega (arith, lt)) before.1 c.sixels_in_front-in-ends.ensures c.dots.ensures.drawn,
       λ row. c.dots.ensures.reached row ∙ before.2 row,
       omega (arith, before.3, c.dots.ensures.most, c.ends-test.true, c.min-by_four.ensures),
       c.dots.ensures.spread ∙ before.4,
