@@ -6,6 +6,4 @@ pub mod lists;
 pub mod multiplexer;
 pub mod streaming;
 pub mod terminal;
-#[cfg(test)]
-mod tests;
 pub mod viewer;

@@ -23,6 +23,8 @@ mod crop;
 mod drawing;
 #[cfg(test)]
 mod encoding;
+#[cfg(test)]
+mod examples;
 pub mod host;
 #[cfg(test)]
 mod hosted;

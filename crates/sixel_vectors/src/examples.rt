@@ -1,14 +1,14 @@
-//! Each example does what the page that shows it says.
+//! Each example of `sixel_examples` does what the page that shows it says.
 
-use crate::in_one_call::{decode, decode_payload, encode, palette};
-use crate::lists::replay;
-use crate::multiplexer::{Came, read};
-use crate::streaming::{decode_payload_pieces, decode_pieces};
-use crate::terminal::Images;
-use crate::viewer::open;
 use icy_sixel::receiver::SixelReceiver;
 use icy_sixel::script::Outcome;
 use icy_sixel::{SixelDecoder, SixelImage};
+use sixel_examples::in_one_call::{decode, decode_payload, encode, palette};
+use sixel_examples::lists::replay;
+use sixel_examples::multiplexer::{Came, read};
+use sixel_examples::streaming::{decode_payload_pieces, decode_pieces};
+use sixel_examples::terminal::Images;
+use sixel_examples::viewer::open;
 use std::process::Abort;
 
 #[test]
