@@ -329,6 +329,8 @@ impl Filter {
 }
 
 /// What a filter writes of a whole stream that comes in pieces of up to so many bytes.
+///
+/// The program does the same between reads and writes; the contract says what it comes to.
 pub fn filter_pieces(alloc: Global, work: Work, stream: &[u8], piece_len: usize) -> Result<Vec<u8>>
     requires { 0 < piece_len }
     ensures filtered { IfOk result (λ output.

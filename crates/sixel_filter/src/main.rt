@@ -10,8 +10,6 @@ mod fault;
 mod filter;
 mod making;
 mod streams;
-#[cfg(test)]
-mod tests;
 mod words;
 
 use fault::Fault;
