@@ -7,8 +7,6 @@ mod images;
 mod response;
 mod streams;
 mod strings;
-#[cfg(test)]
-mod tests;
 mod words;
 
 use fault::Fault;
