@@ -3,3 +3,4 @@ pub mod PaletteNear
 pub mod PaletteChunks
 pub mod PaletteFlags
 pub mod PaletteStarts
+pub mod PaletteLookUp

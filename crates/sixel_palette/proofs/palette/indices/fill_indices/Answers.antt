@@ -16,29 +16,28 @@ loop-four-preserved c =
           let alike = w.if-are_four_of.true in
           rw (w.indices-is, w.last-is, w.index-is, end) (record {
             size = w.fill_four_as.ensures.size;
-            each = λ entries squares near below. w.fill_four_as.ensures.indices entries (λ k l m. index_from_word pixels entries k c.loop-four.last c.loop-four.index bytes (same.code alike k l m) (same.alpha alike k l m) (h.last entries squares near below)) (h.each entries squares near below);
+            each = λ entries tells. w.fill_four_as.ensures.indices entries (λ k l m. index_from_word pixels entries k c.loop-four.last c.loop-four.index bytes (same.code alike k l m) (same.alpha alike k l m) (h.last entries tells)) (h.each entries tells);
             last = h.last;
           }))
       | else-are_four_of w ↦
           rw (w.indices-is, w.last-is, w.index-is, end) (record {
             size = w.fill_four-index.ensures.size;
-            each = λ entries squares near below. w.fill_four-index.ensures.indices entries squares near below (h.each entries squares near below);
-            last = λ entries squares near below. w.fill_four-index.ensures.last entries squares near below;
+            each = λ entries tells. w.fill_four-index.ensures.indices entries tells (h.each entries tells);
+            last = λ entries tells. w.fill_four-index.ensures.last entries tells;
           })
     ]
 
 pub loop-pixel-init : goal.loop-pixel-init
 loop-pixel-init c = record {
   size = c.loop-four.invariant.size;
-  each = λ entries squares near below k l. c.loop-four.invariant.each entries squares near below k (omega arith);
+  each = λ entries tells k l. c.loop-four.invariant.each entries tells k (omega arith);
 }
 
 pub loop-pixel-preserved : goal.loop-pixel-preserved
 loop-pixel-preserved c = record {
   size = c.fill_pixel.ensures.size;
-  each = λ entries squares near below. c.fill_pixel.ensures.indices entries squares near below (c.loop-pixel.invariant.each entries squares near below);
+  each = λ entries tells. c.fill_pixel.ensures.indices entries tells (c.loop-pixel.invariant.each entries tells);
 }
 
 pub returns-clause-indices : goal.returns-clause-indices
-returns-clause-indices c = λ entries squares near below k l.
-    c.loop-pixel.invariant.each entries squares near below k (omega arith)
+returns-clause-indices c = λ entries tells k l. c.loop-pixel.invariant.each entries tells k (omega arith)

@@ -6,7 +6,7 @@ pub returns : goal.returns
 returns c = λ entries squares near below.
     let indices = c.fill_indices.new.indices in
     let whole = take_at indices (drop (length indices) c.in_ok-indices.indices.items) c.in_ok-indices.indices.len (omega arith) in
-    let each = c.fill_indices.ensures.indices entries squares near below in
+    let each = c.fill_indices.ensures.indices entries (record { squares = squares; kept = near; below = below }) in
     rw whole (record {
       one_each = c.fill_indices.ensures.size;
       opaque = λ k l o. (each k l).opaque o;
