@@ -1,8 +1,8 @@
-use Rattle.std.proofs.Common.{◌≡◌, ℕ, ◌+◌, ◌-◌, ◌≤◌, List, ◌++◌, length, replicate, ap, ◌∙◌, inl, inr, length-append, arith}
+use Rattle.std.proofs.Common.{◌≡◌, ℕ, ◌+◌, ◌-◌, ◌≤◌, length, replicate, ap, ◌∙◌, inl, inr, length-append, arith}
 use Rattle.std.proofs.lemmas.Bool.{cases_lt, lt-ltb, le-ltb}
 use Rattle.std.proofs.lemmas.List.{length-replicate}
-use Rattle.sixel_canvas.specs.Row.{RowState, row_state, reached_to, writes_for}
-use Rattle.sixel_canvas.specs.inside.Loan.{IsRoomy, lent_to, room_from}
+use Rattle.sixel_canvas.specs.Row.{RowState, reached_to}
+use Rattle.sixel_canvas.specs.inside.Loan.{IsRoomy, lent_to}
 
 -- how many pixels a row has that was grown
 pub length-reached_to : (columns : ℕ) (row : RowState) → length (reached_to columns row).pixels ≡ length row.pixels + (columns - length row.pixels)
@@ -34,7 +34,3 @@ IsRoomy-lent_to first columns row little side roomy =
             growing = rw test (omega arith);
           }
     ]
-
--- the row that is stored once background was added, room was made and the writes were counted
-pub row_state-lent_to : (first : ℕ) (background : List ℕ) (pixels pixels' : List (List ℕ)) (room room' writes written columns : ℕ) → pixels' ≡ pixels ++ replicate (columns - length pixels) background → room' ≡ room_from first columns room → written ≡ writes_for columns (row_state background pixels room writes) → row_state background pixels' room' (writes + written) ≡ lent_to first columns (row_state background pixels room writes)
-row_state-lent_to first background pixels pixels' room room' writes written columns grown made counted = cc

@@ -1,14 +1,35 @@
-use Rattle.std.proofs.Common.{◌≡◌, ◌≢◌, ℕ, zero, suc, ◌+◌, ◌-◌, ◌<◌, ◌≤◌, Bool, true, false, ◌&&◌, max, List, [], ◌∷◌, ◌++◌, length, get_or, take, drop, replicate, refl, sym, ap, ◌∙◌, inl, inr, length-append, length-take, length-drop, get_or-take, get_or-drop, arith}
+use Rattle.std.proofs.Common.{◌≡◌, ◌≢◌, ℕ, zero, suc, ◌+◌, ◌-◌, ◌<◌, ◌≤◌, Bool, true, false, ◌&&◌, max, List, [], ◌∷◌, ◌++◌, length, get_or, take, drop, replicate, refl, sym, ap, ◌∙◌, inl, inr, length-append, length-take, length-drop, get_or-take, get_or-drop, drop_of_length-le, arith}
 use Rattle.std.specs.Prelude.{nat_lt, nat_le, if◌then◌else◌}
 use Rattle.std.proofs.lemmas.Bool.{cases_lt, cases_order, lt-ltb, le-ltb, lt-leb, le-leb}
-use Rattle.std.proofs.lemmas.List.{length-replicate, get_or-replicate, get_or-append_right, get_or_append_left}
-use Rattle.sixel_canvas.specs.Row.{RowState, painted}
-use Rattle.sixel_canvas.specs.inside.Loan.{lent_to}
-use Rattle.sixel_canvas.proofs.RowStates.{length-reached_to}
+use Rattle.std.proofs.Math.Seq.{take-append-add}
+use Rattle.std.proofs.lemmas.List.{length-replicate, get_or-replicate, get_or-append_right, get_or_append_left, append-nil, take-replicate}
+use Rattle.sixel_canvas.specs.Row.{RowState, painted, row_state, writes_for}
+use Rattle.sixel_canvas.specs.inside.Loan.{IsRoomy, lent_to, room_from}
+use Rattle.sixel_canvas.proofs.RowStates.{IsRoomy-lent_to, length-reached_to}
 
 -- a row that was grown, and painted from this column up to before that one
 abbrev pub struck_row : ℕ → ℕ → ℕ → List ℕ → RowState → RowState
 struck_row first from to color row = painted from to color (lent_to first to row)
+
+-- a row that ends before the stroke gets background up to it, and then its color
+pub pixels-struck_beyond : (first from to : ℕ) (color : List ℕ) (row : RowState) → length row.pixels ≤ from → from ≤ to → (struck_row first from to color row).pixels ≡ row.pixels ++ replicate (from - length row.pixels) row.background ++ replicate (to - from) color
+pixels-struck_beyond first from to color row beyond order =
+    let pixels = row.pixels in
+    let gap = from - length pixels in
+    let more = replicate (to - length pixels) row.background in
+    let there : length pixels + gap ≡ from = omega (arith, beyond) in
+    let front : take from (pixels ++ more) ≡ pixels ++ replicate gap row.background =
+    ap (λ n. take n (pixels ++ more)) (sym there) ∙ take-append-add pixels more gap ∙ ap (λ xs. pixels ++ xs) (take-replicate gap (to - length pixels) row.background (omega (arith, order))) in
+    let back : drop to (pixels ++ more) ≡ [] = drop_of_length-le (pixels ++ more) {i = to} (omega (arith, beyond, order, length-reached_to to row)) in
+    ap (λ xs. xs ++ replicate (to - from) color ++ drop to (pixels ++ more)) front
+    ∙ ap (λ xs. pixels ++ replicate gap row.background ++ replicate (to - from) color ++ xs) back
+    ∙ append-nil (pixels ++ replicate gap row.background ++ replicate (to - from) color)
+
+-- what is stored of such a row, once its pixels were added, room was made and the writes were counted
+pub row_state-struck : (first from to : ℕ) (color background : List ℕ) (pixels pixels' : List (List ℕ)) (room room' writes written : ℕ) → length pixels ≤ from → from ≤ to → pixels' ≡ pixels ++ replicate (from - length pixels) background ++ replicate (to - from) color → room' ≡ room_from first to room → written ≡ writes_for to (row_state background pixels room writes) → row_state background pixels' room' (writes + written) ≡ struck_row first from to color (row_state background pixels room writes)
+row_state-struck first from to color background pixels pixels' room room' writes written beyond order grown made counted =
+    let is = grown ∙ sym (pixels-struck_beyond first from to color (row_state background pixels room writes) beyond order) in
+    cc
 
 -- how many pixels it holds
 pub length-struck_row : (first from to : ℕ) (color : List ℕ) (row : RowState) → from ≤ to → length (struck_row first from to color row).pixels ≡ max (length row.pixels) to
@@ -25,6 +46,20 @@ length-painted from to color row order held =
     let front = take from pixels in
     let middle = replicate (to - from) color in
     omega (arith, length-append (front ++ middle) (drop to pixels), length-append front middle, length-take from pixels, length-drop to pixels, length-replicate (to - from) color)
+
+-- a row stays roomy as it is struck
+pub IsRoomy-struck_row : (first from to : ℕ) (color : List ℕ) (row : RowState) → first ≤ 1000000 → from ≤ to → to ≤ 1000000 → IsRoomy row → IsRoomy (struck_row first from to color row)
+IsRoomy-struck_row first from to color row little order side roomy =
+    let grown = IsRoomy-lent_to first to row little side roomy in
+    let long : length (struck_row first from to color row).pixels ≡ length (lent_to first to row).pixels =
+    length-painted from to color (lent_to first to row) order (omega (arith, length-reached_to to row)) in
+    record {
+      held = omega (arith, grown.held, long);
+      side = grown.side;
+      at_least = omega (arith, grown.at_least, long);
+      at_most = omega (arith, grown.at_most, long);
+      growing = λ less. omega (arith, grown.growing less, long);
+    }
 
 -- any place of a list of one value, and past its end
 get_or-replicate_same : {X : Type 0} (n i : ℕ) (x : X) → get_or (replicate n x) i x ≡ x

@@ -2,8 +2,7 @@
 ghost use Rattle.std.specs.Prelude.{◌≡◌, ℕ, ◌+◌, ◌-◌, ◌*◌, ◌^◌, ◌<◌, ◌≤◌, ◌&&◌, ◌++◌, ◌∷◌, [], max};
 ghost use Rattle.std.specs.Prelude.{length, map, vec_len, slice_index, slice_index_or, slice_set, if◌then◌else◌};
 ghost use Rattle.std.specs.Prelude.{◌==◌, nat_le, nat_lt, true};
-ghost use Rattle.std.specs.Prelude.{All, IfOk, IfErr, IsOk, OnErr, OnOk};
-ghost use Rattle.sixel_base.specs.declared.error.SixelError.TheVariants.{OutOfMemory};
+ghost use Rattle.std.specs.Prelude.{All, IfOk, IsOk, OnErr, OnOk};
 ghost use Rattle.sixel_base.specs.Picture.{covers, is_set, is_struck, joined};
 ghost use Rattle.sixel_canvas.specs.Row.{RowState, empty_row, painted};
 ghost use Rattle.sixel_canvas.specs.inside.Block.{drawn_over, mixed_from};
@@ -12,8 +11,7 @@ ghost use Rattle.sixel_canvas.specs.inside.Canvas.{IsBounded, IsRowOf};
 ghost use Rattle.sixel_canvas.specs.inside.Loan.{IsLent, IsRoomy, given_back, len_at, lent_to, room_at, share};
 ghost use Rattle.sixel_canvas.specs.inside.Tags.{lies_in};
 
-use crate::line::{Line, add_pixels};
-use sixel_base::Result;
+use crate::line::{AllocResult, Line, add_pixels};
 use std::alloc::Global;
 use std::marker::Model;
 
@@ -96,7 +94,7 @@ impl Canvas {
         top: usize,
         bits: u8,
         color: [u8; 4],
-    ) -> Result<()>
+    ) -> AllocResult<()>
         requires ordered { from ≤ to }
         requires within { to ≤ 1000000 }
         requires above_bottom { top + 6 ≤ 1000000 }
@@ -109,7 +107,6 @@ impl Canvas {
         ensures background { self.new.background ≡ self.old.background }
         ensures held { 0 < to → ((k : ℕ) → k < 6 → to ≤ reached self.old (top + k))
             → IsOk result }
-        ensures error { IfErr result (λ e. e ≡ OutOfMemory) }
         ensures bounded { IsBounded self.new }
     {
         self.go_up(top);
@@ -186,7 +183,7 @@ impl Canvas {
     /// Makes each of the six rows from `top` on hold so many columns, where it holds fewer: those
     /// that are added are background. Where memory is refused, some of the rows may.
     #[inline(never)]
-    pub fn widen(&mut self, top: usize, columns: [usize; 6]) -> Result<()>
+    pub fn widen(&mut self, top: usize, columns: [usize; 6]) -> AllocResult<()>
         requires within { (k : ℕ) → k < 6 → slice_index columns k ≤ 1000000 }
         requires above_bottom { top + 6 ≤ 1000000 }
         ensures shown { OnOk result ((column row : ℕ) → shown self.new column row
@@ -199,7 +196,6 @@ impl Canvas {
         ensures never_less { (row : ℕ) → reached self.old row ≤ reached self.new row }
         ensures held { ((k : ℕ) → k < 6
             → max 1 (slice_index columns k) ≤ reached self.old (top + k)) → IsOk result }
-        ensures error { IfErr result (λ e. e ≡ OutOfMemory) }
         ensures bounded { IsBounded self.new }
     {
         self.go_up(top);
@@ -227,12 +223,11 @@ impl Canvas {
         row: usize,
         from: usize,
         count: usize,
-    ) -> Result<()>
+    ) -> AllocResult<()>
         requires { vec_len bytes.old + 4 * count < 2 ^ 63 }
         ensures ok { OnOk result (bytes.new.items ≡ bytes.old.items
             ++ joined (λ k. shown self.now (from + k) row) count) }
         ensures len { OnOk result (vec_len bytes.new ≡ vec_len bytes.old + 4 * count) }
-        ensures error { IfErr result (λ e. e ≡ OutOfMemory) }
     {
         match self.rows.get(row) {
             Some(held) => held.pack(bytes, from, count),
@@ -275,7 +270,7 @@ impl Canvas {
 
     /// Makes the row hold so many columns, where it holds fewer: those that are added are
     /// background. Where memory is refused, the canvas shows what it showed.
-    pub(crate) fn reach_row(&mut self, row: usize, columns: usize) -> Result<()>
+    pub(crate) fn reach_row(&mut self, row: usize, columns: usize) -> AllocResult<()>
         requires within { columns ≤ 1000000 }
         requires above_bottom { row < 1000000 }
         ensures shown { (column k : ℕ) → shown self.new column k ≡ shown self.old column k }
@@ -284,7 +279,6 @@ impl Canvas {
         ensures refused { OnErr result ((k : ℕ) → reached self.new k ≡ reached self.old k) }
         ensures held { 0 < columns → columns ≤ reached self.old row → IsOk result }
         ensures background { self.new.background ≡ self.old.background }
-        ensures error { IfErr result (λ e. e ≡ OutOfMemory) }
         ensures bounded { IsBounded self.new }
     {
         self.go_up(row);
@@ -337,7 +331,7 @@ impl Canvas {
         top: usize,
         bits: u8,
         color: [u8; 4],
-    ) -> Result<()>
+    ) -> AllocResult<()>
         requires ordered { from ≤ to }
         requires within { to ≤ 1000000 }
         requires above_bottom { top + 6 ≤ 1000000 }
@@ -351,7 +345,6 @@ impl Canvas {
         ensures background { self.new.background ≡ self.old.background }
         ensures held { 0 < to → ((k : ℕ) → k < 6 → to ≤ reached self.old (top + k))
             → IsOk result }
-        ensures error { IfErr result (λ e. e ≡ OutOfMemory) }
         ensures bounded { IsBounded self.new }
     {
         let background = self.background;
@@ -367,7 +360,7 @@ impl Canvas {
 
     // Widens as [`Canvas::widen`] does, where the band does not begin below.
     #[inline(always)]
-    fn widen_down(&mut self, top: usize, columns: [usize; 6]) -> Result<()>
+    fn widen_down(&mut self, top: usize, columns: [usize; 6]) -> AllocResult<()>
         requires within { (k : ℕ) → k < 6 → slice_index columns k ≤ 1000000 }
         requires above_bottom { top + 6 ≤ 1000000 }
         requires band { self.old.band ≤ top }
@@ -381,7 +374,6 @@ impl Canvas {
         ensures never_less { (row : ℕ) → reached self.old row ≤ reached self.new row }
         ensures held { ((k : ℕ) → k < 6
             → max 1 (slice_index columns k) ≤ reached self.old (top + k)) → IsOk result }
-        ensures error { IfErr result (λ e. e ≡ OutOfMemory) }
         ensures bounded { IsBounded self.new }
     {
         let background = self.background;
@@ -395,7 +387,7 @@ impl Canvas {
 
     // Reaches as [`Canvas::reach_row`] does, where the band does not begin below.
     #[inline(always)]
-    fn reach_down(&mut self, row: usize, columns: usize) -> Result<()>
+    fn reach_down(&mut self, row: usize, columns: usize) -> AllocResult<()>
         requires within { columns ≤ 1000000 }
         requires above_bottom { row < 1000000 }
         requires band { self.old.band ≤ row }
@@ -405,7 +397,6 @@ impl Canvas {
         ensures refused { OnErr result ((k : ℕ) → reached self.new k ≡ reached self.old k) }
         ensures held { 0 < columns → columns ≤ reached self.old row → IsOk result }
         ensures background { self.new.background ≡ self.old.background }
-        ensures error { IfErr result (λ e. e ≡ OutOfMemory) }
         ensures bounded { IsBounded self.new }
     {
         let background = self.background;
@@ -416,7 +407,7 @@ impl Canvas {
 }
 
 // Makes rows until there are so many.
-fn make_rows(rows: &mut Vec<Line>, count: usize, background: [u8; 4]) -> Result<()>
+fn make_rows(rows: &mut Vec<Line>, count: usize, background: [u8; 4]) -> AllocResult<()>
     requires { count ≤ 1000000 }
     ensures made { count ≤ vec_len rows.old → IsOk result }
     ensures enough { OnOk result (count ≤ vec_len rows.new) }
@@ -425,7 +416,6 @@ fn make_rows(rows: &mut Vec<Line>, count: usize, background: [u8; 4]) -> Result<
     ensures few { vec_len rows.old ≤ 1000000 → vec_len rows.new ≤ 1000000 }
     ensures rows { All (IsRowOf background) rows.old.items
         → All (IsRowOf background) rows.new.items }
-    ensures error { IfErr result (λ e. e ≡ OutOfMemory) }
 {
     let held = rows.len();
     if count <= held {
@@ -502,7 +492,7 @@ fn call_in(rows: &mut Vec<Line>)
 }
 
 // Makes one row hold so many columns, where it holds fewer.
-fn reach(rows: &mut Vec<Line>, loan: Loan, row: usize, columns: usize) -> Result<()>
+fn reach(rows: &mut Vec<Line>, loan: Loan, row: usize, columns: usize) -> AllocResult<()>
     requires within { columns ≤ 1000000 }
     requires made { row < vec_len rows.old }
     requires lent { loan.room ≤ 1000000 }
@@ -514,7 +504,6 @@ fn reach(rows: &mut Vec<Line>, loan: Loan, row: usize, columns: usize) -> Result
     ensures refused { OnErr result (rows.new.items ≡ rows.old.items) }
     ensures held { (d : RowState) → columns ≤ length (slice_index_or rows.old.items row d).pixels
         → IsOk result }
-    ensures error { IfErr result (λ e. e ≡ OutOfMemory) }
 {
     rows[row].reach(columns, if row - loan.top < 6 { loan.room } else { 0 })
 }
@@ -527,7 +516,7 @@ fn strike(
     from: usize,
     to: usize,
     color: [u8; 4],
-) -> Result<()>
+) -> AllocResult<()>
     requires ordered { from ≤ to }
     requires within { to ≤ 1000000 }
     requires made { row < vec_len rows.old }
@@ -541,12 +530,9 @@ fn strike(
     ensures refused { OnErr result (rows.new.items ≡ rows.old.items) }
     ensures held { (d : RowState) → to ≤ length (slice_index_or rows.old.items row d).pixels
         → IsOk result }
-    ensures error { IfErr result (λ e. e ≡ OutOfMemory) }
 {
-    let struck = &mut rows[row];
-    struck.reach(to, if row - loan.top < 6 { loan.room } else { 0 })?;
-    struck.paint(from, to, color);
-    Ok(())
+    let lent = if row - loan.top < 6 { loan.room } else { 0 };
+    rows[row].strike(from, to, color, lent)
 }
 
 // Gives one color to columns that the row holds.

@@ -1,8 +1,7 @@
 //! The pixels of a row of the canvas, which take more room where they are too many.
 ghost use Rattle.std.specs.Prelude.{◌≡◌, ◌+◌, ◌-◌, ◌*◌, ◌^◌, ◌<◌, ◌≤◌, ◌==◌, ◌++◌, ◌∷◌, []};
 ghost use Rattle.std.specs.Prelude.{length, max, take, drop, replicate, slice_index_or};
-ghost use Rattle.std.specs.Prelude.{vec_len, vec_capacity, IfOk, IfErr, IsOk, OnErr, OnOk};
-ghost use Rattle.sixel_base.specs.declared.error.SixelError.TheVariants.{OutOfMemory};
+ghost use Rattle.std.specs.Prelude.{vec_len, vec_capacity, IfOk, IsOk, OnErr, OnOk};
 ghost use Rattle.sixel_base.specs.Picture.{joined};
 ghost use Rattle.sixel_canvas.specs.Row.{empty_row, painted};
 ghost use Rattle.sixel_canvas.specs.inside.Loan.{IsRoomy, given_back, lent_to, room_from};
@@ -10,10 +9,12 @@ ghost use Rattle.sixel_canvas.specs.inside.Block.{mixed_from};
 
 use crate::block::{dot_from, mix_from, mix_one};
 use crate::span::fill_rgba_span;
-use sixel_base::Result;
 use sixel_base::limits::MAX_SIDE;
-use std::alloc::Global;
+use std::alloc::{AllocError, Global};
 use std::marker::Model;
+
+/// The answer of a call that only memory can be refused to.
+pub type AllocResult<T> = Result<T, AllocError>;
 
 /// One row of a canvas: its pixels from the left, up to the last column that was reached. It takes
 /// any room that it is told to.
@@ -58,39 +59,66 @@ impl Line {
     /// twice the room, the latter at most a million, and the pixels move. Only then can memory be
     /// refused.
     #[inline(always)]
-    pub fn reach(&mut self, columns: usize, lent: usize) -> Result<()>
+    pub fn reach(&mut self, columns: usize, lent: usize) -> AllocResult<()>
         requires within { columns ≤ 1000000 }
         requires side { lent ≤ 1000000 }
         ensures ok { OnOk result (self.new ≡ lent_to lent columns self.old) }
         ensures held { columns ≤ length self.old.pixels → self.new ≡ self.old }
         ensures within_room { columns ≤ self.old.room → IsOk result }
         ensures refused { OnErr result (self.new ≡ self.old) }
-        ensures error { IfErr result (λ e. e ≡ OutOfMemory) }
         ensures roomy { IsRoomy self.new }
     {
         if columns <= self.len() {
             return Ok(());
         }
-        self.grow(columns, lent)
+        self.grow(columns, columns, self.background, lent)
     }
 
-    // Adds background until the row has so many columns, which are more than it has.
-    fn grow(&mut self, columns: usize, lent: usize) -> Result<()>
-        requires within { columns ≤ 1000000 }
+    /// Gives one color to the columns from `from` up to before `to`, and grows the row as
+    /// [`Line::reach`] does where it ends before.
+    #[inline(always)]
+    pub(crate) fn strike(
+        &mut self,
+        from: usize,
+        to: usize,
+        color: [u8; 4],
+        lent: usize,
+    ) -> AllocResult<()>
+        requires ordered { from ≤ to }
+        requires within { to ≤ 1000000 }
         requires side { lent ≤ 1000000 }
-        requires more { length self.old.pixels < columns }
-        ensures ok { OnOk result (self.new ≡ lent_to lent columns self.old) }
-        ensures within_room { columns ≤ self.old.room → IsOk result }
+        ensures ok { OnOk result (self.new ≡ painted from to color (lent_to lent to self.old)) }
+        ensures within_room { to ≤ self.old.room → IsOk result }
         ensures refused { OnErr result (self.new ≡ self.old) }
-        ensures error { IfErr result (λ e. e ≡ OutOfMemory) }
+        ensures roomy { IsRoomy self.new }
+    {
+        if self.len() <= from {
+            return self.grow(from, to, color, lent);
+        }
+        self.reach(to, lent)?;
+        self.paint(from, to, color);
+        Ok(())
+    }
+
+    // Adds background up to a column that the row does not pass, and a color from there up to another.
+    #[inline(never)]
+    fn grow(&mut self, from: usize, to: usize, color: [u8; 4], lent: usize) -> AllocResult<()>
+        requires beyond { length self.old.pixels ≤ from }
+        requires ordered { from ≤ to }
+        requires within { to ≤ 1000000 }
+        requires side { lent ≤ 1000000 }
+        ensures ok { OnOk result (self.new ≡ painted from to color (lent_to lent to self.old)) }
+        ensures within_room { to ≤ self.old.room → IsOk result }
+        ensures refused { OnErr result (self.new ≡ self.old) }
         ensures roomy { IsRoomy self.new }
     {
         let held = self.len();
-        let moved = if columns > self.room { held } else { 0 };
-        let room = make_room(&mut self.pixels, columns, self.room, lent)?;
-        self.pixels.resize(columns, self.background)?;
+        let moved = if to > self.room { held } else { 0 };
+        let room = make_room(&mut self.pixels, to, self.room, lent)?;
+        self.pixels.resize(from, self.background)?;
+        self.pixels.resize(to, color)?;
         self.room = room;
-        self.writes += (columns - held + moved) as u64;
+        self.writes += (to - held + moved) as u64;
         Ok(())
     }
 
@@ -192,12 +220,11 @@ impl Line {
     }
 
     // Appends so many of the row's pixels from `from` on, with background where it is short.
-    pub(super) fn pack(&self, bytes: &mut Vec<u8>, from: usize, count: usize) -> Result<()>
+    pub(super) fn pack(&self, bytes: &mut Vec<u8>, from: usize, count: usize) -> AllocResult<()>
         requires { vec_len bytes.old + 4 * count < 2 ^ 63 }
         ensures ok { OnOk result (bytes.new.items ≡ bytes.old.items ++ joined (λ k.
             slice_index_or self.now.pixels (from + k) self.now.background) count) }
         ensures len { OnOk result (vec_len bytes.new ≡ vec_len bytes.old + 4 * count) }
-        ensures error { IfErr result (λ e. e ≡ OutOfMemory) }
     {
         let begin = from.min(self.len());
         let rest = &self.pixels[begin..];
@@ -208,7 +235,12 @@ impl Line {
 }
 
 // Makes memory for so many columns where the room is too small, and answers the room then.
-fn make_room(pixels: &mut Vec<[u8; 4]>, columns: usize, room: usize, lent: usize) -> Result<usize>
+fn make_room(
+    pixels: &mut Vec<[u8; 4]>,
+    columns: usize,
+    room: usize,
+    lent: usize,
+) -> AllocResult<usize>
     requires side { columns ≤ 1000000 }
     requires lent_side { lent ≤ 1000000 }
     requires held { vec_len pixels.old ≤ room }
@@ -218,7 +250,6 @@ fn make_room(pixels: &mut Vec<[u8; 4]>, columns: usize, room: usize, lent: usize
     ensures no_more { IfOk result (λ made.
         vec_capacity pixels.new ≤ max made (vec_capacity pixels.old)) }
     ensures within_room { columns ≤ room → IsOk result }
-    ensures error { IfErr result (λ e. e ≡ OutOfMemory) }
     ensures items { pixels.new.items ≡ pixels.old.items }
     ensures never_less { vec_capacity pixels.old ≤ vec_capacity pixels.new }
 {
@@ -231,13 +262,12 @@ fn make_room(pixels: &mut Vec<[u8; 4]>, columns: usize, room: usize, lent: usize
 }
 
 // Appends `count` pixels of one color.
-pub(super) fn add_pixels(bytes: &mut Vec<u8>, count: usize, color: [u8; 4]) -> Result<()>
+pub(super) fn add_pixels(bytes: &mut Vec<u8>, count: usize, color: [u8; 4]) -> AllocResult<()>
     requires { vec_len bytes.old + 4 * count < 2 ^ 63 }
     ensures ok { OnOk result (bytes.new.items ≡ bytes.old.items ++ joined (λ _. color) count) }
     ensures len { OnOk result (vec_len bytes.new ≡ vec_len bytes.old + 4 * count) }
     ensures within_capacity { vec_len bytes.old + 4 * count ≤ vec_capacity bytes.old → IsOk result }
     ensures refused { OnErr result (bytes.new.items ≡ bytes.old.items) }
-    ensures error { IfErr result (λ e. e ≡ OutOfMemory) }
     ensures capacity { vec_capacity bytes.old ≤ vec_capacity bytes.new }
 {
     if count == 1 {

@@ -51,7 +51,8 @@ impl Row {
         ensures error { IfErr result (λ e. e ≡ OutOfMemory) }
         ensures thrifty { IsThrifty self.new }
     {
-        self.line.reach(columns, 0)
+        self.line.reach(columns, 0)?;
+        Ok(())
     }
 
     /// Gives one color to the columns from `from` up to before `to`.

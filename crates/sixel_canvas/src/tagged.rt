@@ -11,7 +11,7 @@ ghost use Rattle.sixel_canvas.specs.inside.Paints.{counted, ends_and_tags, least
 ghost use Rattle.sixel_canvas.specs.inside.Tags.{is_tag, lies_in, seen, IsTagged};
 
 use crate::canvas::Canvas;
-use crate::line::add_pixels;
+use crate::line::{AllocResult, add_pixels};
 use sixel_base::Result;
 use sixel_base::limits::MAX_SIDE;
 use std::alloc::Global;
@@ -141,7 +141,8 @@ impl TaggedCanvas {
         if bits == 0 {
             return Ok(());
         }
-        self.draw_dots(from, to, top, bits, color)
+        self.draw_dots(from, to, top, bits, color)?;
+        Ok(())
     }
 
     /// How many columns each of the six rows from `top` on holds, from the left.
@@ -238,7 +239,8 @@ impl TaggedCanvas {
         ensures spread { self.new.spread ≡ self.old.spread }
         ensures error { IfErr result (λ e. e ≡ OutOfMemory) }
     {
-        self.sheet.widen(top, columns)
+        self.sheet.widen(top, columns)?;
+        Ok(())
     }
 
     /// The bytes of the picture of this size: red, green, blue and alpha a pixel, row by row from
@@ -282,12 +284,11 @@ impl TaggedCanvas {
     }
 
     // Appends a row of the picture of this width.
-    fn pack_row(&self, bytes: &mut Vec<u8>, row: usize, width: usize) -> Result<()>
+    fn pack_row(&self, bytes: &mut Vec<u8>, row: usize, width: usize) -> AllocResult<()>
         requires { vec_len bytes.old + 4 * width < 2 ^ 63 }
         ensures ok { OnOk result (bytes.new.items ≡ bytes.old.items
             ++ joined (λ column. shown self.now column row) width) }
         ensures len { OnOk result (vec_len bytes.new ≡ vec_len bytes.old + 4 * width) }
-        ensures error { IfErr result (λ e. e ≡ OutOfMemory) }
     {
         if row >= self.tags.height() {
             return self.sheet.pack_row(bytes, row, 0, width);
@@ -299,14 +300,19 @@ impl TaggedCanvas {
     }
 
     // Appends so many pixels of a block of the row, from its left.
-    fn pack_block(&self, bytes: &mut Vec<u8>, row: usize, block: usize, count: usize) -> Result<()>
+    fn pack_block(
+        &self,
+        bytes: &mut Vec<u8>,
+        row: usize,
+        block: usize,
+        count: usize,
+    ) -> AllocResult<()>
         requires within { count ≤ 128 }
         requires columns_fit { block * 128 < 2 ^ 63 }
         requires bytes_fit { vec_len bytes.old + 4 * count < 2 ^ 63 }
         ensures ok { OnOk result (bytes.new.items ≡ bytes.old.items
             ++ joined (λ k. shown self.now (block * 128 + k) row) count) }
         ensures len { OnOk result (vec_len bytes.new ≡ vec_len bytes.old + 4 * count) }
-        ensures error { IfErr result (λ e. e ≡ OutOfMemory) }
     {
         let tag = self.tags.pixel(block, row);
         if tag[3] == 0 {
@@ -324,7 +330,7 @@ impl TaggedCanvas {
         top: usize,
         bits: u8,
         color: [u8; 4],
-    ) -> Result<()>
+    ) -> AllocResult<()>
         requires ordered { from ≤ to }
         requires within { to ≤ 1000000 }
         requires above_bottom { top + 6 ≤ 1000000 }
@@ -336,7 +342,6 @@ impl TaggedCanvas {
         ensures background { self.new.background ≡ self.old.background }
         ensures held { 0 < to → ((k : ℕ) → k < 6 → to ≤ reached self.old (top + k))
             → IsOk result }
-        ensures error { IfErr result (λ e. e ≡ OutOfMemory) }
         ensures least { OnOk result (0 < bits → counted self.old.paints
             (least_painted (to - from) + (self.new.spread - self.old.spread)) ≤ self.new.paints) }
         ensures most { is_tag color ≡ true → self.new.paints ≤ self.old.paints
@@ -361,7 +366,7 @@ impl TaggedCanvas {
         top: usize,
         bits: u8,
         color: [u8; 4],
-    ) -> Result<()>
+    ) -> AllocResult<()>
         requires ordered { from ≤ to }
         requires within { to ≤ 1000000 }
         requires above_bottom { top + 6 ≤ 1000000 }
@@ -373,7 +378,6 @@ impl TaggedCanvas {
         ensures background { self.new.background ≡ self.old.background }
         ensures held { 0 < to → ((k : ℕ) → k < 6 → to ≤ reached self.old (top + k))
             → IsOk result }
-        ensures error { IfErr result (λ e. e ≡ OutOfMemory) }
         ensures least { OnOk result (0 < bits → counted self.old.paints
             (least_painted (to - from) + (self.new.spread - self.old.spread)) ≤ self.new.paints) }
         ensures most { is_tag color ≡ true → self.new.paints ≤ self.old.paints

@@ -1,35 +1,41 @@
-use Rattle.std.proofs.Common.{◌≡◌, ◌+◌, ◌-◌, ◌++◌, length, take, replicate, sym, ap, ◌∙◌, take_all, arith}
+use Rattle.std.proofs.Common.{◌≡◌, ◌+◌, ◌-◌, ◌≤◌, ◌++◌, length, take, replicate, sym, ap, ◌∙◌, take_all, arith}
 use Rattle.std.proofs.lemmas.Bool.{lt-ltb, le-ltb}
 use Rattle.sixel_canvas.specs.Row.{RowState, row_state, writes_for}
-use Rattle.sixel_canvas.specs.inside.Loan.{lent_to}
-use Rattle.sixel_canvas.proofs.RowStates.{IsRoomy-lent_to, row_state-lent_to}
+use Rattle.sixel_canvas.proofs.Strokes.{struck_row, row_state-struck, IsRoomy-struck_row}
 use Rattle.sixel_canvas.proofs.line.Line.grow.Goals as goal
-use Rattle.sixel_canvas.proofs.line.Line.grow.Goals.{then-columns-self, else-columns-self}
+use Rattle.sixel_canvas.proofs.line.Line.grow.Goals.{then-to-self, else-to-self}
 
 pub returns-clause-ok : goal.returns-clause-ok
 returns-clause-ok c =
     let row = c.self.inside in
     let pixels = row.pixels.items in
-    let columns = c.args.columns in
+    let from = c.args.from in
+    let to = c.args.to in
     let held : c.len-held.result ≡ length pixels =
     c.len-held.ensures.value ∙ sym (ap (λ (r : RowState). length r.pixels) c.self.view_is) in
-    let counted : columns - c.len-held.result + c.if-columns-self.moved ≡ writes_for columns (row_state row.background pixels row.room row.writes) =
-    elim c.if-columns-self.branch [
-      | then-columns-self w ↦ rw (lt-ltb row.room columns w.if-columns-self.true) (omega (arith, held, w.moved-is))
-      | else-columns-self w ↦ rw (le-ltb row.room columns w.if-columns-self.false) (omega (arith, held, w.moved-is))
+    let beyond : length pixels ≤ from = omega (arith, c.requires.beyond, ap (λ (r : RowState). length r.pixels) c.self.view_is) in
+    let counted : to - c.len-held.result + c.if-to-self.moved ≡ writes_for to (row_state row.background pixels row.room row.writes) =
+    elim c.if-to-self.branch [
+      | then-to-self w ↦ rw (lt-ltb row.room to w.if-to-self.true) (omega (arith, held, w.moved-is))
+      | else-to-self w ↦ rw (le-ltb row.room to w.if-to-self.false) (omega (arith, held, w.moved-is))
     ] in
-    let grown : c.resize.new.self.items ≡ pixels ++ replicate (columns - length pixels) row.background =
+    let filled : c.resize.new.self.items ≡ pixels ++ replicate (from - length pixels) row.background =
     c.in_ok-resize.ensures.items
-    ∙ ap (λ n. take columns c.make_room.new.pixels.items ++ replicate n row.background) (omega (arith, ap length c.make_room.ensures.items))
-    ∙ ap (λ xs. take columns xs ++ replicate (columns - length pixels) row.background) c.make_room.ensures.items
-    ∙ ap (λ xs. xs ++ replicate (columns - length pixels) row.background) (take_all columns pixels (omega (arith, held))) in
-    row_state-lent_to c.args.lent row.background pixels c.resize.new.self.items row.room c.in_ok-room.room row.writes _ columns grown c.in_ok-room.ensures.room counted
-    ∙ ap (lent_to c.args.lent columns) c.self.view_is
+    ∙ ap (λ n. take from c.make_room.new.pixels.items ++ replicate n row.background) (omega (arith, ap length c.make_room.ensures.items))
+    ∙ ap (λ xs. take from xs ++ replicate (from - length pixels) row.background) c.make_room.ensures.items
+    ∙ ap (λ xs. xs ++ replicate (from - length pixels) row.background) (take_all from pixels beyond) in
+    let up_to = c.in_ok-resize.ensures.len in
+    let struck : c.resize-2.new.self.items ≡ pixels ++ replicate (from - length pixels) row.background ++ replicate (to - from) c.args.color =
+    c.in_ok-resize-2.ensures.items
+    ∙ ap (λ n. take to c.resize.new.self.items ++ replicate (to - n) c.args.color) up_to
+    ∙ ap (λ xs. xs ++ replicate (to - from) c.args.color) (take_all to c.resize.new.self.items (omega (arith, up_to, c.requires.ordered)) ∙ filled) in
+    row_state-struck c.args.lent from to c.args.color row.background pixels c.resize-2.new.self.items row.room c.in_ok-room.room row.writes _ beyond c.requires.ordered struck c.in_ok-room.ensures.room counted
+    ∙ ap (struck_row c.args.lent from to c.args.color) c.self.view_is
 
 pub invariant_of-self-2 : goal.invariant_of-self-2
 invariant_of-self-2 c = (
-  omega (arith, c.in_ok-room.ensures.enough, c.in_ok-resize.ensures.capacity),
-  rw (returns-clause-ok c) (IsRoomy-lent_to c.args.lent c.args.columns c.args.self.now c.requires.side c.requires.within c.len-held.ensures.roomy),
+  omega (arith, c.in_ok-room.ensures.enough, c.in_ok-resize.ensures.capacity, c.in_ok-resize-2.ensures.capacity),
+  rw (returns-clause-ok c) (IsRoomy-struck_row c.args.lent c.args.from c.args.to c.args.color c.args.self.now c.requires.side c.requires.ordered c.requires.within c.len-held.ensures.roomy),
 )
 
 pub returns-clause-roomy : goal.returns-clause-roomy
