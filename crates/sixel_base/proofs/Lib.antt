@@ -3,3 +3,4 @@ pub mod Pieces
 pub mod KeptFields
 pub mod DefaultCodes
 pub mod Joined
+pub mod Sixels

@@ -1,12 +1,13 @@
 -- What sixels of one column each do to rows that hold the columns of their dots, and may hold no more.
 use Rattle.std.proofs.Common.{◌≡◌, ◌≢◌, ℕ, zero, suc, ◌+◌, ◌-◌, ◌%◌, ◌^◌, ◌<◌, ◌≤◌, Bool, true, false, ◌&&◌, All, List, [], ◌∷◌, ◌++◌, length, get_or, take, drop, refl, sym, ap, ◌∙◌, subst, inl, inr, length-append, length-take, length-drop, length-set, get_or-take, get_or-drop, get_or-set_same, get_or-set_other, arith}
 use Rattle.std.proofs.Math.ListN.{set}
-use Rattle.std.proofs.Math.Nat.{zero-div}
+use Rattle.std.proofs.Math.Seq.{take-nil}
 use Rattle.std.specs.Prelude.{◌==◌, nat_lt, nat_le, if◌then◌else◌}
 use Rattle.std.proofs.lemmas.Bool.{cases_lt, lt-ltb, le-ltb, lt-leb, le-leb}
 use Rattle.std.proofs.lemmas.List.{get_or_past, get_or-append_right, get_or_append_left, set_past}
 use Rattle.std.proofs.lemmas.List.Elements.{All-set}
 use Rattle.sixel_base.specs.Picture.{covers, is_set, is_struck}
+use Rattle.sixel_base.proofs.Sixels.{blank_set}
 use Rattle.sixel_canvas.specs.Row.{RowState, empty_row}
 use Rattle.sixel_canvas.specs.inside.Loan.{IsRoomy}
 use Rattle.sixel_canvas.specs.inside.Block.{dotted, mixed, mixed_from, drawn_over}
@@ -49,14 +50,6 @@ over_past zero sixels bit color [] past = sym (mixed-nil bit color sixels)
 over_past (suc from) sixels bit color [] past = sym (mixed-nil bit color sixels)
 over_past zero sixels bit color (pixel ∷ pixels) past = absurd (omega (arith, past))
 over_past (suc from) sixels bit color (pixel ∷ pixels) past = ap (λ ps. pixel ∷ ps) (over_past from sixels bit color pixels (omega (arith, past)))
-
--- a sixel without a dot
-blank_set : (bit : ℕ) → is_set 0 bit ≡ false
-blank_set bit = ap (λ (n : ℕ). n % 2 == 1) (zero-div (2 ^ bit))
-
-take-nil : (n : ℕ) → take {A = ℕ} n [] ≡ []
-take-nil zero = refl
-take-nil (suc n) = refl
 
 -- a blank one first
 over_blank : (from bit : ℕ) (sixels color : List ℕ) (pixels : List (List ℕ)) → over_from from (0 ∷ sixels) bit color pixels ≡ over_from (suc from) sixels bit color pixels

@@ -1,7 +1,6 @@
 -- What sixels of one column each that stand inside the picture do to the words of a history: they change pixels and the place alone.
 use Rattle.std.proofs.Common.{◌≡◌, ℕ, zero, suc, ◌+◌, ◌*◌, ◌<◌, ◌≤◌, ◌-◌, ◌%◌, ◌^◌, Bool, true, false, max, List, [], ◌∷◌, ◌++◌, length, get_or, take, drop, length-take, get_or-take, get_or-drop, take-add, take_all, add-one, subst, refl, sym, ap, ◌∙◌, inl, inr, None, arith}
 use Rattle.std.specs.Prelude.{fold, nat_lt, nat_le, ◌&&◌, ◌==◌, if◌then◌else◌}
-use Rattle.std.proofs.Math.Nat.{zero-div}
 use Rattle.std.proofs.lemmas.List.{get_or_past}
 use Rattle.std.proofs.lemmas.Bool.{cases_lt, le-ltb, lt-leb, le-leb, lt-ltb}
 use Rattle.sixel_base.specs.History.{Sixel, Repeat, Raster, Color, Return, Newline, Skip, History, goes_on, read}
@@ -14,6 +13,7 @@ use Rattle.sixel_base.specs.Reach.{row_reach}
 use Rattle.sixel_base.specs.Settings.{ratio_of}
 use Rattle.sixel_base.specs.Stroke.{Origin, pixel, registers, color, ratio}
 use Rattle.sixel_base.proofs.Reading.{fold-spelling}
+use Rattle.sixel_base.proofs.Sixels.{blank_set}
 use Rattle.sixel_canvas.proofs.Mixing.{each_of_four}
 use Rattle.sixel_canvas.proofs.Underway.{reached_held}
 use Rattle.sixel_canvas.specs.inside.Block.{drawn_over}
@@ -175,10 +175,6 @@ fails_third true true = refl
 fails_third true false = refl
 fails_third false true = refl
 fails_third false false = refl
-
--- a sixel without a dot
-blank_set : (k : ℕ) → is_set 0 k ≡ false
-blank_set k = ap (λ (n : ℕ). n % 2 == 1) (zero-div (2 ^ k))
 
 drawn_over-blank : (from : ℕ) (more : List ℕ) (top : ℕ) (ink : List ℕ) (column row : ℕ) (p : List ℕ) → drawn_over from (0 ∷ more) top ink column row p ≡ drawn_over (from + 1) more top ink column row p
 drawn_over-blank from more top ink column row p =
