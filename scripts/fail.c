@@ -22,15 +22,22 @@ static int is_named(const char *variable, long place)
     return text && atol(text) == place;
 }
 
+/* Whether the call at this place is to fail by this variable; then the reason is set. */
+static int is_to_fail(const char *variable, long place)
+{
+    if (!is_named(variable, place))
+        return 0;
+    errno = EIO;
+    return 1;
+}
+
 ssize_t read(int file, void *bytes, size_t size)
 {
     if (file != STDIN_FILENO)
         return __read(file, bytes, size);
     reads++;
-    if (is_named("FAIL_READ", reads)) {
-        errno = EIO;
+    if (is_to_fail("FAIL_READ", reads))
         return -1;
-    }
     return __read(file, bytes, size < 2 ? size : 2);
 }
 
@@ -39,10 +46,8 @@ ssize_t write(int file, const void *bytes, size_t size)
     if (file != STDOUT_FILENO)
         return __write(file, bytes, size);
     writes++;
-    if (is_named("FAIL_WRITE", writes)) {
-        errno = EIO;
+    if (is_to_fail("FAIL_WRITE", writes))
         return -1;
-    }
     if (is_named("TAKE_NOTHING", writes))
         return 0;
     return __write(file, bytes, size < 7 ? size : 7);
