@@ -79,7 +79,7 @@ fn plan(mut words: impl Iterator<Item = String>) -> Option<Plan> {
     while let Some(word) = words.next() {
         match word.as_str() {
             "-k" => plan.options.max_colors = words.next()?.parse().ok()?,
-            "-t" => plan.time = Duration::from_secs(words.next()?.parse().ok()?),
+            "-t" => plan.time = Duration::try_from_secs_f64(words.next()?.parse().ok()?).ok()?,
             _ => plan.files.push(word),
         }
     }
