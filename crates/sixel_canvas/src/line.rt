@@ -115,8 +115,8 @@ impl Line {
         let held = self.len();
         let moved = if to > self.room { held } else { 0 };
         let room = make_room(&mut self.pixels, to, self.room, lent)?;
-        self.pixels.resize(from, self.background)?;
-        self.pixels.resize(to, color)?;
+        fill_up(&mut self.pixels, from, self.background)?;
+        fill_up(&mut self.pixels, to, color)?;
         self.room = room;
         self.writes += (to - held + moved) as u64;
         Ok(())
@@ -200,7 +200,8 @@ impl Line {
         self.room
     }
 
-    /// How many pixels were copied or filled so far, to grow the row. Painting doesn't count.
+    /// How many pixels were copied or filled so far, to grow the row. Painting doesn't count, nor does
+    /// what was taken off again.
     pub fn writes(&self) -> u64
         ensures value { result ≡ self.now.writes }
         ensures roomy { IsRoomy self.now }
@@ -259,6 +260,24 @@ fn make_room(
     let room = columns.max(lent.max(MAX_SIDE.min(2 * room)));
     pixels.reserve_exact(room - pixels.len())?;
     Ok(room)
+}
+
+// Appends pixels of one color up to a column that there is memory for. Where there is memory for them,
+// eights are written and what is too many is taken off, so that no branch asks where a stroke ends.
+#[inline(always)]
+fn fill_up(pixels: &mut Vec<[u8; 4]>, columns: usize, color: [u8; 4]) -> AllocResult<()>
+    requires side { columns ≤ 1000000 }
+    requires beyond { length pixels.old.items ≤ columns }
+    requires memory { columns ≤ vec_capacity pixels.old }
+    ensures filled { pixels.new.items
+        ≡ pixels.old.items ++ replicate (columns - length pixels.old.items) color }
+    ensures capacity { vec_capacity pixels.old ≤ vec_capacity pixels.new }
+    ensures ok { IsOk result }
+{
+    let eights = pixels.len() + (columns - pixels.len()).div_ceil(8) * 8;
+    pixels.resize(eights.min(pixels.capacity()), color)?;
+    pixels.truncate(columns);
+    Ok(())
 }
 
 // Appends `count` pixels of one color.

@@ -1,5 +1,6 @@
-use Rattle.std.proofs.Common.{◌≡◌, ◌+◌, ◌-◌, ◌≤◌, ◌++◌, length, take, replicate, sym, ap, ◌∙◌, take_all, arith}
+use Rattle.std.proofs.Common.{◌≡◌, ◌+◌, ◌-◌, ◌≤◌, ◌++◌, length, replicate, sym, ap, ◌∙◌, length-append, arith}
 use Rattle.std.proofs.lemmas.Bool.{lt-ltb, le-ltb}
+use Rattle.std.proofs.lemmas.List.{length-replicate}
 use Rattle.sixel_canvas.specs.Row.{RowState, row_state, writes_for}
 use Rattle.sixel_canvas.proofs.Strokes.{struck_row, row_state-struck, IsRoomy-struck_row}
 use Rattle.sixel_canvas.proofs.line.Line.grow.Goals as goal
@@ -19,22 +20,21 @@ returns-clause-ok c =
       | then-to-self w ↦ rw (lt-ltb row.room to w.if-to-self.true) (omega (arith, held, w.moved-is))
       | else-to-self w ↦ rw (le-ltb row.room to w.if-to-self.false) (omega (arith, held, w.moved-is))
     ] in
-    let filled : c.resize.new.self.items ≡ pixels ++ replicate (from - length pixels) row.background =
-    c.in_ok-resize.ensures.items
-    ∙ ap (λ n. take from c.make_room.new.pixels.items ++ replicate n row.background) (omega (arith, ap length c.make_room.ensures.items))
-    ∙ ap (λ xs. take from xs ++ replicate (from - length pixels) row.background) c.make_room.ensures.items
-    ∙ ap (λ xs. xs ++ replicate (from - length pixels) row.background) (take_all from pixels beyond) in
-    let up_to = c.in_ok-resize.ensures.len in
-    let struck : c.resize-2.new.self.items ≡ pixels ++ replicate (from - length pixels) row.background ++ replicate (to - from) c.args.color =
-    c.in_ok-resize-2.ensures.items
-    ∙ ap (λ n. take to c.resize.new.self.items ++ replicate (to - n) c.args.color) up_to
-    ∙ ap (λ xs. xs ++ replicate (to - from) c.args.color) (take_all to c.resize.new.self.items (omega (arith, up_to, c.requires.ordered)) ∙ filled) in
-    row_state-struck c.args.lent from to c.args.color row.background pixels c.resize-2.new.self.items row.room c.in_ok-room.room row.writes _ beyond c.requires.ordered struck c.in_ok-room.ensures.room counted
+    let filled : c.fill_up.new.pixels.items ≡ pixels ++ replicate (from - length pixels) row.background =
+    c.in_ok-fill_up.ensures.filled
+    ∙ ap (λ xs. xs ++ replicate (from - length xs) row.background) c.make_room.ensures.items in
+    let up_to : length c.fill_up.new.pixels.items ≡ from =
+    omega (arith, ap length filled, length-append pixels (replicate (from - length pixels) row.background), length-replicate (from - length pixels) row.background, beyond) in
+    let struck : c.fill_up-2.new.pixels.items ≡ pixels ++ replicate (from - length pixels) row.background ++ replicate (to - from) c.args.color =
+    c.in_ok-fill_up-2.ensures.filled
+    ∙ ap (λ n. c.fill_up.new.pixels.items ++ replicate (to - n) c.args.color) up_to
+    ∙ ap (λ xs. xs ++ replicate (to - from) c.args.color) filled in
+    row_state-struck c.args.lent from to c.args.color row.background pixels c.fill_up-2.new.pixels.items row.room c.in_ok-room.room row.writes _ beyond c.requires.ordered struck c.in_ok-room.ensures.room counted
     ∙ ap (struck_row c.args.lent from to c.args.color) c.self.view_is
 
 pub invariant_of-self-2 : goal.invariant_of-self-2
 invariant_of-self-2 c = (
-  omega (arith, c.in_ok-room.ensures.enough, c.in_ok-resize.ensures.capacity, c.in_ok-resize-2.ensures.capacity),
+  omega (arith, c.in_ok-room.ensures.enough, c.in_ok-fill_up.ensures.capacity, c.in_ok-fill_up-2.ensures.capacity),
   rw (returns-clause-ok c) (IsRoomy-struck_row c.args.lent c.args.from c.args.to c.args.color c.args.self.now c.requires.side c.requires.ordered c.requires.within c.len-held.ensures.roomy),
 )
 
