@@ -1,0 +1,178 @@
+//! Whole images, pixel by pixel, against a plain computation of each pixel.
+
+ghost use Rattle.std.specs.Prelude.{◌<◌};
+
+use icy_sixel::decoder::DcsSettings;
+use sixel_vectors_base::answers::{
+    BLACK, BLUE, CLEAR, RED, Run, decoded, draws, draws_with, fed, shows, transparent,
+};
+use std::alloc::{AllocError, Global};
+use std::process::Abort;
+
+/// The sixels of two layers of a band, as their six bits.
+#[derive(Clone, Copy)]
+struct Layers {
+    red: usize,
+    blue: usize,
+}
+
+/// The layers in a column of a band of the large image.
+fn layers_at(column: usize, band: usize) -> Layers
+    requires column { column < 200 }
+    requires band { band < 30 }
+{
+    Layers {
+        red: (column * 7 + band * 13) % 64,
+        blue: (column * 11 + band * 5 + 3) % 64,
+    }
+}
+
+/// Whether a sixel lights a row of its band.
+fn is_lit(bits: usize, row: usize) -> bool
+    requires { row < 6 }
+{
+    bits >> row & 1 == 1
+}
+
+/// A sixel of these bits.
+fn sixel(bits: usize) -> u8 {
+    ((bits % 64) as u8) + b'?'
+}
+
+/// The payload of 30 bands of 200 columns, a red layer below a blue one.
+fn large_payload(alloc: Global) -> Result<Vec<u8>, AllocError> {
+    let mut payload = Vec::new(alloc);
+    payload.extend_from_slice(b"#1;2;100;0;0#2;2;0;0;100")?;
+    for band in 0..30 {
+        payload.extend_from_slice(b"#1")?;
+        for column in 0..200 {
+            payload.push(sixel(layers_at(column, band).red))?;
+        }
+        payload.extend_from_slice(b"$#2")?;
+        for column in 0..200 {
+            payload.push(sixel(layers_at(column, band).blue))?;
+        }
+        payload.push(b'-')?;
+    }
+    Ok(payload)
+}
+
+/// The pixels of that payload on a black background.
+fn large_pixels(alloc: Global) -> Result<Vec<u8>, AllocError> {
+    let mut pixels = Vec::new(alloc);
+    for band in 0..30 {
+        for row in 0..6 {
+            for column in 0..200 {
+                let layers = layers_at(column, band);
+                let color = if is_lit(layers.blue, row) {
+                    BLUE
+                } else if is_lit(layers.red, row) {
+                    RED
+                } else {
+                    BLACK
+                };
+                pixels.extend_from_slice(&color)?;
+            }
+        }
+    }
+    Ok(pixels)
+}
+
+/// Asserts the size and the pixels of a payload in pieces of this length.
+fn assert_draws_in_pieces(
+    rt: &(impl Abort + AllocGlobal),
+    settings: DcsSettings,
+    payload: &[u8],
+    length: usize,
+    size: (usize, usize),
+    pixels: &[u8],
+)
+    requires { 0 < length }
+{
+    let image = fed(rt.alloc(), payload, settings, length).expect(rt, "an image");
+    assert!(rt; shows(&image, size, pixels), "pieces of {length}");
+}
+
+#[test]
+fn thirty_bands_of_two_layers(rt: HostRuntime) {
+    let settings = DcsSettings::default();
+    let payload = large_payload(rt.alloc()).expect(&rt, "a payload");
+    let expected = large_pixels(rt.alloc()).expect(&rt, "pixels");
+    let image = decoded(rt.alloc(), &payload, settings).expect(&rt, "an image");
+    assert!(rt; shows(&image, (200, 180), &expected));
+    for length in [1, 7, 100, 4096] {
+        assert_draws_in_pieces(&rt, settings, &payload, length, (200, 180), &expected);
+    }
+}
+
+/// A repeat of three and then each of the 64 sixels, in red.
+fn masks_payload(alloc: Global) -> Result<Vec<u8>, AllocError> {
+    let mut payload = Vec::new(alloc);
+    payload.extend_from_slice(b"#1;2;100;0;0!3")?;
+    for bits in 0..64 {
+        payload.push(sixel(bits))?;
+    }
+    Ok(payload)
+}
+
+/// The pixels of that payload on a transparent background.
+fn masks_pixels(alloc: Global) -> Result<Vec<u8>, AllocError> {
+    let mut pixels = Vec::new(alloc);
+    for row in 0..6 {
+        for column in 0..66_usize {
+            let bits = column.saturating_sub(2);
+            let color = if is_lit(bits, row) { RED } else { CLEAR };
+            pixels.extend_from_slice(&color)?;
+        }
+    }
+    Ok(pixels)
+}
+
+#[test]
+fn all_masks(rt: HostRuntime) {
+    let payload = masks_payload(rt.alloc()).expect(&rt, "a payload");
+    let expected = masks_pixels(rt.alloc()).expect(&rt, "pixels");
+    let image = decoded(rt.alloc(), &payload, transparent()).expect(&rt, "an image");
+    assert!(rt; shows(&image, (66, 6), &expected));
+    for length in 1..80 {
+        assert_draws_in_pieces(&rt, transparent(), &payload, length, (66, 6), &expected);
+    }
+}
+
+#[test]
+fn a_wider_line_below(rt: HostRuntime) {
+    let row: [Run; 2] = [(3, RED), (297, BLACK)];
+    let [red, black] = row;
+    let runs = [
+        red,
+        black,
+        red,
+        black,
+        red,
+        black,
+        red,
+        black,
+        red,
+        black,
+        red,
+        black,
+        (1800, BLUE),
+    ];
+    let text = "#1;2;100;0;0#1!3~-#2;2;0;0;100#2!300~";
+    assert!(rt; draws(rt.alloc(), text, (300, 12), &runs));
+}
+
+#[test]
+fn the_background_is_that_of_the_beginning(rt: HostRuntime) {
+    let plain = "#0;2;100;0;0@?#0;2;0;100;0?-??#0;2;0;0;100@";
+    let sized = "\"1;1;3;12#0;2;100;0;0@?#0;2;0;100;0?-??#0;2;0;0;100@";
+    let opaque = [(1, RED), (19, BLACK), (1, BLUE), (15, BLACK)];
+    let clear = [(1, RED), (19, CLEAR), (1, BLUE), (15, CLEAR)];
+    for payload in [plain, sized] {
+        assert!(rt; draws(rt.alloc(), payload, (3, 12), &opaque), "{payload}");
+        assert!(rt;
+            draws_with(rt.alloc(), transparent(), payload, (3, 12), &clear),
+            "{payload}"
+        );
+    }
+}
