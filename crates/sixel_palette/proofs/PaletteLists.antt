@@ -1,5 +1,5 @@
 -- Lists of numbers: one more at the end, one set, a part, and numbers that rise.
-use Rattle.std.proofs.Common.{◌≡◌, ◌≢◌, ℕ, ◌+◌, ◌-◌, ◌<◌, ◌≤◌, List, [], ◌∷◌, ◌++◌, length, get_or, take, drop, set, replicate, ap, ◌∙◌, ⊎_elim, arith}
+use Rattle.std.proofs.Common.{◌≡◌, ◌≢◌, ℕ, zero, suc, ◌+◌, ◌-◌, ◌<◌, ◌≤◌, List, [], ◌∷◌, ◌++◌, length, get_or, take, drop, set, replicate, ap, ◌∙◌, ⊎_elim, arith}
 use Rattle.std.specs.List.Sorted.{IsStrictlyIncreasing}
 use Rattle.std.proofs.lemmas.Bool.{cases_lt}
 use Rattle.std.proofs.lemmas.List.{get_or_append_left, get_or_push, get_or-take, get_or-drop, get_or-replicate, get_or-set_same, get_or-set_other, length-take, length-drop}
@@ -14,6 +14,14 @@ push_cases P xs x n k e l before here =
 pub set_cases : (P : ℕ → ℕ → Type 0) (xs : List ℕ) (x n k : ℕ) → n < length xs → k < n + 1 → (k < n → P k (get_or xs k 0)) → P n x → P k (get_or (set xs n x) k 0)
 set_cases P xs x n k e l before here =
     ⊎_elim (λ (h : k < n). let apart : k ≢ n = omega arith in rw (get_or-set_other xs n k x 0 apart) (before h)) (λ (h : n ≤ k). let at : k ≡ n = omega arith in rw (at, get_or-set_same xs n x 0 e) here) (cases_lt k n)
+
+-- a fact of each of four places
+pub four_cases : (P : ℕ → Type 0) → P 0 → P 1 → P 2 → P 3 → (k : ℕ) → k < 4 → P k
+four_cases P a b c d zero l = a
+four_cases P a b c d (suc zero) l = b
+four_cases P a b c d (suc (suc zero)) l = c
+four_cases P a b c d (suc (suc (suc zero))) l = d
+four_cases P a b c d (suc (suc (suc (suc k)))) l = absurd (omega arith)
 
 -- rising numbers do not fall from an earlier place to a later one
 pub increasing-le : (xs : List ℕ) → IsStrictlyIncreasing xs → (i j : ℕ) → i ≤ j → j < length xs → get_or xs i 0 ≤ get_or xs j 0

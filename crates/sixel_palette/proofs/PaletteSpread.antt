@@ -54,10 +54,12 @@ nearest_from_near entries c near l h = record {
 code_from_listed : (codes : List ℕ) (c : List ℕ) (m : IsListed codes c) → get_or codes m.0 0 ≡ rank c
 code_from_listed codes c m = sym (rank-color_of (get_or codes m.0 0)) ∙ ap rank m.2
 
--- so the code of a listed color is among them
-pub Contains-listed : (codes : List ℕ) (c : List ℕ) (code : ℕ) → code ≡ rank c → IsListed codes c → Contains codes code
-Contains-listed codes c code same m =
-    (m.0, m.1, get_or_default codes m.0 code 0 m.1 ∙ code_from_listed codes c m ∙ sym same)
+-- so the code of an opaque pixel's word is among those of all shown colors
+pub Contains-word : (pixels codes : List ℕ) (pixel word : ℕ) → word / 256 ≡ rank (color_at pixels pixel) → pixel < length pixels / 4 → IsOpaque pixels pixel → ((c : List ℕ) → IsShown pixels c → IsListed codes c) → Contains codes (word / 256)
+Contains-word pixels codes pixel word code l opaque listed =
+    let color = color_at pixels pixel in
+    let m = listed color (pixel, l, opaque, refl) in
+    (m.0, m.1, get_or_default codes m.0 (word / 256) 0 m.1 ∙ code_from_listed codes color m ∙ sym code)
 
 -- the color of a pixel is that of its word
 color_of_word : (pixels : List ℕ) (pixel word : ℕ) → ((k : ℕ) → get_or pixels k 0 < 256) → word / 256 ≡ rank (color_at pixels pixel) → color_of (word / 256) ≡ color_at pixels pixel

@@ -1,4 +1,5 @@
-use Rattle.std.proofs.Common.{◌≡◌, ℕ, ◌+◌, ◌*◌, ◌<◌, get_or, arith}
+use Rattle.std.proofs.Common.{◌≡◌, ℕ, ◌+◌, ◌*◌, ◌<◌, ◌≤◌, get_or, arith}
+use Rattle.std.proofs.lemmas.List.{get_or-replicate}
 use Rattle.sixel_palette.proofs.PaletteSpread.{index_from_word}
 use Rattle.sixel_palette.proofs.palette.indices.fill_indices.Goals as goal
 use Rattle.sixel_palette.proofs.palette.indices.fill_indices.Goals.{then-are_four_of, else-are_four_of}
@@ -15,8 +16,11 @@ loop-four-preserved c =
           let same = c.are_four_of.ensures in
           let alike = w.if-are_four_of.true in
           rw (w.indices-is, w.last-is, w.index-is, end) (record {
-            size = w.fill_four_as.ensures.size;
-            each = λ entries tells. w.fill_four_as.ensures.indices entries (λ k l m. index_from_word pixels entries k c.loop-four.last c.loop-four.index bytes (same.code alike k l m) (same.alpha alike k l m) (h.last entries tells)) (h.each entries tells);
+            size = w.fill_four_with.ensures.size;
+            each = λ entries tells. w.fill_four_with.ensures.indices entries (λ k l.
+                let from : pixel ≤ pixel + k = omega arith in
+                let to : pixel + k < pixel + 4 = omega arith in
+                rw (get_or-replicate 4 k c.loop-four.index 0 l) (index_from_word pixels entries (pixel + k) c.loop-four.last c.loop-four.index bytes (same.code alike (pixel + k) from to) (same.alpha alike (pixel + k) from to) (h.last entries tells))) (h.each entries tells);
             last = h.last;
           }))
       | else-are_four_of w ↦
