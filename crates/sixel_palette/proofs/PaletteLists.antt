@@ -1,8 +1,9 @@
 -- Lists of numbers: one more at the end, one set, a part, and numbers that rise.
 use Rattle.std.proofs.Common.{◌≡◌, ◌≢◌, ℕ, zero, suc, ◌+◌, ◌-◌, ◌<◌, ◌≤◌, List, [], ◌∷◌, ◌++◌, length, get_or, take, drop, set, replicate, ap, ◌∙◌, ⊎_elim, arith}
+use Rattle.std.specs.List.{All}
 use Rattle.std.specs.List.Sorted.{IsStrictlyIncreasing}
 use Rattle.std.proofs.lemmas.Bool.{cases_lt}
-use Rattle.std.proofs.lemmas.List.{get_or_append_left, get_or_push, get_or-take, get_or-drop, get_or-replicate, get_or-set_same, get_or-set_other, length-take, length-drop}
+use Rattle.std.proofs.lemmas.List.{get_or_append_left, get_or_push, get_or-take, get_or-drop, get_or-replicate, get_or-set_same, get_or-set_other, length_push, length-take, length-drop}
 use Rattle.std.proofs.lemmas.List.Kept.{AllPairs-from_increasing}
 
 -- a fact of the numbers so far and of one more
@@ -27,6 +28,24 @@ four_cases P a b c d (suc (suc (suc (suc k)))) l = absurd (omega arith)
 pub increasing-le : (xs : List ℕ) → IsStrictlyIncreasing xs → (i j : ℕ) → i ≤ j → j < length xs → get_or xs i 0 ≤ get_or xs j 0
 increasing-le xs up i j l m =
     ⊎_elim (λ (h : i < j). omega (arith, AllPairs-from_increasing xs up i j 0 h m)) (λ (h : j ≤ i). let e : i ≡ j = omega arith in rw e (omega arith)) (cases_lt i j)
+
+-- rising numbers and a greater one rise
+pub increasing-push : (xs : List ℕ) (x : ℕ) → IsStrictlyIncreasing xs → All (λ y. y < x) xs → IsStrictlyIncreasing (xs ++ x ∷ [])
+increasing-push xs x up below = λ k l.
+    let long = length_push xs x in
+    ⊎_elim (λ (m : k + 1 < length xs). rw (get_or_append_left xs (x ∷ []) 0 k (omega arith), get_or_append_left xs (x ∷ []) 0 (k + 1) m) (up k m)) (λ (m : length xs ≤ k + 1). rw (get_or_append_left xs (x ∷ []) 0 k (omega (arith, long)), get_or_push xs x 0 (k + 1) (omega (arith, long))) (below k 0 (omega (arith, long)))) (cases_lt (k + 1) (length xs))
+
+-- a rising number is at least its place
+increasing-from : (xs : List ℕ) → IsStrictlyIncreasing xs → (k : ℕ) → k < length xs → k ≤ get_or xs k 0
+increasing-from xs up zero l = omega arith
+increasing-from xs up (suc k) l =
+    let next : k + 1 ≡ suc k = omega arith in
+    omega (arith, increasing-from xs up k (omega arith), rw next at (up k (omega arith)))
+
+-- rising numbers below a limit are at most as many
+pub increasing-few : (xs : List ℕ) (n : ℕ) → IsStrictlyIncreasing xs → All (λ x. x < n) xs → length xs ≤ n
+increasing-few xs n up below =
+    ⊎_elim (λ (some : 0 < length xs). omega (arith, increasing-from xs up (length xs - 1) (omega arith), below (length xs - 1) 0 (omega arith))) (λ (none : length xs ≤ 0). omega arith) (cases_lt 0 (length xs))
 
 -- a number of a part stands that far on in the whole
 get_or_part : (xs : List ℕ) (a n k : ℕ) → k < n → get_or (take n (drop a xs)) k 0 ≡ get_or xs (a + k) 0

@@ -1,9 +1,9 @@
 //! The place of a code among the distinct ones: the codes as bits, and how many stand before each word of them.
 
-ghost use Rattle.std.specs.Prelude.{◌≡◌, ◌+◌, ◌*◌, ◌<◌, [], ◌∷◌, ◌++◌, length, All, Contains};
+ghost use Rattle.std.specs.Prelude.{◌≡◌, ◌+◌, ◌*◌, ◌<◌, ◌≤◌, ℕ, List, [], ◌∷◌, ◌++◌, length, All, Contains};
 ghost use Rattle.std.specs.Prelude.{IfOk, OnOk, slice_index};
 ghost use Rattle.std.specs.List.Sorted.{IsStrictlyIncreasing};
-ghost use Rattle.sixel_palette.specs.inside.PaletteStarts.{rank_at, IsStart, IsWord, IsSpan, AreEven};
+ghost use Rattle.sixel_palette.specs.inside.PaletteStarts.{rank_at, IsStart, AreWordsOf, IsWord, IsSpan, AreEven};
 ghost use Rattle.sixel_palette.specs.inside.PaletteStarts.{AreKeptWords, AreStarts};
 
 use std::alloc::{AllocError, Global};
@@ -14,14 +14,14 @@ const SPAN: u32 = 4096;
 /// How many spans there are.
 const SPANS: u32 = 4096;
 
-/// How many words all spans have.
-const WORDS: usize = 262_144;
+/// A number that is that of no word.
+const NO_WORD: u32 = u32::MAX;
 
 /// Words of bits, and for each how many bits are set in those before it.
 #[derive(Drop)]
 pub struct Ranks {
     pub bits: Vec<u64>,
-    pub bases: Vec<usize>,
+    pub bases: Vec<u32>,
 }
 
 /// Codes as bits: for each span which of its words have a code, and for each such word which codes
@@ -53,7 +53,7 @@ impl Ranks {
 
     /// Appends a word.
     #[inline(always)]
-    fn push(&mut self, bits: u64, base: usize) -> Result<(), AllocError>
+    fn push(&mut self, bits: u64, base: u32) -> Result<(), AllocError>
         ensures bits { OnOk result (self.new.bits.items ≡ self.old.bits.items ++ bits ∷ []) }
         ensures bases { OnOk result (self.new.bases.items ≡ self.old.bases.items ++ base ∷ []) }
     {
@@ -72,8 +72,23 @@ impl Ranks {
         ensures { result ≡ rank_at self.now word bit }
     {
         let lower = self.bits[word] % (1 << bit);
-        self.bases[word] + lower.count_ones() as usize
+        self.bases[word] as usize + lower.count_ones() as usize
     }
+}
+
+/// How many words the codes lie in.
+fn count_words(codes: &[u32]) -> usize
+    requires { IsStrictlyIncreasing codes.now }
+    ensures { (words : List ℕ) × AreWordsOf codes.now words × (length words ≡ result) }
+{
+    let mut count = 0;
+    let mut last = NO_WORD;
+    for code in codes {
+        let word = code / 64;
+        count += usize::from(word != last);
+        last = word;
+    }
+    count
 }
 
 /// The word of the code at a place, with the codes after it that share the word.
@@ -97,7 +112,9 @@ fn word_from(codes: &[u32], from: usize) -> Part
 fn push_span(words: &mut Ranks, codes: &[u32], from: usize, span: u32) -> Result<Part, AllocError>
     requires ascending { IsStrictlyIncreasing codes.now }
     requires start { IsStart codes.now (4096 * span) from }
+    requires few { length codes.now ≤ 16777216 }
     requires even { AreEven words.old }
+    ensures few { OnOk result (length words.new.bits.items ≤ length words.old.bits.items + 64) }
     ensures even { OnOk result (AreEven words.new) }
     ensures kept { OnOk result (AreKeptWords words.old words.new) }
     ensures span { IfOk result (λ part.
@@ -108,7 +125,7 @@ fn push_span(words: &mut Ranks, codes: &[u32], from: usize, span: u32) -> Result
     let mut place = from;
     'words: while place < codes.len() && codes[place] / SPAN == span {
         let part = word_from(codes, place);
-        words.push(part.bits, place)?;
+        words.push(part.bits, place as u32)?;
         bits += 1 << (codes[place] / 64 % 64);
         place = part.end;
     }
@@ -122,10 +139,10 @@ pub fn starts_of(alloc: Global, codes: &[u32]) -> Result<Starts, AllocError>
     ensures { IfOk result (λ starts. AreStarts codes.now starts) }
 {
     let mut spans = Ranks::with_capacity(alloc, SPANS as usize)?;
-    let mut words = Ranks::with_capacity(alloc, codes.len().min(WORDS))?;
+    let mut words = Ranks::with_capacity(alloc, count_words(codes))?;
     let mut place = 0;
     for span in 0..SPANS {
-        let base = words.bits.len();
+        let base = words.bits.len() as u32;
         let part = push_span(&mut words, codes, place, span)?;
         spans.push(part.bits, base)?;
         place = part.end;
