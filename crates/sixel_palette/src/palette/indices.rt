@@ -225,13 +225,14 @@ pub fn indices_of(
         → ((c : List ℕ) → IsShown pixels.now c → nearest entries c < 195076)
         → AreIndices pixels.now entries indices.items) }
 {
+    // They outlive what they are looked up in, so they come first and leave its room whole.
+    let mut indices = vec![in alloc; 0; pixels.len() / 4]?;
     let starts = starts_of(alloc, codes)?;
     let look_up = LookUp {
         codes,
         starts: &starts,
         places,
     };
-    let mut indices = vec![in alloc; 0; pixels.len() / 4]?;
     fill_indices(&mut indices, pixels, &look_up);
     Ok(indices)
 }
