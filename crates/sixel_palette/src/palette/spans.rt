@@ -2,6 +2,7 @@
 
 ghost use Rattle.std.specs.Prelude.{◌≡◌, ◌+◌, ◌*◌, ◌<◌, ◌≤◌, ℕ, List, [], ◌∷◌, ◌++◌, length, All, Contains};
 ghost use Rattle.std.specs.Prelude.{IfOk, OnOk, slice_index};
+ghost use Rattle.std.specs.Int.{bit_at};
 ghost use Rattle.std.specs.List.Sorted.{IsStrictlyIncreasing};
 ghost use Rattle.sixel_palette.specs.inside.PaletteStarts.{rank_at, IsStart, AreWordsOf, IsWord, IsSpan, AreEven};
 ghost use Rattle.sixel_palette.specs.inside.PaletteStarts.{AreKeptWords, AreStarts};
@@ -62,17 +63,18 @@ impl Ranks {
         Ok(())
     }
 
-    /// How many bits are set before this one of a word, in the word and in those before it.
+    /// How many bits are set before this one of a word, in the word and in those before it. It is
+    /// set itself, and so is the last of those that are counted.
     #[inline(always)]
     fn rank(&self, word: usize, bit: u32) -> usize
         requires even { AreEven self.now }
         requires word { word < length self.now.bits.items }
         requires bit { bit < 64 }
-        requires fits { rank_at self.now word bit < 18446744073709551616 }
+        requires set { bit_at (slice_index self.now.bits.items word) bit ≡ 1 }
         ensures { result ≡ rank_at self.now word bit }
     {
-        let lower = self.bits[word] % (1 << bit);
-        self.bases[word] as usize + lower.count_ones() as usize
+        let up_to = self.bits[word] << (63 - bit);
+        self.bases[word] as usize + up_to.count_ones() as usize - 1
     }
 }
 

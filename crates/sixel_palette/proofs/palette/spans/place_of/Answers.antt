@@ -18,7 +18,7 @@ rank-word-requires c =
       even = c.requires.starts.even_spans;
       word = omega (arith, c.requires.starts.spans);
       bit = omega arith;
-      fits = omega (arith, own.3.held);
+      set = own.3.word_set;
     }
 
 pub rank-requires : goal.rank-requires
@@ -28,7 +28,7 @@ rank-requires c =
       even = c.requires.starts.even_words;
       word = rw c.rank-word.ensures own.3.held;
       bit = omega arith;
-      fits = rw c.rank-word.ensures (omega (arith, own.3.told, own.1));
+      set = rw c.rank-word.ensures own.3.set;
     }
 
 pub returns : goal.returns
