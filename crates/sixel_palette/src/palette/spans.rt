@@ -78,19 +78,21 @@ impl Ranks {
     }
 }
 
-/// How many words the codes lie in.
+/// How many words the codes lie in. The count has the width of a code, so that the compiler compares
+/// four of them at once.
 fn count_words(codes: &[u32]) -> usize
-    requires { IsStrictlyIncreasing codes.now }
+    requires ascending { IsStrictlyIncreasing codes.now }
+    requires few { length codes.now ≤ 16777216 }
     ensures { (words : List ℕ) × AreWordsOf codes.now words × (length words ≡ result) }
 {
-    let mut count = 0;
+    let mut count = 0_u32;
     let mut last = NO_WORD;
     for code in codes {
         let word = code / 64;
-        count += usize::from(word != last);
+        count += u32::from(word != last);
         last = word;
     }
-    count
+    count as usize
 }
 
 /// The word of the code at a place, with the codes after it that share the word.

@@ -3,6 +3,9 @@ use Rattle.sixel_palette.proofs.PaletteLists.{increasing-few}
 use Rattle.sixel_palette.proofs.PaletteStarts.{starts_more}
 use Rattle.sixel_palette.proofs.palette.spans.starts_of.Goals as goal
 
+pub count_words-requires-clause-few : goal.count_words-requires-clause-few
+count_words-requires-clause-few c = increasing-few c.args.codes.now 16777216 c.requires.ascending c.requires.small
+
 pub push_span-requires-clause-few : goal.push_span-requires-clause-few
 push_span-requires-clause-few c = increasing-few c.args.codes.now 16777216 c.requires.ascending c.requires.small
 
