@@ -5,6 +5,7 @@ pub mod Opening
 pub mod Feeding
 pub mod Appending
 pub mod Heading
+pub mod Drawing
 pub mod Finding
 pub mod EmptyStruct
 pub mod Entering
