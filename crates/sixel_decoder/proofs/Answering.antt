@@ -1,7 +1,7 @@
 -- What a feed answers beside its count and its status: a session that was accepted had no fault, a feed takes no more bytes than there are,
 -- and once the end has come it takes none.
 use Rattle.std.proofs.Common.{◌≡◌, ℕ, ◌+◌, ◌≤◌, Bool, true, false, List, [], ◌∷◌, ◌++◌, refl, ap, sym, ◌∙◌, arith, Option, Some, None, Result, Ok, Err, length, length-append, subst}
-use Rattle.std.specs.Prelude.{◌==◌, nat_lt, is_none, is_some, IfOk, IfErr, OnOk}
+use Rattle.std.specs.Prelude.{◌==◌, nat_lt, is_none, is_some, IfOk, IfErr, MatchBool, OnOk}
 use Rattle.std.proofs.lemmas.List.{length-drop}
 use Rattle.std.proofs.lemmas.Bool.{false≢true}
 use Rattle.std.proofs.lemmas.Bool.Decides.{nat_tests}
@@ -48,6 +48,11 @@ never_refused OutOfMemory may not is = false≢true (sym not ∙ is)
 
 no_growth : (a b : ℕ) → b ≡ a → nat_lt a b ≡ false
 no_growth a b same = grind (arith, nat_tests)
+
+-- what holds at either answer of a test
+pub MatchBool-from_each : (test : Bool) (P Q : Type 0) → (test ≡ true → P) → (test ≡ false → Q) → MatchBool test P Q
+MatchBool-from_each true P Q held failed = held refl
+MatchBool-from_each false P Q held failed = failed refl
 
 -- ---- a payload
 

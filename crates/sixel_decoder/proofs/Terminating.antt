@@ -64,6 +64,11 @@ pub waiting_by : (o : Option ℕ) → fed.NeedMoreData ≡ status_of o → o ≡
 waiting_by None is = refl
 waiting_by (Some s) is = absurd cc
 
+-- payloads of one status have one terminator
+pub terminator_same : (a b : Option ℕ) → status_of a ≡ status_of b → a ≡ b
+terminator_same a None same = waiting_by a (sym same)
+terminator_same a (Some t) same = terminated_by a t (sym same)
+
 -- ---- how it goes on
 
 -- no terminator came
