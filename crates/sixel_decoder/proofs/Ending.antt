@@ -1,6 +1,7 @@
 -- How a payload's end goes on as more bytes come.
 use Rattle.std.proofs.Common.{◌≡◌, ℕ, ◌+◌, ◌<◌, ◌≤◌, suc, Bool, true, false, cond, List, [], ◌∷◌, ◌++◌, refl, ap, sym, ◌∙◌, subst, arith, Some, None, length, drop, drop-cons, take, get_or, add-one, append_assoc}
 use Rattle.std.specs.Prelude.{◌==◌, ◌||◌}
+use Rattle.std.proofs.Math.Seq.{take-suc}
 use Rattle.std.proofs.lemmas.List.{take-append-drop}
 use Rattle.sixel_base.specs.declared.error.SixelError.{SixelError}
 use Rattle.sixel_decoder.specs.inside.Following.{IsStageFault}
@@ -151,3 +152,10 @@ pieces_join before piece index within =
     append_assoc (before ++ take index piece) byte (drop (index + 1) piece)
     ∙ (ap (λ w. (before ++ take index piece) ++ w) (sym splits)
     ∙ (append_assoc before (take index piece) (drop index piece) ∙ ap (λ w. before ++ w) (take-append-drop index piece)))
+
+-- the bytes before a piece, a beginning of the piece and the next byte
+pub pieces_step : (before piece : List ℕ) (index : ℕ) → index < length piece
+    → (before ++ take index piece) ++ (get_or piece index 0 ∷ []) ≡ before ++ take (index + 1) piece
+pieces_step before piece index within =
+    append_assoc before (take index piece) (get_or piece index 0 ∷ [])
+    ∙ ap (λ (w : List ℕ). before ++ w) (rw (add-one, take-suc piece index 0 within) refl)

@@ -15,7 +15,7 @@ use Rattle.sixel_base.specs.Dcs.{Waiting, Absent, Entered, introduced, escaped, 
 -- ---- a header goes on
 
 -- where the header has not ended, the bytes after it are read on
-header_rest-open : (rest more : List ℕ) → header_rest rest ≡ [] → header_rest (rest ++ more) ≡ header_rest more
+pub header_rest-open : (rest more : List ℕ) → header_rest rest ≡ [] → header_rest (rest ++ more) ≡ header_rest more
 header_rest-open [] more going = refl
 header_rest-open (byte ∷ rest) more going =
     (elim (is_header byte) as (λ t. cond t (header_rest rest) (byte ∷ rest) ≡ [] → cond t (header_rest (rest ++ more)) (byte ∷ (rest ++ more)) ≡ header_rest more) [
@@ -76,13 +76,13 @@ introduced-entered (byte ∷ next ∷ bytes) rest more is =
 
 -- ---- a byte more of the header
 
-header_rest-one : (byte : ℕ) → is_header byte ≡ true → header_rest (byte ∷ []) ≡ []
+pub header_rest-one : (byte : ℕ) → is_header byte ≡ true → header_rest (byte ∷ []) ≡ []
 header_rest-one byte is = ap (λ t. cond t [] (byte ∷ [])) is
 
 header_rest-other : (byte : ℕ) → is_header byte ≡ false → header_rest (byte ∷ []) ≡ byte ∷ []
 header_rest-other byte is = ap (λ t. cond t [] (byte ∷ [])) is
 
-header_text-one : (byte : ℕ) → is_header byte ≡ true → header_text (byte ∷ []) ≡ carrying (byte ∷ [])
+pub header_text-one : (byte : ℕ) → is_header byte ≡ true → header_text (byte ∷ []) ≡ carrying (byte ∷ [])
 header_text-one byte is = ap (λ t. carrying (cond t (byte ∷ []) [])) is
 
 header_text-other : (byte : ℕ) → is_header byte ≡ false → header_text (byte ∷ []) ≡ []

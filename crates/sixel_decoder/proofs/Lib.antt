@@ -6,6 +6,7 @@ pub mod Feeding
 pub mod Appending
 pub mod Heading
 pub mod Drawing
+pub mod Defining
 pub mod Finding
 pub mod EmptyStruct
 pub mod Entering

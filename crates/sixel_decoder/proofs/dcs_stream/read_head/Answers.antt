@@ -1,9 +1,36 @@
-use Rattle.std.proofs.Common.{◌≡◌, ◌++◌, ◌∷◌, [], true, List, ℕ, get_or, take, drop, ◌+◌, subst}
+use Rattle.std.proofs.Common.{◌≡◌, ◌++◌, ◌∷◌, [], true, false, List, ℕ, length, get_or, take, drop, take_all, ◌+◌, refl, sym, ◌∙◌, ap, subst, arith}
+use Rattle.std.proofs.lemmas.List.{append-nil}
 use Rattle.std.proofs.lemmas.Result.{err_from_is_err_and}
 use Rattle.sixel_base.specs.Dcs.{stage}
-use Rattle.sixel_decoder.specs.inside.Following.{is_head, IsStageFault}
-use Rattle.sixel_decoder.proofs.Ending.{refused_stays, pieces_join}
+use Rattle.sixel_decoder.specs.inside.Following.{HasFollowed, is_head, IsStageFault}
+use Rattle.sixel_decoder.proofs.Ending.{refused_stays, pieces_join, pieces_step}
 use Rattle.sixel_decoder.proofs.dcs_stream.read_head.Goals as goal
+
+pub head-init : goal.head-init
+head-init c = λ before ended fine followed.
+    (fine, subst (λ (w : List ℕ). HasFollowed c.args.phase.now c.args.decoder.now ended w) (sym (append-nil before)) followed)
+
+pub head-preserved : goal.head-preserved
+head-preserved c = λ before ended fine followed.
+    let piece = c.args.piece.now in
+    let index = c.head.index in
+    let now = c.head.invariant before ended fine followed in
+    let head : is_head c.head.phase ≡ true = cc (c.is_head.ensures, c.if-not-is_head.false) in
+    let stepped = c.in_ok-step.ensures (before ++ take index piece) ended head now.1 in
+    (stepped.0, subst (λ (w : List ℕ). HasFollowed c.step.new.phase c.args.decoder.now ended w) (pieces_step before piece index c.head-test.true) stepped.1)
+
+pub returns-then-not-is_head-clause-heads : goal.returns-then-not-is_head-clause-heads
+returns-then-not-is_head-clause-heads c = λ before ended fine followed.
+    let now = c.head.invariant before ended fine followed in
+    let payload : is_head c.head.phase ≡ false = cc (c.is_head.ensures, c.if-not-is_head.true) in
+    (omega (arith, c.head-test.true), now.0, now.1, λ head. absurd (cc (head, payload)))
+
+pub returns-clause-heads : goal.returns-clause-heads
+returns-clause-heads c = λ before ended fine followed.
+    let piece = c.args.piece.now in
+    let now = c.head.invariant before ended fine followed in
+    let whole : c.head.index ≡ length piece = omega (arith, c.head-test.false, c.head.auto.index-end) in
+    (omega arith, now.0, subst (λ (n : ℕ). HasFollowed c.head.phase c.args.decoder.now ended (before ++ take n piece)) whole now.1, λ head. refl)
 
 pub returns-in_err-step-clause-heads : goal.returns-in_err-step-clause-heads
 returns-in_err-step-clause-heads c = λ before ended fine followed.
