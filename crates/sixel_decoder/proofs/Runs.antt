@@ -1,6 +1,6 @@
 -- What sixels of one column each that stand inside the picture do to the words of a history: they change pixels and the place alone.
 use Rattle.std.proofs.Common.{◌≡◌, ℕ, zero, suc, ◌+◌, ◌*◌, ◌<◌, ◌≤◌, ◌-◌, ◌%◌, ◌^◌, Bool, true, false, max, List, [], ◌∷◌, ◌++◌, length, get_or, take, drop, length-take, get_or-take, get_or-drop, take-add, take_all, add-one, subst, refl, sym, ap, ◌∙◌, inl, inr, None, arith}
-use Rattle.std.specs.Prelude.{fold, nat_lt, nat_le, ◌&&◌, ◌==◌, if◌then◌else◌}
+use Rattle.std.specs.Prelude.{fold, IsTrue, nat_lt, nat_le, ◌&&◌, ◌==◌, if◌then◌else◌}
 use Rattle.std.proofs.lemmas.List.{get_or_past}
 use Rattle.std.proofs.lemmas.Bool.{cases_lt, le-ltb, lt-leb, le-leb, lt-ltb}
 use Rattle.sixel_base.specs.History.{Sixel, Repeat, Raster, Color, Return, Newline, Skip, History, goes_on, read}
@@ -217,6 +217,20 @@ four_at run at =
     let place : at + 0 ≡ at = omega arith in
     let first : get_or (drop at run) 0 0 ≡ get_or run at 0 = get_or-drop at run 0 0 ∙ ap (λ (k : ℕ). get_or run k 0) place in
     rw (first, get_or-drop at run 1 0, get_or-drop at run 2 0, get_or-drop at run 3 0) refl
+
+-- the bits at a place of bytes that begin with the run, where a test tells whether it is of the run
+pub bits_in_front : (bytes run : List ℕ) (place bits : ℕ) (test : Bool) → run ≡ take (length run) bytes → IsRun run
+    → (place < length run → test ≡ true) → (length run ≤ place → test ≡ false)
+    → (IsTrue test → 63 ≤ get_or bytes place 0 → bits ≡ get_or bytes place 0 - 63) → (test ≡ false → bits ≡ 0)
+    → bits ≡ get_or run place 0 - 63
+bits_in_front bytes run place bits test is are of_run past sixel none =
+    elim (cases_lt place (length run)) [
+      | inl within ↦
+          let same : get_or run place 0 ≡ get_or bytes place 0 =
+          ap (λ (w : List ℕ). get_or w place 0) is ∙ get_or-take (length run) bytes place 0 within in
+          sixel (of_run within) (omega (arith, same, (are place within).0)) ∙ ap (λ (byte : ℕ). byte - 63) (sym same)
+      | inr after ↦ none (past after) ∙ sym (ap (λ (byte : ℕ). byte - 63) (get_or_past run place 0 after))
+    ]
 
 -- what the canvas shows once so many sixels of a run were drawn
 abbrev pub IsDrawnTo : ℕ → CanvasState → CanvasState → ℕ → ℕ → List ℕ → List ℕ → Type 0
