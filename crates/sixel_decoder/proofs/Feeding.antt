@@ -6,14 +6,16 @@ use Rattle.std.proofs.lemmas.List.{drop-drop, drop_all}
 use Rattle.std.proofs.lemmas.List.Sums.{fold-append}
 use Rattle.sixel_base.specs.declared.error.SixelError.{SixelError}
 use Rattle.sixel_base.specs.Fault.{Fault, Faults}
-use Rattle.sixel_base.specs.Bytes.{is_terminator, is_ignored, before_terminator, front, count, first_terminator, is_terminated}
+use Rattle.sixel_base.specs.Bytes.{is_terminator, is_ignored, before_terminator, carrying, front, count, first_terminator, is_terminated}
 use Rattle.sixel_base.specs.History.{Token, Sixel, Repeat, Raster, Color, Return, Newline, Skip, History, begun, longer, goes_on, read, history_of}
 use Rattle.sixel_base.specs.Stroke.{Origin}
 use Rattle.sixel_base.specs.Payload.{first_fault, closed, growths, settled, payload_fault, payload_wants}
 use Rattle.sixel_decoder.specs.declared.frame.Frame.{Frame}
+use Rattle.sixel_decoder.specs.declared.frame.Phase.TheVariants.{Ground}
 use Rattle.sixel_base.specs.Status.{status_of}
-use Rattle.sixel_base.specs.declared.status.SixelFeedStatus.TheVariants.{NeedMoreData}
+use Rattle.sixel_base.specs.declared.status.SixelFeedStatus.TheVariants.{NeedMoreData, Terminated}
 use Rattle.sixel_decoder.specs.inside.Frame.{Stands, StandsAfter, after, settled_after}
+use Rattle.sixel_decoder.specs.inside.Painter.{Shows}
 use Rattle.sixel_decoder.specs.inside.Runs.{IsPrintable}
 use Rattle.sixel_decoder.proofs.Framing.{Faults-along, fault_stays, growths-closed}
 
@@ -199,6 +201,55 @@ feeds_end o frame h index piece past r =
       rw none refl,
       rw none stands,
     )
+
+-- the words of a piece whose bytes were read up to a terminator
+terminated : (o : Origin) (frame : Frame) (h : History) (index : ℕ) (piece : List ℕ) (byte : ℕ) → drop index piece ≡ byte ∷ drop (index + 1) piece
+    → is_terminator byte ≡ true → (r : Reaches o frame h index piece)
+    → (first_terminator piece ≡ Some byte) × (index ≡ count piece) × (r.now ≡ after h piece)
+terminated o frame h index piece byte splits ends r =
+    let rest : List ℕ = drop (index + 1) piece in
+    let own : before_terminator (drop index piece) ≡ [] = ap before_terminator splits ∙ ap (λ t. cond t [] (byte ∷ before_terminator rest)) ends in (
+      sym r.terminator ∙ ap first_terminator splits ∙ ap (λ t. cond t (Some byte) (first_terminator rest)) ends,
+      omega (arith, r.counted, ap length own),
+      sym (ap (λ (bytes : List ℕ). fold read r.now (carrying bytes)) own) ∙ r.ahead,
+    )
+
+-- a piece that ends at a terminator, which ends the open command
+pub feeds_terminated : (o : Origin) (frame frame' : Frame) (h : History) (index : ℕ) (piece : List ℕ) (byte : ℕ)
+    → drop index piece ≡ byte ∷ drop (index + 1) piece → is_terminator byte ≡ true → (r : Reaches o frame h index piece)
+    → frame'.phase ≡ Ground → Shows o frame'.painter r.now
+    → (index ≡ count piece) × (Terminated byte ≡ status_of (first_terminator piece)) × StandsAfter (is_terminated piece) o frame' (after h piece)
+feeds_terminated o frame frame' h index piece byte splits ends r ground shows =
+    let at = terminated o frame h index piece byte splits ends r in (
+      at.1,
+      rw at.0 refl,
+      rw at.0 (ground, subst (λ (w : History). Shows o frame'.painter w) at.2 shows),
+    )
+
+-- what the open command is refused for there
+pub feeds_refused_end : (e : SixelError) (o : Origin) (frame : Frame) (h : History) (index : ℕ) (piece : List ℕ) (byte : ℕ)
+    → drop index piece ≡ byte ∷ drop (index + 1) piece → is_terminator byte ≡ true → (r : Reaches o frame h index piece)
+    → Faults e false (first_fault o.pixel_limit r.now)
+    → Faults e (nat_lt (growths (closed h)) (growths (settled_after h piece))) (first_fault o.pixel_limit (settled_after h piece))
+feeds_refused_end e o frame h index piece byte splits ends r refused =
+    let at = terminated o frame h index piece byte splits ends r in
+    let whole : settled_after h piece ≡ r.now = rw at.0 (sym at.2) in
+    Faults-along e false _ (first_fault o.pixel_limit r.now) (first_fault o.pixel_limit (settled_after h piece))
+    (λ never. absurd cc) (λ f is. ap (first_fault o.pixel_limit) whole ∙ is) refused
+
+-- a piece of one byte that goes on with the payload
+pub feeds_alone : (o : Origin) (frame : Frame) (h : History) (piece : List ℕ) → length piece ≡ 1 → IsPrintable (get_or piece 0 0)
+    → Stands o frame (read h (get_or piece 0 0))
+    → (1 ≡ count piece) × (NeedMoreData ≡ status_of (first_terminator piece)) × StandsAfter (is_terminated piece) o frame (after h piece)
+feeds_alone o frame h [] single printable stands = absurd (omega (arith, single))
+feeds_alone o frame h (byte ∷ []) single printable stands =
+    let ends : is_terminator byte ≡ false = grind (arith, nat_tests, printable.0, printable.1) in
+    let carries : is_ignored byte ≡ false = grind (arith, nat_tests, printable.0, printable.1) in (
+      omega (arith, count-cons byte [] ends),
+      rw ends refl,
+      rw (ends, carries) stands,
+    )
+feeds_alone o frame h (byte ∷ next ∷ bytes) single printable stands = absurd (omega (arith, single))
 
 -- What is refused on the way to the end of a piece is what its tokens are refused for there.
 refused_settled : (e : SixelError) (limit : ℕ) (h now next : History) (rest : List ℕ) (piece : List ℕ)

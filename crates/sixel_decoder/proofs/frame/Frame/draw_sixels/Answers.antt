@@ -1,7 +1,8 @@
-use Rattle.std.proofs.Common.{◌≡◌, ℕ, take, get_or, subst, arith}
+use Rattle.std.proofs.Common.{◌≡◌, ℕ, take, get_or, refl, subst, arith}
 use Rattle.std.specs.Prelude.{fold}
 use Rattle.std.proofs.lemmas.Result.{err_from_is_err_and}
 use Rattle.sixel_base.specs.History.{read}
+use Rattle.sixel_base.specs.declared.error.SixelError.TheVariants.{OutOfMemory}
 use Rattle.sixel_decoder.specs.inside.Painter.{Shows}
 use Rattle.sixel_decoder.proofs.Framing.{refused_close}
 use Rattle.sixel_decoder.proofs.Runs.{Stands-one, Stands-run, goes_on_byte, refused_sixel}
@@ -12,6 +13,11 @@ returns-in_err-close-clause-stands c = λ o h stands.
     let byte = get_or c.args.bytes.now 0 0 in
     let p = err_from_is_err_and c.from_residual.result c.from_residual.ensures.1 in
     rw (p.1, p.2) (refused_close _ o.pixel_limit h byte (goes_on_byte h byte c.requires.sixel) (c.in_err-close.ensures.drawn o h stands))
+
+pub returns-in_err-drawn-clause-stands : goal.returns-in_err-drawn-clause-stands
+returns-in_err-drawn-clause-stands c = λ o h stands.
+    let p = err_from_is_err_and c.from_residual-in_err-drawn.result c.from_residual-in_err-drawn.ensures.1 in
+    rw (p.1, p.2, c.in_err-drawn.ensures.error) (refused_sixel OutOfMemory o.pixel_limit h (get_or c.args.bytes.now 0 0) c.requires.sixel refl)
 
 pub returns-then-drawn-gt0-clause-stands : goal.returns-then-drawn-gt0-clause-stands
 returns-then-drawn-gt0-clause-stands c = λ o h stands.

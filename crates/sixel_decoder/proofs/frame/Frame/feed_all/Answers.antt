@@ -3,7 +3,7 @@ use Rattle.std.proofs.lemmas.Bool.Decides.{nat_tests}
 use Rattle.std.proofs.lemmas.Result.{err_from_is_err_and}
 use Rattle.sixel_base.specs.Bytes.{is_ignored, is_sixel, is_terminator}
 use Rattle.sixel_decoder.specs.inside.Runs.{IsPrintable}
-use Rattle.sixel_decoder.proofs.Feeding.{reaches_read, reaches_ignored, reaches_pushed, feeds_end, feeds_refused, feeds_refused_front, splits_at}
+use Rattle.sixel_decoder.proofs.Feeding.{reaches_read, reaches_ignored, reaches_pushed, feeds_end, feeds_terminated, feeds_refused, feeds_refused_end, feeds_refused_front, splits_at}
 use Rattle.sixel_decoder.proofs.frame.Frame.feed_all.Goals as goal
 use Rattle.sixel_decoder.proofs.frame.Frame.feed_all.Goals.{then-not-is_ignored+in_ok-push, else-not-is_ignored}
 
@@ -43,6 +43,26 @@ returns-in_err-read c = λ o h stands.
     let r = c.bytes.invariant o h stands in
     let p = err_from_is_err_and c.from_residual-in_err-read.result c.from_residual-in_err-read.ensures.1 in
     rw (p.1, p.2) (feeds_refused_front _ o c.bytes.self h c.bytes.index c.args.piece.now c.tail-then-is_numbered.result.now c.tail-then-is_numbered.ensures c.bytes-test.true printable r (c.in_err-read.ensures.stands o r.now r.stands))
+
+pub returns-in_err-close : goal.returns-in_err-close
+returns-in_err-close c = λ o h stands.
+    let piece = c.args.piece.now in
+    let index = c.bytes.index in
+    let byte = get_or piece index 0 in
+    let r = c.bytes.invariant o h stands in
+    let ends : is_terminator byte ≡ true = cc (c.is_terminator.ensures, c.if-is_terminator.true) in
+    let p = err_from_is_err_and c.from_residual-in_err-close.result c.from_residual-in_err-close.ensures.1 in
+    rw (p.1, p.2) (feeds_refused_end _ o c.bytes.self h index piece byte (splits_at piece index c.bytes-test.true) ends r (c.in_err-close.ensures.drawn o r.now r.stands))
+
+pub returns-then-is_terminator : goal.returns-then-is_terminator
+returns-then-is_terminator c = λ o h stands.
+    let piece = c.args.piece.now in
+    let index = c.bytes.index in
+    let byte = get_or piece index 0 in
+    let r = c.bytes.invariant o h stands in
+    let ends : is_terminator byte ≡ true = cc (c.is_terminator.ensures, c.if-is_terminator.true) in
+    feeds_terminated o c.bytes.self c.close.new.self h index piece byte (splits_at piece index c.bytes-test.true) ends r
+    c.in_ok-close.ensures.ground (c.in_ok-close.ensures.drawn o r.now r.stands)
 
 pub returns-in_err-push : goal.returns-in_err-push
 returns-in_err-push c = λ o h stands.
