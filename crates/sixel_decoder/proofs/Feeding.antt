@@ -6,7 +6,7 @@ use Rattle.std.proofs.lemmas.List.{drop-drop, drop_all}
 use Rattle.std.proofs.lemmas.List.Sums.{fold-append}
 use Rattle.sixel_base.specs.declared.error.SixelError.{SixelError}
 use Rattle.sixel_base.specs.Fault.{Fault, Faults}
-use Rattle.sixel_base.specs.Bytes.{is_terminator, is_ignored, before_terminator, carrying, front, count, first_terminator, is_terminated}
+use Rattle.sixel_base.specs.Bytes.{is_terminator, is_ignored, is_sixel, before_terminator, carrying, front, count, first_terminator, is_terminated}
 use Rattle.sixel_base.specs.History.{Token, Sixel, Repeat, Raster, Color, Return, Newline, Skip, History, begun, longer, goes_on, read, history_of}
 use Rattle.sixel_base.specs.Stroke.{Origin}
 use Rattle.sixel_base.specs.Payload.{first_fault, closed, growths, settled, payload_fault, payload_wants}
@@ -129,6 +129,10 @@ reaches_pushed o frame frame' h index piece byte splits ends is r stands =
       counted = omega (arith, r.counted, ap count splits, count-cons byte rest ends);
       grown = omega (arith, r.grown, growths-read r.now byte);
     }
+
+-- a sixel is printable
+pub printable_from_sixel : (byte : ℕ) → is_sixel byte ≡ true → IsPrintable byte
+printable_from_sixel byte test = (grind (arith, nat_tests, test), grind (arith, nat_tests, test))
 
 -- what printable bytes at the front do to the words of a piece
 front-run : (n : ℕ) (bytes : List ℕ) → ((k : ℕ) → k < n → IsPrintable (get_or bytes k 0)) → n ≤ length bytes → front bytes ≡ take n bytes ++ front (drop n bytes)

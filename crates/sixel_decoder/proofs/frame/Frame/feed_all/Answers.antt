@@ -1,9 +1,8 @@
-use Rattle.std.proofs.Common.{◌≡◌, true, false, get_or, inl, inr, arith}
-use Rattle.std.proofs.lemmas.Bool.Decides.{nat_tests}
+use Rattle.std.proofs.Common.{◌≡◌, true, false, get_or, inl, inr, sym, ◌∙◌, arith}
 use Rattle.std.proofs.lemmas.Result.{err_from_is_err_and}
 use Rattle.sixel_base.specs.Bytes.{is_ignored, is_sixel, is_terminator}
 use Rattle.sixel_decoder.specs.inside.Runs.{IsPrintable}
-use Rattle.sixel_decoder.proofs.Feeding.{reaches_read, reaches_ignored, reaches_pushed, feeds_end, feeds_terminated, feeds_refused, feeds_refused_end, feeds_refused_front, splits_at}
+use Rattle.sixel_decoder.proofs.Feeding.{printable_from_sixel, reaches_read, reaches_ignored, reaches_pushed, feeds_end, feeds_terminated, feeds_refused, feeds_refused_end, feeds_refused_front, splits_at}
 use Rattle.sixel_decoder.proofs.frame.Frame.feed_all.Goals as goal
 use Rattle.sixel_decoder.proofs.frame.Frame.feed_all.Goals.{then-not-is_ignored+in_ok-push, else-not-is_ignored}
 
@@ -27,8 +26,8 @@ bytes-preserved-then-is_numbered c = λ o h stands.
 pub returns-in_err-drawn : goal.returns-in_err-drawn
 returns-in_err-drawn c = λ o h stands.
     let byte = get_or c.args.piece.now c.bytes.index 0 in
-    let test : is_sixel byte ≡ true = cc (c.if-is_sixel.ensures, c.if-is_sixel.true) in
-    let printable : IsPrintable byte = (grind (arith, nat_tests, test), grind (arith, nat_tests, test)) in
+    let test : is_sixel byte ≡ true = sym c.is_sixel.ensures ∙ c.if-is_sixel.true in
+    let printable : IsPrintable byte = printable_from_sixel byte test in
     let r = c.bytes.invariant o h stands in
     let p = err_from_is_err_and c.from_residual.result c.from_residual.ensures.1 in
     rw (p.1, p.2) (feeds_refused_front _ o c.bytes.self h c.bytes.index c.args.piece.now c.tail.result.now c.tail.ensures c.bytes-test.true printable r (c.in_err-drawn.ensures.stands o r.now r.stands))
@@ -50,7 +49,7 @@ returns-in_err-close c = λ o h stands.
     let index = c.bytes.index in
     let byte = get_or piece index 0 in
     let r = c.bytes.invariant o h stands in
-    let ends : is_terminator byte ≡ true = cc (c.is_terminator.ensures, c.if-is_terminator.true) in
+    let ends : is_terminator byte ≡ true = sym c.is_terminator.ensures ∙ c.if-is_terminator.true in
     let p = err_from_is_err_and c.from_residual-in_err-close.result c.from_residual-in_err-close.ensures.1 in
     rw (p.1, p.2) (feeds_refused_end _ o c.bytes.self h index piece byte (splits_at piece index c.bytes-test.true) ends r (c.in_err-close.ensures.drawn o r.now r.stands))
 
@@ -60,7 +59,7 @@ returns-then-is_terminator c = λ o h stands.
     let index = c.bytes.index in
     let byte = get_or piece index 0 in
     let r = c.bytes.invariant o h stands in
-    let ends : is_terminator byte ≡ true = cc (c.is_terminator.ensures, c.if-is_terminator.true) in
+    let ends : is_terminator byte ≡ true = sym c.is_terminator.ensures ∙ c.if-is_terminator.true in
     feeds_terminated o c.bytes.self c.close.new.self h index piece byte (splits_at piece index c.bytes-test.true) ends r
     c.in_ok-close.ensures.ground (c.in_ok-close.ensures.drawn o r.now r.stands)
 
@@ -70,8 +69,8 @@ returns-in_err-push c = λ o h stands.
     let index = c.bytes.index in
     let byte = get_or piece index 0 in
     let r = c.bytes.invariant o h stands in
-    let ends : is_terminator byte ≡ false = grind (arith, c.if-is_terminator.ensures, c.if-is_terminator.false) in
-    let carries : is_ignored byte ≡ false = grind (arith, c.if-not-is_ignored.ensures, c.if-not-is_ignored.true) in
+    let ends : is_terminator byte ≡ false = sym c.is_terminator.ensures ∙ c.if-is_terminator.false in
+    let carries : is_ignored byte ≡ false = sym c.is_ignored.ensures ∙ c.if-not-is_ignored.true in
     let p = err_from_is_err_and c.from_residual-in_err-push.result c.from_residual-in_err-push.ensures.1 in
     rw (p.1, p.2) (feeds_refused _ o c.bytes.self h index piece byte (splits_at piece index c.bytes-test.true) ends carries r (c.in_err-push.ensures o r.now r.stands))
 
@@ -82,12 +81,12 @@ bytes-preserved c = λ o h stands.
     let byte = get_or piece index 0 in
     let r = c.bytes.invariant o h stands in
     let splits = splits_at piece index c.bytes-test.true in
-    let ends : is_terminator byte ≡ false = cc (c.is_terminator.ensures, c.if-is_terminator.false) in
+    let ends : is_terminator byte ≡ false = sym c.is_terminator.ensures ∙ c.if-is_terminator.false in
     elim c.if-not-is_ignored.branch [
       | then-not-is_ignored+in_ok-push w ↦
-          let carries : is_ignored byte ≡ false = cc (c.is_ignored.ensures, w.if-not-is_ignored.true) in
+          let carries : is_ignored byte ≡ false = sym c.is_ignored.ensures ∙ w.if-not-is_ignored.true in
           reaches_pushed o c.bytes.self _ h index piece byte splits ends carries r (rw w.self-is (w.in_ok-push.ensures o r.now r.stands))
       | else-not-is_ignored w ↦
-          let ignored : is_ignored byte ≡ true = cc (c.is_ignored.ensures, w.if-not-is_ignored.false) in
+          let ignored : is_ignored byte ≡ true = sym c.is_ignored.ensures ∙ w.if-not-is_ignored.false in
           rw w.self-is (reaches_ignored o c.bytes.self h index piece byte splits ends ignored r)
     ]
