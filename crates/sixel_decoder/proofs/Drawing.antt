@@ -1,31 +1,22 @@
 -- What a sixel does to what was drawn, and where one is refused.
-use Rattle.std.proofs.Common.{◌≡◌, ℕ, ◌+◌, ◌*◌, ◌-◌, ◌<◌, ◌≤◌, ◌⊎◌, true, List, [], ◌∷◌, ◌++◌, max, length, get_or, length-append, Option, Some, refl, sym, ap, ◌∙◌, inl, inr, subst, arith}
-use Rattle.std.specs.Prelude.{nat_lt, IsSomeAnd, if◌then◌else◌}
+use Rattle.std.proofs.Common.{◌≡◌, ℕ, ◌+◌, ◌*◌, ◌-◌, ◌<◌, ◌≤◌, ◌⊎◌, true, List, [], ◌∷◌, ◌++◌, max, length, get_or, length-append, Some, refl, ap, ◌∙◌, inl, inr, arith}
+use Rattle.std.specs.Prelude.{nat_lt, if◌then◌else◌}
 use Rattle.std.proofs.Math.Seq.{get_or-append_seam}
 use Rattle.std.proofs.lemmas.Bool.{lt-ltb, le-ltb}
-use Rattle.sixel_base.specs.Fault.{Fault, Malformed, TooLarge, Faults, IsFault}
+use Rattle.sixel_base.specs.Fault.{Malformed, TooLarge, Faults, IsFault}
 use Rattle.sixel_base.specs.History.{Sixel, History}
 use Rattle.sixel_base.specs.Payload.{extent_fault, first_fault}
 use Rattle.sixel_base.specs.Picture.{covers, is_struck}
 use Rattle.sixel_base.specs.Place.{width, height}
 use Rattle.sixel_base.specs.Stroke.{Origin, color}
 use Rattle.sixel_base.specs.declared.error.SixelError.{SixelError}
-use Rattle.sixel_base.specs.declared.error.SixelError.TheVariants.{InvalidDimensions, BufferSizeMismatch, InvalidData, NoSixelData, IntegerOverflow, OutOfMemory}
 use Rattle.sixel_canvas.specs.inside.Canvas.{shown, reached}
 use Rattle.sixel_canvas.specs.inside.Paints.{ends_and_tags}
 use Rattle.sixel_canvas.specs.inside.Tags.{is_tag}
 use Rattle.sixel_decoder.specs.declared.painter.Painter.{Painter}
 use Rattle.sixel_decoder.specs.inside.Painter.{Shows}
 use Rattle.sixel_decoder.proofs.Feeding.{or_right}
-
--- an error that names the fault that was found
-pub Faults-named : (e : SixelError) (fault : Fault) (found : Option Fault) → found ≡ Some fault → IsFault e fault → Faults e true found
-Faults-named (InvalidDimensions w h) fault found is named = absurd named
-Faults-named (BufferSizeMismatch w h) fault found is named = absurd named
-Faults-named (InvalidData text) fault found is named = subst (λ (w : Option Fault). IsSomeAnd w (IsFault (InvalidData text))) (sym is) named
-Faults-named NoSixelData fault found is named = subst (λ (w : Option Fault). IsSomeAnd w (IsFault NoSixelData)) (sym is) named
-Faults-named IntegerOverflow fault found is named = subst (λ (w : Option Fault). IsSomeAnd w (IsFault IntegerOverflow)) (sym is) named
-Faults-named OutOfMemory fault found is named = absurd named
+use Rattle.sixel_decoder.proofs.Finding.{Faults-named}
 
 -- a side above a million
 extent_malformed : (limit right lower : ℕ) (h : History) → (1000000 < right) ⊎ (1000000 < lower) → extent_fault limit right lower h ≡ Some Malformed
@@ -41,8 +32,8 @@ extent_large limit right lower h wide high large =
 pub refused_far : (e : SixelError) (o : Origin) (painter : Painter) (h : History) (bits : ℕ) → Shows o painter h
     → (1000000 < painter.across + painter.span) ⊎ (1000000 < painter.down + 6) → IsFault e Malformed → Faults e true (first_fault o.pixel_limit (Sixel bits ∷ h))
 refused_far e o painter h bits shows far named =
-    Faults-named e Malformed (first_fault o.pixel_limit (Sixel bits ∷ h))
-    (rw shows.faultless (extent_malformed o.pixel_limit _ _ (Sixel bits ∷ h) (rw (shows.across, shows.span, shows.down) at far))) named
+    let found = extent_malformed o.pixel_limit _ _ (Sixel bits ∷ h) (rw (shows.across, shows.span, shows.down) at far) in
+    rw (shows.faultless, found) (Faults-named e true Malformed named)
 
 -- a sixel that makes the picture too large
 pub refused_large : (e : SixelError) (o : Origin) (painter : Painter) (h : History) (bits wide high : ℕ) → Shows o painter h
@@ -50,9 +41,10 @@ pub refused_large : (e : SixelError) (o : Origin) (painter : Painter) (h : Histo
     → wide ≡ max painter.width (painter.across + painter.span) → high ≡ max painter.height (painter.down + 6)
     → painter.pixel_limit < wide * high → IsFault e TooLarge → Faults e true (first_fault o.pixel_limit (Sixel bits ∷ h))
 refused_large e o painter h bits wide high shows right lower wide' high' large named =
-    Faults-named e TooLarge (first_fault o.pixel_limit (Sixel bits ∷ h))
-    (rw shows.faultless (extent_large o.pixel_limit _ _ (Sixel bits ∷ h) (rw (shows.across, shows.span) at right) (rw shows.down at lower)
-    (rw (wide', high', shows.width, shows.height, shows.across, shows.span, shows.down, shows.limit) at large))) named
+    let found =
+    extent_large o.pixel_limit _ _ (Sixel bits ∷ h) (rw (shows.across, shows.span) at right) (rw shows.down at lower)
+    (rw (wide', high', shows.width, shows.height, shows.across, shows.span, shows.down, shows.limit) at large) in
+    rw (shows.faultless, found) (Faults-named e true TooLarge named)
 
 -- four channels of which the last is 255 can be a tag
 tag_from_opaque : (ink : List ℕ) → length (ink ++ 255 ∷ []) ≡ 4 → is_tag (ink ++ 255 ∷ []) ≡ true
