@@ -241,20 +241,6 @@ feeds_refused_end e o frame h index piece byte splits ends r refused =
     Faults-along e false _ (first_fault o.pixel_limit r.now) (first_fault o.pixel_limit (settled_after h piece))
     (λ never. absurd cc) (λ f is. ap (first_fault o.pixel_limit) whole ∙ is) refused
 
--- a piece of one byte that goes on with the payload
-pub feeds_alone : (o : Origin) (frame : Frame) (h : History) (piece : List ℕ) → length piece ≡ 1 → IsPrintable (get_or piece 0 0)
-    → Stands o frame (read h (get_or piece 0 0))
-    → (1 ≡ count piece) × (NeedMoreData ≡ status_of (first_terminator piece)) × StandsAfter (is_terminated piece) o frame (after h piece)
-feeds_alone o frame h [] single printable stands = absurd (omega (arith, single))
-feeds_alone o frame h (byte ∷ []) single printable stands =
-    let ends : is_terminator byte ≡ false = grind (arith, nat_tests, printable.0, printable.1) in
-    let carries : is_ignored byte ≡ false = grind (arith, nat_tests, printable.0, printable.1) in (
-      omega (arith, count-cons byte [] ends),
-      rw ends refl,
-      rw (ends, carries) stands,
-    )
-feeds_alone o frame h (byte ∷ next ∷ bytes) single printable stands = absurd (omega (arith, single))
-
 -- What is refused on the way to the end of a piece is what its tokens are refused for there.
 refused_settled : (e : SixelError) (limit : ℕ) (h now next : History) (rest : List ℕ) (piece : List ℕ)
     → fold read next rest ≡ after h piece → growths (closed h) ≤ growths (closed now)

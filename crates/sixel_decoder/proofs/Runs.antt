@@ -1,6 +1,6 @@
 -- What sixels of one column each that stand inside the picture do to the words of a history: they change pixels and the place alone.
-use Rattle.std.proofs.Common.{◌≡◌, ℕ, zero, suc, ◌+◌, ◌*◌, ◌<◌, ◌≤◌, ◌-◌, ◌%◌, ◌^◌, Bool, true, false, max, List, [], ◌∷◌, ◌++◌, length, get_or, take, drop, length-take, get_or-take, get_or-drop, take-add, take_all, add-one, subst, refl, sym, ap, ◌∙◌, inl, inr, None, arith}
-use Rattle.std.specs.Prelude.{fold, IsTrue, nat_lt, nat_le, ◌&&◌, ◌==◌, if◌then◌else◌}
+use Rattle.std.proofs.Common.{◌≡◌, ℕ, zero, suc, ◌+◌, ◌*◌, ◌<◌, ◌≤◌, ◌-◌, Bool, true, false, max, List, [], ◌∷◌, ◌++◌, length, get_or, take, drop, length-take, get_or-take, get_or-drop, take-add, take_all, add-one, subst, refl, sym, ap, ◌∙◌, inl, inr, None, arith}
+use Rattle.std.specs.Prelude.{fold, IsTrue, nat_lt, nat_le, ◌&&◌, if◌then◌else◌}
 use Rattle.std.proofs.lemmas.List.{get_or_past}
 use Rattle.std.proofs.lemmas.Bool.{cases_lt, le-ltb, lt-leb, le-leb, lt-ltb}
 use Rattle.sixel_base.specs.History.{Sixel, Repeat, Raster, Color, Return, Newline, Skip, History, goes_on, read}
@@ -528,6 +528,12 @@ Shows-alone o h old new bits shows alone wide high area drawn kept paid' registe
 -- the bytes at the front are a run
 pub IsRun-take : (n : ℕ) (bytes : List ℕ) → n ≤ length bytes → ((k : ℕ) → k < n → IsSixelByte (get_or bytes k 0)) → IsRun (take n bytes)
 IsRun-take n bytes le are k lt = subst IsSixelByte (sym (get_or-take n bytes k 0 (omega (arith, lt, length-take n bytes)))) (are k (omega (arith, lt, length-take n bytes)))
+
+pub IsRun-front : (run bytes : List ℕ) (len : ℕ) → run ≡ take len bytes → len ≤ length bytes → ((k : ℕ) → k < len → IsSixelByte (get_or bytes k 0)) → IsRun run
+IsRun-front run bytes len is le are = subst IsRun (sym is) (IsRun-take len bytes le are)
+
+pub length-front : (run bytes : List ℕ) (len : ℕ) → run ≡ take len bytes → len ≤ length bytes → length run ≡ len
+length-front run bytes len is le = omega (arith, ap length is, length-take len bytes, le)
 
 -- after sixels no token is open
 ended-sixels : (h : History) (bytes : List ℕ) → ((k : ℕ) → k < length bytes → IsSixelByte (get_or bytes k 0)) → ((byte : ℕ) → goes_on h byte ≡ false) → (byte : ℕ) → goes_on (fold read h bytes) byte ≡ false

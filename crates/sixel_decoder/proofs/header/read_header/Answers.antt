@@ -1,8 +1,7 @@
-use Rattle.std.proofs.Common.{◌≡◌, ◌++◌, ◌∷◌, [], true, false, get_or, refl, ap, sym, ◌∙◌, subst}
+use Rattle.std.proofs.Common.{◌≡◌, ◌++◌, ◌∷◌, [], true, false, get_or, refl, ap, ◌∙◌, rules}
 use Rattle.sixel_base.specs.Bytes.{carrying}
-use Rattle.sixel_base.specs.Header.{Headed, is_header, settings_of}
+use Rattle.sixel_base.specs.Header.{is_header, settings_of}
 use Rattle.sixel_base.specs.inside.Parameters.{Keeps}
-use Rattle.sixel_decoder.specs.inside.Heading.{IsHeaderFault}
 use Rattle.sixel_decoder.proofs.Heading.{reads_on, begins_at, text_at, refused_at, open_at}
 use Rattle.sixel_decoder.proofs.header.read_header.Goals as goal
 
@@ -38,4 +37,4 @@ returns-in-Err-clause-error c =
 pub returns-clause-error : goal.returns-clause-error
 returns-clause-error c =
     let all = open_at c.header.header.parameters c.header.index c.args.bytes.now c.header-test.false c.header.invariant in
-    subst (λ (w : Headed). IsHeaderFault c.missing_command.result w) (sym all) c.missing_command.ensures
+    rw all (search rules)

@@ -10,13 +10,13 @@ pub returns-in-1 : goal.returns-in-1
 returns-in-1 c = λ text keeps.
     c.define_hls.ensures.defined
     ∙ defined-hls c.args.parameters.now text c.args.registers.now c.args.register c.get-x.result c.get-y.result c.get-z.result keeps
-        (omega (arith, c.if-len-lt5.false, c.len.ensures.value)) (sym c.get.ensures ∙ c.in-1.is) c.get-x.ensures c.get-y.ensures c.get-z.ensures
+    (omega (arith, c.if-len-lt5.false, c.len.ensures.value)) (sym c.get.ensures ∙ c.in-1.is) c.get-x.ensures c.get-y.ensures c.get-z.ensures
 
 pub returns-in-2 : goal.returns-in-2
 returns-in-2 c = λ text keeps.
     c.define_rgb.ensures.defined
     ∙ defined-rgb c.args.parameters.now text c.args.registers.now c.args.register c.get-x.result c.get-y.result c.get-z.result keeps
-        (omega (arith, c.if-len-lt5.false, c.len.ensures.value)) (sym c.get.ensures ∙ c.in-2.is) c.get-x.ensures c.get-y.ensures c.get-z.ensures
+    (omega (arith, c.if-len-lt5.false, c.len.ensures.value)) (sym c.get.ensures ∙ c.in-2.is) c.get-x.ensures c.get-y.ensures c.get-z.ensures
 
 pub returns-in_default : goal.returns-in_default
 returns-in_default c = λ text keeps.

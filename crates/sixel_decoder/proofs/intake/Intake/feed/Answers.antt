@@ -24,9 +24,6 @@ invariant_of-self-in-Ok c =
     let same = terminator_same c.terminator-self-inside.result _ (sym c.terminator-self-inside.ensures ∙ goes.1) in
     rw (c.extend.ensures, same) goes.2
 
-pub invariant_of-self-in-Err : goal.invariant_of-self-in-Err
-invariant_of-self-in-Err c = rw c.refuse.ensures tt
-
 pub returns-in_default-clause-origin : goal.returns-in_default-clause-origin
 returns-in_default-clause-origin c = rw (← c.self.view_is) refl
 
@@ -75,9 +72,6 @@ returns-in-Err-clause-origin c = rw (← c.self.view_is) refl
 
 pub returns-in-Err-clause-bytes : goal.returns-in-Err-clause-bytes
 returns-in-Err-clause-bytes c = rw (← c.self.view_is) c.extend.ensures
-
-pub returns-in-Err-clause-err : goal.returns-in-Err-clause-err
-returns-in-Err-clause-err c = rw c.refuse.ensures refl
 
 pub returns-in-Err-clause-sound : goal.returns-in-Err-clause-sound
 returns-in-Err-clause-sound c =

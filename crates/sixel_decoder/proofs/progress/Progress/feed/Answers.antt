@@ -16,9 +16,6 @@ invariant_of-self c =
     let inside = c.self.inside in
     rw c.extend.ensures (c.in-Ok.ensures.follows inside.log.bytes (accepted c) c.self.invariant).3
 
-pub invariant_of-self-in-Err : goal.invariant_of-self-in-Err
-invariant_of-self-in-Err c = rw c.refuse.ensures tt
-
 pub returns-in-Ok-clause-decoder : goal.returns-in-Ok-clause-decoder
 returns-in-Ok-clause-decoder c = rw (← c.self.view_is) refl
 
@@ -55,9 +52,6 @@ returns-in-Err-clause-decoder c = rw (← c.self.view_is) refl
 
 pub returns-in-Err-clause-bytes : goal.returns-in-Err-clause-bytes
 returns-in-Err-clause-bytes c = rw (← c.self.view_is) c.extend.ensures
-
-pub returns-in-Err-clause-err : goal.returns-in-Err-clause-err
-returns-in-Err-clause-err c = rw c.refuse.ensures refl
 
 pub returns-in-Err-clause-sound : goal.returns-in-Err-clause-sound
 returns-in-Err-clause-sound c =
