@@ -4,3 +4,4 @@ pub mod KeptFields
 pub mod DefaultCodes
 pub mod Joined
 pub mod Sixels
+pub mod EmptyStruct

@@ -8,7 +8,6 @@ pub mod Heading
 pub mod Drawing
 pub mod Defining
 pub mod Finding
-pub mod EmptyStruct
 pub mod Entering
 pub mod Ending
 pub mod Terminating

@@ -1,4 +1,3 @@
-pub mod EmptyStruct
 pub mod PaletteApart
 pub mod PaletteChoices
 pub mod PaletteColors

@@ -24,7 +24,7 @@ use denote.Triple.Entry.{alive}
 use denote.Triple.Spec.{Meets, triple_of}
 use denote.Triple.Table.{entered}
 use denote.Triple.Walked.{says, Stays, stay_dropped, walk_of, ends_at, walk_Meets, Goes-dropped}
-use Rattle.sixel_decoder.proofs.EmptyStruct.{none_made}
+use Rattle.sixel_base.proofs.EmptyStruct.{none_made}
 use Rattle.sixel_decoder.specs.contracts.log.Log as Log
 use Rattle.sixel_decoder.specs.contracts.log.Log.and as F
 use Rattle.sixel_decoder.specs.contracts.log.Log.and.Key.{name as #self}

@@ -22,7 +22,7 @@ use denote.Triple.Entry.{alive}
 use denote.Triple.Spec.{Meets, triple_of}
 use denote.Triple.Table.{entered}
 use denote.Triple.Walked.{says, Stays, walk_of, ends_at, walk_Meets}
-use Rattle.sixel_palette.proofs.EmptyStruct.{none_made}
+use Rattle.sixel_base.proofs.EmptyStruct.{none_made}
 use Rattle.sixel_palette.specs.contracts.palette.nears.Nears as Nears
 use Rattle.sixel_palette.specs.contracts.palette.nears.Nears.new as F
 use Rattle.sixel_palette.specs.contracts.palette.nears.Nears.new.Key.{name as #self}
