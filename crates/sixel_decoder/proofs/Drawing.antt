@@ -19,12 +19,12 @@ use Rattle.sixel_decoder.proofs.Feeding.{or_right}
 use Rattle.sixel_decoder.proofs.Finding.{Faults-named}
 
 -- a side above a million
-extent_malformed : (limit right lower : ℕ) (h : History) → (1000000 < right) ⊎ (1000000 < lower) → extent_fault limit right lower h ≡ Some Malformed
+pub extent_malformed : (limit right lower : ℕ) (h : History) → (1000000 < right) ⊎ (1000000 < lower) → extent_fault limit right lower h ≡ Some Malformed
 extent_malformed limit right lower h (inl wide) = rw (lt-ltb 1000000 right wide) refl
 extent_malformed limit right lower h (inr high) = rw (or_right (nat_lt 1000000 right) (nat_lt 1000000 lower) (lt-ltb 1000000 lower high)) refl
 
 -- sides within it, and an area above the limit
-extent_large : (limit right lower : ℕ) (h : History) → right ≤ 1000000 → lower ≤ 1000000 → limit < width h * height h → extent_fault limit right lower h ≡ Some TooLarge
+pub extent_large : (limit right lower : ℕ) (h : History) → right ≤ 1000000 → lower ≤ 1000000 → limit < width h * height h → extent_fault limit right lower h ≡ Some TooLarge
 extent_large limit right lower h wide high large =
     rw (le-ltb 1000000 right wide, le-ltb 1000000 lower high, lt-ltb limit (width h * height h) large) refl
 

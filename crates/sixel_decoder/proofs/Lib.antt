@@ -1,4 +1,5 @@
 pub mod Paid
+pub mod Rastering
 pub mod Reached
 pub mod Framing
 pub mod Opening
