@@ -61,3 +61,6 @@ returns-clause-again c = λ decoder reads of clear.
     subst (λ (w : List ℕ). IfOk c.encode_source.result (λ text. IsReadAs decoder (string_bytes text) (image w)))
     c.deref.ensures.value
     (again-written string_bytes c.encode_source.result decoder (image c.deref.result.now) k told.text reads trip_of clear)
+
+pub returns-clause-text : goal.returns-clause-text
+returns-clause-text c = rw c.deref.ensures.value at c.encode_source.ensures.text

@@ -1,4 +1,4 @@
-use Rattle.std.proofs.Common.{◌≡◌, ℕ, ◌*◌, ◌≤◌, List, None, ap, arith}
+use Rattle.std.proofs.Common.{◌≡◌, ℕ, ◌+◌, ◌*◌, ◌≤◌, List, None, ap, arith}
 use Rattle.std.proofs.lemmas.Nat.{mul-le}
 use Rattle.sixel_base.specs.Bytes.{front}
 use Rattle.sixel_base.specs.History.{history_of}
@@ -36,3 +36,12 @@ pub returns-clause-at_most : goal.returns-clause-at_most
 returns-clause-at_most c =
     let session = c.args.self.intake in
     omega (arith, fewer _ session.origin session.bytes c.in_ok-image.ensures.image, settled-area session.bytes, c.canvas_writes-writes.ensures.at_most)
+
+pub returns-clause-image : goal.returns-clause-image
+returns-clause-image c = c.in_ok-image.ensures.image
+
+pub returns-clause-counted : goal.returns-clause-counted
+returns-clause-counted c = ap (λ (n : ℕ). n + c.in_ok-image.image.width * c.in_ok-image.image.height) c.canvas_writes-writes.ensures.value
+
+pub returns-clause-registers : goal.returns-clause-registers
+returns-clause-registers c = c.in_ok-image.ensures.registers

@@ -1,0 +1,4 @@
+use Rattle.icy_sixel.proofs.decoder.dcs_session.SixelDcsStreamDecoder.abort.Goals as goal
+
+pub returns : goal.returns
+returns c = c.drop.ensures
