@@ -1,4 +1,5 @@
-use Rattle.sixel_base.specs.OneShot.{Payload}
+use Rattle.std.proofs.Common.{refl}
+use Rattle.sixel_base.specs.OneShot.{Payload, found}
 use Rattle.icy_sixel.proofs.Playing.{decodes}
 use Rattle.icy_sixel.proofs.script.take_step.Goals as goal
 
@@ -7,3 +8,18 @@ returns-in-DecodeFromDcs c =
     let by = c.decode_from_dcs.ensures in
     rw c.in-DecodeFromDcs.is
     (decodes c.decode_from_dcs.result _ _ _ (Payload c.in-DecodeFromDcs.settings c.in-DecodeFromDcs.bytes.now) c.decoded-in-DecodeFromDcs.ensures by.image by.registers by.faultless by.refused by.set by.kept)
+
+pub returns-in-Reset : goal.returns-in-Reset
+returns-in-Reset c = rw c.in-Reset.is (refl, c.reset_palette.ensures)
+
+pub returns-in-RasterCrop : goal.returns-in-RasterCrop
+returns-in-RasterCrop c = rw c.in-RasterCrop.is (refl, c.set_raster_crop.ensures)
+
+pub returns-in-PixelLimit : goal.returns-in-PixelLimit
+returns-in-PixelLimit c = rw c.in-PixelLimit.is (refl, c.set_pixel_limit.ensures)
+
+pub returns-in-Decode : goal.returns-in-Decode
+returns-in-Decode c =
+    let by = c.decode.ensures in
+    rw c.in-Decode.is
+    (decodes c.decode.result _ _ _ (found c.in-Decode.bytes.now) c.decoded.ensures by.image by.registers by.faultless by.refused by.set by.kept)
