@@ -154,6 +154,7 @@ fn enter(
 }
 
 /// Reads a piece that begins in the payload.
+#[inline(always)]
 fn read_payload(
     intake: &mut Intake,
     ended: &mut Option<SixelDcsFeedStatus>,
