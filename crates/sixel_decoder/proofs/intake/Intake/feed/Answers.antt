@@ -85,3 +85,6 @@ returns-in-Err-clause-error c =
     let read : HasRead (Some c.in-Some.frame) origin inside.terminator inside.log.bytes =
     subst (λ (w : Option Frame). HasRead w origin inside.terminator inside.log.bytes) c.in-Some.is c.self.invariant in
     rw (← c.self.view_is, c.in-Some.is, c.extend.ensures) (c.in-Err.ensures origin inside.log.bytes read)
+
+pub invariant_of-self-in-Err : goal.invariant_of-self-in-Err
+invariant_of-self-in-Err c = rw c.refuse.ensures tt
