@@ -1,5 +1,5 @@
 use Rattle.std.proofs.Common.{refl}
-use Rattle.sixel_base.specs.OneShot.{Payload, found}
+use Rattle.sixel_base.specs.OneShot.{Payload}
 use Rattle.icy_sixel.proofs.Playing.{decodes}
 use Rattle.icy_sixel.proofs.script.take_step.Goals as goal
 
@@ -17,9 +17,3 @@ returns-in-RasterCrop c = rw c.in-RasterCrop.is (refl, c.set_raster_crop.ensures
 
 pub returns-in-PixelLimit : goal.returns-in-PixelLimit
 returns-in-PixelLimit c = rw c.in-PixelLimit.is (refl, c.set_pixel_limit.ensures)
-
-pub returns-in-Decode : goal.returns-in-Decode
-returns-in-Decode c =
-    let by = c.decode.ensures in
-    rw c.in-Decode.is
-    (decodes c.decode.result _ _ _ (found c.in-Decode.bytes.now) c.decoded.ensures by.image by.registers by.faultless by.refused by.set by.kept)

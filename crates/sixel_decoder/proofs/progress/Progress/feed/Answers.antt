@@ -1,4 +1,4 @@
-use Rattle.std.proofs.Common.{◌≡◌, ◌++◌, false, ap, refl}
+use Rattle.std.proofs.Common.{◌≡◌, ◌++◌, false, refl}
 use Rattle.std.specs.Prelude.{nat_lt}
 use Rattle.std.proofs.lemmas.Bool.{false_from_ne_true}
 use Rattle.sixel_base.specs.Dcs.{dcs_fault, dcs_growths}
@@ -72,6 +72,3 @@ returns-in-Err-clause-error c =
 
 pub invariant_of-self-in-Err : goal.invariant_of-self-in-Err
 invariant_of-self-in-Err c = rw c.refuse.ensures tt
-
-pub returns-in-Err-clause-err : goal.returns-in-Err-clause-err
-returns-in-Err-clause-err c = ap is_refused c.refuse.ensures
