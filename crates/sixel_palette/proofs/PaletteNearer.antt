@@ -1,10 +1,10 @@
 -- What is known of a color's nearest entry, with one more entry and for all colors of a list.
-use Rattle.std.proofs.Common.{◌≡◌, ℕ, ◌<◌, ◌≤◌, List, [], ◌∷◌, ◌++◌, length, get_or, sym, arith}
-use Rattle.std.proofs.lemmas.List.{get_or_append_left, get_or_at, length_push}
+use Rattle.std.proofs.Common.{◌≡◌, ℕ, ◌<◌, ◌≤◌, List, [], ◌∷◌, ◌++◌, length, map, get_or, sym, arith}
+use Rattle.std.proofs.lemmas.List.{get_or-map, get_or_append_left, get_or_at, length_push}
 use Rattle.sixel_palette.specs.declared.palette.farthest.Near.{Near}
 use Rattle.sixel_palette.specs.Palette.{distance, nearest}
 use Rattle.sixel_palette.specs.inside.PaletteCodes.{color_of}
-use Rattle.sixel_palette.specs.inside.PaletteNear.{IsNear, AreKept}
+use Rattle.sixel_palette.specs.inside.PaletteNear.{IsNear, AreNear, AreKept, places_of}
 use Rattle.sixel_palette.proofs.PaletteNearest.{nearest-nil, nearest-push, nearest-le}
 
 -- a nearer entry takes the place
@@ -46,3 +46,12 @@ near_none c =
 pub kept_none : (codes squares places : List ℕ) → ((k : ℕ) → k < length codes → get_or squares k 0 ≡ 195076) → ((k : ℕ) → k < length codes → get_or places k 0 ≡ 0) → AreKept [] codes squares places
 kept_none codes squares places far first k l =
     rw (far k l, first k l) (near_none (color_of (get_or codes k 0)))
+
+-- what one list keeps for each color of a list, kept in two
+pub kept_from_near : (entries : List (List ℕ)) (codes : List ℕ) (nears : List Near) → AreNear entries codes nears → length nears ≡ length codes → (squares : List ℕ) × AreKept entries codes squares (places_of nears)
+kept_from_near entries codes nears near same = (
+  map (λ kept. kept.squared) nears,
+  λ k l.
+      let d : Near = record { squared = 0; entry = 0 } in
+      rw (get_or-map (λ kept. kept.squared) nears k d 0 (omega arith), get_or-map (λ kept. kept.entry) nears k d 0 (omega arith)) (near k d l),
+)

@@ -91,7 +91,7 @@ pub fn choose_palette(alloc: Global, pixels: &[u8], max_colors: u16) -> Result<P
     }
     let codes = shown_codes(alloc, pixels)?;
     let spread = choose(alloc, &codes, usize::from(max_colors.clamp(2, 256)))?;
-    let indices = indices_of(alloc, pixels, &codes, &spread.places)?;
+    let indices = indices_of(alloc, pixels, &codes, spread.nears.places())?;
     let witnesses = spread.witnesses(alloc, &codes)?;
     Ok(PaletteChoice {
         error: spread.error(&codes),

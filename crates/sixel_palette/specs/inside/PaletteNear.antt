@@ -1,6 +1,6 @@
 -- What the palette's working keeps for each color: its squared distance to the nearest of the entries so far and the
 -- place of that entry, the first one of those. It follows from the rule that ties go to the least index.
-use Rattle.std.specs.Prelude.{◌≡◌, ℕ, ◌+◌, ◌*◌, ◌/◌, ◌%◌, ◌<◌, ◌≤◌, List, [], length, slice_index, slice_index_or}
+use Rattle.std.specs.Prelude.{◌≡◌, ℕ, ◌+◌, ◌*◌, ◌/◌, ◌%◌, ◌<◌, ◌≤◌, List, [], length, map, slice_index, slice_index_or}
 use Rattle.sixel_palette.specs.declared.palette.farthest.Near.{Near}
 use Rattle.sixel_palette.specs.Palette.{distance, nearest, color_at, IsOpaque, IsNearest}
 use Rattle.sixel_palette.specs.inside.PaletteCodes.{color_of}
@@ -16,6 +16,14 @@ pub record IsNear (entries : List (List ℕ)) (c : List ℕ) (near : Near) : Typ
 abbrev pub AreNear : List (List ℕ) → List ℕ → List Near → Type 0
 AreNear entries codes nears =
     (k : ℕ) (d : Near) → k < length codes → IsNear entries (color_of (slice_index codes k)) (slice_index_or nears k d)
+
+-- what is kept for each color of a list
+pub record NearList : Type 0 where
+  pub items : List Near
+
+-- the places of the nearest entries
+abbrev pub places_of : List Near → List ℕ
+places_of nears = map (λ near. near.entry) nears
 
 -- what two lists keep for the color at a place
 abbrev pub kept_at : List ℕ → List ℕ → ℕ → Near

@@ -5,7 +5,7 @@ ghost use Rattle.std.specs.Prelude.{All, IfOk, slice_index};
 ghost use Rattle.std.specs.List.Sorted.{IsStrictlyIncreasing};
 ghost use Rattle.sixel_palette.specs.Palette.{distance, nearest, IsFarthest, IsFarthestFirst};
 ghost use Rattle.sixel_palette.specs.inside.PaletteCodes.{color_of, IsListed};
-ghost use Rattle.sixel_palette.specs.inside.PaletteNear.{IsNear, AreNear, AreKept};
+ghost use Rattle.sixel_palette.specs.inside.PaletteNear.{IsNear, AreNear};
 
 use crate::palette::chunks::{chunks_of, farthest_of, settle};
 use crate::palette::colors::{color_of, distance};
@@ -28,7 +28,6 @@ pub struct Near {
 pub struct Spread {
     pub colors: Vec<[u8; 3]>,
     pub nears: Nears,
-    pub places: Vec<u8>,
     pub farthest: usize,
 }
 
@@ -41,9 +40,6 @@ pub fn choose(alloc: Global, codes: &[u32], room: usize) -> Result<Spread, Alloc
     ensures size { IfOk result (λ s. length s.colors.items ≡ min room (length codes.now)) }
     ensures near { IfOk result (λ s. AreNear s.colors.items codes.now s.nears.items) }
     ensures nears_len { IfOk result (λ s. length s.nears.items ≡ length codes.now) }
-    ensures kept { IfOk result (λ s. (squares : List ℕ)
-        × AreKept s.colors.items codes.now squares s.places.items) }
-    ensures places_len { IfOk result (λ s. length s.places.items ≡ length codes.now) }
     ensures within { IfOk result (λ s. 0 < length codes.now → s.farthest < length codes.now) }
     ensures farthest { IfOk result (λ s. let color = color_of (slice_index codes.now s.farthest) in
         0 < length codes.now → IsFarthest (IsListed codes.now) s.colors.items color) }
@@ -69,8 +65,7 @@ pub fn choose(alloc: Global, codes: &[u32], room: usize) -> Result<Spread, Alloc
     }
     Ok(Spread {
         colors,
-        nears: nears_of(&squares, &places),
-        places,
+        nears: Nears::of(&squares, places),
         farthest,
     })
 }
@@ -135,24 +130,4 @@ fn squared_to_nearest(entries: &[[u8; 3]], color: [u8; 3]) -> u32
         least = distance(entries[place], color).min(least);
     }
     least
-}
-
-/// What is known of each color, from its two parts.
-fn nears_of(squares: &[u32], places: &[u8]) -> Nears
-    requires { length places.now ≡ length squares.now }
-    ensures len { length result.items ≡ length squares.now }
-    ensures near { (entries : List (List ℕ)) (codes : List ℕ)
-        → length codes ≡ length squares.now → AreKept entries codes squares.now places.now
-        → AreNear entries codes result.items }
-{
-    let mut nears = Nears::new();
-    for place in 0..squares.len() {
-        let near = Near {
-            squared: squares[place],
-            entry: places[place],
-        };
-        let more = nears.and(&near);
-        nears = more;
-    }
-    nears
 }

@@ -4,6 +4,7 @@ use Rattle.sixel_palette.specs.Palette.{nearest, palette_room, IsShown}
 use Rattle.sixel_palette.specs.inside.PaletteCodes.{color_of}
 use Rattle.sixel_palette.proofs.PaletteChoices as chosen
 use Rattle.sixel_palette.proofs.PaletteChoices.{IsChosen}
+use Rattle.sixel_palette.proofs.PaletteNearer.{kept_from_near}
 use Rattle.sixel_palette.proofs.PaletteOrder.{members_from_order}
 use Rattle.sixel_palette.proofs.palette.choose_palette.Goals as goal
 
@@ -16,13 +17,13 @@ far c = color_of (get_or c.in_ok-codes.codes.items c.in_ok-spread.spread.farthes
 
 -- the error is the farthest color's distance to its nearest entry
 the_error : (c : goal.After-drop-codes-2) → 0 < length c.in_ok-codes.codes.items → c.error.result ≡ nearest c.in_ok-spread.spread.colors.items (far c)
-the_error c some = (rw c.deref-5.ensures.value at c.error.ensures.farthest) some
+the_error c some = (rw c.deref-4.ensures.value at c.error.ensures.farthest) some
 
 -- what the calls ensure, of the codes themselves
 the_choice : (c : goal.After-drop-codes-2) → IsChosen c.args.pixels.now c.in_ok-codes.codes.items (palette_room c.args.max_colors) c.in_ok-spread.spread.colors.items (far c) c.error.result c.in_ok-witnesses.witnesses.items
 the_choice c =
     let codes = c.deref.ensures.value in
-    let of_witnesses = c.deref-4.ensures.value in
+    let of_witnesses = c.deref-3.ensures.value in
     record {
       up = c.in_ok-codes.ensures.ascending;
       shown = c.in_ok-codes.ensures.shown;
@@ -30,7 +31,7 @@ the_choice c =
       order = rw codes at c.in_ok-spread.ensures.order;
       size = omega (arith, ap length codes, c.in_ok-spread.ensures.size, c.from.ensures, c.clamp.ensures);
       farthest = rw codes at c.in_ok-spread.ensures.farthest;
-      error_none = rw c.deref-5.ensures.value at c.error.ensures.none;
+      error_none = rw c.deref-4.ensures.value at c.error.ensures.none;
       error_some = λ l. the_error c l;
       witnesses_none = rw of_witnesses at c.in_ok-witnesses.ensures.none;
       witnesses_some = rw of_witnesses at c.in_ok-witnesses.ensures.some;
@@ -44,8 +45,9 @@ returns-clause-palette c = record {
 
 pub returns-clause-indices : goal.returns-clause-indices
 returns-clause-indices c =
-    let kept = c.in_ok-spread.ensures.kept in
-    c.in_ok-indices.ensures c.in_ok-spread.spread.colors.items kept.0 (rw (c.deref-2.ensures.value, c.deref-3.ensures.value) (rw c.deref.ensures.value at kept.1)) (chosen.chosen_near _ _ _ _ _ _ _ (the_choice c) (λ k. omega (arith, c.type_inv.pixels k)) (omega arith))
+    let near = rw c.deref.ensures.value at c.in_ok-spread.ensures.near in
+    let kept = kept_from_near _ _ _ near (omega (arith, ap length c.deref.ensures.value, c.in_ok-spread.ensures.nears_len)) in
+    c.in_ok-indices.ensures c.in_ok-spread.spread.colors.items kept.0 (rw (c.deref-2.ensures.value, c.places.ensures) kept.1) (chosen.chosen_near _ _ _ _ _ _ _ (the_choice c) (λ k. omega (arith, c.type_inv.pixels k)) (omega arith))
 
 pub returns-clause-error : goal.returns-clause-error
 returns-clause-error c = chosen.chosen_error _ _ _ _ _ _ _ (the_choice c)

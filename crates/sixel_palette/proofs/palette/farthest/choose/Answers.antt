@@ -53,11 +53,8 @@ loop-entry-preserved c =
 
 pub returns-clause-near : goal.returns-clause-near
 returns-clause-near c =
-    let told = rw (c.deref-2.ensures.value, c.deref-3.ensures.value) at c.nears_of.ensures.near in
+    let told = rw c.deref-2.ensures.value at c.of.ensures.near in
     told c.loop-entry.colors.items c.args.codes.now (omega (arith, c.loop-entry.invariant.squares)) c.loop-entry.invariant.kept
-
-pub returns-clause-kept : goal.returns-clause-kept
-returns-clause-kept c = (c.loop-entry.squares.items, c.loop-entry.invariant.kept)
 
 pub farthest_of-farthest-requires-clause-chunks : goal.farthest_of-farthest-requires-clause-chunks
 farthest_of-farthest-requires-clause-chunks c =

@@ -26,18 +26,18 @@ use denote.Triple.Table.{entered}
 use denote.Triple.Walked.{says, Stays, stay_dropped, walk_of, ends_at, walk_Meets, Goes-dropped}
 use Rattle.sixel_base.proofs.EmptyStruct.{none_made}
 use Rattle.sixel_palette.specs.contracts.palette.farthest.Near as Near
-use Rattle.sixel_palette.specs.contracts.palette.nears.Nears as Nears
-use Rattle.sixel_palette.specs.contracts.palette.nears.Nears.and as F
-use Rattle.sixel_palette.specs.contracts.palette.nears.Nears.and.Key.{name as #self}
-use Rattle.sixel_palette.proofs.palette.nears.Nears.and.Statement as stated
-use Rattle.sixel_palette.proofs.palette.nears.Nears.and.Code as code
+use Rattle.sixel_palette.specs.contracts.palette.nears.Known as Known
+use Rattle.sixel_palette.specs.contracts.palette.nears.Known.and as F
+use Rattle.sixel_palette.specs.contracts.palette.nears.Known.and.Key.{name as #self}
+use Rattle.sixel_palette.proofs.palette.nears.Known.and.Statement as stated
+use Rattle.sixel_palette.proofs.palette.nears.Known.and.Code as code
 
 abbrev ended : Ended
 ended = F.ended
 
 abbrev stayed : Stays ended.signature.params ended.kept
 stayed = (
-  stay_dropped (RefOf (0 ∷ []) tt (plain (λ _. Nears.the_row)) (λ _. tt)) yes,
+  stay_dropped (RefOf (0 ∷ []) tt (plain (λ _. Known.the_row)) (λ _. tt)) yes,
   (stay_dropped (RefOf (1 ∷ []) tt (plain (λ _. Near.the_row)) (λ _. tt)) yes, tt),
 )
 
@@ -55,7 +55,7 @@ module _ {M : Type 1} {𝓤 : Ura M} (𝓛 : Logic 𝓤) (at_mem : Memory → SP
     walks =
         let a = z.0.3 in
         let vss = z.0.4 in
-        let made : (Nears.the_row).Denot = record { items = a.0.now.items ++ a.1.0.now ∷ [] } in
+        let made : (Known.the_row).Denot = record { items = a.0.now.items ++ a.1.0.now ∷ [] } in
         let p = vptr a.0.ref_ptr.0 a.0.ref_ptr.1 in
         let q = vptr a.1.0.ref_ptr.0 a.1.0.ref_ptr.1 in
         qed 𝓛 ((raw (alive 𝓛 ended.signature z.0.0 z.0.1) ⊛ ‵ (owns (types_at ended.signature.params z.0.0) a vss)) ∷ raw ((held z.0.0 a).requires z.1) ∷ []) ∵
@@ -73,7 +73,7 @@ module _ {M : Type 1} {𝓤 : Ura M} (𝓛 : Logic 𝓤) (at_mem : Memory → SP
   meets : (𝓣 : Tables 𝓤 H) → Meets 𝓛 ended.signature (WpFn 𝓤 H 𝓣.C 𝓣.Λ code.function) (closing 𝓛 ended held)
   meets 𝓣 =
       walk_Meets 𝓛 ended stayed (
-        Goes-dropped 𝓛 2 (RefOf (0 ∷ []) tt (plain (λ _. Nears.the_row)) (λ _. tt)) yes (λ κs x f. refl),
+        Goes-dropped 𝓛 2 (RefOf (0 ∷ []) tt (plain (λ _. Known.the_row)) (λ _. tt)) yes (λ κs x f. refl),
         (Goes-dropped 𝓛 2 (RefOf (1 ∷ []) tt (plain (λ _. Near.the_row)) (λ _. tt)) yes (λ κs x f. refl), tt),
       ) held
       (WpFn 𝓤 H 𝓣.C 𝓣.Λ code.function) (WpFn-mono 𝓤 H 𝓛.laws 𝓣 code.function) (walks 𝓣.C 𝓣.Λ)

@@ -23,11 +23,11 @@ use denote.Triple.Spec.{Meets, triple_of}
 use denote.Triple.Table.{entered}
 use denote.Triple.Walked.{says, Stays, walk_of, ends_at, walk_Meets}
 use Rattle.sixel_base.proofs.EmptyStruct.{none_made}
-use Rattle.sixel_palette.specs.contracts.palette.nears.Nears as Nears
-use Rattle.sixel_palette.specs.contracts.palette.nears.Nears.new as F
-use Rattle.sixel_palette.specs.contracts.palette.nears.Nears.new.Key.{name as #self}
-use Rattle.sixel_palette.proofs.palette.nears.Nears.new.Statement as stated
-use Rattle.sixel_palette.proofs.palette.nears.Nears.new.Code as code
+use Rattle.sixel_palette.specs.contracts.palette.nears.Known as Known
+use Rattle.sixel_palette.specs.contracts.palette.nears.Known.new as F
+use Rattle.sixel_palette.specs.contracts.palette.nears.Known.new.Key.{name as #self}
+use Rattle.sixel_palette.proofs.palette.nears.Known.new.Statement as stated
+use Rattle.sixel_palette.proofs.palette.nears.Known.new.Code as code
 
 abbrev ended : Ended
 ended = F.ended
@@ -47,7 +47,7 @@ module _ {M : Type 1} {𝓤 : Ura M} (𝓛 : Logic 𝓤) (at_mem : Memory → SP
 
     walks : ent 𝓤 ((walk_of 𝓛 ended stayed held).pre z) (WpFn 𝓤 H C Λ code.function ((walk_of 𝓛 ended stayed held).args z) Post)
     walks =
-        let made : (Nears.the_row).Denot = record { items = [] } in
+        let made : (Known.the_row).Denot = record { items = [] } in
         qed 𝓛 ((raw (alive 𝓛 ended.signature z.0.0 z.0.1) ⊛ ‵ (owns (types_at ended.signature.params z.0.0) z.0.3 z.0.4)) ∷ raw ((held z.0.0 z.0.3).requires z.1) ∷ []) ∵
         keep ! (0 ∷ []) $ split ! $ keep ! (0 ∷ []) $
         enter ! C Λ code.function [] Post $ alloc_all ! (λ l. pass_all ! refl tt $
