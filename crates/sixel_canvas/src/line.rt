@@ -13,6 +13,9 @@ use sixel_base::limits::MAX_SIDE;
 use std::alloc::{AllocError, Global};
 use std::marker::Model;
 
+/// How many pixels a short stroke has at most.
+const SHORT: usize = 16;
+
 /// The answer of a call that only memory can be refused to.
 pub type AllocResult<T> = Result<T, AllocError>;
 
@@ -262,8 +265,8 @@ fn make_room(
     Ok(room)
 }
 
-// Appends pixels of one color up to a column that there is memory for. Where there is memory for them,
-// eights are written and what is too many is taken off, so that no branch asks where a stroke ends.
+// Appends pixels of one color up to a column that there is memory for. Where there is memory for them, as
+// many are written as a short stroke has at most, or else eights, so that no branch asks where it ends.
 #[inline(always)]
 fn fill_up(pixels: &mut Vec<[u8; 4]>, columns: usize, color: [u8; 4]) -> AllocResult<()>
     requires side { columns ≤ 1000000 }
@@ -274,8 +277,32 @@ fn fill_up(pixels: &mut Vec<[u8; 4]>, columns: usize, color: [u8; 4]) -> AllocRe
     ensures capacity { vec_capacity pixels.old ≤ vec_capacity pixels.new }
     ensures ok { IsOk result }
 {
-    let eights = pixels.len() + (columns - pixels.len()).div_ceil(8) * 8;
-    pixels.resize(eights.min(pixels.capacity()), color)?;
+    let held = pixels.len();
+    let more = columns - held;
+    if more <= SHORT && pixels.capacity() - held >= SHORT {
+        return fill_past(pixels, columns, held + SHORT, color);
+    }
+    let eights = held + more.div_ceil(8) * 8;
+    fill_past(pixels, columns, eights.min(pixels.capacity()), color)
+}
+
+// Appends pixels of one color up to `end`, and takes those off that stand past a column.
+#[inline(always)]
+fn fill_past(
+    pixels: &mut Vec<[u8; 4]>,
+    columns: usize,
+    end: usize,
+    color: [u8; 4],
+) -> AllocResult<()>
+    requires beyond { length pixels.old.items ≤ columns }
+    requires past { columns ≤ end }
+    requires memory { end ≤ vec_capacity pixels.old }
+    ensures filled { pixels.new.items
+        ≡ pixels.old.items ++ replicate (columns - length pixels.old.items) color }
+    ensures capacity { vec_capacity pixels.old ≤ vec_capacity pixels.new }
+    ensures ok { IsOk result }
+{
+    pixels.resize(end, color)?;
     pixels.truncate(columns);
     Ok(())
 }

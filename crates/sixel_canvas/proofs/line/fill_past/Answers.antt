@@ -1,25 +1,22 @@
-use Rattle.std.proofs.Common.{◌≡◌, ◌+◌, ◌-◌, ◌*◌, ◌≤◌, ◌++◌, length, take, replicate, sym, ap, ◌∙◌, take_all, arith}
+use Rattle.std.proofs.Common.{◌≡◌, ◌+◌, ◌-◌, ◌++◌, length, take, replicate, sym, ap, ◌∙◌, take_all, arith}
 use Rattle.std.proofs.Math.Seq.{take-append-add}
-use Rattle.std.proofs.lemmas.Grind.{div_ceil_times}
 use Rattle.std.proofs.lemmas.List.{take-replicate}
-use Rattle.sixel_canvas.proofs.line.fill_up.Goals as goal
+use Rattle.sixel_canvas.proofs.line.fill_past.Goals as goal
 
 pub returns-clause-filled : goal.returns-clause-filled
 returns-clause-filled c =
     let held = c.args.pixels.now.items in
     let color = c.args.color in
     let columns = c.args.columns in
+    let end = c.args.end in
     let more = columns - length held in
-    let end = c.min.result in
     let there : length held + more ≡ columns = omega (arith, c.requires.beyond) in
-    let eights : more ≤ c.div_ceil.result * 8 = omega (arith, (div_ceil_times more 8 (omega arith)).0, c.div_ceil.ensures, c.len-2.ensures) in
-    let enough : columns ≤ end = omega (arith, eights, there, c.requires.memory, c.min.ensures, c.capacity.ensures, c.len.ensures) in
     let filled : c.resize.new.self.items ≡ held ++ replicate (end - length held) color =
     c.in_ok-resize.ensures.items
     ∙ ap (λ n. take end held ++ replicate n color) (omega arith)
-    ∙ ap (λ xs. xs ++ replicate (end - length held) color) (take_all end held (omega (arith, enough, c.requires.beyond))) in
+    ∙ ap (λ xs. xs ++ replicate (end - length held) color) (take_all end held (omega (arith, c.requires.past, c.requires.beyond))) in
     c.truncate.ensures.items
     ∙ ap (take columns) filled
     ∙ ap (λ n. take n (held ++ replicate (end - length held) color)) (sym there)
     ∙ take-append-add held (replicate (end - length held) color) more
-    ∙ ap (λ xs. held ++ xs) (take-replicate more (end - length held) color (omega (arith, enough)))
+    ∙ ap (λ xs. held ++ xs) (take-replicate more (end - length held) color (omega (arith, c.requires.past)))
