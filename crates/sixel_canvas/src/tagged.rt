@@ -349,8 +349,10 @@ impl TaggedCanvas {
         ensures spread { self.old.spread ≤ self.new.spread }
         ensures bounded { IsBounded self.new }
     {
-        if to - from < WIDE && self.tags.height() <= top {
-            self.paints = self.paints.saturating_add(6 * (to - from) as u64);
+        let columns = to - from;
+        if self.tags.height() <= top && (columns < WIDE || are_bare(&self.sheet, top, from)) {
+            let painted = 6 * columns.min(columns / BLOCK + 2 * BLOCK);
+            self.paints = self.paints.saturating_add(painted as u64);
             return self.sheet.draw(from, to, top, bits, color);
         }
         self.draw_over(from, to, top, bits, color)
@@ -400,6 +402,19 @@ impl TaggedCanvas {
         );
         Ok(())
     }
+}
+
+// Whether none of the six rows from `top` on passes this column, so that a stroke from there on paints
+// over nothing, however wide it is.
+fn are_bare(sheet: &Canvas, top: usize, from: usize) -> bool
+    requires above_bottom { top + 6 ≤ 1000000 }
+    ensures { result ≡ true → (k : ℕ) → k < 6 → reached sheet.now (top + k) ≤ from }
+{
+    let mut widest = 0;
+    'rows: for bit in 0..6 {
+        widest = widest.max(sheet.width(top + bit));
+    }
+    widest <= from
 }
 
 // The columns that each of six rows is to hold, where the struck ones are to hold so many.

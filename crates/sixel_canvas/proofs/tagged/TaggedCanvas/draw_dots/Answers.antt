@@ -9,8 +9,8 @@ use Rattle.sixel_canvas.proofs.Tags.{IsTagged-grown, reached-tagged, shown-tagge
 use Rattle.sixel_canvas.proofs.Spread.{IsBounded-counted, IsSpread-grown}
 use Rattle.sixel_canvas.proofs.tagged.TaggedCanvas.draw_dots.Goals as goal
 
-pub returns-then-height-top-clause-drawn : goal.returns-then-height-top-clause-drawn
-returns-then-height-top-clause-drawn c =
+pub returns-then-are_bare-clause-drawn : goal.returns-then-are_bare-clause-drawn
+returns-then-are_bare-clause-drawn c =
     let sheet = c.self.inside.sheet in
     let next = c.draw.new.self in
     let tags = c.self.inside.tags in
@@ -23,8 +23,8 @@ returns-then-height-top-clause-drawn c =
     ∙ ap (λ p. if covered then c.args.color else p) (sym (shown-tagged sheet tags c.self.invariant.0 column row) ∙ ap (λ (s : CanvasState). shown s column row) c.self.view_is))
     c.draw.ensures.drawn
 
-pub returns-then-height-top-clause-grown : goal.returns-then-height-top-clause-grown
-returns-then-height-top-clause-grown c =
+pub returns-then-are_bare-clause-grown : goal.returns-then-are_bare-clause-grown
+returns-then-are_bare-clause-grown c =
     let sheet = c.self.inside.sheet in
     let tags = c.self.inside.tags in
     on_ok_weaker c.draw.result (λ grown row.
@@ -33,8 +33,8 @@ returns-then-height-top-clause-grown c =
     ∙ ap (λ n. if is_struck c.args.top c.args.bits row then max n c.args.to else n) before)
     c.draw.ensures.grown
 
-pub returns-then-height-top-clause-held : goal.returns-then-height-top-clause-held
-returns-then-height-top-clause-held c = λ some held.
+pub returns-then-are_bare-clause-held : goal.returns-then-are_bare-clause-held
+returns-then-are_bare-clause-held c = λ some held.
     let sheet = c.self.inside.sheet in
     let tags = c.self.inside.tags in
     c.draw.ensures.held some (λ k six.
@@ -49,8 +49,8 @@ invariant_of-self c =
       IsSpread-grown sheet c.draw.new.self band.top band.painted band.spread c.self.invariant.1 c.draw.ensures.never_less,
     )
 
-pub returns-then-height-top-clause-bounded : goal.returns-then-height-top-clause-bounded
-returns-then-height-top-clause-bounded c =
+pub returns-then-are_bare-clause-bounded : goal.returns-then-are_bare-clause-bounded
+returns-then-are_bare-clause-bounded c =
     let band = c.self.inside.band in
     let is = IsSpread-grown c.self.inside.sheet c.draw.new.self band.top band.painted band.spread c.self.invariant.1 c.draw.ensures.never_less in
     IsBounded-counted c.draw.new.self c.self.inside.tags band.top band.painted band.spread _ c.draw.ensures.bounded is
