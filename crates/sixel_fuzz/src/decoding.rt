@@ -1,14 +1,42 @@
 //! Cases of decoding: in one piece, in pieces, in single bytes, by a list of steps, and given up.
 
-use crate::payloads::{control_string, cuts, payload};
+use crate::payloads::{Kind, cuts, random_bytes};
 use crate::played::{
-    give_up_frame, give_up_string, have_same_registers, is_same_decoded, is_same_outcome,
-    is_same_play, play_frame, play_string,
+    decoded, give_up_frame, give_up_string, have_same_registers, is_same_outcome, play_frame,
+    play_string,
 };
 use crate::source::Source;
 use icy_sixel::script::{End, Outcome, Step, run};
-use icy_sixel::{DcsSettings, Result, SixelDecoder, SixelError, SixelImage};
-use std::alloc::{AllocError, Global};
+use icy_sixel::{DcsSettings, Result, SixelDecoder, SixelError};
+use std::alloc::Global;
+
+/// How bytes are to be decoded.
+#[derive(Clone, Copy)]
+enum Form {
+    Payload(DcsSettings),
+    ControlString,
+}
+
+/// A way to decode that must come to what a session comes to that has all bytes in one piece.
+#[derive(Clone, Copy)]
+enum Way {
+    Pieces,
+    SingleBytes,
+    Steps,
+    AtOnce,
+}
+
+const WAYS: [Way; 4] = [Way::Pieces, Way::SingleBytes, Way::Steps, Way::AtOnce];
+
+/// Bytes, the decoder that they meet, and the lengths of their pieces. The last length is for all
+/// that is left.
+#[derive(Drop)]
+struct Decoding {
+    start: SixelDecoder,
+    form: Form,
+    bytes: Vec<u8>,
+    cuts: Vec<usize>,
+}
 
 /// Settings with any of their fields.
 fn settings(source: &mut Source) -> DcsSettings {
@@ -17,100 +45,158 @@ fn settings(source: &mut Source) -> DcsSettings {
     DcsSettings::new(p1, p2, None)
 }
 
-/// As many pieces of one byte.
-fn single_bytes(alloc: Global, len: usize) -> std::result::Result<Vec<usize>, AllocError> {
-    vec![in alloc; 1; len]
-}
-
 /// A decoder that has decoded another payload before.
 fn used_decoder(alloc: Global, source: &mut Source) -> Result<SixelDecoder> {
     let mut decoder = SixelDecoder::new();
-    let bytes = payload(alloc, source)?;
+    let bytes = random_bytes(alloc, source, Kind::Payload)?;
     let _ = decoder.decode_from_dcs(alloc, &bytes, DcsSettings::default());
     Ok(decoder)
 }
 
-/// Whether a payload comes to the same in every way to decode it.
-pub fn is_payload_right(alloc: Global, source: &mut Source) -> Result<bool> {
+/// Bytes of this kind with their pieces, and a decoder.
+fn random_decoding(alloc: Global, source: &mut Source, kind: Kind) -> Result<Decoding> {
     let start = used_decoder(alloc, source)?;
-    let bytes = payload(alloc, source)?;
-    let settings = settings(source);
-    let cuts = cuts(alloc, source)?;
-    let singles = single_bytes(alloc, bytes.len())?;
-    let mut decoder = start.clone()?;
-    let decoded = decoder.decode_from_dcs(alloc, &bytes, settings);
-    let mut whole_decoder = start.clone()?;
-    let whole = play_frame(alloc, &mut whole_decoder, settings, &bytes, &[]);
-    let mut piece_decoder = start.clone()?;
-    let pieces = play_frame(alloc, &mut piece_decoder, settings, &bytes, &cuts);
-    let mut single_decoder = start.clone()?;
-    let single = play_frame(alloc, &mut single_decoder, settings, &bytes, &singles);
-    let mut step_decoder = start.clone()?;
-    let stepped = run_frame(alloc, &mut step_decoder, settings, &bytes, &cuts);
-    let mut idle_decoder = start.clone()?;
-    give_up_frame(alloc, &mut idle_decoder, settings, &bytes, &cuts)?;
-    Ok(
-        is_same_outcome(&whole, &decoded)
-            && is_same_play(&pieces, &whole)
-            && is_same_play(&single, &whole)
-            && have_same_registers(&whole_decoder, &decoder)
-            && have_same_registers(&piece_decoder, &decoder)
-            && have_same_registers(&single_decoder, &decoder)
-            && have_same_registers(&idle_decoder, &start)
-            && (decoded.is_ok() || have_same_registers(&decoder, &start))
-            && is_same_decoded(&stepped, &decoded)
-            && have_same_registers(&step_decoder, &decoder),
-    )
-}
-
-/// What a list of one step makes of a payload in pieces.
-fn run_frame(
-    alloc: Global,
-    decoder: &mut SixelDecoder,
-    settings: DcsSettings,
-    bytes: &[u8],
-    cuts: &[usize],
-) -> Result<SixelImage> {
-    let steps = [Step::Frame {
-        settings,
-        bytes,
-        cuts,
-        ending: End::Finish,
-    }];
-    let mut outcomes = run(alloc, decoder, &steps)?;
-    match outcomes.pop() {
-        Some(Outcome::Finished { image, .. }) => Ok(image),
-        Some(Outcome::Failed(error)) => Err(error),
-        _ => Err(SixelError::OutOfMemory),
+    let bytes = random_bytes(alloc, source, kind)?;
+    let form = match kind {
+        Kind::Payload => Form::Payload(settings(source)),
+        _ => Form::ControlString,
+    };
+    match cuts(alloc, source) {
+        Ok(cuts) => Ok(Decoding {
+            start,
+            form,
+            bytes,
+            cuts,
+        }),
+        Err(error) => Err(error),
     }
 }
 
-/// Whether a control string comes to the same in every way to decode it as it comes, and, where it
-/// is finished, to what it is at once.
-pub fn is_string_right(alloc: Global, source: &mut Source) -> Result<bool> {
-    let start = used_decoder(alloc, source)?;
-    let bytes = control_string(alloc, source)?;
-    let cuts = cuts(alloc, source)?;
-    let singles = single_bytes(alloc, bytes.len())?;
-    let mut decoder = start.clone()?;
-    let decoded = decoder.decode(alloc, &bytes);
-    let mut whole_decoder = start.clone()?;
-    let whole = play_string(alloc, &mut whole_decoder, &bytes, &[]);
-    let mut piece_decoder = start.clone()?;
-    let pieces = play_string(alloc, &mut piece_decoder, &bytes, &cuts);
-    let mut single_decoder = start.clone()?;
-    let single = play_string(alloc, &mut single_decoder, &bytes, &singles);
-    let mut idle_decoder = start.clone()?;
-    give_up_string(alloc, &mut idle_decoder, &bytes, &cuts);
-    let is_finished = whole.is_ok();
-    Ok(
-        is_same_play(&pieces, &whole)
-            && is_same_play(&single, &whole)
-            && have_same_registers(&piece_decoder, &whole_decoder)
-            && have_same_registers(&single_decoder, &whole_decoder)
-            && have_same_registers(&idle_decoder, &start)
-            && (!is_finished || is_same_outcome(&whole, &decoded))
-            && (!is_finished || have_same_registers(&whole_decoder, &decoder))
-            && (is_finished || have_same_registers(&whole_decoder, &start)),
-    )
+/// Whether bytes of this kind come to the same in every way to decode them.
+pub fn is_decoding_right(alloc: Global, source: &mut Source, kind: Kind) -> bool {
+    match random_decoding(alloc, source, kind) {
+        Ok(decoding) => decoding.is_right(alloc),
+        Err(_) => false,
+    }
+}
+
+impl Decoding {
+    /// Whether all ways come to the same, and none that is refused or given up changes a register.
+    fn is_right(&self, alloc: Global) -> bool {
+        let Ok(mut decoder) = self.start.clone() else {
+            return false;
+        };
+        let whole = self.play(alloc, &mut decoder, &[usize::MAX]);
+        let mut is_right = self.is_given_up(alloc) && self.is_kept(&whole, &decoder);
+        for way in WAYS {
+            is_right = is_right && self.agrees(alloc, way, &whole, &decoder);
+        }
+        is_right
+    }
+
+    /// Whether the registers are as they were, where a session was refused.
+    fn is_kept(&self, whole: &Outcome, left: &SixelDecoder) -> bool {
+        !matches!(whole, Outcome::Failed(_)) || have_same_registers(left, &self.start)
+    }
+
+    /// Whether a way comes to this outcome, and leaves the registers of this decoder.
+    fn agrees(&self, alloc: Global, way: Way, whole: &Outcome, left: &SixelDecoder) -> bool {
+        let Ok(mut decoder) = self.start.clone() else {
+            return false;
+        };
+        let outcome = self.decode(alloc, way, &mut decoder);
+        self.may_differ(way, whole)
+            || is_same_outcome(&outcome, whole) && have_same_registers(&decoder, left)
+    }
+
+    /// Whether a way may come to something else: bytes that are refused as they come may have a
+    /// control string further on, which is found at once.
+    fn may_differ(&self, way: Way, whole: &Outcome) -> bool {
+        matches!(
+            (way, self.form, whole),
+            (Way::AtOnce, Form::ControlString, Outcome::Failed(_))
+        )
+    }
+
+    /// What the bytes come to in a way to decode them.
+    fn decode(&self, alloc: Global, way: Way, decoder: &mut SixelDecoder) -> Outcome {
+        match way {
+            Way::Pieces => self.play(alloc, decoder, &self.cuts),
+            Way::SingleBytes => self.play_single_bytes(alloc, decoder),
+            Way::Steps => self.run_step(alloc, decoder),
+            Way::AtOnce => self.decode_at_once(alloc, decoder),
+        }
+    }
+
+    /// What a session comes to in pieces of these lengths.
+    fn play(&self, alloc: Global, decoder: &mut SixelDecoder, cuts: &[usize]) -> Outcome {
+        match self.form {
+            Form::Payload(settings) => play_frame(alloc, decoder, settings, &self.bytes, cuts),
+            Form::ControlString => play_string(alloc, decoder, &self.bytes, cuts),
+        }
+    }
+
+    /// The same in pieces of one byte, with none left for the last one.
+    fn play_single_bytes(&self, alloc: Global, decoder: &mut SixelDecoder) -> Outcome {
+        match vec![in alloc; 1; self.bytes.len().saturating_add(1)] {
+            Ok(cuts) => self.play(alloc, decoder, &cuts),
+            Err(_) => Outcome::Failed(SixelError::OutOfMemory),
+        }
+    }
+
+    /// What decoding at once comes to.
+    fn decode_at_once(&self, alloc: Global, decoder: &mut SixelDecoder) -> Outcome {
+        decoded(match self.form {
+            Form::Payload(settings) => decoder.decode_from_dcs(alloc, &self.bytes, settings),
+            Form::ControlString => decoder.decode(alloc, &self.bytes),
+        })
+    }
+
+    /// What a list of one step comes to, in pieces.
+    fn run_step(&self, alloc: Global, decoder: &mut SixelDecoder) -> Outcome {
+        let bytes = self.bytes.as_slice();
+        let cuts = self.first_cuts();
+        let ending = End::Finish;
+        let step = match self.form {
+            Form::Payload(settings) => Step::Frame {
+                settings,
+                bytes,
+                cuts,
+                ending,
+            },
+            Form::ControlString => Step::Dcs {
+                bytes,
+                cuts,
+                ending,
+            },
+        };
+        match run(alloc, decoder, &[step]) {
+            Ok(mut outcomes) => match outcomes.pop() {
+                Some(outcome) => outcome,
+                None => Outcome::Reset,
+            },
+            Err(error) => Outcome::Failed(error),
+        }
+    }
+
+    /// All lengths but the last, after which bytes may be left.
+    fn first_cuts(&self) -> &[usize] {
+        match self.cuts.as_slice() {
+            [cuts @ .., _] => cuts,
+            [] => &[],
+        }
+    }
+
+    /// Whether a session that is given up leaves the registers as they were.
+    fn is_given_up(&self, alloc: Global) -> bool {
+        let Ok(mut decoder) = self.start.clone() else {
+            return false;
+        };
+        let (bytes, cuts) = (self.bytes.as_slice(), self.first_cuts());
+        let is_begun = match self.form {
+            Form::Payload(settings) => give_up_frame(alloc, &mut decoder, settings, bytes, cuts),
+            Form::ControlString => give_up_string(alloc, &mut decoder, bytes, cuts),
+        };
+        is_begun && have_same_registers(&decoder, &self.start)
+    }
 }

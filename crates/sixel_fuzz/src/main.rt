@@ -11,29 +11,43 @@ mod played;
 mod program;
 mod source;
 mod trips;
+mod written;
 
-use decoding::{is_payload_right, is_string_right};
+use decoding::is_decoding_right;
 use icy_sixel::Result;
-use program::{Answer, Case};
+use payloads::Kind;
+use program::{Part, write_part};
 use source::Source;
 use std::alloc::Global;
 use std::io::Write;
 use std::process::ExitCode;
 use std::{env, io};
 use trips::is_trip_right;
+use written::Written;
 
 fn main(rt: HostRuntime) -> io::Result<ExitCode> {
     let arguments: Vec<String> = env::args(&rt)?.collect(rt.alloc())?;
-    match arguments.as_slice() {
-        [_, count, seed] => match (count.parse(), seed.parse()) {
-            (Ok(count), Ok(seed)) => try_cases(&rt, count, seed),
-            _ => usage(&rt),
+    run(&rt, &arguments)
+}
+
+fn run(rt: &HostRuntime, arguments: &[String]) -> io::Result<ExitCode> {
+    match arguments {
+        [_, count, seed] => match numbers(count, seed) {
+            Some((count, seed)) => try_cases(rt, count, seed),
+            None => usage(rt),
         },
-        [_, part, seed, case] => match (seed.parse(), case.parse()) {
-            (Ok(seed), Ok(case)) => write_part(&rt, part, &mut Source::new(seed, case)),
-            _ => usage(&rt),
+        [_, part, seed, case] => match (Part::of(part), numbers(seed, case)) {
+            (Some(part), Some((seed, case))) => tell_part(rt, part, Source::new(seed, case)),
+            _ => usage(rt),
         },
-        _ => usage(&rt),
+        _ => usage(rt),
+    }
+}
+
+fn numbers(first: &str, second: &str) -> Option<(u64, u64)> {
+    match (first.parse(), second.parse()) {
+        (Ok(first), Ok(second)) => Some((first, second)),
+        _ => None,
     }
 }
 
@@ -46,7 +60,7 @@ fn usage(rt: &HostRuntime) -> io::Result<ExitCode> {
 fn try_cases(rt: &HostRuntime, count: u64, seed: u64) -> io::Result<ExitCode> {
     let mut wrong = 0_u64;
     for case in 0..count {
-        if is_right(rt.alloc(), seed, case) != Ok(true) {
+        if !is_right(rt.alloc(), seed, case) {
             println!(rt; "case {case} is wrong")?;
             wrong = wrong.saturating_add(1);
         }
@@ -60,38 +74,24 @@ fn try_cases(rt: &HostRuntime, count: u64, seed: u64) -> io::Result<ExitCode> {
 }
 
 /// Whether a case is right: a payload, a control string or a drawing.
-fn is_right(alloc: Global, seed: u64, case: u64) -> Result<bool> {
+fn is_right(alloc: Global, seed: u64, case: u64) -> bool {
     let mut source = Source::new(seed, case);
     match case % 3 {
-        0 => is_payload_right(alloc, &mut source),
-        1 => is_string_right(alloc, &mut source),
+        0 => is_decoding_right(alloc, &mut source, Kind::Payload),
+        1 => is_decoding_right(alloc, &mut source, Kind::ControlString),
         _ => is_trip_right(alloc, &mut source),
     }
 }
 
 /// Writes a part of a run of the program. The answer goes to standard output and standard error, and
 /// its status is the program's.
-fn write_part(rt: &HostRuntime, part: &str, source: &mut Source) -> io::Result<ExitCode> {
-    let case = Case::new(rt.alloc(), source)?;
-    let mut output = rt.stdout();
-    match part {
-        "words" => {
-            let words = case.words(rt.alloc())?;
-            println!(rt; "{words}")?;
-        }
-        "input" => output.write_all(&case.input)?,
-        "answer" => {
-            let Answer {
-                output: bytes,
-                refusal,
-            } = case.answer(rt.alloc());
-            output.write_all(&bytes)?;
-            if let Err(error) = refusal {
-                rt.eprintln(error)?;
-                return Ok(ExitCode::FAILURE);
-            }
-        }
-        _ => return usage(rt),
+fn tell_part(rt: &HostRuntime, part: Part, source: Source) -> io::Result<ExitCode> {
+    let mut output = Written::new(rt.alloc());
+    let answer = write_part(rt.alloc(), part, source, &mut output);
+    rt.stdout().write_all(&output.bytes)?;
+    if let Err(error) = answer {
+        rt.eprintln(error)?;
+        return Ok(ExitCode::FAILURE);
     }
     Ok(ExitCode::SUCCESS)
 }

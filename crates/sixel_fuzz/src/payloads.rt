@@ -1,11 +1,19 @@
 //! Random payloads and control strings: by the grammar, and then with bytes changed.
 
 use crate::source::Source;
-use std::alloc::{AllocError, Global};
+use crate::written::Written;
+use icy_sixel::Result;
+use std::alloc::Global;
 
-type Bytes = std::result::Result<Vec<u8>, AllocError>;
-
-type Written = std::result::Result<(), AllocError>;
+/// What bytes are made as.
+#[derive(Clone, Copy)]
+pub enum Kind {
+    Payload,
+    /// A control string, and what follows it.
+    ControlString,
+    /// Control strings one after the other.
+    ControlStrings,
+}
 
 // Numbers of a command as a producer writes them, of repeats and sizes that stay small.
 const NUMBERS: [&[u8]; 16] = [
@@ -52,144 +60,151 @@ const HEADERS: [&[u8]; 8] = [
 // Bytes that no command begins with, and controls that are ignored.
 const SKIPPED: [&[u8]; 8] = [b" ", b"\n", b"%", b"9", b";", b"\x7f", b"\xa0", b"\xff"];
 
-/// A number of a command.
-fn write_number(source: &mut Source, bytes: &mut Vec<u8>) -> Written {
-    if source.is_rare(200) {
-        return bytes.extend_from_slice(LIMITS[source.place(8)]);
-    }
-    bytes.extend_from_slice(NUMBERS[source.place(16)])
+/// One text of a table.
+fn write_one(source: &mut Source, table: &[&[u8]; 8], bytes: &mut Written) {
+    bytes.write(table[source.place(8)]);
 }
 
-/// Fields of a command, with `;` between two.
-fn write_fields(source: &mut Source, count: u32, bytes: &mut Vec<u8>) -> Written {
+/// A number of a command.
+fn write_number(source: &mut Source, bytes: &mut Written) {
+    if source.is_rare(200) {
+        write_one(source, &LIMITS, bytes);
+    } else {
+        bytes.write(NUMBERS[source.place(16)]);
+    }
+}
+
+/// The start of a command and so many fields, with `;` between two.
+fn write_fields(source: &mut Source, start: &[u8], count: u32, bytes: &mut Written) {
+    bytes.write(start);
     for field in 0..count {
         if field > 0 {
-            bytes.push(b';')?;
+            bytes.push(b';');
         }
-        write_number(source, bytes)?;
+        write_number(source, bytes);
     }
-    Ok(())
 }
 
-fn write_sixel(source: &mut Source, bytes: &mut Vec<u8>) -> Written {
-    Ok(bytes.push(63 + source.byte() % 64)?)
+fn write_sixel(source: &mut Source, bytes: &mut Written) {
+    bytes.push(63 + source.byte() % 64);
+}
+
+fn write_repeat(source: &mut Source, bytes: &mut Written) {
+    write_fields(source, b"!", 1, bytes);
+    write_sixel(source, bytes);
 }
 
 /// A definition of a register, by percentages or by a hue.
-fn write_definition(source: &mut Source, bytes: &mut Vec<u8>) -> Written {
-    bytes.push(b'#')?;
-    write_number(source, bytes)?;
-    bytes.extend_from_slice(if source.is_rare(3) { b";1;" } else { b";2;" })?;
-    write_fields(source, 3, bytes)
+fn write_definition(source: &mut Source, bytes: &mut Written) {
+    write_fields(source, b"#", 1, bytes);
+    let system = if source.is_rare(3) { b";1;" } else { b";2;" };
+    write_fields(source, system, 3, bytes);
 }
 
 /// One command, sixel or byte that is skipped.
-fn write_token(source: &mut Source, bytes: &mut Vec<u8>) -> Written {
+fn write_token(source: &mut Source, bytes: &mut Written) {
     match source.below(16) {
         0..=6 => write_sixel(source, bytes),
-        7 | 8 => {
-            bytes.push(b'!')?;
-            write_number(source, bytes)?;
-            write_sixel(source, bytes)
-        }
-        9 => Ok(bytes.push(b'$')?),
-        10 => Ok(bytes.push(b'-')?),
-        11 => {
-            bytes.push(b'#')?;
-            write_number(source, bytes)
-        }
+        7 | 8 => write_repeat(source, bytes),
+        9 => bytes.push(b'$'),
+        10 => bytes.push(b'-'),
+        11 => write_fields(source, b"#", 1, bytes),
         12 | 13 => write_definition(source, bytes),
         14 => {
-            bytes.push(b'"')?;
             let count = source.below(6);
-            write_fields(source, count, bytes)
+            write_fields(source, b"\"", count, bytes);
         }
-        _ => bytes.extend_from_slice(SKIPPED[source.place(8)]),
+        _ => write_one(source, &SKIPPED, bytes),
     }
 }
 
-fn write_tokens(source: &mut Source, bytes: &mut Vec<u8>) -> Written {
+fn write_tokens(source: &mut Source, bytes: &mut Written) {
     for _ in 0..source.below(40) {
-        write_token(source, bytes)?;
+        write_token(source, bytes);
     }
-    Ok(())
+}
+
+/// A payload, and in one case of four a terminator with what follows it.
+fn write_payload(source: &mut Source, bytes: &mut Written) {
+    write_tokens(source, bytes);
+    if source.is_rare(4) {
+        write_one(source, &TERMINATORS, bytes);
+        write_tokens(source, bytes);
+    }
+}
+
+/// A control string, in most cases with an introducer that is whole and stands first.
+fn write_string(source: &mut Source, bytes: &mut Written) {
+    let introducers = if source.is_rare(8) { 4 } else { 2 };
+    bytes.write(INTRODUCERS[source.place(introducers)]);
+    write_one(source, &HEADERS, bytes);
+    write_tokens(source, bytes);
+    write_one(source, &TERMINATORS, bytes);
+}
+
+/// Bytes of a kind, before any is changed.
+fn write_kind(source: &mut Source, kind: Kind, bytes: &mut Written) {
+    match kind {
+        Kind::Payload => write_payload(source, bytes),
+        Kind::ControlString => {
+            write_string(source, bytes);
+            if source.is_rare(4) {
+                write_tokens(source, bytes);
+            }
+        }
+        Kind::ControlStrings => {
+            for _ in 0..source.below(4) {
+                write_string(source, bytes);
+            }
+        }
+    }
 }
 
 /// Changes, drops or adds up to three bytes, in one case of two.
-fn mutate(source: &mut Source, bytes: &mut Vec<u8>) -> Written {
-    if source.is_rare(2) {
-        return Ok(());
-    }
-    for _ in 0..source.below(4) {
-        let byte = source.byte();
-        let place = source.place(bytes.len().max(1));
-        if place >= bytes.len() {
-            bytes.push(byte)?;
-        } else if source.is_rare(3) {
-            bytes.remove(place);
-        } else {
-            bytes[place] = byte;
+fn mutate(source: &mut Source, bytes: &mut Written) {
+    if !source.is_rare(2) {
+        for _ in 0..source.below(4) {
+            mutate_one(source, bytes);
         }
     }
-    Ok(())
 }
 
-/// A payload.
-pub fn payload(alloc: Global, source: &mut Source) -> Bytes {
-    let mut bytes = Vec::new(alloc);
-    write_tokens(source, &mut bytes)?;
-    if source.is_rare(4) {
-        bytes.extend_from_slice(TERMINATORS[source.place(8)])?;
-        write_tokens(source, &mut bytes)?;
-    }
-    mutate(source, &mut bytes)?;
-    Ok(bytes)
-}
-
-fn write_string(source: &mut Source, bytes: &mut Vec<u8>) -> Written {
-    let introducer = if source.is_rare(8) {
-        source.place(4)
+fn mutate_one(source: &mut Source, written: &mut Written) {
+    let byte = source.byte();
+    let place = source.place(written.bytes.len().max(1));
+    if place >= written.bytes.len() {
+        written.push(byte);
+    } else if source.is_rare(3) {
+        written.bytes.remove(place);
     } else {
-        source.place(2)
-    };
-    bytes.extend_from_slice(INTRODUCERS[introducer])?;
-    bytes.extend_from_slice(HEADERS[source.place(8)])?;
-    write_tokens(source, bytes)?;
-    bytes.extend_from_slice(TERMINATORS[source.place(8)])
-}
-
-/// A control string, and what follows it.
-pub fn control_string(alloc: Global, source: &mut Source) -> Bytes {
-    let mut bytes = Vec::new(alloc);
-    write_string(source, &mut bytes)?;
-    if source.is_rare(4) {
-        write_tokens(source, &mut bytes)?;
+        written.bytes[place] = byte;
     }
-    mutate(source, &mut bytes)?;
-    Ok(bytes)
 }
 
-/// Control strings one after the other.
-pub fn control_strings(alloc: Global, source: &mut Source) -> Bytes {
-    let mut bytes = Vec::new(alloc);
-    for _ in 0..source.below(4) {
-        write_string(source, &mut bytes)?;
-    }
-    mutate(source, &mut bytes)?;
-    Ok(bytes)
+/// Bytes of a kind, some of which may be changed.
+pub fn random_bytes(alloc: Global, source: &mut Source, kind: Kind) -> Result<Vec<u8>> {
+    let mut bytes = Written::new(alloc);
+    write_kind(source, kind, &mut bytes);
+    mutate(source, &mut bytes);
+    bytes.finish()
 }
 
-/// Lengths of pieces, some of them 0.
-pub fn cuts(alloc: Global, source: &mut Source) -> std::result::Result<Vec<usize>, AllocError> {
-    let mut cuts = Vec::new(alloc);
-    for _ in 0..source.below(60) {
-        let length = match source.below(4) {
-            0 => 0,
-            1 => 1,
-            2 => source.place(5),
-            _ => source.place(60),
-        };
-        cuts.push(length)?;
+/// Lengths of pieces, some of them 0, with the last one for all that is left.
+pub fn cuts(alloc: Global, source: &mut Source) -> Result<Vec<usize>> {
+    let mut cuts = vec![in alloc; usize::MAX; 1 + source.below(60) as usize]?;
+    if let [lengths @ .., _] = cuts.as_mut_slice() {
+        for length in lengths {
+            *length = random_length(source);
+        }
     }
     Ok(cuts)
+}
+
+fn random_length(source: &mut Source) -> usize {
+    match source.below(4) {
+        0 => 0,
+        1 => 1,
+        2 => source.place(5),
+        _ => source.place(60),
+    }
 }

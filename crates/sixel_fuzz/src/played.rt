@@ -1,45 +1,68 @@
-//! What sessions and one-shot calls make of bytes, and whether two of them agree.
+//! What sessions make of bytes, and whether two ways to decode come to the same.
 
+use icy_sixel::script::{Outcome, Status};
 use icy_sixel::{
-    DcsSettings, Result, SixelDcsFeedStatus, SixelDecoder, SixelError, SixelFeedStatus, SixelImage,
+    DcsSettings, Result, SixelDcsFeedResult, SixelDcsFeedStatus, SixelDcsStreamDecoder,
+    SixelDecoder, SixelError, SixelFeedResult, SixelFeedStatus, SixelImage, SixelStreamDecoder,
 };
 use std::alloc::Global;
 
-/// What a session consumed, how it stood, and its image.
-#[derive(Drop)]
-pub struct Played<S> {
-    pub consumed: usize,
-    pub status: S,
-    pub image: SixelImage,
+/// Feeds a payload in pieces of these lengths. A session that has ended is fed further.
+fn feed_frame(
+    session: &mut SixelStreamDecoder<'_>,
+    bytes: &[u8],
+    cuts: &[usize],
+) -> Result<SixelFeedResult> {
+    let mut consumed: usize = 0;
+    let mut status = SixelFeedStatus::NeedMoreData;
+    let mut rest = bytes;
+    for cut in cuts {
+        let (piece, after) = rest.split_at(rest.len().min(*cut));
+        let fed = session.feed(piece)?;
+        consumed = consumed.saturating_add(fed.consumed);
+        status = fed.status;
+        rest = after;
+    }
+    Ok(SixelFeedResult { consumed, status })
 }
 
-/// Feeds a payload in pieces of these lengths and a last one of all that is left, and finishes. A
-/// session that has ended is fed further.
+/// The same of a control string.
+fn feed_string(
+    session: &mut SixelDcsStreamDecoder<'_>,
+    bytes: &[u8],
+    cuts: &[usize],
+) -> Result<SixelDcsFeedResult> {
+    let mut consumed: usize = 0;
+    let mut status = SixelDcsFeedStatus::NeedMoreData;
+    let mut rest = bytes;
+    for cut in cuts {
+        let (piece, after) = rest.split_at(rest.len().min(*cut));
+        let fed = session.feed(piece)?;
+        consumed = consumed.saturating_add(fed.consumed);
+        status = fed.status;
+        rest = after;
+    }
+    Ok(SixelDcsFeedResult { consumed, status })
+}
+
+/// What a session of a payload in pieces of these lengths comes to. It is dropped at a refusal, and
+/// else finished.
 pub fn play_frame(
     alloc: Global,
     decoder: &mut SixelDecoder,
     settings: DcsSettings,
     bytes: &[u8],
     cuts: &[usize],
-) -> Result<Played<SixelFeedStatus>> {
-    let mut session = decoder.begin_frame(alloc, settings)?;
-    let mut consumed: usize = 0;
-    let mut rest = bytes;
-    for cut in cuts {
-        let (piece, after) = rest.split_at(rest.len().min(*cut));
-        let fed = session.feed(piece)?;
-        consumed = consumed.saturating_add(fed.consumed);
-        rest = after;
+) -> Outcome {
+    match decoder.begin_frame(alloc, settings) {
+        Ok(mut session) => match feed_frame(&mut session, bytes, cuts) {
+            Ok(SixelFeedResult { consumed, status }) => {
+                finished(consumed, Status::Payload(status), session.finish())
+            }
+            Err(error) => Outcome::Failed(error),
+        },
+        Err(error) => Outcome::Failed(error),
     }
-    let fed = session.feed(rest)?;
-    consumed = consumed.saturating_add(fed.consumed);
-    let status = fed.status;
-    let image = session.finish()?;
-    Ok(Played {
-        consumed,
-        status,
-        image,
-    })
 }
 
 /// The same of a control string.
@@ -48,85 +71,92 @@ pub fn play_string(
     decoder: &mut SixelDecoder,
     bytes: &[u8],
     cuts: &[usize],
-) -> Result<Played<SixelDcsFeedStatus>> {
+) -> Outcome {
     let mut session = decoder.begin_dcs(alloc);
-    let mut consumed: usize = 0;
-    let mut rest = bytes;
-    for cut in cuts {
-        let (piece, after) = rest.split_at(rest.len().min(*cut));
-        let fed = session.feed(piece)?;
-        consumed = consumed.saturating_add(fed.consumed);
-        rest = after;
+    match feed_string(&mut session, bytes, cuts) {
+        Ok(SixelDcsFeedResult { consumed, status }) => {
+            finished(consumed, Status::Dcs(status), session.finish())
+        }
+        Err(error) => Outcome::Failed(error),
     }
-    let fed = session.feed(rest)?;
-    consumed = consumed.saturating_add(fed.consumed);
-    let status = fed.status;
-    let image = session.finish()?;
-    Ok(Played {
-        consumed,
-        status,
-        image,
-    })
 }
 
-/// Feeds a payload in pieces of these lengths, and gives it up. A refusal is no fault here.
+/// What a session came to that consumed so many bytes and stood so, and then was finished.
+fn finished(consumed: usize, status: Status, image: Result<SixelImage>) -> Outcome {
+    match image {
+        Ok(image) => Outcome::Finished {
+            consumed,
+            status,
+            image,
+        },
+        Err(error) => Outcome::Failed(error),
+    }
+}
+
+/// What a call came to that decodes at once.
+pub fn decoded(image: Result<SixelImage>) -> Outcome {
+    match image {
+        Ok(image) => Outcome::Decoded(image),
+        Err(error) => Outcome::Failed(error),
+    }
+}
+
+/// Feeds a payload in pieces of these lengths and then all of it once more, also after a refusal,
+/// and gives it up. Tells whether it was begun.
 pub fn give_up_frame(
     alloc: Global,
     decoder: &mut SixelDecoder,
     settings: DcsSettings,
     bytes: &[u8],
     cuts: &[usize],
-) -> Result<()> {
-    let mut session = decoder.begin_frame(alloc, settings)?;
-    let mut rest = bytes;
-    for cut in cuts {
-        let (piece, after) = rest.split_at(rest.len().min(*cut));
-        let _ = session.feed(piece);
-        rest = after;
-    }
+) -> bool {
+    let Ok(mut session) = decoder.begin_frame(alloc, settings) else {
+        return false;
+    };
+    let _ = feed_frame(&mut session, bytes, cuts);
+    let _ = session.feed(bytes);
     session.abort();
-    Ok(())
+    true
 }
 
-/// The same of a control string.
-pub fn give_up_string(alloc: Global, decoder: &mut SixelDecoder, bytes: &[u8], cuts: &[usize]) {
+/// The same of a control string, which always is begun.
+pub fn give_up_string(
+    alloc: Global,
+    decoder: &mut SixelDecoder,
+    bytes: &[u8],
+    cuts: &[usize],
+) -> bool {
     let mut session = decoder.begin_dcs(alloc);
-    let mut rest = bytes;
-    for cut in cuts {
-        let (piece, after) = rest.split_at(rest.len().min(*cut));
-        let _ = session.feed(piece);
-        rest = after;
-    }
+    let _ = feed_string(&mut session, bytes, cuts);
+    let _ = session.feed(bytes);
     session.abort();
+    true
 }
 
-/// Whether two sessions ended the same, or were refused for the same.
-pub fn is_same_play<S: PartialEq>(one: &Result<Played<S>>, other: &Result<Played<S>>) -> bool {
+/// Whether two ways came to the same, or were refused for the same. Only sessions tell how many
+/// bytes they consumed and how they stood.
+pub fn is_same_outcome(one: &Outcome, other: &Outcome) -> bool {
     match (one, other) {
-        (Ok(one), Ok(other)) => {
-            one.consumed == other.consumed
-                && one.status == other.status
-                && is_same_image(&one.image, &other.image)
+        (
+            Outcome::Finished {
+                consumed,
+                status,
+                image,
+            },
+            Outcome::Finished {
+                consumed: other_consumed,
+                status: other_status,
+                image: other_image,
+            },
+        ) => {
+            consumed == other_consumed
+                && status == other_status
+                && is_same_image(image, other_image)
         }
-        (Err(one), Err(other)) => is_same_error(one, other),
-        _ => false,
-    }
-}
-
-/// Whether a session came to what a call that decodes at once did.
-pub fn is_same_outcome<S>(played: &Result<Played<S>>, decoded: &Result<SixelImage>) -> bool {
-    match (played, decoded) {
-        (Ok(played), Ok(image)) => is_same_image(&played.image, image),
-        (Err(one), Err(other)) => is_same_error(one, other),
-        _ => false,
-    }
-}
-
-/// Whether two calls that decode at once came to the same.
-pub fn is_same_decoded(one: &Result<SixelImage>, other: &Result<SixelImage>) -> bool {
-    match (one, other) {
-        (Ok(one), Ok(other)) => is_same_image(one, other),
-        (Err(one), Err(other)) => is_same_error(one, other),
+        (Outcome::Decoded(image), Outcome::Finished { image: other, .. }) => {
+            is_same_image(image, other)
+        }
+        (Outcome::Failed(one), Outcome::Failed(other)) => is_same_error(one, other),
         _ => false,
     }
 }

@@ -1,57 +1,83 @@
 //! Cases of the program `sixel`: its words, its input, and what the library answers to these.
 
-use crate::payloads::{control_string, control_strings, payload};
+use crate::payloads::{Kind, random_bytes};
+use crate::played::play_string;
 use crate::source::Source;
 use crate::trips::random_drawing;
+use crate::written::Written;
+use icy_sixel::script::{Outcome, Status};
 use icy_sixel::{
     DcsSettings, EncodeOptions, Result, SixelDcsFeedStatus, SixelDecoder, SixelImage, sixel_encode,
 };
-use std::alloc::{AllocError, Global};
+use std::alloc::Global;
 
 /// What the program is run for.
 #[derive(Clone, Copy)]
 enum Words {
     Payload,
     Decode,
-    Frames(u32),
+    Frames(usize),
     Encode(usize, usize, u16),
+}
+
+/// What is told of a run of the program.
+#[derive(Clone, Copy)]
+pub enum Part {
+    Words,
+    Input,
+    Answer,
+}
+
+impl Part {
+    pub fn of(word: &str) -> Option<Part> {
+        match word {
+            "words" => Some(Part::Words),
+            "input" => Some(Part::Input),
+            "answer" => Some(Part::Answer),
+            _ => None,
+        }
+    }
 }
 
 /// A run of the program.
 #[derive(Drop)]
-pub struct Case {
+struct Case {
     words: Words,
-    pub input: Vec<u8>,
+    input: Vec<u8>,
 }
 
-/// What the program must write, and the refusal after it, if there is one.
-#[derive(Drop)]
-pub struct Answer {
-    pub output: Vec<u8>,
-    pub refusal: Result<()>,
+/// Writes a part of a random run, up to a refusal.
+pub fn write_part(
+    alloc: Global,
+    part: Part,
+    mut source: Source,
+    output: &mut Written,
+) -> Result<()> {
+    let case = Case::new(alloc, &mut source)?;
+    match part {
+        Part::Words => case.write_words(alloc, output),
+        Part::Input => output.write(&case.input),
+        Part::Answer => return case.write_answer(alloc, output),
+    }
+    output.refusal()
 }
 
 impl Case {
-    pub fn new(alloc: Global, source: &mut Source) -> std::result::Result<Case, AllocError> {
-        match source.below(4) {
-            0 => Ok(Case {
-                words: Words::Payload,
-                input: payload(alloc, source)?,
-            }),
-            1 => Ok(Case {
-                words: Words::Decode,
-                input: control_string(alloc, source)?,
-            }),
-            2 => Ok(Case {
-                words: Words::Frames(1 + source.below(30)),
-                input: control_strings(alloc, source)?,
-            }),
-            _ => Case::of_drawing(alloc, source),
+    fn new(alloc: Global, source: &mut Source) -> Result<Case> {
+        let (words, kind) = match source.below(4) {
+            0 => (Words::Payload, Kind::Payload),
+            1 => (Words::Decode, Kind::ControlString),
+            2 => (Words::Frames(1 + source.place(30)), Kind::ControlStrings),
+            _ => return Case::of_drawing(alloc, source),
+        };
+        match random_bytes(alloc, source, kind) {
+            Ok(input) => Ok(Case { words, input }),
+            Err(error) => Err(error),
         }
     }
 
     /// A drawing to be encoded, whose pixels may be too few.
-    fn of_drawing(alloc: Global, source: &mut Source) -> std::result::Result<Case, AllocError> {
+    fn of_drawing(alloc: Global, source: &mut Source) -> Result<Case> {
         let drawing = random_drawing(alloc, source)?;
         let image = drawing.image;
         let mut input = image.pixels;
@@ -64,77 +90,99 @@ impl Case {
         })
     }
 
-    /// The words of the command line.
-    pub fn words(&self, alloc: Global) -> std::result::Result<String, AllocError> {
+    /// Writes the words of the command line.
+    fn write_words(&self, alloc: Global, output: &mut Written) {
         match self.words {
-            Words::Payload => format!(in alloc; "payload"),
-            Words::Decode => format!(in alloc; "decode"),
-            Words::Frames(length) => format!(in alloc; "frames {length}"),
+            Words::Payload => output.write_line(alloc, "payload", &[]),
+            Words::Decode => output.write_line(alloc, "decode", &[]),
+            Words::Frames(length) => output.write_line(alloc, "frames", &[length]),
             Words::Encode(width, height, colors) => {
-                format!(in alloc; "encode {width} {height} {colors}")
+                output.write_line(alloc, "encode", &[width, height, usize::from(colors)]);
             }
         }
     }
 
-    /// What the program must answer, by the calls of the library.
-    pub fn answer(&self, alloc: Global) -> Answer {
-        let mut output = Vec::new(alloc);
-        let refusal = self.answer_into(alloc, &mut output);
-        Answer { output, refusal }
-    }
-
-    fn answer_into(&self, alloc: Global, output: &mut Vec<u8>) -> Result<()> {
+    /// Writes what the program must answer, by the calls of the library, up to a refusal.
+    fn write_answer(&self, alloc: Global, output: &mut Written) -> Result<()> {
+        let bytes = self.input.as_slice();
         match self.words {
             Words::Payload => {
-                let image = SixelImage::decode_from_dcs(
-                    alloc,
-                    &self.input,
-                    DcsSettings::default(),
-                )?;
-                write_image(alloc, &image, output)
+                let settings = DcsSettings::default();
+                let image = SixelImage::decode_from_dcs(alloc, bytes, settings);
+                write_decoded(alloc, image, output)
             }
-            Words::Decode => {
-                let image = SixelImage::decode(alloc, &self.input)?;
-                write_image(alloc, &image, output)
-            }
-            Words::Frames(_) => write_strings(alloc, &self.input, output),
+            Words::Decode => write_decoded(alloc, SixelImage::decode(alloc, bytes), output),
+            Words::Frames(_) => write_images(alloc, bytes, output),
             Words::Encode(width, height, max_colors) => {
                 let options = EncodeOptions { max_colors };
-                let text = sixel_encode(alloc, &self.input, width, height, &options)?;
-                Ok(output.extend_from_slice(text.as_bytes())?)
+                write_encoded(sixel_encode(alloc, bytes, width, height, &options), output)
             }
         }
     }
 }
 
-fn write_image(alloc: Global, image: &SixelImage, output: &mut Vec<u8>) -> Result<()> {
-    let (p1, p2) = (
-        image.aspect_ratio.to_p1_value(),
-        image.background_mode.to_p2_value(),
-    );
+fn write_encoded(text: Result<String>, output: &mut Written) -> Result<()> {
+    match text {
+        Ok(text) => {
+            output.write(text.as_bytes());
+            Ok(())
+        }
+        Err(error) => Err(error),
+    }
+}
+
+fn write_decoded(alloc: Global, image: Result<SixelImage>, output: &mut Written) -> Result<()> {
+    match image {
+        Ok(image) => {
+            write_image(alloc, &image, output);
+            Ok(())
+        }
+        Err(error) => Err(error),
+    }
+}
+
+fn write_image(alloc: Global, image: &SixelImage, output: &mut Written) {
     let (width, height) = image.dimensions();
-    let line = format!(in alloc; "image {width} {height} {p1} {p2}\n")?;
-    output.extend_from_slice(line.as_bytes())?;
-    output.extend_from_slice(&image.pixels)?;
-    Ok(output.push(b'\n')?)
+    let p1 = image.aspect_ratio.to_p1_value();
+    let p2 = image.background_mode.to_p2_value();
+    let numbers = [width, height, usize::from(p1), usize::from(p2)];
+    output.write_line(alloc, "image", &numbers);
+    output.write(&image.pixels);
+    output.push(b'\n');
 }
 
 /// The images of control strings that follow one another, each fed in one piece.
-fn write_strings(alloc: Global, bytes: &[u8], output: &mut Vec<u8>) -> Result<()> {
+fn write_images(alloc: Global, bytes: &[u8], output: &mut Written) -> Result<()> {
     let mut decoder = SixelDecoder::new();
     let mut rest = bytes;
     for _ in 0..bytes.len() {
-        if rest.is_empty() {
-            break;
+        if !rest.is_empty() {
+            let length = write_next(alloc, &mut decoder, rest, output)?;
+            (_, rest) = rest.split_at(rest.len().min(length));
         }
-        let mut session = decoder.begin_dcs(alloc);
-        let fed = session.feed(rest)?;
-        let image = session.finish()?;
-        write_image(alloc, &image, output)?;
-        if fed.status != SixelDcsFeedStatus::Complete {
-            break;
-        }
-        (_, rest) = rest.split_at(rest.len().min(fed.consumed));
     }
     Ok(())
+}
+
+/// Writes the image of the first control string, and tells where the next one begins. None does
+/// after a string that is not complete.
+fn write_next(
+    alloc: Global,
+    decoder: &mut SixelDecoder,
+    bytes: &[u8],
+    output: &mut Written,
+) -> Result<usize> {
+    match play_string(alloc, decoder, bytes, &[usize::MAX]) {
+        Outcome::Finished {
+            consumed,
+            status,
+            image,
+        } => {
+            write_image(alloc, &image, output);
+            let is_complete = status == Status::Dcs(SixelDcsFeedStatus::Complete);
+            Ok(if is_complete { consumed } else { bytes.len() })
+        }
+        Outcome::Failed(error) => Err(error),
+        _ => Ok(bytes.len()),
+    }
 }

@@ -4,11 +4,12 @@ ghost use Rattle.std.specs.Prelude.{◌≤◌, ◌≡◌, ◌*◌};
 
 use crate::played::is_same_image;
 use crate::source::Source;
+use crate::written::Written;
 use icy_sixel::{
     BackgroundMode, EncodeOptions, PixelAspectRatio, Result, SixelDecoder, SixelImage,
     choose_palette,
 };
-use std::alloc::{AllocError, Global};
+use std::alloc::Global;
 
 /// An image to be encoded, and in how many colors.
 #[derive(Drop)]
@@ -18,31 +19,27 @@ pub struct Drawing {
 }
 
 /// Pixels of few colors or of any, some of them hidden.
-fn pixels(
-    alloc: Global,
-    source: &mut Source,
-    count: u32,
-) -> std::result::Result<Vec<u8>, AllocError> {
-    let mut bytes = Vec::new(alloc);
+fn pixels(alloc: Global, source: &mut Source, count: u32) -> Result<Vec<u8>> {
+    let mut bytes = Written::new(alloc);
     let has_few = source.is_rare(2);
     for _ in 0..count {
-        let (red, green, blue) = (source.byte(), source.byte(), source.byte());
-        let color = if has_few {
-            [red % 3 * 100, green % 2 * 99, 7]
-        } else {
-            [red, green, blue]
-        };
-        bytes.extend_from_slice(&color)?;
-        bytes.push(if source.is_rare(4) { 127 } else { 128 })?;
+        bytes.write(&random_pixel(source, has_few));
     }
-    Ok(bytes)
+    bytes.finish()
+}
+
+fn random_pixel(source: &mut Source, has_few: bool) -> [u8; 4] {
+    let (red, green, blue) = (source.byte(), source.byte(), source.byte());
+    let alpha = if source.is_rare(4) { 127 } else { 128 };
+    if has_few {
+        [red % 3 * 100, green % 2 * 99, 7, alpha]
+    } else {
+        [red, green, blue, alpha]
+    }
 }
 
 /// An image of up to 20 by 20 pixels, of any shape and background.
-pub fn random_drawing(
-    alloc: Global,
-    source: &mut Source,
-) -> std::result::Result<Drawing, AllocError> {
+pub fn random_drawing(alloc: Global, source: &mut Source) -> Result<Drawing> {
     let (width, height) = (1 + source.below(20), 1 + source.below(20));
     let bytes = pixels(alloc, source, width * height)?;
     let ratio = PixelAspectRatio::from_p1(source.below(10) as u16);
@@ -54,28 +51,26 @@ pub fn random_drawing(
     Ok(Drawing { image, max_colors })
 }
 
-/// The squared distance of two colors.
-fn distance(one: &[u8], other: &[u8]) -> u32 {
-    let mut sum = 0_u32;
-    for (a, b) in one.iter().zip(other) {
-        let difference = u32::from(a.abs_diff(*b));
-        sum = sum.saturating_add(difference.saturating_mul(difference));
-    }
-    sum
+/// The squared distance of two channels.
+fn squared(one: u8, other: u8) -> u32 {
+    let difference = u32::from(one.abs_diff(other));
+    difference.saturating_mul(difference)
 }
 
 /// The first of the entries that are nearest to a color.
-fn nearest(color: &[u8], entries: &[[u8; 3]]) -> [u8; 3] {
+fn nearest([red, green, blue]: [u8; 3], entries: &[[u8; 3]]) -> [u8; 3] {
     let mut least = u32::MAX;
-    let mut entry = [0; 3];
-    for candidate in entries {
-        let distance = distance(color, candidate);
+    let mut nearest = [0; 3];
+    for entry in entries {
+        let distance = squared(red, entry[0])
+            .saturating_add(squared(green, entry[1]))
+            .saturating_add(squared(blue, entry[2]));
         if distance < least {
             least = distance;
-            entry = *candidate;
+            nearest = *entry;
         }
     }
-    entry
+    nearest
 }
 
 /// A channel that has been a percentage.
@@ -84,11 +79,12 @@ fn rounded(channel: u8) -> u8 {
     ((percent * 255 + 50) / 100) as u8
 }
 
-/// What is read back of a pixel: its nearest entry in percentages, or the background.
+/// What is read back of a pixel: its nearest entry in percentages, or the background, which is also
+/// below all pixels.
 fn read_back(pixel: &[u8], entries: &[[u8; 3]], background: [u8; 4]) -> [u8; 4] {
     match pixel {
         [red, green, blue, 128..=255] => {
-            let [red, green, blue] = nearest(&[*red, *green, *blue], entries);
+            let [red, green, blue] = nearest([*red, *green, *blue], entries);
             [rounded(red), rounded(green), rounded(blue), 255]
         }
         _ => background,
@@ -98,55 +94,92 @@ fn read_back(pixel: &[u8], entries: &[[u8; 3]], background: [u8; 4]) -> [u8; 4] 
 /// The height of the image that is read back: that of the image, or of its last band with a pixel
 /// that shows, whichever is greater.
 fn height_of_trip(image: &SixelImage) -> usize {
-    let mut height = image.height;
-    for (place, pixel) in image.pixels.chunks_exact(4).enumerate() {
+    let mut count: usize = 0;
+    let mut shown: usize = 0;
+    for pixel in image.pixels.chunks_exact(4) {
+        count = count.saturating_add(1);
         if let [_, _, _, 128..=255] = pixel {
-            let band = place / image.width.max(1) / 6;
-            height = height.max(band.saturating_add(1).saturating_mul(6));
+            shown = count;
         }
     }
-    height
+    let bands = shown.div_ceil(image.width.saturating_mul(6).max(1));
+    image.height.max(bands.saturating_mul(6))
 }
 
-/// The image that the text of a drawing must be read back as.
-fn trip(alloc: Global, drawing: &Drawing) -> Result<SixelImage> {
-    let image = &drawing.image;
-    let palette = choose_palette(alloc, &image.pixels, drawing.max_colors)?;
+/// Whether the pixels that are read back of an image are what they must be.
+fn are_read_back(image: &SixelImage, pixels: &[u8], entries: &[[u8; 3]]) -> bool {
     let background = match image.background_mode {
         BackgroundMode::Transparent => [0; 4],
         BackgroundMode::Opaque => [0, 0, 0, 255],
     };
-    let height = height_of_trip(image);
-    let mut pixels = Vec::new(alloc);
-    for pixel in image.pixels.chunks_exact(4) {
-        let shown = read_back(pixel, &palette.colors, background);
-        pixels.extend_from_slice(&shown)?;
+    let mut drawn = image.pixels.as_slice();
+    for pixel in pixels.chunks_exact(4) {
+        let (first, rest) = drawn.split_at(drawn.len().min(4));
+        if pixel != read_back(first, entries, background).as_slice() {
+            return false;
+        }
+        drawn = rest;
     }
-    let below = height.saturating_sub(image.height);
-    for _ in 0..image.width.saturating_mul(below) {
-        pixels.extend_from_slice(&background)?;
+    true
+}
+
+/// Whether an image that is read back has the shape, background and size that it must have.
+fn is_of_shape(image: &SixelImage, drawn: &SixelImage) -> bool {
+    let (width, height) = image.dimensions();
+    width == drawn.width
+        && height == height_of_trip(drawn)
+        && image.pixels.len() == width.saturating_mul(height).saturating_mul(4)
+        && image.aspect_ratio == drawn.aspect_ratio
+        && image.background_mode == drawn.background_mode
+}
+
+impl Drawing {
+    /// What is read back of an image's text.
+    fn trip(&self, alloc: Global, image: &SixelImage) -> Result<SixelImage> {
+        let options = EncodeOptions {
+            max_colors: self.max_colors,
+        };
+        match image.encode_with(alloc, &options) {
+            Ok(text) => SixelDecoder::new().decode(alloc, text.as_bytes()),
+            Err(error) => Err(error),
+        }
     }
-    Ok(
-        SixelImage::from_rgba(pixels, image.width, height)
-            .with_aspect_ratio(image.aspect_ratio)
-            .with_background_mode(image.background_mode),
-    )
+
+    /// Whether the drawing is read back as it must be, and what is read back stays as it is.
+    fn is_right(&self, alloc: Global) -> bool {
+        match self.trip(alloc, &self.image) {
+            Ok(image) => self.is_shown_by(alloc, &image) && self.is_kept(alloc, &image),
+            Err(_) => false,
+        }
+    }
+
+    /// Whether this image is what the drawing's text must be read back as.
+    fn is_shown_by(&self, alloc: Global, image: &SixelImage) -> bool {
+        match choose_palette(alloc, &self.image.pixels, self.max_colors) {
+            Ok(palette) => {
+                is_of_shape(image, &self.image)
+                    && are_read_back(&self.image, &image.pixels, &palette.colors)
+            }
+            Err(_) => false,
+        }
+    }
+
+    /// Whether this image, which was read back, stays as it is in a second trip. One with an opaque
+    /// background shows it then as a color of its own.
+    fn is_kept(&self, alloc: Global, image: &SixelImage) -> bool {
+        match self.trip(alloc, image) {
+            Ok(again) => {
+                is_same_image(&again, image) || image.background_mode == BackgroundMode::Opaque
+            }
+            Err(_) => false,
+        }
+    }
 }
 
 /// Whether a drawing is read back as its palette promises, and a second trip changes nothing.
-pub fn is_trip_right(alloc: Global, source: &mut Source) -> Result<bool> {
-    let drawing = random_drawing(alloc, source)?;
-    let options = EncodeOptions {
-        max_colors: drawing.max_colors,
-    };
-    let text = drawing.image.encode_with(alloc, &options)?;
-    let image = SixelDecoder::new().decode(alloc, text.as_bytes())?;
-    let expected = trip(alloc, &drawing)?;
-    let again = image.encode_with(alloc, &options)?;
-    let image_again = SixelDecoder::new().decode(alloc, again.as_bytes())?;
-    let is_kept = is_same_image(&image_again, &image);
-    Ok(
-        is_same_image(&image, &expected)
-            && (is_kept || image.background_mode == BackgroundMode::Opaque),
-    )
+pub fn is_trip_right(alloc: Global, source: &mut Source) -> bool {
+    match random_drawing(alloc, source) {
+        Ok(drawing) => drawing.is_right(alloc),
+        Err(_) => false,
+    }
 }

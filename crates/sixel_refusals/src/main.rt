@@ -4,7 +4,9 @@
 #![tactic(auto)]
 
 mod calls;
+mod images;
 mod receiver;
+mod rows;
 mod sessions;
 mod steps;
 mod told;
@@ -13,23 +15,22 @@ mod unaided;
 use calls::{CALLS, Call};
 use icy_sixel::SixelDecoder;
 use std::io;
-use told::try_call;
+use told::{Told, try_call};
 
 fn main(rt: HostRuntime) -> io::Result<()> {
     let mut decoder = SixelDecoder::new();
     tell_calls(&rt, "new decoder", &decoder)?;
-    let told = try_call(rt.alloc(), Call::DefineRegisters, &mut decoder);
-    println!(rt; "definitions of all registers: {told}")?;
+    let Told { refused, then } = try_call(rt.alloc(), Call::DefineRegisters, &mut decoder);
+    println!(rt; "definitions of all registers: {refused}{then}")?;
     tell_calls(&rt, "used decoder", &decoder)
 }
 
 /// Runs each call on a decoder with these registers.
 fn tell_calls(rt: &HostRuntime, kind: &str, start: &SixelDecoder) -> io::Result<()> {
-    for call in CALLS {
+    for (name, call) in &CALLS {
         let mut decoder = start.clone()?;
-        let name = call.name();
-        let told = try_call(rt.alloc(), call, &mut decoder);
-        println!(rt; "{kind}, {name}: {told}")?;
+        let Told { refused, then } = try_call(rt.alloc(), *call, &mut decoder);
+        println!(rt; "{kind}, {name}: {refused}{then}")?;
     }
     Ok(())
 }

@@ -1,12 +1,14 @@
 //! Receivers whose feeds may be refused for want of memory, and what they owe then.
 
-use crate::sessions::{DCS_FAILED, FAILED, LATER_PIECES, PIECES, STRING_PIECES, WRONG};
+use crate::sessions::{
+    AFTER_REFUSAL, DCS_FAILED, FAILED, PIECES, STRING_PIECES, WRONG, is_refused,
+};
 use icy_sixel::receiver::SixelReceiver;
 use icy_sixel::{DcsSettings, Result, SixelDecoder, SixelError, SixelImage};
 use std::alloc::Global;
 
 /// What a receiver is fed.
-#[derive(Clone, Copy, Debug)]
+#[derive(Clone, Copy)]
 pub enum Form {
     Payload,
     ControlString,
@@ -46,11 +48,8 @@ pub fn receive(alloc: Global, decoder: &mut SixelDecoder, form: Form) -> Result<
 fn finish_pieces(receiver: &mut SixelReceiver, form: Form) -> Result<SixelImage> {
     for piece in form.pieces() {
         if let Err(error) = receiver.feed(piece) {
-            return Err(if has_failed(receiver, form) {
-                error
-            } else {
-                WRONG
-            });
+            let is_right = has_failed(receiver, form);
+            return Err(if is_right { error } else { WRONG });
         }
     }
     receiver.finish()
@@ -59,13 +58,14 @@ fn finish_pieces(receiver: &mut SixelReceiver, form: Form) -> Result<SixelImage>
 /// Whether a receiver that was refused memory answers so whatever it is fed, counts nothing, and is
 /// closed by a finish that is refused.
 fn has_failed(receiver: &mut SixelReceiver, form: Form) -> bool {
-    for piece in LATER_PIECES {
-        if receiver.feed(piece).err() != Some(form.failed())
+    let failed = form.failed();
+    for (piece, _) in &AFTER_REFUSAL {
+        if !is_refused(&receiver.feed(piece), &failed)
             || receiver.canvas_writes() != 0
             || receiver.in_payload()
         {
             return false;
         }
     }
-    receiver.finish().err() == Some(form.failed())
+    is_refused(&receiver.finish(), &failed)
 }

@@ -1,10 +1,16 @@
 //! Sessions whose feeds may be refused for want of memory, and what they owe then.
 
 use icy_sixel::{
-    DcsSettings, Result, SixelDcsStreamDecoder, SixelDecoder, SixelError, SixelImage,
-    SixelStreamDecoder,
+    DcsSettings, Result, SixelDcsFeedResult, SixelDcsStreamDecoder, SixelDecoder, SixelError,
+    SixelFeedResult, SixelImage, SixelStreamDecoder,
 };
 use std::alloc::Global;
+
+/// A piece of a payload, and what a session answers to it.
+pub type Fed = (&'static [u8], Result<SixelFeedResult>);
+
+/// The same of a control string.
+pub type FedDcs = (&'static [u8], Result<SixelDcsFeedResult>);
 
 // A payload of 301 columns and 12 rows in pieces that each make the canvas grow. It makes register
 // 42 red.
@@ -13,98 +19,126 @@ pub const PIECES: [&[u8]; 3] = [b"#42;2;100;0;0~", b"!300~", b"-!5~$~"];
 // The same in a control string.
 pub const STRING_PIECES: [&[u8]; 4] = [b"\x1bPq#42;2;100;0;0~", b"!300~", b"-!5~$~", b"\x1b\\"];
 
-// Pieces that a session which was refused is fed: none of them may change its answer.
-pub const LATER_PIECES: [&[u8]; 5] = [b"", b"~", b"\x1bPq", b"#1;2;0;0;0!9~", b"\x1b\\"];
-
 // What a session answers from its first refused feed on.
 pub const FAILED: SixelError = SixelError::InvalidData("stream decoder has failed");
 
 pub const DCS_FAILED: SixelError = SixelError::InvalidData("DCS stream decoder has failed");
 
+// Pieces that a session which was refused is fed: none of them may change its answer.
+pub const AFTER_REFUSAL: [Fed; 5] = [
+    (b"", Err(FAILED)),
+    (b"~", Err(FAILED)),
+    (b"\x1bPq", Err(FAILED)),
+    (b"#1;2;0;0;0!9~", Err(FAILED)),
+    (b"\x1b\\", Err(FAILED)),
+];
+
+const AFTER_DCS_REFUSAL: [FedDcs; 5] = [
+    (b"", Err(DCS_FAILED)),
+    (b"~", Err(DCS_FAILED)),
+    (b"\x1bPq", Err(DCS_FAILED)),
+    (b"#1;2;0;0;0!9~", Err(DCS_FAILED)),
+    (b"\x1b\\", Err(DCS_FAILED)),
+];
+
 // The answer of what is wrong here, which none of these calls has.
 pub const WRONG: SixelError = SixelError::NoSixelData;
 
 /// Feeds the payload in pieces, and finishes. Where a feed is refused, all after it must be, and
-/// nothing may be counted.
-pub fn frame(alloc: Global, decoder: &mut SixelDecoder) -> Result<SixelImage> {
-    let mut session = decoder.begin_frame(alloc, DcsSettings::default())?;
-    let fed = feed_pieces(&mut session);
-    let image = session.finish();
-    match fed {
-        Ok(()) => image,
-        Err(error) if image.err() == Some(FAILED) => Err(error),
-        Err(_) => Err(WRONG),
+/// nothing may be counted. With a count, that must be of the canvas and of the image's pixels.
+pub fn frame(alloc: Global, decoder: &mut SixelDecoder, is_counted: bool) -> Result<SixelImage> {
+    match decoder.begin_frame(alloc, DcsSettings::default()) {
+        Ok(mut session) => {
+            let fed = feed_pieces(&mut session);
+            let drawn = session.canvas_writes();
+            let image = if is_counted {
+                counted(session.finish_counted(), drawn)
+            } else {
+                session.finish()
+            };
+            finished(fed, image, &FAILED)
+        }
+        Err(error) => Err(error),
     }
 }
 
-/// As [`frame`], with the count, which must be that of the canvas and of the image's pixels.
-pub fn counted_frame(alloc: Global, decoder: &mut SixelDecoder) -> Result<SixelImage> {
-    let mut session = decoder.begin_frame(alloc, DcsSettings::default())?;
-    let fed = feed_pieces(&mut session);
-    let drawn = session.canvas_writes();
-    let counted = session.finish_counted();
-    match fed {
-        Ok(()) => {
-            let (image, writes) = counted?;
+/// The image, where so many writes and one for each pixel were counted.
+fn counted(answer: Result<(SixelImage, u64)>, drawn: u64) -> Result<SixelImage> {
+    match answer {
+        Ok((image, writes)) => {
             if writes.checked_sub(drawn) == Some(301 * 12) {
                 Ok(image)
             } else {
                 Err(WRONG)
             }
         }
-        Err(error) if counted.err() == Some(FAILED) => Err(error),
-        Err(_) => Err(WRONG),
+        Err(error) => Err(error),
+    }
+}
+
+/// The same of a control string, without a count.
+pub fn control_string(alloc: Global, decoder: &mut SixelDecoder) -> Result<SixelImage> {
+    let mut session = decoder.begin_dcs(alloc);
+    let fed = follow_pieces(&mut session);
+    finished(fed, session.finish(), &DCS_FAILED)
+}
+
+/// How a session ended that was fed so and then was finished, which a refused feed must forbid.
+fn finished(fed: Result<()>, image: Result<SixelImage>, failed: &SixelError) -> Result<SixelImage> {
+    match fed {
+        Ok(()) => image,
+        Err(error) => {
+            if is_refused(&image, failed) {
+                Err(error)
+            } else {
+                Err(WRONG)
+            }
+        }
+    }
+}
+
+/// Whether a call was refused for this.
+pub fn is_refused<T>(answer: &Result<T>, expected: &SixelError) -> bool {
+    match answer {
+        Ok(_) => false,
+        Err(error) => error == expected,
     }
 }
 
 fn feed_pieces(session: &mut SixelStreamDecoder<'_>) -> Result<()> {
     for piece in PIECES {
         if let Err(error) = session.feed(piece) {
-            return Err(if has_failed(session) { error } else { WRONG });
+            let is_right = answers(session, &AFTER_REFUSAL);
+            return Err(if is_right { error } else { WRONG });
         }
     }
     Ok(())
 }
 
-/// Whether a session that was refused memory answers so whatever it is fed, and counts nothing.
-fn has_failed(session: &mut SixelStreamDecoder<'_>) -> bool {
-    for piece in LATER_PIECES {
-        if session.feed(piece).err() != Some(FAILED) || session.canvas_writes() != 0 {
+fn follow_pieces(session: &mut SixelDcsStreamDecoder<'_>) -> Result<()> {
+    for piece in STRING_PIECES {
+        if let Err(error) = session.feed(piece) {
+            let is_right = answers_dcs(session, &AFTER_DCS_REFUSAL);
+            return Err(if is_right { error } else { WRONG });
+        }
+    }
+    Ok(())
+}
+
+/// Whether a session answers so to these pieces, and counts nothing.
+pub fn answers(session: &mut SixelStreamDecoder<'_>, rows: &[Fed]) -> bool {
+    for (piece, expected) in rows {
+        if session.feed(piece) != *expected || session.canvas_writes() != 0 {
             return false;
         }
     }
     true
 }
 
-/// As [`frame`], of a control string.
-pub fn control_string(alloc: Global, decoder: &mut SixelDecoder) -> Result<SixelImage> {
-    let mut session = decoder.begin_dcs(alloc);
-    let fed = follow_pieces(&mut session);
-    let image = session.finish();
-    match fed {
-        Ok(()) => image,
-        Err(error) if image.err() == Some(DCS_FAILED) => Err(error),
-        Err(_) => Err(WRONG),
-    }
-}
-
-fn follow_pieces(session: &mut SixelDcsStreamDecoder<'_>) -> Result<()> {
-    for piece in STRING_PIECES {
-        if let Err(error) = session.feed(piece) {
-            return Err(if has_dcs_failed(session) {
-                error
-            } else {
-                WRONG
-            });
-        }
-    }
-    Ok(())
-}
-
-/// As [`has_failed`], of a control string.
-fn has_dcs_failed(session: &mut SixelDcsStreamDecoder<'_>) -> bool {
-    for piece in LATER_PIECES {
-        if session.feed(piece).err() != Some(DCS_FAILED) || session.canvas_writes() != 0 {
+/// The same of a control string.
+pub fn answers_dcs(session: &mut SixelDcsStreamDecoder<'_>, rows: &[FedDcs]) -> bool {
+    for (piece, expected) in rows {
+        if session.feed(piece) != *expected || session.canvas_writes() != 0 {
             return false;
         }
     }

@@ -37,7 +37,7 @@ impl Color {
 }
 
 /// What those registers hold, as far as the steps went.
-#[derive(Clone, Copy, PartialEq, Eq)]
+#[derive(Clone, Copy)]
 struct Colors {
     of_42: [u8; 3],
     of_43: [u8; 3],
@@ -140,8 +140,16 @@ const EXPECTED: [Expected; 9] = [
 /// Does the steps, and looks at each outcome and at the registers after them. Where the list of
 /// outcomes is refused, no step may have been done. Where a step is, the others must go on.
 pub fn run_steps(alloc: Global, decoder: &mut SixelDecoder) -> Outcome {
-    let settings = DcsSettings::default();
-    let steps = [
+    let colors = Colors::of(decoder);
+    match run(alloc, decoder, &steps(DcsSettings::default())) {
+        Ok(outcomes) => ran(&outcomes, colors, decoder),
+        Err(SixelError::OutOfMemory) => Outcome::Refused,
+        Err(_) => Outcome::Wrong,
+    }
+}
+
+fn steps(settings: DcsSettings) -> [Step<'static>; 9] {
+    [
         Step::DecodeFromDcs(b"#42;2;100;0;0~", settings),
         Step::DecodeFromDcs(b"#42~", settings),
         Step::Frame {
@@ -173,37 +181,49 @@ pub fn run_steps(alloc: Global, decoder: &mut SixelDecoder) -> Outcome {
             cuts: &[5],
             ending: End::Abort,
         },
-    ];
-    let colors = Colors::of(decoder);
-    match run(alloc, decoder, &steps) {
-        Ok(outcomes) => ran(&outcomes, colors, decoder),
-        Err(SixelError::OutOfMemory) => Outcome::Refused,
-        Err(_) => Outcome::Wrong,
+    ]
+}
+
+/// How far the outcomes were as expected.
+#[derive(Clone, Copy)]
+struct Seen {
+    /// What the registers must hold.
+    colors: Colors,
+    /// Where memory was refused.
+    refused: Option<&'static str>,
+    is_right: bool,
+}
+
+impl Seen {
+    /// Looks at the next outcome, which one step may owe to want of memory.
+    fn look(&mut self, outcome: &script::Outcome, expected: &Expected) {
+        match outcome {
+            script::Outcome::Failed(SixelError::OutOfMemory) if self.refused.is_none() => {
+                self.refused = Some(expected.place);
+            }
+            _ => {
+                self.colors = colors_after(self.colors, expected);
+                self.is_right = self.is_right && is_shown(outcome, expected.shown, self.colors);
+            }
+        }
     }
 }
 
 /// How the steps ended that found these colors and left this decoder.
 fn ran(outcomes: &[script::Outcome], start: Colors, decoder: &SixelDecoder) -> Outcome {
-    let mut colors = start;
-    let mut refused = None;
+    let mut seen = Seen {
+        colors: start,
+        refused: None,
+        is_right: outcomes.len() == EXPECTED.len(),
+    };
     for (outcome, expected) in outcomes.iter().zip(&EXPECTED) {
-        match outcome {
-            script::Outcome::Failed(SixelError::OutOfMemory) if refused.is_none() => {
-                refused = Some(expected.place);
-            }
-            _ => {
-                let meant = colors_after(colors, expected);
-                if !is_shown(outcome, expected.shown, meant) {
-                    return Outcome::Wrong;
-                }
-                colors = meant;
-            }
-        }
+        seen.look(outcome, expected);
     }
-    if outcomes.len() != EXPECTED.len() || !is_left(decoder, colors) {
-        return Outcome::Wrong;
+    match seen.refused {
+        _ if !seen.is_right || !is_left(decoder, seen.colors) => Outcome::Wrong,
+        Some(place) => Outcome::RefusedWithin(place),
+        None => Outcome::Right,
     }
-    refused.map_or(Outcome::Right, Outcome::RefusedWithin)
 }
 
 /// What the registers hold after a step that was not refused.

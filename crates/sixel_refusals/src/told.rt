@@ -3,46 +3,29 @@
 use crate::calls::{Call, Outcome};
 use icy_sixel::SixelDecoder;
 use std::alloc::Global;
-use std::fmt;
-use std::fmt::{Display, Formatter};
 
-/// How a call ended, and the same call once more where the first was refused memory.
-#[derive(Clone, Copy, Debug, PartialEq, Eq)]
-pub enum Told {
-    Right,
-    Wrong,
-    /// Memory was refused, as is said here, and the second call was right.
-    ThenRight(&'static str),
-    ThenWrong,
-    Twice,
-    /// Memory was refused, and some register is not as it was.
-    RegistersChanged,
+/// How a call ended, in words: that it was refused memory, and what came of it.
+#[derive(Clone, Copy)]
+pub struct Told {
+    pub refused: &'static str,
+    pub then: &'static str,
 }
 
-impl Display for Told {
-    fn fmt<W: fmt::Write>(&self, f: &mut Formatter<W>) -> fmt::Result {
-        match self {
-            Self::Right => f.write_str("ok"),
-            Self::Wrong => f.write_str("wrong"),
-            Self::ThenRight(refused) => write!(f, "{refused}, then ok"),
-            Self::ThenWrong => f.write_str("out of memory, then wrong"),
-            Self::Twice => f.write_str("out of memory twice"),
-            Self::RegistersChanged => f.write_str("out of memory, but registers changed"),
-        }
-    }
-}
+const OUT_OF_MEMORY: &str = "out of memory";
 
 /// Does the call, and once more where memory was refused. A call that was refused as a whole has
 /// changed no register.
 pub fn try_call(alloc: Global, call: Call, decoder: &mut SixelDecoder) -> Told {
     let Ok(mut before) = decoder.clone() else {
-        return Told::Wrong;
+        return ended_so("", "wrong");
     };
     match call.run(alloc, decoder) {
-        Outcome::Right => Told::Right,
-        Outcome::Wrong => Told::Wrong,
-        Outcome::Refused if !have_same_registers(decoder, &before) => Told::RegistersChanged,
-        Outcome::Refused => try_again(alloc, call, decoder, "out of memory"),
+        Outcome::Right => ended_so("", "ok"),
+        Outcome::Wrong => ended_so("", "wrong"),
+        Outcome::Refused if !have_same_registers(decoder, &before) => {
+            ended_so(OUT_OF_MEMORY, ", but registers changed")
+        }
+        Outcome::Refused => try_again(alloc, call, decoder, OUT_OF_MEMORY),
         Outcome::RefusedWithin(place) => try_again(alloc, call, &mut before, place),
     }
 }
@@ -50,10 +33,14 @@ pub fn try_call(alloc: Global, call: Call, decoder: &mut SixelDecoder) -> Told {
 /// Does the call again, which was refused memory as is said here.
 fn try_again(alloc: Global, call: Call, decoder: &mut SixelDecoder, refused: &'static str) -> Told {
     match call.run(alloc, decoder) {
-        Outcome::Right => Told::ThenRight(refused),
-        Outcome::Wrong => Told::ThenWrong,
-        Outcome::Refused | Outcome::RefusedWithin(_) => Told::Twice,
+        Outcome::Right => ended_so(refused, ", then ok"),
+        Outcome::Wrong => ended_so(OUT_OF_MEMORY, ", then wrong"),
+        Outcome::Refused | Outcome::RefusedWithin(_) => ended_so(OUT_OF_MEMORY, " twice"),
     }
+}
+
+fn ended_so(refused: &'static str, then: &'static str) -> Told {
+    Told { refused, then }
 }
 
 /// Whether all registers of two decoders are equal.

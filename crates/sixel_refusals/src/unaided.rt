@@ -1,6 +1,8 @@
 //! Every call that takes no memory. Each must be right whatever request is refused.
 
+use crate::sessions::{DCS_FAILED, FAILED, Fed, FedDcs, answers, answers_dcs, is_refused};
 use icy_sixel::canvas::{Row, fill_rgba_span};
+use icy_sixel::script::End;
 use icy_sixel::{
     BackgroundMode, DcsSettings, EncodeOptions, PixelAspectRatio, Result, SixelDcsFeedResult,
     SixelDcsFeedStatus, SixelDecoder, SixelError, SixelFeedResult, SixelFeedStatus, SixelImage,
@@ -12,8 +14,10 @@ use std::alloc::Global;
 pub fn no_memory(alloc: Global, decoder: &mut SixelDecoder) -> bool {
     are_registers_kept(decoder)
         && is_host_heard(decoder)
-        && frame_calls(alloc, decoder) == Ok(true)
-        && string_calls(alloc, decoder) == Ok(true)
+        && frame_call(alloc, decoder, &ENDED, End::Abort)
+        && frame_call(alloc, decoder, &REFUSED, End::Finish)
+        && string_call(alloc, decoder, &ENDED_DCS, End::Abort)
+        && string_call(alloc, decoder, &REFUSED_DCS, End::Finish)
         && ratio_calls()
         && background_calls()
         && canvas_calls(alloc)
@@ -48,66 +52,89 @@ fn is_host_heard(decoder: &SixelDecoder) -> bool {
     (again.raster_crop(), again.pixel_limit()) == (true, 7) && again.register(1) == [1, 2, 3]
 }
 
-/// Feeds that close no sixel and no raster command, and feeds after an end and after a refusal.
-fn frame_calls(alloc: Global, decoder: &mut SixelDecoder) -> Result<bool> {
-    let mut session = decoder.begin_frame(alloc, DcsSettings::default())?;
-    let opened = session.feed(b"#42;2;100;0;0!12")?;
-    let ended = session.feed(b"\x18~~")?;
-    let ended_again = session.feed(b"\"1;1;9;9~")?;
-    let writes = session.canvas_writes();
-    session.abort();
-    let mut refused = decoder.begin_frame(alloc, DcsSettings::default())?;
-    let malformed = refused.feed(b"!65536~").err();
-    let failed = refused.feed(b"~").err();
-    let count = refused.canvas_writes();
-    let finished = refused.finish().err();
-    let is_refused = count == 0
-        && malformed == Some(SixelError::InvalidData("malformed SIXEL data"))
-        && failed == Some(SixelError::InvalidData("stream decoder has failed"))
-        && finished == failed;
-    let cancelled = SixelFeedStatus::Terminated(0x18);
-    Ok(
-        is_refused
-            && writes == 0
-            && opened == fed(16, SixelFeedStatus::NeedMoreData)
-            && ended == fed(0, cancelled)
-            && ended_again == fed(0, cancelled),
-    )
-}
+/// Feeds that close no sixel and no raster command, and feeds after an end.
+const ENDED: [Fed; 3] = [
+    (
+        b"#42;2;100;0;0!12",
+        Ok(SixelFeedResult {
+            consumed: 16,
+            status: SixelFeedStatus::NeedMoreData,
+        }),
+    ),
+    (b"\x18~~", Ok(CANCELLED)),
+    (b"\"1;1;9;9~", Ok(CANCELLED)),
+];
 
-fn fed(consumed: usize, status: SixelFeedStatus) -> SixelFeedResult {
-    SixelFeedResult { consumed, status }
+const CANCELLED: SixelFeedResult = SixelFeedResult {
+    consumed: 0,
+    status: SixelFeedStatus::Terminated(0x18),
+};
+
+/// A feed that is refused, and one after it.
+const REFUSED: [Fed; 2] = [
+    (
+        b"!65536~",
+        Err(SixelError::InvalidData("malformed SIXEL data")),
+    ),
+    (b"~", Err(FAILED)),
+];
+
+/// Feeds a payload, and gives it up, or finishes it where it was refused.
+fn frame_call(alloc: Global, decoder: &mut SixelDecoder, rows: &[Fed], ending: End) -> bool {
+    let Ok(mut session) = decoder.begin_frame(alloc, DcsSettings::default()) else {
+        return false;
+    };
+    let is_answered = answers(&mut session, rows);
+    match ending {
+        End::Abort => {
+            session.abort();
+            is_answered
+        }
+        End::Finish => is_answered & is_refused(&session.finish(), &FAILED),
+    }
 }
 
 /// The same of a control string.
-fn string_calls(alloc: Global, decoder: &mut SixelDecoder) -> Result<bool> {
-    let mut session = decoder.begin_dcs(alloc);
-    let opened = session.feed(b"\x1bP9;1q#42;2;100;0;0!12")?;
-    let ended = session.feed(b"\x18~~")?;
-    let ended_again = session.feed(b"\x1bPq~")?;
-    let writes = session.canvas_writes();
-    session.abort();
-    let mut refused = decoder.begin_dcs(alloc);
-    let no_data = refused.feed(b"text").err();
-    let failed = refused.feed(b"\x1bPq~\x1b\\").err();
-    let count = refused.canvas_writes();
-    let finished = refused.finish().err();
-    let is_refused = count == 0
-        && no_data == Some(SixelError::NoSixelData)
-        && failed == Some(SixelError::InvalidData("DCS stream decoder has failed"))
-        && finished == failed;
-    let cancelled = SixelDcsFeedStatus::Cancelled(0x18);
-    Ok(
-        is_refused
-            && writes == 0
-            && opened == followed(22, SixelDcsFeedStatus::NeedMoreData)
-            && ended == followed(1, cancelled)
-            && ended_again == followed(0, cancelled),
-    )
-}
+const ENDED_DCS: [FedDcs; 3] = [
+    (
+        b"\x1bP9;1q#42;2;100;0;0!12",
+        Ok(SixelDcsFeedResult {
+            consumed: 22,
+            status: SixelDcsFeedStatus::NeedMoreData,
+        }),
+    ),
+    (
+        b"\x18~~",
+        Ok(SixelDcsFeedResult {
+            consumed: 1,
+            status: SixelDcsFeedStatus::Cancelled(0x18),
+        }),
+    ),
+    (
+        b"\x1bPq~",
+        Ok(SixelDcsFeedResult {
+            consumed: 0,
+            status: SixelDcsFeedStatus::Cancelled(0x18),
+        }),
+    ),
+];
 
-fn followed(consumed: usize, status: SixelDcsFeedStatus) -> SixelDcsFeedResult {
-    SixelDcsFeedResult { consumed, status }
+const REFUSED_DCS: [FedDcs; 2] = [
+    (b"text", Err(SixelError::NoSixelData)),
+    (b"\x1bPq~\x1b\\", Err(DCS_FAILED)),
+];
+
+/// Feeds a control string, and gives it up, or finishes it where it was refused.
+fn string_call(alloc: Global, decoder: &mut SixelDecoder, rows: &[FedDcs], ending: End) -> bool {
+    let mut session = decoder.begin_dcs(alloc);
+    let is_answered = answers_dcs(&mut session, rows);
+    match ending {
+        End::Abort => {
+            session.abort();
+            is_answered
+        }
+        End::Finish => is_answered & is_refused(&session.finish(), &DCS_FAILED),
+    }
 }
 
 fn ratio_calls() -> bool {
@@ -144,29 +171,94 @@ fn canvas_calls(alloc: Global) -> bool {
         && !witnesses_hold(&[[0; 3], [10, 0, 0]], 101)
 }
 
+/// Sizes that a buffer without bytes is refused for.
+const REFUSED_BUFFERS: [(usize, usize, SixelError); 3] = [
+    (
+        0,
+        4,
+        SixelError::InvalidDimensions {
+            width: 0,
+            height: 4,
+        },
+    ),
+    (usize::MAX / 4 + 1, 1, SixelError::IntegerOverflow),
+    (
+        10,
+        10,
+        SixelError::BufferSizeMismatch {
+            expected: 400,
+            actual: 0,
+        },
+    ),
+];
+
+/// Sizes to be encoded, and how each is told.
+const TOLD_SIZES: [(usize, usize, Result<()>); 3] = [
+    (1, 999996, Ok(())),
+    (
+        1,
+        999997,
+        Err(SixelError::InvalidDimensions {
+            width: 1,
+            height: 999997,
+        }),
+    ),
+    (usize::MAX, 2, Err(SixelError::IntegerOverflow)),
+];
+
+/// Sizes that no bytes are encoded for.
+const REFUSED_ENCODINGS: [(usize, usize, SixelError); 4] = [
+    (
+        0,
+        4,
+        SixelError::InvalidDimensions {
+            width: 0,
+            height: 4,
+        },
+    ),
+    (usize::MAX, 2, SixelError::IntegerOverflow),
+    (
+        1000001,
+        1,
+        SixelError::InvalidDimensions {
+            width: 1000001,
+            height: 1,
+        },
+    ),
+    (
+        2,
+        2,
+        SixelError::BufferSizeMismatch {
+            expected: 16,
+            actual: 0,
+        },
+    ),
+];
+
 /// Sizes that are tested, and the refusals of a buffer.
 fn size_calls(alloc: Global) -> bool {
-    let none = SixelImage::try_from_rgba(Vec::new(alloc), 0, 4);
-    let too_many = SixelImage::try_from_rgba(Vec::new(alloc), usize::MAX / 4 + 1, 1);
-    let other = SixelImage::try_from_rgba(Vec::new(alloc), 10, 10);
-    none.err() == Some(invalid(0, 4))
-        && too_many.err() == Some(SixelError::IntegerOverflow)
-        && other.err() == Some(mismatch(400))
-        && validate_encode_dimensions(1, 999996) == Ok(())
-        && validate_encode_dimensions(1, 999997) == Err(invalid(1, 999997))
-        && validate_encode_dimensions(usize::MAX, 2) == Err(SixelError::IntegerOverflow)
+    are_sizes_told() && are_buffers_refused(alloc)
 }
 
-fn invalid(width: usize, height: usize) -> SixelError {
-    SixelError::InvalidDimensions { width, height }
-}
-
-/// The refusal of a buffer without bytes where so many are expected.
-fn mismatch(expected: usize) -> SixelError {
-    SixelError::BufferSizeMismatch {
-        expected,
-        actual: 0,
+fn are_sizes_told() -> bool {
+    for (width, height, expected) in &TOLD_SIZES {
+        if validate_encode_dimensions(*width, *height) != *expected {
+            return false;
+        }
     }
+    true
+}
+
+fn are_buffers_refused(alloc: Global) -> bool {
+    for (width, height, expected) in &REFUSED_BUFFERS {
+        if !is_refused(
+            &SixelImage::try_from_rgba(Vec::new(alloc), *width, *height),
+            expected,
+        ) {
+            return false;
+        }
+    }
+    true
 }
 
 /// The calls of an image without pixels.
@@ -183,21 +275,23 @@ fn empty_image_calls(alloc: Global) -> bool {
 /// The refusals of encoding and of a palette, which come before any growth.
 fn encoding_refusals(alloc: Global) -> bool {
     let options = EncodeOptions::default();
-    let none = sixel_encode(alloc, &[], 0, 4, &options).err();
-    let too_many = sixel_encode(alloc, &[], usize::MAX, 2, &options).err();
-    let too_wide = sixel_encode(alloc, &[], 1000001, 1, &options).err();
-    let other = sixel_encode(alloc, &[], 2, 2, &options).err();
-    let palette = choose_palette(alloc, &[0; 3], 2).err();
-    options.max_colors == 256
-        && none == Some(invalid(0, 4))
-        && too_many == Some(SixelError::IntegerOverflow)
-        && too_wide == Some(invalid(1000001, 1))
-        && other == Some(mismatch(16))
-        && palette
-            == Some(SixelError::BufferSizeMismatch {
-                expected: 0,
-                actual: 3,
-            })
+    for (width, height, expected) in &REFUSED_ENCODINGS {
+        if !is_refused(
+            &sixel_encode(alloc, &[], *width, *height, &options),
+            expected,
+        ) {
+            return false;
+        }
+    }
+    options.max_colors == 256 && is_palette_refused(alloc)
+}
+
+fn is_palette_refused(alloc: Global) -> bool {
+    let expected = SixelError::BufferSizeMismatch {
+        expected: 0,
+        actual: 3,
+    };
+    is_refused(&choose_palette(alloc, &[0; 3], 2), &expected)
 }
 
 /// The calls that take no memory of an image of three pixels, none of them hidden.

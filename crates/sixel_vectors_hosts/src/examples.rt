@@ -2,105 +2,166 @@
 
 use icy_sixel::receiver::SixelReceiver;
 use icy_sixel::script::Outcome;
-use icy_sixel::{SixelDecoder, SixelImage};
+use icy_sixel::{Result, SixelDecoder, SixelImage};
 use sixel_examples::in_one_call::{decode, decode_payload, encode, palette};
 use sixel_examples::lists::replay;
 use sixel_examples::multiplexer::{Came, read};
 use sixel_examples::streaming::{decode_payload_pieces, decode_pieces};
 use sixel_examples::terminal::Images;
 use sixel_examples::viewer::open;
+use sixel_vectors_base::answers::{RED, bytes_of, is_drawn, shows};
+use std::alloc::Global;
 use std::process::Abort;
 
-#[test]
-fn pieces_of_a_control_string(rt: HostRuntime) {
-    let image = decode_pieces(rt.alloc()).expect(&rt, "an image");
-    assert_eq!(rt; image.dimensions(), (12, 6));
-    assert_eq!(rt; image.pixels.get(..4), Some([255, 0, 0, 255].as_slice()));
+/// The color that register 1 has in a new decoder.
+const INDIGO: [u8; 4] = [51, 51, 204, 255];
+
+/// Whether an example's image has so many columns, each six pixels of this color.
+fn has_columns(alloc: Global, image: Result<SixelImage>, width: usize, color: [u8; 4]) -> bool {
+    is_drawn(
+        alloc,
+        &image,
+        (width, 6),
+        &[(width.saturating_mul(6), color)],
+    )
 }
 
 #[test]
-fn pieces_of_a_payload(rt: HostRuntime) {
-    let mut decoder = SixelDecoder::new();
-    let image = decode_payload_pieces(rt.alloc(), &mut decoder).expect(&rt, "an image");
-    assert_eq!(rt; image.dimensions(), (12, 6));
-    assert_eq!(rt; image.pixels.get(..4), Some([51, 51, 204, 255].as_slice()));
+fn images(rt: HostRuntime) {
+    let (alloc, mut decoder) = (rt.alloc(), SixelDecoder::new());
+    let image = decode(alloc, &mut decoder, b"text\x1bPq#1~\x1b\\text");
+    assert!(rt; has_columns(alloc, image, 1, INDIGO));
+    let image = decode_payload(alloc, &mut decoder, b"#1~~");
+    assert!(rt; has_columns(alloc, image, 2, INDIGO));
+    assert!(rt; has_columns(alloc, decode_pieces(alloc), 12, RED));
+    let image = decode_payload_pieces(alloc, &mut decoder);
+    assert!(rt; has_columns(alloc, image, 12, INDIGO));
+}
+
+/// Whether these are the outcomes of an image that was finished, one that was given up, each of 18
+/// bytes, and a reset.
+fn are_replayed(outcomes: &Result<Vec<Outcome>>) -> bool {
+    match outcomes {
+        Ok(outcomes) => matches!(
+            outcomes.as_slice(),
+            [
+                Outcome::Finished { consumed: 18, .. },
+                Outcome::Aborted { consumed: 18, .. },
+                Outcome::Reset,
+            ]
+        ),
+        Err(_) => false,
+    }
 }
 
 #[test]
 fn a_list_of_steps(rt: HostRuntime) {
     let mut decoder = SixelDecoder::new();
-    let outcomes = replay(rt.alloc(), &mut decoder, b"\x1bPq#1;2;0;100;0~\x1b\\");
-    let outcomes = outcomes.expect(&rt, "outcomes");
-    assert_eq!(rt; outcomes.len(), 3);
-    assert!(rt; matches!(&outcomes[0], Outcome::Finished { consumed: 18, .. }));
-    assert!(rt; matches!(&outcomes[1], Outcome::Aborted { consumed: 18, .. }));
-    assert!(rt; matches!(&outcomes[2], Outcome::Reset));
-    assert_eq!(rt; decoder.register(1), [51, 51, 204]);
+    let string = b"\x1bPq#1;2;0;100;0~\x1b\\";
+    assert!(rt; are_replayed(&replay(rt.alloc(), &mut decoder, string)));
+    assert!(rt; decoder.register(1) == [51, 51, 204]);
 }
 
 #[test]
 fn a_palette(rt: HostRuntime) {
     let (choice, is_certified) = palette(rt.alloc(), &[1, 2, 3, 255]).expect(&rt, "a palette");
-    assert_eq!(rt; choice.colors.len(), 1);
-    assert!(rt; is_certified);
+    assert!(rt; choice.colors.len() == 1 && is_certified);
 }
 
 #[test]
-fn whole_images(rt: HostRuntime) {
-    let mut decoder = SixelDecoder::new();
-    let image = decode(rt.alloc(), &mut decoder, b"text\x1bPq#1~\x1b\\text");
-    assert_eq!(rt; image.expect(&rt, "an image").dimensions(), (1, 6));
-    let image = decode_payload(rt.alloc(), &mut decoder, b"#1~~").expect(&rt, "an image");
-    assert_eq!(rt; image.dimensions(), (2, 6));
-    let pixels = Vec::from_slice(rt.alloc(), &[255, 0, 0, 255]).expect(&rt, "pixels");
+fn a_text(rt: HostRuntime) {
+    let pixels = Vec::from_slice(rt.alloc(), &RED).expect(&rt, "pixels");
     let text = encode(rt.alloc(), pixels, 1, 1).expect(&rt, "a text");
-    assert_eq!(rt;
-        text.as_str(),
-        "\x1bP9;1;0q\"1;1;1;1#0;2;100;0;0#0@$-\x1b\\"
-    );
+    assert!(rt; text.as_str() == "\x1bP9;1;0q\"1;1;1;1#0;2;100;0;0#0@$-\x1b\\");
 }
 
-/// Reads the last bytes of an image, of which so many are its own, and gives it.
-fn ended(rt: &impl Abort, images: &mut Images, bytes: &[u8], consumed: usize) -> SixelImage {
-    let read = images.read(bytes).expect(rt, "an end");
-    assert_eq!(rt; read.consumed, consumed);
-    read.image.expect(rt, "an image")
+/// A size, where there is an image.
+type Size = Option<(usize, usize)>;
+
+/// Bytes that a terminal reads, how many of them are an image's own and the size of an image that
+/// they end; or nothing, where they are refused.
+const TERMINAL: [(&[u8], Option<(usize, Size)>); 4] = [
+    (b"!3", Some((2, None))),
+    (b"?@\x1b\\text", Some((2, Some((4, 6))))),
+    (b"\"1;1;2;3~~\x1b\\", Some((10, Some((2, 3))))),
+    (b"!51201~", None),
+];
+
+/// Whether there is an image of this size, all of it in the terminal's background, or none.
+fn is_background(alloc: Global, image: &Option<SixelImage>, size: Size) -> bool {
+    match (image, size) {
+        (Some(image), Some((width, height))) => {
+            let run = (width.saturating_mul(height), [1, 2, 3, 255]);
+            match bytes_of(alloc, &[run]) {
+                Ok(pixels) => shows(image, (width, height), &pixels),
+                Err(_) => false,
+            }
+        }
+        (image, size) => image.is_none() && size.is_none(),
+    }
+}
+
+/// Whether a terminal, which begins an image where it has none, reads bytes as expected.
+fn reads(
+    alloc: Global,
+    images: &mut Images,
+    bytes: &[u8],
+    expected: Option<(usize, Size)>,
+) -> bool {
+    if images.size_so_far().is_none() {
+        images.begin(alloc, None, None);
+    }
+    match (&images.read(bytes), expected) {
+        (Ok(read), Some((consumed, size))) => {
+            read.consumed == consumed && is_background(alloc, &read.image, size)
+        }
+        (read, expected) => read.is_err() && expected.is_none(),
+    }
 }
 
 #[test]
 fn a_terminal(rt: HostRuntime) {
     let mut images = Images::new([1, 2, 3], 307_200);
-    images.begin(rt.alloc(), None, None);
-    let first = images.read(b"!3").expect(&rt, "a part");
-    assert_eq!(rt; (first.consumed, first.image.is_none()), (2, true));
-    let image = ended(&rt, &mut images, b"?@\x1b\\text", 2);
-    assert_eq!(rt; image.dimensions(), (4, 6));
-    assert_eq!(rt; image.pixels.get(..4), Some([1, 2, 3, 255].as_slice()));
-    assert_eq!(rt; images.size_so_far(), None);
-    images.begin(rt.alloc(), None, None);
-    let cropped = ended(&rt, &mut images, b"\"1;1;2;3~~\x1b\\", 10);
-    assert_eq!(rt; cropped.dimensions(), (2, 3));
-    images.begin(rt.alloc(), None, None);
-    assert!(rt; images.read(b"!51201~").is_err());
+    for (bytes, expected) in &TERMINAL {
+        assert!(rt;
+            reads(rt.alloc(), &mut images, bytes, *expected),
+            "{bytes:?}"
+        );
+    }
+}
+
+/// Bytes that a multiplexer reads, what they were, and how many of them were an image's own.
+const MULTIPLEXER: [(&[u8], &str, usize); 3] = [
+    (b"\x1bPq~", "a part", 0),
+    (b"~\x1b[31m", "cut short", 2),
+    (b"\x90q~\x9ctext", "whole", 4),
+];
+
+/// What bytes were, and how many of those that ended an image were its own.
+fn kind_of(came: &Result<Came>) -> (&'static str, usize) {
+    match came {
+        Ok(Came::Part) => ("a part", 0),
+        Ok(Came::Whole(_, own)) => ("whole", *own),
+        Ok(Came::CutShort(_, own)) => ("cut short", *own),
+        Err(_) => ("refused", 0),
+    }
 }
 
 #[test]
 fn a_multiplexer(rt: HostRuntime) {
     let mut receiver = SixelReceiver::new();
-    receiver.begin_dcs(rt.alloc());
-    assert!(rt; matches!(read(&mut receiver, b"\x1bPq~"), Ok(Came::Part)));
-    assert!(rt; matches!(read(&mut receiver, b"~\x1b[31m"), Ok(Came::CutShort(_, 2))));
-    receiver.begin_dcs(rt.alloc());
-    assert!(rt;
-        matches!(
-            read(&mut receiver, b"\x90q~\x9ctext"),
-            Ok(Came::Whole(_, 4))
-        )
-    );
+    for (bytes, kind, own) in &MULTIPLEXER {
+        if !receiver.is_receiving() {
+            receiver.begin_dcs(rt.alloc());
+        }
+        let came = kind_of(&read(&mut receiver, bytes));
+        assert!(rt; came == (*kind, *own), "{bytes:?}");
+    }
+    assert!(rt; receiver.into_decoder().register(1) == [51, 51, 204]);
 }
 
 #[test]
 fn a_viewer(rt: HostRuntime) {
     let view = open(rt.alloc(), b"\x1bP0;1q~\x1b\\").expect(&rt, "a view");
-    assert_eq!(rt; (view.row_repeat, view.has_transparency), (2, false));
+    assert!(rt; (view.row_repeat, view.has_transparency) == (2, false));
 }

@@ -7,8 +7,6 @@ mod controls;
 #[cfg(test)]
 mod examples;
 #[cfg(test)]
-mod one_call;
-#[cfg(test)]
 mod one_shot;
 #[cfg(test)]
 mod receiver;

@@ -1,151 +1,179 @@
-//! Control strings decoded in one call: introducers, headers, ratios and what follows.
+//! Control strings and payloads decoded in one call: introducers, headers, shapes of pixels, and
+//! what stands around a control string.
 
-use icy_sixel::Result;
-use icy_sixel::decoder::{DcsSettings, SixelDecoder};
-use icy_sixel::sixel_image::{BackgroundMode, PixelAspectRatio, SixelImage};
+use icy_sixel::sixel_image::BackgroundMode::{self, Opaque, Transparent};
+use icy_sixel::sixel_image::PixelAspectRatio::{self, Ratio2To1, Ratio3To1, Ratio5To1, Square};
+use icy_sixel::{
+    DcsSettings, Result, SixelDecoder, SixelImage, sixel_decode, sixel_decode_from_dcs,
+};
 use sixel_vectors_base::answers::{
-    BLACK, CLEAR, MALFORMED, WHITE, are_same, bytes_of, decoded, is_refused, shows,
+    BLACK, CLEAR, MALFORMED, WHITE, are_same, decoded, is_drawn, is_refused,
 };
 use std::alloc::Global;
-use std::process::Abort;
 
-/// What a new decoder makes of bytes with a control string.
-fn read(alloc: Global, bytes: &[u8]) -> Result<SixelImage> {
-    SixelDecoder::new().decode(alloc, bytes)
-}
+/// The color that register 1 has in a new decoder.
+const INDIGO: [u8; 4] = [51, 51, 204, 255];
 
-/// What bytes with a control string are expected to show.
+/// What an image shows. Its first pixel may have a color of its own.
 #[derive(Clone, Copy)]
 struct Shown {
     size: (usize, usize),
-    color: [u8; 4],
-    aspect_ratio: PixelAspectRatio,
-    background_mode: BackgroundMode,
+    first: [u8; 4],
+    others: [u8; 4],
+    shape: PixelAspectRatio,
+    background: BackgroundMode,
 }
 
-/// One column of this color, with square pixels on an opaque background.
-fn column(color: [u8; 4]) -> Shown {
-    Shown {
-        size: (1, 6),
-        color,
-        aspect_ratio: PixelAspectRatio::Square,
-        background_mode: BackgroundMode::Opaque,
-    }
-}
-
-/// One transparent column with pixels of this shape.
-fn clear_column(aspect_ratio: PixelAspectRatio) -> Shown {
-    Shown {
-        size: (1, 6),
-        color: CLEAR,
-        aspect_ratio,
-        background_mode: BackgroundMode::Transparent,
-    }
-}
-
-/// Asserts that bytes with a control string show one color.
-fn assert_shows(rt: &(impl Abort + AllocGlobal), bytes: &[u8], shown: Shown) {
-    let image = read(rt.alloc(), bytes).expect(rt, "an image");
+/// Whether an outcome is the image that is shown, and its clone the same.
+fn is_shown(alloc: Global, outcome: &Result<SixelImage>, shown: &Shown) -> bool {
     let (width, height) = shown.size;
-    let run = (width.saturating_mul(height), shown.color);
-    let pixels = bytes_of(rt.alloc(), &[run]).expect(rt, "pixels");
-    assert!(rt; shows(&image, shown.size, &pixels));
-    assert_eq!(rt; image.aspect_ratio, shown.aspect_ratio);
-    assert_eq!(rt; image.background_mode, shown.background_mode);
+    let others = width.saturating_mul(height).saturating_sub(1);
+    match outcome {
+        Ok(image) => {
+            let runs = [(1, shown.first), (others, shown.others)];
+            is_drawn(alloc, outcome, shown.size, &runs)
+                && image.aspect_ratio == shown.shape
+                && image.background_mode == shown.background
+                && are_same(&image.clone(alloc), outcome)
+        }
+        Err(_) => false,
+    }
+}
+
+/// Whether each call that looks for a control string gives the image that is shown.
+fn is_found(alloc: Global, bytes: &[u8], shown: &Shown) -> bool {
+    let by_decoder = is_shown(alloc, &SixelDecoder::new().decode(alloc, bytes), shown);
+    let by_image = is_shown(alloc, &SixelImage::decode(alloc, bytes), shown);
+    let by_function = is_shown(alloc, &sixel_decode(alloc, bytes), shown);
+    let by_text = match str::from_utf8(bytes) {
+        Ok(text) => is_shown(alloc, &SixelImage::from_str(alloc, text), shown),
+        Err(_) => true,
+    };
+    by_decoder && by_image && by_function && by_text
+}
+
+/// What a producer of images wrote.
+const PRODUCED: &[u8] = b"\x1bP0;0;0q\"1;1;4;6#0;2;0;0;0#1;2;100;100;100#1!4~$#0!4?-\x1b\\";
+
+/// Bytes, and size and color of their image, which is opaque and has square pixels.
+const IMAGES: [(&[u8], (usize, usize), [u8; 4]); 6] = [
+    (b"", (1, 1), BLACK),
+    (b"#1~", (1, 6), INDIGO),
+    (b"prefix\x1bP9;0;0q#1~\x1b\\suffix", (1, 6), INDIGO),
+    (b"~~\x90q~", (1, 6), BLACK),
+    (b"\xc3\xa9\x1bPq~\x1b\\", (1, 6), BLACK),
+    (PRODUCED, (4, 6), WHITE),
+];
+
+#[test]
+fn images(rt: HostRuntime) {
+    for (bytes, size, color) in &IMAGES {
+        let shown = Shown {
+            size: *size,
+            first: *color,
+            others: *color,
+            shape: Square,
+            background: Opaque,
+        };
+        assert!(rt; is_found(rt.alloc(), bytes, &shown), "{bytes:?}");
+    }
+}
+
+/// Control strings of one column, its first pixel, and the shape of the pixels. All below the
+/// first is transparent.
+const COLUMNS: [(&[u8], [u8; 4], PixelAspectRatio); 4] = [
+    (b"\x1bP;1;q?\x1b\\", CLEAR, Ratio2To1),
+    (b"\x1bP99999999999;1q?", CLEAR, Square),
+    (b"\x1bP2;1q\"3;1;1;6@\x1b\\", BLACK, Ratio3To1),
+    (b"\x1bP2;1q\"4;1;1;6@\x1b\\", BLACK, Ratio5To1),
+];
+
+#[test]
+fn columns(rt: HostRuntime) {
+    for (bytes, first, shape) in &COLUMNS {
+        let shown = Shown {
+            size: (1, 6),
+            first: *first,
+            others: CLEAR,
+            shape: *shape,
+            background: Transparent,
+        };
+        assert!(rt; is_found(rt.alloc(), bytes, &shown), "{bytes:?}");
+    }
+}
+
+/// Whether each call that has a payload gives the image that is shown.
+fn is_decoded(alloc: Global, payload: &[u8], shown: &Shown) -> bool {
+    let settings = DcsSettings::default();
+    let by_decoder = is_shown(alloc, &decoded(alloc, payload, settings), shown);
+    let by_image = SixelImage::decode_from_dcs(alloc, payload, settings);
+    let by_function = sixel_decode_from_dcs(alloc, payload, settings);
+    by_decoder && is_shown(alloc, &by_image, shown) && is_shown(alloc, &by_function, shown)
 }
 
 #[test]
-fn no_bytes(rt: HostRuntime) {
-    let size = (1, 1);
-    assert_shows(
-        &rt,
-        b"",
-        Shown {
-            size,
-            ..column(BLACK)
-        },
-    );
+fn a_payload(rt: HostRuntime) {
+    // The last raster attributes make the pixels square again.
+    let shown = Shown {
+        size: (1, 6),
+        first: BLACK,
+        others: BLACK,
+        shape: Square,
+        background: Opaque,
+    };
+    assert!(rt; is_decoded(rt.alloc(), b"\"2;1\"4;1\"3~", &shown));
 }
 
 #[test]
-fn bytes_around_a_control_string(rt: HostRuntime) {
-    let blue = [51, 51, 204, 255];
-    assert_shows(&rt, b"prefix\x1bP9;0;0q#1~\x1b\\suffix", column(blue));
-    assert_shows(&rt, b"#1~", column(blue));
-    assert_shows(&rt, b"~~\x90q~", column(BLACK));
-    assert_shows(&rt, b"\xc3\xa9\x1bPq~\x1b\\", column(BLACK));
+fn corrected_dimensions(rt: HostRuntime) {
+    let size = match &SixelImage::decode(rt.alloc(), b"\x1bP2;1q\"3;1;1;6@\x1b\\") {
+        Ok(image) if image.height == 6 => image.corrected_dimensions(),
+        _ => (0, 0),
+    };
+    assert!(rt; size == (1, 18));
+}
+
+/// Bytes that are refused, and why.
+const REFUSED: [(&[u8], &str); 4] = [
+    (b"\xd0\x90\x7e", "invalid SIXEL DCS header"),
+    (b"\x1bP", "missing SIXEL DCS command"),
+    (b"\x1bP\x1b\\", MALFORMED),
+    (b"\xd0\x90\x1bPq~\x1b\\", MALFORMED),
+];
+
+#[test]
+fn refusals(rt: HostRuntime) {
+    for (bytes, reason) in &REFUSED {
+        let is_right = is_refused(&SixelDecoder::new().decode(rt.alloc(), bytes), reason);
+        assert!(rt; is_right, "{bytes:?}");
+    }
+}
+
+/// A control string with the payload `?`, and the P1, P2 and P3 of its header.
+const HEADERS: [(&str, Option<u16>, Option<u16>, Option<u16>); 6] = [
+    ("\x1bPq?\x1b\\", None, None, None),
+    ("\x1bP;q?\x1b\\", Some(0), Some(0), None),
+    ("\x1bP;1;q?\x1b\\", Some(0), Some(1), Some(0)),
+    ("\x1bP3;1;0q?\x1b\\", Some(3), Some(1), Some(0)),
+    (
+        "\x1bP9999999999999999999999999999999;1;0q?\x1b\\",
+        Some(65535),
+        Some(1),
+        Some(0),
+    ),
+    ("\x1bP9;1;0;1;2;3;4;5q?\x1b\\", Some(9), Some(1), Some(0)),
+];
+
+/// Whether a control string shows what its payload does with these settings.
+fn has_settings(alloc: Global, string: &str, settings: DcsSettings) -> bool {
+    let image = SixelDecoder::new().decode(alloc, string.as_bytes());
+    are_same(&image, &decoded(alloc, b"?", settings))
 }
 
 #[test]
-fn a_producers_text(rt: HostRuntime) {
-    let text = b"\x1bP0;0;0q\"1;1;4;6#0;2;0;0;0#1;2;100;100;100#1!4~$#0!4?-\x1b\\";
-    let size = (4, 6);
-    assert_shows(
-        &rt,
-        text,
-        Shown {
-            size,
-            ..column(WHITE)
-        },
-    );
-}
-
-#[test]
-fn refused_headers(rt: HostRuntime) {
-    let alloc = rt.alloc();
-    let bad_header = "invalid SIXEL DCS header";
-    assert!(rt; is_refused(&read(alloc, b"\xd0\x90\x7e"), bad_header));
-    assert!(rt; is_refused(&read(alloc, b"\x1bP"), "missing SIXEL DCS command"));
-    assert!(rt; is_refused(&read(alloc, b"\x1bP\x1b\\"), MALFORMED));
-    let second = read(alloc, b"\xd0\x90\x1bPq~\x1b\\");
-    assert!(rt; is_refused(&second, MALFORMED));
-}
-
-/// Asserts the shape of the pixels of an image one column wide.
-fn assert_shape(rt: &impl Abort, outcome: Result<SixelImage>, aspect_ratio: PixelAspectRatio) {
-    let image = outcome.expect(rt, "an image");
-    assert_eq!(rt; (image.width, image.height), (1, 6));
-    assert_eq!(rt; image.aspect_ratio, aspect_ratio);
-}
-
-#[test]
-fn ratios(rt: HostRuntime) {
-    let alloc = rt.alloc();
-    let three = read(alloc, b"\x1bP2;1q\"3;1;1;6@\x1b\\");
-    assert_shape(&rt, three, PixelAspectRatio::Ratio3To1);
-    let five = read(alloc, b"\x1bP2;1q\"4;1;1;6@\x1b\\");
-    assert_shape(&rt, five, PixelAspectRatio::Ratio5To1);
-    let square = decoded(alloc, b"\"2;1\"4;1\"3~", DcsSettings::default());
-    assert_shape(&rt, square, PixelAspectRatio::Square);
-}
-
-#[test]
-fn header_parameters_left_out(rt: HostRuntime) {
-    let tall = clear_column(PixelAspectRatio::Ratio2To1);
-    assert_shows(&rt, b"\x1bP;1;q?\x1b\\", tall);
-    let square = clear_column(PixelAspectRatio::Square);
-    assert_shows(&rt, b"\x1bP99999999999;1q?", square);
-}
-
-/// Asserts that a header is as good as these settings.
-fn assert_header(rt: &(impl Abort + AllocGlobal), header: &str, settings: DcsSettings) {
-    let alloc = rt.alloc();
-    let text = format!(in alloc; "\x1bP{header}q?\x1b\\").expect(rt, header);
-    let image = read(alloc, text.as_bytes());
-    assert!(rt;
-        are_same(&image, &decoded(alloc, b"?", settings)),
-        "{header}"
-    );
-}
-
-#[test]
-fn header_values(rt: HostRuntime) {
-    assert_header(&rt, "", DcsSettings::default());
-    assert_header(&rt, ";", DcsSettings::new(Some(0), Some(0), None));
-    assert_header(&rt, ";1;", DcsSettings::new(Some(0), Some(1), Some(0)));
-    assert_header(&rt, "3;1;0", DcsSettings::new(Some(3), Some(1), Some(0)));
-    let greatest = DcsSettings::new(Some(65535), Some(1), Some(0));
-    assert_header(&rt, "9999999999999999999999999999999;1;0", greatest);
-    let first_three = DcsSettings::new(Some(9), Some(1), Some(0));
-    assert_header(&rt, "9;1;0;1;2;3;4;5", first_three);
+fn headers(rt: HostRuntime) {
+    for (string, p1, p2, p3) in &HEADERS {
+        let settings = DcsSettings::new(*p1, *p2, *p3);
+        assert!(rt; has_settings(rt.alloc(), string, settings), "{string}");
+    }
 }

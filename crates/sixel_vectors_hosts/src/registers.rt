@@ -1,58 +1,60 @@
 //! The registers of a decoder, and those of its clone.
 
 use icy_sixel::decoder::{DcsSettings, SixelDecoder};
-use sixel_vectors_base::answers::{bytes_of, shows};
-use std::process::Abort;
+use sixel_vectors_base::answers::{RED, is_drawn};
+use std::alloc::Global;
 
-/// Asserts that this decoder draws one column of this color.
-fn assert_column(
-    rt: &(impl Abort + AllocGlobal),
-    decoder: &mut SixelDecoder,
-    payload: &str,
-    [red, green, blue]: [u8; 3],
-) {
-    let alloc = rt.alloc();
-    let outcome = decoder.decode_from_dcs(alloc, payload.as_bytes(), DcsSettings::default());
-    let image = outcome.expect(rt, payload);
-    let pixels = bytes_of(alloc, &[(6, [red, green, blue, 255])]).expect(rt, payload);
-    assert!(rt; shows(&image, (1, 6), &pixels), "{payload}");
-}
+/// Registers of a new decoder, and their colors.
+const REGISTERS: [(u8, [u8; 3]); 12] = [
+    (0, [0, 0, 0]),
+    (1, [51, 51, 204]),
+    (2, [204, 33, 33]),
+    (7, [135, 135, 135]),
+    (15, [204, 204, 204]),
+    (16, [0, 0, 0]),
+    (21, [0, 0, 255]),
+    (42, [0, 204, 102]),
+    (231, [255, 255, 255]),
+    (232, [0, 0, 0]),
+    (233, [10, 10, 10]),
+    (255, [255, 255, 255]),
+];
 
 #[test]
 fn a_new_decoder(rt: HostRuntime) {
     let decoder = SixelDecoder::new();
-    let colors = [
-        (0, [0, 0, 0]),
-        (1, [51, 51, 204]),
-        (2, [204, 33, 33]),
-        (7, [135, 135, 135]),
-        (15, [204, 204, 204]),
-        (16, [0, 0, 0]),
-        (21, [0, 0, 255]),
-        (42, [0, 204, 102]),
-        (231, [255, 255, 255]),
-        (232, [0, 0, 0]),
-        (233, [10, 10, 10]),
-        (255, [255, 255, 255]),
-    ];
-    for (register, color) in colors {
-        assert_eq!(rt; decoder.register(register), color, "register {register}");
+    for (register, color) in &REGISTERS {
+        assert!(rt;
+            decoder.register(*register) == *color,
+            "register {register}"
+        );
     }
+}
+
+/// Whether this decoder draws one column of this color.
+fn draws_column(alloc: Global, decoder: &mut SixelDecoder, payload: &[u8], color: [u8; 4]) -> bool {
+    let outcome = decoder.decode_from_dcs(alloc, payload, DcsSettings::default());
+    is_drawn(alloc, &outcome, (1, 6), &[(6, color)])
+}
+
+/// Whether all registers of two decoders have the same colors.
+fn have_same_registers(one: &SixelDecoder, other: &SixelDecoder) -> bool {
+    for register in 0..=255 {
+        if one.register(register) != other.register(register) {
+            return false;
+        }
+    }
+    true
 }
 
 #[test]
 fn a_clone_has_registers_of_its_own(rt: HostRuntime) {
+    let alloc = rt.alloc();
     let mut decoder = SixelDecoder::default();
-    assert_column(&rt, &mut decoder, "#42;2;100;0;0~", [255, 0, 0]);
+    assert!(rt; draws_column(alloc, &mut decoder, b"#42;2;100;0;0~", RED));
     let mut copy = decoder.clone().expect(&rt, "a clone");
-    for register in 0..=255 {
-        assert_eq!(rt;
-            copy.register(register),
-            decoder.register(register),
-            "register {register}"
-        );
-    }
+    assert!(rt; have_same_registers(&decoder, &copy));
     decoder.reset_palette();
-    assert_column(&rt, &mut decoder, "#42~", [0, 204, 102]);
-    assert_column(&rt, &mut copy, "#42~", [255, 0, 0]);
+    assert!(rt; draws_column(alloc, &mut decoder, b"#42~", [0, 204, 102, 255]));
+    assert!(rt; draws_column(alloc, &mut copy, b"#42~", RED));
 }

@@ -1,75 +1,66 @@
 //! The settings of a control string and the two enums that they name.
 
 use icy_sixel::decoder::DcsSettings;
-use icy_sixel::sixel_image::{BackgroundMode, PixelAspectRatio};
+use icy_sixel::sixel_image::BackgroundMode::{self, Opaque, Transparent};
+use icy_sixel::sixel_image::PixelAspectRatio::{self, Ratio2To1, Ratio3To1, Ratio5To1, Square};
+
+/// A value of P1, the shape of pixels that it asks for, how many times as high as wide these are,
+/// and the P1 that is written for this shape.
+const SHAPES: [(u16, PixelAspectRatio, u16, u8); 10] = [
+    (0, Ratio2To1, 2, 0),
+    (1, Ratio2To1, 2, 0),
+    (2, Ratio5To1, 5, 2),
+    (3, Ratio3To1, 3, 3),
+    (4, Ratio3To1, 3, 3),
+    (5, Ratio2To1, 2, 0),
+    (6, Ratio2To1, 2, 0),
+    (7, Square, 1, 9),
+    (9, Square, 1, 9),
+    (65535, Square, 1, 9),
+];
 
 #[test]
-fn settings_by_default(rt: HostRuntime) {
-    let settings = DcsSettings::default();
-    assert_eq!(rt; settings.background_mode(), BackgroundMode::Opaque);
-    assert_eq!(rt; settings.pixel_aspect_ratio(), PixelAspectRatio::Square);
-    assert_eq!(rt; BackgroundMode::default(), BackgroundMode::Transparent);
-    assert_eq!(rt; PixelAspectRatio::default(), PixelAspectRatio::Square);
-}
-
-#[test]
-fn ratios(rt: HostRuntime) {
-    for (p1, pad) in [(6, 2), (2, 5), (4, 3), (7, 1)] {
-        assert_eq!(rt; PixelAspectRatio::from_p1(p1).pad(), pad, "P1 of {p1}");
-    }
-    let settings = DcsSettings::new(Some(9), Some(0), Some(0))
-        .with_pixel_aspect_ratio(PixelAspectRatio::Ratio5To1)
-        .with_background_mode(BackgroundMode::Transparent)
-        .with_grid_size(3);
-    assert_eq!(rt; settings, DcsSettings::new(Some(2), Some(1), Some(3)));
-}
-
-#[test]
-fn pixel_shapes(rt: HostRuntime) {
-    let shapes = [
-        (PixelAspectRatio::Ratio5To1, 2, 5),
-        (PixelAspectRatio::Ratio3To1, 3, 3),
-        (PixelAspectRatio::Ratio2To1, 0, 2),
-        (PixelAspectRatio::Square, 9, 1),
-    ];
-    for (shape, p1, pad) in shapes {
-        assert_eq!(rt; shape.to_p1_value(), p1);
-        assert_eq!(rt; PixelAspectRatio::from_p1(u16::from(p1)), shape);
-        assert_eq!(rt; (shape.pan(), shape.pad()), (1, pad));
-        assert_eq!(rt; shape.is_square(), pad == 1);
+fn shapes(rt: HostRuntime) {
+    for (p1, shape, height, written) in &SHAPES {
+        let read = PixelAspectRatio::from_p1(*p1);
+        let is_right = read == *shape
+            && (read.pan(), read.pad()) == (1, *height)
+            && read.is_square() == (*height == 1)
+            && read.to_p1_value() == *written;
+        assert!(rt; is_right, "P1 of {p1}");
     }
 }
 
-#[test]
-fn values_of_p1(rt: HostRuntime) {
-    let shapes = [
-        (0, PixelAspectRatio::Ratio2To1),
-        (1, PixelAspectRatio::Ratio2To1),
-        (2, PixelAspectRatio::Ratio5To1),
-        (3, PixelAspectRatio::Ratio3To1),
-        (4, PixelAspectRatio::Ratio3To1),
-        (5, PixelAspectRatio::Ratio2To1),
-        (6, PixelAspectRatio::Ratio2To1),
-        (7, PixelAspectRatio::Square),
-        (9, PixelAspectRatio::Square),
-        (65535, PixelAspectRatio::Square),
-    ];
-    for (p1, shape) in shapes {
-        assert_eq!(rt; PixelAspectRatio::from_p1(p1), shape, "P1 of {p1}");
-    }
-}
+/// A value of P2, the background that it asks for, whether this is transparent, and the P2 that is
+/// written for it.
+const BACKGROUNDS: [(u16, BackgroundMode, bool, u8); 4] = [
+    (0, Opaque, false, 0),
+    (1, Transparent, true, 1),
+    (2, Opaque, false, 0),
+    (65535, Opaque, false, 0),
+];
 
 #[test]
 fn backgrounds(rt: HostRuntime) {
-    for (p2, mode) in [
-        (0, BackgroundMode::Opaque),
-        (1, BackgroundMode::Transparent),
-        (2, BackgroundMode::Opaque),
-        (65535, BackgroundMode::Opaque),
-    ] {
-        assert_eq!(rt; BackgroundMode::from_p2(p2), mode, "P2 of {p2}");
-        assert_eq!(rt; mode.is_transparent(), p2 == 1);
+    for (p2, mode, is_transparent, written) in &BACKGROUNDS {
+        let read = BackgroundMode::from_p2(*p2);
+        let is_right = read == *mode
+            && read.is_transparent() == *is_transparent
+            && read.to_p2_value() == *written;
+        assert!(rt; is_right, "P2 of {p2}");
     }
-    assert_eq!(rt; BackgroundMode::Opaque.to_p2_value(), 0);
-    assert_eq!(rt; BackgroundMode::Transparent.to_p2_value(), 1);
+}
+
+#[test]
+fn settings(rt: HostRuntime) {
+    let settings = DcsSettings::default();
+    let asked_for = (settings.background_mode(), settings.pixel_aspect_ratio());
+    let by_default = (BackgroundMode::default(), PixelAspectRatio::default());
+    assert!(rt; asked_for == (Opaque, Square) && by_default == (Transparent, Square));
+    assert!(rt; settings == DcsSettings::new(None, None, None));
+    let changed = DcsSettings::new(Some(9), Some(0), Some(0))
+        .with_pixel_aspect_ratio(Ratio5To1)
+        .with_background_mode(Transparent)
+        .with_grid_size(3);
+    assert!(rt; changed == DcsSettings::new(Some(2), Some(1), Some(3)));
 }

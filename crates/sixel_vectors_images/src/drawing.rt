@@ -1,81 +1,94 @@
 //! Sixels, repeats, returns and newlines: where a payload draws, and in which order.
 
-use sixel_vectors_base::answers::{
-    BLACK, BLUE, CLEAR, GREEN, RED, Run, WHITE, draws, draws_with, transparent,
-};
+use crate::rows::assert_row;
+use icy_sixel::decoder::DcsSettings;
+use sixel_vectors_base::answers::{BLACK, BLUE, CLEAR, GREEN, RED, Run, WHITE, draws_with};
 use std::process::Abort;
 
-/// Asserts what a new decoder gives a payload on black.
-fn assert_draws(
-    rt: &(impl Abort + AllocGlobal),
-    payload: &str,
-    size: (usize, usize),
-    runs: &[Run],
-) {
-    assert!(rt; draws(rt.alloc(), payload, size, runs), "{payload}");
-}
+/// A payload, parameter P2, and the size and the pixels of the image that a new decoder gives.
+pub type Drawing = (&'static str, Option<u16>, (usize, usize), &'static [Run]);
 
-/// Asserts what a new decoder gives a payload on a transparent background.
-fn assert_draws_transparent(
-    rt: &(impl Abort + AllocGlobal),
-    payload: &str,
-    size: (usize, usize),
-    runs: &[Run],
-) {
-    assert!(rt;
-        draws_with(rt.alloc(), transparent(), payload, size, runs),
-        "{payload}"
+const PAYLOADS: &[Drawing] = &[
+    // A register draws a column.
+    ("#1~", None, (1, 6), &[(6, [51, 51, 204, 255])]),
+    ("#300~", None, (1, 6), &[(6, WHITE)]),
+    ("#5;3;1;1;1~", None, (1, 6), &[(6, [51, 204, 204, 255])]),
+    // No field selects register 0.
+    ("#1#~", Some(1), (1, 6), &[(6, BLACK)]),
+    ("#1;2;100;0;0#~", Some(1), (1, 6), &[(6, BLACK)]),
+    ("#1~$#~", Some(1), (1, 6), &[(6, BLACK)]),
+    // A repeat waits for the next sixel.
+    ("!3$-~", None, (3, 12), &[(36, BLACK)]),
+    ("!3!2~", None, (2, 6), &[(12, BLACK)]),
+    ("!0~", None, (1, 6), &[(6, BLACK)]),
+    ("!1 2~", None, (1, 6), &[(6, BLACK)]),
+    ("!1\n2~", None, (12, 6), &[(72, BLACK)]),
+    ("!3#1;2;100;0;0@", Some(1), (3, 6), &[(3, RED), (15, CLEAR)]),
+    // The last sixel that covers a pixel colors it.
+    (
+        "#1;2;100;0;0~$#2;2;0;0;100@",
+        Some(1),
+        (1, 6),
+        &[(1, BLUE), (5, RED)],
+    ),
+    (
+        "#1;2;100;0;0@#1;2;0;100;0@",
+        Some(1),
+        (2, 6),
+        &[(1, RED), (1, GREEN), (10, CLEAR)],
+    ),
+    ("???", Some(1), (3, 6), &[(18, CLEAR)]),
+    // Two registers draw over each other.
+    (
+        "#2;2;0;0;100~~$#1@",
+        None,
+        (2, 6),
+        &[(1, [51, 51, 204, 255]), (11, BLUE)],
+    ),
+    // Raster attributes ask for more than the sixels cover: the rest is background.
+    (
+        "\"1;1;12;6#0;1;0;50;100~",
+        None,
+        (12, 6),
+        &[
+            (1, BLUE),
+            (11, BLACK),
+            (1, BLUE),
+            (11, BLACK),
+            (1, BLUE),
+            (11, BLACK),
+            (1, BLUE),
+            (11, BLACK),
+            (1, BLUE),
+            (11, BLACK),
+            (1, BLUE),
+            (11, BLACK),
+        ],
+    ),
+    (
+        "\"1;1;4;6#0;2;0;0;0#1;2;100;100;100#1!4~$#0!4?-",
+        None,
+        (4, 6),
+        &[(24, WHITE)],
+    ),
+    // Nothing gives one pixel.
+    ("", None, (1, 1), &[(1, BLACK)]),
+    ("", Some(1), (1, 1), &[(1, CLEAR)]),
+];
+
+/// Asserts what a payload draws.
+pub fn assert_drawn(rt: &(impl Abort + AllocGlobal), (payload, p2, size, runs): &Drawing) {
+    let settings = DcsSettings::new(None, *p2, None);
+    assert_row(
+        rt,
+        payload,
+        draws_with(rt.alloc(), settings, payload, *size, runs),
     );
 }
 
 #[test]
-fn a_register_draws_a_column(rt: HostRuntime) {
-    assert_draws(&rt, "#1~", (1, 6), &[(6, [51, 51, 204, 255])]);
-    assert_draws(&rt, "#300~", (1, 6), &[(6, WHITE)]);
-    assert_draws(&rt, "#5;3;1;1;1~", (1, 6), &[(6, [51, 204, 204, 255])]);
-}
-
-#[test]
-fn a_repeat_waits_for_the_next_sixel(rt: HostRuntime) {
-    let top = [(3, RED), (15, CLEAR)];
-    assert_draws_transparent(&rt, "!3#1;2;100;0;0@", (3, 6), &top);
-    assert_draws(&rt, "!3$-~", (3, 12), &[(36, BLACK)]);
-    assert_draws(&rt, "!3!2~", (2, 6), &[(12, BLACK)]);
-    assert_draws(&rt, "!0~", (1, 6), &[(6, BLACK)]);
-    assert_draws(&rt, "!1 2~", (1, 6), &[(6, BLACK)]);
-    assert_draws(&rt, "!1\n2~", (12, 6), &[(72, BLACK)]);
-}
-
-#[test]
-fn the_last_sixel_that_covers_a_pixel_colors_it(rt: HostRuntime) {
-    let over = "#1;2;100;0;0~$#2;2;0;0;100@";
-    assert_draws_transparent(&rt, over, (1, 6), &[(1, BLUE), (5, RED)]);
-    let beside = "#1;2;100;0;0@#1;2;0;100;0@";
-    let both = [(1, RED), (1, GREEN), (10, CLEAR)];
-    assert_draws_transparent(&rt, beside, (2, 6), &both);
-    assert_draws_transparent(&rt, "???", (3, 6), &[(18, CLEAR)]);
-}
-
-#[test]
-fn two_registers_draw_over_each_other(rt: HostRuntime) {
-    let runs = [(1, [51, 51, 204, 255]), (11, BLUE)];
-    assert_draws(&rt, "#2;2;0;0;100~~$#1@", (2, 6), &runs);
-}
-
-#[test]
-fn raster_sizes_fill_with_the_background(rt: HostRuntime) {
-    let row = [(1, BLUE), (11, BLACK)];
-    let rows = [
-        row[0], row[1], row[0], row[1], row[0], row[1], row[0], row[1], row[0], row[1], row[0],
-        row[1],
-    ];
-    assert_draws(&rt, "\"1;1;12;6#0;1;0;50;100~", (12, 6), &rows);
-    let text = "\"1;1;4;6#0;2;0;0;0#1;2;100;100;100#1!4~$#0!4?-";
-    assert_draws(&rt, text, (4, 6), &[(24, WHITE)]);
-}
-
-#[test]
-fn nothing_gives_one_pixel(rt: HostRuntime) {
-    assert_draws(&rt, "", (1, 1), &[(1, BLACK)]);
-    assert_draws_transparent(&rt, "", (1, 1), &[(1, CLEAR)]);
+fn drawings(rt: HostRuntime) {
+    for drawing in PAYLOADS {
+        assert_drawn(&rt, drawing);
+    }
 }

@@ -17,4 +17,6 @@ mod palette;
 #[cfg(test)]
 mod round_trips;
 #[cfg(test)]
+mod rows;
+#[cfg(test)]
 mod sizes;

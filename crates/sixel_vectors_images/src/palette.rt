@@ -1,114 +1,115 @@
 //! Worked values of the palette and its certificate.
 
+use crate::rows::assert_row;
 use icy_sixel::SixelError;
-use icy_sixel::palette::{PaletteChoice, choose_palette, witnesses_hold};
+use icy_sixel::palette::{choose_palette, witnesses_hold};
 use sixel_vectors_base::answers::{BLACK, WHITE};
 use std::alloc::Global;
-use std::process::Abort;
-use std::test::Fail;
 
-/// The palette of pixels given one by one.
-fn palette(
-    alloc: Global,
-    pixels: &[[u8; 4]],
-    max_colors: u16,
-) -> Result<PaletteChoice, SixelError> {
-    let mut bytes = Vec::new(alloc);
-    for pixel in pixels {
-        bytes.extend_from_slice(pixel)?;
-    }
-    choose_palette(alloc, &bytes, max_colors)
-}
-
-/// What is expected of a palette.
+/// Pixels, and their palette of so many colors at most.
 #[derive(Clone, Copy)]
-struct Expected<'a> {
-    colors: &'a [[u8; 3]],
-    indices: &'a [u8],
-    error: u32,
-    witnesses: &'a [[u8; 3]],
-}
-
-/// Asserts the palette of pixels given one by one.
-fn assert_palette(
-    rt: &(impl Abort + AllocGlobal),
-    pixels: &[[u8; 4]],
+struct Choice {
+    name: &'static str,
+    pixels: &'static [[u8; 4]],
     max_colors: u16,
-    expected: Expected<'_>,
-) {
-    let choice = palette(rt.alloc(), pixels, max_colors).expect(rt, "a palette");
-    assert!(rt; choice.colors.as_slice() == expected.colors, "the entries");
-    assert!(rt; choice.indices.as_slice() == expected.indices, "the places");
-    assert!(rt;
-        choice.witnesses.as_slice() == expected.witnesses,
-        "the witnesses"
-    );
-    assert_eq!(rt; choice.error, expected.error);
+    colors: &'static [[u8; 3]],
+    indices: &'static [u8],
+    error: u32,
+    witnesses: &'static [[u8; 3]],
 }
 
-#[test]
-fn no_pixels_have_no_colors(rt: HostRuntime) {
-    let expected = Expected {
+const CHOICES: &[Choice] = &[
+    Choice {
+        name: "no pixels have no colors",
+        pixels: &[],
+        max_colors: 256,
         colors: &[],
         indices: &[],
         error: 0,
         witnesses: &[],
-    };
-    assert_palette(&rt, &[], 256, expected);
+    },
+    Choice {
+        name: "ties go to the least color",
+        pixels: &[BLACK, [0, 0, 10, 255], [0, 10, 0, 255]],
+        max_colors: 2,
+        colors: &[[0, 0, 0], [0, 0, 10]],
+        indices: &[0, 1, 0],
+        error: 100,
+        witnesses: &[[0, 0, 0], [0, 0, 10], [0, 10, 0]],
+    },
+    Choice {
+        name: "ties go to the least index",
+        pixels: &[BLACK, [0, 0, 10, 255], [0, 0, 5, 255]],
+        max_colors: 0,
+        colors: &[[0, 0, 0], [0, 0, 10]],
+        indices: &[0, 1, 0],
+        error: 25,
+        witnesses: &[[0, 0, 0], [0, 0, 10], [0, 0, 5]],
+    },
+    Choice {
+        name: "hidden pixels do not count",
+        pixels: &[[9, 9, 9, 127], [1, 2, 3, 128]],
+        max_colors: 2,
+        colors: &[[1, 2, 3]],
+        indices: &[0, 0],
+        error: 0,
+        witnesses: &[],
+    },
+    Choice {
+        name: "the factor of four is reached",
+        pixels: &[BLACK, [10, 0, 0, 255], WHITE],
+        max_colors: 2,
+        colors: &[[0, 0, 0], [255, 255, 255]],
+        indices: &[0, 0, 1],
+        error: 100,
+        witnesses: &[[0, 0, 0], [255, 255, 255], [10, 0, 0]],
+    },
+];
+
+/// Whether the palette of the pixels is the one that is expected.
+fn is_chosen(alloc: Global, expected: &Choice) -> bool {
+    match choose_palette(alloc, expected.pixels.as_flattened(), expected.max_colors) {
+        Ok(choice) => {
+            let mut holds = choice.colors.as_slice() == expected.colors;
+            holds &= choice.indices.as_slice() == expected.indices;
+            holds &= choice.witnesses.as_slice() == expected.witnesses;
+            holds & (choice.error == expected.error)
+        }
+        Err(_) => false,
+    }
+}
+
+#[test]
+fn choices(rt: HostRuntime) {
+    for choice in CHOICES {
+        assert_row(&rt, choice.name, is_chosen(rt.alloc(), choice));
+    }
 }
 
 #[test]
 fn a_length_of_no_whole_pixels_is_refused(rt: HostRuntime) {
     let refusal = choose_palette(rt.alloc(), &[0; 7], 2).err();
-    assert_eq!(rt;
-        refusal,
-        Some(SixelError::BufferSizeMismatch {
-            expected: 4,
-            actual: 7
-        })
-    );
+    let mismatch = SixelError::BufferSizeMismatch {
+        expected: 4,
+        actual: 7,
+    };
+    assert_row(&rt, "seven bytes", refusal == Some(mismatch));
 }
 
-#[test]
-fn ties_go_to_the_least_color(rt: HostRuntime) {
-    let expected = Expected {
-        colors: &[[0, 0, 0], [0, 0, 10]],
-        indices: &[0, 1, 0],
-        error: 100,
-        witnesses: &[[0, 0, 0], [0, 0, 10], [0, 10, 0]],
-    };
-    let pixels = [BLACK, [0, 0, 10, 255], [0, 10, 0, 255]];
-    assert_palette(&rt, &pixels, 2, expected);
-}
+/// The colors of the last choice.
+const COLORS: [[u8; 3]; 3] = [[0, 0, 0], [10, 0, 0], [255, 255, 255]];
 
-#[test]
-fn ties_go_to_the_least_index(rt: HostRuntime) {
-    let expected = Expected {
-        colors: &[[0, 0, 0], [0, 0, 10]],
-        indices: &[0, 1, 0],
-        error: 25,
-        witnesses: &[[0, 0, 0], [0, 0, 10], [0, 0, 5]],
-    };
-    let pixels = [BLACK, [0, 0, 10, 255], [0, 0, 5, 255]];
-    assert_palette(&rt, &pixels, 0, expected);
-}
-
-#[test]
-fn hidden_pixels_do_not_count(rt: HostRuntime) {
-    let expected = Expected {
-        colors: &[[1, 2, 3]],
-        indices: &[0, 0],
-        error: 0,
-        witnesses: &[],
-    };
-    assert_palette(&rt, &[[9, 9, 9, 127], [1, 2, 3, 128]], 2, expected);
-}
+/// Palettes of these colors, and their errors: the chosen one's is four times another one's.
+const ERRORS: &[(&[[u8; 3]], u32)] = &[
+    (&[[0, 0, 0], [255, 255, 255]], 100),
+    (&[[5, 0, 0], [255, 255, 255]], 25),
+];
 
 /// The squared distance of two colors.
 fn distance(one: [u8; 3], other: [u8; 3]) -> u32 {
     let mut sum = 0_u32;
-    for (a, b) in one.iter().zip(&other) {
-        let difference = u32::from(a.abs_diff(*b));
+    for channel in 0..3 {
+        let difference = u32::from(one[channel].abs_diff(other[channel]));
         sum = sum.saturating_add(difference.saturating_mul(difference));
     }
     sum
@@ -128,33 +129,33 @@ fn error_of(colors: &[[u8; 3]], entries: &[[u8; 3]]) -> u32 {
 }
 
 #[test]
-fn another_palette_has_a_quarter_of_the_error(rt: HostRuntime) -> Result<(), Fail> {
-    let colors = [[0, 0, 0], [10, 0, 0], [255, 255, 255]];
-    let choice = palette(rt.alloc(), &[BLACK, [10, 0, 0, 255], WHITE], 2)?;
-    assert_eq!(rt; error_of(&colors, &choice.colors), choice.error);
-    assert_eq!(rt; error_of(&colors, &[[5, 0, 0], [255, 255, 255]]), 25);
-    assert_eq!(rt; choice.error, 100);
-    Ok(())
+fn another_palette_has_a_quarter_of_the_error(rt: HostRuntime) {
+    for (entries, error) in ERRORS {
+        assert_row(
+            &rt,
+            "the error of a palette",
+            error_of(&COLORS, entries) == *error,
+        );
+    }
 }
 
-#[test]
-fn the_factor_of_four_is_reached(rt: HostRuntime) {
-    let witnesses = [[0, 0, 0], [255, 255, 255], [10, 0, 0]];
-    let expected = Expected {
-        colors: &[[0, 0, 0], [255, 255, 255]],
-        indices: &[0, 0, 1],
-        error: 100,
-        witnesses: &witnesses,
-    };
-    assert_palette(&rt, &[BLACK, [10, 0, 0, 255], WHITE], 2, expected);
-    assert!(rt; witnesses_hold(&witnesses, 100));
-    assert!(rt; !witnesses_hold(&witnesses, 101));
-}
+/// Witnesses, an error, and whether every two of them are so far apart.
+const CERTIFICATES: &[(&[[u8; 3]], u32, bool)] = &[
+    (&[[0, 0, 0], [255, 255, 255], [10, 0, 0]], 100, true),
+    (&[[0, 0, 0], [255, 255, 255], [10, 0, 0]], 101, false),
+    (&[], u32::MAX, true),
+    (&[[1, 1, 1]], u32::MAX, true),
+    (&[[1, 1, 1], [1, 1, 1]], 0, true),
+    (&[[1, 1, 1], [1, 1, 1]], 1, false),
+];
 
 #[test]
 fn a_certificate_speaks_of_every_two_places(rt: HostRuntime) {
-    assert!(rt; witnesses_hold(&[], u32::MAX));
-    assert!(rt; witnesses_hold(&[[1, 1, 1]], u32::MAX));
-    assert!(rt; witnesses_hold(&[[1, 1, 1], [1, 1, 1]], 0));
-    assert!(rt; !witnesses_hold(&[[1, 1, 1], [1, 1, 1]], 1));
+    for (witnesses, error, holds) in CERTIFICATES {
+        assert_row(
+            &rt,
+            "a certificate",
+            witnesses_hold(witnesses, *error) == *holds,
+        );
+    }
 }

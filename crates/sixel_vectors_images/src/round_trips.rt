@@ -2,116 +2,129 @@
 
 ghost use Rattle.std.specs.Prelude.{◌<◌};
 
+use crate::rows::assert_row;
 use icy_sixel::{
-    BackgroundMode, EncodeOptions, PixelAspectRatio, Result, SixelDecoder, SixelImage,
-    sixel_encode, sixel_encode_default,
+    EncodeOptions, Result, SixelDecoder, SixelImage, sixel_encode, sixel_encode_default,
 };
-use sixel_vectors_base::answers::{BLACK, BLUE, CLEAR, RED, Run, bytes_of, shows};
+use sixel_vectors_base::answers::{BLUE, CLEAR, RED, Run, bytes_of, is_drawn, shows};
 use std::alloc::{AllocError, Global};
-use std::process::Abort;
 
 /// The pixels of an image, and its size.
+type Drawing = (&'static [Run], (usize, usize));
+
+/// An image, and what it is once it was encoded with so many colors at most and decoded.
 #[derive(Clone, Copy)]
-struct Drawing<'a> {
-    runs: &'a [Run],
-    size: (usize, usize),
+struct Trip {
+    name: &'static str,
+    from: Drawing,
+    max_colors: u16,
+    to: Drawing,
 }
 
-/// What a new decoder makes of the text of a drawing with so many colors at most.
-fn trip(alloc: Global, drawing: Drawing<'_>, max_colors: u16) -> Result<SixelImage> {
-    let pixels = bytes_of(alloc, drawing.runs)?;
-    let (width, height) = drawing.size;
-    let text = sixel_encode(alloc, &pixels, width, height, &EncodeOptions { max_colors })?;
-    SixelDecoder::new().decode(alloc, text.as_bytes())
+const TRIPS: &[Trip] = &[
+    Trip {
+        name: "colors become percentages",
+        from: (&[(1, [64, 128, 192, 255])], (1, 1)),
+        max_colors: 256,
+        to: (&[(1, [64, 128, 191, 255]), (5, CLEAR)], (1, 6)),
+    },
+    Trip {
+        name: "percentages stay",
+        from: (&[(1, [64, 128, 191, 255]), (5, CLEAR)], (1, 6)),
+        max_colors: 256,
+        to: (&[(1, [64, 128, 191, 255]), (5, CLEAR)], (1, 6)),
+    },
+    Trip {
+        name: "a gray becomes a percentage",
+        from: (&[(1, [127, 127, 127, 255])], (1, 1)),
+        max_colors: 256,
+        to: (&[(1, [128, 128, 128, 255]), (5, CLEAR)], (1, 6)),
+    },
+    Trip {
+        name: "a gray of a percentage stays",
+        from: (&[(1, [128, 128, 128, 255]), (5, CLEAR)], (1, 6)),
+        max_colors: 256,
+        to: (&[(1, [128, 128, 128, 255]), (5, CLEAR)], (1, 6)),
+    },
+    Trip {
+        name: "hidden pixels stay hidden",
+        from: (&[(455, [9, 9, 9, 127])], (65, 7)),
+        max_colors: 256,
+        to: (&[(455, CLEAR)], (65, 7)),
+    },
+    Trip {
+        name: "clear pixels stay clear",
+        from: (&[(455, CLEAR)], (65, 7)),
+        max_colors: 256,
+        to: (&[(455, CLEAR)], (65, 7)),
+    },
+    Trip {
+        name: "two colors behind many hidden pixels",
+        from: (
+            &[(1000, [0, 255, 0, 127]), (1, [255, 0, 0, 128]), (1, BLUE)],
+            (1002, 1),
+        ),
+        max_colors: 2,
+        to: (
+            &[(1000, CLEAR), (1, RED), (1, BLUE), (5010, CLEAR)],
+            (1002, 6),
+        ),
+    },
+    Trip {
+        name: "the last of the greatest height",
+        from: (&[(999995, [1, 2, 3, 0]), (1, RED)], (1, 999996)),
+        max_colors: 256,
+        to: (&[(999995, CLEAR), (1, RED)], (1, 999996)),
+    },
+    Trip {
+        name: "one repeat",
+        from: (&[(65535, RED)], (65535, 1)),
+        max_colors: 256,
+        to: (&[(65535, RED), (327675, CLEAR)], (65535, 6)),
+    },
+    Trip {
+        name: "a repeat and a sixel",
+        from: (&[(65536, RED)], (65536, 1)),
+        max_colors: 256,
+        to: (&[(65536, RED), (327680, CLEAR)], (65536, 6)),
+    },
+    Trip {
+        name: "two repeats and three sixels",
+        from: (&[(131073, RED)], (131073, 1)),
+        max_colors: 256,
+        to: (&[(131073, RED), (655365, CLEAR)], (131073, 6)),
+    },
+];
+
+/// What a new decoder makes of the text of pixels.
+fn returned(
+    alloc: Global,
+    pixels: &[u8],
+    (width, height): (usize, usize),
+    max_colors: u16,
+) -> Result<SixelImage> {
+    match sixel_encode(alloc, pixels, width, height, &EncodeOptions { max_colors }) {
+        Ok(text) => SixelDecoder::new().decode(alloc, text.as_bytes()),
+        Err(error) => Err(error),
+    }
 }
 
-/// Asserts that a decoded image is this drawing.
-fn assert_is(rt: &(impl Abort + AllocGlobal), image: &SixelImage, drawing: Drawing<'_>) {
-    let pixels = bytes_of(rt.alloc(), drawing.runs).expect(rt, "pixels");
-    assert!(rt; shows(image, drawing.size, &pixels));
-}
-
-/// Asserts that a drawing becomes another one, which a second round trip keeps.
-fn assert_trips(rt: &(impl Abort + AllocGlobal), from: Drawing<'_>, to: Drawing<'_>) {
-    let first = trip(rt.alloc(), from, 256).expect(rt, "a round trip");
-    assert_is(rt, &first, to);
-    let second = trip(rt.alloc(), to, 256).expect(rt, "a round trip");
-    assert_is(rt, &second, to);
-}
-
-/// One pixel of this color.
-fn assert_pixel_trips(rt: &(impl Abort + AllocGlobal), from: [u8; 4], to: [u8; 4]) {
-    let from = Drawing {
-        runs: &[(1, from)],
-        size: (1, 1),
-    };
-    let to = Drawing {
-        runs: &[(1, to), (5, CLEAR)],
-        size: (1, 6),
-    };
-    assert_trips(rt, from, to);
+/// Whether a drawing comes back as the other one.
+fn comes_back(alloc: Global, trip: &Trip) -> bool {
+    let ((from, from_size), (to, to_size)) = (trip.from, trip.to);
+    match bytes_of(alloc, from) {
+        Ok(pixels) => {
+            let outcome = returned(alloc, &pixels, from_size, trip.max_colors);
+            is_drawn(alloc, &outcome, to_size, to)
+        }
+        Err(_) => false,
+    }
 }
 
 #[test]
-fn colors_become_percentages(rt: HostRuntime) {
-    assert_pixel_trips(&rt, [64, 128, 192, 255], [64, 128, 191, 255]);
-    assert_pixel_trips(&rt, [127, 127, 127, 255], [128, 128, 128, 255]);
-}
-
-#[test]
-fn hidden_pixels_stay_hidden(rt: HostRuntime) {
-    let from = Drawing {
-        runs: &[(455, [9, 9, 9, 127])],
-        size: (65, 7),
-    };
-    let to = Drawing {
-        runs: &[(455, CLEAR)],
-        size: (65, 7),
-    };
-    assert_trips(&rt, from, to);
-}
-
-#[test]
-fn two_colors_behind_many_hidden_pixels(rt: HostRuntime) {
-    let from = Drawing {
-        runs: &[(1000, [0, 255, 0, 127]), (1, [255, 0, 0, 128]), (1, BLUE)],
-        size: (1002, 1),
-    };
-    let to = Drawing {
-        runs: &[(1000, CLEAR), (1, RED), (1, BLUE), (5010, CLEAR)],
-        size: (1002, 6),
-    };
-    let image = trip(rt.alloc(), from, 2).expect(&rt, "a round trip");
-    assert_is(&rt, &image, to);
-}
-
-#[test]
-fn the_last_of_the_greatest_height(rt: HostRuntime) {
-    let from = Drawing {
-        runs: &[(999995, [1, 2, 3, 0]), (1, RED)],
-        size: (1, 999996),
-    };
-    let to = Drawing {
-        runs: &[(999995, CLEAR), (1, RED)],
-        size: (1, 999996),
-    };
-    let image = trip(rt.alloc(), from, 256).expect(&rt, "a round trip");
-    assert_is(&rt, &image, to);
-}
-
-#[test]
-fn wide_lines(rt: HostRuntime) {
-    for width in [65535, 65536, 131073] {
-        let from = Drawing {
-            runs: &[(width, RED)],
-            size: (width, 1),
-        };
-        let to = Drawing {
-            runs: &[(width, RED), (width.saturating_mul(5), CLEAR)],
-            size: (width, 6),
-        };
-        let image = trip(rt.alloc(), from, 256).expect(&rt, "a round trip");
-        assert_is(&rt, &image, to);
+fn trips(rt: HostRuntime) {
+    for trip in TRIPS {
+        assert_row(&rt, trip.name, comes_back(rt.alloc(), trip));
     }
 }
 
@@ -124,7 +137,8 @@ fn striped(place: usize, colors: usize) -> [u8; 4]
     [levels[color % 10], levels[color / 10 % 10], 0, 255]
 }
 
-/// The pixels of an image of slanted stripes, each seven pixels wide.
+/// The pixels of slanted stripes, each seven pixels wide, and of the clear rows that a band has
+/// below them.
 fn stripes(
     alloc: Global,
     width: usize,
@@ -135,54 +149,59 @@ fn stripes(
     requires height { height < 1000 }
 {
     let mut pixels = Vec::new(alloc);
-    for row in 0..height {
+    for row in 0..height.next_multiple_of(6) {
         for column in 0..width {
-            pixels.extend_from_slice(&striped(column / 7 + 11 * row, colors))?;
+            let pixel = if row < height {
+                striped(column / 7 + 11 * row, colors)
+            } else {
+                CLEAR
+            };
+            pixels.extend_from_slice(&pixel)?;
         }
     }
     Ok(pixels)
 }
 
-/// Asserts that stripes of so many colors come back, with the last band's other rows clear.
-fn assert_stripes_trip(rt: &(impl Abort + AllocGlobal), width: usize, height: usize, colors: usize)
-    requires colors { 0 < colors }
+/// Whether stripes of so many colors come back, with the last band's other rows clear.
+fn stripes_come_back(alloc: Global, width: usize, height: usize, colors: usize) -> bool
+    requires width { width < 1000000 }
     requires height { height < 1000 }
+    requires colors { 0 < colors }
 {
-    let alloc = rt.alloc();
-    let mut pixels = stripes(alloc, width, height, colors).expect(rt, "stripes");
-    let text = sixel_encode_default(alloc, &pixels, width, height).expect(rt, "a text");
-    let image = SixelDecoder::new().decode(alloc, text.as_bytes());
-    let banded = height.next_multiple_of(6);
-    for _ in 0..width.saturating_mul(banded - height) {
-        pixels.extend_from_slice(&CLEAR).expect(rt, "clear rows");
+    let Ok(pixels) = stripes(alloc, width, height, colors) else {
+        return false;
+    };
+    let (given, _) = pixels.split_at(pixels.len().min(4 * width * height));
+    let Ok(text) = sixel_encode_default(alloc, given, width, height) else {
+        return false;
+    };
+    match SixelDecoder::new().decode(alloc, text.as_bytes()) {
+        Ok(image) => shows(&image, (width, height.next_multiple_of(6)), &pixels),
+        Err(_) => false,
     }
-    let image = image.expect(rt, "an image");
-    assert!(rt; shows(&image, (width, banded), &pixels));
 }
 
 #[test]
 fn more_entries_than_rows_at_once(rt: HostRuntime) {
     // Two mebibytes have 32 rows of 65535 sixels, each with its mark, and 20 of 100000.
-    assert_stripes_trip(&rt, 65535, 1, 32);
-    assert_stripes_trip(&rt, 65536, 1, 32);
-    assert_stripes_trip(&rt, 65536, 1, 31);
-    assert_stripes_trip(&rt, 100000, 7, 50);
-}
-
-#[test]
-fn an_opaque_image_of_tall_pixels(rt: HostRuntime) {
-    let bytes = bytes_of(rt.alloc(), &[(7, RED)]).expect(&rt, "bytes");
-    let image = SixelImage::from_rgba(bytes, 1, 7)
-        .with_aspect_ratio(PixelAspectRatio::Ratio2To1)
-        .with_background_mode(BackgroundMode::Opaque);
-    let text = image.encode(rt.alloc()).expect(&rt, "a text");
-    let outcome = SixelDecoder::new().decode(rt.alloc(), text.as_bytes());
-    let again = outcome.expect(&rt, "a round trip");
-    let to = Drawing {
-        runs: &[(7, RED), (5, BLACK)],
-        size: (1, 12),
-    };
-    assert_is(&rt, &again, to);
-    assert_eq!(rt; again.aspect_ratio, PixelAspectRatio::Ratio2To1);
-    assert_eq!(rt; again.background_mode, BackgroundMode::Opaque);
+    assert_row(
+        &rt,
+        "32 colors of 65535x1 pixels",
+        stripes_come_back(rt.alloc(), 65535, 1, 32),
+    );
+    assert_row(
+        &rt,
+        "32 colors of 65536x1 pixels",
+        stripes_come_back(rt.alloc(), 65536, 1, 32),
+    );
+    assert_row(
+        &rt,
+        "31 colors of 65536x1 pixels",
+        stripes_come_back(rt.alloc(), 65536, 1, 31),
+    );
+    assert_row(
+        &rt,
+        "50 colors of 100000x7 pixels",
+        stripes_come_back(rt.alloc(), 100000, 7, 50),
+    );
 }

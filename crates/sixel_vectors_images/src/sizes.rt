@@ -1,119 +1,197 @@
-//! Sizes and buffers that encoding refuses.
+//! Sizes and buffers that encoding refuses, and what an image says of itself.
 
+use crate::rows::assert_row;
+use icy_sixel::SixelError::{self, BufferSizeMismatch, IntegerOverflow, InvalidDimensions};
 use icy_sixel::{
-    EncodeOptions, PixelAspectRatio, SixelError, SixelImage, sixel_encode,
-    validate_encode_dimensions,
+    EncodeOptions, PixelAspectRatio, SixelImage, sixel_encode, validate_encode_dimensions,
 };
-use sixel_vectors_base::answers::{RED, bytes_of};
-use std::process::Abort;
+use sixel_vectors_base::answers::{CLEAR, RED, Run, bytes_of};
+use std::alloc::Global;
 
-/// The refusal of these sizes.
-fn invalid(width: usize, height: usize) -> SixelError {
-    SixelError::InvalidDimensions { width, height }
-}
-
-/// The refusal of a buffer of another length.
-fn mismatch(expected: usize, actual: usize) -> SixelError {
-    SixelError::BufferSizeMismatch { expected, actual }
-}
+/// A width and a height, and the refusal to encode an image of this size.
+const SIZES: &[(&str, usize, usize, Option<SixelError>)] = &[
+    (
+        "no column",
+        0,
+        usize::MAX,
+        Some(InvalidDimensions {
+            width: 0,
+            height: usize::MAX,
+        }),
+    ),
+    (
+        "bytes above usize::MAX",
+        usize::MAX,
+        2,
+        Some(IntegerOverflow),
+    ),
+    ("the greatest area", 8192, 8184, None),
+    (
+        "a greater area",
+        8192,
+        8192,
+        Some(InvalidDimensions {
+            width: 8192,
+            height: 8192,
+        }),
+    ),
+    ("the greatest height", 1, 999996, None),
+    (
+        "a greater height",
+        1,
+        999997,
+        Some(InvalidDimensions {
+            width: 1,
+            height: 999997,
+        }),
+    ),
+    (
+        "a greater width",
+        1000001,
+        1,
+        Some(InvalidDimensions {
+            width: 1000001,
+            height: 1,
+        }),
+    ),
+];
 
 #[test]
 fn sizes(rt: HostRuntime) {
-    let rows = [
-        (0, usize::MAX, Some(invalid(0, usize::MAX))),
-        (usize::MAX, 2, Some(SixelError::IntegerOverflow)),
-        (8192, 8184, None),
-        (8192, 8192, Some(invalid(8192, 8192))),
-        (1, 999996, None),
-        (1, 999997, Some(invalid(1, 999997))),
-        (1000001, 1, Some(invalid(1000001, 1))),
-    ];
-    for (width, height, refusal) in rows {
-        assert_eq!(rt; validate_encode_dimensions(width, height).err(), refusal);
+    for (name, width, height, refusal) in SIZES {
+        let outcome = validate_encode_dimensions(*width, *height);
+        assert_row(&rt, name, outcome.err() == *refusal);
     }
 }
 
-/// Asserts that encoding pixels of these sizes is refused.
-fn assert_refused(
-    rt: &(impl Abort + AllocGlobal),
-    pixels: &[u8],
+/// The pixels of which so many bytes are given for an image of which size, and the refusal.
+const UNENCODED: &[(&str, Run, usize, (usize, usize), Option<SixelError>)] = &[
+    (
+        "no pixels",
+        (0, RED),
+        0,
+        (8192, 8192),
+        Some(InvalidDimensions {
+            width: 8192,
+            height: 8192,
+        }),
+    ),
+    (
+        "fifteen bytes",
+        (4, CLEAR),
+        15,
+        (2, 2),
+        Some(BufferSizeMismatch {
+            expected: 16,
+            actual: 15,
+        }),
+    ),
+    (
+        "a wide image",
+        (1000001, RED),
+        4000004,
+        (1000001, 1),
+        Some(InvalidDimensions {
+            width: 1000001,
+            height: 1,
+        }),
+    ),
+    (
+        "a high image",
+        (1000000, RED),
+        4000000,
+        (1, 1000000),
+        Some(InvalidDimensions {
+            width: 1,
+            height: 1000000,
+        }),
+    ),
+];
+
+/// The refusal to encode an image.
+fn refusal(
+    alloc: Global,
+    bytes: &[u8],
+    length: usize,
     (width, height): (usize, usize),
-    refusal: SixelError,
-) {
-    let outcome = sixel_encode(rt.alloc(), pixels, width, height, &EncodeOptions::default());
-    assert_eq!(rt; outcome.err(), Some(refusal));
+) -> Option<SixelError> {
+    let (bytes, _) = bytes.split_at(length.min(bytes.len()));
+    sixel_encode(alloc, bytes, width, height, &EncodeOptions::default()).err()
 }
 
 #[test]
 fn encoding(rt: HostRuntime) {
-    assert_refused(&rt, &[], (8192, 8192), invalid(8192, 8192));
-    assert_refused(&rt, &[0; 15], (2, 2), mismatch(16, 15));
-    let wide = bytes_of(rt.alloc(), &[(1000001, RED)]).expect(&rt, "bytes");
-    assert_refused(&rt, &wide, (1000001, 1), invalid(1000001, 1));
-    let high = bytes_of(rt.alloc(), &[(1000000, RED)]).expect(&rt, "bytes");
-    assert_refused(&rt, &high, (1, 1000000), invalid(1, 1000000));
+    for (name, run, length, size, expected) in UNENCODED {
+        let bytes = bytes_of(rt.alloc(), &[*run]).expect(&rt, name);
+        assert_row(
+            &rt,
+            name,
+            refusal(rt.alloc(), &bytes, *length, *size) == *expected,
+        );
+    }
 }
 
-/// The refusal of making an image of so many red pixels.
-fn refusal_of(
-    rt: &(impl Abort + AllocGlobal),
-    count: usize,
-    (width, height): (usize, usize),
-) -> Option<SixelError> {
-    let bytes = bytes_of(rt.alloc(), &[(count, RED)]).expect(rt, "bytes");
-    SixelImage::try_from_rgba(bytes, width, height).err()
-}
+/// How many red pixels are given for an image of which size, and the refusal to make it.
+const IMAGES: &[(&str, usize, usize, usize, Option<SixelError>)] = &[
+    (
+        "no column",
+        0,
+        0,
+        4,
+        Some(InvalidDimensions {
+            width: 0,
+            height: 4,
+        }),
+    ),
+    (
+        "bytes above usize::MAX",
+        0,
+        usize::MAX / 4 + 1,
+        1,
+        Some(IntegerOverflow),
+    ),
+    (
+        "too few pixels",
+        4,
+        10,
+        10,
+        Some(BufferSizeMismatch {
+            expected: 400,
+            actual: 16,
+        }),
+    ),
+    ("as many pixels", 4, 4, 1, None),
+];
 
 #[test]
 fn images(rt: HostRuntime) {
-    assert_eq!(rt; refusal_of(&rt, 0, (0, 4)), Some(invalid(0, 4)));
-    let overflow = refusal_of(&rt, 0, (usize::MAX / 4 + 1, 1));
-    assert_eq!(rt; overflow, Some(SixelError::IntegerOverflow));
-    assert_eq!(rt; refusal_of(&rt, 4, (10, 10)), Some(mismatch(400, 16)));
-    assert_eq!(rt; refusal_of(&rt, 4, (4, 1)), None);
+    for (name, count, width, height, refusal) in IMAGES {
+        let bytes = bytes_of(rt.alloc(), &[(*count, RED)]).expect(&rt, name);
+        let outcome = SixelImage::try_from_rgba(bytes, *width, *height);
+        assert_row(&rt, name, outcome.err() == *refusal);
+    }
 }
 
 #[test]
 fn dimensions(rt: HostRuntime) {
     let image = SixelImage::from_rgba(Vec::new(rt.alloc()), 1, 6);
     let tall = image.with_aspect_ratio(PixelAspectRatio::Ratio5To1);
-    assert_eq!(rt; tall.dimensions(), (1, 6));
-    assert_eq!(rt; tall.corrected_dimensions(), (1, 30));
+    assert_row(&rt, "dimensions", tall.dimensions() == (1, 6));
+    assert_row(&rt, "corrected", tall.corrected_dimensions() == (1, 30));
 }
 
-/// Whether an image one pixel wide and high has transparency with these bytes.
-fn has_transparency(rt: &(impl Abort + AllocGlobal), pixels: &[u8]) -> bool {
-    let bytes = pixels.to_vec(rt.alloc()).expect(rt, "bytes");
-    SixelImage::from_rgba(bytes, 1, 1).has_transparency()
-}
+/// The bytes of an image one pixel wide and high, and whether it has transparency.
+const TRANSPARENCY: &[(&[u8], bool)] = &[
+    (&[0, 0, 0, 127], true),
+    (&[0, 0, 0, 128], false),
+    (&[0, 0, 0], false),
+];
 
 #[test]
 fn transparency(rt: HostRuntime) {
-    assert!(rt; has_transparency(&rt, &[0, 0, 0, 127]));
-    assert!(rt; !has_transparency(&rt, &[0, 0, 0, 128]));
-    assert!(rt; !has_transparency(&rt, &[0, 0, 0]));
-}
-
-/// Asserts what is displayed in place of an image without pixels.
-fn assert_displays(
-    rt: &(impl Abort + AllocGlobal),
-    (width, height): (usize, usize),
-    expected: &str,
-) {
-    let image = SixelImage::from_rgba(Vec::new(rt.alloc()), width, height);
-    let text = image.to_display_string(rt.alloc()).expect(rt, expected);
-    assert_eq!(rt; text.as_str(), expected);
-}
-
-#[test]
-fn displays(rt: HostRuntime) {
-    let none = "[SIXEL encoding failed: invalid dimensions: 0x0]";
-    assert_displays(&rt, (0, 0), none);
-    let short = "[SIXEL encoding failed: buffer size mismatch: expected 4 bytes, got 0]";
-    assert_displays(&rt, (1, 1), short);
-    assert_displays(
-        &rt,
-        (usize::MAX, 2),
-        "[SIXEL encoding failed: integer overflow]",
-    );
+    for (pixels, expected) in TRANSPARENCY {
+        let bytes = pixels.to_vec(rt.alloc()).expect(&rt, "bytes");
+        let image = SixelImage::from_rgba(bytes, 1, 1);
+        assert_row(&rt, "transparency", image.has_transparency() == *expected);
+    }
 }

@@ -2,12 +2,12 @@
 
 ghost use Rattle.std.specs.Prelude.{◌<◌};
 
-use icy_sixel::decoder::DcsSettings;
+use crate::payloads::{draws_in_pieces, is_shown};
+use icy_sixel::DcsSettings;
 use sixel_vectors_base::answers::{
-    BLACK, BLUE, CLEAR, RED, Run, decoded, draws, draws_with, fed, shows, transparent,
+    BLACK, BLUE, CLEAR, RED, Run, decoded, draws, draws_with, fed, transparent,
 };
 use std::alloc::{AllocError, Global};
-use std::process::Abort;
 
 /// The sixels of two layers of a band, as their six bits.
 #[derive(Clone, Copy)]
@@ -78,31 +78,11 @@ fn large_pixels(alloc: Global) -> Result<Vec<u8>, AllocError> {
     Ok(pixels)
 }
 
-/// Asserts the size and the pixels of a payload in pieces of this length.
-fn assert_draws_in_pieces(
-    rt: &(impl Abort + AllocGlobal),
-    settings: DcsSettings,
-    payload: &[u8],
-    length: usize,
-    size: (usize, usize),
-    pixels: &[u8],
-)
-    requires { 0 < length }
-{
-    let image = fed(rt.alloc(), payload, settings, length).expect(rt, "an image");
-    assert!(rt; shows(&image, size, pixels), "pieces of {length}");
-}
-
 #[test]
 fn thirty_bands_of_two_layers(rt: HostRuntime) {
-    let settings = DcsSettings::default();
     let payload = large_payload(rt.alloc()).expect(&rt, "a payload");
-    let expected = large_pixels(rt.alloc()).expect(&rt, "pixels");
-    let image = decoded(rt.alloc(), &payload, settings).expect(&rt, "an image");
-    assert!(rt; shows(&image, (200, 180), &expected));
-    for length in [1, 7, 100, 4096] {
-        assert_draws_in_pieces(&rt, settings, &payload, length, (200, 180), &expected);
-    }
+    let pixels = large_pixels(rt.alloc()).expect(&rt, "pixels");
+    assert!(rt; draws_in_pieces(rt.alloc(), &payload, (200, 180), &pixels));
 }
 
 /// A repeat of three and then each of the 64 sixels, in red.
@@ -128,38 +108,44 @@ fn masks_pixels(alloc: Global) -> Result<Vec<u8>, AllocError> {
     Ok(pixels)
 }
 
-#[test]
-fn all_masks(rt: HostRuntime) {
-    let payload = masks_payload(rt.alloc()).expect(&rt, "a payload");
-    let expected = masks_pixels(rt.alloc()).expect(&rt, "pixels");
-    let image = decoded(rt.alloc(), &payload, transparent()).expect(&rt, "an image");
-    assert!(rt; shows(&image, (66, 6), &expected));
+/// Whether that payload is these pixels, at once and in pieces of all lengths.
+fn draws_masks(alloc: Global, payload: &[u8], pixels: &[u8]) -> bool {
+    let mut are_shown = is_shown(decoded(alloc, payload, transparent()), (66, 6), pixels);
     for length in 1..80 {
-        assert_draws_in_pieces(&rt, transparent(), &payload, length, (66, 6), &expected);
+        let pieces = fed(alloc, payload, transparent(), length);
+        are_shown = is_shown(pieces, (66, 6), pixels) && are_shown;
     }
+    are_shown
 }
 
 #[test]
+fn all_masks(rt: HostRuntime) {
+    let payload = masks_payload(rt.alloc()).expect(&rt, "a payload");
+    let pixels = masks_pixels(rt.alloc()).expect(&rt, "pixels");
+    assert!(rt; draws_masks(rt.alloc(), &payload, &pixels));
+}
+
+/// Six rows of red and black, and below them as many of blue.
+const WIDER_LINE: [Run; 13] = [
+    (3, RED),
+    (297, BLACK),
+    (3, RED),
+    (297, BLACK),
+    (3, RED),
+    (297, BLACK),
+    (3, RED),
+    (297, BLACK),
+    (3, RED),
+    (297, BLACK),
+    (3, RED),
+    (297, BLACK),
+    (1800, BLUE),
+];
+
+#[test]
 fn a_wider_line_below(rt: HostRuntime) {
-    let row: [Run; 2] = [(3, RED), (297, BLACK)];
-    let [red, black] = row;
-    let runs = [
-        red,
-        black,
-        red,
-        black,
-        red,
-        black,
-        red,
-        black,
-        red,
-        black,
-        red,
-        black,
-        (1800, BLUE),
-    ];
-    let text = "#1;2;100;0;0#1!3~-#2;2;0;0;100#2!300~";
-    assert!(rt; draws(rt.alloc(), text, (300, 12), &runs));
+    let payload = "#1;2;100;0;0#1!3~-#2;2;0;0;100#2!300~";
+    assert!(rt; draws(rt.alloc(), payload, (300, 12), &WIDER_LINE));
 }
 
 #[test]
@@ -169,10 +155,8 @@ fn the_background_is_that_of_the_beginning(rt: HostRuntime) {
     let opaque = [(1, RED), (19, BLACK), (1, BLUE), (15, BLACK)];
     let clear = [(1, RED), (19, CLEAR), (1, BLUE), (15, CLEAR)];
     for payload in [plain, sized] {
-        assert!(rt; draws(rt.alloc(), payload, (3, 12), &opaque), "{payload}");
-        assert!(rt;
-            draws_with(rt.alloc(), transparent(), payload, (3, 12), &clear),
-            "{payload}"
-        );
+        let is_opaque = draws(rt.alloc(), payload, (3, 12), &opaque);
+        let is_clear = draws_with(rt.alloc(), transparent(), payload, (3, 12), &clear);
+        assert!(rt; is_opaque && is_clear, "{payload}");
     }
 }

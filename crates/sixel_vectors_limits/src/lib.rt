@@ -5,13 +5,15 @@
 #[cfg(test)]
 mod bands;
 #[cfg(test)]
-mod hostile;
-#[cfg(test)]
 mod limits;
 #[cfg(test)]
 mod parameters;
 #[cfg(test)]
+mod payloads;
+#[cfg(test)]
 mod pixel_limit;
+#[cfg(test)]
+mod wide_line;
 #[cfg(test)]
 mod wide_strokes;
 #[cfg(test)]

@@ -2,10 +2,21 @@
 
 use sixel_base::parameters::Parameters;
 
+/// Texts of digits and semicolons, how many fields each has, and the values of the first five.
+const TEXTS: [(&str, usize, [u32; 5]); 7] = [
+    ("", 0, [0, 0, 0, 0, 0]),
+    ("7", 1, [7, 0, 0, 0, 0]),
+    (";", 2, [0, 0, 0, 0, 0]),
+    ("1;;03;4;5;6;7", 6, [1, 0, 3, 4, 5]),
+    ("2147483646", 1, [2147483646, 0, 0, 0, 0]),
+    ("2147483648", 1, [2147483647, 0, 0, 0, 0]),
+    ("99999999999999999999", 1, [2147483647, 0, 0, 0, 0]),
+];
+
 /// The parameters of a text of digits and semicolons.
-fn parameters_of(text: &[u8]) -> Parameters {
+fn parameters_of(text: &str) -> Parameters {
     let mut parameters = Parameters::new();
-    for byte in text {
+    for byte in text.as_bytes() {
         match *byte {
             b'0'..=b'9' => parameters.push_digit(*byte),
             _ => parameters.push_separator(),
@@ -14,23 +25,18 @@ fn parameters_of(text: &[u8]) -> Parameters {
     parameters
 }
 
-#[test]
-fn fields_of_a_text(rt: HostRuntime) {
-    assert_eq!(rt; parameters_of(b"").len(), 0);
-    assert_eq!(rt; parameters_of(b"7").len(), 1);
-    assert_eq!(rt; parameters_of(b";").len(), 2);
-    let five = parameters_of(b"1;;03;4;5;6;7");
-    assert_eq!(rt; five.len(), 6);
-    assert_eq!(rt; five.get(0), 1);
-    assert_eq!(rt; five.get(1), 0);
-    assert_eq!(rt; five.get(2), 3);
-    assert_eq!(rt; five.get(3), 4);
-    assert_eq!(rt; five.get(4), 5);
+/// Whether parameters have so many fields, of which the first five have these values.
+fn are_fields(parameters: &Parameters, count: usize, values: &[u32; 5]) -> bool {
+    let mut are_equal = parameters.len() == count;
+    for place in 0..5 {
+        are_equal = are_equal && parameters.get(place) == values[place];
+    }
+    are_equal
 }
 
 #[test]
-fn a_field_has_a_ceiling(rt: HostRuntime) {
-    assert_eq!(rt; parameters_of(b"2147483646").get(0), 2147483646);
-    assert_eq!(rt; parameters_of(b"2147483648").get(0), 2147483647);
-    assert_eq!(rt; parameters_of(b"99999999999999999999").get(0), 2147483647);
+fn fields_of_a_text(rt: HostRuntime) {
+    for (text, count, values) in &TEXTS {
+        assert!(rt; are_fields(&parameters_of(text), *count, values), "{text}");
+    }
 }

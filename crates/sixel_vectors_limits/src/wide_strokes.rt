@@ -1,10 +1,9 @@
 //! Sixels with great repeats that go over one another, against a plain computation of each pixel.
 
+use crate::payloads::draws_in_pieces;
 use icy_sixel::SixelDecoder;
-use icy_sixel::decoder::DcsSettings;
-use sixel_vectors_base::answers::{decoded, fed, next, shows};
-use std::alloc::Global;
-use std::test::Fail;
+use sixel_vectors_base::answers::next;
+use std::alloc::{AllocError, Global};
 
 const WIDTH: usize = 2000;
 
@@ -37,9 +36,21 @@ fn stroke_from(seed: &mut u64, from: usize, longest: usize) -> Stroke {
     }
 }
 
+/// Draws a stroke on a band of some pixels.
+fn paint(pixels: &mut [[u8; 4]], band: usize, stroke: Stroke) {
+    let [red, green, blue] = SixelDecoder::new().register(stroke.register);
+    for (place, pixel) in pixels.iter_mut().enumerate() {
+        let (row, column) = (place / WIDTH, place % WIDTH);
+        let is_struck = row / 6 == band && stroke.bits >> (row % 6) & 1 == 1;
+        if is_struck && stroke.from <= column && column < stroke.to {
+            *pixel = [red, green, blue, 255];
+        }
+    }
+}
+
 impl Picture {
     /// Nothing yet, on black, of the size that raster attributes give.
-    fn new(alloc: Global) -> Result<Picture, Fail> {
+    fn new(alloc: Global) -> Result<Picture, AllocError> {
         Ok(Picture {
             text: b"\"1;1;2000;18".to_vec(alloc)?,
             pixels: vec![in alloc; [0, 0, 0, 255]; 6 * BANDS * WIDTH]?,
@@ -47,28 +58,15 @@ impl Picture {
     }
 
     /// Draws a stroke on a band, where it has a column.
-    fn draw(&mut self, alloc: Global, band: usize, stroke: Stroke) -> Result<(), Fail> {
-        let Stroke {
-            from,
-            to,
-            bits,
-            register,
-        } = stroke;
-        if from >= to {
+    fn draw(&mut self, alloc: Global, band: usize, stroke: Stroke) -> Result<(), AllocError> {
+        let count = stroke.to.saturating_sub(stroke.from);
+        if count == 0 {
             return Ok(());
         }
-        let sixel = (bits % 64) as u8 + b'?';
-        let command = format!(in alloc; "#{register}!{}", to - from)?;
+        let command = format!(in alloc; "#{}!{count}", stroke.register)?;
         self.text.extend_from_slice(command.as_bytes())?;
-        self.text.push(sixel)?;
-        let [red, green, blue] = SixelDecoder::new().register(register);
-        for (place, pixel) in self.pixels.iter_mut().enumerate() {
-            let (row, column) = (place / WIDTH, place % WIDTH);
-            let is_struck = row / 6 == band && bits >> (row % 6) & 1 == 1;
-            if is_struck && from <= column && column < to {
-                *pixel = [red, green, blue, 255];
-            }
-        }
+        self.text.push((stroke.bits % 64) as u8 + b'?')?;
+        paint(&mut self.pixels, band, stroke);
         Ok(())
     }
 
@@ -80,51 +78,47 @@ impl Picture {
         seed: &mut u64,
         band: usize,
         longest: usize,
-    ) -> Result<(), Fail> {
-        let mut across = next(seed) % 1000;
-        let blank = Stroke {
+    ) -> Result<(), AllocError> {
+        let mut stroke = Stroke {
             from: 0,
-            to: across,
+            to: next(seed) % 1000,
             bits: 0,
             register: 0,
         };
-        self.draw(alloc, band, blank)?;
+        self.draw(alloc, band, stroke)?;
         for _ in 0..4 {
-            let stroke = stroke_from(seed, across, longest);
+            stroke = stroke_from(seed, stroke.to, longest);
             self.draw(alloc, band, stroke)?;
-            across = stroke.to;
         }
         self.text.push(b'$')?;
         Ok(())
     }
 
     /// Draws on a band: wide strokes over one another, and narrow ones between them.
-    fn draw_band(&mut self, alloc: Global, seed: &mut u64, band: usize) -> Result<(), Fail> {
+    fn draw_band(&mut self, alloc: Global, seed: &mut u64, band: usize) -> Result<(), AllocError> {
         for _ in 0..10 {
-            self.draw_line(alloc, seed, band, 2000)?;
-            self.draw_line(alloc, seed, band, 700)?;
-            self.draw_line(alloc, seed, band, 30)?;
+            for longest in [2000, 700, 30] {
+                self.draw_line(alloc, seed, band, longest)?;
+            }
         }
         self.text.push(b'-')?;
         Ok(())
     }
 }
 
-#[test]
-fn strokes_of_all_widths(rt: HostRuntime) -> Result<(), Fail> {
-    let alloc = rt.alloc();
+/// A picture of all bands.
+fn drawn_picture(alloc: Global) -> Result<Picture, AllocError> {
     let mut picture = Picture::new(alloc)?;
     let mut seed = 1;
     for band in 0..BANDS {
         picture.draw_band(alloc, &mut seed, band)?;
     }
+    Ok(picture)
+}
+
+#[test]
+fn strokes_of_all_widths(rt: HostRuntime) {
+    let picture = drawn_picture(rt.alloc()).expect(&rt, "a picture");
     let pixels = picture.pixels.as_flattened();
-    let settings = DcsSettings::default();
-    let image = decoded(alloc, &picture.text, settings)?;
-    assert!(rt; shows(&image, (WIDTH, 18), pixels));
-    for length in [1, 7, 4096] {
-        let image = fed(alloc, &picture.text, settings, length)?;
-        assert!(rt; shows(&image, (WIDTH, 18), pixels));
-    }
-    Ok(())
+    assert!(rt; draws_in_pieces(rt.alloc(), &picture.text, (WIDTH, 18), pixels));
 }

@@ -1,222 +1,257 @@
-//! How many pixels a canvas copies and fills for what a stream draws.
+//! How many pixels a canvas writes for what a stream draws: copied or filled to grow, and painted.
 
 ghost use Rattle.std.specs.Prelude.{◌<◌};
 
 use icy_sixel::{
-    DcsSettings, Result, SixelDcsStreamDecoder, SixelDecoder, SixelError, SixelImage,
-    SixelStreamDecoder,
+    DcsSettings, SixelDcsStreamDecoder, SixelDecoder, SixelError, SixelImage, SixelStreamDecoder,
 };
-use sixel_vectors_base::answers::{MALFORMED, repeated};
-use std::process::Abort;
+use sixel_vectors_base::answers::{MALFORMED, TOO_LARGE, repeated};
+use sixel_vectors_base::hosted::decoder_with;
+use std::alloc::Global;
+
+/// How many columns of six pixels are reached in all bands together, and by how many sixels.
+pub type Reach = (u32, u32);
 
 /// The least and the greatest number of pixels.
 type Bounds = (u64, u64);
-
-/// Asserts that a number of pixels is within its bounds.
-fn assert_within(rt: &impl Abort, name: &str, writes: u64, (least, most): Bounds) {
-    assert!(rt;
-        least <= writes && writes <= most,
-        "{writes} writes of {name}"
-    );
-}
 
 /// From once to three times so many columns of six pixels.
 fn columns(count: u32) -> Bounds {
     (6 * u64::from(count), 18 * u64::from(count))
 }
 
-/// Asserts that what painting wrote is within its bound, by the area that is reached and by sixels.
-fn assert_painted(rt: &impl Abort, name: &str, paints: u64, (area, sixels): (u32, u32)) {
-    let most = 3 * u64::from(area) + 4602 * u64::from(sixels);
-    assert!(rt; 0 < paints && paints <= most, "{paints} paints of {name}");
+/// Whether what painting wrote is within its bound: without tags of blocks a wide sixel would write
+/// all its pixels each time.
+fn are_paints(paints: u64, (columns, sixels): Reach) -> bool {
+    let most = 18 * u64::from(columns) + 4602 * u64::from(sixels);
+    (0 < paints) == (0 < sixels) && paints <= most
 }
 
-/// Finishes, and asserts that the count is the canvas's own and the image's pixels.
-fn counted(rt: &impl Abort, session: SixelStreamDecoder<'_>) -> Result<(SixelImage, u64)> {
-    let drawn = session.canvas_writes();
-    let (image, writes) = session.finish_counted()?;
-    let packed = image.pixels.len() / 4;
-    assert_eq!(rt; writes.checked_sub(drawn), Some(packed as u64));
-    Ok((image, writes))
-}
+/// Texts and how often each comes, what they reach, and the sizes of their images.
+const DRAWINGS: [(&str, usize, Reach, (usize, usize)); 9] = [
+    ("", 1, (0, 0), (1, 1)),
+    ("~", 2000, (2000, 2000), (2000, 6)),
+    // Bands whose widths rise and fall, with empty ones between.
+    ("!200~-~-!200~-~~-!150~", 1, (553, 6), (200, 30)),
+    ("!1000~---~~~-----!999~", 1, (2002, 5), (1000, 54)),
+    ("~-!2~-!4~-!8~-!16~-!32~-!64~-!128~", 1, (255, 8), (128, 48)),
+    ("!128~-!64~-!32~-!16~-!8~-!4~-!2~-~", 1, (255, 8), (128, 48)),
+    ("!100~-!10~!91~-!50~!52~-~!200~", 1, (504, 7), (201, 24)),
+    ("--!300~$~--~~$!301~-!9~", 1, (610, 6), (301, 36)),
+    // A line that is drawn over.
+    ("!65535~$", 200, (65535, 200), (65535, 6)),
+];
 
-/// Feeds columns singly to a payload session, and asserts the count after each.
-fn feed_columns(
-    rt: &(impl Abort + AllocGlobal),
-    decoder: &mut SixelDecoder,
-    count: u32,
-) -> Result<(SixelImage, u64)> {
-    let mut session = decoder.begin_frame(rt.alloc(), DcsSettings::default())?;
-    assert_eq!(rt; session.canvas_writes(), 0);
-    for column in 1..=count {
-        session.feed(b"~")?;
-        assert_within(rt, "columns", session.canvas_writes(), columns(column));
+/// Feeds a payload in pieces of this length. Whether the number of pixels that the canvas has copied
+/// or filled never falls, and whether it ends within its bounds, and that of painted ones too.
+fn writes_within(
+    session: &mut SixelStreamDecoder<'_>,
+    payload: &[u8],
+    length: usize,
+    reach: Reach,
+) -> bool
+    requires { 0 < length }
+{
+    let (least, most) = columns(reach.0);
+    let mut writes = session.canvas_writes();
+    let mut are_right = writes == 0 && session.canvas_paints() == 0;
+    for piece in payload.chunks(length) {
+        let is_fed = session.feed(piece).is_ok();
+        let before = writes;
+        writes = session.canvas_writes();
+        are_right = are_right && is_fed && before <= writes;
     }
-    counted(rt, session)
+    let are_within = least <= writes && writes <= most;
+    are_right && are_within && are_paints(session.canvas_paints(), reach)
+}
+
+/// The image of a payload that comes in pieces of this length, if the canvas writes what is within
+/// its bounds, and the count of the whole has as many pixels more as the image.
+pub fn counted(
+    alloc: Global,
+    payload: &[u8],
+    settings: DcsSettings,
+    length: usize,
+    reach: Reach,
+) -> Option<SixelImage>
+    requires { 0 < length }
+{
+    let mut decoder = SixelDecoder::new();
+    let mut session = match decoder.begin_frame(alloc, settings) {
+        Ok(session) => session,
+        Err(_) => return None,
+    };
+    let are_within = writes_within(&mut session, payload, length, reach);
+    let drawn = session.canvas_writes();
+    match session.finish_counted() {
+        Ok((image, writes)) => {
+            let packed = (image.pixels.len() / 4) as u64;
+            (are_within && writes.checked_sub(drawn) == Some(packed)).then_some(image)
+        }
+        Err(_) => None,
+    }
+}
+
+/// Whether a payload, in pieces of these lengths, has an image of this size and is counted as it must
+/// be.
+fn are_counted(alloc: Global, payload: &[u8], reach: Reach, size: (usize, usize)) -> bool {
+    let mut are_right = true;
+    for length in [1, 7, 4096] {
+        let is_right = match counted(alloc, payload, DcsSettings::default(), length, reach) {
+            Some(image) => image.dimensions() == size,
+            None => false,
+        };
+        are_right = are_right && is_right;
+    }
+    are_right
 }
 
 #[test]
-fn columns_in_single_bytes(rt: HostRuntime) {
-    let outcome = feed_columns(&rt, &mut SixelDecoder::new(), 2000);
-    let (image, writes) = outcome.expect(&rt, "columns");
-    assert_eq!(rt; image.dimensions(), (2000, 6));
-    assert_within(&rt, "columns and their image", writes, (24000, 48000));
+fn drawings(rt: HostRuntime) {
+    for (text, count, reach, size) in &DRAWINGS {
+        let payload = repeated(rt.alloc(), text, *count).expect(&rt, text);
+        assert!(rt; are_counted(rt.alloc(), &payload, *reach, *size), "{text}");
+    }
 }
 
-/// Feeds columns singly to a control string session, and asserts the count after each.
-fn follow_columns(
-    rt: &impl Abort,
-    session: &mut SixelDcsStreamDecoder<'_>,
-    count: u32,
-) -> Result<()> {
-    session.feed(b"\x1bP")?;
-    assert_eq!(rt; session.canvas_writes(), 0);
-    session.feed(b"q")?;
-    assert_eq!(rt; session.canvas_writes(), 0);
+/// Feeds a piece to a payload session. Whether its canvas has then written within these bounds.
+fn feeds(session: &mut SixelStreamDecoder<'_>, piece: &[u8], (least, most): Bounds) -> bool {
+    let is_fed = session.feed(piece).is_ok();
+    let writes = session.canvas_writes();
+    is_fed && least <= writes && writes <= most
+}
+
+/// Feeds columns singly. Whether the canvas writes within these bounds for each.
+fn feeds_columns(session: &mut SixelStreamDecoder<'_>, count: u64, (least, most): Bounds) -> bool {
+    let before = session.canvas_writes();
+    let mut are_within = true;
     for column in 1..=count {
-        session.feed(b"~")?;
-        assert_within(rt, "columns", session.canvas_writes(), columns(column));
+        let from = before.saturating_add(least.saturating_mul(column));
+        let to = before.saturating_add(most.saturating_mul(column));
+        are_within = feeds(session, b"~", (from, to)) && are_within;
     }
-    assert_painted(rt, "columns", session.canvas_paints(), (12000, 2000));
-    Ok(())
+    are_within
+}
+
+/// Whether a new session writes so many pixels for a front, and for columns singly within the bounds.
+fn is_grown(alloc: Global, front: &str, writes: u64, count: u64, bounds: Bounds) -> bool {
+    let mut decoder = SixelDecoder::new();
+    match decoder.begin_frame(alloc, DcsSettings::default()) {
+        Ok(mut session) => {
+            let is_front_fed = feeds(&mut session, front.as_bytes(), (writes, writes));
+            let are_fed = feeds_columns(&mut session, count, bounds);
+            session.abort();
+            is_front_fed && are_fed
+        }
+        Err(_) => false,
+    }
+}
+
+/// What is fed first and how many pixels are written for it, how many columns then come singly, and
+/// the least and the most that is written for each.
+const COLUMNS: [(&str, u64, u64, Bounds); 2] = [
+    ("", 0, 2000, (6, 18)),
+    // Nothing is copied: the second band has the room of the first from the beginning.
+    ("!100~-", 600, 100, (6, 6)),
+];
+
+#[test]
+fn columns_in_single_bytes(rt: HostRuntime) {
+    for (front, writes, count, bounds) in &COLUMNS {
+        assert!(rt;
+            is_grown(rt.alloc(), front, *writes, *count, *bounds),
+            "{front}"
+        );
+    }
+}
+
+/// Feeds a piece to a control string session. Whether its canvas has then written within these
+/// bounds.
+fn follows(session: &mut SixelDcsStreamDecoder<'_>, piece: &[u8], (least, most): Bounds) -> bool {
+    let is_fed = session.feed(piece).is_ok();
+    let writes = session.canvas_writes();
+    is_fed && least <= writes && writes <= most
+}
+
+/// Feeds a header in two pieces and 2000 columns singly. Whether the canvas has written within its
+/// bounds after each.
+fn follows_columns(session: &mut SixelDcsStreamDecoder<'_>) -> bool {
+    let mut are_within = follows(session, b"\x1bP", (0, 0)) && follows(session, b"q", (0, 0));
+    for column in 1..=2000 {
+        are_within = follows(session, b"~", columns(column)) && are_within;
+    }
+    are_within && are_paints(session.canvas_paints(), (2000, 2000))
 }
 
 #[test]
 fn columns_of_a_control_string(rt: HostRuntime) {
     let mut decoder = SixelDecoder::new();
     let mut session = decoder.begin_dcs(rt.alloc());
-    let outcome = follow_columns(&rt, &mut session, 2000);
-    assert!(rt; outcome.is_ok());
-}
-
-/// Feeds a payload in one piece, asserts the bounds of its count, and finishes.
-fn drawn(
-    rt: &(impl Abort + AllocGlobal),
-    decoder: &mut SixelDecoder,
-    payload: &[u8],
-    bounds: Bounds,
-) -> Result<(SixelImage, u64)> {
-    let mut session = decoder.begin_frame(rt.alloc(), DcsSettings::default())?;
-    session.feed(payload)?;
-    assert_within(rt, "one piece", session.canvas_writes(), bounds);
-    counted(rt, session)
-}
-
-/// Feeds a wide band and below it columns singly, and asserts that nothing is copied to grow them: the
-/// second band has the room of the first from the beginning.
-fn feed_below(rt: &(impl Abort + AllocGlobal), decoder: &mut SixelDecoder) -> Result<()> {
-    let mut session = decoder.begin_frame(rt.alloc(), DcsSettings::default())?;
-    session.feed(b"!100~-")?;
-    assert_eq!(rt; session.canvas_writes(), 600);
-    for column in 1..=100 {
-        session.feed(b"~")?;
-        assert_eq!(rt; session.canvas_writes(), 600 + 6 * column);
-    }
+    let are_followed = follows_columns(&mut session);
     session.abort();
-    Ok(())
+    assert!(rt; are_followed);
 }
 
-#[test]
-fn a_band_below_a_wide_one(rt: HostRuntime) {
-    assert!(rt; feed_below(&rt, &mut SixelDecoder::new()).is_ok());
-}
-
-/// Bands whose widths rise and fall, with empty ones between, and the columns that they reach.
-const BANDS: [(&str, u32); 6] = [
-    ("!200~-~-!200~-~~-!150~", 553),
-    ("!1000~---~~~-----!999~", 2002),
-    ("~-!2~-!4~-!8~-!16~-!32~-!64~-!128~", 255),
-    ("!128~-!64~-!32~-!16~-!8~-!4~-!2~-~", 255),
-    ("!100~-!10~!91~-!50~!52~-~!200~", 504),
-    ("--!300~$~--~~$!301~-!9~", 610),
+/// A limit of pixels, what is fed first and the bounds of what is written for it, and what is fed
+/// then and refused for which reason.
+const REFUSALS: [(usize, &str, Bounds, &str, &str); 2] = [
+    (67108864, "~", (6, 18), "!65536~", MALFORMED),
+    (72, "!13", (0, 0), "~", TOO_LARGE),
 ];
 
-#[test]
-fn bands_of_other_widths(rt: HostRuntime) {
-    for (payload, reached) in BANDS {
-        let bounds = columns(reached);
-        let outcome = drawn(&rt, &mut SixelDecoder::new(), payload.as_bytes(), bounds);
-        assert!(rt; outcome.is_ok());
+/// Whether a session is refused a piece at once, and has no count then.
+fn is_refused(session: &mut SixelStreamDecoder<'_>, piece: &str, reason: &'static str) -> bool {
+    let refusal = session.feed(piece.as_bytes()).err();
+    refusal == Some(SixelError::InvalidData(reason)) && session.canvas_writes() == 0
+}
+
+/// Whether a session at this limit accepts a front within the bounds, is refused a piece, and has no
+/// image then.
+fn is_refused_after(
+    alloc: Global,
+    limit: usize,
+    (front, bounds): (&str, Bounds),
+    piece: &str,
+    reason: &'static str,
+) -> bool {
+    let mut decoder = decoder_with(false, limit);
+    match decoder.begin_frame(alloc, DcsSettings::default()) {
+        Ok(mut session) => {
+            let is_front_fed = feeds(&mut session, front.as_bytes(), bounds);
+            let is_refused = is_refused(&mut session, piece, reason);
+            match session.finish_counted() {
+                Ok(_) => false,
+                Err(error) => is_front_fed && is_refused && error == SixelError::stream_failed(),
+            }
+        }
+        Err(_) => false,
     }
-}
-
-#[test]
-fn a_line_that_is_drawn_over(rt: HostRuntime) {
-    let payload = repeated(rt.alloc(), "!65535~$", 200).expect(&rt, "a payload");
-    let bounds = (393210, 1179630);
-    let outcome = drawn(&rt, &mut SixelDecoder::new(), &payload, bounds);
-    let (image, _) = outcome.expect(&rt, "a line");
-    assert_eq!(rt; image.dimensions(), (65535, 6));
-}
-
-/// Feeds wide sixels that go over one another, in pieces of so many bytes, and asserts the bound of
-/// what painting wrote: without tags of blocks it would be 393210 pixels each.
-fn paint_over(rt: &(impl Abort + AllocGlobal), payload: &[u8], length: usize) -> Result<()>
-    requires { 0 < length }
-{
-    let mut decoder = SixelDecoder::new();
-    let mut session = decoder.begin_frame(rt.alloc(), DcsSettings::default())?;
-    assert_eq!(rt; session.canvas_paints(), 0);
-    for piece in payload.chunks(length) {
-        session.feed(piece)?;
-    }
-    assert_painted(rt, "wide sixels", session.canvas_paints(), (393210, 200));
-    session.abort();
-    Ok(())
-}
-
-#[test]
-fn painting_over_a_line(rt: HostRuntime) {
-    let payload = repeated(rt.alloc(), "!65535~$", 200).expect(&rt, "a payload");
-    for length in [1, 7, 4096] {
-        assert!(rt; paint_over(&rt, &payload, length).is_ok());
-    }
-}
-
-#[test]
-fn an_empty_payload(rt: HostRuntime) {
-    let outcome = drawn(&rt, &mut SixelDecoder::new(), b"", (0, 0));
-    let (image, writes) = outcome.expect(&rt, "one pixel");
-    assert_eq!(rt; (image.dimensions(), writes), ((1, 1), 1));
-}
-
-#[test]
-fn a_wide_line_far_down(rt: HostRuntime) {
-    let mut payload = repeated(rt.alloc(), "-", 10).expect(&rt, "new lines");
-    let repeats = repeated(rt.alloc(), "!65535~", 8).expect(&rt, "repeats");
-    payload.extend_from_slice(&repeats).expect(&rt, "a payload");
-    let sixels = repeated(rt.alloc(), "~", 1000).expect(&rt, "sixels");
-    payload.extend_from_slice(&sixels).expect(&rt, "a payload");
-    let bounds = (3151680, 9455040);
-    let outcome = drawn(&rt, &mut SixelDecoder::new(), &payload, bounds);
-    let (image, writes) = outcome.expect(&rt, "a wide line");
-    assert_eq!(rt; image.dimensions(), (525280, 66));
-    assert_within(&rt, "a wide line", writes, (37820160, 44123520));
 }
 
 #[test]
 fn a_refusal_leaves_no_count(rt: HostRuntime) {
-    let mut decoder = SixelDecoder::new();
-    let begun = decoder.begin_frame(rt.alloc(), DcsSettings::default());
-    let mut session = begun.expect(&rt, "a session");
-    let malformed = Some(SixelError::InvalidData(MALFORMED));
-    assert!(rt; session.feed(b"~").is_ok());
-    assert_within(&rt, "a column", session.canvas_writes(), columns(1));
-    assert_eq!(rt; session.feed(b"!65536~").err(), malformed);
-    assert_eq!(rt; session.canvas_writes(), 0);
-    assert_eq!(rt;
-        session.finish_counted().err(),
-        Some(SixelError::stream_failed())
-    );
+    for (limit, front, bounds, piece, reason) in &REFUSALS {
+        let fed = (*front, *bounds);
+        assert!(rt;
+            is_refused_after(rt.alloc(), *limit, fed, piece, reason),
+            "{piece}"
+        );
+    }
+}
+
+/// Whether a control string is refused a great repeat at once, and has no count then.
+fn is_repeat_refused(session: &mut SixelDcsStreamDecoder<'_>) -> bool {
+    let is_front_fed = follows(session, b"\x1bPq~", columns(1));
+    let refusal = session.feed(b"!65536~").err();
+    let is_refused = refusal == Some(SixelError::InvalidData(MALFORMED));
+    is_front_fed && is_refused && session.canvas_writes() == 0
 }
 
 #[test]
 fn a_refused_control_string_leaves_no_count(rt: HostRuntime) {
     let mut decoder = SixelDecoder::new();
     let mut session = decoder.begin_dcs(rt.alloc());
-    assert!(rt; session.feed(b"\x1bPq~").is_ok());
-    assert_within(&rt, "a column", session.canvas_writes(), columns(1));
-    let malformed = Some(SixelError::InvalidData(MALFORMED));
-    assert_eq!(rt; session.feed(b"!65536~").err(), malformed);
-    assert_eq!(rt; session.canvas_writes(), 0);
+    let is_refused = is_repeat_refused(&mut session);
+    session.abort();
+    assert!(rt; is_refused);
 }

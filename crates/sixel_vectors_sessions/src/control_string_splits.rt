@@ -2,204 +2,196 @@
 
 ghost use Rattle.std.specs.Prelude.{◌<◌};
 
+use crate::control_strings::FAILED;
+use crate::expected::{BAD_HEADER, MALFORMED_DATA, SEA, StringFeed, TERMINATORS, comes_to};
+use crate::feeds::{Ending, followed_in, string_answers};
 use icy_sixel::{
     DcsSettings, Result, SixelDcsFeedStatus, SixelDcsStreamDecoder, SixelDecoder, SixelError,
     SixelImage,
 };
-use sixel_vectors_base::answers::{MALFORMED, RED, are_same, bytes_of, decoded, shows};
-use std::alloc::{AllocError, Global};
-use std::process::Abort;
+use sixel_vectors_base::answers::{RED, are_same, decoded};
+use sixel_vectors_base::hosted::followed_singly;
+use std::alloc::Global;
 
-/// How a session ended: what it consumed, its last status and its image.
-#[derive(Drop)]
-struct Ending {
-    consumed: usize,
-    status: SixelDcsFeedStatus,
-    image: SixelImage,
-}
-
-/// What a session on a new decoder makes of these pieces, an empty one after each.
-fn fed(alloc: Global, pieces: &[&[u8]]) -> Result<Ending> {
-    let mut decoder = SixelDecoder::new();
-    let mut session = decoder.begin_dcs(alloc);
-    let mut consumed: usize = 0;
-    let mut status = SixelDcsFeedStatus::NeedMoreData;
-    for piece in pieces {
-        let answer = session.feed(piece)?;
-        consumed = consumed.saturating_add(answer.consumed);
-        status = session.feed(b"")?.status;
-    }
-    let image = session.finish()?;
-    Ok(Ending {
-        consumed,
-        status,
-        image,
-    })
-}
-
-/// A front, a middle and a tail in one list of bytes.
-fn joined(
+/// Whether the first so many of these bytes are consumed and decoded as a control string in one
+/// piece, where a front is cut once more, with empty pieces between.
+fn is_same_cut(
     alloc: Global,
-    front: &[u8],
-    middle: &[u8],
-    tail: &[u8],
-) -> std::result::Result<Vec<u8>, AllocError> {
-    let mut bytes = Vec::new(alloc);
-    bytes.extend_from_slice(front)?;
-    bytes.extend_from_slice(middle)?;
-    bytes.extend_from_slice(tail)?;
-    Ok(bytes)
+    (front, back): (&[u8], &[u8]),
+    length: usize,
+    expected: &Result<SixelImage>,
+) -> bool {
+    let ending = (length, SixelDcsFeedStatus::Complete);
+    let mut is_same = true;
+    for place in 0..=front.len() {
+        let (left, middle) = front.split_at(place);
+        let pieces = [left, b"", middle, b"", back, b""];
+        let (has_ended, outcome) = followed_in(alloc, &pieces, ending);
+        is_same &= has_ended && are_same(&outcome, expected);
+    }
+    is_same
 }
 
-/// Asserts that a control string is consumed and decoded the same wherever it is cut twice.
-fn assert_cuts(rt: &(impl Abort + AllocGlobal), string: &[u8]) {
-    let alloc = rt.alloc();
+/// Whether the first so many of these bytes are consumed and decoded as a control string in one
+/// piece, wherever all of them are cut twice.
+fn is_same_cut_twice(alloc: Global, bytes: &[u8], length: usize) -> bool {
+    let (string, _) = bytes.split_at(length.min(bytes.len()));
     let expected = SixelDecoder::new().decode(alloc, string);
-    let bytes = joined(alloc, string, b"suffix\x1bPq~~~\x1b\\", b"").expect(rt, "bytes");
-    for second in 0..=bytes.len() {
-        let (front, back) = bytes.as_slice().split_at(second);
-        for first in 0..=front.len() {
-            let (left, middle) = front.split_at(first);
-            let ending = fed(alloc, &[left, middle, back]).expect(rt, "an ending");
-            let whole = (string.len(), SixelDcsFeedStatus::Complete);
-            assert_eq!(rt; (ending.consumed, ending.status), whole);
-            assert!(rt; are_same(&Ok(ending.image), &expected), "{string:?}");
-        }
+    let mut is_same = expected.is_ok();
+    for place in 0..=bytes.len() {
+        is_same &= is_same_cut(alloc, bytes.split_at(place), length, &expected);
     }
+    is_same
 }
+
+/// Bytes that begin with a control string, and its length.
+static STRINGS: [(&[u8], usize); 6] = [
+    (b"\x1bPq~\x1b\\suffix\x1bPq~~~\x1b\\", 6),
+    (b"\x90q~\x9csuffix\x1bPq~~~\x1b\\", 4),
+    (b"\x1bP3;1;0q#1;2;100;0;0!12~\x9csuffix\x1bPq~~~\x1b\\", 25),
+    (
+        b"\x90;1q\"6;2;12;6#1;2;100;0;0!1\n2~\x1b\\suffix\x1bPq~~~\x1b\\",
+        32,
+    ),
+    (b"\x1bP9\n;1;q#42;2;0;100;0\x1b\\suffix\x1bPq~~~\x1b\\", 23),
+    (b"\x1bPq\x9csuffix\x1bPq~~~\x1b\\", 4),
+];
 
 #[test]
 fn two_cuts(rt: HostRuntime) {
-    for string in [
-        b"\x1bPq~\x1b\\".as_slice(),
-        b"\x90q~\x9c".as_slice(),
-        b"\x1bP3;1;0q#1;2;100;0;0!12~\x9c".as_slice(),
-        b"\x90;1q\"6;2;12;6#1;2;100;0;0!1\n2~\x1b\\".as_slice(),
-        b"\x1bP9\n;1;q#42;2;0;100;0\x1b\\".as_slice(),
-        b"\x1bPq\x9c".as_slice(),
-    ] {
-        assert_cuts(&rt, string);
+    for case in &STRINGS {
+        assert!(rt;
+            is_same_cut_twice(rt.alloc(), case.0, case.1),
+            "{:?}",
+            case.0
+        );
     }
 }
 
-/// Asserts that a terminator ends a red column so, wherever the bytes are cut.
-fn assert_ownership(
-    rt: &(impl Abort + AllocGlobal),
-    terminator: u8,
-    consumed: usize,
-    status: SixelDcsFeedStatus,
-) {
-    let alloc = rt.alloc();
-    let front = b"\x1bPq#1;2;100;0;0~!12".as_slice();
-    let bytes = joined(alloc, front, &[terminator], b"[31mTAIL").expect(rt, "bytes");
-    let pixels = bytes_of(alloc, &[(6, RED)]).expect(rt, "pixels");
-    for place in 0..=bytes.len() {
-        let (left, right) = bytes.as_slice().split_at(place);
-        let ending = fed(alloc, &[left, right]).expect(rt, "an ending");
-        assert_eq!(rt; (ending.consumed, ending.status), (consumed, status));
-        assert!(rt; shows(&ending.image, (1, 6), &pixels));
+/// How many bytes of a red column with this terminator are consumed, and its last status.
+fn ending_at(terminator: u8) -> Ending {
+    match terminator {
+        0x18 | 0x1a => (20, SixelDcsFeedStatus::Cancelled(terminator)),
+        0x1b => (20, SixelDcsFeedStatus::Interrupted(0x1b)),
+        0x9c => (20, SixelDcsFeedStatus::Complete),
+        _ => (19, SixelDcsFeedStatus::Interrupted(terminator)),
     }
+}
+
+/// Whether a terminator ends a red column so, wherever the bytes are cut.
+fn ends_so(alloc: Global, terminator: u8) -> bool {
+    let mut bytes = *b"\x1bPq#1;2;100;0;0~!12?[31mTAIL";
+    bytes[19] = terminator;
+    let mut is_right = true;
+    for place in 0..=bytes.len() {
+        let (left, right) = bytes.split_at(place);
+        let pieces = [left, b"", right, b""];
+        let (has_ended, outcome) = followed_in(alloc, &pieces, ending_at(terminator));
+        is_right &= has_ended && comes_to(alloc, &outcome, Ok((1, RED)));
+    }
+    is_right
 }
 
 #[test]
 fn ownership_of_a_terminator(rt: HostRuntime) {
-    assert_ownership(&rt, 0x18, 20, SixelDcsFeedStatus::Cancelled(0x18));
-    assert_ownership(&rt, 0x1a, 20, SixelDcsFeedStatus::Cancelled(0x1a));
-    assert_ownership(&rt, 0x1b, 20, SixelDcsFeedStatus::Interrupted(0x1b));
-    assert_ownership(&rt, 0x9c, 20, SixelDcsFeedStatus::Complete);
-    for byte in 0x80..=0x9f {
-        if byte != 0x9c {
-            assert_ownership(&rt, byte, 19, SixelDcsFeedStatus::Interrupted(byte));
-        }
+    for byte in &TERMINATORS {
+        assert!(rt; ends_so(rt.alloc(), *byte), "{byte}");
     }
 }
 
-/// Asserts that a header in single bytes is as good as these settings.
-fn assert_header(rt: &(impl Abort + AllocGlobal), header: &[u8], settings: DcsSettings) {
-    let alloc = rt.alloc();
-    let bytes = joined(alloc, b"\x1bP", header, b"q?\x1b\\").expect(rt, "bytes");
-    let mut decoder = SixelDecoder::new();
-    let mut session = decoder.begin_dcs(alloc);
-    for piece in bytes.chunks(1) {
-        assert!(rt; session.feed(piece).is_ok());
-    }
-    assert!(rt;
-        are_same(&session.finish(), &decoded(alloc, b"?", settings)),
-        "{header:?}"
-    );
+/// A control string with the payload `?`, and the P1, P2 and P3 of its header.
+type Header = (&'static [u8], Option<u16>, Option<u16>, Option<u16>);
+
+static HEADERS: [Header; 6] = [
+    (b"\x1bPq?\x1b\\", None, None, None),
+    (b"\x1bP;q?\x1b\\", Some(0), Some(0), None),
+    (b"\x1bP;1;q?\x1b\\", Some(0), Some(1), Some(0)),
+    (b"\x1bP3;1;0q?\x1b\\", Some(3), Some(1), Some(0)),
+    (
+        b"\x1bP9999999999999999999999999999999;1;0q?\x1b\\",
+        Some(65535),
+        Some(1),
+        Some(0),
+    ),
+    (b"\x1bP9;1;0;1;2;3;4;5q?\x1b\\", Some(9), Some(1), Some(0)),
+];
+
+/// Whether a control string in single bytes is as good as a payload with these settings.
+fn means(alloc: Global, header: &Header) -> bool {
+    let (string, p1, p2, p3) = *header;
+    let outcome = followed_singly(alloc, &mut SixelDecoder::new(), string);
+    let expected = decoded(alloc, b"?", DcsSettings::new(p1, p2, p3));
+    outcome.is_ok() && are_same(&outcome, &expected)
 }
 
 #[test]
 fn header_values(rt: HostRuntime) {
-    assert_header(&rt, b"", DcsSettings::default());
-    assert_header(&rt, b";", DcsSettings::new(Some(0), Some(0), None));
-    assert_header(&rt, b";1;", DcsSettings::new(Some(0), Some(1), Some(0)));
-    assert_header(&rt, b"3;1;0", DcsSettings::new(Some(3), Some(1), Some(0)));
-    let greatest = DcsSettings::new(Some(65535), Some(1), Some(0));
-    assert_header(&rt, b"9999999999999999999999999999999;1;0", greatest);
-    let first_three = DcsSettings::new(Some(9), Some(1), Some(0));
-    assert_header(&rt, b"9;1;0;1;2;3;4;5", first_three);
+    for header in &HEADERS {
+        assert!(rt; means(rt.alloc(), header), "{:?}", header.0);
+    }
 }
 
-/// Feeds bytes in pieces of this length up to a refusal, which it gives.
-fn refusal_of(
+/// Whether bytes in pieces of this length are refused in a feed.
+fn refuses(
     session: &mut SixelDcsStreamDecoder<'_>,
     bytes: &[u8],
     length: usize,
-) -> Option<SixelError>
+    refusal: &SixelError,
+) -> bool
     requires { 0 < length }
 {
     for piece in bytes.chunks(length) {
         if let Err(error) = session.feed(piece) {
-            return Some(error);
+            return error == *refusal;
         }
     }
-    None
+    false
 }
 
-/// Asserts that a session is ended, whatever it is fed.
-fn assert_failed(rt: &impl Abort, mut session: SixelDcsStreamDecoder<'_>) {
-    let failed = SixelError::InvalidData("DCS stream decoder has failed");
-    for piece in [b"".as_slice(), b"~".as_slice()] {
-        assert_eq!(rt; session.feed(piece).err().as_ref(), Some(&failed));
-    }
-    assert_eq!(rt; session.finish().err().as_ref(), Some(&failed));
+/// What a session answers after a refusal.
+static AFTER_A_REFUSAL: [StringFeed<'static>; 2] = [(b"", Err(&FAILED)), (b"~", Err(&FAILED))];
+
+/// Whether bytes in pieces of this length are refused in a feed, which ends the session and defines
+/// no register.
+fn is_refused_by(alloc: Global, bytes: &[u8], length: usize, refusal: &SixelError) -> bool
+    requires { 0 < length }
+{
+    let mut decoder = SixelDecoder::new();
+    let mut session = decoder.begin_dcs(alloc);
+    let is_refused = refuses(&mut session, bytes, length, refusal);
+    let has_failed = string_answers(&mut session, &AFTER_A_REFUSAL);
+    let is_failed = comes_to(alloc, &session.finish(), Err(&FAILED));
+    is_refused && has_failed && is_failed && decoder.register(42) == SEA
 }
 
-/// Asserts that bytes are refused in a feed, in pieces of every length, and the session ended.
-fn assert_feed_refused(rt: &(impl Abort + AllocGlobal), bytes: &[u8], error: &SixelError) {
+/// Whether bytes are refused in a feed, in pieces of every length.
+fn is_refused_so(alloc: Global, bytes: &[u8], refusal: &SixelError) -> bool {
+    let mut is_right = true;
     for length in 1..=bytes.len() {
-        let mut decoder = SixelDecoder::new();
-        let mut session = decoder.begin_dcs(rt.alloc());
-        let refusal = refusal_of(&mut session, bytes, length);
-        assert_eq!(rt; refusal.as_ref(), Some(error), "{bytes:?} by {length}");
-        assert_failed(rt, session);
-        assert_eq!(rt; decoder.register(42), [0, 204, 102]);
+        is_right &= is_refused_by(alloc, bytes, length, refusal);
     }
+    is_right
 }
 
-#[test]
-fn no_introducer(rt: HostRuntime) {
-    assert_feed_refused(&rt, b"text\x1bPq~\x1b\\", &SixelError::NoSixelData);
-    assert_feed_refused(&rt, b"\x1b[31m", &SixelError::NoSixelData);
-}
+/// Bytes that are refused in a feed, and how.
+static REFUSED: [(&[u8], &SixelError); 12] = [
+    (b"text\x1bPq~\x1b\\", &SixelError::NoSixelData),
+    (b"\x1b[31m", &SixelError::NoSixelData),
+    (b"\x1bPp~\x1b\\", &BAD_HEADER),
+    (b"\x90?q~\x9c", &BAD_HEADER),
+    (b"\x90 q~\x9c", &BAD_HEADER),
+    (b"\x90:1q~\x9c", &BAD_HEADER),
+    (b"\x1bP1\x18q~\x1b\\", &MALFORMED_DATA),
+    (b"\x1bP1\x1aq~\x1b\\", &MALFORMED_DATA),
+    (b"\x1bP1\x1bq~\x1b\\", &MALFORMED_DATA),
+    (b"\x1bP1\x9cq~\x1b\\", &MALFORMED_DATA),
+    (b"\x1bPq#42;2;100;0;0~!65536~\x1b\\", &MALFORMED_DATA),
+    (b"\x1bPq#42;2;100;0;0~\"1;1;1000001;6\x9c", &MALFORMED_DATA),
+];
 
 #[test]
-fn faulty_headers(rt: HostRuntime) {
-    let bad_header = SixelError::InvalidData("invalid SIXEL DCS header");
-    assert_feed_refused(&rt, b"\x1bPp~\x1b\\", &bad_header);
-    assert_feed_refused(&rt, b"\x90?q~\x9c", &bad_header);
-    assert_feed_refused(&rt, b"\x90 q~\x9c", &bad_header);
-    assert_feed_refused(&rt, b"\x90:1q~\x9c", &bad_header);
-}
-
-#[test]
-fn malformed_strings(rt: HostRuntime) {
-    let malformed = SixelError::InvalidData(MALFORMED);
-    assert_feed_refused(&rt, b"\x1bP1\x18q~\x1b\\", &malformed);
-    assert_feed_refused(&rt, b"\x1bP1\x1aq~\x1b\\", &malformed);
-    assert_feed_refused(&rt, b"\x1bP1\x1bq~\x1b\\", &malformed);
-    assert_feed_refused(&rt, b"\x1bP1\x9cq~\x1b\\", &malformed);
-    assert_feed_refused(&rt, b"\x1bPq#42;2;100;0;0~!65536~\x1b\\", &malformed);
-    assert_feed_refused(&rt, b"\x1bPq#42;2;100;0;0~\"1;1;1000001;6\x9c", &malformed);
+fn refusals(rt: HostRuntime) {
+    for case in &REFUSED {
+        assert!(rt; is_refused_so(rt.alloc(), case.0, case.1), "{:?}", case.0);
+    }
 }

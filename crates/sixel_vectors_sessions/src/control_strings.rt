@@ -1,178 +1,163 @@
 //! Control strings that come in pieces: what each feed consumes and answers.
 
-use icy_sixel::{
-    Result, SixelDcsFeedResult, SixelDcsFeedStatus, SixelDecoder, SixelError, SixelImage,
-};
-use sixel_vectors_base::answers::{BLACK, MALFORMED, RED, Run, bytes_of, is_refused, shows};
+use crate::expected::{INCOMPLETE, MALFORMED_DATA, Outcome, SEA, StringFeed, comes_to};
+use crate::feeds::string_answers;
+use icy_sixel::{SixelDcsFeedStatus, SixelDecoder, SixelError};
+use sixel_vectors_base::answers::{BLACK, RED};
+use sixel_vectors_base::hosted::followed_singly;
 use std::alloc::Global;
-use std::process::Abort;
 
-/// The answer of a feed that consumed so many bytes.
-fn answer(consumed: usize, status: SixelDcsFeedStatus) -> SixelDcsFeedResult {
-    SixelDcsFeedResult { consumed, status }
-}
+const MORE: SixelDcsFeedStatus = SixelDcsFeedStatus::NeedMoreData;
 
-/// The answer of a feed that asks for more.
-fn needs_more(consumed: usize) -> SixelDcsFeedResult {
-    answer(consumed, SixelDcsFeedStatus::NeedMoreData)
-}
+const COMPLETE: SixelDcsFeedStatus = SixelDcsFeedStatus::Complete;
 
-/// Feeds each piece to a session on this decoder, asserts the answers, and finishes.
-fn finished(
-    rt: &(impl Abort + AllocGlobal),
-    decoder: &mut SixelDecoder,
-    feeds: &[(&[u8], SixelDcsFeedResult)],
-) -> Result<SixelImage> {
-    let mut session = decoder.begin_dcs(rt.alloc());
-    for (piece, answer) in feeds {
-        assert_eq!(rt; session.feed(piece)?, *answer, "{piece:?}");
-    }
-    session.finish()
-}
+const CANCELLED: SixelDcsFeedStatus = SixelDcsFeedStatus::Cancelled(0x18);
 
-/// Asserts the answers of a session on a new decoder, and the columns of its image.
-fn assert_columns(
-    rt: &(impl Abort + AllocGlobal),
-    feeds: &[(&[u8], SixelDcsFeedResult)],
-    width: usize,
-    color: [u8; 4],
-) {
-    let image = finished(rt, &mut SixelDecoder::new(), feeds).expect(rt, "an image");
-    let run: Run = (width.saturating_mul(6), color);
-    let pixels = bytes_of(rt.alloc(), &[run]).expect(rt, "pixels");
-    assert!(rt; shows(&image, (width, 6), &pixels));
-}
+const CUT_BY_CONTROL: SixelDcsFeedStatus = SixelDcsFeedStatus::Interrupted(0x9b);
 
-/// Asserts what one feed answers, and that the image is one black column.
-fn assert_one_feed(
-    rt: &(impl Abort + AllocGlobal),
-    bytes: &[u8],
-    consumed: usize,
-    status: SixelDcsFeedStatus,
-) {
-    assert_columns(rt, &[(bytes, answer(consumed, status))], 1, BLACK);
-}
-
-#[test]
-fn a_terminator_over_two_pieces(rt: HostRuntime) {
-    let feeds = [
-        (b"\x1b".as_slice(), needs_more(1)),
-        (b"P9;1q#1;2;100;0;0!12~\x1b".as_slice(), needs_more(22)),
-        (
-            b"\\terminal text".as_slice(),
-            answer(1, SixelDcsFeedStatus::Complete),
-        ),
-    ];
-    assert_columns(&rt, &feeds, 12, RED);
-    let feeds = [
-        (b"\x1bPq~\x1b".as_slice(), needs_more(5)),
-        (b"".as_slice(), needs_more(0)),
-        (
-            b"[31m".as_slice(),
-            answer(0, SixelDcsFeedStatus::Interrupted(0x1b)),
-        ),
-    ];
-    assert_columns(&rt, &feeds, 1, BLACK);
-}
-
-#[test]
-fn a_control_string_in_one_piece(rt: HostRuntime) {
-    let complete = answer(23, SixelDcsFeedStatus::Complete);
-    let feeds = [(b"\x1bP9;1q#1;2;100;0;0!12~\x9c".as_slice(), complete)];
-    assert_columns(&rt, &feeds, 12, RED);
-}
-
-#[test]
-fn ends(rt: HostRuntime) {
-    assert_one_feed(
-        &rt,
-        b"\x1bPq~\x9b0m",
-        4,
-        SixelDcsFeedStatus::Interrupted(0x9b),
-    );
-    assert_one_feed(&rt, b"\x1bPq~\x9ctail", 5, SixelDcsFeedStatus::Complete);
-    assert_one_feed(
-        &rt,
-        b"\x1bPq~\x18tail",
-        5,
-        SixelDcsFeedStatus::Cancelled(0x18),
-    );
-    assert_one_feed(
-        &rt,
-        b"\x1bPq~\x1b\n\\",
-        5,
-        SixelDcsFeedStatus::Interrupted(0x1b),
-    );
-}
-
-/// Asserts that a feed was refused with this error.
-fn assert_feed_refused(rt: &impl Abort, fed: Result<SixelDcsFeedResult>, error: SixelError) {
-    assert_eq!(rt; fed.err(), Some(error));
-}
+const CUT_BY_ESCAPE: SixelDcsFeedStatus = SixelDcsFeedStatus::Interrupted(0x1b);
 
 /// The answer of a session after a refused feed.
-fn failed() -> SixelError {
-    SixelError::InvalidData("DCS stream decoder has failed")
-}
+pub const FAILED: SixelError = SixelError::InvalidData("DCS stream decoder has failed");
 
-#[test]
-fn a_refused_feed_ends_a_session(rt: HostRuntime) {
-    let mut decoder = SixelDecoder::new();
-    let mut session = decoder.begin_dcs(rt.alloc());
-    assert_feed_refused(&rt, session.feed(b"text"), SixelError::NoSixelData);
-    assert_feed_refused(&rt, session.feed(b"\x1bPq~\x1b\\"), failed());
-    assert_eq!(rt; session.finish().err(), Some(failed()));
-}
+/// A control string with its name, what its feeds answer, and what its session comes to.
+type Case = (&'static str, &'static [StringFeed<'static>], Outcome);
 
-#[test]
-fn an_open_command_is_not_refused(rt: HostRuntime) {
-    let feeds = [(b"\x1bPq!65536".as_slice(), needs_more(9))];
-    let outcome = finished(&rt, &mut SixelDecoder::new(), &feeds);
-    assert!(rt; is_refused(&outcome, "incomplete SIXEL DCS sequence"));
-    let mut decoder = SixelDecoder::new();
-    let mut session = decoder.begin_dcs(rt.alloc());
-    assert_eq!(rt; session.feed(b"\x1bPq!65536").ok(), Some(needs_more(9)));
-    session.abort();
-    let mut other = decoder.begin_dcs(rt.alloc());
-    let malformed = SixelError::InvalidData(MALFORMED);
-    assert_feed_refused(&rt, other.feed(b"\x1bPq!65536\x1b\\"), malformed);
-    assert_eq!(rt; other.finish().err(), Some(failed()));
-}
+static CASES: [Case; 9] = [
+    (
+        "a string terminator over two pieces",
+        &[
+            (b"\x1b", Ok((1, MORE))),
+            (b"P9;1q#1;2;100;0;0!12~\x1b", Ok((22, MORE))),
+            (b"\\terminal text", Ok((1, COMPLETE))),
+        ],
+        Ok((12, RED)),
+    ),
+    (
+        "an escape that begins no string terminator",
+        &[
+            (b"\x1bPq~\x1b", Ok((5, MORE))),
+            (b"", Ok((0, MORE))),
+            (b"[31m", Ok((0, CUT_BY_ESCAPE))),
+        ],
+        Ok((1, BLACK)),
+    ),
+    (
+        "one piece",
+        &[(b"\x1bP9;1q#1;2;100;0;0!12~\x9c", Ok((23, COMPLETE)))],
+        Ok((12, RED)),
+    ),
+    (
+        "another control",
+        &[(b"\x1bPq~\x9b0m", Ok((4, CUT_BY_CONTROL)))],
+        Ok((1, BLACK)),
+    ),
+    (
+        "text after the end",
+        &[(b"\x1bPq~\x9ctail", Ok((5, COMPLETE)))],
+        Ok((1, BLACK)),
+    ),
+    (
+        "a cancel",
+        &[(b"\x1bPq~\x18tail", Ok((5, CANCELLED)))],
+        Ok((1, BLACK)),
+    ),
+    (
+        "an escape before a new line",
+        &[(b"\x1bPq~\x1b\n\\", Ok((5, CUT_BY_ESCAPE)))],
+        Ok((1, BLACK)),
+    ),
+    (
+        "a refused feed, which ends the session",
+        &[
+            (b"text", Err(&SixelError::NoSixelData)),
+            (b"\x1bPq~\x1b\\", Err(&FAILED)),
+        ],
+        Err(&FAILED),
+    ),
+    (
+        "an open command, which is not refused",
+        &[(b"\x1bPq!65536", Ok((9, MORE)))],
+        Err(&INCOMPLETE),
+    ),
+];
 
-/// Asserts that a beginning of a control string is consumed whole, and refused at its end.
-fn assert_incomplete(rt: &(impl Abort + AllocGlobal), bytes: &[u8]) {
-    let mut decoder = SixelDecoder::new();
-    let outcome = finished(rt, &mut decoder, &[(bytes, needs_more(bytes.len()))]);
-    assert!(rt; is_refused(&outcome, "incomplete SIXEL DCS sequence"));
-    assert_eq!(rt; decoder.register(42), [0, 204, 102]);
-}
-
-#[test]
-fn beginnings_are_incomplete(rt: HostRuntime) {
-    let bytes = b"\x1bP3;1q#42;2;100;0;0~\x1b\\".as_slice();
-    for place in 0..bytes.len() {
-        let (beginning, _) = bytes.split_at(place);
-        assert_incomplete(&rt, beginning);
-    }
-}
-
-/// What a session on a new decoder makes of bytes that come singly.
-fn fed_singly(alloc: Global, bytes: &[u8]) -> Result<SixelImage> {
-    let mut decoder = SixelDecoder::new();
+/// Whether a session on this decoder answers so and comes to this.
+fn holds(
+    alloc: Global,
+    decoder: &mut SixelDecoder,
+    feeds: &[StringFeed<'_>],
+    end: Outcome,
+) -> bool {
     let mut session = decoder.begin_dcs(alloc);
-    for piece in bytes.chunks(1) {
-        session.feed(piece)?;
+    let is_answered = string_answers(&mut session, feeds);
+    comes_to(alloc, &session.finish(), end) && is_answered
+}
+
+/// Whether a session on a new decoder answers so and comes to this.
+fn is_so(alloc: Global, case: &Case) -> bool {
+    holds(alloc, &mut SixelDecoder::new(), case.1, case.2)
+}
+
+#[test]
+fn cases(rt: HostRuntime) {
+    for case in &CASES {
+        assert!(rt; is_so(rt.alloc(), case), "{}", case.0);
     }
-    session.finish()
+}
+
+/// Whether a session on this decoder consumes this whole. It is aborted then.
+fn takes_and_aborts(alloc: Global, decoder: &mut SixelDecoder, beginning: &[u8]) -> bool {
+    let mut session = decoder.begin_dcs(alloc);
+    let is_taken = string_answers(&mut session, &[(beginning, Ok((beginning.len(), MORE)))]);
+    session.abort();
+    is_taken
+}
+
+/// A feed that closes a command that is refused.
+static CLOSED: [StringFeed<'static>; 1] = [(b"\x1bPq!65536\x1b\\", Err(&MALFORMED_DATA))];
+
+#[test]
+fn a_command_is_refused_where_it_is_closed(rt: HostRuntime) {
+    let alloc = rt.alloc();
+    let mut decoder = SixelDecoder::new();
+    let is_open = takes_and_aborts(alloc, &mut decoder, b"\x1bPq!65536");
+    assert!(rt; is_open && holds(alloc, &mut decoder, &CLOSED, Err(&FAILED)));
+}
+
+/// Whether a beginning of a control string is consumed whole, is incomplete at its end, and defines
+/// no register.
+fn is_incomplete(alloc: Global, beginning: &[u8]) -> bool {
+    let feeds: [StringFeed<'_>; 1] = [(beginning, Ok((beginning.len(), MORE)))];
+    let mut decoder = SixelDecoder::new();
+    holds(alloc, &mut decoder, &feeds, Err(&INCOMPLETE)) && decoder.register(42) == SEA
+}
+
+#[test]
+fn beginnings(rt: HostRuntime) {
+    let string = b"\x1bP3;1q#42;2;100;0;0~\x1b\\".as_slice();
+    for place in 0..string.len() {
+        let (beginning, _) = string.split_at(place);
+        assert!(rt; is_incomplete(rt.alloc(), beginning), "{place}");
+    }
+}
+
+/// Control strings that come in single bytes, and what they come to.
+static SINGLY: [(&[u8], Outcome); 3] = [
+    (b"\x90q~", Err(&INCOMPLETE)),
+    (b"\x90\x1b", Err(&MALFORMED_DATA)),
+    (b"\x1bPq~\x1b\\", Ok((1, BLACK))),
+];
+
+/// Whether a control string in single bytes comes to this.
+fn is_so_singly(alloc: Global, case: &(&[u8], Outcome)) -> bool {
+    let outcome = followed_singly(alloc, &mut SixelDecoder::new(), case.0);
+    comes_to(alloc, &outcome, case.1)
 }
 
 #[test]
 fn single_bytes(rt: HostRuntime) {
-    let alloc = rt.alloc();
-    let unended = fed_singly(alloc, b"\x90q~");
-    assert!(rt; is_refused(&unended, "incomplete SIXEL DCS sequence"));
-    assert!(rt; is_refused(&fed_singly(alloc, b"\x90\x1b"), MALFORMED));
-    let image = fed_singly(alloc, b"\x1bPq~\x1b\\").expect(&rt, "an image");
-    let pixels = bytes_of(alloc, &[(6, BLACK)]).expect(&rt, "pixels");
-    assert!(rt; shows(&image, (1, 6), &pixels));
+    for case in &SINGLY {
+        assert!(rt; is_so_singly(rt.alloc(), case), "{:?}", case.0);
+    }
 }

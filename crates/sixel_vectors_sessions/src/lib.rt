@@ -9,6 +9,10 @@ mod control_string_splits;
 #[cfg(test)]
 mod control_strings;
 #[cfg(test)]
+mod expected;
+#[cfg(test)]
+mod feeds;
+#[cfg(test)]
 mod session;
 #[cfg(test)]
 mod splits;

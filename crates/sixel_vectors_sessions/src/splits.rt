@@ -1,113 +1,105 @@
 //! Payloads cut anywhere give what they give in one piece.
 
-use icy_sixel::Result;
-use icy_sixel::decoder::{DcsSettings, SixelDecoder};
-use icy_sixel::sixel_image::{PixelAspectRatio, SixelImage};
-use sixel_vectors_base::answers::{
-    MALFORMED, TOO_LARGE, are_same, decoded, fed, is_refused, transparent,
-};
+ghost use Rattle.std.specs.Prelude.{◌≤◌};
+
+use crate::expected::MALFORMED_DATA;
+use crate::feeds::fed_in;
+use icy_sixel::SixelError;
+use icy_sixel::decoder::DcsSettings;
+use icy_sixel::sixel_image::PixelAspectRatio;
+use sixel_vectors_base::answers::{TOO_LARGE, are_same, decoded, fed, transparent};
 use std::alloc::Global;
-use std::process::Abort;
 
-/// What a session makes of two pieces with an empty one between them.
-fn fed_split(
-    alloc: Global,
-    settings: DcsSettings,
-    (front, back): (&[u8], &[u8]),
-) -> Result<SixelImage> {
-    let mut decoder = SixelDecoder::new();
-    let mut session = decoder.begin_frame(alloc, settings)?;
-    session.feed(front)?;
-    session.feed(b"")?;
-    session.feed(back)?;
-    session.finish()
-}
+const TOO_LARGE_IMAGE: SixelError = SixelError::InvalidData(TOO_LARGE);
 
-/// Asserts that a payload is the same under these settings wherever it is split.
-fn assert_splits_with(rt: &(impl Abort + AllocGlobal), settings: DcsSettings, payload: &[u8]) {
-    let alloc = rt.alloc();
-    let whole = decoded(alloc, payload, settings);
-    for place in 0..=payload.len() {
-        let split = fed_split(alloc, settings, payload.split_at(place));
-        assert!(rt; are_same(&split, &whole), "{payload:?}");
+/// Whether a payload is refused so or not at all, and is the same under these settings wherever it
+/// is split, with an empty piece between.
+fn is_same_with(alloc: Global, settings: DcsSettings, payload: &Payload) -> bool {
+    let (bytes, refusal) = *payload;
+    let whole = decoded(alloc, bytes, settings);
+    let mut is_same = whole.as_ref().err() == refusal;
+    for place in 0..=bytes.len() {
+        let (front, back) = bytes.split_at(place);
+        is_same &= are_same(&fed_in(alloc, settings, &[front, b"", back]), &whole);
     }
+    is_same
 }
 
-/// Asserts that a payload is the same wherever it is split.
-fn assert_splits(rt: &(impl Abort + AllocGlobal), payload: &[u8]) {
+/// The same on an opaque background, and with tall pixels on a transparent one.
+fn is_same_split(alloc: Global, payload: &Payload) -> bool {
     let tall = transparent().with_pixel_aspect_ratio(PixelAspectRatio::Ratio5To1);
-    assert_splits_with(rt, DcsSettings::default(), payload);
-    assert_splits_with(rt, tall, payload);
+    is_same_with(alloc, DcsSettings::default(), payload) && is_same_with(alloc, tall, payload)
 }
 
-#[test]
-fn images(rt: HostRuntime) {
-    assert_splits(&rt, b"");
-    assert_splits(&rt, b"!");
-    assert_splits(&rt, b"!0");
-    assert_splits(&rt, b"!12");
-    assert_splits(&rt, b"#");
-    assert_splits(&rt, b"#1;2;100;;");
-    assert_splits(&rt, b"\"3;1;12;6");
-    assert_splits(&rt, b"\"4;1;1;6~");
-    assert_splits(&rt, b"#1;2;100;0;0!1\n2~$#2;1;120;50;100??@-!0~");
-    assert_splits(&rt, b"\"6;2;16;12#1;2;100;0;0!12~-#;2;;100;~");
-    assert_splits(&rt, b"#1;2;100;0;0;123;456~\"1;1;12;6;99~");
-    assert_splits(&rt, b"#99999999999999999999;1;2147483647999;50;100~");
-}
+/// A payload, and its refusal.
+type Payload = (&'static [u8], Option<&'static SixelError>);
+
+static PAYLOADS: [Payload; 21] = [
+    (b"", None),
+    (b"!", None),
+    (b"!0", None),
+    (b"!12", None),
+    (b"#", None),
+    (b"#1;2;100;;", None),
+    (b"\"3;1;12;6", None),
+    (b"\"4;1;1;6~", None),
+    (b"#1;2;100;0;0!1\n2~$#2;1;120;50;100??@-!0~", None),
+    (b"\"6;2;16;12#1;2;100;0;0!12~-#;2;;100;~", None),
+    (b"#1;2;100;0;0;123;456~\"1;1;12;6;99~", None),
+    (b"#99999999999999999999;1;2147483647999;50;100~", None),
+    // A terminator, and what stands after it.
+    (b"#1;2;100;0;0@\x18#1;2;0;100;0!99999999~", None),
+    (b"@\x9b0m~~", None),
+    (b"@\x1b\\trailing text", None),
+    // Refusals.
+    (b"!65536", Some(&MALFORMED_DATA)),
+    (b"!655\n36~", Some(&MALFORMED_DATA)),
+    (b"!999999999999999999999999999999~", Some(&MALFORMED_DATA)),
+    (b"\"1;1;1000001;6", Some(&MALFORMED_DATA)),
+    (b"\"1;1;8192;8193", Some(&TOO_LARGE_IMAGE)),
+    (b"#1;2;100;0;0~!999999999~", Some(&MALFORMED_DATA)),
+];
 
 #[test]
-fn ended_images(rt: HostRuntime) {
-    assert_splits(&rt, b"#1;2;100;0;0@\x18#1;2;0;100;0!99999999~");
-    assert_splits(&rt, b"@\x9b0m~~");
-    assert_splits(&rt, b"@\x1b\\trailing text");
-}
-
-#[test]
-fn refusals(rt: HostRuntime) {
-    let rows = [
-        ("!65536", MALFORMED),
-        ("!655\n36~", MALFORMED),
-        ("!999999999999999999999999999999~", MALFORMED),
-        ("\"1;1;1000001;6", MALFORMED),
-        ("\"1;1;8192;8193", TOO_LARGE),
-        ("#1;2;100;0;0~!999999999~", MALFORMED),
-    ];
-    for (text, reason) in rows {
-        let outcome = decoded(rt.alloc(), text.as_bytes(), DcsSettings::default());
-        assert!(rt; is_refused(&outcome, reason), "{text}");
-        assert_splits(&rt, text.as_bytes());
+fn splits(rt: HostRuntime) {
+    for payload in &PAYLOADS {
+        assert!(rt; is_same_split(rt.alloc(), payload), "{:?}", payload.0);
     }
 }
 
-/// Asserts that a payload is the same in single bytes as in one piece.
-fn assert_single_bytes(rt: &(impl Abort + AllocGlobal), payload: &[u8]) {
-    let alloc = rt.alloc();
-    let whole = decoded(alloc, payload, DcsSettings::default());
-    let single = fed(alloc, payload, DcsSettings::default(), 1);
-    assert!(rt; are_same(&single, &whole), "{payload:?}");
+/// Whether a payload is the same in single bytes as in one piece.
+fn is_same_singly(alloc: Global, payload: &[u8]) -> bool {
+    let settings = DcsSettings::default();
+    are_same(
+        &fed(alloc, payload, settings, 1),
+        &decoded(alloc, payload, settings),
+    )
 }
 
-/// Asserts that a text, any byte after it, and a sixel are the same in single bytes.
-fn assert_each_byte_after(rt: &(impl Abort + AllocGlobal), beginning: &[u8]) {
+/// Whether so many bytes of a payload, any byte after them, and a sixel are the same in single
+/// bytes.
+fn is_same_after(alloc: Global, place: usize) -> bool
+    requires { place ≤ 26 }
+{
+    let mut bytes = *b"#1;2;100;0;0!12\"2;1;3;7$-@??";
+    let mut is_same = true;
     for byte in 0..=255 {
-        let mut payload = beginning.to_vec(rt.alloc()).expect(rt, "a copy");
-        payload.push(byte).expect(rt, "room");
-        payload.push(b'~').expect(rt, "room");
-        assert_single_bytes(rt, &payload);
+        bytes[place] = byte;
+        bytes[place + 1] = b'~';
+        let (payload, _) = bytes.split_at(place + 2);
+        is_same &= is_same_singly(alloc, payload);
     }
+    is_same
 }
 
 #[test]
 fn every_byte_after_every_beginning(rt: HostRuntime) {
-    let text = b"#1;2;100;0;0!12\"2;1;3;7$-@".as_slice();
-    for place in 0..=text.len() {
-        let (beginning, _) = text.split_at(place);
-        assert_each_byte_after(&rt, beginning);
+    for place in 0..=26 {
+        assert!(rt; is_same_after(rt.alloc(), place), "{place}");
     }
 }
 
 #[test]
 fn terminators_without_introducer(rt: HostRuntime) {
-    assert_single_bytes(&rt, b"~~\x90q~");
+    assert!(rt; is_same_singly(rt.alloc(), b"~~\x90q~"));
 }

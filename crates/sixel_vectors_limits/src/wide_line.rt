@@ -1,0 +1,44 @@
+//! A line wider than a repeat and far down: eight great repeats and a thousand sixels, ten bands down.
+
+use crate::payloads::long;
+use crate::work::{Reach, counted};
+use icy_sixel::{DcsSettings, Result, SixelImage};
+use sixel_vectors_base::answers::{BLACK, CLEAR, decoded, is_drawn, transparent};
+use std::alloc::{AllocError, Global};
+
+const SIZE: (usize, usize) = (525280, 66);
+
+const REACH: Reach = (525280, 1008);
+
+/// The payload of that line.
+fn wide_line(alloc: Global) -> std::result::Result<Vec<u8>, AllocError> {
+    let front = "----------!65535~!65535~!65535~!65535~!65535~!65535~!65535~!65535~";
+    long(alloc, front, ("~", 1000), "")
+}
+
+/// Whether an image is that line: the lowest six rows are black, all others of this color.
+fn is_wide_line(alloc: Global, outcome: Result<SixelImage>, background: [u8; 4]) -> bool {
+    let runs = [(60 * 525280, background), (6 * 525280, BLACK)];
+    is_drawn(alloc, &outcome, SIZE, &runs)
+}
+
+#[test]
+fn at_once(rt: HostRuntime) {
+    let payload = wide_line(rt.alloc()).expect(&rt, "a payload");
+    let outcome = decoded(rt.alloc(), &payload, DcsSettings::default());
+    assert!(rt; is_wide_line(rt.alloc(), outcome, BLACK));
+}
+
+#[test]
+fn in_single_bytes(rt: HostRuntime) {
+    let payload = wide_line(rt.alloc()).expect(&rt, "a payload");
+    let counted = counted(rt.alloc(), &payload, transparent(), 1, REACH);
+    assert!(rt; is_wide_line(rt.alloc(), Ok(counted.expect(&rt, "a wide line")), CLEAR));
+}
+
+#[test]
+fn in_one_piece(rt: HostRuntime) {
+    let payload = wide_line(rt.alloc()).expect(&rt, "a payload");
+    let counted = counted(rt.alloc(), &payload, DcsSettings::default(), 4096, REACH);
+    assert_eq!(rt; counted.expect(&rt, "a wide line").dimensions(), SIZE);
+}
