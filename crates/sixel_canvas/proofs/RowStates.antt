@@ -1,7 +1,7 @@
-use Rattle.std.proofs.Common.{◌≡◌, ℕ, ◌+◌, ◌-◌, ◌≤◌, length, replicate, ap, ◌∙◌, inl, inr, length-append, arith}
+use Rattle.std.proofs.Common.{◌≡◌, ℕ, ◌+◌, ◌-◌, ◌≤◌, List, length, replicate, ap, ◌∙◌, inl, inr, length-append, arith}
 use Rattle.std.proofs.lemmas.Bool.{cases_lt, lt-ltb, le-ltb}
 use Rattle.std.proofs.lemmas.List.{length-replicate}
-use Rattle.sixel_canvas.specs.Row.{RowState, reached_to}
+use Rattle.sixel_canvas.specs.Row.{RowState, reached_to, row_state}
 use Rattle.sixel_canvas.specs.inside.Loan.{IsRoomy, lent_to}
 
 -- how many pixels a row has that was grown
@@ -34,3 +34,13 @@ IsRoomy-lent_to first columns row little side roomy =
             growing = rw test (omega arith);
           }
     ]
+
+-- a row stays roomy as its pixels are written over
+pub IsRoomy-written : (background : List ℕ) (pixels next : List (List ℕ)) (room writes : ℕ) → length next ≡ length pixels → IsRoomy (row_state background pixels room writes) → IsRoomy (row_state background next room writes)
+IsRoomy-written background pixels next room writes long roomy = record {
+  held = omega (arith, roomy.held, long);
+  side = roomy.side;
+  at_least = omega (arith, roomy.at_least, long);
+  at_most = omega (arith, roomy.at_most, long);
+  growing = λ less. omega (arith, roomy.growing less, long);
+}

@@ -1,7 +1,8 @@
-use Rattle.std.proofs.Common.{◌≡◌, ◌≢◌, ℕ, zero, suc, ◌+◌, ◌-◌, ◌<◌, ◌≤◌, Bool, true, false, ◌&&◌, max, List, [], ◌∷◌, ◌++◌, length, get_or, take, drop, replicate, refl, sym, ap, ◌∙◌, inl, inr, length-append, length-take, length-drop, get_or-take, get_or-drop, drop_of_length-le, arith}
+use Rattle.std.proofs.Common.{◌≡◌, ◌≢◌, ℕ, zero, suc, ◌+◌, ◌-◌, ◌<◌, ◌≤◌, Bool, true, false, ◌&&◌, max, List, [], ◌∷◌, ◌++◌, length, get_or, take, drop, replicate, refl, sym, ap, ◌∙◌, inl, inr, append_assoc, length-append, length-take, length-drop, get_or-take, get_or-drop, drop_of_length-le, arith}
 use Rattle.std.specs.Prelude.{nat_lt, nat_le, if◌then◌else◌}
 use Rattle.std.proofs.lemmas.Bool.{cases_lt, cases_order, lt-ltb, le-ltb, lt-leb, le-leb}
 use Rattle.std.proofs.Math.Seq.{take-append-add}
+use borrow.Rule.Slice.PartMut.{Post-is, put_mid}
 use Rattle.std.proofs.lemmas.List.{length-replicate, get_or-replicate, get_or-append_right, get_or_append_left, append-nil, take-replicate}
 use Rattle.sixel_canvas.specs.Row.{RowState, painted, row_state, writes_for}
 use Rattle.sixel_canvas.specs.inside.Loan.{IsRoomy, lent_to, room_from}
@@ -46,6 +47,14 @@ length-painted from to color row order held =
     let front = take from pixels in
     let middle = replicate (to - from) color in
     omega (arith, length-append (front ++ middle) (drop to pixels), length-append front middle, length-take from pixels, length-drop to pixels, length-replicate (to - from) color)
+
+-- pixels of which a part was painted
+pub put_mid-painted : (from to : ℕ) (color : List ℕ) (pixels part : List (List ℕ)) → from ≤ to → part ≡ replicate (to - from) color → put_mid from (to - from) pixels part ≡ take from pixels ++ replicate (to - from) color ++ drop to pixels
+put_mid-painted from to color pixels part order is =
+    ap (put_mid from (to - from) pixels) is
+    ∙ ap (λ ps. take from pixels ++ (replicate (to - from) color ++ ps))
+    (Post-is from to pixels order)
+    ∙ sym (append_assoc (take from pixels) (replicate (to - from) color) (drop to pixels))
 
 -- a row stays roomy as it is struck
 pub IsRoomy-struck_row : (first from to : ℕ) (color : List ℕ) (row : RowState) → first ≤ 1000000 → from ≤ to → to ≤ 1000000 → IsRoomy row → IsRoomy (struck_row first from to color row)
@@ -121,6 +130,23 @@ shown-struck first from to color background true old new column order over is =
 shown-struck first from to color background false old new column order over is =
     ap (λ (r : RowState). get_or r.pixels column background) is
     ∙ sym (if_and (nat_le from column && nat_lt column to) false color (get_or old.pixels column background))
+
+-- what a row shows that may have been painted
+pub shown-painted : (from to : ℕ) (color : List ℕ) (hit : Bool) (old new : RowState) (column : ℕ) (d : List ℕ) → from ≤ to → (hit ≡ true → to ≤ length old.pixels) → new ≡ (if hit then painted from to color old else old) → get_or new.pixels column d ≡ (if nat_le from column && nat_lt column to && hit then color else get_or old.pixels column d)
+shown-painted from to color true old new column d order held is =
+    ap (λ (r : RowState). get_or r.pixels column d) is
+    ∙ get_or-painted from to color old column d order (held refl)
+    ∙ sym (if_and (nat_le from column && nat_lt column to) true color (get_or old.pixels column d))
+shown-painted from to color false old new column d order held is =
+    ap (λ (r : RowState). get_or r.pixels column d) is
+    ∙ sym (if_and (nat_le from column && nat_lt column to) false color (get_or old.pixels column d))
+
+-- how many pixels it holds
+pub reached-painted : (from to : ℕ) (color : List ℕ) (hit : Bool) (old new : RowState) → from ≤ to → (hit ≡ true → to ≤ length old.pixels) → new ≡ (if hit then painted from to color old else old) → length new.pixels ≡ length old.pixels
+reached-painted from to color true old new order held is = ap (λ (r : RowState). length r.pixels) is
+    ∙ length-painted from to color old order (held refl)
+reached-painted from to color false old new order held is =
+    ap (λ (r : RowState). length r.pixels) is
 
 -- how many pixels a row holds that may have been struck
 pub reached-struck : (first from to : ℕ) (color : List ℕ) (hit : Bool) (old new : RowState) → from ≤ to → new ≡ (if hit then struck_row first from to color old else old) → length new.pixels ≡ (if hit then max (length old.pixels) to else length old.pixels)

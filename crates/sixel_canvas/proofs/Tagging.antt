@@ -36,7 +36,7 @@ cases_in row from to column k =
       | inr miss ↦ inr miss
     ]
 
-lies_in-not : (row from to column k : ℕ) → (IsIn row from to column k → ⊥) → lies_in row from to column k ≡ false
+pub lies_in-not : (row from to column k : ℕ) → (IsIn row from to column k → ⊥) → lies_in row from to column k ≡ false
 lies_in-not row from to column k out =
     elim (cases_in row from to column k) [ inl is ↦ absurd (out is) | inr miss ↦ miss ]
 
@@ -49,7 +49,7 @@ not_in row from to column k miss is = true≢false (sym (lies_in-is row from to 
 abbrev pub IsDrawn : ℕ → ℕ → ℕ → List ℕ → (ℕ → ℕ → List ℕ) → (ℕ → ℕ → List ℕ) → Type 0
 IsDrawn row from to color before after = (column k : ℕ) → after column k ≡ (if lies_in row from to column k then color else before column k)
 
-drawn_in : (row from to : ℕ) (color : List ℕ) (before after : ℕ → ℕ → List ℕ) → IsDrawn row from to color before after → (column k : ℕ) → IsIn row from to column k → after column k ≡ color
+pub drawn_in : (row from to : ℕ) (color : List ℕ) (before after : ℕ → ℕ → List ℕ) → IsDrawn row from to color before after → (column k : ℕ) → IsIn row from to column k → after column k ≡ color
 drawn_in row from to color before after drawn column k is = rw (lies_in-is row from to column k is) at (drawn column k)
 
 drawn_out : (row from to : ℕ) (color : List ℕ) (before after : ℕ → ℕ → List ℕ) → IsDrawn row from to color before after → (column k : ℕ) → (IsIn row from to column k → ⊥) → after column k ≡ before column k
@@ -90,6 +90,71 @@ pub record IsSettled (row from to last : ℕ) (before sheet tags : ℕ → ℕ �
   pub outside : (column k : ℕ) → lies_in row from to column k ≡ false → under (tags (column / 128) k) (sheet column k) ≡ before column k
   pub left : is_tag (tags (from / 128) row) ≡ false
   pub right : is_tag (tags last row) ≡ false
+
+-- where a block is painted in its tag but for some columns, and loses it
+pub settled_seen : (row block from to left right : ℕ) (tag : List ℕ) (sheet part next tags rest : ℕ → ℕ → List ℕ)
+    → min from (block * 128 + 128) ≤ left → left ≤ block * 128 + 128 → block * 128 ≤ right → right ≤
+    max to (block * 128)
+    → tags block row ≡ tag → is_tag tag ≡ true
+    → IsDrawn row (block * 128) left tag sheet part → IsDrawn row right (block * 128 + 128) tag part
+    next → IsDrawn row block (block + 1) no_tag tags rest
+    → (column k : ℕ) → lies_in row from to column k ≡ false → under (rest (column / 128) k)
+    (next column k) ≡ under (tags (column / 128) k) (sheet column k)
+settled_seen row block from to left right tag sheet part next tags rest low high above below tagged
+    is first second off column k miss =
+    let start = block * 128 in
+    let end = start + 128 in
+    elim (cases_in row block (block + 1) (column / 128) k) [
+      | inl here ↦
+          let place : column / 128 ≡ block = omega (arith, here.begun, here.inside) in
+          let was : tags (column / 128) k ≡ tag = ap (λ b. tags b k) place
+          ∙ ap (tags block) here.here ∙ tagged in
+          let colored : next column k ≡ tag = elim (cases_lt column right) [
+            | inl before ↦ elim (cases_lt column from) [
+              | inl outside ↦
+                  drawn_out row right end tag part next second column k
+                  (λ there. absurd (omega (arith, there.begun, before)))
+                  ∙ drawn_in row start left tag sheet part first column k
+                  (record {
+                    begun = omega (arith, place);
+                    inside = omega (arith, place);
+                    here =
+                        here.here;
+                  })
+              | inr begun ↦
+                  absurd (not_in row from to column k miss
+                  (record { begun = begun; inside = omega (arith, place); here = here.here }))
+            ]
+            | inr past ↦
+                drawn_in row right end tag part next second column k
+                (record { begun = past; inside = omega (arith, place); here = here.here })
+          ] in
+          ap (λ t. under t (next column k))
+          (drawn_in row block (block + 1) no_tag tags rest off (column / 128) k here)
+          ∙ colored
+          ∙ sym (under-tag tag (sheet column k) is)
+          ∙ ap (λ t. under t (sheet column k)) (sym was)
+      | inr apart ↦
+          let out = not_in row block (block + 1) (column / 128) k apart in
+          let same : next column k ≡ sheet column k =
+          drawn_out row right end tag part next second column k
+          (λ there. out (record {
+            begun = omega (arith, there.begun);
+            inside =
+                omega (arith, there.inside);
+            here = there.here;
+          }))
+          ∙ drawn_out row start left tag sheet part first column k
+          (λ there. out (record {
+            begun = omega (arith, there.begun);
+            inside =
+                omega (arith, there.inside);
+            here = there.here;
+          })) in
+          ap (λ t. under t (next column k))
+          (drawn_out row block (block + 1) no_tag tags rest off (column / 128) k out)
+          ∙ ap (under (tags (column / 128) k)) same
+    ]
 
 -- where it is painted whole
 pub painted_seen : (row from to first held last : ℕ) (color : List ℕ) (before sheet next tags rest : ℕ → ℕ → List ℕ)

@@ -132,6 +132,11 @@ same_or_max : (b : Bool) (n to : ℕ) → to ≤ n → n ≡ (if b then max n to
 same_or_max true n to le = omega arith
 same_or_max false n to le = refl
 
+-- the greater of it and another, or the number itself, is no less
+pub no_less : (b : Bool) (n to k : ℕ) → k ≡ (if b then max n to else n) → n ≤ k
+no_less true n to k is = omega (arith, is)
+no_less false n to k is = omega (arith, is)
+
 -- six rows that a stroke does not grow
 pub reached_held : (top bits to : ℕ) (canvas : CanvasState) → ((k : ℕ) → k < 6 → to ≤ reached canvas (top + k)) → (row : ℕ) → reached canvas row ≡ (if is_struck top bits row then max (reached canvas row) to else reached canvas row)
 reached_held top bits to canvas held row =

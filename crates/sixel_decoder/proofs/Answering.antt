@@ -1,16 +1,16 @@
 -- What a feed answers beside its count and its status: a session that was accepted had no fault, a feed takes no more bytes than there are,
 -- and once the end has come it takes none.
 use Rattle.std.proofs.Common.{◌≡◌, ℕ, ◌+◌, ◌≤◌, Bool, true, false, List, [], ◌∷◌, ◌++◌, refl, ap, sym, ◌∙◌, arith, Option, Some, None, Result, Ok, Err, length, length-append, subst}
-use Rattle.std.specs.Prelude.{◌==◌, nat_lt, is_none, is_some, IfOk, IfErr, MatchBool, OnOk}
+use Rattle.std.specs.Prelude.{◌==◌, nat_lt, is_none, is_some, if◌then◌else◌, IfOk, IfErr, MatchBool, OnOk}
 use Rattle.std.proofs.lemmas.List.{length-drop}
 use Rattle.std.proofs.lemmas.Bool.{false≢true}
 use Rattle.std.proofs.lemmas.Bool.Decides.{nat_tests}
 use Rattle.sixel_base.specs.declared.error.SixelError.{SixelError}
 use Rattle.sixel_base.specs.declared.error.SixelError.TheVariants.{InvalidDimensions, BufferSizeMismatch, InvalidData, NoSixelData, IntegerOverflow, OutOfMemory}
-use Rattle.sixel_base.specs.Fault.{Faults}
+use Rattle.sixel_base.specs.Fault.{Fault, Faults, IsFault, StreamFailed}
 use Rattle.sixel_base.specs.Bytes.{front, count, first_terminator}
 use Rattle.sixel_base.specs.History.{history_of}
-use Rattle.sixel_base.specs.Payload.{first_fault, fed_fault, settled, growths, payload_fault, payload_image, payload_registers}
+use Rattle.sixel_base.specs.Payload.{closed, first_fault, fed_fault, settled, growths, payload_fault, payload_image, payload_registers}
 use Rattle.sixel_base.specs.Stroke.{Origin}
 use Rattle.sixel_base.specs.declared.state.DecoderState.{DecoderState}
 use Rattle.sixel_base.specs.declared.status.SixelFeedResult.{SixelFeedResult}
@@ -22,7 +22,7 @@ use Rattle.sixel_decoder.specs.declared.frame.Frame.{Frame}
 use Rattle.sixel_decoder.specs.declared.painter.Picture.{Picture}
 use Rattle.sixel_decoder.specs.declared.dcs_stream.Phase.{Phase}
 use Rattle.sixel_decoder.specs.declared.dcs_stream.Phase.TheVariants as phases
-use Rattle.sixel_base.specs.Dcs.{Stage, Heading, Failing, Reading, introduced, stage, stage_status, stage_count, stage_fault, after_terminator, end_count, payload_count, payload_status, payload_status_by, dcs_status, dcs_count, dcs_fault, dcs_growths, ended_by, has_ended, has_come, IsSameString, IsStringImage, AreStringRegisters}
+use Rattle.sixel_base.specs.Dcs.{Stage, Heading, Failing, Reading, introduced, stage, stage_status, stage_count, stage_fault, after_terminator, end_count, payload_count, payload_status, payload_status_by, dcs_status, dcs_count, dcs_fault, dcs_growths, ended_by, end_fault, has_ended, has_come, IsSameString, IsStringImage, AreStringRegisters}
 use Rattle.sixel_base.specs.Status.{status_of}
 use Rattle.sixel_decoder.specs.inside.Frame.{StandsAfter}
 use Rattle.sixel_decoder.specs.inside.Following.{HasFollowed, IsInPayload, is_refused}
@@ -193,16 +193,39 @@ string_same limit (Err e) fed more stands = tt
 
 -- ---- what finishing a string in its payload answers
 
-has_come-ended : (o : Option ℕ) (rest : List ℕ) → has_come (ended_by o rest) ≡ true → has_ended (payload_status_by o rest) ≡ true
-has_come-ended None rest come = absurd cc
-has_come-ended (Some t) rest come = come
+has_come-ended : (o : Option ℕ) (rest : List ℕ) → has_ended (payload_status_by o rest) ≡ has_come (ended_by o rest)
+has_come-ended None rest = refl
+has_come-ended (Some t) rest = refl
 
--- the string of a payload whose end has come has ended
+-- a string in its payload has ended once the end has come
 pub string_ended : (intake : Session) (decoder : DecoderState) (ended : Option SixelDcsFeedStatus) (bytes : List ℕ) → IsInPayload intake decoder ended bytes
-    → has_come ended ≡ true → has_ended (dcs_status bytes) ≡ true
-string_ended intake decoder ended bytes is come =
+    → has_ended (dcs_status bytes) ≡ has_come ended
+string_ended intake decoder ended bytes is =
     ap (λ w. has_ended (stage_status w)) is.reading
-    ∙ has_come-ended (first_terminator intake.bytes) (after_terminator intake.bytes) (ap has_come (sym is.ending) ∙ come)
+    ∙ has_come-ended (first_terminator intake.bytes) (after_terminator intake.bytes) ∙ ap has_come (sym is.ending)
+
+sound_by : (limit : ℕ) (payload rest : List ℕ) (o : Option ℕ) → first_terminator payload ≡ o → has_come (ended_by o rest) ≡ true
+    → fed_fault limit payload ≡ None → payload_fault limit payload ≡ None
+sound_by limit payload rest None is come sound = absurd cc
+sound_by limit payload rest (Some t) is come sound =
+    ap (λ (w : Option ℕ). first_fault limit (if is_some w then history_of (front payload) else closed (history_of (front payload)))) (sym is) ∙ sound
+
+-- then its image is refused for want of memory alone
+pub string_refused : (result : Result Picture SixelError) (intake : Session) (decoder : DecoderState) (ended : Option SixelDcsFeedStatus) (bytes : List ℕ)
+    → IsInPayload intake decoder ended bytes → has_come ended ≡ true
+    → IfErr result (λ error. MatchBool intake.is_refused (IsFault error StreamFailed)
+    (Faults error (is_none (payload_fault intake.origin.pixel_limit intake.bytes)) (payload_fault intake.origin.pixel_limit intake.bytes)))
+    → IfErr result (λ error. Faults error (has_ended (dcs_status bytes)) (end_fault (dcs_status bytes)))
+string_refused (Ok picture) intake decoder ended bytes is come refused = tt
+string_refused (Err e) intake decoder ended bytes is come refused =
+    let limit = intake.origin.pixel_limit in
+    let over : has_ended (dcs_status bytes) ≡ true = string_ended intake decoder ended bytes is ∙ come in
+    let fine : payload_fault limit intake.bytes ≡ None =
+    sound_by limit intake.bytes (after_terminator intake.bytes) (first_terminator intake.bytes) refl (ap has_come (sym is.ending) ∙ come)
+    (ap (λ (o : Origin). fed_fault o.pixel_limit intake.bytes) is.start ∙ is.faultless) in
+    let told : Faults e (is_none (payload_fault limit intake.bytes)) (payload_fault limit intake.bytes) =
+    subst (λ (b : Bool). MatchBool b (IsFault e StreamFailed) (Faults e (is_none (payload_fault limit intake.bytes)) (payload_fault limit intake.bytes))) is.accepted refused in
+    rw over (subst (λ (f : Option Fault). Faults e (is_none f) f) fine told)
 
 pub string_image : (result : Result Picture SixelError) (intake : Session) (decoder : DecoderState) (ended : Option SixelDcsFeedStatus) (bytes : List ℕ)
     → IsInPayload intake decoder ended bytes → IfOk result (λ picture. picture_value picture ≡ payload_image intake.origin intake.bytes)
@@ -227,7 +250,7 @@ pub string_decoded : (result : Result Picture SixelError) (intake : Session) (de
     → IfOk result (λ picture. picture.registers ≡ payload_registers intake.origin intake.bytes)
     → IfOk result (λ picture. IsDecodedAs decoder (found (bytes ++ more)) (picture_value picture) picture.registers)
 string_decoded (Ok picture) intake decoder ended bytes more is come sound image defined =
-    let over = string_ended intake decoder ended bytes is come in
+    let over : has_ended (dcs_status bytes) ≡ true = string_ended intake decoder ended bytes is ∙ come in
     let at = found_reading bytes intake.origin.settings intake.bytes is.reading in (
       found_fault_ended decoder.pixel_limit bytes more over
           ∙ (ap (found_fault decoder.pixel_limit) at ∙ (ap (λ (o : Origin). payload_fault o.pixel_limit intake.bytes) (sym is.start) ∙ sound)),

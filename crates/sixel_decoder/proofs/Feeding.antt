@@ -16,7 +16,7 @@ use Rattle.sixel_base.specs.Status.{status_of}
 use Rattle.sixel_base.specs.declared.status.SixelFeedStatus.TheVariants.{NeedMoreData, Terminated}
 use Rattle.sixel_decoder.specs.inside.Frame.{Stands, StandsAfter, after, settled_after}
 use Rattle.sixel_decoder.specs.inside.Painter.{Shows}
-use Rattle.sixel_decoder.specs.inside.Runs.{IsPrintable}
+use Rattle.sixel_decoder.specs.inside.Runs.{IsPrintable, IsSixelByte}
 use Rattle.sixel_decoder.proofs.Framing.{Faults-along, fault_stays, growths-closed}
 
 -- ---- what is refused stays refused
@@ -131,8 +131,13 @@ reaches_pushed o frame frame' h index piece byte splits ends is r stands =
     }
 
 -- a sixel is printable
+pub sixel_from_test : (byte : ℕ) → is_sixel byte ≡ true → IsSixelByte byte
+sixel_from_test byte test = (grind (arith, nat_tests, test), grind (arith, nat_tests, test))
+
 pub printable_from_sixel : (byte : ℕ) → is_sixel byte ≡ true → IsPrintable byte
-printable_from_sixel byte test = (grind (arith, nat_tests, test), grind (arith, nat_tests, test))
+printable_from_sixel byte test =
+    let is = sixel_from_test byte test in
+    (omega (arith, is.0), is.1)
 
 -- what printable bytes at the front do to the words of a piece
 front-run : (n : ℕ) (bytes : List ℕ) → ((k : ℕ) → k < n → IsPrintable (get_or bytes k 0)) → n ≤ length bytes → front bytes ≡ take n bytes ++ front (drop n bytes)

@@ -5,10 +5,10 @@ use Rattle.sixel_base.specs.declared.error.SixelError.{SixelError}
 use Rattle.sixel_base.specs.Settings.{Settings}
 use Rattle.sixel_base.specs.declared.state.DecoderState.{DecoderState}
 use Rattle.sixel_base.specs.Stroke.{Origin}
-use Rattle.sixel_base.specs.Payload.{payload_image}
+use Rattle.sixel_base.specs.Payload.{payload_image, payload_registers}
 use Rattle.sixel_base.specs.declared.status.SixelDcsFeedStatus.{SixelDcsFeedStatus}
 use Rattle.sixel_base.specs.Header.{Headed, Open, Begun, Faulty, headed}
-use Rattle.sixel_base.specs.OneShot.{begins_with_p, without_first, after_introducer, found, found_in, found_by, Found, Payload, IsFoundImage}
+use Rattle.sixel_base.specs.OneShot.{begins_with_p, without_first, after_introducer, found, found_in, found_by, Found, Payload, IsFoundImage, AreFoundRegisters}
 use Rattle.sixel_base.specs.Dcs.{Introduced, Waiting, Absent, Entered, introduced, escaped, Reading, stage_after, stage_by, stage}
 use Rattle.sixel_decoder.specs.Session.{Session}
 use Rattle.sixel_decoder.specs.PictureView.{picture_value}
@@ -62,3 +62,11 @@ found_image (Ok picture) intake decoder ended bytes is image =
     subst (λ (w : Found). IsFoundImage decoder w (picture_value picture)) (sym (found_reading bytes intake.origin.settings intake.bytes is.reading))
     (image ∙ ap (λ (o : Origin). payload_image o intake.bytes) is.start)
 found_image (Err e) intake decoder ended bytes is image = tt
+
+pub found_registers : (result : Result Picture SixelError) (intake : Session) (decoder : DecoderState) (ended : Option SixelDcsFeedStatus) (bytes : List ℕ)
+    → IsInPayload intake decoder ended bytes → IfOk result (λ picture. picture.registers ≡ payload_registers intake.origin intake.bytes)
+    → IfOk result (λ picture. AreFoundRegisters decoder (found bytes) picture.registers)
+found_registers (Ok picture) intake decoder ended bytes is defined =
+    subst (λ (w : Found). AreFoundRegisters decoder w picture.registers) (sym (found_reading bytes intake.origin.settings intake.bytes is.reading))
+    (defined ∙ ap (λ (o : Origin). payload_registers o intake.bytes) is.start)
+found_registers (Err e) intake decoder ended bytes is defined = tt

@@ -1,6 +1,7 @@
 -- How a frame goes on from one history to the next.
-use Rattle.std.proofs.Common.{◌≡◌, ℕ, ◌≤◌, Bool, true, false, List, [], ◌∷◌, ◌++◌, refl, ap, sym, ◌∙◌, subst, arith, Option, Some, None}
-use Rattle.std.specs.Prelude.{IsTrue, nat_lt, IsSomeAnd}
+use Rattle.std.proofs.Common.{◌≡◌, ℕ, ◌+◌, ◌≤◌, Bool, true, false, List, [], ◌∷◌, ◌++◌, refl, ap, sym, ◌∙◌, subst, arith, Option, Some, None, Result, Ok, Err}
+use Rattle.std.specs.Prelude.{IsTrue, nat_lt, IsSomeAnd, IsOk}
+use Rattle.std.proofs.lemmas.Bool.{lt-ltb}
 use Rattle.sixel_base.specs.declared.error.SixelError.{SixelError}
 use Rattle.sixel_base.specs.declared.error.SixelError.TheVariants.{InvalidDimensions, BufferSizeMismatch, InvalidData, NoSixelData, IntegerOverflow, OutOfMemory}
 use Rattle.sixel_decoder.specs.declared.frame.Frame.{Frame}
@@ -11,9 +12,9 @@ use Rattle.sixel_base.specs.inside.Parameters.{Parameters, Keeps}
 use Rattle.sixel_base.specs.History.{Token, Sixel, Repeat, Raster, Color, Return, Newline, Skip, History, begun, longer, goes_on, read}
 use Rattle.sixel_base.specs.Stroke.{Origin}
 use Rattle.sixel_base.specs.Payload.{first_fault, closed, growths}
-use Rattle.sixel_decoder.specs.inside.Frame.{IsOpen, IsDrawn, StandsIn, Stands}
+use Rattle.sixel_decoder.specs.inside.Frame.{IsOpen, IsDrawn, StandsIn, Stands, Reads}
 use Rattle.sixel_decoder.specs.declared.painter.Painter.{Painter}
-use Rattle.sixel_decoder.specs.inside.Painter.{Shows}
+use Rattle.sixel_decoder.specs.inside.Painter.{Shows, Draws}
 use Rattle.sixel_base.proofs.Reading.{read_goes_on, read_ends}
 
 named_along : (e : SixelError) (found found' : Option Fault) → ((f : Fault) → found ≡ Some f → found' ≡ Some f)
@@ -103,9 +104,46 @@ refused_close e limit h byte ends is =
     Faults-along e false _ (first_fault limit h) (first_fault limit (closed (begun byte ∷ h))) (λ never. absurd cc) (λ f found. fault_stays limit (begun byte) h f found) is
     in subst (λ (w : History). Faults e (nat_lt (growths (closed h)) (growths (closed w))) (first_fault limit (closed w))) (sym (read_ends h byte ends)) told
 
+-- where nothing is open, a frame stands with a token that was drawn and that nothing goes on with
+pub stands_drawn : (o : Origin) (frame : Frame) (h : History) (token : Token) (byte : ℕ) → frame.phase ≡ Ground → begun byte ≡ token
+    → ((b : ℕ) → goes_on (token ∷ h) b ≡ false) → Shows o frame.painter (token ∷ h) → Stands o frame (begun byte ∷ h)
+stands_drawn o frame h token byte ground is ended shows =
+    let drawn : IsDrawn o frame (token ∷ h) = record { ended = ended; shows = shows } in
+    subst (λ (w : Token). Stands o frame (w ∷ h)) (sym is) (subst (λ (p : Phase). StandsIn p o frame (token ∷ h)) (sym ground) drawn)
+
 -- where nothing is open, a byte with no meaning leaves a frame that stands
 pub stands_skip : (o : Origin) (frame : Frame) (h : History) (byte : ℕ) → frame.phase ≡ Ground → begun byte ≡ Skip byte
     → Shows o frame.painter h → Stands o frame (begun byte ∷ h)
 stands_skip o frame h byte ground skips shows =
-    let drawn : IsDrawn o frame (Skip byte ∷ h) = record { ended = λ b. refl; shows = shows_skip o frame.painter h byte shows } in
-    subst (λ (token : Token). Stands o frame (token ∷ h)) (sym skips) (subst (λ (p : Phase). StandsIn p o frame (Skip byte ∷ h)) (sym ground) drawn)
+    stands_drawn o frame h (Skip byte) byte ground skips (λ b. refl) (shows_skip o frame.painter h byte shows)
+
+-- there a sixel is read as it is drawn
+pub reads_sixel : {A : Type 0} → (result : Result A SixelError) (o : Origin) (frame : Frame) (h : History) (byte bits : ℕ) → frame.phase ≡ Ground
+    → begun byte ≡ Sixel bits → Draws result o frame.painter (Sixel bits ∷ h) true → Reads result o frame h (begun byte ∷ h)
+reads_sixel (Ok x) o frame h byte bits ground is shows = stands_drawn o frame h (Sixel bits) byte ground is (λ b. refl) shows
+reads_sixel (Err e) o frame h byte bits ground is refused =
+    let grown : nat_lt (growths (closed h)) (growths h + 1) ≡ true = lt-ltb (growths (closed h)) (growths h + 1) (omega (arith, growths-closed h)) in
+    rw (is, grown) refused
+
+-- and so is a step to the next band
+pub reads_newline : {A : Type 0} → (result : Result A SixelError) (o : Origin) (frame : Frame) (h : History) (byte : ℕ) → frame.phase ≡ Ground
+    → begun byte ≡ Newline → Draws result o frame.painter (Newline ∷ h) false → Reads result o frame h (begun byte ∷ h)
+reads_newline (Ok x) o frame h byte ground is shows = stands_drawn o frame h Newline byte ground is (λ b. refl) shows
+reads_newline (Err e) o frame h byte ground is refused = rw is (Faults-along e false _ _ _ (λ never. absurd cc) (λ f found. found) refused)
+
+-- a command that was opened is the newest token
+pub opens : (command : List ℕ → Token) (o : Origin) (new : Frame) (h : History) (byte : ℕ) → begun byte ≡ command [] → Keeps new.parameters []
+    → Shows o new.painter h → IsOpen command o new (begun byte ∷ h)
+opens command o new h byte is keeps shows = record {
+  text = [];
+  older = h;
+  newest = ap (λ (w : Token). w ∷ h) is;
+  keeps = keeps;
+  shows = shows;
+}
+
+pub reads_opened : {A : Type 0} → (result : Result A SixelError) (phase : Phase) (o : Origin) (new : Frame) (h after : History) → IsOk result
+    → new.phase ≡ phase → StandsIn phase o new after → Reads result o new h after
+reads_opened (Ok x) phase o new h after ok opened stands =
+    subst (λ (p : Phase). StandsIn p o new after) (sym opened) stands
+reads_opened (Err e) phase o new h after ok opened stands = absurd cc

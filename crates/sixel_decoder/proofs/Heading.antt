@@ -1,11 +1,13 @@
 -- How far a header has been read, and what stands where it ends.
-use Rattle.std.proofs.Common.{◌≡◌, ℕ, ◌+◌, ◌<◌, ◌≤◌, true, false, cond, List, [], ◌∷◌, ◌++◌, length, get_or, drop, append_assoc, sym, ap, ◌∙◌, subst, Some, None}
-use Rattle.std.specs.Prelude.{◌==◌, IsSomeAnd}
+use Rattle.std.proofs.Common.{◌≡◌, ℕ, ◌+◌, ◌<◌, ◌≤◌, Bool, true, false, cond, List, [], ◌∷◌, ◌++◌, length, get_or, drop, append_assoc, arith, refl, sym, ap, ◌∙◌, subst, Some, None}
+use Rattle.std.specs.Prelude.{◌==◌, IsSomeAnd, if◌then◌else◌}
+use Rattle.std.proofs.lemmas.Bool.{ne_eqb}
+use Rattle.std.proofs.lemmas.Bool.Decides.{nat_tests}
 use Rattle.std.proofs.lemmas.List.{append-nil, drop_all}
 use Rattle.sixel_base.specs.declared.error.SixelError.{SixelError}
-use Rattle.sixel_base.specs.Bytes.{is_terminator, carrying}
+use Rattle.sixel_base.specs.Bytes.{is_ignored, is_parameter, is_terminator, carrying}
 use Rattle.sixel_base.specs.Fault.{IsFault, Malformed, BadHeader}
-use Rattle.sixel_base.specs.inside.Parameters.{Parameters, Keeps}
+use Rattle.sixel_base.specs.inside.Parameters.{IsParameterByte, Parameters, Keeps}
 use Rattle.sixel_base.specs.Header.{Open, Begun, Faulty, headed, headed_by, is_header, header_front, header_rest, header_text, command_fault}
 use Rattle.sixel_decoder.specs.inside.Heading.{IsHeaderFault}
 use Rattle.sixel_decoder.proofs.Entering.{header_rest-one, header_rest-open, header_text-one, header_text-open}
@@ -76,3 +78,13 @@ refused_at e ps index bytes within r is fault =
 -- a header that the bytes end in
 pub open_at : (ps : Parameters) (index : ℕ) (bytes : List ℕ) → length bytes ≤ index → ReadsHeader ps index bytes → headed bytes ≡ Open
 open_at ps index bytes past r = ap headed_by (sym r.rest ∙ ap header_rest (drop_all index bytes past))
+
+-- digits and semicolons carry meaning
+pub carries_parameter : (byte : ℕ) → IsParameterByte byte → is_ignored byte ≡ false
+carries_parameter byte is = grind (arith, nat_tests)
+
+-- what a byte means that the header neither goes on with nor ends at
+pub no_command : (e : SixelError) (byte : ℕ) (ends : Bool) → is_parameter byte ≡ false → is_ignored byte ≡ false → (byte ≡ 113 → ⊥) → is_terminator byte ≡ ends
+    → IsFault e (if ends then Malformed else BadHeader) → (is_header byte ≡ false) × IsSomeAnd (command_fault byte) (IsFault e)
+no_command e byte true other carries not ends told = rw (other, carries, ne_eqb byte 113 not, ends) (refl, told)
+no_command e byte false other carries not ends told = rw (other, carries, ne_eqb byte 113 not, ends) (refl, told)

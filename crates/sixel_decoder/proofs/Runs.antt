@@ -142,6 +142,21 @@ columns_most from end most le =
       | inr none ↦ rw (le-ltb 0 end none) (omega arith)
     ]
 
+-- where each row was made to hold as many columns as the run's last dot there is to have
+pub Holds-widened : (old new : CanvasState) (top from : ℕ) (run columns : List ℕ) → ((column row : ℕ) → shown new column row ≡ shown old column row)
+    → ((row : ℕ) → reached new row ≡ (if nat_le top row && nat_lt row (top + 6) then max (reached old row) (get_or columns (row - top) 0) else reached old row))
+    → ((bit : ℕ) → bit < 6 → get_or columns bit 0 ≡ columns_for from (end_of bit run)) → Holds old new top from run
+Holds-widened old new top from run columns same grown value = record {
+  shows = same;
+  inside = λ k six.
+      let row : top + k - top ≡ k = omega arith in
+      grown (top + k) ∙ rw (le-leb top (top + k) (omega arith), lt-ltb (top + k) (top + 6) (omega (arith, six)), row, value k six) refl;
+  apart = λ row past. elim past [
+    | inl above ↦ grown row ∙ rw (lt-leb top row above) refl
+    | inr below ↦ grown row ∙ rw (le-leb top row (omega (arith, below)), le-ltb row (top + 6) below) refl
+  ];
+}
+
 -- what a canvas holds where each row holds the columns of the whole run
 pub Holds-held : (canvas : CanvasState) (top from : ℕ) (run : List ℕ) → ((k : ℕ) → k < 6 → from + length run ≤ reached canvas (top + k)) → Holds canvas canvas top from run
 Holds-held canvas top from run held = record {

@@ -52,18 +52,18 @@ fn step(phase: &mut Phase, alloc: Global, decoder: &DecoderState, byte: u8) -> R
     match phase {
         Phase::Start => match byte {
             0x1b => {
-                *phase = Phase::Escape;
+                go_to(phase, Phase::Escape);
                 Ok(())
             }
             0x90 => {
-                *phase = Phase::Header(Header::new());
+                go_to(phase, Phase::Header(Header::new()));
                 Ok(())
             }
             _ => Err(SixelError::NoSixelData),
         },
         Phase::Escape => match byte {
             b'P' => {
-                *phase = Phase::Header(Header::new());
+                go_to(phase, Phase::Header(Header::new()));
                 Ok(())
             }
             _ => Err(SixelError::NoSixelData),
@@ -71,13 +71,23 @@ fn step(phase: &mut Phase, alloc: Global, decoder: &DecoderState, byte: u8) -> R
         Phase::Header(header) => match header.push(byte) {
             Ok(None) => Ok(()),
             Ok(Some(settings)) => {
-                *phase = Phase::Payload(Intake::new(alloc, *decoder, settings));
+                go_to(
+                    phase,
+                    Phase::Payload(Intake::new(alloc, *decoder, settings)),
+                );
                 Ok(())
             }
             Err(error) => Err(error),
         },
         Phase::Payload(_) | Phase::Refused => Ok(()),
     }
+}
+
+/// Leaves the phase for the next.
+fn go_to(phase: &mut Phase, next: Phase)
+    ensures { phase.new ≡ next }
+{
+    *phase = next;
 }
 
 /// Reads a piece up to where the payload begins, and answers how many bytes that are.

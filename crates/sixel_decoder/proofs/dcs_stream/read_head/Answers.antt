@@ -1,4 +1,5 @@
-use Rattle.std.proofs.Common.{◌≡◌, ◌++◌, ◌∷◌, [], true, false, List, ℕ, length, get_or, take, drop, ◌+◌, refl, sym, subst, arith}
+use Rattle.std.proofs.Common.{◌≡◌, ◌++◌, ◌∷◌, [], true, false, List, ℕ, length, get_or, take, drop, ◌+◌, refl, sym, ◌∙◌, subst, arith}
+use Rattle.std.proofs.lemmas.Bool.{false≢true}
 use Rattle.std.proofs.lemmas.List.{append-nil}
 use Rattle.std.proofs.lemmas.Result.{err_from_is_err_and}
 use Rattle.sixel_base.specs.Dcs.{stage}
@@ -15,15 +16,15 @@ head-preserved c = λ before ended fine followed.
     let piece = c.args.piece.now in
     let index = c.head.index in
     let now = c.head.invariant before ended fine followed in
-    let head : is_head c.head.phase ≡ true = cc (c.is_head.ensures, c.if-not-is_head.false) in
+    let head : is_head c.head.phase ≡ true = sym c.is_head.ensures ∙ c.if-not-is_head.false in
     let stepped = c.in_ok-step.ensures (before ++ take index piece) ended head now.1 in
     (stepped.0, subst (λ (w : List ℕ). HasFollowed c.step.new.phase c.args.decoder.now ended w) (pieces_step before piece index c.head-test.true) stepped.1)
 
 pub returns-then-not-is_head-clause-heads : goal.returns-then-not-is_head-clause-heads
 returns-then-not-is_head-clause-heads c = λ before ended fine followed.
     let now = c.head.invariant before ended fine followed in
-    let payload : is_head c.head.phase ≡ false = cc (c.is_head.ensures, c.if-not-is_head.true) in
-    (omega (arith, c.head-test.true), now.0, now.1, λ head. absurd (cc (head, payload)))
+    let payload : is_head c.head.phase ≡ false = sym c.is_head.ensures ∙ c.if-not-is_head.true in
+    (omega (arith, c.head-test.true), now.0, now.1, λ head. absurd (false≢true (sym payload ∙ head)))
 
 pub returns-clause-heads : goal.returns-clause-heads
 returns-clause-heads c = λ before ended fine followed.
@@ -37,7 +38,7 @@ returns-in_err-step-clause-heads c = λ before ended fine followed.
     let piece = c.args.piece.now in
     let index = c.head.index in
     let now = c.head.invariant before ended fine followed in
-    let head : is_head c.head.phase ≡ true = cc (c.is_head.ensures, c.if-not-is_head.false) in
+    let head : is_head c.head.phase ≡ true = sym c.is_head.ensures ∙ c.if-not-is_head.false in
     let refused = c.in_err-step.ensures (before ++ take index piece) ended head now.1 in
     let e = c.in_err-step.field-0.0 in
     let p = err_from_is_err_and c.from_residual.result c.from_residual.ensures.1 in

@@ -10,6 +10,28 @@ use Rattle.sixel_decoder.specs.declared.dcs_stream.Phase.{Phase}
 use Rattle.sixel_decoder.proofs.Entering.{header_goes_on, header_begins, header_refuses}
 use Rattle.sixel_decoder.proofs.dcs_stream.step.Goals as goal
 
+pub returns-in-27 : goal.returns-in-27
+returns-in-27 c = λ before ended head is.
+    let it : (before ≡ []) × (ended ≡ None) =
+    subst (λ (p : Phase). HasFollowed p c.args.decoder.now ended before) c.in-Start.is is in
+    rw (c.go_to.ensures, c.in-27.is, it.0) (refl, (refl, it.1))
+
+pub returns-in-144 : goal.returns-in-144
+returns-in-144 c = λ before ended head is.
+    let it : (before ≡ []) × (ended ≡ None) =
+    subst (λ (p : Phase). HasFollowed p c.args.decoder.now ended before) c.in-Start.is is in
+    let begun : IsInHeader c.new.result (144 ∷ []) =
+    record { rest = []; entered = refl; going = refl; keeps = c.new.ensures } in
+    rw (c.go_to-in-144.ensures, c.in-144.is, it.0) (refl, (begun, it.1))
+
+pub returns-in-80 : goal.returns-in-80
+returns-in-80 c = λ before ended head is.
+    let it : (before ≡ 27 ∷ []) × (ended ≡ None) =
+    subst (λ (p : Phase). HasFollowed p c.args.decoder.now ended before) c.in-Escape.is is in
+    let begun : IsInHeader c.new-in-80.result (27 ∷ 80 ∷ []) =
+    record { rest = []; entered = refl; going = refl; keeps = c.new-in-80.ensures } in
+    rw (c.go_to-in-80.ensures, c.in-80.is, it.0) (refl, (begun, it.1))
+
 pub returns-in-Ok-None : goal.returns-in-Ok-None
 returns-in-Ok-None c = λ before ended head is.
     let it : IsInHeader c.in-Header.header before × (ended ≡ None) = subst (λ (p : Phase). HasFollowed p c.args.decoder.now ended before) c.in-Header.is is in
@@ -37,6 +59,7 @@ returns-in-Ok-Some c = λ before ended head is.
       faultless = refl;
       ending = it.1;
     } in
+    rw c.go_to-in-Ok-Some.ensures
     (refl, subst (λ (w : Session). IsInPayload w c.args.decoder.now ended (before ++ c.args.byte ∷ [])) (sym c.new-in-Ok-Some.ensures) begun)
 
 pub returns-in-Err : goal.returns-in-Err

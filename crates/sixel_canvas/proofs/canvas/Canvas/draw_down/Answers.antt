@@ -1,13 +1,14 @@
-use Rattle.std.proofs.Common.{◌≡◌, [], ℕ, ◌+◌, ◌≤◌, ◌&&◌, length, get_or, refl, sym, ap, inl, inr, arith}
+use Rattle.std.proofs.Common.{◌≡◌, [], ℕ, ◌+◌, ◌≤◌, ◌&&◌, length, get_or, refl, sym, ap, arith}
 use Rattle.std.specs.Prelude.{nat_lt}
-use Rattle.std.proofs.lemmas.Bool.{cases_Bool, le-ltb, true≢false}
+use Rattle.std.proofs.lemmas.Bool.{le-ltb, true≢false}
 use Rattle.sixel_base.specs.Picture.{is_struck}
 use Rattle.sixel_canvas.specs.Row.{RowState, empty_row}
-use Rattle.sixel_canvas.specs.inside.Canvas.{CanvasState, row_at}
+use Rattle.sixel_canvas.specs.inside.Canvas.{CanvasState, reached, row_at}
 use Rattle.sixel_canvas.specs.inside.Loan.{share}
+use Rattle.sixel_canvas.proofs.OneRow.{made_from_reached}
 use Rattle.sixel_canvas.proofs.Strokes.{length-struck_row, reached-struck, struck_row}
 use Rattle.sixel_canvas.proofs.Loans.{IsBounded-rows, IsLent-made, IsLent-set, len_at-side}
-use Rattle.sixel_canvas.proofs.Underway.{IsUnderway-hit, IsUnderway-miss, IsUnderway-none, is_struck-above, is_struck-hit, is_struck-miss, reached-all, shown-all}
+use Rattle.sixel_canvas.proofs.Underway.{IsUnderway-hit, IsUnderway-miss, IsUnderway-none, is_struck-above, is_struck-hit, is_struck-miss, no_less, reached-all, shown-all}
 use Rattle.sixel_canvas.proofs.canvas.Canvas.draw_down.Goals as goal
 use Rattle.sixel_canvas.proofs.canvas.Canvas.draw_down.Goals.{then-bits-bit-eq1+in_ok-strike, else-bits-bit-eq1}
 
@@ -93,12 +94,8 @@ returns-clause-grown c =
 
 pub returns-clause-never_less : goal.returns-clause-never_less
 returns-clause-never_less c = λ row.
-    let canvas = c.struck.self-inside in
-    let grown = reached-all (share canvas.loan.top canvas.loan.room) c.args.from c.args.to c.args.top c.args.bits c.args.color c.struck.bit c.args.self.now canvas.background canvas.rows.items c.struck.invariant.0 c.struck-test.false c.requires.ordered row in
-    elim (cases_Bool (is_struck c.args.top c.args.bits row)) [
-      | inl hit ↦ omega (arith, rw hit at grown)
-      | inr miss ↦ omega (arith, rw miss at grown)
-    ]
+    no_less (is_struck c.args.top c.args.bits row) (reached c.args.self.now row) c.args.to _
+    (returns-clause-grown c row)
 
 pub returns-in_err-strike-clause-never_less : goal.returns-in_err-strike-clause-never_less
 returns-in_err-strike-clause-never_less c = λ row.
@@ -108,10 +105,7 @@ returns-in_err-strike-clause-never_less c = λ row.
     let hit = nat_lt row (c.args.top + c.struck.bit) && is_struck c.args.top c.args.bits row in
     let grown = reached-struck (share loan.top loan.room row) c.args.from c.args.to c.args.color hit (row_at canvas row) (get_or c.struck.self-inside.rows.items row (empty_row canvas.background)) c.requires.ordered (before.struck row) in
     rw (before.over, c.in_err-strike.ensures.refused)
-    (elim (cases_Bool hit) [
-      | inl struck ↦ omega (arith, rw struck at grown)
-      | inr left ↦ omega (arith, rw left at grown)
-    ])
+    (no_less hit (reached canvas row) c.args.to _ grown)
 
 pub returns-in_err-strike-clause-held : goal.returns-in_err-strike-clause-held
 returns-in_err-strike-clause-held c = λ some held.
@@ -128,3 +122,31 @@ returns-clause-bounded c =
     let done = c.struck.invariant.0 in
     let loan = c.struck.self-inside.loan in
     rw done.over (IsBounded-rows c.args.self.now.background c.struck.self-inside.rows.items loan.top loan.credit loan.room done.few done.sound c.struck.invariant.1)
+
+pub invariant_of-self-in-struck : goal.invariant_of-self-in-struck
+invariant_of-self-in-struck c =
+    let done = c.struck.invariant.0 in
+    (done.few, rw done.over done.sound, c.struck.invariant.1)
+
+pub invariant_of-self-in_err-strike : goal.invariant_of-self-in_err-strike
+invariant_of-self-in_err-strike c =
+    let before = c.struck.invariant.0 in
+    rw (before.over, c.in_err-strike.ensures.refused)
+    (before.few, before.sound, c.struck.invariant.1)
+
+pub returns-in_err-make_rows-clause-never_less : goal.returns-in_err-make_rows-clause-never_less
+returns-in_err-make_rows-clause-never_less c = λ row.
+    omega (
+      arith,
+      ap (λ (r : RowState). length r.pixels) (c.make_rows.ensures.same row),
+      ap (λ (s : CanvasState). reached s row) c.self.view_is,
+    )
+
+pub returns-in_err-make_rows-clause-held : goal.returns-in_err-make_rows-clause-held
+returns-in_err-make_rows-clause-held c = λ some held.
+    let canvas = c.args.self.now in
+    let made = made_from_reached canvas (c.args.top + 5)
+    (omega (arith, some, held 5 (omega arith))) in
+    let enough : c.args.top + 6 ≤ length c.self.inside.rows.items =
+    omega (arith, made, ap (λ (s : CanvasState). length s.rows) c.self.view_is) in
+    absurd (true≢false (sym (c.in_err-make_rows.ensures.made (omega (arith, enough)))))

@@ -1,10 +1,11 @@
-use Rattle.std.proofs.Common.{◌≡◌, [], ◌<◌, max, length, get_or, ap, ◌∙◌, refl, arith}
+use Rattle.std.proofs.Common.{◌≡◌, [], ◌+◌, ◌<◌, ◌≤◌, max, length, get_or, sym, ap, ◌∙◌, refl, arith}
+use Rattle.std.proofs.lemmas.Bool.{true≢false}
 use Rattle.std.specs.Prelude.{◌==◌, if◌then◌else◌}
 use Rattle.sixel_canvas.specs.Row.{RowState, empty_row}
 use Rattle.sixel_canvas.specs.inside.Loan.{lent_to, share}
 use Rattle.sixel_canvas.proofs.RowStates.{length-reached_to}
 use Rattle.sixel_canvas.specs.inside.Canvas.{CanvasState, shown, reached}
-use Rattle.sixel_canvas.proofs.OneRow.{IsBounded-row_set, length-row_reached, shown-row_reached, sound-row_set}
+use Rattle.sixel_canvas.proofs.OneRow.{IsBounded-row_set, length-row_reached, made_from_reached, shown-row_reached, sound-row_set}
 use Rattle.sixel_canvas.proofs.Loans.{IsBounded-rows, IsLent-made, IsLent-set}
 use Rattle.sixel_canvas.proofs.canvas.Canvas.reach_down.Goals as goal
 
@@ -81,3 +82,33 @@ returns-clause-grown c = λ k.
     ap (λ (r : RowState). length r.pixels) (c.make_rows.ensures.same k) ∙ ap (λ (s : CanvasState). reached s k) c.self.view_is in
     length-row_reached first c.args.columns c.args.row rows c.reach.new.rows.items c.self.inside.background c.in_ok-reach.ensures.ok made k
     ∙ ap (λ n. if k == c.args.row then max n c.args.columns else n) before
+
+pub returns-in_err-make_rows-clause-shown : goal.returns-in_err-make_rows-clause-shown
+returns-in_err-make_rows-clause-shown c = λ column k.
+    ap (λ (r : RowState). get_or r.pixels column c.self.inside.background)
+    (c.make_rows.ensures.same k)
+    ∙ ap (λ (s : CanvasState). shown s column k) c.self.view_is
+
+pub returns-in_err-reach-clause-shown : goal.returns-in_err-reach-clause-shown
+returns-in_err-reach-clause-shown c = λ column k.
+    let background = c.self.inside.background in
+    ap (λ rs. get_or (get_or rs k (empty_row background)).pixels column background)
+    c.in_err-reach.ensures.refused
+    ∙ ap (λ (r : RowState). get_or r.pixels column background) (c.make_rows.ensures.same k)
+    ∙ ap (λ (s : CanvasState). shown s column k) c.self.view_is
+
+pub returns-in_err-make_rows-clause-held : goal.returns-in_err-make_rows-clause-held
+returns-in_err-make_rows-clause-held c = λ some held.
+    let made = made_from_reached c.args.self.now c.args.row (omega (arith, some, held)) in
+    let enough : c.args.row + 1 ≤ length c.self.inside.rows.items =
+    omega (arith, made, ap (λ (s : CanvasState). length s.rows) c.self.view_is) in
+    absurd (true≢false (sym (c.in_err-make_rows.ensures.made (omega (arith, enough)))))
+
+pub returns-in_err-reach-clause-held : goal.returns-in_err-reach-clause-held
+returns-in_err-reach-clause-held c = λ some held.
+    let row = c.args.row in
+    let empty = empty_row c.self.inside.background in
+    let same = ap (λ (r : RowState). length r.pixels) (c.make_rows.ensures.same row) in
+    let fits : c.args.columns ≤ length (get_or c.make_rows.new.rows.items row empty).pixels =
+    omega (arith, held, same, ap (λ (s : CanvasState). reached s row) c.self.view_is) in
+    absurd (true≢false (sym (c.in_err-reach.ensures.held empty fits)))

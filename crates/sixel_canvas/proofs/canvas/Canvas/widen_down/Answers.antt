@@ -1,14 +1,15 @@
-use Rattle.std.proofs.Common.{◌≡◌, [], ℕ, ◌+◌, ◌-◌, ◌≤◌, length, get_or, refl, sym, ap, ◌∙◌, arith}
+use Rattle.std.proofs.Common.{◌≡◌, [], ℕ, ◌+◌, ◌-◌, ◌≤◌, ◌&&◌, length, get_or, refl, sym, ap, ◌∙◌, arith}
 use Rattle.std.proofs.Math.ListN.{set}
-use Rattle.sixel_canvas.specs.Row.{empty_row}
+use Rattle.std.specs.Prelude.{nat_lt}
+use Rattle.sixel_canvas.specs.Row.{RowState, empty_row}
 use Rattle.sixel_canvas.specs.inside.Loan.{lent_to, share}
 use Rattle.sixel_canvas.proofs.RowStates.{length-reached_to}
-use Rattle.sixel_canvas.specs.inside.Canvas.{CanvasState}
-use Rattle.std.proofs.lemmas.Bool.{true≢false}
+use Rattle.sixel_canvas.specs.inside.Canvas.{CanvasState, reached, row_at}
+use Rattle.std.proofs.lemmas.Bool.{le-ltb, true≢false}
 use Rattle.sixel_canvas.proofs.OneRow.{made_from_reached}
 use Rattle.sixel_canvas.proofs.Loans.{IsBounded-rows, IsLent-made, IsLent-set, len_at-side}
-use Rattle.sixel_canvas.proofs.Underway.{IsUnderway-hit, IsUnderway-none, in_band, in_band-above, in_band-inside}
-use Rattle.sixel_canvas.proofs.Widening.{reached-widened, shown-widened, widened_at}
+use Rattle.sixel_canvas.proofs.Underway.{IsUnderway-hit, IsUnderway-none, in_band, in_band-above, in_band-inside, no_less}
+use Rattle.sixel_canvas.proofs.Widening.{reached-widened, shown-widened, widened_at, widened_length}
 use Rattle.sixel_canvas.proofs.canvas.Canvas.widen_down.Goals as goal
 
 pub invariant_of-self : goal.invariant_of-self
@@ -95,5 +96,55 @@ pub returns-in_err-make_rows-clause-held : goal.returns-in_err-make_rows-clause-
 returns-in_err-make_rows-clause-held c = λ held.
     let canvas = c.args.self.now in
     let made = made_from_reached canvas (c.args.top + 5) (omega (arith, held 5 (omega arith))) in
-    let enough : c.args.top + 6 ≤ length c.self.inside.rows.items = omega (arith, made, ap (λ (s : CanvasState). length s.rows) c.self.view_is) in
+    let enough : c.args.top + 6 ≤ length c.self.inside.rows.items =
+    omega (arith, made, ap (λ (s : CanvasState). length s.rows) c.self.view_is) in
     absurd (true≢false (sym (c.in_err-make_rows.ensures.made (omega (arith, enough)))))
+
+pub invariant_of-self-in-widened : goal.invariant_of-self-in-widened
+invariant_of-self-in-widened c =
+    let done = c.widened.invariant.0 in
+    (done.few, rw done.over done.sound, c.widened.invariant.1)
+
+pub invariant_of-self-in_err-reach : goal.invariant_of-self-in_err-reach
+invariant_of-self-in_err-reach c =
+    let before = c.widened.invariant.0 in
+    rw (before.over, c.in_err-reach.ensures.refused)
+    (before.few, before.sound, c.widened.invariant.1)
+
+pub returns-in_err-make_rows-clause-never_less : goal.returns-in_err-make_rows-clause-never_less
+returns-in_err-make_rows-clause-never_less c = λ row.
+    omega (
+      arith,
+      ap (λ (r : RowState). length r.pixels) (c.make_rows.ensures.same row),
+      ap (λ (s : CanvasState). reached s row) c.self.view_is,
+    )
+
+pub returns-in_err-reach-clause-never_less : goal.returns-in_err-reach-clause-never_less
+returns-in_err-reach-clause-never_less c = λ row.
+    let before = c.widened.invariant.0 in
+    let loan = c.widened.self-inside.loan in
+    let canvas = c.args.self.now in
+    let hit = nat_lt row (c.args.top + c.widened.bit) && in_band c.args.top row in
+    let wide = get_or c.args.columns (row - c.args.top) 0 in
+    let grown = widened_length hit (share loan.top loan.room row) wide (row_at canvas row)
+    (get_or c.widened.self-inside.rows.items row (empty_row canvas.background))
+    (before.struck row) in
+    rw (before.over, c.in_err-reach.ensures.refused) (no_less hit (reached canvas row) wide _ grown)
+
+pub returns-in_err-reach-clause-held : goal.returns-in_err-reach-clause-held
+returns-in_err-reach-clause-held c = λ held.
+    let bit = c.widened.bit in
+    let rows = c.widened.self-inside.rows.items in
+    let row = c.args.top + bit in
+    let canvas = c.args.self.now in
+    let empty = empty_row canvas.background in
+    let old : get_or rows row empty ≡ row_at canvas row =
+    rw (le-ltb row row (omega arith)) at (c.widened.invariant.0.struck row) in
+    let fits : get_or c.args.columns bit 0 ≤ length (get_or rows row empty).pixels =
+    omega (arith, held bit c.widened-test.true, ap (λ (r : RowState). length r.pixels) old) in
+    absurd (true≢false (sym (c.in_err-reach.ensures.held empty fits)))
+
+pub returns-clause-never_less : goal.returns-clause-never_less
+returns-clause-never_less c = λ row.
+    no_less (in_band c.args.top row) (reached c.args.self.now row)
+    (get_or c.args.columns (row - c.args.top) 0) _ (returns-clause-grown c row)

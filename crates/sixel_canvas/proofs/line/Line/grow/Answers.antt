@@ -1,5 +1,5 @@
 use Rattle.std.proofs.Common.{◌≡◌, ◌+◌, ◌-◌, ◌≤◌, ◌++◌, length, replicate, sym, ap, ◌∙◌, length-append, arith}
-use Rattle.std.proofs.lemmas.Bool.{lt-ltb, le-ltb}
+use Rattle.std.proofs.lemmas.Bool.{lt-ltb, le-ltb, true≢false}
 use Rattle.std.proofs.lemmas.List.{length-replicate}
 use Rattle.sixel_canvas.specs.Row.{RowState, row_state, writes_for}
 use Rattle.sixel_canvas.proofs.Strokes.{struck_row, row_state-struck, IsRoomy-struck_row}
@@ -40,3 +40,37 @@ invariant_of-self-2 c = (
 
 pub returns-clause-roomy : goal.returns-clause-roomy
 returns-clause-roomy c = (invariant_of-self-2 c).1
+
+pub invariant_of-self : goal.invariant_of-self
+invariant_of-self c = (
+  omega (arith, c.self.invariant.0, c.make_room.ensures.never_less),
+  rw c.make_room.ensures.items c.self.invariant.1,
+)
+
+pub returns-in_err-room-clause-roomy : goal.returns-in_err-room-clause-roomy
+returns-in_err-room-clause-roomy c = (invariant_of-self c).1
+
+pub invariant_of-self-in_err-fill_up : goal.invariant_of-self-in_err-fill_up
+invariant_of-self-in_err-fill_up c = absurd (true≢false (sym c.in_err-fill_up.ensures.ok))
+
+pub returns-in_err-fill_up-clause-within_room : goal.returns-in_err-fill_up-clause-within_room
+returns-in_err-fill_up-clause-within_room c = absurd (true≢false (sym c.in_err-fill_up.ensures.ok))
+
+pub returns-in_err-fill_up-clause-refused : goal.returns-in_err-fill_up-clause-refused
+returns-in_err-fill_up-clause-refused c = absurd (true≢false (sym c.in_err-fill_up.ensures.ok))
+
+pub returns-in_err-fill_up-clause-roomy : goal.returns-in_err-fill_up-clause-roomy
+returns-in_err-fill_up-clause-roomy c = absurd (true≢false (sym c.in_err-fill_up.ensures.ok))
+
+pub invariant_of-self-in_err-fill_up-2 : goal.invariant_of-self-in_err-fill_up-2
+invariant_of-self-in_err-fill_up-2 c = absurd (true≢false (sym c.in_err-fill_up-2.ensures.ok))
+
+pub returns-in_err-fill_up-2-clause-within_room : goal.returns-in_err-fill_up-2-clause-within_room
+returns-in_err-fill_up-2-clause-within_room c =
+    absurd (true≢false (sym c.in_err-fill_up-2.ensures.ok))
+
+pub returns-in_err-fill_up-2-clause-refused : goal.returns-in_err-fill_up-2-clause-refused
+returns-in_err-fill_up-2-clause-refused c = absurd (true≢false (sym c.in_err-fill_up-2.ensures.ok))
+
+pub returns-in_err-fill_up-2-clause-roomy : goal.returns-in_err-fill_up-2-clause-roomy
+returns-in_err-fill_up-2-clause-roomy c = absurd (true≢false (sym c.in_err-fill_up-2.ensures.ok))

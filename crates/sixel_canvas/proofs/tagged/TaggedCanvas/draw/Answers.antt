@@ -1,4 +1,7 @@
-use Rattle.std.proofs.Common.{◌∙◌, arith}
+use Rattle.std.proofs.Common.{◌≡◌, ◌+◌, ap, ◌∙◌, arith}
+use Rattle.std.specs.Prelude.{if◌then◌else◌}
+use Rattle.sixel_base.specs.Picture.{covers}
+use Rattle.sixel_canvas.specs.inside.Canvas.{shown}
 use Rattle.sixel_canvas.proofs.Spread.{IsBounded-counted}
 use Rattle.sixel_canvas.proofs.Underway.{reached_held}
 use Rattle.sixel_canvas.proofs.tagged.TaggedCanvas.draw.Goals as goal
@@ -11,3 +14,23 @@ returns-then-held-to-clause-grown c = λ row.
 pub returns-then-bits-eq0-clause-bounded : goal.returns-then-bits-eq0-clause-bounded
 returns-then-bits-eq0-clause-bounded c =
     rw (← c.self.view_is) (IsBounded-counted c.self.inside.sheet c.self.inside.tags c.self.inside.band.top c.self.inside.band.painted c.self.inside.band.spread c.self.inside.paints c.self.invariant.0.bounded c.self.invariant.1)
+
+pub column-requires-clause-held : goal.column-requires-clause-held
+column-requires-clause-held c = λ k six.
+    omega (arith, c.held.ensures.held k six, c.if-held-to.true, c.if-to-from-eq1.true)
+
+pub returns-then-held-to-clause-drawn : goal.returns-then-held-to-clause-drawn
+returns-then-held-to-clause-drawn c = λ column row.
+    let next : c.args.from + 1 ≡ c.args.to =
+    omega (arith, c.if-to-from-eq1.true, c.requires.ordered) in
+    c.column.ensures.drawn column row
+    ∙ ap (λ to. if covers c.args.from to c.args.top c.args.bits column row then c.args.color else
+    shown c.args.self.now column row) next
+
+pub returns-then-held-to-clause-least : goal.returns-then-held-to-clause-least
+returns-then-held-to-clause-least c = λ some.
+    omega (arith, c.column.ensures.least some, c.column.ensures.spread, c.if-to-from-eq1.true)
+
+pub returns-then-held-to-clause-most : goal.returns-then-held-to-clause-most
+returns-then-held-to-clause-most c = λ _.
+    omega (arith, c.column.ensures.most, c.column.ensures.spread)

@@ -54,3 +54,38 @@ returns-then-are_bare-clause-bounded c =
     let band = c.self.inside.band in
     let is = IsSpread-grown c.self.inside.sheet c.draw.new.self band.top band.painted band.spread c.self.invariant.1 c.draw.ensures.never_less in
     IsBounded-counted c.draw.new.self c.self.inside.tags band.top band.painted band.spread _ c.draw.ensures.bounded is
+
+pub returns-then-are_bare-clause-least : goal.returns-then-are_bare-clause-least
+returns-then-are_bare-clause-least c =
+    on_ok_weaker c.draw.result
+    (λ _ _. omega (
+      arith,
+      c.saturating_add-self-inside.ensures,
+      c.min-painted.ensures,
+      ap (λ (s : CanvasState). s.paints) c.self.view_is,
+      ap (λ (s : CanvasState). s.spread)
+          c.self.view_is,
+    )) c.draw.ensures.drawn
+
+pub returns-then-are_bare-clause-most : goal.returns-then-are_bare-clause-most
+returns-then-are_bare-clause-most c = λ _.
+    omega (
+      arith,
+      c.saturating_add-self-inside.ensures,
+      c.min-painted.ensures,
+      ap (λ (s : CanvasState). s.paints) c.self.view_is,
+      ap (λ (s : CanvasState). s.spread)
+          c.self.view_is,
+    )
+
+pub returns-clause-drawn : goal.returns-clause-drawn
+returns-clause-drawn c = c.draw_over.ensures.drawn
+
+pub returns-clause-grown : goal.returns-clause-grown
+returns-clause-grown c = c.draw_over.ensures.grown
+
+pub returns-clause-least : goal.returns-clause-least
+returns-clause-least c = c.draw_over.ensures.least
+
+pub returns-clause-most : goal.returns-clause-most
+returns-clause-most c = c.draw_over.ensures.most

@@ -72,3 +72,57 @@ returns-clause-bounded c =
     let band = c.price-lazy.new.band in
     let is = IsSpread-grown c.widen.new.self struck.new.sheet band.top band.painted band.spread c.price-lazy.ensures.spread (λ k. omega (arith, struck.ensures.reached k)) in
     IsBounded-counted struck.new.sheet struck.new.tags band.top band.painted band.spread _ struck.ensures.tagged.bounded is
+
+pub widen-requires-clause-within : goal.widen-requires-clause-within
+widen-requires-clause-within c = λ k six.
+    let is = c.columns_struck.ensures k six in
+    elim (cases_Bool (is_set c.args.bits k)) [
+      | inl hit ↦ omega (arith, c.requires.within, rw hit at is)
+      | inr miss ↦ omega (arith, rw miss at is)
+    ]
+
+pub strike_rows-requires-clause-held : goal.strike_rows-requires-clause-held
+strike_rows-requires-clause-held c = λ k hit.
+    let wide = c.in_ok-widen.ensures.grown k
+    ∙ struck_columns c.args.top c.args.bits c.args.to k (reached c.self.inside.sheet k)
+    c.columns_struck.result c.columns_struck.ensures in
+    omega (arith, rw hit at wide)
+
+pub invariant_of-self-2 : goal.invariant_of-self-2
+invariant_of-self-2 c =
+    let struck = c.strike_rows in
+    let band = c.price-lazy.new.band in (
+      struck.ensures.tagged,
+      IsSpread-grown c.widen.new.self struck.new.sheet band.top band.painted band.spread
+          c.price-lazy.ensures.spread (λ k. omega (arith, struck.ensures.reached k)),
+    )
+
+pub returns-clause-least : goal.returns-clause-least
+returns-clause-least c = λ _.
+    omega (
+      arith,
+      c.saturating_add-self-inside.ensures,
+      c.price-lazy.ensures.least,
+      ap (λ (s : CanvasState). s.paints) c.self.view_is,
+      ap (λ (s : CanvasState). s.spread)
+          c.self.view_is,
+    )
+
+pub returns-clause-most : goal.returns-clause-most
+returns-clause-most c = λ tag.
+    omega (
+      arith,
+      c.saturating_add-self-inside.ensures,
+      c.price-lazy.ensures.most tag,
+      ap (λ (s : CanvasState). s.paints) c.self.view_is,
+      ap (λ (s : CanvasState). s.spread)
+          c.self.view_is,
+    )
+
+pub returns-clause-spread : goal.returns-clause-spread
+returns-clause-spread c =
+    omega (arith, c.price-lazy.ensures.more, ap (λ (s : CanvasState). s.spread) c.self.view_is)
+
+pub returns-in_err-widen-clause-most : goal.returns-in_err-widen-clause-most
+returns-in_err-widen-clause-most c = λ _.
+    omega (arith, ap (λ (s : CanvasState). s.paints) c.self.view_is)

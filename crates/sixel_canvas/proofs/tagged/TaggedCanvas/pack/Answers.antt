@@ -1,4 +1,5 @@
-use Rattle.std.proofs.Common.{◌++◌, ap, ◌∙◌, add-one, arith}
+use Rattle.std.proofs.Common.{◌+◌, ◌*◌, ◌++◌, sym, ap, ◌∙◌, add-one, arith}
+use Rattle.std.proofs.Math.Nat.{mul-le-mul_left}
 use Rattle.sixel_canvas.specs.inside.Canvas.{shown}
 use Rattle.sixel_base.specs.Picture.{joined, picture}
 use Rattle.sixel_canvas.proofs.tagged.TaggedCanvas.pack.Goals as goal
@@ -19,3 +20,13 @@ pub returns-clause-ok : goal.returns-clause-ok
 unfolding picture
 returns-clause-ok c =
     c.packed.invariant.0 ∙ ap (joined (λ row. joined (λ column. shown c.args.self.now column row) c.args.width)) (omega arith)
+
+pub pack_row-requires : goal.pack_row-requires
+pack_row-requires c =
+    let within = mul-le-mul_left {m = c.packed.row + 1} {n = c.args.height} c.args.width
+    (omega (arith, c.packed-test.true)) in
+    omega (arith, within, c.packed.invariant.1, c.requires)
+
+pub returns-clause-len : goal.returns-clause-len
+returns-clause-len c =
+    sym c.packed.bytes.ok.0 ∙ c.packed.invariant.1 ∙ ap (λ n. 4 * (c.args.width * n)) (omega arith)

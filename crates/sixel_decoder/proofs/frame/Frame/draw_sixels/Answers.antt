@@ -25,6 +25,9 @@ returns-then-drawn-gt0-clause-stands c = λ o h stands.
     Stands-run o _ h drawn.drawn c.args.bytes.now c.in_ok-close.ensures.ground c.if-drawn-gt0.true drawn.ensures.within drawn.ensures.sixels
     (drawn.ensures.shows o h (c.in_ok-close.ensures.drawn o h stands))
 
+pub overflow_sub-bytes : goal.overflow_sub-bytes
+overflow_sub-bytes c = c.requires.sixel.0
+
 pub returns-in_err-draw-clause-stands : goal.returns-in_err-draw-clause-stands
 returns-in_err-draw-clause-stands c = λ o h stands.
     let bytes = c.args.bytes.now in
@@ -41,3 +44,8 @@ returns-clause-stands c = λ o h stands.
     let none : drawn.drawn ≡ 0 = omega (arith, c.if-drawn-gt0.false) in
     let shows : Shows o c.draw_run.new.self h = subst (λ (n : ℕ). Shows o c.draw_run.new.self (fold read h (take n bytes))) none (drawn.ensures.shows o h (c.in_ok-close.ensures.drawn o h stands)) in
     Stands-one o _ h bytes c.in_ok-close.ensures.ground c.requires.some c.requires.sixel (c.in_ok-draw.ensures o h shows)
+
+pub returns-clause-sixels : goal.returns-clause-sixels
+returns-clause-sixels c = λ k one.
+    let first : k ≡ 0 = omega (arith, one) in
+    rw first c.requires.sixel

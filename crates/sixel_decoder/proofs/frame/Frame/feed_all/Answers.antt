@@ -2,12 +2,33 @@ use Rattle.std.proofs.Common.{◌≡◌, true, false, get_or, inl, inr, sym, ◌
 use Rattle.std.proofs.lemmas.Result.{err_from_is_err_and}
 use Rattle.sixel_base.specs.Bytes.{is_ignored, is_sixel, is_terminator}
 use Rattle.sixel_decoder.specs.inside.Runs.{IsPrintable}
-use Rattle.sixel_decoder.proofs.Feeding.{printable_from_sixel, reaches_read, reaches_ignored, reaches_pushed, feeds_end, feeds_terminated, feeds_refused, feeds_refused_end, feeds_refused_front, splits_at}
+use Rattle.sixel_decoder.proofs.Feeding.{printable_from_sixel, sixel_from_test, reaches_read, reaches_ignored, reaches_pushed, feeds_end, feeds_terminated, feeds_refused, feeds_refused_end, feeds_refused_front, splits_at}
 use Rattle.sixel_decoder.proofs.frame.Frame.feed_all.Goals as goal
 use Rattle.sixel_decoder.proofs.frame.Frame.feed_all.Goals.{then-not-is_ignored+in_ok-push, else-not-is_ignored}
 
 pub returns : goal.returns
 returns c = λ o h stands. feeds_end o c.bytes.self h c.bytes.index c.args.piece.now c.bytes-test.false (c.bytes.invariant o h stands)
+
+pub draw_sixels-requires-clause-some : goal.draw_sixels-requires-clause-some
+draw_sixels-requires-clause-some c =
+    let splits = splits_at c.args.piece.now c.bytes.index c.bytes-test.true in
+    rw (c.tail.ensures, splits) (omega arith)
+
+pub draw_sixels-requires-clause-sixel : goal.draw_sixels-requires-clause-sixel
+draw_sixels-requires-clause-sixel c =
+    let byte = get_or c.args.piece.now c.bytes.index 0 in
+    let splits = splits_at c.args.piece.now c.bytes.index c.bytes-test.true in
+    rw (c.tail.ensures, splits) (sixel_from_test byte (sym c.is_sixel.ensures ∙ c.if-is_sixel.true))
+
+pub open_with_digits-requires-clause-some : goal.open_with_digits-requires-clause-some
+open_with_digits-requires-clause-some c =
+    let splits = splits_at c.args.piece.now c.bytes.index c.bytes-test.true in
+    rw (c.tail-then-is_numbered.ensures, splits) (omega arith)
+
+pub open_with_digits-requires-clause-numbered : goal.open_with_digits-requires-clause-numbered
+open_with_digits-requires-clause-numbered c =
+    let splits = splits_at c.args.piece.now c.bytes.index c.bytes-test.true in
+    rw (c.tail-then-is_numbered.ensures, splits) (c.is_numbered.ensures c.if-is_numbered.true)
 
 pub bytes-preserved-then-is_sixel : goal.bytes-preserved-then-is_sixel
 bytes-preserved-then-is_sixel c = λ o h stands.

@@ -1,7 +1,33 @@
-use Rattle.std.proofs.Common.{◌≡◌, true, sym, ◌∙◌}
+use Rattle.std.proofs.Common.{◌≡◌, true, inl, inr, sym, ◌∙◌, arith}
 use Rattle.sixel_base.specs.History.{goes_on}
+use Rattle.sixel_decoder.proofs.Feeding.{printable_from_sixel, sixel_from_test}
 use Rattle.sixel_decoder.proofs.Framing.{stands_goes_on}
 use Rattle.sixel_decoder.proofs.frame.Frame.reads_alone.Goals as goal
+
+pub draws_alone-requires : goal.draws_alone-requires
+draws_alone-requires c = sixel_from_test c.args.byte (sym c.is_sixel.ensures ∙ c.if-is_sixel.true)
+
+pub returns-then-is_sixel-clause-printable : goal.returns-then-is_sixel-clause-printable
+returns-then-is_sixel-clause-printable c = λ told.
+    printable_from_sixel c.args.byte (sym c.is_sixel.ensures ∙ c.if-is_sixel.true)
+
+pub returns-then-is_sixel-clause-stands : goal.returns-then-is_sixel-clause-stands
+returns-then-is_sixel-clause-stands c = c.draws_alone.ensures.stands
+
+pub returns-then-is_sixel-clause-left : goal.returns-then-is_sixel-clause-left
+returns-then-is_sixel-clause-left c = c.draws_alone.ensures.left
+
+pub returns-then-takes-clause-printable : goal.returns-then-takes-clause-printable
+returns-then-takes-clause-printable c = λ told. elim (c.takes.ensures.parameter c.if-takes.true) [
+  | inl is ↦ (omega (arith, is), omega (arith, is))
+  | inr is ↦ (omega (arith, is), omega (arith, is))
+]
+
+pub returns-clause-printable : goal.returns-clause-printable
+returns-clause-printable c = λ told. elim (c.is_numbered.ensures c.if-not-is_numbered.false) [
+  | inl is ↦ (omega (arith, is), omega (arith, is))
+  | inr is ↦ (omega (arith, is), omega (arith, is))
+]
 
 pub returns-then-takes-clause-stands : goal.returns-then-takes-clause-stands
 returns-then-takes-clause-stands c = λ taken o h stands.
