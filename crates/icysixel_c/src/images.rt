@@ -76,7 +76,7 @@ pub extern "C" fn icysixel_finish(alloc: Global, slot: &mut Slot, shape: &mut Sh
     let Some(mut state) = slot.take(alloc) else {
         return NO_HANDLE;
     };
-    let _former = state.image.take();
+    drop(state.take_image());
     if !state.receiver.is_receiving() {
         state.receiver.abort();
         slot.put(state);
@@ -85,7 +85,7 @@ pub extern "C" fn icysixel_finish(alloc: Global, slot: &mut Slot, shape: &mut Sh
     match state.receiver.finish() {
         Ok(image) => {
             *shape = Shape::of(&image);
-            state.image = Some(image);
+            state.keep_image(Some(image));
             slot.put(state);
             DONE
         }
@@ -151,9 +151,7 @@ pub extern "C" fn icysixel_pixels(
         Some(image) => copied(image, room, stride, bytes),
         None => NO_IMAGE,
     };
-    if code == DONE {
-        state.image = None;
-    }
+    state.leave_image(code);
     slot.put(state);
     code
 }
@@ -218,13 +216,11 @@ pub extern "C" fn icysixel_take_pixels(alloc: Global, slot: &mut Slot, bytes: &m
     let Some(mut state) = slot.take(alloc) else {
         return NO_HANDLE;
     };
-    if state.image.is_none() {
+    let Some(image) = state.take_image() else {
         slot.put(state);
         return NO_IMAGE;
-    }
-    if let Some(image) = state.image.take() {
-        *bytes = Bytes::of(alloc, image.pixels);
-    }
+    };
+    *bytes = Bytes::of(alloc, image.pixels);
     slot.put(state);
     DONE
 }
@@ -253,8 +249,8 @@ pub extern "C" fn icysixel_drop(alloc: Global, slot: &mut Slot) -> u32
     let Some(mut state) = slot.take(alloc) else {
         return NO_HANDLE;
     };
-    state.image = None;
-    state.text = None;
+    state.keep_image(None);
+    state.keep_text(None);
     slot.put(state);
     DONE
 }

@@ -17,9 +17,8 @@ use crate::code::{DONE, NO_HANDLE, code_of};
 use crate::parameters::settings;
 use crate::shape::Shape;
 use crate::slot::Slot;
-use icy_sixel::receiver::SixelReceiver;
+use icy_sixel::SixelDecoder;
 use std::alloc::Global;
-use std::mem;
 
 /// Decodes the first control string in the bytes, or all of them as a payload if there is none,
 /// keeps the image in place of the one before, and tells its shape where the answer is 0. An image
@@ -67,18 +66,18 @@ pub extern "C" fn icysixel_decode(
     let Some(mut state) = slot.take(alloc) else {
         return NO_HANDLE;
     };
-    let mut decoder = mem::replace(&mut state.receiver, SixelReceiver::new()).into_decoder();
+    let mut decoder = state.replace_decoder(SixelDecoder::new());
     let answer = decoder.decode(alloc, bytes);
-    state.receiver = SixelReceiver::with_decoder(decoder);
+    state.replace_decoder(decoder);
     match answer {
         Ok(image) => {
             *shape = Shape::of(&image);
-            state.image = Some(image);
+            state.keep_image(Some(image));
             slot.put(state);
             DONE
         }
         Err(error) => {
-            state.image = None;
+            state.keep_image(None);
             slot.put(state);
             code_of(&error)
         }
@@ -131,18 +130,18 @@ pub extern "C" fn icysixel_decode_payload(
     let Some(mut state) = slot.take(alloc) else {
         return NO_HANDLE;
     };
-    let mut decoder = mem::replace(&mut state.receiver, SixelReceiver::new()).into_decoder();
+    let mut decoder = state.replace_decoder(SixelDecoder::new());
     let answer = decoder.decode_from_dcs(alloc, bytes, settings(p1, p2, grid));
-    state.receiver = SixelReceiver::with_decoder(decoder);
+    state.replace_decoder(decoder);
     match answer {
         Ok(image) => {
             *shape = Shape::of(&image);
-            state.image = Some(image);
+            state.keep_image(Some(image));
             slot.put(state);
             DONE
         }
         Err(error) => {
-            state.image = None;
+            state.keep_image(None);
             slot.put(state);
             code_of(&error)
         }

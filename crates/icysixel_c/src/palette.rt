@@ -9,12 +9,12 @@ ghost use Rattle.icysixel_c.specs.Colors.{first_colors};
 
 use crate::code::{BUFFER_MISMATCH, DONE, SMALL_ROOM, code_of};
 use crate::registers::Color;
-use icy_sixel::choose_palette;
+use icy_sixel::{PaletteChoice, choose_palette};
 use std::alloc::Global;
 
 /// What is told of a palette beside its colors.
 #[repr(C)]
-#[derive(Clone, Copy, Debug, PartialEq, Eq)]
+#[derive(Clone, Copy)]
 pub struct Palette {
     pub colors: usize,
     pub witnesses: usize,
@@ -94,23 +94,49 @@ pub extern "C" fn icysixel_choose_palette(
         return BUFFER_MISMATCH;
     }
     let room = usize::from(max_colors.clamp(2, 256));
-    let count = pixels.len() / 4;
-    if colors.len() < room || witnesses.len() < room + 1 || indices.len() < count {
+    if colors.len() < room || witnesses.len() < room + 1 || indices.len() < pixels.len() / 4 {
         return SMALL_ROOM;
     }
     match choose_palette(alloc, pixels, max_colors) {
         Ok(choice) => {
-            write_colors(colors, &choice.colors);
-            write_colors(witnesses, &choice.witnesses);
-            indices[..count].copy_from_slice(&choice.indices);
-            *palette = Palette {
-                colors: choice.colors.len(),
-                witnesses: choice.witnesses.len(),
-                error: choice.error,
-            };
+            *palette = write_choice(&choice, colors, witnesses, indices);
             DONE
         }
         Err(error) => code_of(&error),
+    }
+}
+
+/// Writes a palette, its certificate and the places in it into the rooms from their starts on.
+fn write_choice(
+    choice: &PaletteChoice,
+    colors: &mut [Color],
+    witnesses: &mut [Color],
+    indices: &mut [u8],
+) -> Palette
+    requires colors { length choice.now.colors.items ≤ length colors.old }
+    requires witnesses { length choice.now.witnesses.items ≤ length witnesses.old }
+    requires indices { length choice.now.indices.items ≤ length indices.old }
+    ensures error { result.error ≡ choice.now.error }
+    ensures color_count { result.colors ≡ length choice.now.colors.items }
+    ensures colors { first_colors result.colors colors.new ≡ choice.now.colors.items }
+    ensures colors_after { drop result.colors colors.new ≡ drop result.colors colors.old }
+    ensures witness_count { result.witnesses ≡ length choice.now.witnesses.items }
+    ensures witnesses { first_colors result.witnesses witnesses.new
+        ≡ choice.now.witnesses.items }
+    ensures witnesses_after { drop result.witnesses witnesses.new
+        ≡ drop result.witnesses witnesses.old }
+    ensures indices { take (length choice.now.indices.items) indices.new
+        ≡ choice.now.indices.items }
+    ensures indices_after { drop (length choice.now.indices.items) indices.new
+        ≡ drop (length choice.now.indices.items) indices.old }
+{
+    write_colors(colors, &choice.colors);
+    write_colors(witnesses, &choice.witnesses);
+    indices[..choice.indices.len()].copy_from_slice(&choice.indices);
+    Palette {
+        colors: choice.colors.len(),
+        witnesses: choice.witnesses.len(),
+        error: choice.error,
     }
 }
 

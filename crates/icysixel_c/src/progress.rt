@@ -11,7 +11,7 @@ use std::alloc::Global;
 
 /// Sizes in pixels.
 #[repr(C)]
-#[derive(Clone, Copy, Debug, PartialEq, Eq)]
+#[derive(Clone, Copy)]
 pub struct Size {
     pub width: usize,
     pub height: usize,

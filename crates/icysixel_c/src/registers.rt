@@ -12,7 +12,7 @@ use std::alloc::Global;
 
 /// A color, a byte a channel.
 #[repr(C)]
-#[derive(Clone, Copy, Debug, PartialEq, Eq)]
+#[derive(Clone, Copy)]
 pub struct Color {
     pub red: u8,
     pub green: u8,

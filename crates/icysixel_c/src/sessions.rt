@@ -15,13 +15,12 @@ use crate::code::{DONE, NO_HANDLE, NO_SESSION, OUT_OF_MEMORY, code_of, status_by
 use crate::parameters::settings;
 use crate::slot::Slot;
 use crate::state::State;
-use icy_sixel::receiver::SixelReceiver;
 use std::alloc::Global;
 
 /// What a feed did: how many bytes are the image's own, how it stands, and the control that ended
 /// it.
 #[repr(C)]
-#[derive(Clone, Copy, Debug, PartialEq, Eq)]
+#[derive(Clone, Copy)]
 pub struct Fed {
     pub consumed: usize,
     pub status: u32,
@@ -41,19 +40,12 @@ pub extern "C" fn icysixel_new(alloc: Global, slot: &mut Slot) -> u32
         → state.text ≡ None }
     ensures refused { result ≢ 0 → slot.new.handle.state ≡ None }
 {
-    let _former = slot.take(alloc);
-    let state = State {
-        receiver: SixelReceiver::new(),
-        image: None,
-        text: None,
+    icysixel_free(alloc, slot);
+    let Some(state) = Box::new(alloc, State::new()).ok() else {
+        return OUT_OF_MEMORY;
     };
-    match Box::new(alloc, state) {
-        Ok(state) => {
-            slot.put(state);
-            DONE
-        }
-        Err(_) => OUT_OF_MEMORY,
-    }
+    slot.put(state);
+    DONE
 }
 
 /// Frees what the handle leads to, if it leads to anything.

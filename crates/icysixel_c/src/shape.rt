@@ -8,7 +8,7 @@ use icy_sixel::SixelImage;
 
 /// An image without its pixels.
 #[repr(C)]
-#[derive(Clone, Copy, Debug, PartialEq, Eq)]
+#[derive(Clone, Copy)]
 pub struct Shape {
     pub width: usize,
     pub height: usize,

@@ -8,7 +8,7 @@ ghost use Rattle.sixel_encoder.specs.Encoding.{IsText};
 ghost use Rattle.icysixel_c.specs.Code.{IsCodeOf};
 ghost use Rattle.icysixel_c.specs.Drawn.{drawn, image_of};
 ghost use Rattle.icysixel_c.specs.Kept.{kept_text};
-ghost use Rattle.icysixel_c.specs.Rows.{bytes_of};
+ghost use Rattle.icysixel_c.specs.Rows.{bytes_of, extent, rows_of};
 ghost use Rattle.icysixel_c.specs.declared.state.State.{State};
 
 use crate::code::{
@@ -72,12 +72,12 @@ pub extern "C" fn icysixel_encode(
     match encoded(alloc, pixels, stride, width, height, p1, p2, max_colors) {
         Ok(text) => {
             *bytes = text.len();
-            state.text = Some(text);
+            state.keep_text(Some(text));
             slot.put(state);
             DONE
         }
         Err(code) => {
-            state.text = None;
+            state.keep_text(None);
             slot.put(state);
             code
         }
@@ -122,6 +122,28 @@ fn encoded(
         return Err(BUFFER_MISMATCH);
     }
     let settings = settings(p1, p2, -1);
+    text_of_rows(alloc, pixels, stride, width, height, settings, max_colors)
+}
+
+/// The text of pixels whose rows lie at this stride, or the code of want of memory.
+fn text_of_rows(
+    alloc: Global,
+    pixels: &[u8],
+    stride: usize,
+    width: usize,
+    height: usize,
+    settings: DcsSettings,
+    max_colors: u16,
+) -> Result<String, u32>
+    requires sizes { encode_fault width height ≡ None }
+    requires stride { 4 * width ≤ stride }
+    requires room { extent stride (4 * width) height ≤ length pixels.now }
+    ensures memory { IfErr result (λ code. code ≡ 8) }
+    ensures text { IfOk result (λ text.
+        IsText (drawn width height settings (rows_of stride (4 * width) height pixels.now))
+        max_colors (string_bytes text)) }
+{
+    let wide = 4 * width;
     if stride == wide {
         let rows = dense(pixels, wide, height);
         return text_of(alloc, rows, width, height, settings, max_colors);
@@ -198,9 +220,7 @@ pub extern "C" fn icysixel_take_text(
         Some(text) => written(text.as_bytes(), room, bytes),
         None => NO_TEXT,
     };
-    if code == DONE {
-        state.text = None;
-    }
+    state.leave_text(code);
     slot.put(state);
     code
 }

@@ -13,7 +13,17 @@ pub extern "C" fn icysixel_text(code: u32, room: &mut [u8]) -> usize
     ensures empty { 0 < length room.old → length room.old ≤ result
         → slice_index room.new 0 ≡ 0 }
 {
-    let text = words(code).as_bytes();
+    write_text(words(code).as_bytes(), room)
+}
+
+/// Writes a text and a zero into the room, or a zero alone, and tells how many bytes the text has.
+fn write_text(text: &[u8], room: &mut [u8]) -> usize
+    ensures length { result ≡ length text.now }
+    ensures text { result < length room.old → slice_range room.new 0 result ≡ text.now }
+    ensures zero { result < length room.old → slice_index room.new result ≡ 0 }
+    ensures empty { 0 < length room.old → length room.old ≤ result
+        → slice_index room.new 0 ≡ 0 }
+{
     if text.len() < room.len() {
         room[..text.len()].copy_from_slice(text);
         room[text.len()] = 0;

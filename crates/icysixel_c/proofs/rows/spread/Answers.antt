@@ -1,7 +1,5 @@
 use Rattle.std.proofs.Common.{◌≡◌, ◌+◌, ◌-◌, ◌*◌, ◌≤◌, length, drop, ◌∙◌, arith, length-take, length-drop}
-use Rattle.std.proofs.lemmas.Nat.{mul-le}
-use Rattle.std.proofs.Math.Nat.{mul_comm}
-use Rattle.icysixel_c.proofs.Spread.{row_more, gap_kept, rest_kept}
+use Rattle.icysixel_c.proofs.Spread.{row_inside, row_more, gap_kept, rest_kept}
 use Rattle.icysixel_c.proofs.rows.spread.Goals as goal
 
 pub loop-row-preserved : goal.loop-row-preserved
@@ -13,7 +11,7 @@ loop-row-preserved c =
     let written = c.copy_from_slice.new.self in
     let k = row * stride + wide - row * stride in
     let inside : row * stride + wide ≤ length room =
-    omega (arith, mul-le row stride (c.args.height - 1) stride (omega arith) (omega arith), mul_comm stride (c.args.height - 1), c.requires.room, c.loop-row.auto.room) in
+    omega (arith, row_inside stride wide c.args.height row c.loop-row-test.true, c.requires.room, c.loop-row.auto.room) in
     let long : length written ≡ wide =
     omega (arith, inside, c.copy_from_slice.ensures.len, length-take k (drop (row * stride) room), length-drop (row * stride) room) in (
       row_more stride wide row k room written c.args.rows.now c.requires.stride inside (omega arith) long c.copy_from_slice.ensures.after c.loop-row.invariant.0,
