@@ -1,4 +1,4 @@
-use Rattle.std.proofs.Common.{refl}
+use Rattle.std.proofs.Common.{refl, arith}
 use Rattle.sixel_base.specs.OneShot.{Payload}
 use Rattle.icy_sixel.proofs.Playing.{decodes}
 use Rattle.icy_sixel.proofs.script.take_step.Goals as goal
@@ -17,3 +17,6 @@ returns-in-RasterCrop c = rw c.in-RasterCrop.is (refl, c.set_raster_crop.ensures
 
 pub returns-in-PixelLimit : goal.returns-in-PixelLimit
 returns-in-PixelLimit c = rw c.in-PixelLimit.is (refl, c.set_pixel_limit.ensures)
+
+pub returns-in-Decode : goal.returns-in-Decode
+returns-in-Decode c = grind arith

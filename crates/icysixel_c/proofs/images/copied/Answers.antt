@@ -55,3 +55,6 @@ pub returns-clause-bytes : goal.returns-clause-bytes
 returns-clause-bytes c = λ size is.
     let wide : 4 * c.args.image.now.width ≡ c.in-Some.wide = omega (arith, c.in-Some.ensures.1) in
     cc
+
+pub returns-then-room-size-clause-small : goal.returns-then-room-size-clause-small
+returns-then-room-size-clause-small c = omega arith

@@ -55,3 +55,6 @@ returns-in-Ok-clause-colors c = λ _. ap length c.write_choice.ensures.colors �
 
 pub returns-in-Ok-clause-witness_count : goal.returns-in-Ok-clause-witness_count
 returns-in-Ok-clause-witness_count c = λ _. ap length c.write_choice.ensures.witnesses ∙ sym c.write_choice.ensures.witness_count
+
+pub returns-then-colors-room-clause-few_colors : goal.returns-then-colors-room-clause-few_colors
+returns-then-colors-room-clause-few_colors c = omega arith

@@ -1,4 +1,4 @@
-use Rattle.std.proofs.Common.{refl}
+use Rattle.std.proofs.Common.{refl, arith}
 use Rattle.icysixel_c.proofs.texts.icysixel_encode.Goals as goal
 
 pub returns-in-Ok-clause-sizes : goal.returns-in-Ok-clause-sizes
@@ -24,3 +24,6 @@ returns-in-Err-clause-buffer c = λ before size is sized wanted short. cc (c.in-
 
 pub returns-in-Err-clause-memory : goal.returns-in-Err-clause-memory
 returns-in-Err-clause-memory c = λ before size is sized wanted room refused. c.in-Err.ensures.memory size sized wanted room
+
+pub returns-in-Ok-clause-found : goal.returns-in-Ok-clause-found
+returns-in-Ok-clause-found c = grind arith

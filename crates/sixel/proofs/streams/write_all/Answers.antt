@@ -9,3 +9,6 @@ writes-preserved g c =
       within = omega (arith, fits);
       written = Appends-rest _ _ _ _ _ _ c.writes.invariant.written c.in-Ok.ensures.bytes;
     }
+
+pub returns-in-Ok-eq0-clause-whole : goal.returns-in-Ok-eq0-clause-whole
+returns-in-Ok-eq0-clause-whole c = omega arith

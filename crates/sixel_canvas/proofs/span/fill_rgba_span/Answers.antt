@@ -16,3 +16,6 @@ by_pixel-preserved c = (
   omega arith,
   IsColored-store c.args.color c.by_pixel.span c.args.color c.by_pixel.at 4 (omega arith) (omega arith) (omega arith) c.by_pixel.invariant.2 (λ k h. ap (λ i. get_or c.args.color i 0) (omega arith)),
 )
+
+pub returns : goal.returns
+returns c = omega arith

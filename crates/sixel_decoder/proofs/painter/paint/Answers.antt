@@ -60,3 +60,6 @@ ends-preserved c =
 pub returns-clause-drawn : goal.returns-clause-drawn
 returns-clause-drawn c =
     drawn_whole c.ends.done c.args.canvas.now c.ends.canvas c.args.top c.args.from c.args.run.now c.args.color (omega (arith, c.ends-test.false)) c.ends.invariant.1
+
+pub block-requires-in-last-clause-held : goal.block-requires-in-last-clause-held
+block-requires-in-last-clause-held c = omega arith

@@ -1,4 +1,4 @@
-use Rattle.std.proofs.Common.{ℕ, string_bytes, subst, sym, refl}
+use Rattle.std.proofs.Common.{ℕ, string_bytes, subst, sym, refl, arith}
 use Rattle.sixel_encoder.specs.Text.{band_text}
 use Rattle.sixel_encoder.specs.inside.Indexed.{drawing_of}
 use Rattle.sixel_encoder.specs.inside.Grid.{AreClear}
@@ -19,3 +19,6 @@ loop-band-preserved c =
       text = appended-more (band_text (drawing_of image)) c.loop-band.band (string_bytes c.args.text.now) (string_bytes c.loop-band.text) (string_bytes c.push_whole_band.new.text) (band_text (drawing_of image) c.loop-band.band) c.loop-band.invariant.text after.text refl;
       clear = subst (λ (n : ℕ). AreClear c.push_whole_band.new.rows c.push_whole_band.new.used image.width n) (sym c.push_whole_band.auto.used) after.clear;
     }
+
+pub returns : goal.returns
+returns c = grind arith

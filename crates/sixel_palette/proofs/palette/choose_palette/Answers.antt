@@ -76,3 +76,6 @@ returns-clause-empty c = chosen.chosen_empty _ _ _ _ _ _ _ (the_choice c)
 
 pub returns-clause-bytes : goal.returns-clause-bytes
 returns-clause-bytes c = λ k d l. omega (arith, get_or_default c.args.pixels.now k d 0 l, c.type_inv.pixels k)
+
+pub returns-then-beyond-ne0-clause-mismatch : goal.returns-then-beyond-ne0-clause-mismatch
+returns-then-beyond-ne0-clause-mismatch c = grind arith

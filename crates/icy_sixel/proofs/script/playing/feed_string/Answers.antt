@@ -42,3 +42,6 @@ returns-then-has_ended-clause-consumed c = omega (arith, (same c).counted, c.in_
 
 pub returns-then-has_ended-clause-status : goal.returns-then-has_ended-clause-status
 returns-then-has_ended-clause-status c = c.in_ok-fed.ensures.status ∙ (same c).status
+
+pub returns-clause-consumed : goal.returns-clause-consumed
+returns-clause-consumed c = grind arith

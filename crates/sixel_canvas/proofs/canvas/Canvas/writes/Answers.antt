@@ -1,4 +1,5 @@
 use Rattle.std.proofs.Common.{ap, arith}
+use Rattle.std.proofs.lemmas.Grind.{common_steps}
 use Rattle.std.specs.List.{sum_by}
 use Rattle.std.proofs.lemmas.List.Sums.{sum_by-take-le, sum_by_more_le}
 use Rattle.sixel_canvas.specs.Row.{RowState}
@@ -26,3 +27,6 @@ returns-clause-at_most c =
     let part = sum_by-take-le (λ (row : RowState). row.writes) rows c.counted.row-index in
     let whole = ap (sum_by (λ (row : RowState). row.writes)) c.deref-row-items.ensures.value in
     omega (arith, part, whole, c.counted.invariant, writes_le canvas.background canvas.rows.items c.self.invariant.0 c.self.invariant.1)
+
+pub counted-preserved : goal.counted-preserved
+counted-preserved c = grind (arith, common_steps)

@@ -31,3 +31,6 @@ returns-clause-reached c = λ row.
     reached-tagged c.block.new.self c.self.inside.tags row
     ∙ c.block.ensures.reached row
     ∙ sym (reached-tagged c.self.inside.sheet c.self.inside.tags row) ∙ ap (λ (s : CanvasState). reached s row) c.self.view_is
+
+pub returns-clause-paints : goal.returns-clause-paints
+returns-clause-paints c = grind arith

@@ -1,4 +1,5 @@
-use Rattle.std.proofs.Common.{◌≡◌, ◌∙◌}
+use Rattle.std.proofs.Common.{◌≡◌, ◌∙◌, arith}
+use Rattle.std.proofs.lemmas.Grind.{common_steps}
 use Rattle.sixel_decoder.proofs.frame.Frame.feed.Goals as goal
 use Rattle.sixel_decoder.proofs.frame.Frame.feed.Goals.{else-piece-eq1-via-then-piece-eq1+else-reads_alone, else-piece-eq1-via-else-piece-eq1}
 
@@ -9,3 +10,6 @@ returns c = λ o h stands.
       | else-piece-eq1-via-else-piece-eq1 w ↦ w.self-is
     ] in
     c.feed_all.ensures o h (rw same stands)
+
+pub returns-then-reads_alone : goal.returns-then-reads_alone
+returns-then-reads_alone c = grind (arith, common_steps)

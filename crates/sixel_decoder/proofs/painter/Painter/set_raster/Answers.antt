@@ -48,3 +48,6 @@ returns c = λ o h text keeps shows.
       limit = shows.limit;
       faultless = sound_raster o.pixel_limit h text _ _ _ _ shows.faultless wide high c.if-wide-gt-MAX_SIDE.false c.if-high-gt-MAX_SIDE.false across down (rw (← shows.limit) c.if-width-height.false);
     }
+
+pub invariant_of-self : goal.invariant_of-self
+invariant_of-self c = omega arith

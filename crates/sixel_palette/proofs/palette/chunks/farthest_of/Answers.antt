@@ -35,3 +35,6 @@ returns c =
     let at = c.places.invariant.some in
     let inside = at.1 in
     first_greatest c.args.codes.now c.args.squares.now c.args.chunks.now c.loop-chunk.greatest c.chunks.best c.places.farthest c.requires.squares c.requires.chunks (record { upper = λ j l. c.loop-chunk.invariant.upper j (omega arith); first = c.chunks.invariant.first }) (omega (arith, inside.within, at.2)) c.places.invariant.first (omega (arith, c.places-test.false))
+
+pub chunks-preserved : goal.chunks-preserved
+chunks-preserved c = grind arith

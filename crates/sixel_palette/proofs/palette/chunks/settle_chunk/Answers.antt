@@ -29,3 +29,6 @@ loop-place-preserved c =
       places = old_more c.args.places.now places from place near.entry (omega arith) c.loop-place.invariant.places;
       greatest = rw c.max-greatest.ensures (greatest_more squares from place c.loop-place.greatest near.squared (omega arith) held c.loop-place.invariant.greatest);
     }
+
+pub returns-clause-near : goal.returns-clause-near
+returns-clause-near c = grind arith

@@ -1,4 +1,4 @@
-use Rattle.std.proofs.Common.{ℕ, List, ◌++◌, refl}
+use Rattle.std.proofs.Common.{ℕ, List, ◌++◌, refl, arith}
 use Rattle.sixel_decoder.proofs.Answering.{string_over, string_within, string_same}
 use Rattle.icy_sixel.proofs.Playing.{string_refused}
 use Rattle.icy_sixel.proofs.decoder.dcs_session.SixelDcsStreamDecoder.feed.Goals as goal
@@ -21,3 +21,6 @@ pub returns-clause-refused_for_good : goal.returns-clause-refused_for_good
 returns-clause-refused_for_good c = λ error more is accepted.
     let fed : List ℕ = c.feed.new.self.bytes in
     string_refused error c.args.self.now.progress.decoder.pixel_limit fed more (fed ++ more) _ refl (rw (is, accepted) at c.feed.ensures.error)
+
+pub returns-clause-registers : goal.returns-clause-registers
+returns-clause-registers c = grind arith
