@@ -1,4 +1,4 @@
-"""The kit: its folder, and the module that its `rt` stands on."""
+"""The kit: its folder, its `rt` as a module, and the module that `rt` stands on."""
 import importlib.machinery
 import importlib.util
 import subprocess
@@ -13,9 +13,19 @@ def kit():
 
 
 @cache
+def rt():
+    """The kit's `rt`."""
+    return loaded("rt")
+
+
+@cache
 def rtlib():
     """The module that the kit's `rt` stands on."""
-    loader = importlib.machinery.SourceFileLoader("rtlib", f"{kit()}/bin/rtlib.py")
-    module = importlib.util.module_from_spec(importlib.util.spec_from_loader("rtlib", loader))
+    return loaded("rtlib.py")
+
+
+def loaded(file):
+    loader = importlib.machinery.SourceFileLoader(file.removesuffix(".py"), f"{kit()}/bin/{file}")
+    module = importlib.util.module_from_spec(importlib.util.spec_from_loader(loader.name, loader))
     loader.exec_module(module)
     return module

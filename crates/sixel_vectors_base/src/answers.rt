@@ -80,7 +80,19 @@ pub fn fed(
 ) -> Result<SixelImage>
     requires { 0 < length }
 {
-    let mut decoder = SixelDecoder::new();
+    fed_by(alloc, &mut SixelDecoder::new(), payload, settings, length)
+}
+
+/// What a session on this decoder makes of a payload in pieces of this length.
+pub fn fed_by(
+    alloc: Global,
+    decoder: &mut SixelDecoder,
+    payload: &[u8],
+    settings: DcsSettings,
+    length: usize,
+) -> Result<SixelImage>
+    requires { 0 < length }
+{
     let mut session = decoder.begin_frame(alloc, settings)?;
     for piece in payload.chunks(length) {
         session.feed(piece)?;

@@ -1,6 +1,6 @@
 //! What a decoder answers whose host has set a crop or a limit, in one piece and in single bytes.
 
-use crate::answers::{Run, are_same, is_drawn, is_refused};
+use crate::answers::{Run, are_same, fed_by, is_drawn, is_refused};
 use icy_sixel::{DcsSettings, Result, SixelDecoder, SixelImage};
 use std::alloc::Global;
 
@@ -19,11 +19,7 @@ pub fn fed_singly(
     payload: &[u8],
     settings: DcsSettings,
 ) -> Result<SixelImage> {
-    let mut session = decoder.begin_frame(alloc, settings)?;
-    for piece in payload.chunks(1) {
-        session.feed(piece)?;
-    }
-    session.finish()
+    fed_by(alloc, decoder, payload, settings, 1)
 }
 
 /// What a control string session makes of single bytes.

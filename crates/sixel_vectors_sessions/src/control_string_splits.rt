@@ -5,6 +5,7 @@ ghost use Rattle.std.specs.Prelude.{◌<◌};
 use crate::control_strings::FAILED;
 use crate::expected::{BAD_HEADER, MALFORMED_DATA, SEA, StringFeed, TERMINATORS, comes_to};
 use crate::feeds::{Ending, followed_in, string_answers};
+use crate::rows::assert_row;
 use icy_sixel::{
     DcsSettings, Result, SixelDcsFeedStatus, SixelDcsStreamDecoder, SixelDecoder, SixelError,
     SixelImage,
@@ -60,11 +61,7 @@ static STRINGS: [(&[u8], usize); 6] = [
 #[test]
 fn two_cuts(rt: HostRuntime) {
     for case in &STRINGS {
-        assert!(rt;
-            is_same_cut_twice(rt.alloc(), case.0, case.1),
-            "{:?}",
-            case.0
-        );
+        assert_row(&rt, &case.0, is_same_cut_twice(rt.alloc(), case.0, case.1));
     }
 }
 
@@ -95,7 +92,7 @@ fn ends_so(alloc: Global, terminator: u8) -> bool {
 #[test]
 fn ownership_of_a_terminator(rt: HostRuntime) {
     for byte in &TERMINATORS {
-        assert!(rt; ends_so(rt.alloc(), *byte), "{byte}");
+        assert_row(&rt, byte, ends_so(rt.alloc(), *byte));
     }
 }
 
@@ -127,7 +124,7 @@ fn means(alloc: Global, header: &Header) -> bool {
 #[test]
 fn header_values(rt: HostRuntime) {
     for header in &HEADERS {
-        assert!(rt; means(rt.alloc(), header), "{:?}", header.0);
+        assert_row(&rt, &header.0, means(rt.alloc(), header));
     }
 }
 
@@ -192,6 +189,6 @@ static REFUSED: [(&[u8], &SixelError); 12] = [
 #[test]
 fn refusals(rt: HostRuntime) {
     for case in &REFUSED {
-        assert!(rt; is_refused_so(rt.alloc(), case.0, case.1), "{:?}", case.0);
+        assert_row(&rt, &case.0, is_refused_so(rt.alloc(), case.0, case.1));
     }
 }

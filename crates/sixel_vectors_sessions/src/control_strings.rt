@@ -2,6 +2,7 @@
 
 use crate::expected::{INCOMPLETE, MALFORMED_DATA, Outcome, SEA, StringFeed, comes_to};
 use crate::feeds::string_answers;
+use crate::rows::assert_row;
 use icy_sixel::{SixelDcsFeedStatus, SixelDecoder, SixelError};
 use sixel_vectors_base::answers::{BLACK, RED};
 use sixel_vectors_base::hosted::followed_singly;
@@ -102,7 +103,7 @@ fn is_so(alloc: Global, case: &Case) -> bool {
 #[test]
 fn cases(rt: HostRuntime) {
     for case in &CASES {
-        assert!(rt; is_so(rt.alloc(), case), "{}", case.0);
+        assert_row(&rt, &case.0, is_so(rt.alloc(), case));
     }
 }
 
@@ -138,7 +139,7 @@ fn beginnings(rt: HostRuntime) {
     let string = b"\x1bP3;1q#42;2;100;0;0~\x1b\\".as_slice();
     for place in 0..string.len() {
         let (beginning, _) = string.split_at(place);
-        assert!(rt; is_incomplete(rt.alloc(), beginning), "{place}");
+        assert_row(&rt, &place, is_incomplete(rt.alloc(), beginning));
     }
 }
 
@@ -158,6 +159,6 @@ fn is_so_singly(alloc: Global, case: &(&[u8], Outcome)) -> bool {
 #[test]
 fn single_bytes(rt: HostRuntime) {
     for case in &SINGLY {
-        assert!(rt; is_so_singly(rt.alloc(), case), "{:?}", case.0);
+        assert_row(&rt, &case.0, is_so_singly(rt.alloc(), case));
     }
 }

@@ -2,6 +2,7 @@
 
 use crate::expected::{Columns, Feed, MALFORMED_DATA, SEA, TERMINATORS, shows_columns};
 use crate::feeds::answers;
+use crate::rows::assert_row;
 use icy_sixel::{
     BackgroundMode, DcsSettings, PixelAspectRatio, Result, SixelDecoder, SixelError,
     SixelFeedStatus, SixelImage,
@@ -77,7 +78,7 @@ fn draws(alloc: Global, drawn: &Drawn) -> bool {
 #[test]
 fn images(rt: HostRuntime) {
     for drawn in &IMAGES {
-        assert!(rt; draws(rt.alloc(), drawn), "{}", drawn.name);
+        assert_row(&rt, &drawn.name, draws(rt.alloc(), drawn));
     }
 }
 
@@ -102,7 +103,7 @@ fn ends_at(alloc: Global, terminator: u8) -> bool {
 #[test]
 fn terminators(rt: HostRuntime) {
     for byte in &TERMINATORS {
-        assert!(rt; ends_at(rt.alloc(), *byte), "{byte}");
+        assert_row(&rt, byte, ends_at(rt.alloc(), *byte));
     }
 }
 
@@ -152,6 +153,6 @@ fn is_refused_so(alloc: Global, refused: &Refused) -> bool {
 #[test]
 fn refusals(rt: HostRuntime) {
     for refused in &REFUSED {
-        assert!(rt; is_refused_so(rt.alloc(), refused), "{}", refused.0);
+        assert_row(&rt, &refused.0, is_refused_so(rt.alloc(), refused));
     }
 }

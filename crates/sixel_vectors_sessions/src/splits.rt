@@ -4,6 +4,7 @@ ghost use Rattle.std.specs.Prelude.{◌≤◌};
 
 use crate::expected::MALFORMED_DATA;
 use crate::feeds::fed_in;
+use crate::rows::assert_row;
 use icy_sixel::SixelError;
 use icy_sixel::decoder::DcsSettings;
 use icy_sixel::sixel_image::PixelAspectRatio;
@@ -63,7 +64,7 @@ static PAYLOADS: [Payload; 21] = [
 #[test]
 fn splits(rt: HostRuntime) {
     for payload in &PAYLOADS {
-        assert!(rt; is_same_split(rt.alloc(), payload), "{:?}", payload.0);
+        assert_row(&rt, &payload.0, is_same_split(rt.alloc(), payload));
     }
 }
 
@@ -95,7 +96,7 @@ fn is_same_after(alloc: Global, place: usize) -> bool
 #[test]
 fn every_byte_after_every_beginning(rt: HostRuntime) {
     for place in 0..=26 {
-        assert!(rt; is_same_after(rt.alloc(), place), "{place}");
+        assert_row(&rt, &place, is_same_after(rt.alloc(), place));
     }
 }
 

@@ -1,6 +1,7 @@
 //! Lists of steps on one decoder: what each comes to, and what becomes of the registers.
 
 use crate::expected::{BAD_HEADER, Columns, INCOMPLETE, MALFORMED_DATA, SEA, shows_columns};
+use crate::rows::assert_row;
 use icy_sixel::script::{End, Outcome, Status, Step, run};
 use icy_sixel::{DcsSettings, SixelDcsFeedStatus, SixelDecoder, SixelError, SixelFeedStatus};
 use sixel_vectors_base::answers::{BLACK, GREEN, RED};
@@ -262,7 +263,7 @@ fn is_new_list_so(alloc: Global, list: &List) -> bool {
 #[test]
 fn lists(rt: HostRuntime) {
     for list in &LISTS {
-        assert!(rt; is_new_list_so(rt.alloc(), list), "{}", list.name);
+        assert_row(&rt, &list.name, is_new_list_so(rt.alloc(), list));
     }
 }
 
@@ -299,7 +300,7 @@ static DECODING_AT_ONCE: [List; 2] = [
 fn decoding_at_once(rt: HostRuntime) {
     let mut decoder = SixelDecoder::new();
     for list in &DECODING_AT_ONCE {
-        assert!(rt; is_list_so(rt.alloc(), &mut decoder, list), "{}", list.name);
+        assert_row(&rt, &list.name, is_list_so(rt.alloc(), &mut decoder, list));
     }
 }
 
@@ -351,6 +352,6 @@ fn have_no_effect(alloc: Global, cuts: &[usize]) -> bool {
 #[test]
 fn cuts_have_no_effect(rt: HostRuntime) {
     for cuts in &CUTS {
-        assert!(rt; have_no_effect(rt.alloc(), cuts), "{cuts:?}");
+        assert_row(&rt, cuts, have_no_effect(rt.alloc(), cuts));
     }
 }

@@ -1,5 +1,6 @@
 //! Sessions that are aborted or dropped, which change nothing.
 
+use crate::rows::assert_row;
 use icy_sixel::SixelDecoder;
 use icy_sixel::decoder::DcsSettings;
 use std::alloc::{AllocError, Global};
@@ -63,10 +64,7 @@ fn is_aborted(alloc: Global, decoder: &mut SixelDecoder, payload: &[u8]) -> bool
 fn an_open_command_is_not_refused(rt: HostRuntime) {
     let mut decoder = SixelDecoder::new();
     for payload in &OPEN {
-        assert!(rt;
-            is_aborted(rt.alloc(), &mut decoder, payload),
-            "{payload:?}"
-        );
+        assert_row(&rt, payload, is_aborted(rt.alloc(), &mut decoder, payload));
     }
 }
 
@@ -124,6 +122,6 @@ fn is_left(alloc: Global, decoder: &mut SixelDecoder, string: &[u8]) -> bool {
 fn control_strings_define_no_register(rt: HostRuntime) {
     let mut decoder = SixelDecoder::new();
     for string in &STRINGS {
-        assert!(rt; is_left(rt.alloc(), &mut decoder, string), "{string:?}");
+        assert_row(&rt, string, is_left(rt.alloc(), &mut decoder, string));
     }
 }

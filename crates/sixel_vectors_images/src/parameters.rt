@@ -1,5 +1,6 @@
 //! Parameters of a command, field by field.
 
+use crate::rows::assert_row;
 use sixel_base::parameters::Parameters;
 
 /// Texts of digits and semicolons, how many fields each has, and the values of the first five.
@@ -37,6 +38,6 @@ fn are_fields(parameters: &Parameters, count: usize, values: &[u32; 5]) -> bool 
 #[test]
 fn fields_of_a_text(rt: HostRuntime) {
     for (text, count, values) in &TEXTS {
-        assert!(rt; are_fields(&parameters_of(text), *count, values), "{text}");
+        assert_row(&rt, text, are_fields(&parameters_of(text), *count, values));
     }
 }

@@ -1,5 +1,6 @@
 //! Each example of `sixel_examples` does what the page that shows it says.
 
+use crate::rows::assert_row;
 use icy_sixel::receiver::SixelReceiver;
 use icy_sixel::script::Outcome;
 use icy_sixel::{Result, SixelDecoder, SixelImage};
@@ -123,10 +124,7 @@ fn reads(
 fn a_terminal(rt: HostRuntime) {
     let mut images = Images::new([1, 2, 3], 307_200);
     for (bytes, expected) in &TERMINAL {
-        assert!(rt;
-            reads(rt.alloc(), &mut images, bytes, *expected),
-            "{bytes:?}"
-        );
+        assert_row(&rt, bytes, reads(rt.alloc(), &mut images, bytes, *expected));
     }
 }
 
@@ -155,7 +153,7 @@ fn a_multiplexer(rt: HostRuntime) {
             receiver.begin_dcs(rt.alloc());
         }
         let came = kind_of(&read(&mut receiver, bytes));
-        assert!(rt; came == (*kind, *own), "{bytes:?}");
+        assert_row(&rt, bytes, came == (*kind, *own));
     }
     assert!(rt; receiver.into_decoder().register(1) == [51, 51, 204]);
 }

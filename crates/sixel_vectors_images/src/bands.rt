@@ -3,6 +3,7 @@
 ghost use Rattle.std.specs.Prelude.{◌<◌};
 
 use crate::payloads::{draws_in_pieces, is_shown};
+use crate::rows::assert_row;
 use icy_sixel::DcsSettings;
 use sixel_vectors_base::answers::{
     BLACK, BLUE, CLEAR, RED, Run, decoded, draws, draws_with, fed, transparent,
@@ -157,6 +158,6 @@ fn the_background_is_that_of_the_beginning(rt: HostRuntime) {
     for payload in [plain, sized] {
         let is_opaque = draws(rt.alloc(), payload, (3, 12), &opaque);
         let is_clear = draws_with(rt.alloc(), transparent(), payload, (3, 12), &clear);
-        assert!(rt; is_opaque && is_clear, "{payload}");
+        assert_row(&rt, payload, is_opaque && is_clear);
     }
 }

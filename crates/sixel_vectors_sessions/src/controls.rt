@@ -1,5 +1,6 @@
 //! Control characters that have no effect, inside commands and inside the header.
 
+use crate::rows::assert_row;
 use icy_sixel::decoder::SixelDecoder;
 use sixel_vectors_base::answers::are_same;
 use std::alloc::{AllocError, Global};
@@ -50,9 +51,10 @@ fn is_unchanged(alloc: Global, string: &str, place: usize) -> bool {
 fn control_characters(rt: HostRuntime) {
     for (string, first, last) in &STRINGS {
         for place in *first..=*last {
-            assert!(rt;
+            assert_row(
+                &rt,
+                &(place, string),
                 is_unchanged(rt.alloc(), string, place),
-                "{place} of {string}"
             );
         }
     }

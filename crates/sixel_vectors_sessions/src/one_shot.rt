@@ -1,6 +1,7 @@
 //! Control strings and payloads decoded in one call: introducers, headers, shapes of pixels, and
 //! what stands around a control string.
 
+use crate::rows::assert_row;
 use icy_sixel::sixel_image::BackgroundMode::{self, Opaque, Transparent};
 use icy_sixel::sixel_image::PixelAspectRatio::{self, Ratio2To1, Ratio3To1, Ratio5To1, Square};
 use icy_sixel::{
@@ -75,7 +76,7 @@ fn images(rt: HostRuntime) {
             shape: Square,
             background: Opaque,
         };
-        assert!(rt; is_found(rt.alloc(), bytes, &shown), "{bytes:?}");
+        assert_row(&rt, bytes, is_found(rt.alloc(), bytes, &shown));
     }
 }
 
@@ -98,7 +99,7 @@ fn columns(rt: HostRuntime) {
             shape: *shape,
             background: Transparent,
         };
-        assert!(rt; is_found(rt.alloc(), bytes, &shown), "{bytes:?}");
+        assert_row(&rt, bytes, is_found(rt.alloc(), bytes, &shown));
     }
 }
 
@@ -145,7 +146,7 @@ const REFUSED: [(&[u8], &str); 4] = [
 fn refusals(rt: HostRuntime) {
     for (bytes, reason) in &REFUSED {
         let is_right = is_refused(&SixelDecoder::new().decode(rt.alloc(), bytes), reason);
-        assert!(rt; is_right, "{bytes:?}");
+        assert_row(&rt, bytes, is_right);
     }
 }
 
@@ -174,6 +175,6 @@ fn has_settings(alloc: Global, string: &str, settings: DcsSettings) -> bool {
 fn headers(rt: HostRuntime) {
     for (string, p1, p2, p3) in &HEADERS {
         let settings = DcsSettings::new(*p1, *p2, *p3);
-        assert!(rt; has_settings(rt.alloc(), string, settings), "{string}");
+        assert_row(&rt, string, has_settings(rt.alloc(), string, settings));
     }
 }

@@ -1,5 +1,6 @@
 //! The registers of a decoder, and those of its clone.
 
+use crate::rows::assert_row;
 use icy_sixel::decoder::{DcsSettings, SixelDecoder};
 use sixel_vectors_base::answers::{RED, is_drawn};
 use std::alloc::Global;
@@ -24,10 +25,7 @@ const REGISTERS: [(u8, [u8; 3]); 12] = [
 fn a_new_decoder(rt: HostRuntime) {
     let decoder = SixelDecoder::new();
     for (register, color) in &REGISTERS {
-        assert!(rt;
-            decoder.register(*register) == *color,
-            "register {register}"
-        );
+        assert_row(&rt, register, decoder.register(*register) == *color);
     }
 }
 

@@ -1,6 +1,7 @@
 //! Repeats, numbers, edges and areas at their limits and above them, at once and in single bytes.
 
 use crate::payloads::long;
+use crate::rows::assert_row;
 use icy_sixel::{DcsSettings, SixelDecoder};
 use sixel_vectors_base::answers::{
     BLACK, MALFORMED, Run, TOO_LARGE, WHITE, decoded, fed, is_drawn, is_refused,
@@ -51,7 +52,7 @@ const REFUSED: [(&str, &str); 9] = [
 fn refused_payloads(rt: HostRuntime) {
     for (payload, reason) in &REFUSED {
         let is_refused = is_refused_both_ways(rt.alloc(), payload.as_bytes(), reason);
-        assert!(rt; is_refused, "{payload}");
+        assert_row(&rt, payload, is_refused);
     }
 }
 

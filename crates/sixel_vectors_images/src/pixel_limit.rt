@@ -1,5 +1,6 @@
 //! Images at the limit of pixels that a host has set, and above it.
 
+use crate::rows::assert_row;
 use icy_sixel::receiver::SixelReceiver;
 use icy_sixel::script::{Outcome, Step, run};
 use icy_sixel::{DcsSettings, SixelDecoder, SixelError};
@@ -33,7 +34,7 @@ fn drawn_payloads(rt: HostRuntime) {
     for (raster_crop, limit, payload, size, run) in &DRAWN {
         let decoder = &mut decoder_with(*raster_crop, *limit);
         let is_drawn = is_drawn_by(rt.alloc(), decoder, settings, payload, *size, &[*run]);
-        assert!(rt; is_drawn, "{payload}");
+        assert_row(&rt, payload, is_drawn);
     }
 }
 
@@ -53,9 +54,10 @@ fn refused_payloads(rt: HostRuntime) {
     for (raster_crop, limit, payload, reason) in &REFUSED {
         decoder.set_raster_crop(*raster_crop);
         decoder.set_pixel_limit(*limit);
-        assert!(rt;
+        assert_row(
+            &rt,
+            payload,
             is_refused_by(rt.alloc(), &mut decoder, payload, reason),
-            "{payload}"
         );
     }
 }

@@ -1,5 +1,6 @@
 //! The settings of a control string and the two enums that they name.
 
+use crate::rows::assert_row;
 use icy_sixel::decoder::DcsSettings;
 use icy_sixel::sixel_image::BackgroundMode::{self, Opaque, Transparent};
 use icy_sixel::sixel_image::PixelAspectRatio::{self, Ratio2To1, Ratio3To1, Ratio5To1, Square};
@@ -27,7 +28,7 @@ fn shapes(rt: HostRuntime) {
             && (read.pan(), read.pad()) == (1, *height)
             && read.is_square() == (*height == 1)
             && read.to_p1_value() == *written;
-        assert!(rt; is_right, "P1 of {p1}");
+        assert_row(&rt, p1, is_right);
     }
 }
 
@@ -47,7 +48,7 @@ fn backgrounds(rt: HostRuntime) {
         let is_right = read == *mode
             && read.is_transparent() == *is_transparent
             && read.to_p2_value() == *written;
-        assert!(rt; is_right, "P2 of {p2}");
+        assert_row(&rt, p2, is_right);
     }
 }
 

@@ -2,6 +2,7 @@
 
 ghost use Rattle.std.specs.Prelude.{◌<◌};
 
+use crate::rows::assert_row;
 use icy_sixel::{
     DcsSettings, SixelDcsStreamDecoder, SixelDecoder, SixelError, SixelImage, SixelStreamDecoder,
 };
@@ -110,7 +111,7 @@ fn are_counted(alloc: Global, payload: &[u8], reach: Reach, size: (usize, usize)
 fn drawings(rt: HostRuntime) {
     for (text, count, reach, size) in &DRAWINGS {
         let payload = repeated(rt.alloc(), text, *count).expect(&rt, text);
-        assert!(rt; are_counted(rt.alloc(), &payload, *reach, *size), "{text}");
+        assert_row(&rt, text, are_counted(rt.alloc(), &payload, *reach, *size));
     }
 }
 
@@ -158,9 +159,10 @@ const COLUMNS: [(&str, u64, u64, Bounds); 2] = [
 #[test]
 fn columns_in_single_bytes(rt: HostRuntime) {
     for (front, writes, count, bounds) in &COLUMNS {
-        assert!(rt;
+        assert_row(
+            &rt,
+            front,
             is_grown(rt.alloc(), front, *writes, *count, *bounds),
-            "{front}"
         );
     }
 }
@@ -232,9 +234,10 @@ fn is_refused_after(
 fn a_refusal_leaves_no_count(rt: HostRuntime) {
     for (limit, front, bounds, piece, reason) in &REFUSALS {
         let fed = (*front, *bounds);
-        assert!(rt;
+        assert_row(
+            &rt,
+            piece,
             is_refused_after(rt.alloc(), *limit, fed, piece, reason),
-            "{piece}"
         );
     }
 }
