@@ -103,6 +103,23 @@ impl Filter {
         }
     }
 
+    /// Takes a whole stream in pieces of up to so many bytes, and ends it.
+    fn pass_whole(&mut self, stream: &[u8], piece_len: usize, output: &mut Vec<u8>) -> Result<()>
+        requires some { 0 < piece_len }
+        requires sound { IsSound self.old }
+        ensures ends { OnOk result
+            (Leads self.old output.old.items stream.now output.new.items) }
+        ensures error { IfErr result (λ e. e ≡ OutOfMemory) }
+    {
+        let mut rest = stream;
+        'pieces: while !rest.is_empty() {
+            let (piece, after) = rest.split_at(piece_len.min(rest.len()));
+            self.pass(piece, output)?;
+            rest = after;
+        }
+        self.end(output)
+    }
+
     /// Takes some of the bytes, and answers how many. It may take none where an image ends.
     fn step(&mut self, bytes: &[u8], output: &mut Vec<u8>) -> Result<usize>
         requires sound { IsSound self.old }
@@ -337,15 +354,8 @@ pub fn filter_pieces(alloc: Global, work: Work, stream: &[u8], piece_len: usize)
         IsFiltered work false new_decoder stream.now output.items) }
     ensures error { IfErr result (λ e. e ≡ OutOfMemory) }
 {
-    let mut filter = Filter::new(alloc, work);
     let mut output = Vec::new(alloc);
-    let mut rest = stream;
-    'pieces: while !rest.is_empty() {
-        let (piece, after) = rest.split_at(piece_len.min(rest.len()));
-        filter.pass(piece, &mut output)?;
-        rest = after;
-    }
-    filter.end(&mut output)?;
+    Filter::new(alloc, work).pass_whole(stream, piece_len, &mut output)?;
     Ok(output)
 }
 
