@@ -1,8 +1,6 @@
 -- What follows an image: by its count and status where it has ended, and byte by byte where it was refused.
-use Rattle.std.proofs.Common.{◌≡◌, ℕ, suc, ◌+◌, ◌≤◌, Bool, true, false, cond, List, [], ◌∷◌, ◌++◌, refl, ap, sym, ◌∙◌, subst, arith, Option, Some, None, length, length-append, drop, append_assoc, append-nil}
-use Rattle.std.specs.Prelude.{◌==◌, ◌&&◌, ◌||◌, nat_lt}
-use Rattle.std.specs.Option.{option_or}
-use Rattle.std.proofs.lemmas.Bool.{false≢true}
+use Rattle.std.proofs.Common.{◌≡◌, ℕ, suc, ◌+◌, ◌≤◌, Bool, true, false, cond, List, [], ◌∷◌, ◌++◌, refl, ap, sym, ◌∙◌, subst, arith, Option, Some, None, length, length-append, drop, append_assoc}
+use Rattle.std.specs.Prelude.{◌==◌, ◌||◌, nat_lt}
 use Rattle.std.proofs.lemmas.Bool.Decides.{nat_tests}
 use Rattle.std.proofs.lemmas.List.{drop-append-le}
 use Rattle.std.proofs.Math.Seq.{drop-append-add}
@@ -14,12 +12,12 @@ use Rattle.sixel_base.specs.Fault.{Faults}
 use Rattle.sixel_base.specs.Bytes.{is_terminator, first_terminator, before_terminator}
 use Rattle.sixel_base.specs.Settings.{Settings}
 use Rattle.sixel_base.specs.Payload.{first_fault, fed_fault, settled, growths}
-use Rattle.sixel_base.specs.Dcs.{Stage, Heading, Failing, Reading, introduced, stage, stage_count, stage_status, stage_fault, stage_growths, stage_in_payload, after_terminator, end_status, end_count, escape_status, escape_count, payload_status, payload_status_by, payload_count, payload_count_by, dcs_status, dcs_count, dcs_fault, dcs_growths, dcs_in_payload, has_ended}
+use Rattle.sixel_base.specs.Dcs.{Stage, Heading, Failing, Reading, introduced, stage, stage_count, stage_status, stage_fault, stage_growths, stage_in_payload, after_terminator, escape_status, escape_count, payload_status, payload_status_by, payload_count, payload_count_by, dcs_status, dcs_count, dcs_fault, dcs_growths, dcs_in_payload, has_ended}
 use Rattle.sixel_decoder.proofs.Continuing.{reading_fits}
 use Rattle.sixel_decoder.proofs.Ended.{settled_ended, status_ended, dcs_count_ended}
 use Rattle.sixel_decoder.proofs.Ending.{stage_reading}
 use Rattle.sixel_filter.specs.declared.words.Work.{Work}
-use Rattle.sixel_filter.specs.Stream.{IsFiltered, Made, begins_image, after_stage, after_image, after_payload, after_end, after_escape}
+use Rattle.sixel_filter.specs.Stream.{Made, begins_image, after_stage, after_image, after_payload, after_end, after_escape}
 use Rattle.sixel_filter.specs.inside.Standing.{Starts, Writes, IsClosed, leaves_escape}
 use Rattle.sixel_filter.proofs.Header.{never_refused}
 

@@ -1,17 +1,17 @@
 -- What may begin an image, and what of it is text where it begins none.
-use Rattle.std.proofs.Common.{◌≡◌, ◌<◌, ℕ, Bool, true, false, cond, List, [], ◌∷◌, ◌++◌, refl, ap, sym, ◌∙◌, subst, arith, Option, Some, None, length, append_assoc}
-use Rattle.std.specs.Prelude.{◌==◌, ◌&&◌, ◌||◌, not, nat_lt, nat_le, slice_index}
+use Rattle.std.proofs.Common.{◌≡◌, ◌<◌, ℕ, Bool, true, false, cond, List, [], ◌∷◌, ◌++◌, refl, ap, sym, ◌∙◌, subst, arith, None, length, append_assoc}
+use Rattle.std.specs.Prelude.{◌==◌, ◌&&◌, ◌||◌, not, nat_lt, slice_index}
 use Rattle.std.proofs.lemmas.Bool.{false≢true}
 use Rattle.std.proofs.lemmas.Bool.Decides.{nat_tests}
 use Rattle.sixel_base.specs.declared.error.SixelError.{SixelError}
 use Rattle.sixel_base.specs.declared.error.SixelError.TheVariants.{InvalidDimensions, BufferSizeMismatch, InvalidData, NoSixelData, IntegerOverflow, OutOfMemory}
 use Rattle.sixel_base.specs.declared.state.DecoderState.{DecoderState}
 use Rattle.sixel_base.specs.declared.status.SixelDcsFeedStatus.TheVariants.{NeedMoreData}
-use Rattle.sixel_base.specs.Fault.{Fault, Faults, Malformed, BadHeader}
+use Rattle.sixel_base.specs.Fault.{Faults, Malformed, BadHeader}
 use Rattle.sixel_base.specs.Bytes.{is_terminator}
 use Rattle.sixel_base.specs.Settings.{Settings}
 use Rattle.sixel_base.specs.Payload.{settled, growths, fed_fault}
-use Rattle.sixel_base.specs.Header.{Begun, Faulty, headed, headed_by, header_rest, is_header}
+use Rattle.sixel_base.specs.Header.{Begun, Faulty, headed_by, header_rest, is_header}
 use Rattle.sixel_base.specs.Dcs.{Absent, Entered, Waiting, escaped, Stage, Heading, Failing, Reading, stage, stage_after, stage_by, stage_fault, stage_growths, stage_in_payload, stage_status, payload_status, dcs_status, dcs_fault, dcs_growths, dcs_in_payload}
 use Rattle.sixel_decoder.proofs.Ending.{failing_stays}
 use Rattle.sixel_filter.specs.declared.words.Work.{Work}

@@ -13,17 +13,17 @@ use Rattle.sixel_base.specs.Decoder.{IsSetAs}
 use Rattle.sixel_base.specs.Fault.{Fault, Faults, IsFault, Incomplete}
 use Rattle.sixel_base.specs.OneShot.{found, IsDecodedAs}
 use Rattle.sixel_base.specs.Payload.{Image}
-use Rattle.sixel_base.specs.Dcs.{Stage, Heading, Failing, Reading, stage, stage_in_payload, stage_fault, stage_status, dcs_status, dcs_count, dcs_fault, dcs_growths, dcs_in_payload, has_ended, end_fault}
+use Rattle.sixel_base.specs.Dcs.{Stage, Heading, Failing, Reading, stage, stage_in_payload, stage_fault, dcs_status, dcs_count, dcs_fault, dcs_growths, dcs_in_payload, has_ended, end_fault}
 use Rattle.sixel_decoder.proofs.Ended.{status_ended, dcs_fault_ended}
 use Rattle.icy_sixel.specs.Receiver.{Form, OfString, Reception, is_open, count, growths, fault}
 use Rattle.sixel_filter.specs.declared.words.Work.{Work}
 use Rattle.sixel_filter.specs.declared.filter.Filter.{Filter}
 use Rattle.sixel_filter.specs.declared.filter.Place.{Place}
 use Rattle.sixel_filter.specs.declared.filter.Place.TheVariants as place
-use Rattle.sixel_filter.specs.Making.{IsMade, Shown, Refused, IsWritten, string_fault, refusal_note}
+use Rattle.sixel_filter.specs.Making.{Shown, Refused, IsWritten, string_fault, refusal_note}
 use Rattle.sixel_filter.specs.Stream.{IsFiltered, Over, Passed, is_part, after_image, after_payload}
 use Rattle.sixel_filter.specs.inside.Standing.{Starts, IsReceiving, IsHeading, IsReading, IsSound, IsSoundAt, IsRestAt, Leads, Writes, IsClosed, leaves_escape}
-use Rattle.sixel_filter.proofs.Header.{not_begun, passed_held, header_refused, after_text, held_class}
+use Rattle.sixel_filter.proofs.Header.{not_begun, passed_held, held_class}
 use Rattle.sixel_filter.proofs.Filtering.{begins, after_ended, after_waiting, after_refused, after_by, made_rest}
 
 pub on_ok : {A E P Q : Type 0} (result : Result A E) → (P → Q) → OnOk result P → OnOk result Q

@@ -1,4 +1,4 @@
-use Rattle.std.proofs.Common.{◌≡◌, List, ℕ, ◌++◌, None, subst}
+use Rattle.std.proofs.Common.{◌≡◌, ℕ, ◌++◌, None, subst}
 use Rattle.sixel_base.specs.Fault.{Faults}
 use Rattle.sixel_base.specs.OneShot.{found, IsDecodedAs}
 use Rattle.sixel_base.specs.declared.state.DecoderState.{DecoderState}

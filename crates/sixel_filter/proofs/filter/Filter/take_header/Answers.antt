@@ -1,4 +1,4 @@
-use Rattle.std.proofs.Common.{◌≡◌, true, false, List, ℕ, [], ◌∷◌, ◌++◌, refl, ap, sym, ◌∙◌, subst}
+use Rattle.std.proofs.Common.{◌≡◌, true, List, ℕ, [], ◌∷◌, ◌++◌, refl, ap, ◌∙◌, subst}
 use Rattle.sixel_base.specs.Dcs.{dcs_in_payload, dcs_status}
 use Rattle.sixel_base.specs.declared.status.SixelDcsFeedStatus.TheVariants.{NeedMoreData}
 use Rattle.icy_sixel.specs.Receiver.{Form, Receiver, is_open, in_payload}

@@ -1,12 +1,11 @@
-use Rattle.std.proofs.Common.{◌≡◌, true, false, List, ℕ, [], ◌∷◌, ◌++◌, refl, ap, sym, ◌∙◌, subst, drop, append_assoc}
+use Rattle.std.proofs.Common.{◌≡◌, true, false, List, ℕ, ◌++◌, refl, ap, sym, ◌∙◌, subst, drop}
 use Rattle.std.specs.Prelude.{nat_lt}
-use Rattle.sixel_base.specs.Dcs.{dcs_in_payload, dcs_status, dcs_count, dcs_fault, dcs_growths, has_ended}
+use Rattle.sixel_base.specs.Dcs.{dcs_in_payload, dcs_status, dcs_fault, dcs_growths, has_ended}
 use Rattle.sixel_base.specs.Fault.{Faults}
 use Rattle.sixel_base.specs.declared.state.DecoderState.{DecoderState}
-use Rattle.sixel_base.specs.declared.status.SixelDcsFeedStatus.{SixelDcsFeedStatus}
 use Rattle.sixel_base.specs.declared.status.SixelDcsFeedStatus.TheVariants.{NeedMoreData}
 use Rattle.icy_sixel.specs.declared.script.Status.TheVariants.{Dcs}
-use Rattle.icy_sixel.specs.Receiver.{Form, is_open, count, status}
+use Rattle.icy_sixel.specs.Receiver.{Form, is_open, status}
 use Rattle.sixel_filter.specs.declared.filter.Filter.{Filter}
 use Rattle.sixel_filter.specs.Stream.{after_payload}
 use Rattle.sixel_filter.specs.inside.Standing.{Writes, leaves_escape}
