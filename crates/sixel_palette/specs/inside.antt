@@ -4,3 +4,4 @@ pub mod PaletteChunks
 pub mod PaletteFlags
 pub mod PaletteStarts
 pub mod PaletteLookUp
+pub mod PaletteChosen

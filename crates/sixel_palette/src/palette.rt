@@ -2,9 +2,12 @@
 
 ghost use Rattle.std.specs.Prelude.{◌≡◌, ◌≢◌, ◌-◌, ◌%◌, ◌<◌, ◌≤◌, ◌↔◌, ℕ, List, [], length};
 ghost use Rattle.std.specs.Prelude.{All, Contains, IsTrue, OnOk, IfOk, IfErr};
+ghost use Rattle.std.specs.List.Sorted.{IsStrictlyIncreasing};
 ghost use Rattle.sixel_palette.specs.Palette.{IsShown, HasSize, IsPalette, palette_room};
 ghost use Rattle.sixel_palette.specs.Palette.{IsNearest, AreIndices, IsError, AreWitnesses};
 ghost use Rattle.sixel_palette.specs.PaletteBound.{AreApart, NoListIsBetter};
+ghost use Rattle.sixel_palette.specs.inside.PaletteCodes.{IsListed};
+ghost use Rattle.sixel_palette.specs.inside.PaletteChosen.{IsChosen};
 
 mod chunks;
 mod colors;
@@ -18,7 +21,7 @@ use crate::palette::colors::{is_apart_from, shown_codes};
 use crate::palette::farthest::choose;
 use crate::palette::indices::indices_of;
 use sixel_base::{Result, SixelError};
-use std::alloc::Global;
+use std::alloc::{AllocError, Global};
 
 /// A palette, the entry of each pixel, and a certificate of how good the palette is.
 #[derive(Debug, Drop)]
@@ -89,12 +92,46 @@ pub fn choose_palette(alloc: Global, pixels: &[u8], max_colors: u16) -> Result<P
             actual: pixels.len(),
         });
     }
+    let room = usize::from(max_colors.clamp(2, 256));
+    Ok(palette_of(alloc, pixels, room)?)
+}
+
+/// The palette of whole pixels, with room for so many entries, and its certificate.
+fn palette_of(
+    alloc: Global,
+    pixels: &[u8],
+    room: usize,
+) -> std::result::Result<PaletteChoice, AllocError>
+    requires some { 0 < room }
+    requires room { room ≤ 256 }
+    ensures chosen { IfOk result (IsChosen pixels.now room) }
+    ensures indices { IfOk result (λ p. AreIndices pixels.now p.colors.items p.indices.items) }
+{
     let codes = shown_codes(alloc, pixels)?;
-    let spread = choose(alloc, &codes, usize::from(max_colors.clamp(2, 256)))?;
-    let indices = indices_of(alloc, pixels, &codes, spread.nears.places())?;
-    let witnesses = spread.witnesses(alloc, &codes)?;
+    palette_of_codes(alloc, pixels, &codes, room)
+}
+
+/// The same, from the codes of the colors that the pixels show, each once, in order.
+fn palette_of_codes(
+    alloc: Global,
+    pixels: &[u8],
+    codes: &[u32],
+    room: usize,
+) -> std::result::Result<PaletteChoice, AllocError>
+    requires some { 0 < room }
+    requires room { room ≤ 256 }
+    requires ascending { IsStrictlyIncreasing codes.now }
+    requires small { All (λ code. code < 16777216) codes.now }
+    requires shown { (c : List ℕ) → IsShown pixels.now c → IsListed codes.now c }
+    requires listed { (c : List ℕ) → IsListed codes.now c → IsShown pixels.now c }
+    ensures chosen { IfOk result (IsChosen pixels.now room) }
+    ensures indices { IfOk result (λ p. AreIndices pixels.now p.colors.items p.indices.items) }
+{
+    let spread = choose(alloc, codes, room)?;
+    let indices = indices_of(alloc, pixels, codes, spread.nears.places())?;
+    let witnesses = spread.witnesses(alloc, codes)?;
     Ok(PaletteChoice {
-        error: spread.error(&codes),
+        error: spread.error(codes),
         colors: spread.colors,
         indices,
         witnesses,
