@@ -5,3 +5,4 @@ pub mod PaletteFlags
 pub mod PaletteStarts
 pub mod PaletteLookUp
 pub mod PaletteChosen
+pub mod PaletteKept

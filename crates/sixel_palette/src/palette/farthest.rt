@@ -6,8 +6,10 @@ ghost use Rattle.std.specs.List.Sorted.{IsStrictlyIncreasing};
 ghost use Rattle.sixel_palette.specs.Palette.{distance, nearest, IsFarthest, IsFarthestFirst};
 ghost use Rattle.sixel_palette.specs.inside.PaletteCodes.{color_of, IsListed};
 ghost use Rattle.sixel_palette.specs.inside.PaletteNear.{IsNear, AreNear};
+ghost use Rattle.sixel_palette.specs.inside.PaletteChunks.{IsFirstGreatest};
+ghost use Rattle.sixel_palette.specs.inside.PaletteKept.{IsWhole, IsKept};
 
-use crate::palette::chunks::{chunks_of, farthest_of, settle};
+use crate::palette::chunks::{Chunk, chunks_of, farthest_of, settle};
 use crate::palette::colors::{color_of, distance};
 use crate::palette::nears::Nears;
 use std::alloc::{AllocError, Global};
@@ -31,6 +33,15 @@ pub struct Spread {
     pub farthest: usize,
 }
 
+/// What is kept while entries are chosen: each color's squared distance to its nearest entry and
+/// the place of that entry, and the chunks of the colors.
+#[derive(Drop)]
+pub struct Kept {
+    pub squares: Vec<u32>,
+    pub places: Vec<u8>,
+    pub chunks: Vec<Chunk>,
+}
+
 /// Chooses entries farthest first, as many as there is room for and there are colors.
 pub fn choose(alloc: Global, codes: &[u32], room: usize) -> Result<Spread, AllocError>
     requires ascending { IsStrictlyIncreasing codes.now }
@@ -46,28 +57,69 @@ pub fn choose(alloc: Global, codes: &[u32], room: usize) -> Result<Spread, Alloc
 {
     let count = room.min(codes.len());
     let mut colors = Vec::with_capacity(alloc, count)?;
-    let mut squares = vec![in alloc; NO_ENTRY; codes.len()]?;
-    let mut places = vec![in alloc; 0; codes.len()]?;
-    let mut chunks = chunks_of(alloc, codes)?;
+    let mut kept = Kept::new(alloc, codes)?;
     let mut farthest = 0;
     for entry in 0..count {
         let color = color_of(codes[farthest]);
-        settle(
-            codes,
-            &mut squares,
-            &mut places,
-            &mut chunks,
-            color,
-            entry as u8,
-        );
-        farthest = farthest_of(codes, &squares, &chunks);
+        farthest = kept.take(codes, color, entry as u8);
         colors.push(color)?;
     }
     Ok(Spread {
         colors,
-        nears: Nears::of(&squares, places),
+        nears: kept.into_nears(),
         farthest,
     })
+}
+
+impl Kept {
+    /// What is kept with no entry.
+    fn new(alloc: Global, codes: &[u32]) -> Result<Kept, AllocError>
+        requires small { All (λ code. code < 16777216) codes.now }
+        ensures whole { IfOk result (IsWhole codes.now) }
+        ensures kept { IfOk result (IsKept [] codes.now) }
+    {
+        let squares = vec![in alloc; NO_ENTRY; codes.len()]?;
+        let places = vec![in alloc; 0; codes.len()]?;
+        let chunks = chunks_of(alloc, codes)?;
+        Ok(Kept {
+            squares,
+            places,
+            chunks,
+        })
+    }
+
+    /// Takes one more entry, and answers the place of the color that is then farthest.
+    fn take(&mut self, codes: &[u32], color: [u8; 3], entry: u8) -> usize
+        requires some { 0 < length codes.now }
+        requires small { All (λ code. code < 16777216) codes.now }
+        requires whole { IsWhole codes.now self.old }
+        ensures whole { IsWhole codes.now self.new }
+        ensures kept { (entries : List (List ℕ)) → length entries ≡ entry
+            → IsKept entries codes.now self.old
+            → IsKept (entries ++ color ∷ []) codes.now self.new }
+        ensures farthest { IsFirstGreatest self.new.squares.items result }
+    {
+        settle(
+            codes,
+            &mut self.squares,
+            &mut self.places,
+            &mut self.chunks,
+            color,
+            entry,
+        );
+        farthest_of(codes, &self.squares, &self.chunks)
+    }
+
+    /// What is then known of each color.
+    fn into_nears(self) -> Nears
+        requires { length self.places.items ≡ length self.squares.items }
+        ensures len { length result.items ≡ length self.squares.items }
+        ensures near { (entries : List (List ℕ)) (codes : List ℕ) → IsWhole codes self
+            → IsKept entries codes self → AreNear entries codes result.items }
+    {
+        let places = self.places;
+        Nears::of(&self.squares, places)
+    }
 }
 
 impl Spread {
