@@ -42,3 +42,18 @@ returns-clause-near c =
 
 pub color_of-color-requires : goal.color_of-color-requires
 color_of-color-requires c = c.requires.small c.loop-entry.farthest 0 (c.loop-entry.invariant.within (omega arith))
+
+pub take-farthest-requires-clause-small : goal.take-farthest-requires-clause-small
+take-farthest-requires-clause-small c = c.requires.small
+
+pub take-farthest-requires-clause-whole : goal.take-farthest-requires-clause-whole
+take-farthest-requires-clause-whole c = c.loop-entry.invariant.whole
+
+pub returns-clause-order : goal.returns-clause-order
+returns-clause-order c = c.loop-entry.invariant.order
+
+pub returns-clause-farthest : goal.returns-clause-farthest
+returns-clause-farthest c = c.loop-entry.invariant.farthest
+
+pub returns-clause-within : goal.returns-clause-within
+returns-clause-within c = c.loop-entry.invariant.within

@@ -16,3 +16,27 @@ words-preserved c =
 pub returns-else-codes-place-clause-next : goal.returns-else-codes-place-clause-next
 returns-else-codes-place-clause-next c =
     span_end c.args.codes.now c.args.span c.args.from c.words.place c.args.words.now c.words.words c.words.bits c.requires.ascending c.requires.start c.words.invariant (λ l e. omega (arith, e, c.if-codes-place.false))
+
+pub returns-else-codes-place-clause-even : goal.returns-else-codes-place-clause-even
+returns-else-codes-place-clause-even c = c.words.invariant.even
+
+pub returns-else-codes-place-clause-kept : goal.returns-else-codes-place-clause-kept
+returns-else-codes-place-clause-kept c = c.words.invariant.kept
+
+pub returns-else-codes-place-clause-span : goal.returns-else-codes-place-clause-span
+returns-else-codes-place-clause-span c =
+    record { rises = c.words.invariant.rises; ranks = c.words.invariant.ranks }
+
+pub returns-after-words-clause-even : goal.returns-after-words-clause-even
+returns-after-words-clause-even c = c.words.invariant.even
+
+pub returns-after-words-clause-kept : goal.returns-after-words-clause-kept
+returns-after-words-clause-kept c = c.words.invariant.kept
+
+pub returns-after-words-clause-span : goal.returns-after-words-clause-span
+returns-after-words-clause-span c =
+    record { rises = c.words.invariant.rises; ranks = c.words.invariant.ranks }
+
+pub returns-after-words-clause-next : goal.returns-after-words-clause-next
+returns-after-words-clause-next c =
+    span_end c.args.codes.now c.args.span c.args.from c.words.place c.args.words.now c.words.words c.words.bits c.requires.ascending c.requires.start c.words.invariant (λ l e. absurd (omega arith))

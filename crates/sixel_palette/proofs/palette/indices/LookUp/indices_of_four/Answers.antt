@@ -26,3 +26,35 @@ returns-else-are_opaque c = λ entries squares k near l.
     let third = c.index_of-else-are_opaque-2 in
     let fourth = c.index_of-else-are_opaque-3 in
     four_cases (IsFoundAt entries c.args.words (first.result ∷ second.result ∷ third.result ∷ fourth.result ∷ [])) (first.ensures entries squares near) (second.ensures entries squares near) (third.ensures entries squares near) (fourth.ensures entries squares near) k l
+
+pub shown_index_of-requires : goal.shown_index_of-requires
+shown_index_of-requires c =
+    let opaque = c.are_opaque.ensures c.if-are_opaque.true 0 (omega arith) in
+    record { whole = c.requires.whole; opaque = opaque; listed = c.requires.listed 0 (omega arith) opaque }
+
+pub shown_index_of-requires-then-are_opaque : goal.shown_index_of-requires-then-are_opaque
+shown_index_of-requires-then-are_opaque c =
+    let opaque = c.are_opaque.ensures c.if-are_opaque.true 1 (omega arith) in
+    record { whole = c.requires.whole; opaque = opaque; listed = c.requires.listed 1 (omega arith) opaque }
+
+pub shown_index_of-requires-then-are_opaque-2 : goal.shown_index_of-requires-then-are_opaque-2
+shown_index_of-requires-then-are_opaque-2 c =
+    let opaque = c.are_opaque.ensures c.if-are_opaque.true 2 (omega arith) in
+    record { whole = c.requires.whole; opaque = opaque; listed = c.requires.listed 2 (omega arith) opaque }
+
+pub shown_index_of-requires-then-are_opaque-3 : goal.shown_index_of-requires-then-are_opaque-3
+shown_index_of-requires-then-are_opaque-3 c =
+    let opaque = c.are_opaque.ensures c.if-are_opaque.true 3 (omega arith) in
+    record { whole = c.requires.whole; opaque = opaque; listed = c.requires.listed 3 (omega arith) opaque }
+
+pub index_of-requires : goal.index_of-requires
+index_of-requires c = record { whole = c.requires.whole; listed = c.requires.listed 0 (omega arith) }
+
+pub index_of-requires-else-are_opaque : goal.index_of-requires-else-are_opaque
+index_of-requires-else-are_opaque c = record { whole = c.requires.whole; listed = c.requires.listed 1 (omega arith) }
+
+pub index_of-requires-else-are_opaque-2 : goal.index_of-requires-else-are_opaque-2
+index_of-requires-else-are_opaque-2 c = record { whole = c.requires.whole; listed = c.requires.listed 2 (omega arith) }
+
+pub index_of-requires-else-are_opaque-3 : goal.index_of-requires-else-are_opaque-3
+index_of-requires-else-are_opaque-3 c = record { whole = c.requires.whole; listed = c.requires.listed 3 (omega arith) }
