@@ -15,6 +15,7 @@ use crate::code::{DONE, NO_HANDLE, NO_SESSION, OUT_OF_MEMORY, code_of, status_by
 use crate::parameters::settings;
 use crate::slot::Slot;
 use crate::state::State;
+use icy_sixel::receiver::Received;
 use std::alloc::Global;
 
 /// What a feed did: how many bytes are the image's own, how it stands, and the control that ended
@@ -25,6 +26,21 @@ pub struct Fed {
     pub consumed: usize,
     pub status: u32,
     pub byte: u8,
+}
+
+impl Fed {
+    /// What C is told of what a receiver did.
+    fn of(received: Received) -> Fed
+        ensures consumed { result.consumed ≡ received.consumed }
+        ensures status { result.status ≡ code_of_status received.status }
+        ensures byte { result.byte ≡ byte_of_status received.status }
+    {
+        Fed {
+            consumed: received.consumed,
+            status: status_code(received.status),
+            byte: status_byte(received.status),
+        }
+    }
 }
 
 /// Makes the handle lead to a new decoder; what it led to is freed.
@@ -168,19 +184,53 @@ pub extern "C" fn icysixel_feed(alloc: Global, slot: &mut Slot, piece: &[u8], fe
     let Some(mut state) = slot.take(alloc) else {
         return NO_HANDLE;
     };
+    let code = feed(&mut state, piece, fed);
+    slot.put(state);
+    code
+}
+
+/// Reads a piece of the image that is open, if one is, and tells what it did where the answer is 0.
+fn feed(state: &mut State, piece: &[u8], fed: &mut Fed) -> u32
+    ensures closed { is_open state.old.receiver.image.form ≡ false → result ≡ 2 }
+    ensures unchanged { is_open state.old.receiver.image.form ≡ false
+        → state.new ≡ state.old }
+    ensures decoder { state.new.receiver.decoder ≡ state.old.receiver.decoder }
+    ensures kept { AreKept state.old state.new }
+    ensures form { state.new.receiver.image.form ≡ state.old.receiver.image.form }
+    ensures start { state.new.receiver.image.start ≡ state.old.receiver.image.start }
+    ensures bytes { is_open state.old.receiver.image.form ≡ true
+        → state.new.receiver.image.bytes ≡ state.old.receiver.image.bytes ++ piece.now }
+    ensures accepted { result ≡ 0 → state.new.receiver.image.is_refused ≡ false }
+    ensures failed { is_open state.old.receiver.image.form ≡ true → result ≢ 0
+        → state.new.receiver.image.is_refused ≡ true }
+    ensures faultless { result ≡ 0 → fault state.old.receiver.image.start.pixel_limit
+        state.new.receiver.image.form state.new.receiver.image.bytes ≡ None }
+    ensures consumed { result ≡ 0
+        → count state.old.receiver.image.form state.old.receiver.image.bytes + fed.new.consumed
+        ≡ count state.new.receiver.image.form state.new.receiver.image.bytes }
+    ensures within { result ≡ 0 → fed.new.consumed ≤ length piece.now }
+    ensures status { result ≡ 0 → fed.new.status
+        ≡ code_of_status (status state.new.receiver.image.form state.new.receiver.image.bytes) }
+    ensures byte { result ≡ 0 → fed.new.byte
+        ≡ byte_of_status (status state.new.receiver.image.form state.new.receiver.image.bytes) }
+    ensures refused { is_open state.old.receiver.image.form ≡ true
+        → state.old.receiver.image.is_refused ≡ false → result ≢ 0
+        → IsTold result
+        (nat_lt (growths state.old.receiver.image.form state.old.receiver.image.bytes)
+        (growths state.new.receiver.image.form state.new.receiver.image.bytes))
+        (fault state.old.receiver.image.start.pixel_limit
+        state.new.receiver.image.form state.new.receiver.image.bytes) }
+    ensures again { is_open state.old.receiver.image.form ≡ true
+        → state.old.receiver.image.is_refused ≡ true
+        → result ≡ fault_code (failed state.old.receiver.image.form) }
+    ensures told { result ≢ 0 → fed.new ≡ fed.old }
+{
     if !state.receiver.is_receiving() {
-        slot.put(state);
         return NO_SESSION;
     }
-    let answer = state.receiver.feed(piece);
-    slot.put(state);
-    match answer {
+    match state.receiver.feed(piece) {
         Ok(received) => {
-            *fed = Fed {
-                consumed: received.consumed,
-                status: status_code(received.status),
-                byte: status_byte(received.status),
-            };
+            *fed = Fed::of(received);
             DONE
         }
         Err(error) => code_of(&error),
