@@ -15,10 +15,11 @@ ghost use Rattle.icysixel_c.specs.Shape.{shape_of};
 ghost use Rattle.icysixel_c.specs.declared.state.State.{State};
 
 use crate::bytes::Bytes;
-use crate::code::{BAD_STRIDE, DONE, NO_HANDLE, NO_IMAGE, NO_SESSION, SMALL_ROOM, code_of};
+use crate::code::{BAD_STRIDE, DONE, NO_HANDLE, NO_IMAGE, NO_SESSION, SMALL_ROOM};
 use crate::rows::{spread, stride_of, wanted};
 use crate::shape::Shape;
 use crate::slot::Slot;
+use crate::state::State;
 use icy_sixel::SixelImage;
 use std::alloc::Global;
 use std::mem;
@@ -76,24 +77,51 @@ pub extern "C" fn icysixel_finish(alloc: Global, slot: &mut Slot, shape: &mut Sh
     let Some(mut state) = slot.take(alloc) else {
         return NO_HANDLE;
     };
+    let code = finish(&mut state, shape);
+    slot.put(state);
+    code
+}
+
+/// Closes the image, keeps it in place of the one before, and tells its shape where the answer is
+/// 0.
+fn finish(state: &mut State, shape: &mut Shape) -> u32
+    ensures unopened { is_open state.old.receiver.image.form ≡ false → result ≡ 2 }
+    ensures closed { state.new.receiver.image ≡ no_image }
+    ensures found { result ≡ 0 → is_some state.new.image ≡ true }
+    ensures image { (image : SixelImage) → state.new.image ≡ Some image
+        → IsFoundImage state.old.receiver.image.start
+        (found state.old.receiver.image.form state.old.receiver.image.bytes) (image_value image) }
+    ensures shape { (image : SixelImage) → state.new.image ≡ Some image
+        → shape.new ≡ shape_of (image_value image) }
+    ensures registers { result ≡ 0 → AreFoundRegisters state.old.receiver.image.start
+        (found state.old.receiver.image.form state.old.receiver.image.bytes)
+        state.new.receiver.decoder.registers }
+    ensures accepted { result ≡ 0 → state.old.receiver.image.is_refused ≡ false }
+    ensures faultless { result ≡ 0 → end_fault state.old.receiver.image.start.pixel_limit
+        state.old.receiver.image.form state.old.receiver.image.bytes ≡ None }
+    ensures set { IsSetAs state.old.receiver.decoder state.new.receiver.decoder }
+    ensures text { state.new.text ≡ state.old.text }
+    ensures kept { result ≢ 0 → state.new.receiver.decoder ≡ state.old.receiver.decoder }
+    ensures dropped { result ≢ 0 → state.new.image ≡ None }
+    ensures refused { is_open state.old.receiver.image.form ≡ true
+        → state.old.receiver.image.is_refused ≡ false → result ≢ 0
+        → IsTold result
+        (end_wants state.old.receiver.image.start.pixel_limit
+        state.old.receiver.image.form state.old.receiver.image.bytes)
+        (end_fault state.old.receiver.image.start.pixel_limit
+        state.old.receiver.image.form state.old.receiver.image.bytes) }
+    ensures again { is_open state.old.receiver.image.form ≡ true
+        → state.old.receiver.image.is_refused ≡ true
+        → result ≡ fault_code (failed state.old.receiver.image.form) }
+    ensures told { result ≢ 0 → shape.new ≡ shape.old }
+{
     drop(state.take_image());
     if !state.receiver.is_receiving() {
         state.receiver.abort();
-        slot.put(state);
         return NO_SESSION;
     }
-    match state.receiver.finish() {
-        Ok(image) => {
-            *shape = Shape::of(&image);
-            state.keep_image(Some(image));
-            slot.put(state);
-            DONE
-        }
-        Err(error) => {
-            slot.put(state);
-            code_of(&error)
-        }
-    }
+    let answer = state.receiver.finish();
+    state.keep_answer(answer, shape)
 }
 
 /// Moves the pixels of the image that is kept into the room, and tells how many bytes that takes.

@@ -13,7 +13,7 @@ ghost use Rattle.icysixel_c.specs.Code.{IsTold, settings_of};
 ghost use Rattle.icysixel_c.specs.Shape.{shape_of};
 ghost use Rattle.icysixel_c.specs.declared.state.State.{State};
 
-use crate::code::{DONE, NO_HANDLE, code_of};
+use crate::code::NO_HANDLE;
 use crate::parameters::settings;
 use crate::shape::Shape;
 use crate::slot::Slot;
@@ -69,19 +69,9 @@ pub extern "C" fn icysixel_decode(
     let mut decoder = state.replace_decoder(SixelDecoder::new());
     let answer = decoder.decode(alloc, bytes);
     state.replace_decoder(decoder);
-    match answer {
-        Ok(image) => {
-            *shape = Shape::of(&image);
-            state.keep_image(Some(image));
-            slot.put(state);
-            DONE
-        }
-        Err(error) => {
-            state.keep_image(None);
-            slot.put(state);
-            code_of(&error)
-        }
-    }
+    let code = state.keep_answer(answer, shape);
+    slot.put(state);
+    code
 }
 
 /// As [`icysixel_decode`] of one payload, with these parameters.
@@ -133,17 +123,7 @@ pub extern "C" fn icysixel_decode_payload(
     let mut decoder = state.replace_decoder(SixelDecoder::new());
     let answer = decoder.decode_from_dcs(alloc, bytes, settings(p1, p2, grid));
     state.replace_decoder(decoder);
-    match answer {
-        Ok(image) => {
-            *shape = Shape::of(&image);
-            state.keep_image(Some(image));
-            slot.put(state);
-            DONE
-        }
-        Err(error) => {
-            state.keep_image(None);
-            slot.put(state);
-            code_of(&error)
-        }
-    }
+    let code = state.keep_answer(answer, shape);
+    slot.put(state);
+    code
 }

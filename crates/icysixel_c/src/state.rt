@@ -1,13 +1,19 @@
 //! What a handle leads to.
 
-ghost use Rattle.std.specs.Prelude.{◌≡◌, ◌≢◌, ◌*◌, None, length};
+ghost use Rattle.std.specs.Prelude.{◌≡◌, ◌≢◌, ◌*◌, Bool, Option, Some, None, length};
+ghost use Rattle.std.specs.Prelude.{OnOk, OnErr, IfOk, IfErr};
 ghost use Rattle.std.specs.Option.{ForSome};
 ghost use Rattle.sixel_base.specs.Decoder.{new_decoder};
+ghost use Rattle.sixel_base.specs.Fault.{Fault, Faults, IsFault};
+ghost use Rattle.icy_sixel.specs.ImageView.{image_value};
 ghost use Rattle.icy_sixel.specs.Receiver.{no_image};
+ghost use Rattle.icysixel_c.specs.Code.{IsTold, fault_code};
+ghost use Rattle.icysixel_c.specs.Shape.{shape_of};
 
-use crate::code::DONE;
+use crate::code::{DONE, code_of};
+use crate::shape::Shape;
 use icy_sixel::receiver::SixelReceiver;
-use icy_sixel::{SixelDecoder, SixelImage};
+use icy_sixel::{SixelDecoder, SixelError, SixelImage};
 use std::mem;
 
 /// A receiver, and what is kept until the host takes it: the image that came last, and a text.
@@ -52,6 +58,37 @@ impl State {
         ensures text { self.new.text ≡ self.old.text }
     {
         self.image = image;
+    }
+
+    /// Keeps an image that was decoded and tells its shape, or keeps none and gives the code of the
+    /// refusal.
+    pub fn keep_answer(&mut self, answer: Result<SixelImage, SixelError>, shape: &mut Shape) -> u32
+        requires { IfOk answer (λ i. length i.pixels.items ≡ 4 * (i.width * i.height)) }
+        ensures done { OnOk answer (result ≡ 0) }
+        ensures image { IfOk answer (λ image. self.new.image ≡ Some image) }
+        ensures shape { IfOk answer (λ image. shape.new ≡ shape_of (image_value image)) }
+        ensures refused { OnErr answer (result ≢ 0) }
+        ensures dropped { OnErr answer (self.new.image ≡ None) }
+        ensures told { OnErr answer (shape.new ≡ shape.old) }
+        ensures fault { (fault : Fault) → result ≢ 0
+            → IfErr answer (λ error. IsFault error fault) → result ≡ fault_code fault }
+        ensures code { (may_want : Bool) (found : Option Fault) → result ≢ 0
+            → IfErr answer (λ error. Faults error may_want found)
+            → IsTold result may_want found }
+        ensures receiver { self.new.receiver ≡ self.old.receiver }
+        ensures text { self.new.text ≡ self.old.text }
+    {
+        match answer {
+            Ok(image) => {
+                *shape = Shape::of(&image);
+                self.keep_image(Some(image));
+                DONE
+            }
+            Err(error) => {
+                self.image = None;
+                code_of(&error)
+            }
+        }
     }
 
     /// Keeps this text in place of the one before, or none.

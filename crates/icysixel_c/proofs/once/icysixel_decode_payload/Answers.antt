@@ -1,5 +1,7 @@
-use Rattle.std.proofs.Common.{rules}
+use Rattle.std.proofs.Common.{◌≡◌, arith}
 use Rattle.icysixel_c.proofs.once.icysixel_decode_payload.Goals as goal
 
-pub returns-in-Ok-clause-image : goal.returns-in-Ok-clause-image
-returns-in-Ok-clause-image c = search rules
+pub returns-clause-refused : goal.returns-clause-refused
+returns-clause-refused c = λ before is refused.
+    let same : c.replace_decoder-decoder.result ≡ before.receiver.decoder = grind (arith, c.in-Some.ensures.some) in
+    rw (← same) (c.keep_answer-code.ensures.code _ _ refused c.decode_from_dcs-answer.ensures.refused)
