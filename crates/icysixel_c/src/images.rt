@@ -10,7 +10,7 @@ ghost use Rattle.icy_sixel.specs.Receiver.{end_fault, end_wants, failed, found, 
 ghost use Rattle.icy_sixel.specs.declared.sixel_image.SixelImage.{SixelImage};
 ghost use Rattle.icysixel_c.specs.Code.{IsTold, fault_code};
 ghost use Rattle.icysixel_c.specs.Kept.{kept_image};
-ghost use Rattle.icysixel_c.specs.Rows.{AreGapsKept, bytes_of, rows_of, stride_of};
+ghost use Rattle.icysixel_c.specs.Rows.{AreGapsKept, bytes_of, rows_of, stride_of, wanted};
 ghost use Rattle.icysixel_c.specs.Shape.{shape_of};
 ghost use Rattle.icysixel_c.specs.declared.state.State.{State};
 
@@ -208,14 +208,39 @@ fn copied(image: &SixelImage, room: &mut [u8], stride: usize, bytes: &mut usize)
         return BAD_STRIDE;
     };
     let stride = stride_of(stride, wide);
-    let Some(size) = wanted(stride, wide, image.height) else {
+    copied_rows(&image.pixels, room, stride, wide, image.height, bytes)
+}
+
+/// Copies rows into the room, and tells how many bytes that takes.
+fn copied_rows(
+    rows: &[u8],
+    room: &mut [u8],
+    stride: usize,
+    wide: usize,
+    height: usize,
+    bytes: &mut usize,
+) -> u32
+    requires { length rows.now ≡ wide * height }
+    ensures bad_stride { wanted stride wide height ≡ None → result ≡ 7 }
+    ensures no_bytes { wanted stride wide height ≡ None → bytes.new ≡ bytes.old }
+    ensures small { (size : ℕ) → wanted stride wide height ≡ Some size
+        → length room.old < size → result ≡ 6 }
+    ensures bytes { (size : ℕ) → wanted stride wide height ≡ Some size → bytes.new ≡ size }
+    ensures moved { (size : ℕ) → wanted stride wide height ≡ Some size
+        → size ≤ length room.old → result ≡ 0 }
+    ensures rows { result ≡ 0 → rows_of stride wide height room.new ≡ rows.now }
+    ensures gaps { (row : ℕ) → AreGapsKept stride wide row room.old room.new }
+    ensures rest { drop (height * stride) room.new ≡ drop (height * stride) room.old }
+    ensures unwritten { result ≢ 0 → room.new ≡ room.old }
+{
+    let Some(size) = wanted(stride, wide, height) else {
         return BAD_STRIDE;
     };
     *bytes = size;
     if room.len() < size {
         return SMALL_ROOM;
     }
-    spread(room, &image.pixels, stride, wide, image.height);
+    spread(room, rows, stride, wide, height);
     DONE
 }
 

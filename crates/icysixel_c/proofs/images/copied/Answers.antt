@@ -4,8 +4,8 @@ use Rattle.icysixel_c.specs.Rows.{stride_of}
 use Rattle.icysixel_c.proofs.Spread.{none_wanted}
 use Rattle.icysixel_c.proofs.images.copied.Goals as goal
 
-pub spread-requires-clause-rows : goal.spread-requires-clause-rows
-spread-requires-clause-rows c =
+pub copied_rows-requires : goal.copied_rows-requires
+copied_rows-requires c =
     let image = c.args.image.now in
     let wide : 4 * image.width ≡ c.in-Some.wide = omega (arith, c.in-Some.ensures.1) in
     ap length c.deref.ensures.value
@@ -26,35 +26,37 @@ returns-in_default-clause-moved c = λ size is enough.
     let image = c.args.image.now in
     cc (none_wanted (stride_of c.args.stride (4 * image.width)) (4 * image.width) image.height (omega (arith, c.in_default.ensures)))
 
-pub returns-in_default-wanted-clause-small : goal.returns-in_default-wanted-clause-small
-returns-in_default-wanted-clause-small c = λ size is short.
+pub returns-clause-bad_stride : goal.returns-clause-bad_stride
+returns-clause-bad_stride c =
     let wide : 4 * c.args.image.now.width ≡ c.in-Some.wide = omega (arith, c.in-Some.ensures.1) in
-    cc
+    rw (wide, ← c.stride_of-stride.ensures) c.copied_rows.ensures.bad_stride
 
-pub returns-in_default-wanted-clause-bytes : goal.returns-in_default-wanted-clause-bytes
-returns-in_default-wanted-clause-bytes c = λ size is.
+pub returns-clause-no_bytes : goal.returns-clause-no_bytes
+returns-clause-no_bytes c =
     let wide : 4 * c.args.image.now.width ≡ c.in-Some.wide = omega (arith, c.in-Some.ensures.1) in
-    cc
+    rw (wide, ← c.stride_of-stride.ensures) c.copied_rows.ensures.no_bytes
 
-pub returns-in_default-wanted-clause-moved : goal.returns-in_default-wanted-clause-moved
-returns-in_default-wanted-clause-moved c = λ size is enough.
+pub returns-clause-small : goal.returns-clause-small
+returns-clause-small c =
     let wide : 4 * c.args.image.now.width ≡ c.in-Some.wide = omega (arith, c.in-Some.ensures.1) in
-    cc
-
-pub returns-then-room-size-clause-bad_stride : goal.returns-then-room-size-clause-bad_stride
-returns-then-room-size-clause-bad_stride c = λ none.
-    let wide : 4 * c.args.image.now.width ≡ c.in-Some.wide = omega (arith, c.in-Some.ensures.1) in
-    cc
-
-pub returns-then-room-size-clause-bytes : goal.returns-then-room-size-clause-bytes
-returns-then-room-size-clause-bytes c = λ size is.
-    let wide : 4 * c.args.image.now.width ≡ c.in-Some.wide = omega (arith, c.in-Some.ensures.1) in
-    cc
+    rw (wide, ← c.stride_of-stride.ensures) c.copied_rows.ensures.small
 
 pub returns-clause-bytes : goal.returns-clause-bytes
-returns-clause-bytes c = λ size is.
+returns-clause-bytes c =
     let wide : 4 * c.args.image.now.width ≡ c.in-Some.wide = omega (arith, c.in-Some.ensures.1) in
-    cc
+    rw (wide, ← c.stride_of-stride.ensures) c.copied_rows.ensures.bytes
 
-pub returns-then-room-size-clause-small : goal.returns-then-room-size-clause-small
-returns-then-room-size-clause-small c = omega arith
+pub returns-clause-moved : goal.returns-clause-moved
+returns-clause-moved c =
+    let wide : 4 * c.args.image.now.width ≡ c.in-Some.wide = omega (arith, c.in-Some.ensures.1) in
+    rw (wide, ← c.stride_of-stride.ensures) c.copied_rows.ensures.moved
+
+pub returns-clause-gaps : goal.returns-clause-gaps
+returns-clause-gaps c =
+    let wide : 4 * c.args.image.now.width ≡ c.in-Some.wide = omega (arith, c.in-Some.ensures.1) in
+    rw (wide, ← c.stride_of-stride.ensures) c.copied_rows.ensures.gaps
+
+pub returns-clause-rest : goal.returns-clause-rest
+returns-clause-rest c =
+    let wide : 4 * c.args.image.now.width ≡ c.in-Some.wide = omega (arith, c.in-Some.ensures.1) in
+    rw (wide, ← c.stride_of-stride.ensures) c.copied_rows.ensures.rest
