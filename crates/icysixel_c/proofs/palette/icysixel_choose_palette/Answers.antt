@@ -58,3 +58,54 @@ returns-in-Ok-clause-witness_count c = λ _. ap length c.write_choice.ensures.wi
 
 pub returns-then-colors-room-clause-few_colors : goal.returns-then-colors-room-clause-few_colors
 returns-then-colors-room-clause-few_colors c = omega arith
+
+pub returns-in-Ok-clause-colors_after : goal.returns-in-Ok-clause-colors_after
+returns-in-Ok-clause-colors_after c = λ _. c.write_choice.ensures.colors_after
+
+pub returns-in-Ok-clause-witnesses_after : goal.returns-in-Ok-clause-witnesses_after
+returns-in-Ok-clause-witnesses_after c = λ _. c.write_choice.ensures.witnesses_after
+
+pub returns-in-Err-clause-palette : goal.returns-in-Err-clause-palette
+returns-in-Err-clause-palette c = λ done. absurd (c.code_of.ensures.refused done)
+
+pub returns-in-Err-clause-indices : goal.returns-in-Err-clause-indices
+returns-in-Err-clause-indices c = λ done. absurd (c.code_of.ensures.refused done)
+
+pub returns-in-Err-clause-error : goal.returns-in-Err-clause-error
+returns-in-Err-clause-error c = λ done. absurd (c.code_of.ensures.refused done)
+
+pub returns-in-Err-clause-occur : goal.returns-in-Err-clause-occur
+returns-in-Err-clause-occur c = λ done. absurd (c.code_of.ensures.refused done)
+
+pub returns-in-Err-clause-witnesses : goal.returns-in-Err-clause-witnesses
+returns-in-Err-clause-witnesses c = λ done. absurd (c.code_of.ensures.refused done)
+
+pub returns-in-Err-clause-witnesses_occur : goal.returns-in-Err-clause-witnesses_occur
+returns-in-Err-clause-witnesses_occur c = λ done. absurd (c.code_of.ensures.refused done)
+
+pub returns-in-Err-clause-witnesses_apart : goal.returns-in-Err-clause-witnesses_apart
+returns-in-Err-clause-witnesses_apart c = λ done. absurd (c.code_of.ensures.refused done)
+
+pub returns-in-Err-clause-colors : goal.returns-in-Err-clause-colors
+returns-in-Err-clause-colors c = λ done. absurd (c.code_of.ensures.refused done)
+
+pub returns-in-Err-clause-witness_count : goal.returns-in-Err-clause-witness_count
+returns-in-Err-clause-witness_count c = λ done. absurd (c.code_of.ensures.refused done)
+
+pub returns-in-Err-clause-colors_after : goal.returns-in-Err-clause-colors_after
+returns-in-Err-clause-colors_after c = λ done. absurd (c.code_of.ensures.refused done)
+
+pub returns-in-Err-clause-witnesses_after : goal.returns-in-Err-clause-witnesses_after
+returns-in-Err-clause-witnesses_after c = λ done. absurd (c.code_of.ensures.refused done)
+
+pub returns-in-Err-clause-indices_after : goal.returns-in-Err-clause-indices_after
+returns-in-Err-clause-indices_after c = λ done. absurd (c.code_of.ensures.refused done)
+
+pub returns-in-Err-clause-complete : goal.returns-in-Err-clause-complete
+returns-in-Err-clause-complete c = λ n color done. absurd (c.code_of.ensures.refused done)
+
+pub returns-in-Err-clause-empty : goal.returns-in-Err-clause-empty
+returns-in-Err-clause-empty c = λ none done. absurd (c.code_of.ensures.refused done)
+
+pub returns-in-Err-clause-bound : goal.returns-in-Err-clause-bound
+returns-in-Err-clause-bound c = λ color done. absurd (c.code_of.ensures.refused done)
