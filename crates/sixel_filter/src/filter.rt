@@ -120,6 +120,18 @@ impl Filter {
         self.end(output)
     }
 
+    /// What the filter writes of a whole stream, which it takes in pieces of up to so many bytes.
+    fn written_of(&mut self, alloc: Global, stream: &[u8], piece_len: usize) -> Result<Vec<u8>>
+        requires some { 0 < piece_len }
+        requires sound { IsSound self.old }
+        ensures leads { IfOk result (λ output. Leads self.old [] stream.now output.items) }
+        ensures error { IfErr result (λ e. e ≡ OutOfMemory) }
+    {
+        let mut output = Vec::new(alloc);
+        self.pass_whole(stream, piece_len, &mut output)?;
+        Ok(output)
+    }
+
     /// Takes some of the bytes, and answers how many. It may take none where an image ends.
     fn step(&mut self, bytes: &[u8], output: &mut Vec<u8>) -> Result<usize>
         requires sound { IsSound self.old }
@@ -354,9 +366,7 @@ pub fn filter_pieces(alloc: Global, work: Work, stream: &[u8], piece_len: usize)
         IsFiltered work false new_decoder stream.now output.items) }
     ensures error { IfErr result (λ e. e ≡ OutOfMemory) }
 {
-    let mut output = Vec::new(alloc);
-    Filter::new(alloc, work).pass_whole(stream, piece_len, &mut output)?;
-    Ok(output)
+    Filter::new(alloc, work).written_of(alloc, stream, piece_len)
 }
 
 /// The status of a control string.

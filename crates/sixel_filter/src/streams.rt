@@ -1,5 +1,6 @@
 //! Reading a stream in pieces, and writing what is made of it.
 
+ghost use Rattle.std.specs.Prelude.{OnOk};
 ghost use Rattle.sixel_filter.specs.inside.Standing.{IsSound};
 
 use crate::fault::Fault;
@@ -19,8 +20,13 @@ pub fn serve<R: Read, O: Write>(
 ) -> Result<(), Fault> {
     let mut piece = vec![in alloc; 0; piece_len]?;
     let mut made = Vec::new(alloc);
-    let mut filter = Filter::new(alloc, work);
-    pass_all(&mut filter, &mut piece, &mut made, input, output)
+    pass_all(
+        &mut Filter::new(alloc, work),
+        &mut piece,
+        &mut made,
+        input,
+        output,
+    )
 }
 
 /// Passes the input through the filter to its end, and writes what that makes of each piece.
@@ -35,19 +41,36 @@ fn pass_all<R: Read, O: Write>(
 {
     'reads: for _ in 0..u64::MAX {
         match input.read(piece) {
-            Ok(0) => {
-                filter.end(made)?;
-                return write_all(output, made);
-            }
-            Ok(count) => {
-                filter.pass(&piece[..count], made)?;
-                write_all(output, made)?;
-                made.clear();
-            }
+            Ok(0) => return pass_end(filter, made, output),
+            Ok(count) => pass_piece(filter, &piece[..count], made, output)?,
             Err(_) => return Err(Fault::Input),
         }
     }
     Err(Fault::Input)
+}
+
+/// Passes a piece through the filter, and writes what that makes of it.
+fn pass_piece<O: Write>(
+    filter: &mut Filter,
+    piece: &[u8],
+    made: &mut Vec<u8>,
+    output: &mut O,
+) -> Result<(), Fault>
+    requires { IsSound filter.old }
+    ensures { OnOk result (IsSound filter.new) }
+{
+    filter.pass(piece, made)?;
+    write_all(output, made)?;
+    made.clear();
+    Ok(())
+}
+
+/// Ends the filter's stream, and writes what that makes of its rest.
+fn pass_end<O: Write>(filter: &mut Filter, made: &mut Vec<u8>, output: &mut O) -> Result<(), Fault>
+    requires { IsSound filter.old }
+{
+    filter.end(made)?;
+    write_all(output, made)
 }
 
 /// Writes the bytes, or a beginning of them and then the fault `Output`.

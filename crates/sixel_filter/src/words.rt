@@ -23,17 +23,45 @@ pub fn asked(words: &[String]) -> Option<(usize, Work)>
         → ¬ IsAskedBy (words_of words.now) length work) }
 {
     match words {
-        [piece, word] => match (word.as_str(), length(piece)?) {
-            ("size", length) => Some((length, Work::Size)),
-            ("refusals", length) => Some((length, Work::Refusals)),
-            _ => None,
-        },
-        [piece, word, count] => match (word.as_str(), length(piece)?) {
-            ("colors", length) => Some((length, Work::Colors(u16::try_from(number(count)?).ok()?))),
-            _ => None,
-        },
+        [piece, word] => asked_by_two(piece, word),
+        [piece, word, count] => asked_by_three(piece, word, count),
         _ => None,
     }
+}
+
+/// What two words ask for: the length of a piece, and a work that takes no number.
+fn asked_by_two(piece: &str, word: &str) -> Option<(usize, Work)>
+    ensures asked { IfSome result (λ asked. IsAskedBy (piece.now ∷ word.now ∷ []) asked.0 asked.1) }
+    ensures usage { IfNone result ((length : ℕ) (work : Work)
+        → ¬ IsAskedBy (piece.now ∷ word.now ∷ []) length work) }
+{
+    let length = length(piece)?;
+    match word {
+        "size" => Some((length, Work::Size)),
+        "refusals" => Some((length, Work::Refusals)),
+        _ => None,
+    }
+}
+
+/// What three words ask for: the length of a piece, and a work with its number.
+fn asked_by_three(piece: &str, word: &str, count: &str) -> Option<(usize, Work)>
+    ensures asked { IfSome result (λ asked.
+        IsAskedBy (piece.now ∷ word.now ∷ count.now ∷ []) asked.0 asked.1) }
+    ensures usage { IfNone result ((length : ℕ) (work : Work)
+        → ¬ IsAskedBy (piece.now ∷ word.now ∷ count.now ∷ []) length work) }
+{
+    match word {
+        "colors" => Some((length(piece)?, Work::Colors(most(count)?))),
+        _ => None,
+    }
+}
+
+/// The number of colors that a word gives.
+fn most(count: &str) -> Option<u16>
+    ensures read { IfSome result (IsNumber count.now) }
+    ensures other { IfNone result ((n : ℕ) → n < 2 ^ 16 → ¬ IsNumber count.now n) }
+{
+    u16::try_from(number(count)?).ok()
 }
 
 /// The length of a piece, of at least one byte.
