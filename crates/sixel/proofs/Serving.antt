@@ -1,7 +1,7 @@
-use Rattle.std.proofs.Common.{◌≡◌, ℕ, List, ◌++◌, [], take, drop, ap, sym, subst, refl, true, ◌∙◌, append_assoc, append-nil, take-append-drop, Option, None, Some, Result, Ok, Err, OnOk, OnErr, IfErr, IfSome, inl, MatchOption}
+use Rattle.std.proofs.Common.{◌≡◌, ℕ, List, ◌++◌, [], take, drop, ap, sym, subst, refl, true, ◌∙◌, append_assoc, append-nil, take-append-drop, Option, None, Some, Result, Ok, Err, OnOk, OnErr, IfErr, IfSome, inl, inr, ◌⊎◌, MatchOption}
 use Rattle.std.specs.Result.{IsErrAnd}
 use Rattle.std.proofs.KnownBytes.{Appends-nil, Appends-trans}
-use Rattle.std.specs.Io.KnownBytes.{Appends}
+use Rattle.std.specs.Io.KnownBytes.{Appends, Keeps}
 use Rattle.sixel_base.specs.declared.error.SixelError.{SixelError}
 use Rattle.sixel_base.specs.declared.error.SixelError.TheVariants.{OutOfMemory}
 use Rattle.sixel_base.specs.Decoder.{new_decoder}
@@ -56,10 +56,17 @@ wanting Decode bytes = (refl, refl)
 wanting (Frames length) bytes = Broken new_decoder bytes OutOfMemory refl
 wanting (Encode width height colors) bytes = (refl, inl refl)
 
-pub Writes-wanting : (word : Word) (remaining held : Option (List ℕ)) (error : SixelError) → error ≡ OutOfMemory
+pub Writes-wanting : (word : Word) (remaining held : Option (List ℕ)) (error : SixelError) → (Sixel error ≡ Input) ⊎ (Sixel error ≡ Sixel OutOfMemory)
     → IfSome remaining (λ bytes. Writes (λ text. IsAnswer word bytes text (Refused error)) held held)
-Writes-wanting word None held error is = tt
-Writes-wanting word (Some bytes) held error is = ([], subst (λ e. IsAnswer word bytes [] (Refused e)) (sym is) (wanting word bytes), Appends-nil held)
+Writes-wanting word remaining held error (inl unread) = absurd cc
+Writes-wanting word None held error (inr is) = tt
+Writes-wanting word (Some bytes) held error (inr is) =
+    let same : OutOfMemory ≡ error = cc in
+    ([], subst (λ e. IsAnswer word bytes [] (Refused e)) same (wanting word bytes), Appends-nil held)
+
+pub Keeps-same : (held : Option (List ℕ)) → Keeps held held
+Keeps-same None = tt
+Keeps-same (Some bytes) = refl
 
 -- ---- images
 

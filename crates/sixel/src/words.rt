@@ -44,11 +44,56 @@ pub fn read_word(word: &str, a: Option<&str>, b: Option<&str>, c: Option<&str>) 
         (option_map (λ t. t.now) c.entry)) }
     ensures servable { IfSome result IsServable }
 {
-    match (word, a, b, c) {
-        ("payload", None, None, None) => Some(Word::Payload),
-        ("decode", None, None, None) => Some(Word::Decode),
-        ("frames", Some(length), None, None) => frames(length),
-        ("encode", Some(width), Some(height), Some(colors)) => encode(width, height, colors),
+    match word {
+        "payload" => alone(Word::Payload, a, b, c),
+        "decode" => alone(Word::Decode, a, b, c),
+        "frames" => frames_with(a, b, c),
+        "encode" => encode_with(a, b, c),
+        _ => None,
+    }
+}
+
+/// What a word asks for after which there is to be none.
+fn alone(asked: Word, a: Option<&str>, b: Option<&str>, c: Option<&str>) -> Option<Word>
+    ensures alone { IfSome result (λ it. (it ≡ asked)
+        × (a.entry ≡ None) × (b.entry ≡ None) × (c.entry ≡ None)) }
+    ensures followed { result ≡ None
+        → ¬ ((a.entry ≡ None) × (b.entry ≡ None) × (c.entry ≡ None)) }
+{
+    match (a, b, c) {
+        (None, None, None) => Some(asked),
+        _ => None,
+    }
+}
+
+/// What the word `frames` asks for with the words after it, of which there is to be one.
+fn frames_with(a: Option<&str>, b: Option<&str>, c: Option<&str>) -> Option<Word>
+    ensures asked { IfSome result (λ asked. Asks asked (codes "frames")
+        (option_map (λ t. t.now) a.entry) (option_map (λ t. t.now) b.entry)
+        (option_map (λ t. t.now) c.entry)) }
+    ensures usage { IfNone result ((asked : Word) → ¬ Asks asked (codes "frames")
+        (option_map (λ t. t.now) a.entry) (option_map (λ t. t.now) b.entry)
+        (option_map (λ t. t.now) c.entry)) }
+    ensures servable { IfSome result IsServable }
+{
+    match (a, b, c) {
+        (Some(length), None, None) => frames(length),
+        _ => None,
+    }
+}
+
+/// What the word `encode` asks for with the words after it, of which there are to be three.
+fn encode_with(a: Option<&str>, b: Option<&str>, c: Option<&str>) -> Option<Word>
+    ensures asked { IfSome result (λ asked. Asks asked (codes "encode")
+        (option_map (λ t. t.now) a.entry) (option_map (λ t. t.now) b.entry)
+        (option_map (λ t. t.now) c.entry)) }
+    ensures usage { IfNone result ((asked : Word) → ¬ Asks asked (codes "encode")
+        (option_map (λ t. t.now) a.entry) (option_map (λ t. t.now) b.entry)
+        (option_map (λ t. t.now) c.entry)) }
+    ensures servable { IfSome result IsServable }
+{
+    match (a, b, c) {
+        (Some(width), Some(height), Some(colors)) => encode(width, height, colors),
         _ => None,
     }
 }

@@ -1,12 +1,16 @@
-use Rattle.std.proofs.Common.{inl, inr, arith}
+use Rattle.std.proofs.Common.{◌≡◌, ◌⊎◌, subst}
 use Rattle.std.proofs.lemmas.Result.{err_from_is_err_and}
-use Rattle.sixel.proofs.Serving.{Writes-wanting}
+use Rattle.sixel_base.specs.declared.error.SixelError.TheVariants.{OutOfMemory}
+use Rattle.sixel.specs.declared.fault.Fault.{Fault}
+use Rattle.sixel.specs.declared.fault.Fault.TheVariants.{Sixel, Input}
+use Rattle.sixel.proofs.Serving.{Writes-wanting, Keeps-same}
 use Rattle.sixel.proofs.engine.serve.Goals as goal
 
 pub returns-in_err-bytes-clause-refused : goal.returns-in_err-bytes-clause-refused
 returns-in_err-bytes-clause-refused g c = λ error is.
     let p = err_from_is_err_and c.from_residual.result c.from_residual.ensures.1 in
-    elim c.in_err-bytes.ensures.refused [ inl unread ↦ absurd cc | inr wanting ↦ Writes-wanting c.args.word _ _ error cc ]
+    let same : c.in_err-bytes.field-0.0 ≡ Sixel error = cc in
+    Writes-wanting c.args.word (g.R.Read.remaining c.args.input.now) (g.O.Write.contents c.args.output.now) error (subst (λ (f : Fault). (f ≡ Input) ⊎ (f ≡ Sixel OutOfMemory)) same c.in_err-bytes.ensures.refused)
 
 pub returns-in_err-bytes-clause-unread : goal.returns-in_err-bytes-clause-unread
-returns-in_err-bytes-clause-unread c = grind arith
+returns-in_err-bytes-clause-unread g c = λ _. Keeps-same (g.O.Write.contents c.args.output.now)
