@@ -6,7 +6,11 @@
 ghost use Rattle.std.specs.Prelude.{◌≡◌, ◌≤◌, [], length, vec_len, vec_capacity};
 ghost use Rattle.std.specs.Prelude.{OnErr, IfOk, IfErr, MatchResult};
 ghost use Rattle.sixel_base.specs.declared.error.SixelError.TheVariants.{OutOfMemory};
+ghost use Rattle.sixel_base.specs.Color.{default_registers};
+ghost use Rattle.sixel_base.specs.Decoder.{limit_of};
+ghost use Rattle.sixel_base.specs.OneShot.{found, Payload};
 ghost use Rattle.icy_sixel.specs.Script.{AreOutcomes, IsOutcome, outcome_of};
+ghost use Rattle.icy_sixel.specs.Script.{IsDecoding, IsSessionOutcome, frame_meaning};
 
 mod playing;
 
@@ -148,34 +152,84 @@ fn take_step(alloc: Global, decoder: &mut SixelDecoder, step: &Step<'_>) -> Outc
     ensures { IsOutcome decoder.old step.now result decoder.new }
 {
     match step {
-        Step::Reset => {
-            decoder.reset_palette();
-            Outcome::Reset
-        }
-        Step::RasterCrop(on) => {
-            decoder.set_raster_crop(*on);
-            Outcome::Changed
-        }
-        Step::PixelLimit(pixels) => {
-            decoder.set_pixel_limit(*pixels);
-            Outcome::Changed
-        }
+        Step::Reset => reset(decoder),
+        Step::RasterCrop(on) => set_crop(decoder, *on),
+        Step::PixelLimit(pixels) => set_limit(decoder, *pixels),
         Step::Frame {
             settings,
             bytes,
             cuts,
             ending,
-        } => outcome_of(play_frame(alloc, decoder, *settings, bytes, cuts, *ending)),
+        } => frame(alloc, decoder, *settings, bytes, cuts, *ending),
         Step::Dcs {
             bytes,
             cuts,
             ending,
         } => outcome_of(play_string(alloc, decoder, bytes, cuts, *ending)),
-        Step::Decode(bytes) => decoded(decoder.decode(alloc, bytes)),
-        Step::DecodeFromDcs(bytes, settings) => {
-            decoded(decoder.decode_from_dcs(alloc, bytes, *settings))
-        }
+        Step::Decode(bytes) => decode(alloc, decoder, bytes),
+        Step::DecodeFromDcs(bytes, settings) => decode_payload(alloc, decoder, bytes, *settings),
     }
+}
+
+/// A step that puts the registers back.
+fn reset(decoder: &mut SixelDecoder) -> Outcome
+    ensures outcome { result ≡ Outcome.Reset }
+    ensures decoder { decoder.new ≡ record decoder.old { registers = default_registers } }
+{
+    decoder.reset_palette();
+    Outcome::Reset
+}
+
+/// A step that sets whether images are cropped.
+fn set_crop(decoder: &mut SixelDecoder, on: bool) -> Outcome
+    ensures outcome { result ≡ Outcome.Changed }
+    ensures decoder { decoder.new ≡ record decoder.old { raster_crop = on } }
+{
+    decoder.set_raster_crop(on);
+    Outcome::Changed
+}
+
+/// A step that sets how many pixels an image may have.
+fn set_limit(decoder: &mut SixelDecoder, pixels: usize) -> Outcome
+    ensures outcome { result ≡ Outcome.Changed }
+    ensures decoder { decoder.new ≡ record decoder.old { pixel_limit = limit_of pixels } }
+{
+    decoder.set_pixel_limit(pixels);
+    Outcome::Changed
+}
+
+/// A step that feeds a payload.
+fn frame(
+    alloc: Global,
+    decoder: &mut SixelDecoder,
+    settings: DcsSettings,
+    bytes: &[u8],
+    cuts: &[usize],
+    ending: End,
+) -> Outcome
+    ensures { IsSessionOutcome decoder.old
+        (frame_meaning decoder.old.pixel_limit settings bytes.now) ending result decoder.new }
+{
+    outcome_of(play_frame(alloc, decoder, settings, bytes, cuts, ending))
+}
+
+/// A step that decodes the first control string in the bytes, or all of them.
+fn decode(alloc: Global, decoder: &mut SixelDecoder, bytes: &[u8]) -> Outcome
+    ensures { IsDecoding decoder.old (found bytes.now) result decoder.new }
+{
+    decoded(decoder.decode(alloc, bytes))
+}
+
+/// A step that decodes a payload.
+fn decode_payload(
+    alloc: Global,
+    decoder: &mut SixelDecoder,
+    bytes: &[u8],
+    settings: DcsSettings,
+) -> Outcome
+    ensures { IsDecoding decoder.old (Payload settings bytes.now) result decoder.new }
+{
+    decoded(decoder.decode_from_dcs(alloc, bytes, settings))
 }
 
 /// The answer of a session as an outcome.
