@@ -64,6 +64,7 @@ Writes-wanting word (Some bytes) held error (inr is) =
     let same : OutOfMemory ≡ error = cc in
     ([], subst (λ e. IsAnswer word bytes [] (Refused e)) same (wanting word bytes), Appends-nil held)
 
+-- bytes that nothing was written to
 pub Keeps-same : (held : Option (List ℕ)) → Keeps held held
 Keeps-same None = tt
 Keeps-same (Some bytes) = refl
