@@ -15,6 +15,7 @@ ghost use Rattle.icy_sixel.specs.Receiver.{OfPayload, OfString, begun, no_image,
 ghost use Rattle.icy_sixel.specs.Receiver.{count, status, is_over, fault, failed, growths, reached_area};
 ghost use Rattle.icy_sixel.specs.Receiver.{sixels};
 ghost use Rattle.icy_sixel.specs.Receiver.{found, found_followed, end_fault, end_wants, in_payload, size};
+ghost use Rattle.icy_sixel.specs.inside.Receiving.{reception_of};
 
 use crate::decoder::{DcsSettings, SixelDecoder};
 use crate::script::Status;
@@ -120,7 +121,8 @@ impl SixelReceiver {
         ensures decoder { self.new.decoder ≡ self.old.decoder }
         ensures image { self.new.image ≡ begun (OfPayload settings) self.old.decoder }
     {
-        self.open = Open::Payload(Intake::new(alloc, self.decoder.state, settings));
+        let intake = Intake::new(alloc, self.decoder.state, settings);
+        self.replace_open(Open::Payload(intake));
     }
 
     /// Begins a control string, from the registers, the crop and the limit that the decoder has.
@@ -130,7 +132,8 @@ impl SixelReceiver {
         ensures decoder { self.new.decoder ≡ self.old.decoder }
         ensures image { self.new.image ≡ begun OfString self.old.decoder }
     {
-        self.open = Open::ControlString(Progress::new(alloc, self.decoder.state));
+        let progress = Progress::new(alloc, self.decoder.state);
+        self.replace_open(Open::ControlString(progress));
     }
 
     /// Reads a piece of the image that is open; what stands after it is left to the caller.
@@ -268,7 +271,15 @@ impl SixelReceiver {
         ensures decoder { self.new.decoder ≡ self.old.decoder }
         ensures closed { self.new.image ≡ no_image }
     {
-        self.open = Open::Nothing;
+        self.replace_open(Open::Nothing);
+    }
+
+    /// Gives up the image that is open, if one is, and has this one in its place.
+    fn replace_open(&mut self, image: Open)
+        ensures decoder { self.new.decoder ≡ self.old.decoder }
+        ensures image { self.new.image ≡ reception_of image }
+    {
+        self.open = image;
     }
 
     /// How many pixels were copied or filled so far, to grow the rows of the canvas; 0 where no

@@ -1,6 +1,6 @@
 //! The session that decodes one payload as it comes.
 
-ghost use Rattle.std.specs.Prelude.{◌≡◌, ◌+◌, ◌*◌, ◌≤◌, ◌++◌, [], true, false, nat_lt, is_none, None};
+ghost use Rattle.std.specs.Prelude.{◌≡◌, ◌<◌, ◌+◌, ◌*◌, ◌≤◌, ◌++◌, [], true, false, nat_lt, is_none, None};
 ghost use Rattle.std.specs.Prelude.{OnOk, OnErr, IfOk, IfErr, MatchBool, Some, Ok, Err, length};
 ghost use Rattle.std.specs.Prelude.{List, ℕ};
 ghost use Rattle.sixel_base.specs.Bytes.{count, first_terminator};
@@ -226,8 +226,8 @@ impl<'a> SixelStreamDecoder<'a> {
     {
         let writes = self.canvas_writes();
         let image = self.finish()?;
-        let packed = image.width * image.height;
-        Ok((image, writes + packed as u64))
+        let count = with_packed(writes, &image);
+        Ok((image, count))
     }
 
     /// Ends the session, and changes nothing, as dropping it does.
@@ -236,4 +236,12 @@ impl<'a> SixelStreamDecoder<'a> {
     {
         drop(self);
     }
+}
+
+/// A number of pixels that were written, and an image's own as they are packed.
+fn with_packed(writes: u64, image: &SixelImage) -> u64
+    requires { writes + image.now.width * image.now.height < 18446744073709551616 }
+    ensures { result ≡ writes + image.now.width * image.now.height }
+{
+    writes + (image.width * image.height) as u64
 }

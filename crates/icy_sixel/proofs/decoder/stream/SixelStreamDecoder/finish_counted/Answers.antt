@@ -1,4 +1,4 @@
-use Rattle.std.proofs.Common.{◌≡◌, ℕ, ◌+◌, ◌*◌, ◌≤◌, List, None, ap, arith}
+use Rattle.std.proofs.Common.{◌≡◌, ℕ, ◌+◌, ◌*◌, ◌≤◌, List, None, ap, ◌∙◌, arith}
 use Rattle.std.proofs.lemmas.Nat.{mul-le}
 use Rattle.sixel_base.specs.Bytes.{front}
 use Rattle.sixel_base.specs.History.{history_of}
@@ -22,13 +22,8 @@ few limit bytes sound =
     let sides = sides-fit limit h sound in
     mul-le (width h) (height h) 1000000 1000000 sides.0 sides.1
 
-pub overflow_mul-packed : goal.overflow_mul-packed
-overflow_mul-packed c =
-    let session = c.args.self.intake in
-    omega (arith, fewer _ session.origin session.bytes c.in_ok-image.ensures.image, few _ session.bytes c.in_ok-image.ensures.faultless)
-
-pub overflow_add-result : goal.overflow_add-result
-overflow_add-result c =
+pub with_packed-count-requires : goal.with_packed-count-requires
+with_packed-count-requires c =
     let session = c.args.self.intake in
     omega (arith, fewer _ session.origin session.bytes c.in_ok-image.ensures.image, few _ session.bytes c.in_ok-image.ensures.faultless, settled-area session.bytes, c.canvas_writes-writes.ensures.at_most)
 
@@ -41,7 +36,8 @@ pub returns-clause-image : goal.returns-clause-image
 returns-clause-image c = c.in_ok-image.ensures.image
 
 pub returns-clause-counted : goal.returns-clause-counted
-returns-clause-counted c = ap (λ (n : ℕ). n + c.in_ok-image.image.width * c.in_ok-image.image.height) c.canvas_writes-writes.ensures.value
+returns-clause-counted c =
+    c.with_packed-count.ensures ∙ ap (λ (n : ℕ). n + c.in_ok-image.image.width * c.in_ok-image.image.height) c.canvas_writes-writes.ensures.value
 
 pub returns-clause-registers : goal.returns-clause-registers
 returns-clause-registers c = c.in_ok-image.ensures.registers

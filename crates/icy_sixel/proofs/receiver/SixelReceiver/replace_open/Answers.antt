@@ -1,9 +1,9 @@
 use Rattle.std.proofs.Common.{ap, refl}
 use Rattle.icy_sixel.specs.declared.receiver.SixelReceiver.{SixelReceiver}
-use Rattle.icy_sixel.proofs.receiver.SixelReceiver.abort.Goals as goal
+use Rattle.icy_sixel.proofs.receiver.SixelReceiver.replace_open.Goals as goal
 
 pub returns-clause-decoder : goal.returns-clause-decoder
 returns-clause-decoder c = ap (λ (r : SixelReceiver). r.decoder) c.self.view_is
 
-pub returns-clause-closed : goal.returns-clause-closed
-returns-clause-closed c = refl
+pub returns-clause-image : goal.returns-clause-image
+returns-clause-image c = refl
