@@ -45,17 +45,25 @@ fn large_payload(alloc: Global) -> Result<Vec<u8>, AllocError> {
     let mut payload = Vec::new(alloc);
     payload.extend_from_slice(b"#1;2;100;0;0#2;2;0;0;100")?;
     for band in 0..30 {
-        payload.extend_from_slice(b"#1")?;
-        for column in 0..200 {
-            payload.push(sixel(layers_at(column, band).red))?;
-        }
-        payload.extend_from_slice(b"$#2")?;
-        for column in 0..200 {
-            payload.push(sixel(layers_at(column, band).blue))?;
-        }
-        payload.push(b'-')?;
+        push_band(&mut payload, band)?;
     }
     Ok(payload)
+}
+
+/// Writes both layers of a band.
+fn push_band(payload: &mut Vec<u8>, band: usize) -> Result<(), AllocError>
+    requires { band < 30 }
+{
+    payload.extend_from_slice(b"#1")?;
+    for column in 0..200 {
+        payload.push(sixel(layers_at(column, band).red))?;
+    }
+    payload.extend_from_slice(b"$#2")?;
+    for column in 0..200 {
+        payload.push(sixel(layers_at(column, band).blue))?;
+    }
+    payload.push(b'-')?;
+    Ok(())
 }
 
 /// The pixels of that payload on a black background.
@@ -127,7 +135,7 @@ fn all_masks(rt: HostRuntime) {
 }
 
 /// Six rows of red and black, and below them as many of blue.
-const WIDER_LINE: [Run; 13] = [
+const WIDER_LINE: &[Run] = &[
     (3, RED),
     (297, BLACK),
     (3, RED),
@@ -146,18 +154,26 @@ const WIDER_LINE: [Run; 13] = [
 #[test]
 fn a_wider_line_below(rt: HostRuntime) {
     let payload = "#1;2;100;0;0#1!3~-#2;2;0;0;100#2!300~";
-    assert!(rt; draws(rt.alloc(), payload, (300, 12), &WIDER_LINE));
+    assert!(rt; draws(rt.alloc(), payload, (300, 12), WIDER_LINE));
 }
+
+/// Payloads of two bands that define register 0 anew as they go, without a size and with one.
+const TWO_BANDS: &[&str] = &[
+    "#0;2;100;0;0@?#0;2;0;100;0?-??#0;2;0;0;100@",
+    "\"1;1;3;12#0;2;100;0;0@?#0;2;0;100;0?-??#0;2;0;0;100@",
+];
+
+/// Their pixels on black.
+const ON_BLACK: &[Run] = &[(1, RED), (19, BLACK), (1, BLUE), (15, BLACK)];
+
+/// Their pixels on a transparent background.
+const ON_CLEAR: &[Run] = &[(1, RED), (19, CLEAR), (1, BLUE), (15, CLEAR)];
 
 #[test]
 fn the_background_is_that_of_the_beginning(rt: HostRuntime) {
-    let plain = "#0;2;100;0;0@?#0;2;0;100;0?-??#0;2;0;0;100@";
-    let sized = "\"1;1;3;12#0;2;100;0;0@?#0;2;0;100;0?-??#0;2;0;0;100@";
-    let opaque = [(1, RED), (19, BLACK), (1, BLUE), (15, BLACK)];
-    let clear = [(1, RED), (19, CLEAR), (1, BLUE), (15, CLEAR)];
-    for payload in [plain, sized] {
-        let is_opaque = draws(rt.alloc(), payload, (3, 12), &opaque);
-        let is_clear = draws_with(rt.alloc(), transparent(), payload, (3, 12), &clear);
+    for payload in TWO_BANDS {
+        let is_opaque = draws(rt.alloc(), payload, (3, 12), ON_BLACK);
+        let is_clear = draws_with(rt.alloc(), transparent(), payload, (3, 12), ON_CLEAR);
         assert_row(&rt, payload, is_opaque && is_clear);
     }
 }

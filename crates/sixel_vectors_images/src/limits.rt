@@ -36,7 +36,7 @@ fn an_introducer_within_a_payload(rt: HostRuntime) {
 }
 
 /// Payloads, and why each is refused; where two things are wrong, the first is named.
-const REFUSED: [(&str, &str); 9] = [
+const REFUSED: &[(&str, &str)] = &[
     ("!655\n36~", MALFORMED),
     ("!65536", MALFORMED),
     ("!65536?", MALFORMED),
@@ -50,54 +50,78 @@ const REFUSED: [(&str, &str); 9] = [
 
 #[test]
 fn refused_payloads(rt: HostRuntime) {
-    for (payload, reason) in &REFUSED {
+    for (payload, reason) in REFUSED {
         let is_refused = is_refused_both_ways(rt.alloc(), payload.as_bytes(), reason);
         assert_row(&rt, payload, is_refused);
     }
 }
 
-/// Fronts, texts and how often each comes, ends, and the size of the black image.
-const LONG_DRAWN: [(&str, &str, usize, &str, (usize, usize)); 5] = [
-    ("!", "0", 1000, "5~", (5, 6)),
-    ("#", ";", 1000, "~", (1, 6)),
-    ("", "-", 166666, "", (1, 1)),
-    ("", "-", 166665, "?", (1, 999996)),
-    ("", "!65535?", 15, "!16975?", (1000000, 6)),
+/// A payload by its front, a text and how often that comes, and its end.
+type Long = (&'static str, (&'static str, usize), &'static str);
+
+/// Names of long payloads, and the sizes of their images in one color.
+const LONG_DRAWN: &[(&str, Long, (usize, usize), [u8; 4])] = &[
+    ("leading zeros", ("!", ("0", 1000), "5~"), (5, 6), BLACK),
+    ("empty fields", ("#", (";", 1000), "~"), (1, 6), BLACK),
+    (
+        "a register of nines",
+        ("#", ("9", 1000), "~"),
+        (1, 6),
+        WHITE,
+    ),
+    ("all rows, empty", ("", ("-", 166666), ""), (1, 1), BLACK),
+    ("all rows", ("", ("-", 166665), "?"), (1, 999996), BLACK),
+    (
+        "all columns",
+        ("", ("!65535?", 15), "!16975?"),
+        (1000000, 6),
+        BLACK,
+    ),
 ];
+
+/// Whether a long payload is an image of this size and color.
+fn is_long_drawn(
+    alloc: Global,
+    (front, text, end): Long,
+    (width, height): (usize, usize),
+    color: [u8; 4],
+) -> bool {
+    let run = (width.saturating_mul(height), color);
+    match long(alloc, front, text, end) {
+        Ok(payload) => is_drawn_both_ways(alloc, &payload, (width, height), run),
+        Err(_) => false,
+    }
+}
 
 #[test]
 fn long_payloads(rt: HostRuntime) {
-    for (front, text, count, end, (width, height)) in &LONG_DRAWN {
-        let payload = long(rt.alloc(), front, (text, *count), end).expect(&rt, "a payload");
-        let run = (width.saturating_mul(*height), BLACK);
-        let is_drawn = is_drawn_both_ways(rt.alloc(), &payload, (*width, *height), run);
-        assert!(rt; is_drawn, "{front}{text}{end}");
+    for (name, payload, size, color) in LONG_DRAWN {
+        let is_drawn = is_long_drawn(rt.alloc(), *payload, *size, *color);
+        assert_row(&rt, name, is_drawn);
     }
 }
 
-/// Fronts, texts and how often each comes, and ends, which make malformed payloads.
-const LONG_MALFORMED: [(&str, &str, usize, &str); 4] = [
-    ("!", "9", 1000, "~"),
-    ("\"1;1;", "9", 1000, ";6"),
-    ("", "-", 166666, "?"),
-    ("", "!65535?", 15, "!16975??"),
+/// Names of long payloads that are malformed.
+const LONG_MALFORMED: &[(&str, Long)] = &[
+    ("a repeat of nines", ("!", ("9", 1000), "~")),
+    ("a width of nines", ("\"1;1;", ("9", 1000), ";6")),
+    ("one row too many", ("", ("-", 166666), "?")),
+    ("one column too many", ("", ("!65535?", 15), "!16975??")),
 ];
+
+/// Whether a long payload is refused as malformed.
+fn is_long_refused(alloc: Global, (front, text, end): Long) -> bool {
+    match long(alloc, front, text, end) {
+        Ok(payload) => is_refused_both_ways(alloc, &payload, MALFORMED),
+        Err(_) => false,
+    }
+}
 
 #[test]
 fn long_malformed_payloads(rt: HostRuntime) {
-    for (front, text, count, end) in &LONG_MALFORMED {
-        let payload = long(rt.alloc(), front, (text, *count), end).expect(&rt, "a payload");
-        assert!(rt;
-            is_refused_both_ways(rt.alloc(), &payload, MALFORMED),
-            "{front}{text}{end}"
-        );
+    for (name, payload) in LONG_MALFORMED {
+        assert_row(&rt, name, is_long_refused(rt.alloc(), *payload));
     }
-}
-
-#[test]
-fn a_register_of_many_nines(rt: HostRuntime) {
-    let payload = long(rt.alloc(), "#", ("9", 1000), "~").expect(&rt, "a payload");
-    assert!(rt; is_drawn_both_ways(rt.alloc(), &payload, (1, 6), (6, WHITE)));
 }
 
 /// Whether a payload session accepts each byte of a payload; it is given up then.

@@ -11,18 +11,20 @@ use sixel_vectors_base::hosted::{
 use std::alloc::Global;
 
 /// Limits that a host sets, and those that are kept.
-const LIMITS: [(usize, usize); 3] = [(0, 1), (72, 72), (usize::MAX, 67108864)];
+const LIMITS: &[(usize, usize)] = &[(0, 1), (72, 72), (usize::MAX, 67108864)];
 
 #[test]
 fn the_number_that_is_kept(rt: HostRuntime) {
-    assert_eq!(rt; SixelDecoder::new().pixel_limit(), 67108864);
-    for (limit, kept) in &LIMITS {
-        assert_eq!(rt; decoder_with(false, *limit).pixel_limit(), *kept);
+    let limit = SixelDecoder::new().pixel_limit();
+    assert_row(&rt, "of a new decoder", limit == 67108864);
+    for (limit, kept) in LIMITS {
+        let is_kept = decoder_with(false, *limit).pixel_limit() == *kept;
+        assert_row(&rt, "of a host", is_kept);
     }
 }
 
 /// Whether images are cropped, the limit, a payload, and the size and the pixels of its image.
-const DRAWN: [(bool, usize, &str, (usize, usize), Run); 3] = [
+const DRAWN: &[(bool, usize, &str, (usize, usize), Run)] = &[
     (false, 72, "!12~", (12, 6), (72, BLACK)),
     (false, 0, "", (1, 1), (1, BLACK)),
     (true, 18, "\"1;1;3;2!3?", (3, 2), (6, BLACK)),
@@ -31,7 +33,7 @@ const DRAWN: [(bool, usize, &str, (usize, usize), Run); 3] = [
 #[test]
 fn drawn_payloads(rt: HostRuntime) {
     let settings = DcsSettings::default();
-    for (raster_crop, limit, payload, size, run) in &DRAWN {
+    for (raster_crop, limit, payload, size, run) in DRAWN {
         let decoder = &mut decoder_with(*raster_crop, *limit);
         let is_drawn = is_drawn_by(rt.alloc(), decoder, settings, payload, *size, &[*run]);
         assert_row(&rt, payload, is_drawn);
@@ -39,7 +41,7 @@ fn drawn_payloads(rt: HostRuntime) {
 }
 
 /// Whether images are cropped, the limit, a payload, and why it is refused.
-const REFUSED: [(bool, usize, &str, &str); 5] = [
+const REFUSED: &[(bool, usize, &str, &str)] = &[
     (false, 72, "!13~", TOO_LARGE),
     (false, 72, "\"1;1;6;13", TOO_LARGE),
     (false, 72, "\"1;1;1000001;1", MALFORMED),
@@ -50,15 +52,10 @@ const REFUSED: [(bool, usize, &str, &str); 5] = [
 
 #[test]
 fn refused_payloads(rt: HostRuntime) {
-    let mut decoder = SixelDecoder::new();
-    for (raster_crop, limit, payload, reason) in &REFUSED {
-        decoder.set_raster_crop(*raster_crop);
-        decoder.set_pixel_limit(*limit);
-        assert_row(
-            &rt,
-            payload,
-            is_refused_by(rt.alloc(), &mut decoder, payload, reason),
-        );
+    for (raster_crop, limit, payload, reason) in REFUSED {
+        let decoder = &mut decoder_with(*raster_crop, *limit);
+        let is_refused = is_refused_by(rt.alloc(), decoder, payload, reason);
+        assert_row(&rt, payload, is_refused);
     }
 }
 

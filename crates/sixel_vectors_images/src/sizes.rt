@@ -108,13 +108,16 @@ const UNENCODED: &[(&str, Run, usize, (usize, usize), Option<SixelError>)] = &[
     ),
 ];
 
-/// The refusal to encode an image.
+/// The refusal to encode an image of so many bytes of these pixels.
 fn refusal(
     alloc: Global,
-    bytes: &[u8],
+    run: Run,
     length: usize,
     (width, height): (usize, usize),
 ) -> Option<SixelError> {
+    let Ok(bytes) = bytes_of(alloc, &[run]) else {
+        return Some(SixelError::OutOfMemory);
+    };
     let (bytes, _) = bytes.split_at(length.min(bytes.len()));
     sixel_encode(alloc, bytes, width, height, &EncodeOptions::default()).err()
 }
@@ -122,12 +125,8 @@ fn refusal(
 #[test]
 fn encoding(rt: HostRuntime) {
     for (name, run, length, size, expected) in UNENCODED {
-        let bytes = bytes_of(rt.alloc(), &[*run]).expect(&rt, name);
-        assert_row(
-            &rt,
-            name,
-            refusal(rt.alloc(), &bytes, *length, *size) == *expected,
-        );
+        let refusal = refusal(rt.alloc(), *run, *length, *size);
+        assert_row(&rt, name, refusal == *expected);
     }
 }
 
@@ -163,12 +162,19 @@ const IMAGES: &[(&str, usize, usize, usize, Option<SixelError>)] = &[
     ("as many pixels", 4, 4, 1, None),
 ];
 
+/// The refusal to make an image of so many red pixels.
+fn image_refusal(alloc: Global, count: usize, width: usize, height: usize) -> Option<SixelError> {
+    match bytes_of(alloc, &[(count, RED)]) {
+        Ok(bytes) => SixelImage::try_from_rgba(bytes, width, height).err(),
+        Err(_) => Some(SixelError::OutOfMemory),
+    }
+}
+
 #[test]
 fn images(rt: HostRuntime) {
-    for (name, count, width, height, refusal) in IMAGES {
-        let bytes = bytes_of(rt.alloc(), &[(*count, RED)]).expect(&rt, name);
-        let outcome = SixelImage::try_from_rgba(bytes, *width, *height);
-        assert_row(&rt, name, outcome.err() == *refusal);
+    for (name, count, width, height, expected) in IMAGES {
+        let refusal = image_refusal(rt.alloc(), *count, *width, *height);
+        assert_row(&rt, name, refusal == *expected);
     }
 }
 

@@ -1,7 +1,7 @@
 //! A line wider than a repeat and far down: eight great repeats and a thousand sixels, ten bands down.
 
 use crate::payloads::long;
-use crate::work::{Reach, counted};
+use crate::work::{Reach, counted, is_counted};
 use icy_sixel::{DcsSettings, Result, SixelImage};
 use sixel_vectors_base::answers::{BLACK, CLEAR, decoded, is_drawn, transparent};
 use std::alloc::{AllocError, Global};
@@ -22,6 +22,15 @@ fn is_wide_line(alloc: Global, outcome: Result<SixelImage>, background: [u8; 4])
     is_drawn(alloc, &outcome, SIZE, &runs)
 }
 
+/// Whether a payload is that line on a transparent background in single bytes, and is counted as it
+/// must be.
+fn is_counted_singly(alloc: Global, payload: &[u8]) -> bool {
+    match counted(alloc, payload, transparent(), 1, REACH) {
+        Some(image) => is_wide_line(alloc, Ok(image), CLEAR),
+        None => false,
+    }
+}
+
 #[test]
 fn at_once(rt: HostRuntime) {
     let payload = wide_line(rt.alloc()).expect(&rt, "a payload");
@@ -32,13 +41,11 @@ fn at_once(rt: HostRuntime) {
 #[test]
 fn in_single_bytes(rt: HostRuntime) {
     let payload = wide_line(rt.alloc()).expect(&rt, "a payload");
-    let counted = counted(rt.alloc(), &payload, transparent(), 1, REACH);
-    assert!(rt; is_wide_line(rt.alloc(), Ok(counted.expect(&rt, "a wide line")), CLEAR));
+    assert!(rt; is_counted_singly(rt.alloc(), &payload));
 }
 
 #[test]
 fn in_one_piece(rt: HostRuntime) {
     let payload = wide_line(rt.alloc()).expect(&rt, "a payload");
-    let counted = counted(rt.alloc(), &payload, DcsSettings::default(), 4096, REACH);
-    assert_eq!(rt; counted.expect(&rt, "a wide line").dimensions(), SIZE);
+    assert!(rt; is_counted(rt.alloc(), &payload, 4096, REACH, SIZE));
 }

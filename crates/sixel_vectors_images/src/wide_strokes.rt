@@ -59,14 +59,18 @@ impl Picture {
 
     /// Draws a stroke on a band, where it has a column.
     fn draw(&mut self, alloc: Global, band: usize, stroke: Stroke) -> Result<(), AllocError> {
-        let count = stroke.to.saturating_sub(stroke.from);
-        if count == 0 {
-            return Ok(());
+        paint(&mut self.pixels, band, stroke);
+        match stroke.to.saturating_sub(stroke.from) {
+            0 => Ok(()),
+            count => self.write(alloc, stroke, count),
         }
+    }
+
+    /// Writes a stroke of so many columns.
+    fn write(&mut self, alloc: Global, stroke: Stroke, count: usize) -> Result<(), AllocError> {
         let command = format!(in alloc; "#{}!{count}", stroke.register)?;
         self.text.extend_from_slice(command.as_bytes())?;
         self.text.push((stroke.bits % 64) as u8 + b'?')?;
-        paint(&mut self.pixels, band, stroke);
         Ok(())
     }
 

@@ -29,7 +29,7 @@ fn are_paints(paints: u64, (columns, sixels): Reach) -> bool {
 }
 
 /// Texts and how often each comes, what they reach, and the sizes of their images.
-const DRAWINGS: [(&str, usize, Reach, (usize, usize)); 9] = [
+const DRAWINGS: &[(&str, usize, Reach, (usize, usize))] = &[
     ("", 1, (0, 0), (1, 1)),
     ("~", 2000, (2000, 2000), (2000, 6)),
     // Bands whose widths rise and fall, with empty ones between.
@@ -93,25 +93,47 @@ pub fn counted(
     }
 }
 
-/// Whether a payload, in pieces of these lengths, has an image of this size and is counted as it must
+/// Whether a payload, in pieces of this length, has an image of this size and is counted as it must
 /// be.
-fn are_counted(alloc: Global, payload: &[u8], reach: Reach, size: (usize, usize)) -> bool {
-    let mut are_right = true;
-    for length in [1, 7, 4096] {
-        let is_right = match counted(alloc, payload, DcsSettings::default(), length, reach) {
-            Some(image) => image.dimensions() == size,
-            None => false,
-        };
-        are_right = are_right && is_right;
+pub fn is_counted(
+    alloc: Global,
+    payload: &[u8],
+    length: usize,
+    reach: Reach,
+    size: (usize, usize),
+) -> bool
+    requires { 0 < length }
+{
+    match counted(alloc, payload, DcsSettings::default(), length, reach) {
+        Some(image) => image.dimensions() == size,
+        None => false,
     }
-    are_right
+}
+
+/// Whether a text so many times, in pieces of all lengths, has an image of this size and is counted
+/// as it must be.
+fn are_counted(
+    alloc: Global,
+    text: &str,
+    count: usize,
+    reach: Reach,
+    size: (usize, usize),
+) -> bool {
+    match repeated(alloc, text, count) {
+        Ok(payload) => {
+            is_counted(alloc, &payload, 1, reach, size)
+                && is_counted(alloc, &payload, 7, reach, size)
+                && is_counted(alloc, &payload, 4096, reach, size)
+        }
+        Err(_) => false,
+    }
 }
 
 #[test]
 fn drawings(rt: HostRuntime) {
-    for (text, count, reach, size) in &DRAWINGS {
-        let payload = repeated(rt.alloc(), text, *count).expect(&rt, text);
-        assert_row(&rt, text, are_counted(rt.alloc(), &payload, *reach, *size));
+    for (text, count, reach, size) in DRAWINGS {
+        let are_counted = are_counted(rt.alloc(), text, *count, *reach, *size);
+        assert_row(&rt, text, are_counted);
     }
 }
 
@@ -150,7 +172,7 @@ fn is_grown(alloc: Global, front: &str, writes: u64, count: u64, bounds: Bounds)
 
 /// What is fed first and how many pixels are written for it, how many columns then come singly, and
 /// the least and the most that is written for each.
-const COLUMNS: [(&str, u64, u64, Bounds); 2] = [
+const COLUMNS: &[(&str, u64, u64, Bounds)] = &[
     ("", 0, 2000, (6, 18)),
     // Nothing is copied: the second band has the room of the first from the beginning.
     ("!100~-", 600, 100, (6, 6)),
@@ -158,7 +180,7 @@ const COLUMNS: [(&str, u64, u64, Bounds); 2] = [
 
 #[test]
 fn columns_in_single_bytes(rt: HostRuntime) {
-    for (front, writes, count, bounds) in &COLUMNS {
+    for (front, writes, count, bounds) in COLUMNS {
         assert_row(
             &rt,
             front,
@@ -196,7 +218,7 @@ fn columns_of_a_control_string(rt: HostRuntime) {
 
 /// A limit of pixels, what is fed first and the bounds of what is written for it, and what is fed
 /// then and refused for which reason.
-const REFUSALS: [(usize, &str, Bounds, &str, &str); 2] = [
+const REFUSALS: &[(usize, &str, Bounds, &str, &str)] = &[
     (67108864, "~", (6, 18), "!65536~", MALFORMED),
     (72, "!13", (0, 0), "~", TOO_LARGE),
 ];
@@ -232,7 +254,7 @@ fn is_refused_after(
 
 #[test]
 fn a_refusal_leaves_no_count(rt: HostRuntime) {
-    for (limit, front, bounds, piece, reason) in &REFUSALS {
+    for (limit, front, bounds, piece, reason) in REFUSALS {
         let fed = (*front, *bounds);
         assert_row(
             &rt,
