@@ -1,4 +1,4 @@
-use Rattle.std.proofs.Common.{IfErr, MatchBool, subst}
+use Rattle.std.proofs.Common.{IfErr, MatchBool, subst, rules}
 use Rattle.sixel_base.specs.Fault.{Faults, IsFault}
 use Rattle.icy_sixel.specs.Receiver.{end_fault, end_wants, failed}
 use Rattle.icysixel_c.proofs.images.finish.Goals as goal
@@ -12,3 +12,6 @@ returns-clause-refused c = λ opened accepted refused.
     rw (← c.take_image.ensures.receiver) c.finish-answer.ensures.error in
     c.keep_answer.ensures.code wants fault refused
     (subst (λ is_refused. IfErr c.finish-answer.result (λ error. MatchBool is_refused (IsFault error (failed image.form)) (Faults error wants fault))) accepted error)
+
+pub returns-clause-dropped : goal.returns-clause-dropped
+returns-clause-dropped c = search rules
