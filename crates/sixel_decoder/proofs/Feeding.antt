@@ -198,53 +198,74 @@ count_most (byte ∷ bytes) =
       | false ↦ omega (arith, count_most bytes)
     ]
 
--- the end of a piece with no terminator
-pub feeds_end : (o : Origin) (frame : Frame) (h : History) (index : ℕ) (piece : List ℕ) → length piece ≤ index → Reaches o frame h index piece
-    → (length piece ≡ count piece) × (NeedMoreData ≡ status_of (first_terminator piece)) × StandsAfter (is_terminated piece) o frame (after h piece)
-feeds_end o frame h index piece past r =
+-- the bytes of a piece that were read up to its end
+pub reads_whole : (o : Origin) (frame : Frame) (h : History) (index : ℕ) (piece : List ℕ) → length piece ≤ index → Reaches o frame h index piece
+    → (index ≡ count piece) × Stands o frame (after h piece)
+reads_whole o frame h index piece past r =
     let gone : drop index piece ≡ [] = drop_all index piece past in
-    let none : first_terminator piece ≡ None = sym r.terminator ∙ ap first_terminator gone in
-    let whole : r.now ≡ after h piece = sym (ap (λ (bs : List ℕ). fold read r.now (front bs)) gone) ∙ r.ahead in
-    let stands : Stands o frame (after h piece) = subst (λ (w : History). Stands o frame w) whole r.stands in (
-      omega (arith, r.counted, ap count gone, count_most piece, past),
-      rw none refl,
-      rw none stands,
+    let whole : r.now ≡ after h piece = sym (ap (λ (bs : List ℕ). fold read r.now (front bs)) gone) ∙ r.ahead in (
+      omega (arith, r.counted, ap count gone),
+      subst (λ (w : History). Stands o frame w) whole r.stands,
     )
 
--- the words of a piece whose bytes were read up to a terminator
-terminated : (o : Origin) (frame : Frame) (h : History) (index : ℕ) (piece : List ℕ) (byte : ℕ) → drop index piece ≡ byte ∷ drop (index + 1) piece
-    → is_terminator byte ≡ true → (r : Reaches o frame h index piece)
-    → (first_terminator piece ≡ Some byte) × (index ≡ count piece) × (r.now ≡ after h piece)
-terminated o frame h index piece byte splits ends r =
+-- and those that were read up to a terminator
+pub reads_before : (o : Origin) (frame : Frame) (h : History) (index : ℕ) (piece : List ℕ) (byte : ℕ)
+    → drop index piece ≡ byte ∷ drop (index + 1) piece → is_terminator byte ≡ true → Reaches o frame h index piece
+    → (index ≡ count piece) × Stands o frame (after h piece)
+reads_before o frame h index piece byte splits ends r =
     let rest : List ℕ = drop (index + 1) piece in
-    let own : before_terminator (drop index piece) ≡ [] = ap before_terminator splits ∙ ap (λ t. cond t [] (byte ∷ before_terminator rest)) ends in (
-      sym r.terminator ∙ ap first_terminator splits ∙ ap (λ t. cond t (Some byte) (first_terminator rest)) ends,
+    let own : before_terminator (drop index piece) ≡ [] = ap before_terminator splits ∙ ap (λ t. cond t [] (byte ∷ before_terminator rest)) ends in
+    let whole : r.now ≡ after h piece = sym (ap (λ (bytes : List ℕ). fold read r.now (carrying bytes)) own) ∙ r.ahead in (
       omega (arith, r.counted, ap length own),
-      sym (ap (λ (bytes : List ℕ). fold read r.now (carrying bytes)) own) ∙ r.ahead,
+      subst (λ (w : History). Stands o frame w) whole r.stands,
     )
 
--- a piece that ends at a terminator, which ends the open command
-pub feeds_terminated : (o : Origin) (frame frame' : Frame) (h : History) (index : ℕ) (piece : List ℕ) (byte : ℕ)
-    → drop index piece ≡ byte ∷ drop (index + 1) piece → is_terminator byte ≡ true → (r : Reaches o frame h index piece)
-    → frame'.phase ≡ Ground → Shows o frame'.painter r.now
-    → (index ≡ count piece) × (Terminated byte ≡ status_of (first_terminator piece)) × StandsAfter (is_terminated piece) o frame' (after h piece)
-feeds_terminated o frame frame' h index piece byte splits ends r ground shows =
-    let at = terminated o frame h index piece byte splits ends r in (
-      at.1,
-      rw at.0 refl,
-      rw at.0 (ground, subst (λ (w : History). Shows o frame'.painter w) at.2 shows),
-    )
+-- a piece that has no byte after those has no terminator
+no_terminator : (piece : List ℕ) → length piece ≤ count piece → first_terminator piece ≡ None
+no_terminator [] all = refl
+no_terminator (byte ∷ piece) all =
+    (elim (is_terminator byte) as (λ t. suc (length piece) ≤ length (cond t [] (byte ∷ before_terminator piece)) → cond t (Some byte) (first_terminator piece) ≡ None) [
+      | true ↦ λ some. absurd (omega (arith, some))
+      | false ↦ λ some. no_terminator piece (omega (arith, some))
+    ]) all
+
+-- and otherwise that is the byte after them
+terminator_after : (piece : List ℕ) → count piece < length piece → first_terminator piece ≡ Some (get_or piece (count piece) 0)
+terminator_after [] more = absurd (omega (arith, more))
+terminator_after (byte ∷ piece) more =
+    (elim (is_terminator byte) as (λ t. length (cond t [] (byte ∷ before_terminator piece)) < suc (length piece)
+      → cond t (Some byte) (first_terminator piece) ≡ Some (get_or (byte ∷ piece) (length (cond t [] (byte ∷ before_terminator piece))) 0)) [
+      | true ↦ λ some. refl
+      | false ↦ λ some. terminator_after piece (omega (arith, some))
+    ]) more
+
+-- a piece with no terminator
+pub feeds_whole : (o : Origin) (frame : Frame) (h : History) (read : ℕ) (piece : List ℕ) → length piece ≤ read → (read ≡ count piece) × Stands o frame (after h piece)
+    → (read ≡ count piece) × (NeedMoreData ≡ status_of (first_terminator piece)) × StandsAfter (is_terminated piece) o frame (after h piece)
+feeds_whole o frame h read piece past is =
+    let none = no_terminator piece (omega (arith, past, is.0)) in
+    (is.0, rw none refl, rw none is.1)
+
+-- the first terminator of a piece with bytes after those that were read
+ending : (read : ℕ) (piece : List ℕ) → read < length piece → read ≡ count piece → first_terminator piece ≡ Some (get_or piece read 0)
+ending read piece more is = terminator_after piece (omega (arith, more, is)) ∙ ap (λ (k : ℕ). Some (get_or piece k 0)) (sym is)
+
+-- a piece that ends at its terminator, which ends the open command
+pub feeds_terminated : (o : Origin) (frame : Frame) (h : History) (read : ℕ) (piece : List ℕ) → read < length piece → read ≡ count piece
+    → frame.phase ≡ Ground → Shows o frame.painter (after h piece)
+    → (read ≡ count piece) × (Terminated (get_or piece read 0) ≡ status_of (first_terminator piece)) × StandsAfter (is_terminated piece) o frame (after h piece)
+feeds_terminated o frame h read piece more is ground shows =
+    let some = ending read piece more is in
+    (is, rw some refl, rw some (ground, shows))
 
 -- what the open command is refused for there
-pub feeds_refused_end : (e : SixelError) (o : Origin) (frame : Frame) (h : History) (index : ℕ) (piece : List ℕ) (byte : ℕ)
-    → drop index piece ≡ byte ∷ drop (index + 1) piece → is_terminator byte ≡ true → (r : Reaches o frame h index piece)
-    → Faults e false (first_fault o.pixel_limit r.now)
-    → Faults e (nat_lt (growths (closed h)) (growths (settled_after h piece))) (first_fault o.pixel_limit (settled_after h piece))
-feeds_refused_end e o frame h index piece byte splits ends r refused =
-    let at = terminated o frame h index piece byte splits ends r in
-    let whole : settled_after h piece ≡ r.now = rw at.0 (sym at.2) in
-    Faults-along e false _ (first_fault o.pixel_limit r.now) (first_fault o.pixel_limit (settled_after h piece))
-    (λ never. absurd cc) (λ f is. ap (first_fault o.pixel_limit) whole ∙ is) refused
+pub feeds_refused_end : (e : SixelError) (limit : ℕ) (h : History) (read : ℕ) (piece : List ℕ) → read < length piece → read ≡ count piece
+    → Faults e false (first_fault limit (after h piece))
+    → Faults e (nat_lt (growths (closed h)) (growths (settled_after h piece))) (first_fault limit (settled_after h piece))
+feeds_refused_end e limit h read piece more is refused =
+    let whole : settled_after h piece ≡ after h piece = rw (ending read piece more is) refl in
+    Faults-along e false _ (first_fault limit (after h piece)) (first_fault limit (settled_after h piece))
+    (λ never. absurd cc) (λ f found. ap (first_fault limit) whole ∙ found) refused
 
 -- What is refused on the way to the end of a piece is what its tokens are refused for there.
 refused_settled : (e : SixelError) (limit : ℕ) (h now next : History) (rest : List ℕ) (piece : List ℕ)

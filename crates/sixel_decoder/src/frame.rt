@@ -87,7 +87,8 @@ impl Start {
 
 impl Frame {
     ghost use Rattle.sixel_decoder.specs.inside.Painter.{Shows, Draws};
-    ghost use Rattle.sixel_decoder.specs.inside.Frame.{Stands, Reads, Feeds, StandsAfter, ReadsFront};
+    ghost use Rattle.sixel_decoder.specs.inside.Frame.{Stands, Reads, Feeds, StandsAfter};
+    ghost use Rattle.sixel_decoder.specs.inside.Frame.{ReadsFront, ReadsBytes};
     ghost use Rattle.sixel_decoder.specs.inside.Painter.{Ends};
     ghost use Rattle.sixel_base.specs.Reach.{reached_area, size};
     ghost use Rattle.sixel_decoder.specs.Paints.{sixels};
@@ -297,6 +298,29 @@ impl Frame {
         ensures { (o : Origin) (h : History) → Stands o self.old h
             → Feeds result o self.new h piece.now }
     {
+        let consumed = self.read_up_to_terminator(piece)?;
+        if consumed == piece.len() {
+            return Ok(SixelFeedResult {
+                consumed,
+                status: SixelFeedStatus::NeedMoreData,
+            });
+        }
+        let terminator = piece[consumed];
+        self.close()?;
+        Ok(SixelFeedResult {
+            consumed,
+            status: SixelFeedStatus::Terminated(terminator),
+        })
+    }
+
+    /// Reads the bytes before the first terminator, and answers how many they are: all where there is
+    /// none.
+    #[inline(always)]
+    fn read_up_to_terminator(&mut self, piece: &[u8]) -> Result<usize>
+        ensures within { IfOk result (λ read. read ≤ length piece.now) }
+        ensures reads { (o : Origin) (h : History) → Stands o self.old h
+            → ReadsBytes result o self.new h piece.now }
+    {
         let mut index = 0;
         'bytes: while index < piece.len() {
             let byte = piece[index];
@@ -308,11 +332,7 @@ impl Frame {
                 index += read;
             } else {
                 if is_terminator(byte) {
-                    self.close()?;
-                    return Ok(SixelFeedResult {
-                        consumed: index,
-                        status: SixelFeedStatus::Terminated(byte),
-                    });
+                    return Ok(index);
                 }
                 if !is_ignored(byte) {
                     self.push(byte)?;
@@ -320,10 +340,7 @@ impl Frame {
                 index += 1;
             }
         }
-        Ok(SixelFeedResult {
-            consumed: piece.len(),
-            status: SixelFeedStatus::NeedMoreData,
-        })
+        Ok(index)
     }
 
     /// How many pixels the canvas has copied or filled, to grow. An open command draws nothing.

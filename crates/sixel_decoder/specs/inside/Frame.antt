@@ -75,6 +75,13 @@ abbrev pub StandsAfter : Bool → Origin → Frame → History → Type 0
 StandsAfter true origin frame history = (frame.phase ≡ Ground) × Shows origin frame.painter history
 StandsAfter false origin frame history = Stands origin frame history
 
+-- The bytes of the piece before its first terminator were read, or the piece is refused by the first fault.
+abbrev pub ReadsBytes : Result ℕ SixelError → Origin → Frame → History → List ℕ → Type 0
+ReadsBytes result origin frame history piece =
+    MatchResult result (λ read. (read ≡ count piece) × Stands origin frame (after history piece))
+    (λ error. Faults error (nat_lt (growths (closed history)) (growths (settled_after history piece)))
+    (first_fault origin.pixel_limit (settled_after history piece)))
+
 -- The piece was read up to its first terminator, or is refused by the first fault.
 abbrev pub Feeds : Result SixelFeedResult SixelError → Origin → Frame → History → List ℕ → Type 0
 Feeds result origin frame history piece =

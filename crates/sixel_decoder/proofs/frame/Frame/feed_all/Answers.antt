@@ -1,113 +1,24 @@
-use Rattle.std.proofs.Common.{◌≡◌, true, false, get_or, inl, inr, sym, ◌∙◌, arith}
+use Rattle.std.proofs.Common.{arith}
 use Rattle.std.proofs.lemmas.Result.{err_from_is_err_and}
-use Rattle.sixel_base.specs.Bytes.{is_ignored, is_sixel, is_terminator}
-use Rattle.sixel_decoder.specs.inside.Runs.{IsPrintable}
-use Rattle.sixel_decoder.proofs.Feeding.{printable_from_sixel, sixel_from_test, reaches_read, reaches_ignored, reaches_pushed, feeds_end, feeds_terminated, feeds_refused, feeds_refused_end, feeds_refused_front, splits_at}
+use Rattle.sixel_decoder.proofs.Feeding.{feeds_whole, feeds_terminated, feeds_refused_end}
 use Rattle.sixel_decoder.proofs.frame.Frame.feed_all.Goals as goal
-use Rattle.sixel_decoder.proofs.frame.Frame.feed_all.Goals.{then-not-is_ignored+in_ok-push, else-not-is_ignored}
 
-pub returns : goal.returns
-returns c = λ o h stands. feeds_end o c.bytes.self h c.bytes.index c.args.piece.now c.bytes-test.false (c.bytes.invariant o h stands)
-
-pub draw_sixels-requires-clause-some : goal.draw_sixels-requires-clause-some
-draw_sixels-requires-clause-some c =
-    let splits = splits_at c.args.piece.now c.bytes.index c.bytes-test.true in
-    rw (c.tail.ensures, splits) (omega arith)
-
-pub draw_sixels-requires-clause-sixel : goal.draw_sixels-requires-clause-sixel
-draw_sixels-requires-clause-sixel c =
-    let byte = get_or c.args.piece.now c.bytes.index 0 in
-    let splits = splits_at c.args.piece.now c.bytes.index c.bytes-test.true in
-    rw (c.tail.ensures, splits) (sixel_from_test byte (sym c.is_sixel.ensures ∙ c.if-is_sixel.true))
-
-pub open_with_digits-requires-clause-some : goal.open_with_digits-requires-clause-some
-open_with_digits-requires-clause-some c =
-    let splits = splits_at c.args.piece.now c.bytes.index c.bytes-test.true in
-    rw (c.tail-then-is_numbered.ensures, splits) (omega arith)
-
-pub open_with_digits-requires-clause-numbered : goal.open_with_digits-requires-clause-numbered
-open_with_digits-requires-clause-numbered c =
-    let splits = splits_at c.args.piece.now c.bytes.index c.bytes-test.true in
-    rw (c.tail-then-is_numbered.ensures, splits) (c.is_numbered.ensures c.if-is_numbered.true)
-
-pub bytes-preserved-then-is_sixel : goal.bytes-preserved-then-is_sixel
-bytes-preserved-then-is_sixel c = λ o h stands.
-    let r = c.bytes.invariant o h stands in
-    let drawn = c.in_ok-drawn in
-    reaches_read o c.bytes.self c.draw_sixels.new.self h c.bytes.index drawn.drawn c.args.piece.now c.tail.result.now c.tail.ensures
-    (λ k lt. (omega (arith, drawn.ensures.sixels k lt), omega (arith, drawn.ensures.sixels k lt))) drawn.ensures.within r (drawn.ensures.stands o r.now r.stands)
-
-pub bytes-preserved-then-is_numbered : goal.bytes-preserved-then-is_numbered
-bytes-preserved-then-is_numbered c = λ o h stands.
-    let r = c.bytes.invariant o h stands in
-    let read = c.in_ok-read in
-    reaches_read o c.bytes.self c.open_with_digits.new.self h c.bytes.index read.read c.args.piece.now c.tail-then-is_numbered.result.now c.tail-then-is_numbered.ensures
-    read.ensures.printable read.ensures.within r (read.ensures.stands o r.now r.stands)
-
-pub returns-in_err-drawn : goal.returns-in_err-drawn
-returns-in_err-drawn c = λ o h stands.
-    let byte = get_or c.args.piece.now c.bytes.index 0 in
-    let test : is_sixel byte ≡ true = sym c.is_sixel.ensures ∙ c.if-is_sixel.true in
-    let printable : IsPrintable byte = printable_from_sixel byte test in
-    let r = c.bytes.invariant o h stands in
+pub returns-in_err-consumed : goal.returns-in_err-consumed
+returns-in_err-consumed c = λ o h stands.
     let p = err_from_is_err_and c.from_residual.result c.from_residual.ensures.1 in
-    rw (p.1, p.2) (feeds_refused_front _ o c.bytes.self h c.bytes.index c.args.piece.now c.tail.result.now c.tail.ensures c.bytes-test.true printable r (c.in_err-drawn.ensures.stands o r.now r.stands))
+    rw (p.1, p.2) (c.in_err-consumed.ensures.reads o h stands)
 
-pub returns-in_err-read : goal.returns-in_err-read
-returns-in_err-read c = λ o h stands.
-    let byte = get_or c.args.piece.now c.bytes.index 0 in
-    let printable : IsPrintable byte = elim (c.is_numbered.ensures c.if-is_numbered.true) [
-      | inl is ↦ (omega (arith, is), omega (arith, is))
-      | inr is ↦ (omega (arith, is), omega (arith, is))
-    ] in
-    let r = c.bytes.invariant o h stands in
-    let p = err_from_is_err_and c.from_residual-in_err-read.result c.from_residual-in_err-read.ensures.1 in
-    rw (p.1, p.2) (feeds_refused_front _ o c.bytes.self h c.bytes.index c.args.piece.now c.tail-then-is_numbered.result.now c.tail-then-is_numbered.ensures c.bytes-test.true printable r (c.in_err-read.ensures.stands o r.now r.stands))
+pub returns-then-consumed-piece : goal.returns-then-consumed-piece
+returns-then-consumed-piece c = λ o h stands.
+    feeds_whole o _ h _ c.args.piece.now (omega (arith, c.if-consumed-piece.true)) (c.in_ok-consumed.ensures.reads o h stands)
 
 pub returns-in_err-close : goal.returns-in_err-close
 returns-in_err-close c = λ o h stands.
-    let piece = c.args.piece.now in
-    let index = c.bytes.index in
-    let byte = get_or piece index 0 in
-    let r = c.bytes.invariant o h stands in
-    let ends : is_terminator byte ≡ true = sym c.is_terminator.ensures ∙ c.if-is_terminator.true in
+    let read = c.in_ok-consumed.ensures.reads o h stands in
     let p = err_from_is_err_and c.from_residual-in_err-close.result c.from_residual-in_err-close.ensures.1 in
-    rw (p.1, p.2) (feeds_refused_end _ o c.bytes.self h index piece byte (splits_at piece index c.bytes-test.true) ends r (c.in_err-close.ensures.drawn o r.now r.stands))
+    rw (p.1, p.2) (feeds_refused_end _ o.pixel_limit h _ c.args.piece.now (omega (arith, c.in_ok-consumed.ensures.within, c.if-consumed-piece.false)) read.0 (c.in_err-close.ensures.drawn o _ read.1))
 
-pub returns-then-is_terminator : goal.returns-then-is_terminator
-returns-then-is_terminator c = λ o h stands.
-    let piece = c.args.piece.now in
-    let index = c.bytes.index in
-    let byte = get_or piece index 0 in
-    let r = c.bytes.invariant o h stands in
-    let ends : is_terminator byte ≡ true = sym c.is_terminator.ensures ∙ c.if-is_terminator.true in
-    feeds_terminated o c.bytes.self c.close.new.self h index piece byte (splits_at piece index c.bytes-test.true) ends r
-    c.in_ok-close.ensures.ground (c.in_ok-close.ensures.drawn o r.now r.stands)
-
-pub returns-in_err-push : goal.returns-in_err-push
-returns-in_err-push c = λ o h stands.
-    let piece = c.args.piece.now in
-    let index = c.bytes.index in
-    let byte = get_or piece index 0 in
-    let r = c.bytes.invariant o h stands in
-    let ends : is_terminator byte ≡ false = sym c.is_terminator.ensures ∙ c.if-is_terminator.false in
-    let carries : is_ignored byte ≡ false = sym c.is_ignored.ensures ∙ c.if-not-is_ignored.true in
-    let p = err_from_is_err_and c.from_residual-in_err-push.result c.from_residual-in_err-push.ensures.1 in
-    rw (p.1, p.2) (feeds_refused _ o c.bytes.self h index piece byte (splits_at piece index c.bytes-test.true) ends carries r (c.in_err-push.ensures o r.now r.stands))
-
-pub bytes-preserved : goal.bytes-preserved
-bytes-preserved c = λ o h stands.
-    let piece = c.args.piece.now in
-    let index = c.bytes.index in
-    let byte = get_or piece index 0 in
-    let r = c.bytes.invariant o h stands in
-    let splits = splits_at piece index c.bytes-test.true in
-    let ends : is_terminator byte ≡ false = sym c.is_terminator.ensures ∙ c.if-is_terminator.false in
-    elim c.if-not-is_ignored.branch [
-      | then-not-is_ignored+in_ok-push w ↦
-          let carries : is_ignored byte ≡ false = sym c.is_ignored.ensures ∙ w.if-not-is_ignored.true in
-          reaches_pushed o c.bytes.self _ h index piece byte splits ends carries r (rw w.self-is (w.in_ok-push.ensures o r.now r.stands))
-      | else-not-is_ignored w ↦
-          let ignored : is_ignored byte ≡ true = sym c.is_ignored.ensures ∙ w.if-not-is_ignored.false in
-          rw w.self-is (reaches_ignored o c.bytes.self h index piece byte splits ends ignored r)
-    ]
+pub returns : goal.returns
+returns c = λ o h stands.
+    let read = c.in_ok-consumed.ensures.reads o h stands in
+    feeds_terminated o _ h _ c.args.piece.now (omega (arith, c.in_ok-consumed.ensures.within, c.if-consumed-piece.false)) read.0 c.in_ok-close.ensures.ground (c.in_ok-close.ensures.drawn o _ read.1)
