@@ -234,7 +234,7 @@ terminator_after : (piece : List ℕ) → count piece < length piece → first_t
 terminator_after [] more = absurd (omega (arith, more))
 terminator_after (byte ∷ piece) more =
     (elim (is_terminator byte) as (λ t. length (cond t [] (byte ∷ before_terminator piece)) < suc (length piece)
-      → cond t (Some byte) (first_terminator piece) ≡ Some (get_or (byte ∷ piece) (length (cond t [] (byte ∷ before_terminator piece))) 0)) [
+    → cond t (Some byte) (first_terminator piece) ≡ Some (get_or (byte ∷ piece) (length (cond t [] (byte ∷ before_terminator piece))) 0)) [
       | true ↦ λ some. refl
       | false ↦ λ some. terminator_after piece (omega (arith, some))
     ]) more

@@ -9,6 +9,7 @@ ghost use Rattle.sixel_decoder.specs.inside.Runs.{IsPrintable, IsSixelByte};
 ghost use Rattle.std.specs.Prelude.{IsOk, IsTrue, ◌⊎◌, Bool, if◌then◌else◌};
 ghost use Rattle.sixel_canvas.specs.inside.Canvas.{canvas_writes, canvas_room};
 ghost use Rattle.sixel_base.specs.History.{History, begun, goes_on, read};
+ghost use Rattle.sixel_base.specs.Bytes.{count};
 ghost use Rattle.sixel_base.specs.Decoder.{origin_of};
 ghost use Rattle.sixel_base.specs.inside.Parameters.{Keeps, IsDigit};
 ghost use Rattle.sixel_base.specs.Stroke.{Origin};
@@ -88,7 +89,7 @@ impl Start {
 impl Frame {
     ghost use Rattle.sixel_decoder.specs.inside.Painter.{Shows, Draws};
     ghost use Rattle.sixel_decoder.specs.inside.Frame.{Stands, Reads, Feeds, StandsAfter};
-    ghost use Rattle.sixel_decoder.specs.inside.Frame.{ReadsFront, ReadsBytes};
+    ghost use Rattle.sixel_decoder.specs.inside.Frame.{ReadsFront, ReadsBytes, after};
     ghost use Rattle.sixel_decoder.specs.inside.Painter.{Ends};
     ghost use Rattle.sixel_base.specs.Reach.{reached_area, size};
     ghost use Rattle.sixel_decoder.specs.Paints.{sixels};
@@ -299,6 +300,16 @@ impl Frame {
             → Feeds result o self.new h piece.now }
     {
         let consumed = self.read_up_to_terminator(piece)?;
+        self.end_piece(piece, consumed)
+    }
+
+    /// Ends the open command where so many bytes of a piece were read and a terminator follows.
+    #[inline(always)]
+    fn end_piece(&mut self, piece: &[u8], consumed: usize) -> Result<SixelFeedResult>
+        requires { consumed ≤ length piece.now }
+        ensures { (o : Origin) (h : History) → consumed ≡ count piece.now
+            → Stands o self.old (after h piece.now) → Feeds result o self.new h piece.now }
+    {
         if consumed == piece.len() {
             return Ok(SixelFeedResult {
                 consumed,
@@ -306,11 +317,13 @@ impl Frame {
             });
         }
         let terminator = piece[consumed];
-        self.close()?;
-        Ok(SixelFeedResult {
-            consumed,
-            status: SixelFeedStatus::Terminated(terminator),
-        })
+        match self.close() {
+            Ok(()) => Ok(SixelFeedResult {
+                consumed,
+                status: SixelFeedStatus::Terminated(terminator),
+            }),
+            Err(error) => Err(error),
+        }
     }
 
     /// Reads the bytes before the first terminator, and answers how many they are: all where there is

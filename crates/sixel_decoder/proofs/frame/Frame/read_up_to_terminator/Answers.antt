@@ -46,25 +46,23 @@ open_with_digits-requires-clause-numbered c =
 
 pub bytes-preserved-then-is_sixel : goal.bytes-preserved-then-is_sixel
 bytes-preserved-then-is_sixel c = (
-      omega (arith, c.in_ok-drawn.ensures.within, c.bytes.invariant.0, ap length c.tail.ensures, length-drop c.bytes.index c.args.piece.now),
-      λ o h stands.
-          let r = c.bytes.invariant.1 o h stands in
-          let drawn = c.in_ok-drawn in
-          reaches_read o c.bytes.self c.draw_sixels.new.self h c.bytes.index drawn.drawn c.args.piece.now c.tail.result.now c.tail.ensures
-          (λ k lt. (omega (arith, drawn.ensures.sixels k lt), omega (arith, drawn.ensures.sixels k lt))) drawn.ensures.within r (drawn.ensures.stands o r.now r.stands),
-    )
-
+  omega (arith, c.in_ok-drawn.ensures.within, c.bytes.invariant.0, ap length c.tail.ensures, length-drop c.bytes.index c.args.piece.now),
+  λ o h stands.
+      let r = c.bytes.invariant.1 o h stands in
+      let drawn = c.in_ok-drawn in
+      reaches_read o c.bytes.self c.draw_sixels.new.self h c.bytes.index drawn.drawn c.args.piece.now c.tail.result.now c.tail.ensures
+      (λ k lt. (omega (arith, drawn.ensures.sixels k lt), omega (arith, drawn.ensures.sixels k lt))) drawn.ensures.within r (drawn.ensures.stands o r.now r.stands),
+)
 
 pub bytes-preserved-then-is_numbered : goal.bytes-preserved-then-is_numbered
 bytes-preserved-then-is_numbered c = (
-      omega (arith, c.in_ok-read.ensures.within, c.bytes.invariant.0, ap length c.tail-then-is_numbered.ensures, length-drop c.bytes.index c.args.piece.now),
-      λ o h stands.
-          let r = c.bytes.invariant.1 o h stands in
-          let read = c.in_ok-read in
-          reaches_read o c.bytes.self c.open_with_digits.new.self h c.bytes.index read.read c.args.piece.now c.tail-then-is_numbered.result.now c.tail-then-is_numbered.ensures
-          read.ensures.printable read.ensures.within r (read.ensures.stands o r.now r.stands),
-    )
-
+  omega (arith, c.in_ok-read.ensures.within, c.bytes.invariant.0, ap length c.tail-then-is_numbered.ensures, length-drop c.bytes.index c.args.piece.now),
+  λ o h stands.
+      let r = c.bytes.invariant.1 o h stands in
+      let read = c.in_ok-read in
+      reaches_read o c.bytes.self c.open_with_digits.new.self h c.bytes.index read.read c.args.piece.now c.tail-then-is_numbered.result.now c.tail-then-is_numbered.ensures
+      read.ensures.printable read.ensures.within r (read.ensures.stands o r.now r.stands),
+)
 
 pub returns-in_err-drawn-clause-reads : goal.returns-in_err-drawn-clause-reads
 returns-in_err-drawn-clause-reads c = λ o h stands.
@@ -99,20 +97,20 @@ returns-in_err-push-clause-reads c = λ o h stands.
 
 pub bytes-preserved : goal.bytes-preserved
 bytes-preserved c = (
-      omega (arith, c.bytes-test.true),
-      λ o h stands.
-          let piece = c.args.piece.now in
-          let index = c.bytes.index in
-          let byte = get_or piece index 0 in
-          let r = c.bytes.invariant.1 o h stands in
-          let splits = splits_at piece index c.bytes-test.true in
-          let ends : is_terminator byte ≡ false = sym c.is_terminator.ensures ∙ c.if-is_terminator.false in
-          elim c.if-not-is_ignored.branch [
-            | then-not-is_ignored+in_ok-push w ↦
-                let carries : is_ignored byte ≡ false = sym c.is_ignored.ensures ∙ w.if-not-is_ignored.true in
-                reaches_pushed o c.bytes.self _ h index piece byte splits ends carries r (rw w.self-is (w.in_ok-push.ensures o r.now r.stands))
-            | else-not-is_ignored w ↦
-                let ignored : is_ignored byte ≡ true = sym c.is_ignored.ensures ∙ w.if-not-is_ignored.false in
-                rw w.self-is (reaches_ignored o c.bytes.self h index piece byte splits ends ignored r)
-          ],
-    )
+  omega (arith, c.bytes-test.true),
+  λ o h stands.
+      let piece = c.args.piece.now in
+      let index = c.bytes.index in
+      let byte = get_or piece index 0 in
+      let r = c.bytes.invariant.1 o h stands in
+      let splits = splits_at piece index c.bytes-test.true in
+      let ends : is_terminator byte ≡ false = sym c.is_terminator.ensures ∙ c.if-is_terminator.false in
+      elim c.if-not-is_ignored.branch [
+        | then-not-is_ignored+in_ok-push w ↦
+            let carries : is_ignored byte ≡ false = sym c.is_ignored.ensures ∙ w.if-not-is_ignored.true in
+            reaches_pushed o c.bytes.self _ h index piece byte splits ends carries r (rw w.self-is (w.in_ok-push.ensures o r.now r.stands))
+        | else-not-is_ignored w ↦
+            let ignored : is_ignored byte ≡ true = sym c.is_ignored.ensures ∙ w.if-not-is_ignored.false in
+            rw w.self-is (reaches_ignored o c.bytes.self h index piece byte splits ends ignored r)
+      ],
+)
