@@ -1,20 +1,22 @@
 -- What a sixel does to what was drawn, and where one is refused.
-use Rattle.std.proofs.Common.{◌≡◌, ℕ, ◌+◌, ◌*◌, ◌-◌, ◌<◌, ◌≤◌, ◌⊎◌, true, List, [], ◌∷◌, ◌++◌, max, length, get_or, length-append, Some, refl, ap, ◌∙◌, inl, inr, arith}
-use Rattle.std.specs.Prelude.{nat_lt, if◌then◌else◌}
+use Rattle.std.proofs.Common.{◌≡◌, ℕ, ◌+◌, ◌*◌, ◌-◌, ◌<◌, ◌≤◌, ◌⊎◌, true, List, [], ◌∷◌, ◌++◌, max, length, get_or, length-append, Some, Result, Ok, Err, refl, ap, ◌∙◌, inl, inr, arith}
+use Rattle.std.specs.Prelude.{nat_lt, if◌then◌else◌, OnOk, IfErr}
 use Rattle.std.proofs.Math.Seq.{get_or-append_seam}
 use Rattle.std.proofs.lemmas.Bool.{lt-ltb, le-ltb}
 use Rattle.sixel_base.specs.Fault.{Malformed, TooLarge, Faults, IsFault}
 use Rattle.sixel_base.specs.History.{Sixel, History}
 use Rattle.sixel_base.specs.Payload.{extent_fault, first_fault}
 use Rattle.sixel_base.specs.Picture.{covers, is_struck}
-use Rattle.sixel_base.specs.Place.{width, height}
+use Rattle.sixel_base.specs.Place.{width, height, across, down, span}
 use Rattle.sixel_base.specs.Stroke.{Origin, color}
 use Rattle.sixel_base.specs.declared.error.SixelError.{SixelError}
+use Rattle.sixel_base.specs.declared.error.SixelError.TheVariants.{OutOfMemory}
 use Rattle.sixel_canvas.specs.inside.Canvas.{shown, reached}
 use Rattle.sixel_canvas.specs.inside.Paints.{ends_and_tags}
 use Rattle.sixel_canvas.specs.inside.Tags.{is_tag}
 use Rattle.sixel_decoder.specs.declared.painter.Painter.{Painter}
-use Rattle.sixel_decoder.specs.inside.Painter.{Shows}
+use Rattle.sixel_decoder.specs.inside.Painter.{Shows, Draws, IsExtended}
+use Rattle.sixel_decoder.specs.inside.Sizes.{IsTooLarge}
 use Rattle.sixel_decoder.proofs.Feeding.{or_right}
 use Rattle.sixel_decoder.proofs.Finding.{Faults-named}
 
@@ -28,23 +30,26 @@ pub extent_large : (limit right lower : ℕ) (h : History) → right ≤ 1000000
 extent_large limit right lower h wide high large =
     rw (le-ltb 1000000 right wide, le-ltb 1000000 lower high, lt-ltb limit (width h * height h) large) refl
 
--- a sixel that ends past the million
-pub refused_far : (e : SixelError) (o : Origin) (painter : Painter) (h : History) (bits : ℕ) → Shows o painter h
-    → (1000000 < painter.across + painter.span) ⊎ (1000000 < painter.down + 6) → IsFault e Malformed → Faults e true (first_fault o.pixel_limit (Sixel bits ∷ h))
-refused_far e o painter h bits shows far named =
-    let found = extent_malformed o.pixel_limit _ _ (Sixel bits ∷ h) (rw (shows.across, shows.span, shows.down) at far) in
-    rw (shows.faultless, found) (Faults-named e true Malformed named)
-
--- a sixel that makes the picture too large
-pub refused_large : (e : SixelError) (o : Origin) (painter : Painter) (h : History) (bits wide high : ℕ) → Shows o painter h
-    → painter.across + painter.span ≤ 1000000 → painter.down + 6 ≤ 1000000
-    → wide ≡ max painter.width (painter.across + painter.span) → high ≡ max painter.height (painter.down + 6)
-    → painter.pixel_limit < wide * high → IsFault e TooLarge → Faults e true (first_fault o.pixel_limit (Sixel bits ∷ h))
-refused_large e o painter h bits wide high shows right lower wide' high' large named =
+-- a sixel that ends past the million, or makes the picture too large
+pub refused_sixel : (e : SixelError) (o : Origin) (painter : Painter) (h : History) (bits lower : ℕ) → Shows o painter h
+    → (lower ≤ 1000000 → lower ≡ painter.down + 6) → (1000000 < lower → 1000000 < painter.down + 6)
+    → IsTooLarge (max painter.width (painter.across + painter.span)) (max painter.height lower) painter.pixel_limit e
+    → Faults e true (first_fault o.pixel_limit (Sixel bits ∷ h))
+refused_sixel e o painter h bits lower shows low deep (inl far) =
+    let side : (1000000 < painter.across + painter.span) ⊎ (1000000 < painter.down + 6) = elim far.0 [
+      | inl wide ↦ inl (omega (arith, wide, painter.width_fits))
+      | inr high ↦ inr (deep (omega (arith, high, painter.height_fits)))
+    ] in
+    let found = extent_malformed o.pixel_limit _ _ (Sixel bits ∷ h) (rw (shows.across, shows.span, shows.down) at side) in
+    rw (shows.faultless, found) (Faults-named e true Malformed far.1)
+refused_sixel e o painter h bits lower shows low deep (inr large) =
+    let same = low (omega (arith, large.1)) in
+    let right : painter.across + painter.span ≤ 1000000 = omega (arith, large.0) in
+    let bottom : painter.down + 6 ≤ 1000000 = omega (arith, large.1, same) in
     let found =
-    extent_large o.pixel_limit _ _ (Sixel bits ∷ h) (rw (shows.across, shows.span) at right) (rw shows.down at lower)
-    (rw (wide', high', shows.width, shows.height, shows.across, shows.span, shows.down, shows.limit) at large) in
-    rw (shows.faultless, found) (Faults-named e true TooLarge named)
+    extent_large o.pixel_limit _ _ (Sixel bits ∷ h) (rw (shows.across, shows.span) at right) (rw shows.down at bottom)
+    (rw (same, shows.width, shows.height, shows.across, shows.span, shows.down, shows.limit) at large.2) in
+    rw (shows.faultless, found) (Faults-named e true TooLarge large.3)
 
 -- four channels of which the last is 255 can be a tag
 tag_from_opaque : (ink : List ℕ) → length (ink ++ 255 ∷ []) ≡ 4 → is_tag (ink ++ 255 ∷ []) ≡ true
@@ -52,43 +57,53 @@ tag_from_opaque ink four =
     let three : 3 ≡ length ink = omega (arith, four, length-append ink (255 ∷ [])) in
     ap (nat_lt 0) (ap (λ (k : ℕ). get_or (ink ++ 255 ∷ []) k 0) three ∙ get_or-append_seam ink 255 [] 0)
 
--- the painter once a sixel was drawn
-pub Shows-drawn : (o : Origin) (h : History) (old new : Painter) (bits : ℕ) → Shows o old h
-    → length old.color ≡ 4 → old.span ≤ 65535 → old.across + old.span ≤ 1000000 → old.down + 6 ≤ 1000000 → new.width * new.height ≤ old.pixel_limit
-    → ((column row : ℕ) → shown new.canvas column row ≡ (if covers old.across (old.across + old.span) old.down bits column row then old.color else shown old.canvas column row))
-    → ((row : ℕ) → reached new.canvas row ≡ (if is_struck old.down bits row then max (reached old.canvas row) (old.across + old.span) else reached old.canvas row))
-    → (is_tag old.color ≡ true → new.canvas.paints ≤ old.canvas.paints + ends_and_tags ((old.across + old.span) - old.across) + (new.canvas.spread - old.canvas.spread))
-    → old.canvas.spread ≤ new.canvas.spread
-    → new.registers ≡ old.registers → new.color ≡ old.color → new.span ≡ 1 → new.across ≡ old.across + old.span → new.down ≡ old.down
-    → new.width ≡ max old.width (old.across + old.span) → new.height ≡ max old.height (old.down + 6) → new.raster_height ≡ old.raster_height
-    → new.ratio ≡ old.ratio → new.settings ≡ old.settings → new.raster_crop ≡ old.raster_crop → new.pixel_limit ≡ old.pixel_limit
+-- the painter once a sixel was drawn, which was made to hold it before
+pub Shows-drawn : (o : Origin) (h : History) (old wide new : Painter) (bits right : ℕ) → Shows o old h → IsExtended old wide right (old.down + 6)
+    → right ≡ wide.across + wide.span → length wide.color ≡ 4 → wide.span ≤ 65535 → wide.width * wide.height ≤ wide.pixel_limit
+    → ((column row : ℕ) → shown new.canvas column row ≡ (if covers wide.across right wide.down bits column row then wide.color else shown wide.canvas column row))
+    → ((row : ℕ) → reached new.canvas row ≡ (if is_struck wide.down bits row then max (reached wide.canvas row) right else reached wide.canvas row))
+    → (is_tag wide.color ≡ true → new.canvas.paints ≤ wide.canvas.paints + ends_and_tags (right - wide.across) + (new.canvas.spread - wide.canvas.spread))
+    → wide.canvas.spread ≤ new.canvas.spread
+    → new.registers ≡ wide.registers → new.color ≡ wide.color → new.span ≡ 1 → new.across ≡ right → new.down ≡ wide.down
+    → new.width ≡ wide.width → new.height ≡ wide.height → new.raster_height ≡ wide.raster_height
+    → new.ratio ≡ wide.ratio → new.settings ≡ wide.settings → new.raster_crop ≡ wide.raster_crop → new.pixel_limit ≡ wide.pixel_limit
     → Shows o new (Sixel bits ∷ h)
-Shows-drawn o h old new bits shows four narrow right lower area drawn grown paid' more registers' color' span' across' down' width' height' raster' ratio' settings' crop' limit' =
+Shows-drawn o h old wide new bits right shows is ends four narrow area drawn grown paid' more registers' color' span' across' down' width' height' raster' ratio' settings' crop' limit' =
     let ink : List ℕ = color o.registers h in
-    let tag : is_tag old.color ≡ true = rw shows.color (tag_from_opaque ink (rw shows.color at four)) in
+    let inked : wide.color ≡ ink ++ 255 ∷ [] = is.color ∙ shows.color in
+    let tag : is_tag wide.color ≡ true = rw inked (tag_from_opaque ink (rw inked at four)) in
     let most = paid' tag in
-    let wide : new.width ≡ width (Sixel bits ∷ h) = width' ∙ rw (shows.width, shows.across, shows.span) refl in
-    let high : new.height ≡ height (Sixel bits ∷ h) = height' ∙ rw (shows.height, shows.down) refl in
+    let from : wide.across ≡ across h = is.across ∙ shows.across in
+    let to : right ≡ across h + span h = ends ∙ rw (is.across, is.span, shows.across, shows.span) refl in
+    let top : wide.down ≡ down h = is.down ∙ shows.down in
+    let across : wide.width ≡ width (Sixel bits ∷ h) = is.width ∙ rw (shows.width, to) refl in
+    let high : wide.height ≡ height (Sixel bits ∷ h) = is.height ∙ rw (shows.height, shows.down) refl in
     record {
-      pixels = λ column row. drawn column row ∙ rw (shows.across, shows.span, shows.down, shows.color, shows.pixels column row) refl;
-      reached = λ row. grown row ∙ rw (shows.reached row, shows.down, shows.across, shows.span) refl;
-      paid = omega (arith, most, more, shows.paid, narrow);
-      registers = registers' ∙ shows.registers;
-      color = color' ∙ shows.color;
+      pixels = λ column row. drawn column row ∙ rw (from, to, top, inked, is.canvas, shows.pixels column row) refl;
+      reached = λ row. grown row ∙ rw (is.canvas, shows.reached row, top, to) refl;
+      paid = omega (arith, rw is.canvas at most, rw is.canvas at more, shows.paid, narrow, ends);
+      registers = registers' ∙ is.registers ∙ shows.registers;
+      color = color' ∙ inked;
       span = span';
-      across = across' ∙ rw (shows.across, shows.span) refl;
-      down = down' ∙ shows.down;
-      width = wide;
-      height = high;
-      raster_height = raster' ∙ shows.raster_height;
-      ratio = ratio' ∙ shows.ratio;
-      settings = settings' ∙ shows.settings;
-      crop = crop' ∙ shows.crop;
-      limit = limit' ∙ shows.limit;
+      across = across' ∙ to;
+      down = down' ∙ top;
+      width = width' ∙ across;
+      height = height' ∙ high;
+      raster_height = raster' ∙ is.raster_height ∙ shows.raster_height;
+      ratio = ratio' ∙ is.ratio ∙ shows.ratio;
+      settings = settings' ∙ is.settings ∙ shows.settings;
+      crop = crop' ∙ is.crop ∙ shows.crop;
+      limit = limit' ∙ is.limit ∙ shows.limit;
       faultless = rw (
         shows.faultless,
-        le-ltb 1000000 _ (rw (shows.across, shows.span) at right),
-        le-ltb 1000000 _ (rw shows.down at lower),
-        le-ltb o.pixel_limit _ (rw (wide, high, shows.limit) at area),
+        le-ltb 1000000 _ (rw to at is.right),
+        le-ltb 1000000 _ (rw shows.down at is.lower),
+        le-ltb o.pixel_limit _ (rw (across, high, is.limit, shows.limit) at area),
       ) refl;
     }
+
+-- what is drawn unless memory is refused
+pub draws_unless : {A : Type 0} → (result : Result A SixelError) (o : Origin) (painter : Painter) (h : History) (drawn grown : Type 0)
+    → OnOk result drawn → OnOk result grown → IfErr result (λ e. e ≡ OutOfMemory) → (drawn → grown → Shows o painter h) → Draws result o painter h true
+draws_unless (Ok x) o painter h drawn grown is more error shows = shows is more
+draws_unless (Err e) o painter h drawn grown is more error shows = rw error refl

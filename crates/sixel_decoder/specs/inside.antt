@@ -7,3 +7,4 @@ pub mod Heading
 pub mod Following
 pub mod Progress
 pub mod Runs
+pub mod Sizes

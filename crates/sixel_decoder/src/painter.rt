@@ -1,8 +1,10 @@
 //! What each closed command does to position, extent, registers and canvas.
 
 ghost use Rattle.std.specs.Prelude.{◌≡◌, ◌<◌, ◌≤◌, ◌*◌, ◌∷◌, ◌++◌, List, ℕ, true, false, []};
-ghost use Rattle.std.specs.Prelude.{length, max, nat_le, slice_set, if◌then◌else◌};
+ghost use Rattle.std.specs.Prelude.{length, max, nat_le, nat_lt, slice_set, if◌then◌else◌};
 ghost use Rattle.std.specs.Prelude.{◌+◌, ◌-◌, fold, slice_index, take, IfOk, IfErr, IsTrue, OnOk};
+ghost use Rattle.std.specs.Prelude.{MatchResult};
+ghost use Rattle.sixel_decoder.specs.inside.Sizes.{IsTooLarge};
 ghost use Rattle.sixel_base.specs.Picture.{is_set};
 ghost use Rattle.sixel_base.specs.declared.error.SixelError.TheVariants.{OutOfMemory};
 ghost use Rattle.sixel_canvas.specs.inside.Block.{drawn_over};
@@ -66,7 +68,9 @@ pub struct Picture {
 }
 
 impl Painter {
+    ghost use Rattle.sixel_decoder.specs.declared.painter.Painter.{Painter};
     ghost use Rattle.sixel_decoder.specs.inside.Painter.{Shows, Draws, IsAlone};
+    ghost use Rattle.sixel_decoder.specs.inside.Painter.{IsExtended};
 
     /// A painter that has drawn nothing.
     pub fn new(alloc: Global, decoder: DecoderState, settings: DcsSettings) -> Painter
@@ -107,21 +111,46 @@ impl Painter {
             → Draws result o self.new (Sixel bits ∷ h) true }
     {
         let right = self.across + self.span;
-        if right > MAX_SIDE || self.down > MAX_SIDE - 6 {
-            return Err(SixelError::malformed());
+        match self.extend(right, self.down.saturating_add(6)) {
+            Ok(()) => self.strike(right, bits),
+            Err(error) => Err(error),
         }
-        let width = self.width.max(right);
-        let height = self.height.max(self.down + 6);
-        if width * height > self.pixel_limit {
-            return Err(SixelError::too_large());
+    }
+
+    /// Makes the picture at least so wide and so high, unless it is too large then.
+    #[inline(always)]
+    fn extend(&mut self, wide: usize, high: usize) -> Result<()>
+        ensures { MatchResult result (λ _. IsExtended self.old self.new wide high)
+            (λ error. IsTooLarge (max self.old.width wide) (max self.old.height high)
+            self.old.pixel_limit error) }
+    {
+        let width = self.width.max(wide);
+        let height = self.height.max(high);
+        match check_size(width, height, self.pixel_limit) {
+            Ok(()) => {
+                self.width = width;
+                self.height = height;
+                Ok(())
+            }
+            Err(error) => Err(error),
         }
-        self.canvas
-            .draw(self.across, right, self.down, bits, self.color)?;
-        self.width = width;
-        self.height = height;
+    }
+
+    /// Paints a sixel that ends at this column of the picture, and goes on there.
+    #[inline(always)]
+    fn strike(&mut self, right: usize, bits: u8) -> Result<()>
+        requires six { bits < 64 }
+        requires right { right ≡ self.old.across + self.old.span }
+        requires within { right ≤ 1000000 }
+        requires above_bottom { self.old.down + 6 ≤ 1000000 }
+        ensures { (o : Origin) (h : History) (before : Painter) → Shows o before h
+            → IsExtended before self.old right (before.down + 6)
+            → Draws result o self.new (Sixel bits ∷ h) true }
+    {
+        let from = self.across;
         self.across = right;
         self.span = 1;
-        Ok(())
+        self.canvas.draw(from, right, self.down, bits, self.color)
     }
 
     /// Whether the next sixel is of one column, inside the picture, and all six rows of the canvas hold
@@ -316,20 +345,14 @@ impl Painter {
     {
         let wide = parameters.get(2) as usize;
         let high = parameters.get(3) as usize;
-        if wide > MAX_SIDE || high > MAX_SIDE {
-            return Err(SixelError::malformed());
+        match self.extend(wide, high) {
+            Ok(()) => {
+                self.raster_height = last_height(self.raster_height, high);
+                self.ratio = shape(parameters, self.ratio, self.settings.pixel_aspect_ratio());
+                Ok(())
+            }
+            Err(error) => Err(error),
         }
-        let width = self.width.max(wide);
-        let height = self.height.max(high);
-        let raster_height = if high > 0 { high } else { self.raster_height };
-        if width * height > self.pixel_limit {
-            return Err(SixelError::too_large());
-        }
-        self.width = width;
-        self.height = height;
-        self.raster_height = raster_height;
-        self.ratio = shape(parameters, self.ratio, self.settings.pixel_aspect_ratio());
-        Ok(())
     }
 
     /// Selects a register, and defines it where there are five parameters that say how.
@@ -424,6 +447,29 @@ impl Painter {
             registers,
         })
     }
+}
+
+/// Refuses a picture whose sides or whose area are above their limits.
+#[inline(always)]
+fn check_size(width: usize, height: usize, limit: usize) -> Result<()>
+    ensures { MatchResult result
+        (λ _. (width ≤ 1000000) × (height ≤ 1000000) × (width * height ≤ limit))
+        (λ error. IsTooLarge width height limit error) }
+{
+    if width > MAX_SIDE || height > MAX_SIDE {
+        return Err(SixelError::malformed());
+    }
+    if width * height > limit {
+        return Err(SixelError::too_large());
+    }
+    Ok(())
+}
+
+/// The last height that raster attributes name, where 0 names none.
+fn last_height(before: usize, high: usize) -> usize
+    ensures { result ≡ (if nat_lt 0 high then high else before) }
+{
+    if high > 0 { high } else { before }
 }
 
 /// Gives the register the color that five parameters define, if they do.

@@ -1,6 +1,6 @@
 -- What the parts of a painter keep, in the words of the history that was read. An invariant of this library's own: the words are those
 -- of Place and Stroke of sixel_base, where DEC's manual gives the rules.
-use Rattle.std.specs.Prelude.{ℕ, ◌≡◌, ◌+◌, ◌*◌, ◌<◌, ◌≤◌, Bool, MatchResult, Result, None, is_none, [], ◌∷◌, ◌++◌}
+use Rattle.std.specs.Prelude.{ℕ, ◌≡◌, ◌+◌, ◌*◌, ◌<◌, ◌≤◌, Bool, MatchResult, Result, None, is_none, [], ◌∷◌, ◌++◌, max}
 use Rattle.sixel_base.specs.declared.error.SixelError.{SixelError}
 use Rattle.sixel_decoder.specs.declared.painter.Painter.{Painter}
 use Rattle.sixel_base.specs.Settings.{ratio_of}
@@ -38,6 +38,24 @@ pub record Shows (origin : Origin) (painter : Painter) (history : History) : Typ
 abbrev pub Draws : {A : Type 0} → Result A SixelError → Origin → Painter → History → Bool → Type 0
 Draws result origin painter history may_want =
     MatchResult result (λ _. Shows origin painter history) (λ error. Faults error may_want (first_fault origin.pixel_limit history))
+
+-- The second painter is the first with a picture at least so wide and so high, which is within the limits.
+pub record IsExtended (old new : Painter) (wide high : ℕ) : Type 0 where
+  pub right : wide ≤ 1000000
+  pub lower : high ≤ 1000000
+  pub width : new.width ≡ max old.width wide
+  pub height : new.height ≡ max old.height high
+  pub canvas : new.canvas ≡ old.canvas
+  pub registers : new.registers ≡ old.registers
+  pub settings : new.settings ≡ old.settings
+  pub crop : new.raster_crop ≡ old.raster_crop
+  pub limit : new.pixel_limit ≡ old.pixel_limit
+  pub ratio : new.ratio ≡ old.ratio
+  pub color : new.color ≡ old.color
+  pub span : new.span ≡ old.span
+  pub across : new.across ≡ old.across
+  pub down : new.down ≡ old.down
+  pub raster_height : new.raster_height ≡ old.raster_height
 
 -- The history has no fault, and this is its image, within the limit, with the registers after it; or it is refused by its first fault,
 -- and for want of memory only where it has an image.

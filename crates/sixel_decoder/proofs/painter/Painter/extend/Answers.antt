@@ -1,0 +1,25 @@
+use Rattle.std.proofs.Common.{refl, arith}
+use Rattle.sixel_decoder.proofs.painter.Painter.extend.Goals as goal
+
+pub returns-in-Ok : goal.returns-in-Ok
+returns-in-Ok c =
+    record {
+      right = omega (arith, c.max-width.ensures, c.in-Ok.ensures.0);
+      lower = omega (arith, c.max-height.ensures, c.in-Ok.ensures.1);
+      width = c.max-width.ensures;
+      height = c.max-height.ensures;
+      canvas = refl;
+      registers = refl;
+      settings = refl;
+      crop = refl;
+      limit = refl;
+      ratio = refl;
+      color = refl;
+      span = refl;
+      across = refl;
+      down = refl;
+      raster_height = refl;
+    }
+
+pub returns-in-Err : goal.returns-in-Err
+returns-in-Err c = rw (← c.max-width.ensures, ← c.max-height.ensures) c.in-Err.ensures
