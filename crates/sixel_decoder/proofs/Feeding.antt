@@ -1,6 +1,6 @@
 -- How far a frame has come in a piece, and what stays true of the whole piece's history.
-use Rattle.std.proofs.Common.{◌≡◌, ℕ, zero, suc, ◌+◌, ◌<◌, ◌≤◌, Bool, true, false, cond, List, [], ◌∷◌, ◌++◌, refl, ap, sym, ◌∙◌, subst, arith, Some, None, length, take, drop, drop-cons, get_or, get_or-drop, add-one}
-use Rattle.std.specs.Prelude.{IsTrue, nat_lt, fold, ◌||◌, is_none}
+use Rattle.std.proofs.Common.{◌≡◌, ℕ, zero, suc, ◌+◌, ◌<◌, ◌≤◌, Bool, true, false, cond, List, [], ◌∷◌, ◌++◌, refl, ap, sym, ◌∙◌, subst, arith, Some, None, Result, Ok, Err, length, take, drop, drop-cons, get_or, get_or-drop, add-one}
+use Rattle.std.specs.Prelude.{IfOk, IsTrue, nat_lt, fold, ◌||◌, is_none}
 use Rattle.std.proofs.lemmas.Bool.Decides.{nat_tests}
 use Rattle.std.proofs.lemmas.List.{drop-drop, drop_all}
 use Rattle.std.proofs.lemmas.List.Sums.{fold-append}
@@ -9,13 +9,15 @@ use Rattle.sixel_base.specs.Fault.{Fault, Faults}
 use Rattle.sixel_base.specs.Bytes.{is_terminator, is_ignored, is_sixel, before_terminator, carrying, front, count, first_terminator, is_terminated}
 use Rattle.sixel_base.specs.History.{Token, Sixel, Repeat, Raster, Color, Return, Newline, Skip, History, begun, longer, goes_on, read, history_of}
 use Rattle.sixel_base.specs.Stroke.{Origin}
-use Rattle.sixel_base.specs.Payload.{first_fault, closed, growths, settled, payload_fault, payload_wants}
+use Rattle.sixel_base.specs.Payload.{first_fault, closed, growths, settled, payload_fault, payload_wants, payload_image}
 use Rattle.sixel_decoder.specs.declared.frame.Frame.{Frame}
 use Rattle.sixel_decoder.specs.declared.frame.Phase.TheVariants.{Ground}
 use Rattle.sixel_base.specs.Status.{status_of}
 use Rattle.sixel_base.specs.declared.status.SixelFeedStatus.TheVariants.{NeedMoreData, Terminated}
-use Rattle.sixel_decoder.specs.inside.Frame.{Stands, StandsAfter, after, settled_after}
-use Rattle.sixel_decoder.specs.inside.Painter.{Shows}
+use Rattle.sixel_decoder.specs.inside.Frame.{Stands, StandsAfter, Decodes, after, settled_after}
+use Rattle.sixel_decoder.specs.inside.Painter.{Shows, Ends}
+use Rattle.sixel_decoder.specs.declared.painter.Picture.{Picture}
+use Rattle.sixel_decoder.specs.PictureView.{picture_value}
 use Rattle.sixel_decoder.specs.inside.Runs.{IsPrintable, IsSixelByte}
 use Rattle.sixel_decoder.proofs.Framing.{Faults-along, fault_stays, growths-closed}
 
@@ -326,6 +328,10 @@ pub or_right : (a b : Bool) → IsTrue b → IsTrue (a || b)
 or_right true b is = refl
 or_right false b is = is
 
+or_left : (a b : Bool) → IsTrue a → IsTrue (a || b)
+or_left true b is = refl
+or_left false b is = absurd cc
+
 pub payload_refused : (e : SixelError) (limit : ℕ) (bytes : List ℕ)
     → Faults e (nat_lt 0 (growths (settled bytes))) (first_fault limit (settled bytes))
     → Faults e (payload_wants limit bytes) (payload_fault limit bytes)
@@ -333,3 +339,16 @@ payload_refused e limit bytes refused =
     Faults-along e (nat_lt 0 (growths (settled bytes))) (payload_wants limit bytes) (first_fault limit (settled bytes)) (payload_fault limit bytes)
     (λ may. or_right (is_none (payload_fault limit bytes)) (nat_lt 0 (growths (settled bytes))) may)
     (λ f is. settled_fault limit bytes f is) refused
+
+-- what is refused at the end of a payload
+pub payload_ends : (result : Result Picture SixelError) (o : Origin) (bytes : List ℕ) → Ends result o (history_of (front bytes)) → Decodes result o bytes
+payload_ends (Ok picture) o bytes is = is
+payload_ends (Err e) o bytes refused =
+    Faults-along e (is_none (payload_fault o.pixel_limit bytes)) (payload_wants o.pixel_limit bytes) (payload_fault o.pixel_limit bytes) (payload_fault o.pixel_limit bytes)
+    (λ may. or_left (is_none (payload_fault o.pixel_limit bytes)) (nat_lt 0 (growths (settled bytes))) may)
+    (λ f is. is) refused
+
+-- the image of a payload that is not refused
+pub decoded_image : (result : Result Picture SixelError) (o : Origin) (bytes : List ℕ) → Decodes result o bytes → IfOk result (λ picture. picture_value picture ≡ payload_image o bytes)
+decoded_image (Ok picture) o bytes is = is.1
+decoded_image (Err e) o bytes is = tt

@@ -395,8 +395,9 @@ impl Frame {
         ensures { (o : Origin) (h : History) (ended : Bool) → StandsAfter ended o self h
             → Ends result o h }
     {
-        self.close()?;
-        let Frame { painter, .. } = self;
-        painter.finish()
+        match self.close() {
+            Ok(()) => self.painter.picture(),
+            Err(error) => Err(error),
+        }
     }
 }

@@ -1,13 +1,15 @@
 //! Decoding in one call: a payload, or the first control string in some bytes.
 
-ghost use Rattle.std.specs.Prelude.{◌≡◌, ◌*◌, ◌≤◌, OnOk, IfOk, IfErr, None};
+ghost use Rattle.std.specs.Prelude.{◌≡◌, ◌*◌, ◌≤◌, OnOk, IfOk, IfErr, None, []};
 ghost use Rattle.sixel_base.specs.Decoder.{origin_of};
 ghost use Rattle.sixel_base.specs.Fault.{Faults};
 ghost use Rattle.sixel_base.specs.OneShot.{found, found_fault, found_wants, IsFoundImage};
 ghost use Rattle.sixel_base.specs.OneShot.{AreFoundRegisters};
 ghost use Rattle.sixel_base.specs.Payload.{payload_fault, payload_image};
 ghost use Rattle.sixel_base.specs.Payload.{payload_registers, payload_wants};
+ghost use Rattle.sixel_base.specs.Stroke.{Origin};
 ghost use Rattle.sixel_decoder.specs.PictureView.{picture_value};
+ghost use Rattle.sixel_decoder.specs.inside.Frame.{Stands, Decodes};
 
 use crate::bytes::tail;
 use crate::frame::Frame;
@@ -59,7 +61,15 @@ pub fn decode_payload(
         (payload_wants decoder.pixel_limit bytes.now)
         (payload_fault decoder.pixel_limit bytes.now)) }
 {
-    let mut frame = Frame::new(alloc, decoder, settings);
-    frame.feed(bytes)?;
-    frame.finish()
+    read_whole(Frame::new(alloc, decoder, settings), bytes)
+}
+
+/// Reads a payload by a frame that has read nothing yet, and gives the picture.
+fn read_whole(mut frame: Frame, bytes: &[u8]) -> Result<Picture>
+    ensures { (o : Origin) → Stands o frame [] → Decodes result o bytes.now }
+{
+    match frame.feed(bytes) {
+        Ok(_) => frame.finish(),
+        Err(error) => Err(error),
+    }
 }

@@ -3,7 +3,7 @@
 ghost use Rattle.std.specs.Prelude.{◌≡◌, ◌<◌, ◌≤◌, ◌*◌, ◌∷◌, ◌++◌, List, ℕ, true, false, []};
 ghost use Rattle.std.specs.Prelude.{length, max, nat_le, nat_lt, slice_set, if◌then◌else◌};
 ghost use Rattle.std.specs.Prelude.{◌+◌, ◌-◌, fold, slice_index, take, IfOk, IfErr, IsTrue, OnOk};
-ghost use Rattle.std.specs.Prelude.{MatchResult};
+ghost use Rattle.std.specs.Prelude.{MatchResult, ◌&&◌};
 ghost use Rattle.sixel_decoder.specs.inside.Sizes.{IsTooLarge};
 ghost use Rattle.sixel_base.specs.Picture.{is_set};
 ghost use Rattle.sixel_base.specs.declared.error.SixelError.TheVariants.{OutOfMemory};
@@ -418,34 +418,33 @@ impl Painter {
     }
 
     /// The picture that was drawn, and the registers then.
-    pub fn finish(self) -> Result<Picture>
-        ensures { (o : Origin) (h : History) → Shows o self h → Ends result o h }
+    pub fn picture(&self) -> Result<Picture>
+        ensures { (o : Origin) (h : History) → Shows o self.now h → Ends result o h }
     {
-        let Painter {
-            canvas,
-            registers,
-            settings,
-            raster_crop,
-            ratio,
-            width,
-            height,
-            raster_height,
-            ..
-        } = self;
-        let height = if raster_crop && raster_height > 0 {
-            raster_height
+        let height = self.image_height();
+        match self.canvas.pack(self.width, height) {
+            Ok(pixels) => Ok(Picture {
+                pixels,
+                width: self.width,
+                height,
+                aspect_ratio: self.ratio,
+                background_mode: self.settings.background_mode(),
+                registers: self.registers,
+            }),
+            Err(error) => Err(error),
+        }
+    }
+
+    /// How high the image is: with crop, as the last raster attributes say that name a height.
+    fn image_height(&self) -> usize
+        ensures { result ≡ (if self.now.raster_crop && nat_lt 0 self.now.raster_height
+            then self.now.raster_height else self.now.height) }
+    {
+        if self.raster_crop && self.raster_height > 0 {
+            self.raster_height
         } else {
-            height
-        };
-        let pixels = canvas.pack(width, height)?;
-        Ok(Picture {
-            pixels,
-            width,
-            height,
-            aspect_ratio: ratio,
-            background_mode: settings.background_mode(),
-            registers,
-        })
+            self.height
+        }
     }
 }
 

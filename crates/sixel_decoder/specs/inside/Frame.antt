@@ -1,6 +1,6 @@
 -- How a frame, which reads a payload's bytes, stands in the history that they are so far: every token was drawn but a newest one that
 -- could go on. An invariant of this library's own: what a payload means, by DEC's manual, is in Payload of sixel_base.
-use Rattle.std.specs.Prelude.{ℕ, ◌<◌, ◌≡◌, Bool, true, false, nat_lt, MatchResult, Result, List, [], ◌∷◌, fold, slice_index, take, if◌then◌else◌}
+use Rattle.std.specs.Prelude.{ℕ, ◌<◌, ◌≤◌, ◌*◌, ◌≡◌, None, Bool, true, false, nat_lt, MatchResult, Result, List, [], ◌∷◌, fold, slice_index, take, if◌then◌else◌}
 use Rattle.sixel_base.specs.Status.{status_of}
 use Rattle.sixel_base.specs.declared.status.SixelFeedResult.{SixelFeedResult}
 use Rattle.sixel_base.specs.Bytes.{front, count, first_terminator, is_terminated}
@@ -14,8 +14,10 @@ use Rattle.sixel_base.specs.Fault.{Faults}
 use Rattle.sixel_base.specs.inside.Parameters.{Keeps}
 use Rattle.sixel_base.specs.History.{Token, Sixel, Repeat, Raster, Color, Return, Newline, Skip, History, begun, goes_on, read}
 use Rattle.sixel_base.specs.Stroke.{Origin}
-use Rattle.sixel_base.specs.Payload.{first_fault, closed, growths}
+use Rattle.sixel_base.specs.Payload.{first_fault, closed, growths, payload_fault, payload_image, payload_registers, payload_wants}
 use Rattle.sixel_decoder.specs.inside.Painter.{Shows}
+use Rattle.sixel_decoder.specs.PictureView.{picture_value}
+use Rattle.sixel_decoder.specs.declared.painter.Picture.{Picture}
 
 -- what a byte begins is the token that it begins
 abbrev pub Begins : Start → ℕ → Type 0
@@ -90,3 +92,11 @@ Feeds result origin frame history piece =
     × StandsAfter (is_terminated piece) origin frame (after history piece))
     (λ error. Faults error (nat_lt (growths (closed history)) (growths (settled_after history piece)))
     (first_fault origin.pixel_limit (settled_after history piece)))
+
+-- The bytes are a payload with no fault, and this is its picture; or they are refused by their first fault.
+abbrev pub Decodes : Result Picture SixelError → Origin → List ℕ → Type 0
+Decodes result origin bytes =
+    MatchResult result
+    (λ picture. (payload_fault origin.pixel_limit bytes ≡ None) × (picture_value picture ≡ payload_image origin bytes)
+    × (picture.registers ≡ payload_registers origin bytes) × (picture.width * picture.height ≤ origin.pixel_limit))
+    (λ error. Faults error (payload_wants origin.pixel_limit bytes) (payload_fault origin.pixel_limit bytes))
