@@ -1,6 +1,6 @@
 -- What sixels of one column each that stand inside the picture do to the words of a history: they change pixels and the place alone.
-use Rattle.std.proofs.Common.{◌≡◌, ℕ, zero, suc, ◌+◌, ◌*◌, ◌<◌, ◌≤◌, ◌-◌, Bool, true, false, max, List, [], ◌∷◌, ◌++◌, length, get_or, take, drop, length-take, get_or-take, get_or-drop, take-add, take_all, add-one, subst, refl, sym, ap, ◌∙◌, inl, inr, None, arith}
-use Rattle.std.specs.Prelude.{fold, IsTrue, nat_lt, nat_le, ◌&&◌, if◌then◌else◌}
+use Rattle.std.proofs.Common.{◌≡◌, Result, Ok, Err, ℕ, zero, suc, ◌+◌, ◌*◌, ◌<◌, ◌≤◌, ◌-◌, Bool, true, false, max, List, [], ◌∷◌, ◌++◌, length, get_or, take, drop, length-take, get_or-take, get_or-drop, take-add, take_all, add-one, subst, refl, sym, ap, ◌∙◌, inl, inr, None, arith}
+use Rattle.std.specs.Prelude.{fold, IfOk, IsTrue, nat_lt, nat_le, ◌&&◌, if◌then◌else◌}
 use Rattle.std.proofs.lemmas.List.{get_or_past}
 use Rattle.std.proofs.lemmas.Bool.{cases_lt, le-ltb, lt-leb, le-leb, lt-ltb}
 use Rattle.sixel_base.specs.History.{Sixel, Repeat, Raster, Color, Return, Newline, Skip, History, goes_on, read}
@@ -19,11 +19,11 @@ use Rattle.sixel_canvas.proofs.Underway.{reached_held}
 use Rattle.sixel_canvas.specs.inside.Block.{drawn_over}
 use Rattle.sixel_canvas.specs.inside.Canvas.{CanvasState, shown, reached}
 use Rattle.sixel_decoder.specs.declared.painter.Painter.{Painter}
-use Rattle.sixel_decoder.specs.inside.Painter.{IsAlone, Shows}
+use Rattle.sixel_decoder.specs.inside.Painter.{IsAlone, Shows, DrawsFront}
 use Rattle.sixel_decoder.specs.declared.frame.Frame.{Frame}
 use Rattle.sixel_decoder.specs.declared.frame.Phase.{Phase}
 use Rattle.sixel_decoder.specs.declared.frame.Phase.TheVariants.{Ground}
-use Rattle.sixel_decoder.specs.inside.Frame.{IsDrawn, Stands, StandsIn}
+use Rattle.sixel_decoder.specs.inside.Frame.{IsDrawn, Stands, StandsIn, ReadsFront}
 use Rattle.sixel_decoder.specs.Paints.{sixels}
 use Rattle.sixel_decoder.specs.inside.Runs.{IsSixelByte, IsRun, Holds, bits_of, four_of, next_end, end_of, columns_for}
 use Rattle.sixel_decoder.proofs.Framing.{growths-closed}
@@ -589,3 +589,10 @@ refused_sixel e limit h byte is refused =
     let grown : nat_lt (growths (closed h)) (growths h + 1) ≡ true = lt-ltb (growths (closed h)) (growths h + 1) (omega (arith, growths-closed h)) in
     subst (λ (w : History). Faults e (nat_lt (growths (closed h)) (growths (closed w))) (first_fault limit (closed w))) (sym (read_sixel h byte is))
     (rw grown refused)
+
+-- a frame reads as many sixels as its painter draws
+pub reads_drawn : (result : Result ℕ SixelError) (o : Origin) (new : Frame) (h : History) (bytes : List ℕ) → new.phase ≡ Ground → IsSixelByte (get_or bytes 0 0)
+    → IfOk result (λ n. 0 < n) → IfOk result (λ n. n ≤ length bytes) → IfOk result (λ n. (k : ℕ) → k < n → IsSixelByte (get_or bytes k 0))
+    → DrawsFront result o new.painter h bytes → ReadsFront result o new h bytes
+reads_drawn (Ok n) o new h bytes ground sixel some le are shows = Stands-run o new h n bytes ground some le are shows
+reads_drawn (Err e) o new h bytes ground sixel some le are refused = refused_sixel e o.pixel_limit h (get_or bytes 0 0) sixel refused

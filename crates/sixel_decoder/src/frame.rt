@@ -4,7 +4,7 @@
 //! terminator, or by the end. So a piece may end within one, and nothing is decided there.
 
 ghost use Rattle.std.specs.Prelude.{◌≡◌, ◌<◌, ◌≤◌, ◌+◌, ◌*◌, ◌∷◌, ◌++◌, List, ℕ, true, false, []};
-ghost use Rattle.std.specs.Prelude.{length, slice_index, IfOk};
+ghost use Rattle.std.specs.Prelude.{length, slice_index, IfOk, fold, take};
 ghost use Rattle.sixel_decoder.specs.inside.Runs.{IsPrintable, IsSixelByte};
 ghost use Rattle.std.specs.Prelude.{IsOk, IsTrue, ◌⊎◌, Bool, if◌then◌else◌};
 ghost use Rattle.sixel_canvas.specs.inside.Canvas.{canvas_writes, canvas_room};
@@ -201,13 +201,10 @@ impl Frame {
         ensures stands { (o : Origin) (h : History) → Stands o self.old h
             → ReadsFront result o self.new h bytes.now }
     {
-        self.close()?;
-        let drawn = self.painter.draw_run(bytes)?;
-        if drawn > 0 {
-            return Ok(drawn);
+        match self.close() {
+            Ok(()) => self.painter.draw_front(bytes),
+            Err(error) => Err(error),
         }
-        self.painter.draw(bytes[0] - 0x3f)?;
-        Ok(1)
     }
 
     /// Ends the open command and opens the one at the front of the bytes, with the digits after it, and
@@ -223,11 +220,28 @@ impl Frame {
         ensures stands { (o : Origin) (h : History) → Stands o self.old h
             → ReadsFront result o self.new h bytes.now }
     {
-        self.close()?;
+        match self.close() {
+            Ok(()) => Ok(self.open_numbered(bytes)),
+            Err(error) => Err(error),
+        }
+    }
+
+    /// Opens the command at the front of the bytes, with the digits after it, where none is open, and
+    /// answers how many bytes that are.
+    #[inline(always)]
+    fn open_numbered(&mut self, bytes: &[u8]) -> usize
+        requires some { 0 < length bytes.now }
+        requires numbered { (slice_index bytes.now 0 ≡ 33) ⊎ (slice_index bytes.now 0 ≡ 35) }
+        ensures some { 0 < result }
+        ensures within { result ≤ length bytes.now }
+        ensures printable { (k : ℕ) → k < result → IsPrintable (slice_index bytes.now k) }
+        ensures stands { (o : Origin) (h : History) → Shows o self.old.painter h
+            → Stands o self.new (fold read h (take result bytes.now)) }
+    {
         let digits = Digits::at_front(tail(bytes, 1));
         self.phase = Phase::opened_by(bytes[0]);
         self.parameters = digits.parameters;
-        Ok(digits.len + 1)
+        digits.len + 1
     }
 
     /// Reads a piece up to its first terminator, which ends the open command.

@@ -70,7 +70,7 @@ pub struct Picture {
 impl Painter {
     ghost use Rattle.sixel_decoder.specs.declared.painter.Painter.{Painter};
     ghost use Rattle.sixel_decoder.specs.inside.Painter.{Shows, Draws, IsAlone};
-    ghost use Rattle.sixel_decoder.specs.inside.Painter.{IsExtended};
+    ghost use Rattle.sixel_decoder.specs.inside.Painter.{IsExtended, DrawsFront};
 
     /// A painter that has drawn nothing.
     pub fn new(alloc: Global, decoder: DecoderState, settings: DcsSettings) -> Painter
@@ -185,6 +185,28 @@ impl Painter {
         self.across += 1;
     }
 
+    /// Draws sixels at the front of the bytes, one at least, and answers how many.
+    #[inline(always)]
+    pub fn draw_front(&mut self, bytes: &[u8]) -> Result<usize>
+        requires some { 0 < length bytes.now }
+        requires sixel { IsSixelByte (slice_index bytes.now 0) }
+        ensures some { IfOk result (λ drawn. 0 < drawn) }
+        ensures within { IfOk result (λ drawn. drawn ≤ length bytes.now) }
+        ensures sixels { IfOk result (λ drawn. (k : ℕ) → k < drawn
+            → IsSixelByte (slice_index bytes.now k)) }
+        ensures draws { (o : Origin) (h : History) → Shows o self.old h
+            → DrawsFront result o self.new h bytes.now }
+    {
+        let drawn = self.draw_run(bytes)?;
+        if drawn > 0 {
+            return Ok(drawn);
+        }
+        match self.draw(bytes[0] - 0x3f) {
+            Ok(()) => Ok(1),
+            Err(error) => Err(error),
+        }
+    }
+
     /// Draws the sixels at the front of the bytes at once, where the next ones are of one column each
     /// and inside the picture, and answers how many they are: none elsewhere, nor of a single byte.
     #[inline(always)]
@@ -221,19 +243,41 @@ impl Painter {
         if self.across + len > self.width {
             return Ok(0);
         }
+        self.draw_whole(bytes, len)
+    }
+
+    /// Draws a run of so many sixels at the front of the bytes, and answers how many they are.
+    #[inline(always)]
+    fn draw_whole(&mut self, bytes: &[u8], len: usize) -> Result<usize>
+        requires single { self.old.span ≡ 1 }
+        requires above_bottom { self.old.down + 6 ≤ self.old.height }
+        requires inside { self.old.across + len ≤ self.old.width }
+        requires within { len ≤ length bytes.now }
+        requires sixels { (k : ℕ) → k < len → IsSixelByte (slice_index bytes.now k) }
+        ensures within { IfOk result (λ drawn. drawn ≤ length bytes.now) }
+        ensures sixels { IfOk result (λ drawn. (k : ℕ) → k < drawn
+            → IsSixelByte (slice_index bytes.now k)) }
+        ensures shows { IfOk result (λ drawn. (o : Origin) (h : History) → Shows o self.old h
+            → Shows o self.new (fold read h (take drawn bytes.now))) }
+        ensures error { IfErr result (λ e. e ≡ OutOfMemory) }
+    {
         let run = front(bytes, len);
-        let held = hold(&mut self.canvas, self.down, self.across, run)?;
-        paint(
-            &mut self.canvas,
-            held,
-            self.down,
-            self.across,
-            bytes,
-            run,
-            self.color,
-        );
-        self.across += len;
-        Ok(len)
+        match hold(&mut self.canvas, self.down, self.across, run) {
+            Ok(held) => {
+                paint(
+                    &mut self.canvas,
+                    held,
+                    self.down,
+                    self.across,
+                    bytes,
+                    run,
+                    self.color,
+                );
+                self.across += len;
+                Ok(len)
+            }
+            Err(error) => Err(error),
+        }
     }
 }
 

@@ -1,12 +1,12 @@
 -- What the parts of a painter keep, in the words of the history that was read. An invariant of this library's own: the words are those
 -- of Place and Stroke of sixel_base, where DEC's manual gives the rules.
-use Rattle.std.specs.Prelude.{ℕ, ◌≡◌, ◌+◌, ◌*◌, ◌<◌, ◌≤◌, Bool, MatchResult, Result, None, is_none, [], ◌∷◌, ◌++◌, max}
+use Rattle.std.specs.Prelude.{true, ℕ, ◌≡◌, ◌+◌, ◌*◌, ◌<◌, ◌≤◌, Bool, ◌-◌, MatchResult, Result, None, is_none, [], ◌∷◌, ◌++◌, List, max, fold, take, slice_index}
 use Rattle.sixel_base.specs.declared.error.SixelError.{SixelError}
 use Rattle.sixel_decoder.specs.declared.painter.Painter.{Painter}
 use Rattle.sixel_base.specs.Settings.{ratio_of}
 use Rattle.sixel_base.specs.Fault.{Faults}
 use Rattle.sixel_canvas.specs.inside.Canvas.{shown, reached}
-use Rattle.sixel_base.specs.History.{History}
+use Rattle.sixel_base.specs.History.{History, Sixel, read}
 use Rattle.sixel_base.specs.Place.{span, across, down, width, height, raster_height}
 use Rattle.sixel_base.specs.Stroke.{Origin, pixel, registers, color, ratio}
 use Rattle.sixel_base.specs.Payload.{first_fault, image_of}
@@ -38,6 +38,12 @@ pub record Shows (origin : Origin) (painter : Painter) (history : History) : Typ
 abbrev pub Draws : {A : Type 0} → Result A SixelError → Origin → Painter → History → Bool → Type 0
 Draws result origin painter history may_want =
     MatchResult result (λ _. Shows origin painter history) (λ error. Faults error may_want (first_fault origin.pixel_limit history))
+
+-- So many sixels at the front of the bytes were drawn, or the first of them is refused by the first fault.
+abbrev pub DrawsFront : Result ℕ SixelError → Origin → Painter → History → List ℕ → Type 0
+DrawsFront result origin painter history bytes =
+    MatchResult result (λ drawn. Shows origin painter (fold read history (take drawn bytes)))
+    (λ error. Faults error true (first_fault origin.pixel_limit (Sixel (slice_index bytes 0 - 63) ∷ history)))
 
 -- The second painter is the first with a picture at least so wide and so high, which is within the limits.
 pub record IsExtended (old new : Painter) (wide high : ℕ) : Type 0 where
