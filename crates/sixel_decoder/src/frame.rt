@@ -25,7 +25,7 @@ use sixel_base::status::{SixelFeedResult, SixelFeedStatus};
 use std::alloc::Global;
 
 /// Which command may go on.
-#[derive(Clone, Copy, Debug, PartialEq, Eq)]
+#[derive(Clone, Copy, PartialEq, Eq)]
 pub enum Phase {
     Ground,
     InRepeat,

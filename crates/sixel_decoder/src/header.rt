@@ -14,13 +14,13 @@ use sixel_base::settings::DcsSettings;
 use sixel_base::{Result, SixelError};
 
 /// A header that is read byte by byte, so that it may come in pieces.
-#[derive(Clone, Copy, Debug)]
+#[derive(Clone, Copy)]
 pub struct Header {
     pub parameters: Parameters,
 }
 
 /// A header that was read, and how many bytes it has with its `q`.
-#[derive(Clone, Copy, Debug)]
+#[derive(Clone, Copy)]
 pub struct WholeHeader {
     pub settings: DcsSettings,
     pub len: usize,

@@ -110,7 +110,7 @@ impl Progress {
     {
         match &self.phase {
             Phase::Payload(intake) => intake.writes(),
-            Phase::Start | Phase::Escape | Phase::Header(_) | Phase::Refused => 0,
+            _ => 0,
         }
     }
 

@@ -2,7 +2,6 @@ use Rattle.std.proofs.Common.{arith, ◌≡◌, ℕ, ◌≤◌, List, ap, ◌∙
 use Rattle.std.specs.Prelude.{nat_lt, ◌&&◌, if◌then◌else◌}
 use Rattle.sixel_decoder.specs.declared.painter.Painter.{Painter}
 use Rattle.std.proofs.Math.Nat.{mul-le-mul_left}
-use Rattle.sixel_base.specs.History.{History}
 use Rattle.sixel_base.specs.Payload.{Image, image_height}
 use Rattle.sixel_base.specs.Picture.{joined, picture}
 use Rattle.sixel_base.specs.Place.{width}
@@ -10,7 +9,7 @@ use Rattle.sixel_base.specs.Settings.{mode_of, ratio_of}
 use Rattle.sixel_base.specs.declared.settings.BackgroundMode.{BackgroundMode}
 use Rattle.sixel_base.specs.declared.settings.PixelAspectRatio.{PixelAspectRatio}
 use Rattle.sixel_base.proofs.Joined.{joined-same}
-use Rattle.sixel_base.specs.Stroke.{Origin, pixel, ratio}
+use Rattle.sixel_base.specs.Stroke.{pixel, ratio}
 use Rattle.sixel_canvas.specs.inside.Canvas.{shown}
 use Rattle.sixel_decoder.proofs.painter.Painter.picture.Goals as goal
 

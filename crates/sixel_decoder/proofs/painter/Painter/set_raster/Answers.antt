@@ -1,7 +1,5 @@
-use Rattle.std.proofs.Common.{◌≡◌, ◌∷◌, ◌∙◌, arith, refl}
+use Rattle.std.proofs.Common.{◌≡◌, ◌∙◌, arith, refl}
 use Rattle.sixel_base.specs.Fields.{field}
-use Rattle.sixel_base.specs.History.{Raster}
-use Rattle.sixel_base.specs.Place.{raster_height}
 use Rattle.sixel_decoder.proofs.Rastering.{refused_raster, sound_raster}
 use Rattle.sixel_decoder.proofs.painter.Painter.set_raster.Goals as goal
 

@@ -1,4 +1,4 @@
-use Rattle.std.proofs.Common.{◌≡◌, length, refl, arith, rules}
+use Rattle.std.proofs.Common.{◌≡◌, length, refl, rules}
 use Rattle.sixel_decoder.proofs.Drawing.{Shows-drawn, draws_unless}
 use Rattle.sixel_decoder.proofs.painter.Painter.strike.Goals as goal
 
