@@ -1,5 +1,5 @@
 -- The answer to control strings, image by image.
-use Rattle.std.proofs.Common.{◌≡◌, ℕ, List, [], ◌++◌, refl, ap, sym, ◌∙◌, subst, append_assoc, append-nil, drop, Option, None, true, Result, Ok, Err}
+use Rattle.std.proofs.Common.{◌≡◌, ◌⊎◌, inl, inr, ℕ, ◌<◌, List, [], ◌++◌, refl, ap, sym, ◌∙◌, subst, arith, length, length-drop, append_assoc, append-nil, drop, Option, None, true, Result, Ok, Err}
 use Rattle.std.proofs.KnownBytes.{Appends-nil, Appends-trans}
 use Rattle.std.proofs.lemmas.Bool.{false≢true}
 use Rattle.std.specs.Io.KnownBytes.{Appends}
@@ -19,6 +19,7 @@ use Rattle.sixel.specs.Form.{image_form}
 use Rattle.sixel.specs.Ending.{Ending, Done, Refused}
 use Rattle.sixel.specs.Strings.{string_fault, is_cut_short, AreAnswered, Over, Broken, CutShort, Followed}
 use Rattle.sixel.specs.Answer.{IsImageAnswer, Writes, Begins, Serves}
+use Rattle.sixel.proofs.Counting.{complete_counts}
 
 -- The images before the rest were written, and an answer to the rest completes the answer to all.
 pub record Leads (start : DecoderState) (bytes : List ℕ) (now : DecoderState) (rest : List ℕ) (a b : Option (List ℕ)) : Type 0 where
@@ -49,13 +50,6 @@ pub record HasEnded (now : DecoderState) (bytes : List ℕ) (image : Image) (aft
   pub shows : IsFoundImage now (found bytes) image
   pub leaves : AreFoundRegisters now (found bytes) after.registers
   pub set : IsSetAs now after
-
--- one that is not complete was cut short
-pub short_by : (status : SixelDcsFeedStatus) → has_ended status ≡ true → (status ≡ Complete → ⊥) → is_cut_short status ≡ true
-short_by NeedMoreData ended other = absurd (false≢true ended)
-short_by Complete ended other = absurd (other refl)
-short_by (Cancelled byte) ended other = refl
-short_by (Interrupted byte) ended other = refl
 
 -- an answer that begins with an image
 abbrev BeginsWith : DecoderState → List ℕ → Image → Type 0
@@ -91,29 +85,93 @@ begun_image now after bytes text left image Done string (_, (i, same, form)) =
 begun_image now after bytes text left image (Refused e) string is = (left, Refused e, refused_image now after bytes (text ++ left) image e string is)
 
 -- an image that could not be written whole ends the answer
-pub Serves-broken : (A : Type 0) (fault : Fault) (now after : DecoderState) (bytes : List ℕ) (image : Image) (a b : Option (List ℕ)) → HasEnded now bytes image after
-    → Serves {A = A} (Err fault) (IsImageAnswer None (λ i. i ≡ image)) a b → Serves {A = A} (Err fault) (AreAnswered now bytes) a b
-Serves-broken A (Sixel e) now after bytes image a b string (text, is, grown) = (text, refused_image now after bytes text image e string is, grown)
-Serves-broken A Input now after bytes image a b string served = served
-Serves-broken A Output now after bytes image a b string (text, (left, ending, is), grown) = (text, begun_image now after bytes text left image ending string is, grown)
+pub Serves-broken : (A B : Type 0) (fault : Fault) (now after : DecoderState) (bytes : List ℕ) (image : Image) (a b : Option (List ℕ)) → HasEnded now bytes image after
+    → Serves {A = A} (Err fault) (IsImageAnswer None (λ i. i ≡ image)) a b → Serves {A = B} (Err fault) (AreAnswered now bytes) a b
+Serves-broken A B (Sixel e) now after bytes image a b string (text, is, grown) = (text, refused_image now after bytes text image e string is, grown)
+Serves-broken A B Input now after bytes image a b string served = served
+Serves-broken A B Output now after bytes image a b string (text, (left, ending, is), grown) = (text, begun_image now after bytes text left image ending string is, grown)
 
--- the image of a string that was cut short ends it too
-pub writes_last : (now after : DecoderState) (bytes : List ℕ) (image : Image) (a b : Option (List ℕ)) → HasEnded now bytes image after
-    → is_cut_short (dcs_status bytes) ≡ true → Writes (λ text. IsImageAnswer None (λ i. i ≡ image) text Done) a b → Writes (λ text. AreAnswered now bytes text Done) a b
-writes_last now after bytes image a b string short (text, (_, (i, same, form)), grown) =
-    let last = CutShort now bytes image string.faultless short string.shows in
-    (text, subst (λ (t : List ℕ). AreAnswered now bytes t Done) (sym (form ∙ ap image_form same)) last, grown)
-
--- and that of a complete one leads to the bytes after it
-pub leads_more : (start : DecoderState) (bytes : List ℕ) (now after : DecoderState) (rest tail : List ℕ) (image : Image) (a b c : Option (List ℕ))
-    → HasEnded now rest image after → dcs_status rest ≡ Complete → tail ≡ drop (dcs_count rest) rest → Leads start bytes now rest a b
-    → Writes (λ text. IsImageAnswer None (λ i. i ≡ image) text Done) b c → Leads start bytes after tail a c
-leads_more start bytes now after rest tail image a b c string whole follows l (text, (_, (i, same, form)), grown) = record {
-  text = l.text ++ text;
+-- the image of a complete string leads to the bytes after it
+leads_more : (start : DecoderState) (bytes : List ℕ) (now after : DecoderState) (rest tail : List ℕ) (image : Image) (a b c : Option (List ℕ))
+    → HasEnded now rest image after → dcs_status rest ≡ Complete → tail ≡ drop (dcs_count rest) rest → Leads start bytes now rest a b → Appends b c (image_form image)
+    → Leads start bytes after tail a c
+leads_more start bytes now after rest tail image a b c string whole follows l grown = record {
+  text = l.text ++ image_form image;
   written = Appends-trans a b c _ _ l.written grown;
   completes = λ more ending is.
       let tail_is = subst (λ (t : List ℕ). AreAnswered after t more ending) follows is in
       let here = Followed now after rest more image ending string.faultless whole string.shows string.leaves string.set tail_is in
-      let written : AreAnswered now rest (text ++ more) ending = subst (λ (t : List ℕ). AreAnswered now rest (t ++ more) ending) (sym (form ∙ ap image_form same)) here in
-      subst (λ (t : List ℕ). AreAnswered start bytes t ending) (sym (append_assoc l.text text more)) (l.completes (text ++ more) ending written);
+      subst (λ (t : List ℕ). AreAnswered start bytes t ending) (sym (append_assoc l.text (image_form image) more)) (l.completes (image_form image ++ more) ending here);
 }
+
+-- what is written where a string's image is
+pub writes_image : (IsImage : Image → Type 0) (image : Image) (a b : Option (List ℕ)) → IsImage image → Writes (λ text. IsImageAnswer None (λ i. i ≡ image) text Done) a b
+    → (shown : Image) × IsImage shown × Appends a b (image_form shown)
+writes_image IsImage image a b is (text, (_, (i, same, form)), grown) = (image, is, subst (Appends a b) (form ∙ ap image_form same) grown)
+
+-- what stops an answer stops it whatever it would have returned
+pub Serves-stopped : (A B : Type 0) (fault : Fault) (IsText : List ℕ → Ending → Type 0) (a b : Option (List ℕ)) → Serves {A = A} (Err fault) IsText a b
+    → Serves {A = B} (Err fault) IsText a b
+Serves-stopped A B (Sixel e) IsText a b served = served
+Serves-stopped A B Input IsText a b served = served
+Serves-stopped A B Output IsText a b served = served
+
+-- ---- strings one after another
+
+-- The images before the rest were written, or all were and no byte is left to answer.
+pub data Stands (start : DecoderState) (bytes : List ℕ) (now : DecoderState) (rest : List ℕ) (a b : Option (List ℕ)) : Type 0 where
+  Leading : Leads start bytes now rest a b → Stands start bytes now rest a b
+  Answered : rest ≡ [] → Writes (λ text. AreAnswered start bytes text Done) a b → Stands start bytes now rest a b
+
+-- at first no image is written
+pub stands_first : (start now : DecoderState) (bytes : List ℕ) (a : Option (List ℕ)) → now ≡ start → Stands start bytes now bytes a a
+stands_first start now bytes a same =
+    Leading record { text = []; written = Appends-nil a; completes = λ more ending is. subst (λ (d : DecoderState). AreAnswered d bytes more ending) same is }
+
+-- as long as bytes are left, they are to be answered
+pub still_leads : (start : DecoderState) (bytes : List ℕ) (now : DecoderState) (rest : List ℕ) (a b : Option (List ℕ)) → 0 < length rest → Stands start bytes now rest a b
+    → Leads start bytes now rest a b
+still_leads start bytes now rest a b some (Leading l) = l
+still_leads start bytes now rest a b some (Answered none written) = absurd (omega (arith, some, ap length none))
+
+-- and once none is left, the answer is whole
+pub stands_last : (start : DecoderState) (bytes : List ℕ) (now : DecoderState) (rest : List ℕ) (a b : Option (List ℕ)) → rest ≡ [] → Stands start bytes now rest a b
+    → Writes (λ text. AreAnswered start bytes text Done) a b
+stands_last start bytes now rest a b none (Leading l) = Serves-led {A = Unit {0}} (Ok tt) start bytes now rest a b b l (writes_none now rest b none)
+stands_last start bytes now rest a b none (Answered _ written) = written
+
+-- a string that has ended is complete or was cut short
+abbrev EndsBy : SixelDcsFeedStatus → Type 0
+EndsBy status = (status ≡ Complete) ⊎ (is_cut_short status ≡ true)
+
+ends_by : (status : SixelDcsFeedStatus) → has_ended status ≡ true → EndsBy status
+ends_by NeedMoreData ended = absurd (false≢true ended)
+ends_by Complete ended = inl refl
+ends_by (Cancelled byte) ended = inr refl
+ends_by (Interrupted byte) ended = inr refl
+
+-- the bytes to be answered after a string: none where it was cut short
+pub record Follows (bytes after : List ℕ) : Type 0 where
+  pub complete : dcs_status bytes ≡ Complete → after ≡ drop (dcs_count bytes) bytes
+  pub cut_short : is_cut_short (dcs_status bytes) ≡ true → after ≡ []
+
+smaller_by : (bytes after : List ℕ) → EndsBy (dcs_status bytes) → Follows bytes after → 0 < length bytes → length after < length bytes
+smaller_by bytes after (inl whole) f some = omega (arith, some, complete_counts bytes whole, ap length (f.complete whole), length-drop (dcs_count bytes) bytes)
+smaller_by bytes after (inr cut) f some = omega (arith, some, ap length (f.cut_short cut))
+
+-- these are fewer
+pub follows_smaller : (bytes after : List ℕ) → has_ended (dcs_status bytes) ≡ true → Follows bytes after → 0 < length bytes → length after < length bytes
+follows_smaller bytes after ended f some = smaller_by bytes after (ends_by (dcs_status bytes) ended) f some
+
+stands_by : (start : DecoderState) (bytes : List ℕ) (now next : DecoderState) (rest after : List ℕ) (image : Image) (a b c : Option (List ℕ)) → EndsBy (dcs_status rest)
+    → HasEnded now rest image next → Follows rest after → Appends b c (image_form image) → Leads start bytes now rest a b → Stands start bytes next after a c
+stands_by start bytes now next rest after image a b c (inl whole) string f grown l =
+    Leading (leads_more start bytes now next rest after image a b c string whole (f.complete whole) l grown)
+stands_by start bytes now next rest after image a b c (inr cut) string f grown l =
+    Answered (f.cut_short cut) (Serves-led {A = Unit {0}} (Ok tt) start bytes now rest a b c l (image_form image, CutShort now rest image string.faultless cut string.shows, grown))
+
+-- a string more, whose image is written
+pub stands_more : (start : DecoderState) (bytes : List ℕ) (now next : DecoderState) (rest after : List ℕ) (image : Image) (a b c : Option (List ℕ))
+    → HasEnded now rest image next → Follows rest after → Appends b c (image_form image) → Leads start bytes now rest a b → Stands start bytes next after a c
+stands_more start bytes now next rest after image a b c string f grown l =
+    stands_by start bytes now next rest after image a b c (ends_by (dcs_status rest) string.ended) string f grown l

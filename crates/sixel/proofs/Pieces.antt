@@ -1,7 +1,7 @@
 -- The pieces of a string that were fed, and the bytes after them.
-use Rattle.std.proofs.Common.{◌≡◌, ℕ, ◌+◌, ◌*◌, ◌<◌, List, ◌++◌, refl, ap, sym, ◌∙◌, arith, length, take, drop, min, true, false}
-use Rattle.std.specs.Prelude.{nat_le, nat_lt}
-use Rattle.std.proofs.lemmas.List.{take-append-drop, take_min, drop_all, drop-drop}
+use Rattle.std.proofs.Common.{◌≡◌, ℕ, ◌+◌, ◌*◌, ◌<◌, List, ◌++◌, refl, ap, sym, ◌∙◌, arith, take, drop, true, false}
+use Rattle.std.specs.Prelude.{nat_lt}
+use Rattle.std.proofs.lemmas.List.{take-append-drop, drop-drop}
 use Rattle.std.proofs.lemmas.Bool.Decides.{nat_tests}
 use Rattle.std.proofs.Math.Seq.{take-add}
 use Rattle.sixel_base.specs.declared.status.SixelDcsFeedStatus.TheVariants.{NeedMoreData}
@@ -26,13 +26,6 @@ cut_joined n bytes fed rest c = (cut_begins n bytes fed rest c).joined
 pub pieces_begin : (n : ℕ) (bytes fed : List ℕ) → IsFedInPieces n bytes fed → Begins fed bytes
 pieces_begin n bytes fed p = record { rest = drop (p.pieces * n) bytes; joined = rw p.whole (take-append-drop (p.pieces * n) bytes) }
 
-drop_min : (n : ℕ) (xs : List ℕ) → drop (min n (length xs)) xs ≡ drop n xs
-drop_min n xs =
-    (elim (nat_le n (length xs)) as (λ few. nat_le n (length xs) ≡ few → drop (min n (length xs)) xs ≡ drop n xs) [
-      | true ↦ λ few. ap (λ k. drop k xs) (grind (arith, nat_tests, few))
-      | false ↦ λ all. drop_all (min n (length xs)) xs (grind (arith, nat_tests, all)) ∙ sym (drop_all n xs (grind (arith, nat_tests, all)))
-    ]) refl
-
 needed_more : (n pieces : ℕ) (bytes : List ℕ) → ((fewer : ℕ) → fewer < pieces → dcs_status (take (fewer * n) bytes) ≡ NeedMoreData)
     → dcs_status (take (pieces * n) bytes) ≡ NeedMoreData → (fewer : ℕ) → fewer < pieces + 1 → dcs_status (take (fewer * n) bytes) ≡ NeedMoreData
 needed_more n pieces bytes needed waits fewer less =
@@ -44,16 +37,15 @@ needed_more n pieces bytes needed waits fewer less =
     ]) refl
 
 -- and one piece more, where the string has not ended
-pub cut_more : (n m : ℕ) (bytes fed rest fed' piece after : List ℕ) → m ≡ min n (length rest) → piece ≡ take m rest → after ≡ drop m rest → fed' ≡ fed ++ piece
-    → dcs_status fed ≡ NeedMoreData → Cut n bytes fed rest → Cut n bytes fed' after
-cut_more n m bytes fed rest fed' piece after least front back more waits c =
+pub cut_more : (n : ℕ) (bytes fed rest fed' piece after : List ℕ) → piece ≡ take n rest → after ≡ drop n rest → fed' ≡ fed ++ piece → dcs_status fed ≡ NeedMoreData
+    → Cut n bytes fed rest → Cut n bytes fed' after
+cut_more n bytes fed rest fed' piece after front back more waits c =
     let here : ℕ = c.pieces * n in
     let end : (c.pieces + 1) * n ≡ here + n = omega arith in
-    let piece_is : piece ≡ take n (drop here bytes) = front ∙ (ap (λ k. take k rest) least ∙ (take_min n rest ∙ ap (λ r. take n r) c.left)) in
-    let after_is : after ≡ drop n (drop here bytes) = back ∙ (ap (λ k. drop k rest) least ∙ (drop_min n rest ∙ ap (λ r. drop n r) c.left)) in
+    let piece_is : piece ≡ take n (drop here bytes) = front ∙ ap (λ r. take n r) c.left in
     record {
       pieces = c.pieces + 1;
       whole = more ∙ (ap (λ f. f ++ piece) c.whole ∙ (ap (λ p. take here bytes ++ p) piece_is ∙ (sym (take-add here n bytes) ∙ ap (λ k. take k bytes) (sym end))));
-      left = after_is ∙ (drop-drop n here bytes ∙ ap (λ k. drop k bytes) (sym end));
+      left = back ∙ (ap (λ r. drop n r) c.left ∙ (drop-drop n here bytes ∙ ap (λ k. drop k bytes) (sym end)));
       needed = needed_more n c.pieces bytes c.needed (ap dcs_status (sym c.whole) ∙ waits);
     }

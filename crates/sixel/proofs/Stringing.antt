@@ -1,7 +1,8 @@
 -- What a session that was fed a beginning of the bytes says about the string that they begin with.
-use Rattle.std.proofs.Common.{◌≡◌, ℕ, ◌<◌, ◌≤◌, Bool, true, List, [], ◌∷◌, ◌++◌, refl, ap, sym, ◌∙◌, subst, arith, length, length-append, Option, Some, None}
+use Rattle.std.proofs.Common.{◌≡◌, ℕ, ◌<◌, ◌≤◌, Bool, true, false, List, [], ◌∷◌, ◌++◌, refl, ap, sym, ◌∙◌, subst, arith, length, length-append, Option, Some, None}
 use Rattle.std.specs.Prelude.{◌==◌, IsSomeAnd}
 use Rattle.std.specs.Option.{option_or}
+use Rattle.std.proofs.lemmas.Bool.{false≢true}
 use Rattle.std.proofs.lemmas.Bool.Decides.{nat_tests}
 use Rattle.sixel_base.specs.declared.error.SixelError.{SixelError}
 use Rattle.sixel_base.specs.declared.error.SixelError.TheVariants.{InvalidDimensions, BufferSizeMismatch, InvalidData, NoSixelData, IntegerOverflow, OutOfMemory}
@@ -14,6 +15,11 @@ use Rattle.sixel.specs.Strings.{string_fault}
 pub no_bytes : (bytes : List ℕ) → true ≡ (length bytes == 0) → bytes ≡ []
 no_bytes [] is = refl
 no_bytes (byte ∷ bytes) is = absurd (grind (arith, nat_tests))
+
+-- there is a byte where a list is not empty
+pub some_bytes : (bytes : List ℕ) → false ≡ (length bytes == 0) → 0 < length bytes
+some_bytes [] is = absurd (false≢true is)
+some_bytes (byte ∷ bytes) is = omega arith
 
 -- With the bytes that follow them, those that were fed are the string.
 pub record Begins (fed bytes : List ℕ) : Type 0 where
@@ -48,6 +54,13 @@ refused_early e may limit bytes some is =
     Faults-weaker e may (dcs_fault limit bytes) (string_fault limit bytes)
     (λ f found. string_fault-some limit bytes some ∙ ap (λ o. option_or o (end_fault (dcs_status bytes))) found)
     is
+
+-- a string that has not ended waits for more
+pub goes_on : (status : SixelDcsFeedStatus) → false ≡ has_ended status → status ≡ NeedMoreData
+goes_on NeedMoreData going = refl
+goes_on Complete going = absurd (false≢true going)
+goes_on (Cancelled byte) going = absurd (false≢true going)
+goes_on (Interrupted byte) going = absurd (false≢true going)
 
 waits : (status : SixelDcsFeedStatus) (f : Fault) → end_fault status ≡ Some f → status ≡ NeedMoreData
 waits NeedMoreData f is = refl

@@ -1,13 +1,17 @@
 //! Control strings that follow one another, on one decoder.
 
-ghost use Rattle.std.specs.Prelude.{◌≡◌, ◌<◌, ◌≤◌, [], length, true, false, None};
-ghost use Rattle.std.specs.Prelude.{IfOk, OnOk, IfErr};
+ghost use Rattle.std.specs.Prelude.{◌≡◌, ◌<◌, ◌≤◌, ◌+◌, ◌^◌, [], length, take, drop, true, false, None};
+ghost use Rattle.std.specs.Prelude.{IfOk, OnOk, IfErr, OnErr};
+ghost use Rattle.std.specs.Io.KnownBytes.{Appends};
 ghost use Rattle.sixel_base.specs.Decoder.{new_decoder, IsSetAs};
 ghost use Rattle.sixel_base.specs.Fault.{Faults};
 ghost use Rattle.sixel_base.specs.Dcs.{dcs_status, dcs_count, dcs_fault, has_ended, IsSameString};
+ghost use Rattle.sixel_base.specs.Payload.{Image};
+ghost use Rattle.sixel_base.specs.declared.status.SixelDcsFeedStatus.TheVariants.{Complete};
 ghost use Rattle.icy_sixel.specs.ImageView.{image_value};
 ghost use Rattle.sixel_base.specs.OneShot.{found, IsFoundImage, AreFoundRegisters};
-ghost use Rattle.sixel.specs.Strings.{string_fault, IsFedInPieces, AreAnswered};
+ghost use Rattle.sixel.specs.Strings.{string_fault, is_cut_short, IsFedInPieces, AreAnswered};
+ghost use Rattle.sixel.specs.Form.{image_form};
 ghost use Rattle.sixel.specs.Answer.{Serves};
 
 use crate::fault::Fault;
@@ -43,14 +47,53 @@ pub fn write_strings<O: Write>(
     let mut decoder = SixelDecoder::new();
     let mut rest = bytes;
     'strings: while !rest.is_empty() {
-        let string = read_string(alloc, &mut decoder, piece_len, rest)?;
-        write_image(alloc, &string.image, output)?;
-        match string.status {
-            SixelDcsFeedStatus::Complete => (_, rest) = rest.split_at(string.len),
-            _ => return Ok(()),
-        }
+        rest = write_string(alloc, &mut decoder, piece_len, rest, output)?;
     }
     Ok(())
+}
+
+/// Writes the image of the control string that the bytes begin with, and returns those that are to
+/// be answered after it.
+fn write_string<'a, O: Write>(
+    alloc: Global,
+    decoder: &mut SixelDecoder,
+    piece_len: usize,
+    bytes: &'a [u8],
+    output: &mut O,
+) -> Result<&'a [u8], Fault>
+    requires pieces { 0 < piece_len }
+    requires some { 0 < length bytes.now }
+    ensures image { OnOk result ((image : Image) × IsFoundImage decoder.old (found bytes.now) image
+        × Appends (O.contents output.old) (O.contents output.new) (image_form image)) }
+    ensures registers { OnOk result
+        (AreFoundRegisters decoder.old (found bytes.now) decoder.new.registers) }
+    ensures set { OnOk result (IsSetAs decoder.old decoder.new) }
+    ensures ended { OnOk result (has_ended (dcs_status bytes.now) ≡ true) }
+    ensures faultless { OnOk result (string_fault decoder.old.pixel_limit bytes.now ≡ None) }
+    ensures complete { IfOk result (λ after. dcs_status bytes.now ≡ Complete
+        → after.now ≡ drop (dcs_count bytes.now) bytes.now) }
+    ensures cut_short { IfOk result (λ after. is_cut_short (dcs_status bytes.now) ≡ true
+        → after.now ≡ []) }
+    ensures stopped { OnErr result (Serves result (AreAnswered decoder.old bytes.now)
+        (O.contents output.old) (O.contents output.new)) }
+{
+    let string = read_string(alloc, decoder, piece_len, bytes)?;
+    write_image(alloc, &string.image, output)?;
+    Ok(bytes_after(&string, bytes))
+}
+
+/// The bytes to be answered after a control string that has ended, which they begin with: none where
+/// it was cut short.
+fn bytes_after<'a>(string: &ControlString, bytes: &'a [u8]) -> &'a [u8]
+    requires { string.now.len ≤ length bytes.now }
+    ensures complete { string.now.status ≡ Complete
+        → result.now ≡ drop string.now.len bytes.now }
+    ensures cut_short { is_cut_short string.now.status ≡ true → result.now ≡ [] }
+{
+    match string.status {
+        SixelDcsFeedStatus::Complete => &bytes[string.len..],
+        _ => &[],
+    }
 }
 
 /// Decodes the control string that the bytes begin with, and leaves those after it.
@@ -120,12 +163,30 @@ fn feed_pieces(
         consumed: 0,
         status: SixelDcsFeedStatus::NeedMoreData,
     };
-    'pieces: while !rest.is_empty() && fed.status == SixelDcsFeedStatus::NeedMoreData {
-        let (piece, after) = rest.split_at(piece_len.min(rest.len()));
-        let here = session.feed(piece)?;
-        fed.consumed += here.consumed;
-        fed.status = here.status;
+    'pieces: while !rest.is_empty() && !fed.status.has_ended() {
+        let (piece, after) = split_piece(piece_len, rest);
+        fed = together(fed, session.feed(piece)?);
         rest = after;
     }
     Ok(fed)
+}
+
+/// Splits off the next piece: so many bytes, or all that are left.
+fn split_piece(piece_len: usize, rest: &[u8]) -> (&[u8], &[u8])
+    ensures piece { result.0.now ≡ take piece_len rest.now }
+    ensures after { result.1.now ≡ drop piece_len rest.now }
+{
+    rest.split_at(piece_len.min(rest.len()))
+}
+
+/// What pieces and the one after them told together.
+fn together(earlier: SixelDcsFeedResult, last: SixelDcsFeedResult) -> SixelDcsFeedResult
+    requires { earlier.consumed + last.consumed < 2 ^ 64 }
+    ensures consumed { result.consumed ≡ earlier.consumed + last.consumed }
+    ensures status { result.status ≡ last.status }
+{
+    SixelDcsFeedResult {
+        consumed: earlier.consumed + last.consumed,
+        status: last.status,
+    }
 }
