@@ -1,5 +1,5 @@
-ghost use Rattle.std.specs.Prelude.{◌≡◌, ◌⊎◌, ℕ, ◌++◌, take, IfOk, IfErr, OnOk, OnErr, IfSome};
-ghost use Rattle.std.specs.Io.KnownBytes.{Appends, IsAtEnd};
+ghost use Rattle.std.specs.Prelude.{◌≡◌, ◌⊎◌, ℕ, List, ◌++◌, take, true, IfOk, IfErr, OnOk, OnErr, IfSome};
+ghost use Rattle.std.specs.Io.KnownBytes.{Appends, Consumes, IsAtEnd};
 ghost use Rattle.sixel_base.specs.declared.error.SixelError.TheVariants.{OutOfMemory};
 ghost use Rattle.sixel.specs.declared.fault.Fault.TheVariants.{Sixel, Input, Output};
 
@@ -19,13 +19,35 @@ pub fn read_all<R: Read>(alloc: Global, input: &mut R, expected: usize) -> Resul
     let mut bytes = Vec::new(alloc);
     let mut piece = [0; PIECE];
     'reads: for _ in 0..u64::MAX {
-        match input.read(&mut piece) {
-            Ok(0) => return Ok(bytes),
-            Ok(count) => append(&mut bytes, &piece[..count], expected)?,
-            Err(_) => return Err(Fault::Input),
+        if read_piece(input, &mut piece, &mut bytes, expected)? {
+            return Ok(bytes);
         }
     }
     Err(Fault::Input)
+}
+
+/// Reads a piece and appends it to bytes that are expected to become so many, and tells whether the
+/// input has ended.
+fn read_piece<R: Read>(
+    input: &mut R,
+    piece: &mut [u8; PIECE],
+    bytes: &mut Vec<u8>,
+    expected: usize,
+) -> Result<bool, Fault>
+    ensures bytes { OnOk result ((more : List ℕ)
+        × Consumes (R.remaining input.old) (R.remaining input.new) more
+        × (bytes.new.items ≡ bytes.old.items ++ more)) }
+    ensures at_end { IfOk result (λ ended. ended ≡ true → IsAtEnd (R.remaining input.new)) }
+    ensures refused { IfErr result (λ fault. (fault ≡ Input) ⊎ (fault ≡ Sixel OutOfMemory)) }
+{
+    match input.read(piece) {
+        Ok(0) => Ok(true),
+        Ok(count) => {
+            append(bytes, &piece[..count], expected)?;
+            Ok(false)
+        }
+        Err(_) => Err(Fault::Input),
+    }
 }
 
 /// Appends a piece to bytes that are expected to become so many. They get room for as many more as
