@@ -5,3 +5,4 @@ pub mod Responding
 pub mod Sending
 pub mod Serving
 pub mod Stringing
+pub mod Wording

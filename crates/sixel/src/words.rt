@@ -1,4 +1,4 @@
-ghost use Rattle.std.specs.Prelude.{◌≡◌, ◌<◌, ◌^◌, ℕ, IfSome, IfNone, option_map, Some, None, codes};
+ghost use Rattle.std.specs.Prelude.{◌≡◌, ◌<◌, ◌^◌, ℕ, IfSome, IfNone, option_map, slice_get, Some, None, codes};
 ghost use Rattle.sixel.specs.Words.{Asks, IsAskedBy, IsNumber, IsServable, words_of};
 
 /// What the program is asked to do with its input.
@@ -23,12 +23,24 @@ pub fn asked(words: &[String]) -> Option<Word>
     ensures usage { IfNone result ((asked : Word) → ¬ IsAskedBy (words_of words.now) asked) }
     ensures servable { IfSome result IsServable }
 {
-    match words {
-        [word] => read_word(word, None, None, None),
-        [word, a] => read_word(word, Some(a), None, None),
-        [word, a, b] => read_word(word, Some(a), Some(b), None),
-        [word, a, b, c] => read_word(word, Some(a), Some(b), Some(c)),
+    match words.len() {
+        1..=4 => read_word(
+            &words[0],
+            word_at(words, 1),
+            word_at(words, 2),
+            word_at(words, 3),
+        ),
         _ => None,
+    }
+}
+
+/// The word at a place, if there are so many.
+fn word_at(words: &[String], place: usize) -> Option<&str>
+    ensures { option_map (λ t. t.now) result ≡ slice_get (words_of words.now) place }
+{
+    match words.get(place) {
+        Some(word) => Some(word),
+        None => None,
     }
 }
 
