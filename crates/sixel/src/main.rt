@@ -37,7 +37,9 @@ fn arguments(rt: &HostRuntime) -> Result<Vec<String>, Fault> {
     let _program = arguments.next();
     let mut words = Vec::new(rt.alloc());
     for word in arguments {
-        words.push(word).map_err(|_| Fault::Input)?;
+        if words.push(word).is_err() {
+            return Err(Fault::Input);
+        }
     }
     Ok(words)
 }

@@ -2,7 +2,7 @@ ghost use Rattle.std.specs.Prelude.{◌≡◌, ◌<◌, ◌^◌, ℕ, IfSome, If
 ghost use Rattle.sixel.specs.Words.{Asks, IsAskedBy, IsNumber, IsServable, words_of};
 
 /// What the program is asked to do with its input.
-#[derive(Clone, Copy, Debug, PartialEq, Eq)]
+#[derive(Clone, Copy)]
 pub enum Word {
     /// Decode one payload, the data of a control string, and write its image.
     Payload,
