@@ -7,18 +7,23 @@ use Rattle.std.proofs.lemmas.Bool.Decides.{nat_tests}
 use Rattle.sixel_base.specs.declared.error.SixelError.{SixelError}
 use Rattle.sixel_base.specs.Fault.{Fault, Faults, Incomplete}
 use Rattle.sixel_base.specs.Bytes.{front, count, first_terminator}
-use Rattle.sixel_base.specs.Decoder.{IsSetAs}
+use Rattle.sixel_base.specs.Decoder.{IsSetAs, origin_of}
 use Rattle.sixel_base.specs.declared.state.DecoderState.{DecoderState}
-use Rattle.sixel_base.specs.Payload.{fed_fault, first_fault, settled, growths}
+use Rattle.sixel_base.specs.History.{history_of}
+use Rattle.sixel_base.specs.Payload.{fed_fault, first_fault, settled, growths, payload_fault, payload_image, payload_registers, image_of}
+use Rattle.sixel_base.specs.Status.{status_of}
+use Rattle.sixel_base.specs.Stroke.{Origin, registers}
 use Rattle.sixel_base.specs.Settings.{Settings}
 use Rattle.icy_sixel.specs.declared.script.End.{End}
 use Rattle.icy_sixel.specs.declared.script.End.TheVariants.{Finish, Abort}
 use Rattle.icy_sixel.specs.declared.script.Outcome.{Outcome}
-use Rattle.icy_sixel.specs.declared.script.Outcome.TheVariants.{Failed, Decoded}
+use Rattle.icy_sixel.specs.declared.script.Outcome.TheVariants.{Failed, Finished, Decoded}
+use Rattle.icy_sixel.specs.declared.script.Status.TheVariants as statuses
 use Rattle.icy_sixel.specs.declared.sixel_image.SixelImage.{SixelImage}
 use Rattle.icy_sixel.specs.ImageView.{image_value}
 use Rattle.sixel_base.specs.declared.status.SixelDcsFeedStatus.{SixelDcsFeedStatus}
-use Rattle.sixel_base.specs.OneShot.{Found, found_fault, found_wants, IsFoundImage, AreFoundRegisters}
+use Rattle.sixel_base.specs.declared.status.SixelFeedStatus.{SixelFeedStatus}
+use Rattle.sixel_base.specs.OneShot.{Found, found, IsDecodedAs, found_fault, found_wants, IsFoundImage, AreFoundRegisters}
 use Rattle.icy_sixel.specs.Script.{IsDecoding, IsSessionOutcome, frame_meaning, string_meaning}
 use Rattle.sixel_decoder.proofs.Feeding.{payload_refused, or_right}
 use Rattle.sixel_base.specs.Dcs.{dcs_status, dcs_count, dcs_fault, dcs_growths, has_ended, end_fault}
@@ -58,6 +63,35 @@ pub frame_fails : (e : SixelError) (before after : DecoderState) (settings : Set
     → IsSessionOutcome before (frame_meaning before.pixel_limit settings bytes) ending (Failed e) after
 frame_fails e before after settings bytes Finish refused kept = (payload_refused e before.pixel_limit bytes refused, kept)
 frame_fails e before after settings bytes Abort refused kept = (refused, kept)
+
+or_left : (a b : Bool) → IsTrue a → IsTrue (a || b)
+or_left true b is = refl
+or_left false b is = absurd cc
+
+-- one that was fed and is finished has the image and the registers of all bytes, or is refused for what is wrong with them
+pub frame_finished : (answer : Result SixelImage SixelError) (outcome : Outcome) (before after : DecoderState) (o : Origin) (fed bytes : List ℕ) (consumed : ℕ) (status : SixelFeedStatus)
+    → MatchResult answer (λ image. outcome ≡ Finished consumed (statuses.Payload status) image) (λ e. outcome ≡ Failed e)
+    → o ≡ origin_of before o.settings → front fed ≡ front bytes → consumed ≡ count bytes → status ≡ status_of (first_terminator bytes)
+    → IfOk answer (λ image. image_value image ≡ payload_image o fed) → OnOk answer (after.registers ≡ payload_registers o fed)
+    → OnOk answer (payload_fault o.pixel_limit fed ≡ None) → IfErr answer (λ e. Faults e (is_none (payload_fault o.pixel_limit fed)) (payload_fault o.pixel_limit fed))
+    → IsSetAs before after → OnErr answer (after ≡ before) → IsSessionOutcome before (frame_meaning before.pixel_limit o.settings bytes) Finish outcome after
+frame_finished (Ok image) outcome before after o fed bytes consumed status is begun whole counted stands drawn defined sound refused set kept =
+    subst (λ (w : Outcome). IsSessionOutcome before (frame_meaning before.pixel_limit o.settings bytes) Finish w after) (sym is) (
+      subst (λ (w : Origin). payload_fault w.pixel_limit bytes ≡ None) begun (subst (λ (w : List ℕ). first_fault o.pixel_limit (history_of w) ≡ None) whole sound),
+      counted,
+      ap statuses.Payload stands,
+      subst (λ (w : Origin). image_value image ≡ payload_image w bytes) begun (subst (λ (w : List ℕ). image_value image ≡ image_of o (history_of w)) whole drawn),
+      subst (λ (w : Origin). after.registers ≡ payload_registers w bytes) begun (subst (λ (w : List ℕ). after.registers ≡ registers o.registers (history_of w)) whole defined),
+      set,
+    )
+frame_finished (Err e) outcome before after o fed bytes consumed status is begun whole counted stands drawn defined sound refused set kept =
+    let wrong : Option Fault = payload_fault before.pixel_limit bytes in
+    let here : Faults e (is_none wrong) wrong =
+    subst (λ (w : Origin). Faults e (is_none (payload_fault w.pixel_limit bytes)) (payload_fault w.pixel_limit bytes)) begun
+    (subst (λ (w : List ℕ). Faults e (is_none (first_fault o.pixel_limit (history_of w))) (first_fault o.pixel_limit (history_of w))) whole refused) in
+    let grows : Bool = nat_lt 0 (growths (settled bytes)) in
+    subst (λ (w : Outcome). IsSessionOutcome before (frame_meaning before.pixel_limit o.settings bytes) Finish w after) (sym is)
+    (Faults-along e _ (is_none wrong || grows) wrong wrong (or_left (is_none wrong) grows) (λ f same. same) here, kept)
 
 -- ---- a control string
 
@@ -123,6 +157,21 @@ pub string_sound : (limit : ℕ) (fed bytes : List ℕ) → has_ended (dcs_statu
 string_sound limit fed bytes ended is faultless =
     let over : has_ended (dcs_status bytes) ≡ true = ap has_ended (sym (whole_status fed bytes is)) ∙ ended in
     ap (λ w. option_or w (end_fault (dcs_status bytes))) faultless ∙ ap (λ b. if b then None else Some Incomplete) over
+
+-- one that was fed and is finished has the image and the registers of all bytes, or is refused for what is wrong with them
+pub string_finished : (answer : Result SixelImage SixelError) (outcome : Outcome) (before after : DecoderState) (fed bytes : List ℕ) (consumed : ℕ) (status : SixelDcsFeedStatus)
+    → MatchResult answer (λ image. outcome ≡ Finished consumed (statuses.Dcs status) image) (λ e. outcome ≡ Failed e)
+    → IsWhole fed bytes → dcs_fault before.pixel_limit bytes ≡ None → consumed ≡ dcs_count bytes → status ≡ dcs_status bytes
+    → ((more : List ℕ) → IfOk answer (λ image. IsDecodedAs before (found (fed ++ more)) (image_value image) after.registers))
+    → OnOk answer (has_ended (dcs_status fed) ≡ true) → IfErr answer (λ e. Faults e (has_ended (dcs_status fed)) (end_fault (dcs_status fed)))
+    → IsSetAs before after → OnErr answer (after ≡ before) → IsSessionOutcome before (string_meaning before.pixel_limit bytes) Finish outcome after
+string_finished (Ok image) outcome before after fed bytes consumed status is whole sound counted stands decoded ended refused set kept =
+    let all = subst (λ (w : List ℕ). IsDecodedAs before (found w) (image_value image) after.registers) whole.joined (decoded whole.left) in
+    subst (λ (w : Outcome). IsSessionOutcome before (string_meaning before.pixel_limit bytes) Finish w after) (sym is)
+    (string_sound before.pixel_limit fed bytes ended whole sound, counted, ap statuses.Dcs stands, all.1, all.2, set)
+string_finished (Err e) outcome before after fed bytes consumed status is whole sound counted stands decoded ended refused set kept =
+    subst (λ (w : Outcome). IsSessionOutcome before (string_meaning before.pixel_limit bytes) Finish w after) (sym is)
+    (string_unfinished e before.pixel_limit fed bytes refused whole sound, kept)
 
 -- ---- what is decoded at once
 

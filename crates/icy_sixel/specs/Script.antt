@@ -1,8 +1,7 @@
 -- What a list of steps on one decoder comes to, by the meaning of the bytes of each step. A step relates the decoder before it to an
 -- outcome and the decoder after it, and a run joins steps. This library's own: how bytes are cut into pieces occurs nowhere in it.
-use Rattle.std.specs.Prelude.{ℕ, ◌≡◌, Bool, nat_lt, ◌||◌, List, [], ◌∷◌, Option, None, is_none, Result, Ok, Err}
+use Rattle.std.specs.Prelude.{ℕ, ◌≡◌, Bool, nat_lt, ◌||◌, List, [], ◌∷◌, Option, None, is_none}
 use Rattle.std.specs.Option.{option_or}
-use Rattle.sixel_base.specs.declared.error.SixelError.{SixelError}
 use Rattle.sixel_base.specs.Bytes.{count, first_terminator}
 use Rattle.sixel_base.specs.Color.{default_registers}
 use Rattle.sixel_base.specs.Decoder.{limit_of, IsSetAs}
@@ -95,8 +94,3 @@ AreOutcomes before [] [] after = after ≡ before
 AreOutcomes before (step ∷ steps) (outcome ∷ outcomes) after =
     (between : DecoderState) × IsOutcome before step outcome between × AreOutcomes between steps outcomes after
 AreOutcomes before steps outcomes after = ⊥
-
--- an answer as an outcome: a refusal is one of them
-abbrev pub outcome_of : Result Outcome SixelError → Outcome
-outcome_of (Ok outcome) = outcome
-outcome_of (Err error) = Failed error

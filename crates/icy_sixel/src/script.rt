@@ -9,7 +9,7 @@ ghost use Rattle.sixel_base.specs.declared.error.SixelError.TheVariants.{OutOfMe
 ghost use Rattle.sixel_base.specs.Color.{default_registers};
 ghost use Rattle.sixel_base.specs.Decoder.{limit_of};
 ghost use Rattle.sixel_base.specs.OneShot.{found, Payload};
-ghost use Rattle.icy_sixel.specs.Script.{AreOutcomes, IsOutcome, outcome_of};
+ghost use Rattle.icy_sixel.specs.Script.{AreOutcomes, IsOutcome};
 ghost use Rattle.icy_sixel.specs.Script.{IsDecoding, IsSessionOutcome, frame_meaning};
 
 mod playing;
@@ -165,7 +165,7 @@ fn take_step(alloc: Global, decoder: &mut SixelDecoder, step: &Step<'_>) -> Outc
             bytes,
             cuts,
             ending,
-        } => outcome_of(play_string(alloc, decoder, bytes, cuts, *ending)),
+        } => play_string(alloc, decoder, bytes, cuts, *ending),
         Step::Decode(bytes) => decode(alloc, decoder, bytes),
         Step::DecodeFromDcs(bytes, settings) => decode_payload(alloc, decoder, bytes, *settings),
     }
@@ -210,7 +210,7 @@ fn frame(
     ensures { IsSessionOutcome decoder.old
         (frame_meaning decoder.old.pixel_limit settings bytes.now) ending result decoder.new }
 {
-    outcome_of(play_frame(alloc, decoder, settings, bytes, cuts, ending))
+    play_frame(alloc, decoder, settings, bytes, cuts, ending)
 }
 
 /// A step that decodes the first control string in the bytes, or all of them.
@@ -230,16 +230,6 @@ fn decode_payload(
     ensures { IsDecoding decoder.old (Payload settings bytes.now) result decoder.new }
 {
     decoded(decoder.decode_from_dcs(alloc, bytes, settings))
-}
-
-/// The answer of a session as an outcome.
-fn outcome_of(answer: Result<Outcome>) -> Outcome
-    ensures { result ≡ outcome_of answer }
-{
-    match answer {
-        Ok(outcome) => outcome,
-        Err(error) => Outcome::Failed(error),
-    }
 }
 
 /// The answer of decoding at once as an outcome.

@@ -1,13 +1,15 @@
 //! The steps that feed a session: how its bytes are cut, and how it ends.
 
-ghost use Rattle.std.specs.Prelude.{◌≡◌, ◌++◌, [], false, nat_lt, None, OnOk, IfOk, IfErr};
+ghost use Rattle.std.specs.Prelude.{◌≡◌, ◌++◌, [], false, nat_lt, None, OnOk, IfOk, IfErr, MatchResult};
+ghost use Rattle.std.specs.Prelude.{List, ℕ};
 ghost use Rattle.sixel_base.specs.Bytes.{front, count, first_terminator};
+ghost use Rattle.sixel_base.specs.Decoder.{origin_of};
 ghost use Rattle.sixel_base.specs.Fault.{Faults};
 ghost use Rattle.sixel_base.specs.Payload.{fed_fault, settled, growths};
 ghost use Rattle.sixel_base.specs.Dcs.{dcs_count, dcs_status, dcs_fault, dcs_growths};
 ghost use Rattle.sixel_base.specs.Status.{status_of};
 ghost use Rattle.icy_sixel.specs.inside.Playing.{IsWhole};
-ghost use Rattle.icy_sixel.specs.Script.{IsSessionOutcome, outcome_of};
+ghost use Rattle.icy_sixel.specs.Script.{IsSessionOutcome};
 ghost use Rattle.icy_sixel.specs.Script.{frame_meaning, string_meaning};
 
 use crate::decoder::{
@@ -15,6 +17,7 @@ use crate::decoder::{
     SixelFeedStatus, SixelStreamDecoder,
 };
 use crate::script::{End, Outcome, Status};
+use crate::sixel_image::SixelImage;
 use sixel_base::Result;
 use std::alloc::Global;
 
@@ -26,25 +29,36 @@ pub fn play_frame(
     bytes: &[u8],
     cuts: &[usize],
     ending: End,
-) -> Result<Outcome>
+) -> Outcome
     ensures { IsSessionOutcome decoder.old
-        (frame_meaning decoder.old.pixel_limit settings bytes.now) ending (outcome_of result) decoder.new }
+        (frame_meaning decoder.old.pixel_limit settings bytes.now) ending result decoder.new }
 {
-    let mut session = decoder.begin_frame(alloc, settings)?;
-    let SixelFeedResult { consumed, status } = feed_frame(&mut session, bytes, cuts)?;
+    let mut session = SixelStreamDecoder::begin(alloc, decoder, settings);
+    match feed_frame(&mut session, bytes, cuts) {
+        Ok(fed) => end_frame(session, fed, ending),
+        Err(error) => Outcome::Failed(error),
+    }
+}
+
+/// Ends the session of a payload that was fed.
+fn end_frame(session: SixelStreamDecoder<'_>, fed: SixelFeedResult, ending: End) -> Outcome
+    requires accepted { session.intake.is_refused ≡ false }
+    requires origin { session.intake.origin
+        ≡ origin_of session.owner.now session.intake.origin.settings }
+    ensures { (bytes : List ℕ) → front session.entry.intake.bytes ≡ front bytes
+        → fed_fault session.entry.owner.now.pixel_limit bytes ≡ None
+        → fed.consumed ≡ count bytes → fed.status ≡ status_of (first_terminator bytes)
+        → IsSessionOutcome session.entry.owner.now
+        (frame_meaning session.entry.owner.now.pixel_limit session.entry.intake.origin.settings
+        bytes) ending result session.exit.0.now }
+{
+    let SixelFeedResult { consumed, status } = fed;
     let status = Status::Payload(status);
     match ending {
-        End::Finish => {
-            let image = session.finish()?;
-            Ok(Outcome::Finished {
-                consumed,
-                status,
-                image,
-            })
-        }
+        End::Finish => finished(consumed, status, session.finish()),
         End::Abort => {
             session.abort();
-            Ok(Outcome::Aborted { consumed, status })
+            Outcome::Aborted { consumed, status }
         }
     }
 }
@@ -56,26 +70,51 @@ pub fn play_string(
     bytes: &[u8],
     cuts: &[usize],
     ending: End,
-) -> Result<Outcome>
+) -> Outcome
     ensures { IsSessionOutcome decoder.old (string_meaning decoder.old.pixel_limit bytes.now) ending
-        (outcome_of result) decoder.new }
+        result decoder.new }
 {
-    let mut session = decoder.begin_dcs(alloc);
-    let SixelDcsFeedResult { consumed, status } = feed_string(&mut session, bytes, cuts)?;
+    let mut session = SixelDcsStreamDecoder::begin(alloc, decoder);
+    match feed_string(&mut session, bytes, cuts) {
+        Ok(fed) => end_string(session, fed, ending),
+        Err(error) => Outcome::Failed(error),
+    }
+}
+
+/// Ends the session of a control string that was fed.
+fn end_string(session: SixelDcsStreamDecoder<'_>, fed: SixelDcsFeedResult, ending: End) -> Outcome
+    requires accepted { session.progress.is_refused ≡ false }
+    requires start { session.progress.decoder ≡ session.owner.now }
+    ensures { (bytes : List ℕ) → IsWhole session.entry.progress.bytes bytes
+        → dcs_fault session.entry.owner.now.pixel_limit bytes ≡ None
+        → fed.consumed ≡ dcs_count bytes → fed.status ≡ dcs_status bytes
+        → IsSessionOutcome session.entry.owner.now
+        (string_meaning session.entry.owner.now.pixel_limit bytes) ending result
+        session.exit.0.now }
+{
+    let SixelDcsFeedResult { consumed, status } = fed;
     let status = Status::Dcs(status);
     match ending {
-        End::Finish => {
-            let image = session.finish()?;
-            Ok(Outcome::Finished {
-                consumed,
-                status,
-                image,
-            })
-        }
+        End::Finish => finished(consumed, status, session.finish()),
         End::Abort => {
             session.abort();
-            Ok(Outcome::Aborted { consumed, status })
+            Outcome::Aborted { consumed, status }
         }
+    }
+}
+
+/// What a session comes to that was finished: its image, or a refusal.
+fn finished(consumed: usize, status: Status, answer: Result<SixelImage>) -> Outcome
+    ensures { MatchResult answer (λ image. result ≡ Outcome.Finished consumed status image)
+        (λ error. result ≡ Outcome.Failed error) }
+{
+    match answer {
+        Ok(image) => Outcome::Finished {
+            consumed,
+            status,
+            image,
+        },
+        Err(error) => Outcome::Failed(error),
     }
 }
 

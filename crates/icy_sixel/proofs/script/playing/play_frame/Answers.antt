@@ -1,26 +1,18 @@
-use Rattle.std.proofs.Common.{◌≡◌, ap, rules}
-use Rattle.sixel_base.specs.Decoder.{origin_of}
-use Rattle.std.proofs.lemmas.Result.{err_from_is_err_and}
-use Rattle.icy_sixel.specs.declared.script.Status.TheVariants.{Payload}
+use Rattle.std.proofs.Common.{subst, rules}
+use Rattle.sixel_base.specs.declared.state.DecoderState.{DecoderState}
+use Rattle.icy_sixel.specs.Script.{IsSessionOutcome, frame_meaning}
 use Rattle.icy_sixel.proofs.Playing.{frame_fails}
 use Rattle.icy_sixel.proofs.script.playing.play_frame.Goals as goal
 
-pub returns-in_err-consumed : goal.returns-in_err-consumed
-returns-in_err-consumed c =
-    let p = err_from_is_err_and c.from_residual-in_err-consumed.result c.from_residual-in_err-consumed.ensures.1 in
-    rw (p.1, p.2) (search (rules, frame_fails, c.in_err-consumed.ensures.error))
+pub returns-in-Ok : goal.returns-in-Ok
+returns-in-Ok c =
+    let before : DecoderState = c.args.decoder.now in
+    let told = c.in-Ok.ensures in
+    let faultless = rw c.begin-session.ensures.session at told.faultless in
+    subst (λ (w : DecoderState). IsSessionOutcome before (frame_meaning before.pixel_limit c.args.settings c.args.bytes.now) c.args.ending c.end_frame.result w) (search rules)
+    (rw (told.registers, told.origin, c.begin-session.ensures.session, c.begin-session.ensures.registers) at (c.end_frame.ensures c.args.bytes.now told.whole (rw (told.registers, c.begin-session.ensures.registers) faultless) told.consumed told.status))
 
-pub returns-in_ok-image-in-Finish : goal.returns-in_ok-image-in-Finish
-returns-in_ok-image-in-Finish c =
-    let start : c.feed_frame.new.session.intake.origin ≡ origin_of c.args.decoder.now c.args.settings = rw c.in_ok-session.ensures.session at c.feed_frame.ensures.origin in
-    let whole = c.in_ok-consumed.ensures.whole in
-    let image = rw (start, whole) at c.in_ok-image-in-Finish.ensures.image in
-    let registers = rw (start, whole) at c.in_ok-image-in-Finish.ensures.registers in
-    rw c.in-Finish.is (
-      search rules,
-      c.in_ok-consumed.ensures.consumed,
-      ap Payload c.in_ok-consumed.ensures.status,
-      image,
-      search (rules, registers),
-      search (rules, c.in_ok-image-in-Finish.ensures.set),
-    )
+pub returns-in-Err : goal.returns-in-Err
+returns-in-Err c =
+    let told = c.in-Err.ensures in
+    frame_fails c.in-Err.error c.args.decoder.now _ c.args.settings c.args.bytes.now c.args.ending (rw c.begin-session.ensures.session at told.error) (search rules)

@@ -1,31 +1,18 @@
-use Rattle.std.proofs.Common.{◌≡◌, ap, rules}
-use Rattle.std.proofs.lemmas.Result.{err_from_is_err_and}
-use Rattle.icy_sixel.specs.declared.script.Status.TheVariants.{Dcs}
-use Rattle.icy_sixel.proofs.Playing.{string_fails, string_unfinished, string_sound}
+use Rattle.std.proofs.Common.{subst, rules}
+use Rattle.sixel_base.specs.declared.state.DecoderState.{DecoderState}
+use Rattle.icy_sixel.specs.Script.{IsSessionOutcome, string_meaning}
+use Rattle.icy_sixel.proofs.Playing.{string_fails}
 use Rattle.icy_sixel.proofs.script.playing.play_string.Goals as goal
 
-pub returns-in_err-consumed : goal.returns-in_err-consumed
-returns-in_err-consumed c =
-    let p = err_from_is_err_and c.from_residual.result c.from_residual.ensures.1 in
-    rw (p.1, p.2) (search (rules, string_fails, c.in_err-consumed.ensures.error))
+pub returns-in-Ok : goal.returns-in-Ok
+returns-in-Ok c =
+    let before : DecoderState = c.args.decoder.now in
+    let told = c.in-Ok.ensures in
+    let faultless = rw c.begin-session.ensures.session at told.faultless in
+    subst (λ (w : DecoderState). IsSessionOutcome before (string_meaning before.pixel_limit c.args.bytes.now) c.args.ending c.end_string.result w) (search rules)
+    (rw (told.registers, c.begin-session.ensures.registers) at (c.end_string.ensures c.args.bytes.now told.whole (rw (told.registers, c.begin-session.ensures.registers) faultless) told.consumed told.status))
 
-pub returns-in_err-image-in-Finish : goal.returns-in_err-image-in-Finish
-returns-in_err-image-in-Finish c =
-    let p = err_from_is_err_and c.from_residual-in_err-image-in-Finish.result c.from_residual-in_err-image-in-Finish.ensures.1 in
-    let refused = rw c.in_ok-consumed.ensures.accepted at c.in_err-image-in-Finish.ensures.error in
-    rw (p.1, p.2, c.in-Finish.is) (string_unfinished _ c.args.decoder.now.pixel_limit _ _ refused c.in_ok-consumed.ensures.whole (rw c.begin_dcs-session.ensures.session at c.in_ok-consumed.ensures.faultless), search rules)
-
-pub returns-in_ok-image-in-Finish : goal.returns-in_ok-image-in-Finish
-returns-in_ok-image-in-Finish c =
-    let start : c.feed_string.new.session.progress.decoder ≡ c.args.decoder.now = cc in
-    let ended = c.in_ok-image-in-Finish.ensures.ended in
-    let whole = c.in_ok-consumed.ensures.whole in
-    let decoded = rw (start, whole.joined) at (c.in_ok-image-in-Finish.ensures.as_decoded whole.left) in
-    rw c.in-Finish.is (
-      string_sound c.args.decoder.now.pixel_limit _ _ ended whole (rw c.begin_dcs-session.ensures.session at c.in_ok-consumed.ensures.faultless),
-      c.in_ok-consumed.ensures.consumed,
-      ap Dcs c.in_ok-consumed.ensures.status,
-      decoded.1,
-      search (rules, decoded.2),
-      search (rules, c.in_ok-image-in-Finish.ensures.set),
-    )
+pub returns-in-Err : goal.returns-in-Err
+returns-in-Err c =
+    let told = c.in-Err.ensures in
+    string_fails c.in-Err.error c.args.decoder.now _ c.args.bytes.now c.args.ending (rw c.begin-session.ensures.session at told.error) (search rules)
