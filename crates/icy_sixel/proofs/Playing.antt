@@ -2,7 +2,7 @@
 use Rattle.std.proofs.Common.{◌≡◌, ℕ, true, List, ◌++◌, refl, ap, sym, ◌∙◌, inl, inr, subst, arith, Option, Some, None}
 use Rattle.std.specs.Prelude.{Bool, false, IsTrue, nat_lt, ◌||◌, if◌then◌else◌, is_none, Result, Ok, Err, MatchResult, IfOk, IfErr, OnOk, OnErr}
 use Rattle.std.specs.Option.{option_or}
-use Rattle.std.proofs.lemmas.List.{append-nil}
+use Rattle.std.proofs.lemmas.List.{append-nil, append_assoc}
 use Rattle.std.proofs.lemmas.Bool.Decides.{nat_tests}
 use Rattle.sixel_base.specs.declared.error.SixelError.{SixelError}
 use Rattle.sixel_base.specs.Fault.{Fault, Faults, Incomplete}
@@ -32,6 +32,11 @@ use Rattle.sixel_decoder.proofs.Framing.{Faults-along}
 use Rattle.sixel_decoder.proofs.Appending.{first_terminator-ended}
 use Rattle.sixel_decoder.proofs.Ended.{front_ended, count_ended, settled_ended, fed_fault_stays, growths_stay, status_ended, dcs_count_ended, dcs_fault_ended, dcs_fault_stays, dcs_growths_stay}
 
+-- what was fed and what is left make up all bytes, also after one piece more
+pub rejoined : (before piece after left rest bytes : List ℕ) → after ≡ before ++ piece → piece ++ left ≡ rest → before ++ rest ≡ bytes → after ++ left ≡ bytes
+rejoined before piece after left rest bytes fed split joined =
+    ap (λ (w : List ℕ). w ++ left) fed ∙ (append_assoc before piece left ∙ (ap (λ (w : List ℕ). before ++ w) split ∙ joined))
+
 -- ---- a payload
 
 -- Of bytes that reach their terminator what follows means nothing.
@@ -56,6 +61,11 @@ frame_refused e limit fed left bytes n joined refused =
     subst (λ (w : List ℕ). Faults e (nat_lt 0 (growths (settled w))) (fed_fault limit w)) joined
     (Faults-along e _ (nat_lt 0 (growths (settled (fed ++ left)))) (fed_fault limit fed) (fed_fault limit (fed ++ left))
     (λ may. grind (arith, nat_tests, growths_stay fed left)) (fed_fault_stays limit fed left) refused)
+
+pub frame_refusal : (R : Type 0) (answer : Result R SixelError) (limit : ℕ) (fed left bytes : List ℕ) (n : ℕ) → fed ++ left ≡ bytes
+    → IfErr answer (λ e. Faults e (nat_lt n (growths (settled fed))) (fed_fault limit fed)) → IfErr answer (λ e. Faults e (nat_lt 0 (growths (settled bytes))) (fed_fault limit bytes))
+frame_refusal R (Ok fed) limit beginning left bytes n joined refused = tt
+frame_refusal R (Err e) limit beginning left bytes n joined refused = frame_refused e limit beginning left bytes n joined refused
 
 -- a payload that is refused as it is fed is refused however its session was to end
 pub frame_fails : (e : SixelError) (before after : DecoderState) (settings : Settings) (bytes : List ℕ) (ending : End)
@@ -117,6 +127,11 @@ string_refused e limit fed left bytes n joined refused =
     subst (λ (w : List ℕ). Faults e (nat_lt 0 (dcs_growths w)) (dcs_fault limit w)) joined
     (Faults-along e _ (nat_lt 0 (dcs_growths (fed ++ left))) (dcs_fault limit fed) (dcs_fault limit (fed ++ left))
     (λ may. grind (arith, nat_tests, dcs_growths_stay fed left)) (dcs_fault_stays limit fed left) refused)
+
+pub string_refusal : (R : Type 0) (answer : Result R SixelError) (limit : ℕ) (fed left bytes : List ℕ) (n : ℕ) → fed ++ left ≡ bytes
+    → IfErr answer (λ e. Faults e (nat_lt n (dcs_growths fed)) (dcs_fault limit fed)) → IfErr answer (λ e. Faults e (nat_lt 0 (dcs_growths bytes)) (dcs_fault limit bytes))
+string_refusal R (Ok fed) limit beginning left bytes n joined refused = tt
+string_refusal R (Err e) limit beginning left bytes n joined refused = string_refused e limit beginning left bytes n joined refused
 
 whole_status : (fed bytes : List ℕ) → IsWhole fed bytes → dcs_status fed ≡ dcs_status bytes
 whole_status fed bytes is =

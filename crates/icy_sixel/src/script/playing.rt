@@ -1,7 +1,7 @@
 //! The steps that feed a session: how its bytes are cut, and how it ends.
 
 ghost use Rattle.std.specs.Prelude.{◌≡◌, ◌++◌, [], false, nat_lt, None, OnOk, IfOk, IfErr, MatchResult};
-ghost use Rattle.std.specs.Prelude.{List, ℕ};
+ghost use Rattle.std.specs.Prelude.{List, ℕ, ◌+◌, ◌<◌, length};
 ghost use Rattle.sixel_base.specs.Bytes.{front, count, first_terminator};
 ghost use Rattle.sixel_base.specs.Decoder.{origin_of};
 ghost use Rattle.sixel_base.specs.Fault.{Faults};
@@ -143,16 +143,44 @@ fn feed_frame(
     let mut rest = bytes;
     for cut in cuts {
         let (piece, left) = split_piece(rest, *cut);
-        let fed = session.feed(piece)?;
-        consumed += fed.consumed;
-        if let SixelFeedStatus::Terminated(_) = fed.status {
-            return Ok(SixelFeedResult { consumed, ..fed });
+        match feed_frame_piece(session, piece, consumed) {
+            Ok(fed) if matches!(fed.status, SixelFeedStatus::NeedMoreData) => {
+                consumed = fed.consumed;
+                rest = left;
+            }
+            answer => return answer,
         }
-        rest = left;
     }
-    let last = session.feed(rest)?;
-    consumed += last.consumed;
-    Ok(SixelFeedResult { consumed, ..last })
+    feed_frame_piece(session, rest, consumed)
+}
+
+/// Feeds a payload's next piece, and adds what it consumed to what those before it did.
+fn feed_frame_piece(
+    session: &mut SixelStreamDecoder<'_>,
+    piece: &[u8],
+    before: usize,
+) -> Result<SixelFeedResult>
+    requires sound { session.old.intake.is_refused ≡ false }
+    requires counted { before ≡ count session.old.intake.bytes }
+    requires room { length session.old.intake.bytes + length piece.now < 18446744073709551616 }
+    ensures owner { session.new.owner.ghost_name ≡ session.old.owner.ghost_name }
+    ensures registers { session.new.owner.now ≡ session.old.owner.now }
+    ensures origin { session.new.intake.origin ≡ session.old.intake.origin }
+    ensures bytes { session.new.intake.bytes ≡ session.old.intake.bytes ++ piece.now }
+    ensures accepted { OnOk result (session.new.intake.is_refused ≡ false) }
+    ensures faultless { OnOk result
+        (fed_fault session.old.intake.origin.pixel_limit session.new.intake.bytes ≡ None) }
+    ensures consumed { IfOk result (λ fed. fed.consumed ≡ count session.new.intake.bytes) }
+    ensures status { IfOk result (λ fed.
+        fed.status ≡ status_of (first_terminator session.new.intake.bytes)) }
+    ensures error { IfErr result (λ error.
+        Faults error (nat_lt (growths (settled session.old.intake.bytes))
+        (growths (settled session.new.intake.bytes)))
+        (fed_fault session.old.intake.origin.pixel_limit session.new.intake.bytes)) }
+{
+    let mut fed = session.feed(piece)?;
+    fed.consumed += before;
+    Ok(fed)
 }
 
 /// Feeds a control string's pieces up to its end, and tells what they consumed together.
@@ -180,16 +208,43 @@ fn feed_string(
     let mut rest = bytes;
     for cut in cuts {
         let (piece, left) = split_piece(rest, *cut);
-        let fed = session.feed(piece)?;
-        consumed += fed.consumed;
-        if fed.status.has_ended() {
-            return Ok(SixelDcsFeedResult { consumed, ..fed });
+        match feed_string_piece(session, piece, consumed) {
+            Ok(fed) if !fed.status.has_ended() => {
+                consumed = fed.consumed;
+                rest = left;
+            }
+            answer => return answer,
         }
-        rest = left;
     }
-    let last = session.feed(rest)?;
-    consumed += last.consumed;
-    Ok(SixelDcsFeedResult { consumed, ..last })
+    feed_string_piece(session, rest, consumed)
+}
+
+/// Feeds a control string's next piece, and adds what it consumed to what those before it did.
+fn feed_string_piece(
+    session: &mut SixelDcsStreamDecoder<'_>,
+    piece: &[u8],
+    before: usize,
+) -> Result<SixelDcsFeedResult>
+    requires sound { session.old.progress.is_refused ≡ false }
+    requires counted { before ≡ dcs_count session.old.progress.bytes }
+    requires room { length session.old.progress.bytes + length piece.now < 18446744073709551616 }
+    ensures owner { session.new.owner.ghost_name ≡ session.old.owner.ghost_name }
+    ensures registers { session.new.owner.now ≡ session.old.owner.now }
+    ensures start { session.new.progress.decoder ≡ session.old.progress.decoder }
+    ensures bytes { session.new.progress.bytes ≡ session.old.progress.bytes ++ piece.now }
+    ensures accepted { OnOk result (session.new.progress.is_refused ≡ false) }
+    ensures faultless { OnOk result
+        (dcs_fault session.old.progress.decoder.pixel_limit session.new.progress.bytes ≡ None) }
+    ensures consumed { IfOk result (λ fed. fed.consumed ≡ dcs_count session.new.progress.bytes) }
+    ensures status { IfOk result (λ fed. fed.status ≡ dcs_status session.new.progress.bytes) }
+    ensures error { IfErr result (λ error.
+        Faults error (nat_lt (dcs_growths session.old.progress.bytes)
+        (dcs_growths session.new.progress.bytes))
+        (dcs_fault session.old.progress.decoder.pixel_limit session.new.progress.bytes)) }
+{
+    let mut read = session.feed(piece)?;
+    read.consumed += before;
+    Ok(read)
 }
 
 /// Splits off the next piece: as long as the cut says, or all that is left.

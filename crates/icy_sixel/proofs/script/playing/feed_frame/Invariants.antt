@@ -1,4 +1,4 @@
-use Rattle.std.proofs.Common.{◌≡◌, ◌+◌, ◌≤◌, ◌++◌, false, length}
+use Rattle.std.proofs.Common.{◌≡◌, ◌++◌, false}
 use Rattle.sixel_base.specs.Bytes.{count}
 use Rattle.icy_sixel.proofs.script.playing.feed_frame.Given as goal
 
@@ -10,5 +10,4 @@ invariant-loop-cut l = record {
   accepted : l.session.intake.is_refused ≡ false;
   joined : l.session.intake.bytes ++ l.rest ≡ l.bytes;
   counted : l.consumed ≡ count l.session.intake.bytes;
-  fits : l.consumed + length l.rest ≤ length l.bytes;
 }

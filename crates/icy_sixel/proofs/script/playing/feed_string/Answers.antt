@@ -1,47 +1,101 @@
-use Rattle.std.proofs.Common.{◌≡◌, ◌+◌, ◌≤◌, ◌++◌, length, arith, ap, sym, ◌∙◌, length-append, rules}
-use Rattle.std.proofs.lemmas.Grind.{common_steps}
-use Rattle.std.proofs.lemmas.Result.{err_from_is_err_and}
+use Rattle.std.proofs.Common.{◌≡◌, ◌++◌, [], arith, ap, sym, ◌∙◌, length, length-append}
+use Rattle.std.proofs.lemmas.List.{append-nil}
 use Rattle.sixel_base.specs.Dcs.{has_ended}
-use Rattle.sixel_decoder.proofs.Answering.{dcs_count-fits}
-use Rattle.icy_sixel.proofs.Playing.{SameString, string_whole, string_refused}
+use Rattle.icy_sixel.proofs.Playing.{rejoined, SameString, string_whole, string_refusal}
 use Rattle.icy_sixel.proofs.script.playing.feed_string.Goals as goal
 
-pub overflow_add-consumed : goal.overflow_add-consumed
-overflow_add-consumed c =
-    let now = c.feed.new.self.progress.bytes in
-    let joined : c.feed.new.self.progress.bytes ++ c.split_piece.result.1.now ≡ c.args.bytes.now = grind (arith, common_steps) in
-    let fits : c.loop-cut.consumed + c.in_ok-fed.fed.consumed ≤ length c.args.bytes.now =
-    omega (arith, dcs_count-fits now, ap length joined, length-append now c.split_piece.result.1.now, c.in_ok-fed.ensures.consumed) in
-    search rules
+pub feed_string_piece-requires-2-clause-room : goal.feed_string_piece-requires-2-clause-room
+feed_string_piece-requires-2-clause-room c = omega (arith, ap length c.loop-cut.invariant.joined, length-append c.loop-cut.session.progress.bytes c.loop-cut.rest.now)
 
-pub overflow_add-consumed-2 : goal.overflow_add-consumed-2
-overflow_add-consumed-2 c =
-    let fits : c.loop-cut.consumed + c.in_ok-last.last.consumed ≤ length c.args.bytes.now =
-    omega (arith, dcs_count-fits c.feed-2.new.self.progress.bytes, ap length c.loop-cut.invariant.joined, ap length c.in_ok-last.ensures.bytes, c.in_ok-last.ensures.consumed) in
-    search rules
+-- ---- where the string has ended
 
-pub returns-in_err-fed-clause-error : goal.returns-in_err-fed-clause-error
-returns-in_err-fed-clause-error c =
-    let joined : c.feed.new.self.progress.bytes ++ c.split_piece.result.1.now ≡ c.args.bytes.now = grind (arith, common_steps) in
-    let p = err_from_is_err_and c.from_residual.result c.from_residual.ensures.1 in
-    rw (p.1, p.2) (string_refused _ _ c.feed.new.self.progress.bytes _ _ _ joined (rw (c.loop-cut.invariant.accepted, c.loop-cut.invariant.start) at c.in_err-fed.ensures.error))
+joined : (c : goal.In_default) → c.feed_string_piece.new.session.progress.bytes ++ c.split_piece.result.1.now ≡ c.args.bytes.now
+joined c = rejoined _ _ _ _ _ _ c.feed_string_piece.ensures.bytes c.split_piece.ensures c.loop-cut.invariant.joined
 
-same : (c : goal.Then-has_ended) → SameString c.args.session.now.progress.decoder.pixel_limit c.feed.new.self.progress.bytes c.args.bytes.now
+same : (c : goal.In_default) → SameString c.args.session.now.progress.decoder.pixel_limit c.feed_string_piece.new.session.progress.bytes c.args.bytes.now
 same c =
-    let joined : c.feed.new.self.progress.bytes ++ c.split_piece.result.1.now ≡ c.args.bytes.now = grind (arith, common_steps) in
-    string_whole _ c.feed.new.self.progress.bytes _ _ joined (ap has_ended (sym c.in_ok-fed.ensures.status) ∙ (sym c.has_ended.ensures ∙ c.if-has_ended.true))
+    string_whole _ c.feed_string_piece.new.session.progress.bytes _ _ (joined c) (ap has_ended (sym c.in-Ok.ensures.status) ∙ (sym c.has_ended.ensures ∙ c.if-not-has_ended.false))
 
-pub returns-then-has_ended-clause-whole : goal.returns-then-has_ended-clause-whole
-returns-then-has_ended-clause-whole c = (same c).whole
+pub returns-in_default-clause-whole : goal.returns-in_default-clause-whole
+returns-in_default-clause-whole c = (same c).whole
 
-pub returns-then-has_ended-clause-faultless : goal.returns-then-has_ended-clause-faultless
-returns-then-has_ended-clause-faultless c = sym (same c).fault ∙ (rw c.loop-cut.invariant.start at c.in_ok-fed.ensures.faultless)
+pub returns-in_default-clause-faultless : goal.returns-in_default-clause-faultless
+returns-in_default-clause-faultless c = sym (same c).fault ∙ (rw c.loop-cut.invariant.start at c.in-Ok.ensures.faultless)
 
-pub returns-then-has_ended-clause-consumed : goal.returns-then-has_ended-clause-consumed
-returns-then-has_ended-clause-consumed c = omega (arith, (same c).counted, c.in_ok-fed.ensures.consumed)
+pub returns-in_default-clause-consumed : goal.returns-in_default-clause-consumed
+returns-in_default-clause-consumed c = c.in-Ok.ensures.consumed ∙ (same c).counted
 
-pub returns-then-has_ended-clause-status : goal.returns-then-has_ended-clause-status
-returns-then-has_ended-clause-status c = c.in_ok-fed.ensures.status ∙ (same c).status
+pub returns-in_default-clause-status : goal.returns-in_default-clause-status
+returns-in_default-clause-status c = c.in-Ok.ensures.status ∙ (same c).status
+
+-- ---- where it is refused
+
+joined-2 : (c : goal.In_default-2) → c.feed_string_piece.new.session.progress.bytes ++ c.split_piece.result.1.now ≡ c.args.bytes.now
+joined-2 c = rejoined _ _ _ _ _ _ c.feed_string_piece.ensures.bytes c.split_piece.ensures c.loop-cut.invariant.joined
+
+pub returns-in_default-2-clause-error : goal.returns-in_default-2-clause-error
+returns-in_default-2-clause-error c =
+    string_refusal _ c.feed_string_piece.result _ c.feed_string_piece.new.session.progress.bytes _ _ _ (joined-2 c) (rw c.loop-cut.invariant.start at c.feed_string_piece.ensures.error)
+
+-- ---- where it goes on
+
+pub loop-cut-preserved : goal.loop-cut-preserved
+loop-cut-preserved c =
+    let told = c.in-Ok.ensures in
+    let kept = c.loop-cut.invariant in
+    record {
+      owner = told.owner ∙ kept.owner;
+      registers = told.registers ∙ kept.registers;
+      start = told.start ∙ kept.start;
+      accepted = told.accepted;
+      joined = rejoined _ _ _ _ _ _ told.bytes c.split_piece.ensures kept.joined;
+      counted = told.consumed;
+    }
+
+pub returns-in_default-clause-owner : goal.returns-in_default-clause-owner
+returns-in_default-clause-owner c = c.feed_string_piece.ensures.owner ∙ c.loop-cut.invariant.owner
+
+pub returns-in_default-clause-registers : goal.returns-in_default-clause-registers
+returns-in_default-clause-registers c = c.feed_string_piece.ensures.registers ∙ c.loop-cut.invariant.registers
+
+pub returns-in_default-clause-start : goal.returns-in_default-clause-start
+returns-in_default-clause-start c = c.feed_string_piece.ensures.start ∙ c.loop-cut.invariant.start
+
+pub returns-in_default-2-clause-owner : goal.returns-in_default-2-clause-owner
+returns-in_default-2-clause-owner c = c.feed_string_piece.ensures.owner ∙ c.loop-cut.invariant.owner
+
+pub returns-in_default-2-clause-registers : goal.returns-in_default-2-clause-registers
+returns-in_default-2-clause-registers c = c.feed_string_piece.ensures.registers ∙ c.loop-cut.invariant.registers
+
+pub returns-in_default-2-clause-start : goal.returns-in_default-2-clause-start
+returns-in_default-2-clause-start c = c.feed_string_piece.ensures.start ∙ c.loop-cut.invariant.start
+
+-- ---- the last piece
+
+all : (c : goal.After-feed_string_piece-2) → c.feed_string_piece-2.new.session.progress.bytes ≡ c.args.bytes.now
+all c = c.feed_string_piece-2.ensures.bytes ∙ c.loop-cut.invariant.joined
+
+pub returns-clause-owner : goal.returns-clause-owner
+returns-clause-owner c = c.feed_string_piece-2.ensures.owner ∙ c.loop-cut.invariant.owner
+
+pub returns-clause-registers : goal.returns-clause-registers
+returns-clause-registers c = c.feed_string_piece-2.ensures.registers ∙ c.loop-cut.invariant.registers
+
+pub returns-clause-start : goal.returns-clause-start
+returns-clause-start c = c.feed_string_piece-2.ensures.start ∙ c.loop-cut.invariant.start
+
+pub returns-clause-accepted : goal.returns-clause-accepted
+returns-clause-accepted c = c.feed_string_piece-2.ensures.accepted
+
+pub returns-clause-faultless : goal.returns-clause-faultless
+returns-clause-faultless c = rw (c.loop-cut.invariant.start, all c) at c.feed_string_piece-2.ensures.faultless
 
 pub returns-clause-consumed : goal.returns-clause-consumed
-returns-clause-consumed c = grind arith
+returns-clause-consumed c = rw (all c) at c.feed_string_piece-2.ensures.consumed
+
+pub returns-clause-status : goal.returns-clause-status
+returns-clause-status c = rw (all c) at c.feed_string_piece-2.ensures.status
+
+pub returns-clause-error : goal.returns-clause-error
+returns-clause-error c =
+    string_refusal _ c.feed_string_piece-2.result _ c.feed_string_piece-2.new.session.progress.bytes [] _ _ (append-nil _ ∙ all c) (rw c.loop-cut.invariant.start at c.feed_string_piece-2.ensures.error)

@@ -1,0 +1,8 @@
+use Rattle.std.proofs.Common.{length, arith, ap, length-append}
+use Rattle.sixel_decoder.proofs.Terminating.{count-fits}
+use Rattle.icy_sixel.proofs.script.playing.feed_frame_piece.Goals as goal
+
+pub overflow_add-fed : goal.overflow_add-fed
+overflow_add-fed c =
+    let before = c.args.session.now.intake.bytes in
+    omega (arith, count-fits c.feed.new.self.intake.bytes, ap length c.in_ok-fed.ensures.bytes, length-append before c.args.piece.now, c.in_ok-fed.ensures.consumed, c.requires.room, c.requires.counted)

@@ -1,0 +1,8 @@
+use Rattle.std.proofs.Common.{length, arith, ap, length-append}
+use Rattle.sixel_decoder.proofs.Answering.{dcs_count-fits}
+use Rattle.icy_sixel.proofs.script.playing.feed_string_piece.Goals as goal
+
+pub overflow_add-read : goal.overflow_add-read
+overflow_add-read c =
+    let before = c.args.session.now.progress.bytes in
+    omega (arith, dcs_count-fits c.feed.new.self.progress.bytes, ap length c.in_ok-read.ensures.bytes, length-append before c.args.piece.now, c.in_ok-read.ensures.consumed, c.requires.room, c.requires.counted)
