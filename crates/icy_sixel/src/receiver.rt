@@ -17,7 +17,7 @@ ghost use Rattle.icy_sixel.specs.Receiver.{sixels};
 ghost use Rattle.icy_sixel.specs.Receiver.{found, found_followed, end_fault, end_wants, in_payload, size};
 ghost use Rattle.icy_sixel.specs.inside.Receiving.{reception_of};
 
-use crate::decoder::{DcsSettings, SixelDecoder};
+use crate::decoder::{DcsSettings, SixelDcsFeedResult, SixelDecoder, SixelFeedResult};
 use crate::script::Status;
 use crate::sixel_image::SixelImage;
 use sixel_base::{Result, SixelError};
@@ -201,20 +201,8 @@ impl SixelReceiver {
     {
         match &mut self.open {
             Open::Nothing => Err(SixelError::stream_failed()),
-            Open::Payload(intake) => {
-                let fed = intake.feed(piece)?;
-                Ok(Received {
-                    consumed: fed.consumed,
-                    status: Status::Payload(fed.status),
-                })
-            }
-            Open::ControlString(progress) => {
-                let fed = progress.feed(piece)?;
-                Ok(Received {
-                    consumed: fed.consumed,
-                    status: Status::Dcs(fed.status),
-                })
-            }
+            Open::Payload(intake) => Ok(of_payload(intake.feed(piece)?)),
+            Open::ControlString(progress) => Ok(of_string(progress.feed(piece)?)),
         }
     }
 
@@ -403,6 +391,32 @@ impl SixelReceiver {
         ensures image { self.new.image ≡ self.old.image }
     {
         self.decoder.set_pixel_limit(pixels);
+    }
+}
+
+/// What a feed of a payload did, as of an image.
+fn of_payload(fed: SixelFeedResult) -> Received
+    ensures { result ≡ record {
+      consumed = fed.consumed;
+      status = Status.Payload fed.status;
+    } }
+{
+    Received {
+        consumed: fed.consumed,
+        status: Status::Payload(fed.status),
+    }
+}
+
+/// What a feed of a control string did, as of an image.
+fn of_string(fed: SixelDcsFeedResult) -> Received
+    ensures { result ≡ record {
+      consumed = fed.consumed;
+      status = Status.Dcs fed.status;
+    } }
+{
+    Received {
+        consumed: fed.consumed,
+        status: Status::Dcs(fed.status),
     }
 }
 

@@ -21,27 +21,27 @@ use Rattle.sixel_decoder.proofs.Answering.{dcs_count-most, frame_over, string_ov
 use Rattle.sixel_decoder.proofs.Ended.{dcs_count_ended, status_ended, dcs_fault_ended}
 use Rattle.icy_sixel.proofs.Playing.{frame_refused, string_refused}
 use Rattle.icy_sixel.proofs.receiver.SixelReceiver.feed.Goals as goal
-use Rattle.icy_sixel.proofs.receiver.SixelReceiver.feed.Goals.{in-Nothing, in-Payload+in_ok-fed-in-Payload, in-ControlString+in_ok-fed-in-ControlString}
+use Rattle.icy_sixel.proofs.receiver.SixelReceiver.feed.Goals.{in-Nothing, in-Payload+in_ok-feed-in-Payload, in-ControlString+in_ok-feed-in-ControlString}
 
 pub returns-clause-within : goal.returns-clause-within
 returns-clause-within c =
     elim c.match-self.branch [
       | in-Nothing w ↦ rw w.result-is tt
-      | in-Payload+in_ok-fed-in-Payload w ↦ rw w.result-is w.in_ok-fed-in-Payload.ensures.within
-      | in-ControlString+in_ok-fed-in-ControlString w ↦
+      | in-Payload+in_ok-feed-in-Payload w ↦ rw (w.result-is, w.of_payload.ensures) w.in_ok-feed-in-Payload.ensures.within
+      | in-ControlString+in_ok-feed-in-ControlString w ↦
           let before : List ℕ = w.in-ControlString.progress.bytes in
-          rw w.result-is (omega (
+          rw (w.result-is, w.of_string.ensures) (omega (
             arith,
-            w.in_ok-fed-in-ControlString.ensures.consumed,
+            w.in_ok-feed-in-ControlString.ensures.consumed,
             ap dcs_count w.feed-in-ControlString.ensures.bytes,
             dcs_count-most before c.args.piece.now,
           ))
     ]
 
-pub returns-in_err-fed-in-Payload-clause-refused_for_good : goal.returns-in_err-fed-in-Payload-clause-refused_for_good
-returns-in_err-fed-in-Payload-clause-refused_for_good c =
+pub returns-in_err-feed-in-Payload-clause-refused_for_good : goal.returns-in_err-feed-in-Payload-clause-refused_for_good
+returns-in_err-feed-in-Payload-clause-refused_for_good c =
     let fed : List ℕ = c.feed.new.self.bytes in
-    let told : SixelError = c.in_err-fed-in-Payload.field-0.0 in
+    let told : SixelError = c.in_err-feed-in-Payload.field-0.0 in
     let p = err_from_is_err_and c.from_residual.result c.from_residual.ensures.1 in
     rw (p.1, p.2) (λ settings error more form is accepted.
     let sound : c.in-Payload.intake.is_refused ≡ false =
@@ -52,13 +52,13 @@ returns-in_err-fed-in-Payload-clause-refused_for_good c =
     sym (ap (λ (o : Open). (reception_of o).start.pixel_limit) c.in-Payload.is) ∙ ap (λ (r : Receiver). r.image.start.pixel_limit) c.self.view_is in
     subst (λ (n : ℕ). Faults error (payload_wants n (fed ++ more)) (payload_fault n (fed ++ more))) began
     (subst (λ (e : SixelError). Faults e (payload_wants limit (fed ++ more)) (payload_fault limit (fed ++ more))) same
-    (payload_refused told limit (fed ++ more) (frame_refused told limit fed more (fed ++ more) _ refl (rw sound at c.in_err-fed-in-Payload.ensures.error)))))
+    (payload_refused told limit (fed ++ more) (frame_refused told limit fed more (fed ++ more) _ refl (rw sound at c.in_err-feed-in-Payload.ensures.error)))))
 
-pub returns-in_err-fed-in-ControlString-clause-string_refused_for_good : goal.returns-in_err-fed-in-ControlString-clause-string_refused_for_good
-returns-in_err-fed-in-ControlString-clause-string_refused_for_good c =
+pub returns-in_err-feed-in-ControlString-clause-string_refused_for_good : goal.returns-in_err-feed-in-ControlString-clause-string_refused_for_good
+returns-in_err-feed-in-ControlString-clause-string_refused_for_good c =
     let fed : List ℕ = c.feed-in-ControlString.new.self.bytes in
-    let told : SixelError = c.in_err-fed-in-ControlString.field-0.0 in
-    let p = err_from_is_err_and c.from_residual-in_err-fed-in-ControlString.result c.from_residual-in_err-fed-in-ControlString.ensures.1 in
+    let told : SixelError = c.in_err-feed-in-ControlString.field-0.0 in
+    let p = err_from_is_err_and c.from_residual-in_err-feed-in-ControlString.result c.from_residual-in_err-feed-in-ControlString.ensures.1 in
     rw (p.1, p.2) (λ error more form is accepted.
     let sound : c.in-ControlString.progress.is_refused ≡ false =
     sym (ap (λ (o : Open). (reception_of o).is_refused) c.in-ControlString.is) ∙ (ap (λ (r : Receiver). r.image.is_refused) c.self.view_is ∙ accepted) in
@@ -68,7 +68,7 @@ returns-in_err-fed-in-ControlString-clause-string_refused_for_good c =
     sym (ap (λ (o : Open). (reception_of o).start.pixel_limit) c.in-ControlString.is) ∙ ap (λ (r : Receiver). r.image.start.pixel_limit) c.self.view_is in
     subst (λ (n : ℕ). Faults error (nat_lt 0 (dcs_growths (fed ++ more))) (dcs_fault n (fed ++ more))) began
     (subst (λ (e : SixelError). Faults e (nat_lt 0 (dcs_growths (fed ++ more))) (dcs_fault limit (fed ++ more))) same
-    (string_refused told limit fed more (fed ++ more) _ refl (rw sound at c.in_err-fed-in-ControlString.ensures.error))))
+    (string_refused told limit fed more (fed ++ more) _ refl (rw sound at c.in_err-feed-in-ControlString.ensures.error))))
 
 -- ---- once the image is over
 
@@ -76,8 +76,8 @@ terminator_of : (o : Option ℕ) → is_some o ≡ true → (t : ℕ) × (o ≡ 
 terminator_of None is = absurd cc
 terminator_of (Some t) is = (t, refl)
 
-pub returns-in_err-fed-in-Payload-clause-over : goal.returns-in_err-fed-in-Payload-clause-over
-returns-in_err-fed-in-Payload-clause-over c = λ accepted over.
+pub returns-in_err-feed-in-Payload-clause-over : goal.returns-in_err-feed-in-Payload-clause-over
+returns-in_err-feed-in-Payload-clause-over c = λ accepted over.
     let before : List ℕ = c.in-Payload.intake.bytes in
     let sound : c.in-Payload.intake.is_refused ≡ false =
     sym (ap (λ (o : Open). (reception_of o).is_refused) c.in-Payload.is) ∙ (ap (λ (r : Receiver). r.image.is_refused) c.self.view_is ∙ accepted) in
@@ -87,12 +87,12 @@ returns-in_err-fed-in-Payload-clause-over c = λ accepted over.
     let told = c.feed.ensures in
     let fine = frame_over c.in-Payload.intake.origin.pixel_limit c.feed.result before c.args.piece.now c.feed.new.self.bytes t.0 t.1 told.bytes (told.sound sound) told.consumed told.status
     (rw sound at told.error) in
-    let is = c.in_err-fed-in-Payload.is in
-    let was = c.in_err-fed-in-Payload.was in
+    let is = c.in_err-feed-in-Payload.is in
+    let was = c.in_err-feed-in-Payload.was in
     absurd cc
 
-pub returns-in_err-fed-in-ControlString-clause-over : goal.returns-in_err-fed-in-ControlString-clause-over
-returns-in_err-fed-in-ControlString-clause-over c = λ accepted over.
+pub returns-in_err-feed-in-ControlString-clause-over : goal.returns-in_err-feed-in-ControlString-clause-over
+returns-in_err-feed-in-ControlString-clause-over c = λ accepted over.
     let before : List ℕ = c.in-ControlString.progress.bytes in
     let sound : c.in-ControlString.progress.is_refused ≡ false =
     sym (ap (λ (o : Open). (reception_of o).is_refused) c.in-ControlString.is) ∙ (ap (λ (r : Receiver). r.image.is_refused) c.self.view_is ∙ accepted) in
@@ -101,8 +101,8 @@ returns-in_err-fed-in-ControlString-clause-over c = λ accepted over.
     let told = c.feed-in-ControlString.ensures in
     let fine = string_over c.in-ControlString.progress.decoder.pixel_limit c.feed-in-ControlString.result before c.args.piece.now c.feed-in-ControlString.new.self.bytes ended told.bytes (told.sound sound) told.consumed told.status
     (rw sound at told.error) in
-    let is = c.in_err-fed-in-ControlString.is in
-    let was = c.in_err-fed-in-ControlString.was in
+    let is = c.in_err-feed-in-ControlString.is in
+    let was = c.in_err-feed-in-ControlString.was in
     absurd cc
 
 payload_over : (result : Result SixelFeedResult SixelError) (fed : SixelFeedResult) (t : ℕ) → result ≡ Ok fed → result ≡ Ok (record { consumed = 0; status = Terminated t })
@@ -124,7 +124,7 @@ returns-clause-over c = λ accepted over.
           let sound : true ≡ false =
           sym (ap (λ (o : Open). (reception_of o).is_refused) w.in-Nothing.is) ∙ (ap (λ (r : Receiver). r.image.is_refused) c.self.view_is ∙ accepted) in
           absurd cc
-      | in-Payload+in_ok-fed-in-Payload w ↦
+      | in-Payload+in_ok-feed-in-Payload w ↦
           let before : List ℕ = w.in-Payload.intake.bytes in
           let sound : w.in-Payload.intake.is_refused ≡ false =
           sym (ap (λ (o : Open). (reception_of o).is_refused) w.in-Payload.is) ∙ (ap (λ (r : Receiver). r.image.is_refused) c.self.view_is ∙ accepted) in
@@ -134,12 +134,12 @@ returns-clause-over c = λ accepted over.
           let told = w.feed.ensures in
           let fine = frame_over w.in-Payload.intake.origin.pixel_limit w.feed.result before c.args.piece.now w.feed.new.self.bytes t.0 t.1 told.bytes (told.sound sound) told.consumed told.status
           (rw sound at told.error) in
-          let parts = payload_over w.feed.result w.in_ok-fed-in-Payload.fed t.0 w.in_ok-fed-in-Payload.was fine in
-          let whole : statuses.Payload w.in_ok-fed-in-Payload.fed.status ≡ status c.args.self.now.image.form c.args.self.now.image.bytes =
+          let parts = payload_over w.feed.result w.in_ok-feed-in-Payload.field-0 t.0 w.in_ok-feed-in-Payload.was fine in
+          let whole : statuses.Payload w.in_ok-feed-in-Payload.field-0.status ≡ status c.args.self.now.image.form c.args.self.now.image.bytes =
           ap statuses.Payload (parts.1 ∙ ap status_of (sym t.1))
           ∙ (sym (ap (λ (o : Open). status (reception_of o).form (reception_of o).bytes) w.in-Payload.is) ∙ ap (λ (r : Receiver). status r.image.form r.image.bytes) c.self.view_is) in
-          w.result-is ∙ (λ i. Ok (record { consumed = parts.0 i; status = whole i }))
-      | in-ControlString+in_ok-fed-in-ControlString w ↦
+          w.result-is ∙ (ap Ok w.of_payload.ensures ∙ (λ i. Ok (record { consumed = parts.0 i; status = whole i })))
+      | in-ControlString+in_ok-feed-in-ControlString w ↦
           let before : List ℕ = w.in-ControlString.progress.bytes in
           let sound : w.in-ControlString.progress.is_refused ≡ false =
           sym (ap (λ (o : Open). (reception_of o).is_refused) w.in-ControlString.is) ∙ (ap (λ (r : Receiver). r.image.is_refused) c.self.view_is ∙ accepted) in
@@ -148,11 +148,11 @@ returns-clause-over c = λ accepted over.
           let told = w.feed-in-ControlString.ensures in
           let fine = string_over w.in-ControlString.progress.decoder.pixel_limit w.feed-in-ControlString.result before c.args.piece.now w.feed-in-ControlString.new.self.bytes ended told.bytes (told.sound sound) told.consumed told.status
           (rw sound at told.error) in
-          let parts = string_ended w.feed-in-ControlString.result w.in_ok-fed-in-ControlString.fed (dcs_status before) w.in_ok-fed-in-ControlString.was fine in
-          let whole : statuses.Dcs w.in_ok-fed-in-ControlString.fed.status ≡ status c.args.self.now.image.form c.args.self.now.image.bytes =
+          let parts = string_ended w.feed-in-ControlString.result w.in_ok-feed-in-ControlString.field-0 (dcs_status before) w.in_ok-feed-in-ControlString.was fine in
+          let whole : statuses.Dcs w.in_ok-feed-in-ControlString.field-0.status ≡ status c.args.self.now.image.form c.args.self.now.image.bytes =
           ap statuses.Dcs parts.1
           ∙ (sym (ap (λ (o : Open). status (reception_of o).form (reception_of o).bytes) w.in-ControlString.is) ∙ ap (λ (r : Receiver). status r.image.form r.image.bytes) c.self.view_is) in
-          w.result-is ∙ (λ i. Ok (record { consumed = parts.0 i; status = whole i }))
+          w.result-is ∙ (ap Ok w.of_string.ensures ∙ (λ i. Ok (record { consumed = parts.0 i; status = whole i })))
     ]
 
 same_for_good : (result : Result Received SixelError) (form : Form) (limit : ℕ) (fed more : List ℕ)
