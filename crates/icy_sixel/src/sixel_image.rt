@@ -5,6 +5,7 @@ ghost use Rattle.std.specs.Prelude.{slice_index, IsTrue, None, OnOk, IfErr, IfOk
 ghost use Rattle.std.specs.Prelude.{◌++◌, Some, MatchOption, MatchResult, codes, string_bytes};
 ghost use Rattle.std.specs.Option.{option_or};
 ghost use Rattle.sixel_base.specs.Settings.{pad_of};
+ghost use Rattle.sixel_base.specs.Message.{message};
 ghost use Rattle.sixel_base.specs.Size.{size_fault, buffer_fault};
 
 use crate::decoder::{DcsSettings, SixelDecoder};
@@ -36,7 +37,6 @@ impl SixelImage {
     ghost use Rattle.sixel_base.specs.declared.state.DecoderState.{DecoderState};
     ghost use Rattle.sixel_base.specs.Size.{banded};
     ghost use Rattle.sixel_base.specs.Fault.{Faults};
-    ghost use Rattle.sixel_base.specs.Message.{message};
     ghost use Rattle.sixel_base.specs.Payload.{payload_fault, payload_image, payload_wants};
     ghost use Rattle.sixel_base.specs.Payload.{Image};
     ghost use Rattle.sixel_base.specs.OneShot.{found, found_fault, found_wants, IsFoundImage};
@@ -292,8 +292,17 @@ impl SixelImage {
     {
         match self.encode(alloc) {
             Err(SixelError::OutOfMemory) => Err(SixelError::OutOfMemory),
-            Err(error) => Ok(format!(in alloc; "[SIXEL encoding failed: {error}]")?),
+            Err(error) => refusal_line(alloc, error),
             Ok(text) => Ok(text),
         }
     }
+}
+
+/// A line that says why an image has no text.
+fn refusal_line(alloc: Global, error: SixelError) -> Result<String>
+    ensures memory { IfErr result (λ e. e ≡ SixelError.OutOfMemory) }
+    ensures text { IfOk result (λ text. string_bytes text
+        ≡ codes "[SIXEL encoding failed: " ++ message error ++ codes "]") }
+{
+    Ok(format!(in alloc; "[SIXEL encoding failed: {error}]")?)
 }
