@@ -1,8 +1,9 @@
 //! The text of an image whose colors are chosen.
 
 ghost use Rattle.std.specs.Prelude.{◌≡◌, ◌+◌, ◌*◌, ◌<◌, ◌≤◌, ◌++◌, ℕ, IfOk, OnOk, string_bytes, length};
+ghost use Rattle.sixel_base.specs.Picture.{joined};
 ghost use Rattle.sixel_encoder.specs.Text.{percent, color_definition, parameters_text, raster_text};
-ghost use Rattle.sixel_encoder.specs.Text.{palette_text, band_text, bands_text, text_of};
+ghost use Rattle.sixel_encoder.specs.Text.{palette_text, entry_text, band_text, bands_text, text_of};
 ghost use Rattle.sixel_encoder.specs.inside.Indexed.{IsIndexed, drawing_of};
 ghost use Rattle.sixel_encoder.specs.inside.Grid.{AreRows, AreClear};
 
@@ -114,10 +115,44 @@ fn push_whole_band(
         (string_bytes text.new ≡ string_bytes text.old ++ band_text (drawing_of image.now) band) }
     ensures clear { OnOk result (AreClear rows.new used.new image.now.width (length used.old)) }
 {
-    for part in 0..image.colors.len().div_ceil(used.len()) {
+    push_parts(text, image, band, rows, used)?;
+    text.push('-')
+}
+
+/// Appends the rows of a band, over rows of some entries at once that have no dot, and leaves them
+/// so.
+fn push_parts(
+    text: &mut String,
+    image: &IndexedImage<'_>,
+    band: usize,
+    rows: &mut [u8],
+    used: &mut [bool],
+) -> Result<(), AllocError>
+    requires image { IsIndexed image.now }
+    requires band { 6 * band < image.now.height }
+    requires some { 0 < length used.old }
+    requires few { 0 < length image.now.colors.now
+        → length used.old ≤ length image.now.colors.now }
+    requires rows { AreRows rows.old used.old image.now.width }
+    requires clear { AreClear rows.old used.old image.now.width (length used.old) }
+    ensures text { OnOk result
+        (string_bytes text.new ≡ string_bytes text.old
+        ++ joined (entry_text (drawing_of image.now) band) (length image.now.colors.now)) }
+    ensures clear { OnOk result (AreClear rows.new used.new image.now.width (length used.old)) }
+{
+    for part in 0..parts(image.colors.len(), used.len()) {
         push_part(text, image, band, part * used.len(), rows, used)?;
     }
-    text.push('-')
+    Ok(())
+}
+
+/// In how many parts so many entries come, where each but the last one has so many.
+fn parts(entries: usize, at_once: usize) -> usize
+    requires { 0 < at_once }
+    ensures all { entries ≤ result * at_once }
+    ensures none_past { (part : ℕ) → part < result → part * at_once < entries }
+{
+    entries.div_ceil(at_once)
 }
 
 /// Appends the introducer and the parameters: pixel shape, background, and no grid size.

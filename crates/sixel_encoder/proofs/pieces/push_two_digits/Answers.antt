@@ -1,4 +1,4 @@
-use Rattle.std.proofs.Common.{rules, arith, decimal, string_bytes, ◌+◌, ◌/◌, ◌%◌, ◌++◌, [], ◌∷◌}
+use Rattle.std.proofs.Common.{rules, arith, string_bytes, ◌+◌, ◌/◌, ◌%◌, [], ◌∷◌}
 use Rattle.std.proofs.lemmas.List.{append_assoc}
 use Rattle.std.proofs.lemmas.Fmt.{decimal_digit, decimal_step}
 use Rattle.sixel_encoder.proofs.pieces.push_two_digits.Goals as goal

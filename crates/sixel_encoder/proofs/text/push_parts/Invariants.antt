@@ -3,7 +3,7 @@ use Rattle.sixel_base.specs.Picture.{joined}
 use Rattle.sixel_encoder.specs.Text.{entry_text}
 use Rattle.sixel_encoder.specs.inside.Indexed.{drawing_of}
 use Rattle.sixel_encoder.specs.inside.Grid.{AreClear}
-use Rattle.sixel_encoder.proofs.text.push_whole_band.Given as goal
+use Rattle.sixel_encoder.proofs.text.push_parts.Given as goal
 
 abbrev pub invariant-loop-part : goal.invariant-loop-part
 invariant-loop-part l = record {
