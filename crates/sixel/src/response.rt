@@ -1,6 +1,6 @@
 //! What the program answers to its words and its input, and the exit status of each answer.
 
-ghost use Rattle.std.specs.Prelude.{◌≡◌, IfSome};
+ghost use Rattle.std.specs.Prelude.{◌≡◌, ◌≢◌, true, Err, IfSome, is_ok};
 ghost use Rattle.std.specs.Io.KnownBytes.{Keeps};
 ghost use Rattle.sixel_base.specs.declared.error.SixelError.{SixelError};
 ghost use Rattle.sixel.specs.declared.fault.Fault.TheVariants.{Sixel, Input, Output};
@@ -73,7 +73,16 @@ pub fn respond<R: Read, O: Write>(
     let Some(word) = asked(words) else {
         return Response::Usage;
     };
-    match serve(alloc, word, known, input, output) {
+    response_of(serve(alloc, word, known, input, output))
+}
+
+/// How the program ends whose work came to this.
+fn response_of(outcome: Result<(), Fault>) -> Response
+    ensures asked { result ≢ Usage }
+    ensures done { result ≡ Done → is_ok outcome ≡ true }
+    ensures failed { (fault : Fault) → result ≡ Failed fault → outcome ≡ Err fault }
+{
+    match outcome {
         Ok(()) => Response::Done,
         Err(fault) => Response::Failed(fault),
     }
