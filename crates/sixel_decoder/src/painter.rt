@@ -16,7 +16,7 @@ ghost use Rattle.sixel_base.specs.History.{History, Sixel, Repeat, Raster, Color
 ghost use Rattle.sixel_base.specs.inside.Parameters.{Keeps};
 ghost use Rattle.sixel_base.specs.Decoder.{origin_of};
 ghost use Rattle.sixel_base.specs.Fields.{fields, field};
-ghost use Rattle.sixel_base.specs.Stroke.{Origin, is_definition, definition};
+ghost use Rattle.sixel_base.specs.Stroke.{Origin, background_of, is_definition, definition};
 ghost use Rattle.sixel_base.specs.Stroke.{ratio_from as shape_from};
 
 use crate::bytes::{columns_of, four_sixels, front, run_len, sixels_in_front};
@@ -79,11 +79,7 @@ impl Painter {
         ensures roomless { canvas_room result.canvas ≡ 0 }
         ensures unpainted { result.canvas.paints ≡ 0 }
     {
-        let ground = decoder.registers.get(0);
-        let background = match settings.background_mode() {
-            BackgroundMode::Transparent => [0; 4],
-            BackgroundMode::Opaque => opaque(ground),
-        };
+        let background = background(&decoder.registers, settings.background_mode());
         Painter {
             canvas: Canvas::new(alloc, background),
             registers: decoder.registers,
@@ -91,7 +87,7 @@ impl Painter {
             raster_crop: decoder.raster_crop,
             pixel_limit: decoder.pixel_limit.pixels(),
             ratio: settings.pixel_aspect_ratio(),
-            color: opaque(ground),
+            color: opaque(decoder.registers.get(0)),
             span: 1,
             across: 0,
             down: 0,
@@ -319,6 +315,16 @@ fn widen(canvas: &mut Canvas, top: usize, from: usize, run: &[u8]) -> Result<usi
     Ok(canvas.held(top))
 }
 
+/// How many columns of a run begin four that each of the six rows holds.
+#[inline(always)]
+fn columns_by_four(held: usize, from: usize, len: usize) -> usize
+    requires { from + len ≤ 1000000 }
+    ensures few { result ≤ len }
+    ensures held { 0 < result → from + result + 3 ≤ held }
+{
+    len.min(held.saturating_sub(from + 3))
+}
+
 /// Draws the run at the front of these bytes on a canvas that holds its dots: four sixels at once, also
 /// where rows end before the last of them.
 #[inline(always)]
@@ -345,7 +351,7 @@ fn paint(
     ensures paints { canvas.new.paints ≤ canvas.old.paints + 1560 * length run.now }
     ensures spread { canvas.new.spread ≡ canvas.old.spread }
 {
-    let by_four = run.len().min(held.saturating_sub(from + 3));
+    let by_four = columns_by_four(held, from, run.len());
     let mut done = 0;
     // Only where many follow: short runs are left to the second loop, so that one end alone is foreseen.
     'fours: while done + 8 <= by_four {
@@ -564,6 +570,16 @@ fn ratio_from(other: PixelAspectRatio, vertical: u32, horizontal: u32) -> PixelA
         PixelAspectRatio::Ratio5To1
     } else {
         other
+    }
+}
+
+/// The color of a pixel that no sixel covers.
+fn background(registers: &Registers, mode: BackgroundMode) -> [u8; 4]
+    ensures { result ≡ background_of registers.now mode }
+{
+    match mode {
+        BackgroundMode::Transparent => [0; 4],
+        BackgroundMode::Opaque => opaque(registers.get(0)),
     }
 }
 

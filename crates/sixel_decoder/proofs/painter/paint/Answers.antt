@@ -7,12 +7,12 @@ fours-preserved c =
     let done = c.fours.done in
     let run = c.args.run.now in
     let before = c.fours.invariant in
-    let le : done + 4 ≤ length run = omega (arith, c.fours-test.true, c.min-by_four.ensures) in (
+    let le : done + 4 ≤ length run = omega (arith, c.fours-test.true, c.columns_by_four-by_four.ensures.few) in (
       le,
       drawn_by_four done c.args.canvas.now c.fours.canvas c.block.new.self c.args.top c.args.from run c.args.color c.four_sixels.result
           (omega (arith, le)) before.1 c.four_sixels.ensures c.block.ensures.drawn,
       λ row. c.block.ensures.reached row ∙ before.2 row,
-      omega (arith, before.3, c.block.ensures.paints, c.fours-test.true, c.min-by_four.ensures),
+      omega (arith, before.3, c.block.ensures.paints, c.fours-test.true, c.columns_by_four-by_four.ensures.few),
       c.block.ensures.spread ∙ before.4,
       λ more. omega (arith, before.5 (omega (arith, c.fours-test.true)), c.block.ensures.plain),
     )
@@ -25,12 +25,12 @@ last-preserved c =
     let done = c.last.done in
     let run = c.args.run.now in
     let before = c.last.invariant in
-    let lt : done < length run = omega (arith, c.last-test.true, c.min-by_four.ensures) in (
+    let lt : done < length run = omega (arith, c.last-test.true, c.columns_by_four-by_four.ensures.few) in (
       omega (arith, lt),
       drawn_by_four done c.args.canvas.now c.last.canvas c.block-in-last.new.self c.args.top c.args.from run c.args.color c.sixels_in_front.result
           (omega (arith, lt)) before.1 c.sixels_in_front.ensures c.block-in-last.ensures.drawn,
       λ row. c.block-in-last.ensures.reached row ∙ before.2 row,
-      omega (arith, before.3, c.block-in-last.ensures.paints, c.last-test.true, c.min-by_four.ensures),
+      omega (arith, before.3, c.block-in-last.ensures.paints, c.last-test.true, c.columns_by_four-by_four.ensures.few),
       c.block-in-last.ensures.spread ∙ before.4,
       λ more. omega (arith, before.5 (omega (arith, c.last-test.true)), c.block-in-last.ensures.plain),
     )
@@ -53,7 +53,7 @@ ends-preserved c =
       drawn_by_four done c.args.canvas.now c.ends.canvas c.dots.new.self c.args.top c.args.from run c.args.color c.sixels_in_front-in-ends.result
           (omega (arith, lt)) before.1 c.sixels_in_front-in-ends.ensures c.dots.ensures.drawn,
       λ row. c.dots.ensures.reached row ∙ before.2 row,
-      omega (arith, before.3, c.dots.ensures.most, c.ends-test.true, c.min-by_four.ensures),
+      omega (arith, before.3, c.dots.ensures.most, c.ends-test.true, c.columns_by_four-by_four.ensures.few),
       c.dots.ensures.spread ∙ before.4,
     )
 
