@@ -6,3 +6,6 @@ pub overflow_add-fed : goal.overflow_add-fed
 overflow_add-fed c =
     let before = c.args.session.now.intake.bytes in
     omega (arith, count-fits c.feed.new.self.intake.bytes, ap length c.in_ok-fed.ensures.bytes, length-append before c.args.piece.now, c.in_ok-fed.ensures.consumed, c.requires.room, c.requires.counted)
+
+pub returns-clause-consumed : goal.returns-clause-consumed
+returns-clause-consumed c = omega (arith, c.in_ok-fed.ensures.consumed, c.requires.counted)

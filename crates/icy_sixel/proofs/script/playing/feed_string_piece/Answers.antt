@@ -6,3 +6,6 @@ pub overflow_add-read : goal.overflow_add-read
 overflow_add-read c =
     let before = c.args.session.now.progress.bytes in
     omega (arith, dcs_count-fits c.feed.new.self.progress.bytes, ap length c.in_ok-read.ensures.bytes, length-append before c.args.piece.now, c.in_ok-read.ensures.consumed, c.requires.room, c.requires.counted)
+
+pub returns-clause-consumed : goal.returns-clause-consumed
+returns-clause-consumed c = omega (arith, c.in_ok-read.ensures.consumed, c.requires.counted)
