@@ -3,6 +3,7 @@ use Rattle.std.proofs.Common.{◌≡◌, ◌⊎◌, inl, inr, ℕ, ◌<◌, List
 use Rattle.std.proofs.KnownBytes.{Appends-nil, Appends-trans}
 use Rattle.std.proofs.lemmas.Bool.{false≢true}
 use Rattle.std.specs.Io.KnownBytes.{Appends}
+use Rattle.std.specs.Prelude.{OnOk, OnErr}
 use Rattle.sixel_base.specs.declared.error.SixelError.{SixelError}
 use Rattle.sixel_base.specs.declared.error.SixelError.TheVariants.{OutOfMemory}
 use Rattle.sixel_base.specs.Fault as data_fault
@@ -115,6 +116,18 @@ pub Serves-stopped : (A B : Type 0) (fault : Fault) (IsText : List ℕ → Endin
 Serves-stopped A B (Sixel e) IsText a b served = served
 Serves-stopped A B Input IsText a b served = served
 Serves-stopped A B Output IsText a b served = served
+
+-- an image is written where all is well
+pub OnOk-image : {A : Type 0} (IsImage : Image → Type 0) (image : Image) (result : Result A Fault) (a b : Option (List ℕ)) → IsImage image
+    → Serves result (IsImageAnswer None (λ i. i ≡ image)) a b → OnOk result ((shown : Image) × IsImage shown × Appends a b (image_form shown))
+OnOk-image IsImage image (Ok _) a b is served = writes_image IsImage image a b is served
+OnOk-image IsImage image (Err _) a b is served = tt
+
+-- and ends the answer elsewhere
+pub OnErr-broken : {A : Type 0} (result : Result A Fault) (now after : DecoderState) (bytes : List ℕ) (image : Image) (a b : Option (List ℕ)) → HasEnded now bytes image after
+    → Serves result (IsImageAnswer None (λ i. i ≡ image)) a b → OnErr result (Serves result (AreAnswered now bytes) a b)
+OnErr-broken (Ok _) now after bytes image a b string served = tt
+OnErr-broken {A} (Err fault) now after bytes image a b string served = Serves-broken A A fault now after bytes image a b string served
 
 -- ---- strings one after another
 

@@ -12,7 +12,7 @@ ghost use Rattle.icy_sixel.specs.ImageView.{image_value};
 ghost use Rattle.sixel_base.specs.OneShot.{found, IsFoundImage, AreFoundRegisters};
 ghost use Rattle.sixel.specs.Strings.{string_fault, is_cut_short, IsFedInPieces, AreAnswered};
 ghost use Rattle.sixel.specs.Form.{image_form};
-ghost use Rattle.sixel.specs.Answer.{Serves};
+ghost use Rattle.sixel.specs.Answer.{IsImageAnswer, Serves};
 
 use crate::fault::Fault;
 use crate::images::write_image;
@@ -78,20 +78,40 @@ fn write_string<'a, O: Write>(
         (O.contents output.old) (O.contents output.new)) }
 {
     let string = read_string(alloc, decoder, piece_len, bytes)?;
-    write_image(alloc, &string.image, output)?;
-    Ok(bytes_after(&string, bytes))
+    write_read(alloc, string, bytes, output)
 }
 
-/// The bytes to be answered after a control string that has ended, which they begin with: none where
-/// it was cut short.
-fn bytes_after<'a>(string: &ControlString, bytes: &'a [u8]) -> &'a [u8]
-    requires { string.now.len ≤ length bytes.now }
-    ensures complete { string.now.status ≡ Complete
-        → result.now ≡ drop string.now.len bytes.now }
-    ensures cut_short { is_cut_short string.now.status ≡ true → result.now ≡ [] }
+/// Writes the image of a control string that was read, which the bytes begin with, and returns those
+/// that are to be answered after it.
+fn write_read<'a, O: Write>(
+    alloc: Global,
+    string: ControlString,
+    bytes: &'a [u8],
+    output: &mut O,
+) -> Result<&'a [u8], Fault>
+    requires { string.len ≤ length bytes.now }
+    ensures image { Serves result (IsImageAnswer None (λ i. i ≡ image_value string.image))
+        (O.contents output.old) (O.contents output.new) }
+    ensures complete { IfOk result (λ after. string.status ≡ Complete
+        → after.now ≡ drop string.len bytes.now) }
+    ensures cut_short { IfOk result (λ after. is_cut_short string.status ≡ true
+        → after.now ≡ []) }
 {
-    match string.status {
-        SixelDcsFeedStatus::Complete => &bytes[string.len..],
+    match write_image(alloc, &string.image, output) {
+        Ok(()) => Ok(bytes_after(string.status, string.len, bytes)),
+        Err(fault) => Err(fault),
+    }
+}
+
+/// The bytes to be answered after a control string of so many that has ended, which they begin with:
+/// none where it was cut short.
+fn bytes_after(status: SixelDcsFeedStatus, len: usize, bytes: &[u8]) -> &[u8]
+    requires { len ≤ length bytes.now }
+    ensures complete { status ≡ Complete → result.now ≡ drop len bytes.now }
+    ensures cut_short { is_cut_short status ≡ true → result.now ≡ [] }
+{
+    match status {
+        SixelDcsFeedStatus::Complete => &bytes[len..],
         _ => &[],
     }
 }
