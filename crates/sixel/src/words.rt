@@ -131,9 +131,21 @@ fn encode(width: &str, height: &str, colors: &str) -> Option<Word>
     ensures usage { IfNone result ((asked : Word) → ¬ Asks asked (codes "encode")
         (Some width.now) (Some height.now) (Some colors.now)) }
 {
-    let (width, height) = (number(width)?, number(height)?);
-    let colors = u16::try_from(number(colors)?).ok()?;
-    Some(Word::Encode(width, height, colors))
+    match (number(width), number(height), number_of_colors(colors)) {
+        (Some(width), Some(height), Some(colors)) => Some(Word::Encode(width, height, colors)),
+        _ => None,
+    }
+}
+
+/// The number below 65536 that decimal digits write, with no sign before them.
+fn number_of_colors(text: &str) -> Option<u16>
+    ensures read { IfSome result (λ n. IsNumber text.now n × (n < 65536)) }
+    ensures other { IfNone result ((n : ℕ) → n < 65536 → ¬ IsNumber text.now n) }
+{
+    match number(text) {
+        Some(number) => u16::try_from(number).ok(),
+        None => None,
+    }
 }
 
 /// The number that decimal digits write, with no sign before them.

@@ -1,5 +1,5 @@
 use Rattle.std.proofs.Common.{arith}
 use Rattle.sixel.proofs.words.encode.Goals as goal
 
-pub returns-clause-asked : goal.returns-clause-asked
-returns-clause-asked c = grind arith
+pub returns-in-Some-Some-Some-clause-asked : goal.returns-in-Some-Some-Some-clause-asked
+returns-in-Some-Some-Some-clause-asked c = grind arith
