@@ -1,9 +1,9 @@
 //! The canvas that a decoder draws on: rows that are filled only as far as a stroke reaches.
 ghost use Rattle.std.specs.Prelude.{◌≡◌, ℕ, ◌+◌, ◌-◌, ◌*◌, ◌^◌, ◌<◌, ◌≤◌, ◌&&◌, ◌++◌, ◌∷◌, [], max};
 ghost use Rattle.std.specs.Prelude.{length, map, vec_len, slice_index, slice_index_or, slice_set, if◌then◌else◌};
-ghost use Rattle.std.specs.Prelude.{◌==◌, nat_le, nat_lt, true};
+ghost use Rattle.std.specs.Prelude.{◌==◌, List, nat_le, nat_lt, true};
 ghost use Rattle.std.specs.Prelude.{All, IfOk, IsOk, OnErr, OnOk};
-ghost use Rattle.sixel_base.specs.Picture.{covers, is_set, is_struck, joined};
+ghost use Rattle.sixel_base.specs.Picture.{covers, is_set, is_struck, joined, total};
 ghost use Rattle.sixel_canvas.specs.Row.{RowState, empty_row, painted};
 ghost use Rattle.sixel_canvas.specs.inside.Block.{drawn_over, mixed_from};
 ghost use Rattle.sixel_canvas.specs.inside.Canvas.{shown, reached, canvas_writes};
@@ -401,8 +401,7 @@ impl Canvas {
     {
         let background = self.background;
         make_rows(&mut self.rows, row + 1, background)?;
-        reach(&mut self.rows, self.loan, row, columns)?;
-        Ok(())
+        reach(&mut self.rows, self.loan, row, columns)
     }
 }
 
@@ -453,17 +452,50 @@ fn leave(loan: &mut Loan, rows: &Vec<Line>, top: usize)
     ensures lent { IsLent rows.now.items loan.new.top loan.new.credit loan.new.room }
     ensures top { loan.new.top ≡ top }
 {
+    let (held, taken, widest) = band_sizes(rows, loan.top);
+    lend(loan, top, held, taken, widest);
+}
+
+// How many columns six rows hold, their room, and how many the widest holds.
+fn band_sizes(rows: &Vec<Line>, top: usize) -> (usize, usize, usize)
+    requires above_bottom { top ≤ 1000000 }
+    requires side { (k : ℕ) → len_at rows.now.items k ≤ 1000000 }
+    requires room { (k : ℕ) → top ≤ k → room_at rows.now.items k ≤ 3000000 }
+    ensures held { result.0 ≡ total (λ k. len_at rows.now.items (top + k)) 6 }
+    ensures taken { result.1 ≡ total (λ k. room_at rows.now.items (top + k)) 6 }
+    ensures few { result.0 ≤ 6000000 }
+    ensures few_taken { result.1 ≤ 18000000 }
+    ensures widest { result.2 ≤ 1000000 }
+{
     let mut held = 0;
     let mut taken = 0;
     let mut widest = 0;
     'rows: for bit in 0..6 {
-        let (len, room) = sizes(rows, loan.top + bit);
+        let (len, room) = sizes(rows, top + bit);
         held += len;
         taken += room;
         if len > widest {
             widest = len;
         }
     }
+    (held, taken, widest)
+}
+
+// Lends the rows of the next band what is left, where those of this one hold so many columns, have taken
+// so much room, and hold so many in the widest.
+fn lend(loan: &mut Loan, top: usize, held: usize, taken: usize, widest: usize)
+    requires below { loan.old.top + 6 ≤ top }
+    requires above_bottom { top ≤ 1000000 }
+    requires few { held ≤ 6000000 }
+    requires few_taken { taken ≤ 18000000 }
+    requires widest { widest ≤ 1000000 }
+    requires covered { taken ≤ 2 * held + loan.old.credit }
+    ensures lent { (rows : List RowState) → IsLent rows loan.old.top loan.old.credit loan.old.room
+        → held ≡ total (λ k. len_at rows (loan.old.top + k)) 6
+        → taken ≡ total (λ k. room_at rows (loan.old.top + k)) 6
+        → IsLent rows loan.new.top loan.new.credit loan.new.room }
+    ensures top { loan.new.top ≡ top }
+{
     loan.credit = loan.credit.saturating_add(2 * held) - taken;
     loan.room = widest.min(loan.credit / 6);
     loan.top = top;
@@ -505,7 +537,16 @@ fn reach(rows: &mut Vec<Line>, loan: Loan, row: usize, columns: usize) -> AllocR
     ensures held { (d : RowState) → columns ≤ length (slice_index_or rows.old.items row d).pixels
         → IsOk result }
 {
-    rows[row].reach(columns, if row - loan.top < 6 { loan.room } else { 0 })
+    rows[row].reach(columns, lent_room(loan, row))
+}
+
+// What this row is lent.
+#[inline(always)]
+fn lent_room(loan: Loan, row: usize) -> usize
+    requires { loan.top ≤ row }
+    ensures { result ≡ share loan.top loan.room row }
+{
+    if row - loan.top < 6 { loan.room } else { 0 }
 }
 
 // Paints a part of one row, which is grown first where it is too short.
@@ -531,8 +572,7 @@ fn strike(
     ensures held { (d : RowState) → to ≤ length (slice_index_or rows.old.items row d).pixels
         → IsOk result }
 {
-    let lent = if row - loan.top < 6 { loan.room } else { 0 };
-    rows[row].strike(from, to, color, lent)
+    rows[row].strike(from, to, color, lent_room(loan, row))
 }
 
 // Gives one color to columns that the row holds.

@@ -1,6 +1,6 @@
 //! The pixels of a row of the canvas, which take more room where they are too many.
 ghost use Rattle.std.specs.Prelude.{◌≡◌, ◌+◌, ◌-◌, ◌*◌, ◌^◌, ◌<◌, ◌≤◌, ◌==◌, ◌++◌, ◌∷◌, []};
-ghost use Rattle.std.specs.Prelude.{length, max, take, drop, replicate, slice_index_or};
+ghost use Rattle.std.specs.Prelude.{length, max, nat_lt, if◌then◌else◌, take, drop, replicate, slice_index_or};
 ghost use Rattle.std.specs.Prelude.{vec_len, vec_capacity, IfOk, IsOk, OnErr, OnOk};
 ghost use Rattle.sixel_base.specs.Picture.{joined};
 ghost use Rattle.sixel_canvas.specs.Row.{empty_row, painted};
@@ -115,13 +115,11 @@ impl Line {
         ensures refused { OnErr result (self.new ≡ self.old) }
         ensures roomy { IsRoomy self.new }
     {
-        let held = self.len();
-        let moved = if to > self.room { held } else { 0 };
+        let written = written_to_grow(self.len(), self.room, to);
         let room = make_room(&mut self.pixels, to, self.room, lent)?;
-        fill_up(&mut self.pixels, from, self.background)?;
-        fill_up(&mut self.pixels, to, color)?;
+        fill_both(&mut self.pixels, from, self.background, to, color);
         self.room = room;
-        self.writes += (to - held + moved) as u64;
+        self.writes += written as u64;
         Ok(())
     }
 
@@ -238,6 +236,15 @@ impl Line {
     }
 }
 
+// How many pixels are copied or filled where a row that holds so many is to have some columns.
+fn written_to_grow(held: usize, room: usize, columns: usize) -> usize
+    requires { held ≤ columns }
+    ensures { result ≡ columns - held + (if nat_lt room columns then held else 0) }
+{
+    let moved = if columns > room { held } else { 0 };
+    columns - held + moved
+}
+
 // Makes memory for so many columns where the room is too small, and answers the room then.
 fn make_room(
     pixels: &mut Vec<[u8; 4]>,
@@ -260,22 +267,60 @@ fn make_room(
     if columns <= room {
         return Ok(room);
     }
-    let room = columns.max(lent.max(MAX_SIDE.min(2 * room)));
+    take_room(pixels, greater_room(columns, room, lent))
+}
+
+// The room of a row that has too little for so many columns: the greatest of these, of what is lent and of
+// twice the room, the latter at most a million.
+fn greater_room(columns: usize, room: usize, lent: usize) -> usize
+    requires short { room < columns }
+    requires side { columns ≤ 1000000 }
+    ensures room { result ≡ room_from lent columns room }
+{
+    columns.max(lent.max(MAX_SIDE.min(2 * room)))
+}
+
+// Makes memory for so many pixels, and answers how many.
+fn take_room(pixels: &mut Vec<[u8; 4]>, room: usize) -> AllocResult<usize>
+    requires side { room ≤ 1000000 }
+    requires held { vec_len pixels.old ≤ room }
+    ensures room { IfOk result (λ made. made ≡ room) }
+    ensures enough { IfOk result (λ made. made ≤ vec_capacity pixels.new) }
+    ensures no_more { IfOk result (λ made.
+        vec_capacity pixels.new ≤ max made (vec_capacity pixels.old)) }
+    ensures items { pixels.new.items ≡ pixels.old.items }
+    ensures never_less { vec_capacity pixels.old ≤ vec_capacity pixels.new }
+{
     pixels.reserve_exact(room - pixels.len())?;
     Ok(room)
+}
+
+// Appends background up to one column and a color from there up to another, for which there is memory.
+#[inline(always)]
+fn fill_both(pixels: &mut Vec<[u8; 4]>, from: usize, background: [u8; 4], to: usize, color: [u8; 4])
+    requires side { to ≤ 1000000 }
+    requires beyond { length pixels.old.items ≤ from }
+    requires ordered { from ≤ to }
+    requires memory { to ≤ vec_capacity pixels.old }
+    ensures ok { pixels.new.items
+        ≡ pixels.old.items ++ replicate (from - length pixels.old.items) background
+        ++ replicate (to - from) color }
+    ensures capacity { vec_capacity pixels.old ≤ vec_capacity pixels.new }
+{
+    fill_up(pixels, from, background);
+    fill_up(pixels, to, color);
 }
 
 // Appends pixels of one color up to a column that there is memory for. Where there is memory for them, as
 // many are written as a short stroke has at most, or else eights, so that no branch asks where it ends.
 #[inline(always)]
-fn fill_up(pixels: &mut Vec<[u8; 4]>, columns: usize, color: [u8; 4]) -> AllocResult<()>
+fn fill_up(pixels: &mut Vec<[u8; 4]>, columns: usize, color: [u8; 4])
     requires side { columns ≤ 1000000 }
     requires beyond { length pixels.old.items ≤ columns }
     requires memory { columns ≤ vec_capacity pixels.old }
     ensures filled { pixels.new.items
         ≡ pixels.old.items ++ replicate (columns - length pixels.old.items) color }
     ensures capacity { vec_capacity pixels.old ≤ vec_capacity pixels.new }
-    ensures ok { IsOk result }
 {
     let held = pixels.len();
     let more = columns - held;
@@ -286,25 +331,19 @@ fn fill_up(pixels: &mut Vec<[u8; 4]>, columns: usize, color: [u8; 4]) -> AllocRe
     fill_past(pixels, columns, eights.min(pixels.capacity()), color)
 }
 
-// Appends pixels of one color up to `end`, and takes those off that stand past a column.
+// Appends pixels of one color up to `end`, and takes those off that stand past a column. Memory is never
+// refused, as there is some.
 #[inline(always)]
-fn fill_past(
-    pixels: &mut Vec<[u8; 4]>,
-    columns: usize,
-    end: usize,
-    color: [u8; 4],
-) -> AllocResult<()>
+fn fill_past(pixels: &mut Vec<[u8; 4]>, columns: usize, end: usize, color: [u8; 4])
     requires beyond { length pixels.old.items ≤ columns }
     requires past { columns ≤ end }
     requires memory { end ≤ vec_capacity pixels.old }
     ensures filled { pixels.new.items
         ≡ pixels.old.items ++ replicate (columns - length pixels.old.items) color }
     ensures capacity { vec_capacity pixels.old ≤ vec_capacity pixels.new }
-    ensures ok { IsOk result }
 {
-    pixels.resize(end, color)?;
+    let _grown = pixels.resize(end, color);
     pixels.truncate(columns);
-    Ok(())
 }
 
 // Appends `count` pixels of one color.

@@ -134,7 +134,7 @@ impl TaggedCanvas {
     {
         // Looked at for its invariant, which `bounded` tells.
         let _sheet = &self.sheet;
-        if to - from == 1 && self.held(top) >= to {
+        if self.holds_one(from, to, top) {
             self.column(from, top, bits, color);
             return Ok(());
         }
@@ -176,9 +176,7 @@ impl TaggedCanvas {
         ensures spread { self.new.spread ≡ self.old.spread }
         ensures bounded { IsBounded self.new }
     {
-        // A sixel without a dot paints none. A test here would be a branch.
-        let painted = SIXEL * ((u64::from(bits) + 63) / 64);
-        self.paints = self.paints.saturating_add(painted);
+        self.paints = with_sixel(self.paints, bits);
         self.sheet.column(at, top, bits, color);
     }
 
@@ -216,8 +214,7 @@ impl TaggedCanvas {
         ensures most { self.new.paints ≤ self.old.paints + 1560 }
         ensures spread { self.new.spread ≡ self.old.spread }
     {
-        let settled = if self.tags.height() > top { SETTLED } else { 0 };
-        self.paints = self.paints.saturating_add(FOUR_SIXELS + settled);
+        self.paints = with_four_sixels(self.paints, self.tags.height() > top);
         clear_block(&mut self.sheet, &mut self.tags, top, from);
         self.sheet.dots(from, top, sixels, color);
     }
@@ -293,6 +290,16 @@ impl TaggedCanvas {
         if row >= self.tags.height() {
             return self.sheet.pack_row(bytes, row, 0, width);
         }
+        self.pack_blocks(bytes, row, width)
+    }
+
+    // Appends a row of the picture of this width block by block.
+    fn pack_blocks(&self, bytes: &mut Vec<u8>, row: usize, width: usize) -> AllocResult<()>
+        requires { vec_len bytes.old + 4 * width < 2 ^ 63 }
+        ensures ok { OnOk result (bytes.new.items ≡ bytes.old.items
+            ++ joined (λ column. shown self.now column row) width) }
+        ensures len { OnOk result (vec_len bytes.new ≡ vec_len bytes.old + 4 * width) }
+    {
         'segments: for block in 0..width.div_ceil(BLOCK) {
             self.pack_block(bytes, row, block, BLOCK.min(width - block * BLOCK))?;
         }
@@ -319,6 +326,17 @@ impl TaggedCanvas {
             return self.sheet.pack_row(bytes, row, block * BLOCK, count);
         }
         add_pixels(bytes, count, tag)
+    }
+
+    // Whether these are one column, and the six rows from `top` on hold it and have no tag.
+    #[inline(always)]
+    fn holds_one(&self, from: usize, to: usize, top: usize) -> bool
+        requires { from ≤ to }
+        ensures one { result ≡ true → from + 1 ≡ to }
+        ensures held { result ≡ true → (k : ℕ) → k < 6 → to ≤ reached self.now (top + k) }
+        ensures plain { result ≡ true → self.now.tagged ≤ top }
+    {
+        to - from == 1 && self.held(top) >= to
     }
 
     // Draws a sixel that has dots.
@@ -349,10 +367,8 @@ impl TaggedCanvas {
         ensures spread { self.old.spread ≤ self.new.spread }
         ensures bounded { IsBounded self.new }
     {
-        let columns = to - from;
-        if self.tags.height() <= top && (columns < WIDE || are_bare(&self.sheet, top, from)) {
-            let painted = 6 * columns.min(columns / BLOCK + 2 * BLOCK);
-            self.paints = self.paints.saturating_add(painted as u64);
+        if is_painted_at_once(&self.sheet, &self.tags, from, to, top) {
+            self.paints = with_stroke(self.paints, to - from);
             return self.sheet.draw(from, to, top, bits, color);
         }
         self.draw_over(from, to, top, bits, color)
@@ -388,6 +404,28 @@ impl TaggedCanvas {
         ensures bounded { IsBounded self.new }
     {
         self.sheet.widen(top, columns_struck(bits, to))?;
+        self.strike_held(from, to, top, bits, color);
+        Ok(())
+    }
+
+    // Draws a sixel over rows that hold its columns.
+    fn strike_held(&mut self, from: usize, to: usize, top: usize, bits: u8, color: [u8; 4])
+        requires ordered { from ≤ to }
+        requires within { to ≤ 1000000 }
+        requires above_bottom { top + 6 ≤ 1000000 }
+        requires six { bits < 64 }
+        requires held { (k : ℕ) → is_struck top bits k ≡ true → to ≤ reached self.old k }
+        ensures drawn { (column row : ℕ) → shown self.new column row
+            ≡ (if covers from to top bits column row then color else shown self.old column row) }
+        ensures reached { (k : ℕ) → reached self.new k ≡ reached self.old k }
+        ensures background { self.new.background ≡ self.old.background }
+        ensures least { 0 < bits → counted self.old.paints
+            (least_painted (to - from) + (self.new.spread - self.old.spread)) ≤ self.new.paints }
+        ensures most { is_tag color ≡ true → self.new.paints ≤ self.old.paints
+            + ends_and_tags (to - from) + (self.new.spread - self.old.spread) }
+        ensures spread { self.old.spread ≤ self.new.spread }
+        ensures bounded { IsBounded self.new }
+    {
         let (lazy, paints) = price(&mut self.band, &self.sheet, to - from, top, bits, color);
         self.paints = self.paints.saturating_add(paints);
         strike_rows(
@@ -400,8 +438,49 @@ impl TaggedCanvas {
             color,
             lazy,
         );
-        Ok(())
     }
+}
+
+// The count with a sixel of one column. One without a dot paints nothing, and a test would be a branch.
+#[inline(always)]
+fn with_sixel(paints: u64, bits: u8) -> u64
+    requires { bits < 64 }
+    ensures least { 0 < bits → counted paints 6 ≤ result }
+    ensures most { result ≤ paints + 6 }
+{
+    let painted = SIXEL * ((u64::from(bits) + 63) / 64);
+    paints.saturating_add(painted)
+}
+
+// The count with four sixels, whose rows may have tags.
+#[inline(always)]
+fn with_four_sixels(paints: u64, may_have_tags: bool) -> u64
+    ensures least { counted paints 24 ≤ result }
+    ensures most { result ≤ paints + 1560 }
+{
+    let settled = if may_have_tags { SETTLED } else { 0 };
+    paints.saturating_add(FOUR_SIXELS + settled)
+}
+
+// The count with a stroke that is painted at once.
+fn with_stroke(paints: u64, columns: usize) -> u64
+    requires { columns ≤ 1000000 }
+    ensures least { counted paints (least_painted columns) ≤ result }
+    ensures most { result ≤ paints + ends_and_tags columns }
+{
+    let painted = 6 * columns.min(columns / BLOCK + 2 * BLOCK);
+    paints.saturating_add(painted as u64)
+}
+
+// Whether a stroke over rows without tags is painted at once: it is narrow, or paints over nothing.
+fn is_painted_at_once(sheet: &Canvas, tags: &Canvas, from: usize, to: usize, top: usize) -> bool
+    requires ordered { from ≤ to }
+    requires above_bottom { top + 6 ≤ 1000000 }
+    ensures plain { result ≡ true → length tags.now.rows ≤ top }
+    ensures bare { result ≡ true → 256 ≤ to - from
+        → (k : ℕ) → k < 6 → reached sheet.now (top + k) ≤ from }
+{
+    tags.height() <= top && (to - from < WIDE || are_bare(sheet, top, from))
 }
 
 // Whether none of the six rows from `top` on passes this column, so that a stroke from there on paints
@@ -479,6 +558,19 @@ fn is_spent(band: &mut Band, sheet: &Canvas, columns: usize, top: usize, bits: u
     if top != band.top {
         return true;
     }
+    let (more, held) = asked_and_held(sheet, columns, top, bits);
+    is_past_its_share(band, more, held)
+}
+
+// How many pixels a stroke asks for in six rows, and how many these hold.
+fn asked_and_held(sheet: &Canvas, columns: usize, top: usize, bits: u8) -> (usize, usize)
+    requires within { columns ≤ 1000000 }
+    requires above_bottom { top + 6 ≤ 1000000 }
+    ensures asked { result.0 ≡ total (λ k. if is_set bits k then columns else 0) 6 }
+    ensures held { result.1 ≡ total (λ k. reached sheet.now (top + k)) 6 }
+    ensures few { result.0 ≤ 6000000 }
+    ensures few_held { result.1 ≤ 6000000 }
+{
     let mut more = 0;
     let mut held = 0;
     'rows: for bit in 0..6 {
@@ -487,6 +579,22 @@ fn is_spent(band: &mut Band, sheet: &Canvas, columns: usize, top: usize, bits: u
             more += columns;
         }
     }
+    (more, held)
+}
+
+// Whether a band that paints so much more at once passes three times what its rows hold. Where it does
+// not, that is counted.
+fn is_past_its_share(band: &mut Band, more: usize, held: usize) -> bool
+    requires few { more ≤ 6000000 }
+    requires few_held { held ≤ 6000000 }
+    requires painted { band.old.painted ≤ 18000000 }
+    requires fits { band.old.spread + more < 2 ^ 64 }
+    ensures same { result ≡ true → band.new ≡ band.old }
+    ensures top { band.new.top ≡ band.old.top }
+    ensures painted { result ≡ false → band.new.painted ≡ band.old.painted + more }
+    ensures spread { result ≡ false → band.new.painted ≤ 3 * held }
+    ensures counted { result ≡ false → band.new.spread ≡ band.old.spread + more }
+{
     if band.painted + more > 3 * held {
         return true;
     }

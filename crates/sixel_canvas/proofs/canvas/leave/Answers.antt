@@ -1,52 +1,19 @@
-use Rattle.std.proofs.Common.{◌≡◌, ◌+◌, ◌-◌, refl, add-one, arith}
-use Rattle.sixel_base.specs.Picture.{total}
-use Rattle.sixel_canvas.specs.inside.Loan.{len_at, room_at}
-use Rattle.sixel_canvas.proofs.Loans.{IsLent-left, band-taken, room_at-side}
+use Rattle.std.proofs.Common.{arith}
+use Rattle.sixel_canvas.proofs.Loans.{band-taken, room_at-side}
 use Rattle.sixel_canvas.proofs.canvas.leave.Goals as goal
-use Rattle.sixel_canvas.proofs.canvas.leave.Goals.{then-len-widest, else-len-widest}
 
-pub rows-init : goal.rows-init
-unfolding total
-rows-init c = (refl, refl, omega arith, omega arith, omega arith)
-
-pub rows-preserved : goal.rows-preserved
-unfolding total
-rows-preserved c =
-    let before = c.rows.invariant in
-    let row = c.args.loan.now.top + c.rows.bit in
-    let len = c.sizes-len.ensures.len in
-    let room = c.sizes-len.ensures.room in
-    let side = c.requires.side row in
-    rw add-one (
-      omega (arith, before.0, len),
-      omega (arith, before.1, room),
-      omega (arith, before.2, len, side),
-      omega (arith, before.3, room, room_at-side c.args.rows.now.items c.args.loan.now.top c.args.loan.now.credit c.args.loan.now.room c.requires.lent row (omega arith) side),
-      elim c.if-len-widest.branch [
-        | then-len-widest w ↦ rw w.widest-is (omega (arith, len, side))
-        | else-len-widest w ↦ rw w.widest-is before.4
-      ],
-    )
-
-pub overflow_sub-loan : goal.overflow_sub-loan
-overflow_sub-loan c =
+pub band_sizes-held-requires-clause-room : goal.band_sizes-held-requires-clause-room
+band_sizes-held-requires-clause-room c = λ row begun.
     let loan = c.args.loan.now in
-    let rows = c.args.rows.now.items in
-    let all : c.rows.bit ≡ 6 = omega (arith, c.rows.auto.bit-end, c.rows-test.false) in
-    let held : c.rows.held ≡ total (λ k. len_at rows (loan.top + k)) 6 = rw all at c.rows.invariant.0 in
-    let taken : c.rows.taken ≡ total (λ k. room_at rows (loan.top + k)) 6 = rw all at c.rows.invariant.1 in
-    omega (arith, c.saturating_add.ensures, band-taken rows loan.top loan.credit loan.room c.requires.lent, held, taken, c.rows.invariant.3, all)
+    room_at-side c.args.rows.now.items loan.top loan.credit loan.room c.requires.lent row begun (c.requires.side row)
 
-pub returns : goal.returns
-returns c =
+pub lend-requires-clause-covered : goal.lend-requires-clause-covered
+lend-requires-clause-covered c =
     let loan = c.args.loan.now in
-    let rows = c.args.rows.now.items in
-    let all : c.rows.bit ≡ 6 = omega (arith, c.rows.auto.bit-end, c.rows-test.false) in
-    let held : c.rows.held ≡ total (λ k. len_at rows (loan.top + k)) 6 = rw all at c.rows.invariant.0 in
-    let taken : c.rows.taken ≡ total (λ k. room_at rows (loan.top + k)) 6 = rw all at c.rows.invariant.1 in
-    let most = band-taken rows loan.top loan.credit loan.room c.requires.lent in
-    record {
-      lent = IsLent-left rows loan.top loan.credit loan.room c.args.top c.rows.held c.rows.taken (c.saturating_add.result - c.rows.taken) c.min-loan.result
-          c.requires.lent c.requires.below held taken (omega (arith, c.saturating_add.ensures, most, held, taken, c.rows.invariant.3, all)) (omega (arith, c.min-loan.ensures)) (omega (arith, c.min-loan.ensures, c.rows.invariant.4)) c.requires.above_bottom;
-      top = refl;
-    }
+    let sizes = c.band_sizes-held.ensures in
+    omega (arith, band-taken c.args.rows.now.items loan.top loan.credit loan.room c.requires.lent, sizes.held, sizes.taken)
+
+pub returns-clause-lent : goal.returns-clause-lent
+returns-clause-lent c =
+    let sizes = c.band_sizes-held.ensures in
+    c.lend.ensures.lent c.args.rows.now.items c.requires.lent sizes.held sizes.taken

@@ -41,6 +41,3 @@ returns-clause-bounded c =
     let band = c.self.inside.band in
     let is = IsSpread-grown c.self.inside.sheet next band.top band.painted band.spread c.self.invariant.1 (λ k. omega (arith, c.column.ensures.reached k)) in
     IsBounded-counted next c.self.inside.tags band.top band.painted band.spread _ c.column.ensures.bounded is
-
-pub returns-clause-least : goal.returns-clause-least
-returns-clause-least c = grind arith

@@ -33,9 +33,3 @@ returns-clause-reached c = λ row.
     reached-tagged c.dots.new.self c.clear_block.new.tags row
     ∙ c.dots.ensures.reached row ∙ c.clear_block.ensures.reached row
     ∙ sym (reached-tagged c.self.inside.sheet c.self.inside.tags row) ∙ ap (λ (s : CanvasState). reached s row) c.self.view_is
-
-pub returns-clause-least : goal.returns-clause-least
-returns-clause-least c = grind arith
-
-pub returns-clause-most : goal.returns-clause-most
-returns-clause-most c = grind arith

@@ -6,10 +6,10 @@ use Rattle.sixel_canvas.proofs.Spread.{IsBounded-counted}
 use Rattle.sixel_canvas.proofs.Underway.{reached_held}
 use Rattle.sixel_canvas.proofs.tagged.TaggedCanvas.draw.Goals as goal
 
-pub returns-then-held-to-clause-grown : goal.returns-then-held-to-clause-grown
-returns-then-held-to-clause-grown c = λ row.
+pub returns-then-holds_one-clause-grown : goal.returns-then-holds_one-clause-grown
+returns-then-holds_one-clause-grown c = λ row.
     c.column.ensures.reached row
-    ∙ reached_held c.args.top c.args.bits c.args.to c.args.self.now (λ k six. omega (arith, c.held.ensures.held k six, c.if-held-to.true)) row
+    ∙ reached_held c.args.top c.args.bits c.args.to c.args.self.now (c.holds_one.ensures.held c.if-holds_one.true) row
 
 pub returns-then-bits-eq0-clause-bounded : goal.returns-then-bits-eq0-clause-bounded
 returns-then-bits-eq0-clause-bounded c =
@@ -17,20 +17,19 @@ returns-then-bits-eq0-clause-bounded c =
 
 pub column-requires-clause-held : goal.column-requires-clause-held
 column-requires-clause-held c = λ k six.
-    omega (arith, c.held.ensures.held k six, c.if-held-to.true, c.if-to-from-eq1.true)
+    omega (arith, c.holds_one.ensures.held c.if-holds_one.true k six, c.holds_one.ensures.one c.if-holds_one.true)
 
-pub returns-then-held-to-clause-drawn : goal.returns-then-held-to-clause-drawn
-returns-then-held-to-clause-drawn c = λ column row.
-    let next : c.args.from + 1 ≡ c.args.to =
-    omega (arith, c.if-to-from-eq1.true, c.requires.ordered) in
+pub returns-then-holds_one-clause-drawn : goal.returns-then-holds_one-clause-drawn
+returns-then-holds_one-clause-drawn c = λ column row.
+    let next = c.holds_one.ensures.one c.if-holds_one.true in
     c.column.ensures.drawn column row
     ∙ ap (λ to. if covers c.args.from to c.args.top c.args.bits column row then c.args.color else
     shown c.args.self.now column row) next
 
-pub returns-then-held-to-clause-least : goal.returns-then-held-to-clause-least
-returns-then-held-to-clause-least c = λ some.
-    omega (arith, c.column.ensures.least some, c.column.ensures.spread, c.if-to-from-eq1.true)
+pub returns-then-holds_one-clause-least : goal.returns-then-holds_one-clause-least
+returns-then-holds_one-clause-least c = λ some.
+    omega (arith, c.column.ensures.least some, c.column.ensures.spread, c.holds_one.ensures.one c.if-holds_one.true)
 
-pub returns-then-held-to-clause-most : goal.returns-then-held-to-clause-most
-returns-then-held-to-clause-most c = λ _.
+pub returns-then-holds_one-clause-most : goal.returns-then-holds_one-clause-most
+returns-then-holds_one-clause-most c = λ _.
     omega (arith, c.column.ensures.most, c.column.ensures.spread)

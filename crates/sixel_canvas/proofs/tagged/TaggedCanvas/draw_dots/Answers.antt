@@ -9,8 +9,8 @@ use Rattle.sixel_canvas.proofs.Tags.{IsTagged-grown, reached-tagged, shown-tagge
 use Rattle.sixel_canvas.proofs.Spread.{IsBounded-counted, IsSpread-grown}
 use Rattle.sixel_canvas.proofs.tagged.TaggedCanvas.draw_dots.Goals as goal
 
-pub returns-then-are_bare-clause-drawn : goal.returns-then-are_bare-clause-drawn
-returns-then-are_bare-clause-drawn c =
+pub returns-then-is_painted_at_once-clause-drawn : goal.returns-then-is_painted_at_once-clause-drawn
+returns-then-is_painted_at_once-clause-drawn c =
     let sheet = c.self.inside.sheet in
     let next = c.draw.new.self in
     let tags = c.self.inside.tags in
@@ -19,12 +19,12 @@ returns-then-are_bare-clause-drawn c =
     let covered = covers c.args.from c.args.to c.args.top c.args.bits column row in
     shown-tagged next tags is column row
     ∙ ap (under (shown tags (column / 128) row)) (drawn column row)
-    ∙ under-covered c.args.from c.args.to c.args.top c.args.bits column row c.args.color sheet tags c.self.invariant.0 (omega (arith, c.if-height-top.true, c.height.ensures))
+    ∙ under-covered c.args.from c.args.to c.args.top c.args.bits column row c.args.color sheet tags c.self.invariant.0 (c.is_painted_at_once.ensures.plain c.if-is_painted_at_once.true)
     ∙ ap (λ p. if covered then c.args.color else p) (sym (shown-tagged sheet tags c.self.invariant.0 column row) ∙ ap (λ (s : CanvasState). shown s column row) c.self.view_is))
     c.draw.ensures.drawn
 
-pub returns-then-are_bare-clause-grown : goal.returns-then-are_bare-clause-grown
-returns-then-are_bare-clause-grown c =
+pub returns-then-is_painted_at_once-clause-grown : goal.returns-then-is_painted_at_once-clause-grown
+returns-then-is_painted_at_once-clause-grown c =
     let sheet = c.self.inside.sheet in
     let tags = c.self.inside.tags in
     on_ok_weaker c.draw.result (λ grown row.
@@ -33,8 +33,8 @@ returns-then-are_bare-clause-grown c =
     ∙ ap (λ n. if is_struck c.args.top c.args.bits row then max n c.args.to else n) before)
     c.draw.ensures.grown
 
-pub returns-then-are_bare-clause-held : goal.returns-then-are_bare-clause-held
-returns-then-are_bare-clause-held c = λ some held.
+pub returns-then-is_painted_at_once-clause-held : goal.returns-then-is_painted_at_once-clause-held
+returns-then-is_painted_at_once-clause-held c = λ some held.
     let sheet = c.self.inside.sheet in
     let tags = c.self.inside.tags in
     c.draw.ensures.held some (λ k six.
@@ -49,30 +49,28 @@ invariant_of-self c =
       IsSpread-grown sheet c.draw.new.self band.top band.painted band.spread c.self.invariant.1 c.draw.ensures.never_less,
     )
 
-pub returns-then-are_bare-clause-bounded : goal.returns-then-are_bare-clause-bounded
-returns-then-are_bare-clause-bounded c =
+pub returns-then-is_painted_at_once-clause-bounded : goal.returns-then-is_painted_at_once-clause-bounded
+returns-then-is_painted_at_once-clause-bounded c =
     let band = c.self.inside.band in
     let is = IsSpread-grown c.self.inside.sheet c.draw.new.self band.top band.painted band.spread c.self.invariant.1 c.draw.ensures.never_less in
     IsBounded-counted c.draw.new.self c.self.inside.tags band.top band.painted band.spread _ c.draw.ensures.bounded is
 
-pub returns-then-are_bare-clause-least : goal.returns-then-are_bare-clause-least
-returns-then-are_bare-clause-least c =
+pub returns-then-is_painted_at_once-clause-least : goal.returns-then-is_painted_at_once-clause-least
+returns-then-is_painted_at_once-clause-least c =
     on_ok_weaker c.draw.result
     (λ _ _. omega (
       arith,
-      c.saturating_add-self-inside.ensures,
-      c.min-painted.ensures,
+      c.with_stroke-self-inside.ensures.least,
       ap (λ (s : CanvasState). s.paints) c.self.view_is,
       ap (λ (s : CanvasState). s.spread)
           c.self.view_is,
     )) c.draw.ensures.drawn
 
-pub returns-then-are_bare-clause-most : goal.returns-then-are_bare-clause-most
-returns-then-are_bare-clause-most c = λ _.
+pub returns-then-is_painted_at_once-clause-most : goal.returns-then-is_painted_at_once-clause-most
+returns-then-is_painted_at_once-clause-most c = λ _.
     omega (
       arith,
-      c.saturating_add-self-inside.ensures,
-      c.min-painted.ensures,
+      c.with_stroke-self-inside.ensures.most,
       ap (λ (s : CanvasState). s.paints) c.self.view_is,
       ap (λ (s : CanvasState). s.spread)
           c.self.view_is,

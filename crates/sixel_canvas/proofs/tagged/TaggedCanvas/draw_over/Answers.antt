@@ -3,7 +3,7 @@ use Rattle.std.specs.Prelude.{if◌then◌else◌}
 use Rattle.std.proofs.lemmas.Bool.{cases_Bool, true≢false}
 use Rattle.sixel_base.specs.Picture.{covers, is_set, is_struck}
 use Rattle.sixel_canvas.specs.inside.Canvas.{CanvasState, reached, shown}
-use Rattle.sixel_canvas.specs.inside.Tags.{seen, under}
+use Rattle.sixel_canvas.specs.inside.Tags.{under}
 use Rattle.sixel_canvas.proofs.Spread.{IsBounded-counted, IsSpread-grown}
 use Rattle.sixel_canvas.proofs.Tagging.{struck_columns}
 use Rattle.sixel_canvas.proofs.Tags.{IsTagged-grown, reached-tagged, shown-tagged}
@@ -11,6 +11,14 @@ use Rattle.sixel_canvas.proofs.tagged.TaggedCanvas.draw_over.Goals as goal
 
 pub invariant_of-self : goal.invariant_of-self
 invariant_of-self c =
+    let canvas = c.self.inside in
+    let band = canvas.band in (
+      IsTagged-grown canvas.sheet c.widen.new.self canvas.tags c.self.invariant.0 c.widen.ensures.bounded c.widen.ensures.never_less,
+      IsSpread-grown canvas.sheet c.widen.new.self band.top band.painted band.spread c.self.invariant.1 c.widen.ensures.never_less,
+    )
+
+pub invariant_of-self-2 : goal.invariant_of-self-2
+invariant_of-self-2 c =
     let canvas = c.self.inside in
     let band = canvas.band in (
       IsTagged-grown canvas.sheet c.widen.new.self canvas.tags c.self.invariant.0 c.widen.ensures.bounded c.widen.ensures.never_less,
@@ -37,42 +45,6 @@ returns-in_err-widen-clause-bounded c =
     let is = IsSpread-grown canvas.sheet c.widen.new.self band.top band.painted band.spread c.self.invariant.1 c.widen.ensures.never_less in
     IsBounded-counted c.widen.new.self canvas.tags band.top band.painted band.spread canvas.paints c.widen.ensures.bounded is
 
-pub price-lazy-requires-clause-spread : goal.price-lazy-requires-clause-spread
-price-lazy-requires-clause-spread c =
-    let canvas = c.self.inside in
-    let band = canvas.band in
-    IsSpread-grown canvas.sheet c.widen.new.self band.top band.painted band.spread c.self.invariant.1 c.widen.ensures.never_less
-
-pub returns-clause-drawn : goal.returns-clause-drawn
-returns-clause-drawn c = λ column row.
-    let canvas = c.self.inside in
-    let struck = c.strike_rows in
-    let before : seen c.widen.new.self canvas.tags column row ≡ shown c.args.self.now column row =
-    ap (under (shown canvas.tags (column / 128) row)) (c.in_ok-widen.ensures.shown column row)
-    ∙ sym (shown-tagged canvas.sheet canvas.tags c.self.invariant.0 column row)
-    ∙ ap (λ (s : CanvasState). shown s column row) c.self.view_is in
-    shown-tagged struck.new.sheet struck.new.tags struck.ensures.tagged column row
-    ∙ struck.ensures.drawn column row
-    ∙ ap (λ p. if covers c.args.from c.args.to c.args.top c.args.bits column row then c.args.color else p) before
-
-pub returns-clause-grown : goal.returns-clause-grown
-returns-clause-grown c = λ row.
-    let canvas = c.self.inside in
-    let struck = c.strike_rows in
-    let before : reached canvas.sheet row ≡ reached c.args.self.now row =
-    sym (reached-tagged canvas.sheet canvas.tags row) ∙ ap (λ (s : CanvasState). reached s row) c.self.view_is in
-    reached-tagged struck.new.sheet struck.new.tags row
-    ∙ struck.ensures.reached row ∙ c.in_ok-widen.ensures.grown row
-    ∙ struck_columns c.args.top c.args.bits c.args.to row (reached canvas.sheet row) c.columns_struck.result c.columns_struck.ensures
-    ∙ ap (λ n. if is_struck c.args.top c.args.bits row then max n c.args.to else n) before
-
-pub returns-clause-bounded : goal.returns-clause-bounded
-returns-clause-bounded c =
-    let struck = c.strike_rows in
-    let band = c.price-lazy.new.band in
-    let is = IsSpread-grown c.widen.new.self struck.new.sheet band.top band.painted band.spread c.price-lazy.ensures.spread (λ k. omega (arith, struck.ensures.reached k)) in
-    IsBounded-counted struck.new.sheet struck.new.tags band.top band.painted band.spread _ struck.ensures.tagged.bounded is
-
 pub widen-requires-clause-within : goal.widen-requires-clause-within
 widen-requires-clause-within c = λ k six.
     let is = c.columns_struck.ensures k six in
@@ -81,47 +53,35 @@ widen-requires-clause-within c = λ k six.
       | inr miss ↦ omega (arith, rw miss at is)
     ]
 
-pub strike_rows-requires-clause-held : goal.strike_rows-requires-clause-held
-strike_rows-requires-clause-held c = λ k hit.
+pub strike_held-requires-clause-held : goal.strike_held-requires-clause-held
+strike_held-requires-clause-held c = λ k hit.
     let wide = c.in_ok-widen.ensures.grown k
     ∙ struck_columns c.args.top c.args.bits c.args.to k (reached c.self.inside.sheet k)
     c.columns_struck.result c.columns_struck.ensures in
-    omega (arith, rw hit at wide)
+    omega (arith, rw hit at wide, reached-tagged c.widen.new.self c.self.inside.tags k)
 
-pub invariant_of-self-2 : goal.invariant_of-self-2
-invariant_of-self-2 c =
-    let struck = c.strike_rows in
-    let band = c.price-lazy.new.band in (
-      struck.ensures.tagged,
-      IsSpread-grown c.widen.new.self struck.new.sheet band.top band.painted band.spread
-          c.price-lazy.ensures.spread (λ k. omega (arith, struck.ensures.reached k)),
-    )
+pub returns-clause-drawn : goal.returns-clause-drawn
+returns-clause-drawn c = λ column row.
+    let canvas = c.self.inside in
+    let next = c.widen.new.self in
+    let wide = IsTagged-grown canvas.sheet next canvas.tags c.self.invariant.0 c.widen.ensures.bounded c.widen.ensures.never_less in
+    let before = shown-tagged next canvas.tags wide column row
+    ∙ ap (under (shown canvas.tags (column / 128) row)) (c.in_ok-widen.ensures.shown column row)
+    ∙ sym (shown-tagged canvas.sheet canvas.tags c.self.invariant.0 column row)
+    ∙ ap (λ (s : CanvasState). shown s column row) c.self.view_is in
+    c.strike_held.ensures.drawn column row
+    ∙ ap (λ p. if covers c.args.from c.args.to c.args.top c.args.bits column row then c.args.color else p) before
 
-pub returns-clause-least : goal.returns-clause-least
-returns-clause-least c = λ _.
-    omega (
-      arith,
-      c.saturating_add-self-inside.ensures,
-      c.price-lazy.ensures.least,
-      ap (λ (s : CanvasState). s.paints) c.self.view_is,
-      ap (λ (s : CanvasState). s.spread)
-          c.self.view_is,
-    )
-
-pub returns-clause-most : goal.returns-clause-most
-returns-clause-most c = λ tag.
-    omega (
-      arith,
-      c.saturating_add-self-inside.ensures,
-      c.price-lazy.ensures.most tag,
-      ap (λ (s : CanvasState). s.paints) c.self.view_is,
-      ap (λ (s : CanvasState). s.spread)
-          c.self.view_is,
-    )
-
-pub returns-clause-spread : goal.returns-clause-spread
-returns-clause-spread c =
-    omega (arith, c.price-lazy.ensures.more, ap (λ (s : CanvasState). s.spread) c.self.view_is)
+pub returns-clause-grown : goal.returns-clause-grown
+returns-clause-grown c = λ row.
+    let canvas = c.self.inside in
+    let before : reached canvas.sheet row ≡ reached c.args.self.now row =
+    sym (reached-tagged canvas.sheet canvas.tags row) ∙ ap (λ (s : CanvasState). reached s row) c.self.view_is in
+    c.strike_held.ensures.reached row
+    ∙ reached-tagged c.widen.new.self canvas.tags row
+    ∙ c.in_ok-widen.ensures.grown row
+    ∙ struck_columns c.args.top c.args.bits c.args.to row (reached canvas.sheet row) c.columns_struck.result c.columns_struck.ensures
+    ∙ ap (λ n. if is_struck c.args.top c.args.bits row then max n c.args.to else n) before
 
 pub returns-in_err-widen-clause-most : goal.returns-in_err-widen-clause-most
 returns-in_err-widen-clause-most c = λ _.

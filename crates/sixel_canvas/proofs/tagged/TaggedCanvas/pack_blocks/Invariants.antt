@@ -1,7 +1,7 @@
 use Rattle.std.proofs.Common.{◌≡◌, ◌+◌, ◌*◌, ◌++◌, min, vec_len}
 use Rattle.sixel_base.specs.Picture.{joined}
 use Rattle.sixel_canvas.specs.inside.Canvas.{shown}
-use Rattle.sixel_canvas.proofs.tagged.TaggedCanvas.pack_row.Given as goal
+use Rattle.sixel_canvas.proofs.tagged.TaggedCanvas.pack_blocks.Given as goal
 
 abbrev pub invariant-segments : goal.invariant-segments
 invariant-segments l =
