@@ -2,7 +2,8 @@ pub mod Loans
 pub mod Mixing
 pub mod OneRow
 pub mod Pixels
-pub mod RowStates
+pub mod Results
+mod RowStates
 pub mod Spans
 pub mod Spread
 pub mod Strokes

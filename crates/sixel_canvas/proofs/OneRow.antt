@@ -1,8 +1,7 @@
 -- A canvas of which one row was changed.
 use Rattle.std.proofs.Common.{◌≡◌, ℕ, ◌<◌, ◌≤◌, max, List, All, length, get_or, ap, ◌∙◌, inl, inr, length-set, get_or-set_same, get_or-set_other, eq-eqb, arith}
 use Rattle.std.proofs.Math.ListN.{set}
-use Rattle.std.specs.Prelude.{◌==◌, if◌then◌else◌, OnErr, OnOk}
-use Rattle.std.proofs.Common.{Result, Ok, Err}
+use Rattle.std.specs.Prelude.{◌==◌, if◌then◌else◌}
 use Rattle.std.proofs.lemmas.Bool.{cases_eq, cases_lt, ne_eqb}
 use Rattle.std.proofs.lemmas.List.Elements.{All-set}
 use Rattle.std.proofs.lemmas.List.{get_or_past}
@@ -66,8 +65,3 @@ pub length-row_reached : (first columns row : ℕ) (rows next : List RowState) (
 length-row_reached first columns row rows next background changed inside k =
     let empty = empty_row background in
     widened_length (k == row) first columns (get_or rows k empty) (get_or next k empty) (get_or-row_set (lent_to first columns) row rows next empty changed inside k)
-
--- what follows both where a call has done its work and where it was refused
-pub on_either : {T E A B C D : Type 0} (r : Result T E) → OnOk r A → OnOk r B → OnErr r C → (A → B → D) → (C → D) → D
-on_either (Ok x) first second refused done kept = done first second
-on_either (Err e) first second refused done kept = kept refused

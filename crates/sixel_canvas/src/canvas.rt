@@ -110,7 +110,8 @@ impl Canvas {
         ensures bounded { IsBounded self.new }
     {
         self.go_up(top);
-        self.draw_down(from, to, top, bits, color)
+        self.begin_band(top)?;
+        self.strike_band(from, to, top, bits, color)
     }
 
     /// How many columns each of the six rows from `top` on holds, from the left.
@@ -199,7 +200,8 @@ impl Canvas {
         ensures bounded { IsBounded self.new }
     {
         self.go_up(top);
-        self.widen_down(top, columns)
+        self.begin_band(top)?;
+        self.widen_band(top, columns)
     }
 
     /// How many pixels were copied or filled so far, to grow the rows. Painting doesn't count, nor
@@ -322,9 +324,28 @@ impl Canvas {
         }
     }
 
-    // Draws as [`Canvas::draw`] does, where the band does not begin below.
+    // Makes the six rows from `top` on, and goes on to their band, where none begins below.
     #[inline(always)]
-    fn draw_down(
+    fn begin_band(&mut self, top: usize) -> AllocResult<()>
+        requires above_bottom { top + 6 ≤ 1000000 }
+        requires band { self.old.band ≤ top }
+        ensures shown { (column row : ℕ) → shown self.new column row ≡ shown self.old column row }
+        ensures reached { (row : ℕ) → reached self.new row ≡ reached self.old row }
+        ensures background { self.new.background ≡ self.old.background }
+        ensures band { self.new.band ≤ top }
+        ensures made { OnOk result (top + 6 ≤ length self.new.rows) }
+        ensures held { 0 < reached self.old (top + 5) → IsOk result }
+        ensures bounded { IsBounded self.new }
+    {
+        let background = self.background;
+        make_rows(&mut self.rows, top + 6, background)?;
+        enter(&mut self.loan, &self.rows, top);
+        Ok(())
+    }
+
+    // Draws as [`Canvas::draw`] does, where the band was begun.
+    #[inline(always)]
+    fn strike_band(
         &mut self,
         from: usize,
         to: usize,
@@ -337,6 +358,7 @@ impl Canvas {
         requires above_bottom { top + 6 ≤ 1000000 }
         requires six { bits < 64 }
         requires band { self.old.band ≤ top }
+        requires made { top + 6 ≤ length self.old.rows }
         ensures drawn { OnOk result ((column row : ℕ) → shown self.new column row
             ≡ (if covers from to top bits column row then color else shown self.old column row)) }
         ensures grown { OnOk result ((row : ℕ) → reached self.new row ≡ (if is_struck top bits row
@@ -347,9 +369,6 @@ impl Canvas {
             → IsOk result }
         ensures bounded { IsBounded self.new }
     {
-        let background = self.background;
-        make_rows(&mut self.rows, top + 6, background)?;
-        enter(&mut self.loan, &self.rows, top);
         'struck: for bit in 0..6 {
             if (bits >> bit) % 2 == 1 {
                 strike(&mut self.rows, self.loan, top + bit, from, to, color)?;
@@ -358,12 +377,13 @@ impl Canvas {
         Ok(())
     }
 
-    // Widens as [`Canvas::widen`] does, where the band does not begin below.
+    // Widens as [`Canvas::widen`] does, where the band was begun.
     #[inline(always)]
-    fn widen_down(&mut self, top: usize, columns: [usize; 6]) -> AllocResult<()>
+    fn widen_band(&mut self, top: usize, columns: [usize; 6]) -> AllocResult<()>
         requires within { (k : ℕ) → k < 6 → slice_index columns k ≤ 1000000 }
         requires above_bottom { top + 6 ≤ 1000000 }
         requires band { self.old.band ≤ top }
+        requires made { top + 6 ≤ length self.old.rows }
         ensures shown { OnOk result ((column row : ℕ) → shown self.new column row
             ≡ shown self.old column row) }
         ensures grown { OnOk result ((row : ℕ) → reached self.new row
@@ -376,9 +396,6 @@ impl Canvas {
             → max 1 (slice_index columns k) ≤ reached self.old (top + k)) → IsOk result }
         ensures bounded { IsBounded self.new }
     {
-        let background = self.background;
-        make_rows(&mut self.rows, top + 6, background)?;
-        enter(&mut self.loan, &self.rows, top);
         'widened: for bit in 0..6 {
             reach(&mut self.rows, self.loan, top + bit, columns[bit])?;
         }

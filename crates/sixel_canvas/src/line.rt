@@ -1,6 +1,6 @@
 //! The pixels of a row of the canvas, which take more room where they are too many.
 ghost use Rattle.std.specs.Prelude.{◌≡◌, ◌+◌, ◌-◌, ◌*◌, ◌^◌, ◌<◌, ◌≤◌, ◌==◌, ◌++◌, ◌∷◌, []};
-ghost use Rattle.std.specs.Prelude.{length, max, nat_lt, if◌then◌else◌, take, drop, replicate, slice_index_or};
+ghost use Rattle.std.specs.Prelude.{length, max, nat_lt, true, if◌then◌else◌, take, drop, replicate, slice_index_or};
 ghost use Rattle.std.specs.Prelude.{vec_len, vec_capacity, IfOk, IsOk, OnErr, OnOk};
 ghost use Rattle.sixel_base.specs.Picture.{joined};
 ghost use Rattle.sixel_canvas.specs.Row.{empty_row, painted};
@@ -267,7 +267,9 @@ fn make_room(
     if columns <= room {
         return Ok(room);
     }
-    take_room(pixels, greater_room(columns, room, lent))
+    let room = greater_room(columns, room, lent);
+    take_room(pixels, room)?;
+    Ok(room)
 }
 
 // The room of a row that has too little for so many columns: the greatest of these, of what is lent and of
@@ -280,19 +282,16 @@ fn greater_room(columns: usize, room: usize, lent: usize) -> usize
     columns.max(lent.max(MAX_SIDE.min(2 * room)))
 }
 
-// Makes memory for so many pixels, and answers how many.
-fn take_room(pixels: &mut Vec<[u8; 4]>, room: usize) -> AllocResult<usize>
+// Makes memory for so many pixels.
+fn take_room(pixels: &mut Vec<[u8; 4]>, room: usize) -> AllocResult<()>
     requires side { room ≤ 1000000 }
     requires held { vec_len pixels.old ≤ room }
-    ensures room { IfOk result (λ made. made ≡ room) }
-    ensures enough { IfOk result (λ made. made ≤ vec_capacity pixels.new) }
-    ensures no_more { IfOk result (λ made.
-        vec_capacity pixels.new ≤ max made (vec_capacity pixels.old)) }
+    ensures enough { OnOk result (room ≤ vec_capacity pixels.new) }
+    ensures no_more { OnOk result (vec_capacity pixels.new ≤ max room (vec_capacity pixels.old)) }
     ensures items { pixels.new.items ≡ pixels.old.items }
     ensures never_less { vec_capacity pixels.old ≤ vec_capacity pixels.new }
 {
-    pixels.reserve_exact(room - pixels.len())?;
-    Ok(room)
+    pixels.reserve_exact(room - pixels.len())
 }
 
 // Appends background up to one column and a color from there up to another, for which there is memory.
@@ -323,12 +322,36 @@ fn fill_up(pixels: &mut Vec<[u8; 4]>, columns: usize, color: [u8; 4])
     ensures capacity { vec_capacity pixels.old ≤ vec_capacity pixels.new }
 {
     let held = pixels.len();
-    let more = columns - held;
-    if more <= SHORT && pixels.capacity() - held >= SHORT {
+    let capacity = pixels.capacity();
+    if is_short(held, columns, capacity) {
         return fill_past(pixels, columns, held + SHORT, color);
     }
-    let eights = held + more.div_ceil(8) * 8;
-    fill_past(pixels, columns, eights.min(pixels.capacity()), color)
+    let end = end_of_eights(held, columns, capacity);
+    fill_past(pixels, columns, end, color)
+}
+
+// Whether a row that holds so many is filled by a short stroke, and has memory for the longest of these.
+#[inline(always)]
+fn is_short(held: usize, columns: usize, capacity: usize) -> bool
+    requires beyond { held ≤ columns }
+    requires held { held ≤ capacity }
+    ensures past { result ≡ true → columns ≤ held + 16 }
+    ensures memory { result ≡ true → held + 16 ≤ capacity }
+{
+    columns - held <= SHORT && capacity - held >= SHORT
+}
+
+// Where whole eights end that reach a column, or the memory where that ends before.
+#[inline(always)]
+fn end_of_eights(held: usize, columns: usize, capacity: usize) -> usize
+    requires side { columns ≤ 1000000 }
+    requires beyond { held ≤ columns }
+    requires enough { columns ≤ capacity }
+    ensures past { columns ≤ result }
+    ensures memory { result ≤ capacity }
+{
+    let eights = held + (columns - held).div_ceil(8) * 8;
+    eights.min(capacity)
 }
 
 // Appends pixels of one color up to `end`, and takes those off that stand past a column. Memory is never
@@ -356,8 +379,7 @@ pub(super) fn add_pixels(bytes: &mut Vec<u8>, count: usize, color: [u8; 4]) -> A
     ensures capacity { vec_capacity bytes.old ≤ vec_capacity bytes.new }
 {
     if count == 1 {
-        bytes.extend_from_slice(&color)?;
-        return Ok(());
+        return bytes.extend_from_slice(&color);
     }
     let start = bytes.len();
     bytes.resize(start + 4 * count, 0)?;

@@ -4,7 +4,7 @@ ghost use Rattle.sixel_base.specs.declared.error.SixelError.TheVariants.{OutOfMe
 ghost use Rattle.sixel_canvas.specs.Row.{IsThrifty, empty_row, painted, reached_to};
 
 use crate::line::Line;
-use sixel_base::Result;
+use sixel_base::{Result, SixelError};
 use std::alloc::Global;
 use std::marker::Model;
 
@@ -51,8 +51,7 @@ impl Row {
         ensures error { IfErr result (λ e. e ≡ OutOfMemory) }
         ensures thrifty { IsThrifty self.new }
     {
-        self.line.reach(columns, 0)?;
-        Ok(())
+        self.line.reach(columns, 0).map_err(SixelError::from)
     }
 
     /// Gives one color to the columns from `from` up to before `to`.

@@ -12,7 +12,7 @@ ghost use Rattle.sixel_canvas.specs.inside.Tags.{is_tag, lies_in, seen, IsTagged
 
 use crate::canvas::Canvas;
 use crate::line::{AllocResult, add_pixels};
-use sixel_base::Result;
+use sixel_base::{Result, SixelError};
 use sixel_base::limits::MAX_SIDE;
 use std::alloc::Global;
 use std::marker::Model;
@@ -141,8 +141,8 @@ impl TaggedCanvas {
         if bits == 0 {
             return Ok(());
         }
-        self.draw_dots(from, to, top, bits, color)?;
-        Ok(())
+        self.draw_dots(from, to, top, bits, color)
+            .map_err(SixelError::from)
     }
 
     /// How many columns each of the six rows from `top` on holds, from the left.
@@ -236,8 +236,7 @@ impl TaggedCanvas {
         ensures spread { self.new.spread ≡ self.old.spread }
         ensures error { IfErr result (λ e. e ≡ OutOfMemory) }
     {
-        self.sheet.widen(top, columns)?;
-        Ok(())
+        self.sheet.widen(top, columns).map_err(SixelError::from)
     }
 
     /// The bytes of the picture of this size: red, green, blue and alpha a pixel, row by row from
@@ -322,10 +321,10 @@ impl TaggedCanvas {
         ensures len { OnOk result (vec_len bytes.new ≡ vec_len bytes.old + 4 * count) }
     {
         let tag = self.tags.pixel(block, row);
-        if tag[3] == 0 {
-            return self.sheet.pack_row(bytes, row, block * BLOCK, count);
+        if can_be_seen(tag) {
+            return add_pixels(bytes, count, tag);
         }
-        add_pixels(bytes, count, tag)
+        self.sheet.pack_row(bytes, row, block * BLOCK, count)
     }
 
     // Whether these are one column, and the six rows from `top` on hold it and have no tag.
@@ -441,6 +440,13 @@ impl TaggedCanvas {
     }
 }
 
+// Whether a color can be seen, as that of a tag has to be.
+fn can_be_seen(color: [u8; 4]) -> bool
+    ensures { result ≡ is_tag color }
+{
+    color[3] > 0
+}
+
 // The count with a sixel of one column. One without a dot paints nothing, and a test would be a branch.
 #[inline(always)]
 fn with_sixel(paints: u64, bits: u8) -> u64
@@ -532,7 +538,7 @@ fn price(
         → result.1 ≡ ends_and_tags columns + (band.new.spread - band.old.spread) }
 {
     let ends_and_tags = 6 * (columns / BLOCK + 2 * BLOCK);
-    if color[3] == 0 {
+    if !can_be_seen(color) {
         return (false, (ends_and_tags + 6 * columns) as u64);
     }
     let before = band.spread;
@@ -755,7 +761,7 @@ fn settle(sheet: &mut Canvas, tags: &mut Canvas, row: usize, block: usize, from:
     ensures tagged { IsTagged sheet.new tags.new }
 {
     let tag = tags.pixel(block, row);
-    if tag[3] == 0 {
+    if !can_be_seen(tag) {
         return;
     }
     let start = block * BLOCK;

@@ -5,8 +5,8 @@ use Rattle.sixel_base.specs.Picture.{is_set}
 use Rattle.sixel_canvas.proofs.Spread.{total-bounded}
 use Rattle.sixel_canvas.proofs.tagged.price.Goals as goal
 
-pub returns-then-color-eq0-clause-painted : goal.returns-then-color-eq0-clause-painted
-returns-then-color-eq0-clause-painted c = λ painted.
+pub returns-then-not-can_be_seen-clause-painted : goal.returns-then-not-can_be_seen-clause-painted
+returns-then-not-can_be_seen-clause-painted c = λ painted.
     let columns = c.args.columns in
     let row = λ (k : ℕ). if is_set c.args.bits k then columns else 0 in
     let each : (k : ℕ) → row k ≤ columns = λ k. elim (cases_Bool (is_set c.args.bits k)) [

@@ -1,26 +1,23 @@
-use Rattle.std.proofs.Common.{◌+◌, ◌<◌, inl, inr, get_or, refl, sym, ap, ◌∙◌, arith}
-use Rattle.std.proofs.lemmas.Bool.{cases_lt, le-ltb, lt-ltb, true≢false}
+use Rattle.std.proofs.Common.{◌+◌, ◌<◌, inl, inr, refl, sym, ap, ◌∙◌, arith}
+use Rattle.std.proofs.lemmas.Bool.{cases_lt, true≢false}
 use Rattle.sixel_canvas.specs.inside.Canvas.{reached, shown}
 use Rattle.sixel_canvas.specs.inside.Tags.{is_tag, no_tag}
 use Rattle.sixel_canvas.proofs.Tagging.{drawn_in, fewer-taken_off, none_past, settled_seen}
 use Rattle.sixel_canvas.proofs.Tags.{IsTagged-fewer, IsTagged-grown}
 use Rattle.sixel_canvas.proofs.tagged.settle.Goals as goal
 
-pub returns-then-tag-eq0-clause-settled : goal.returns-then-tag-eq0-clause-settled
-returns-then-tag-eq0-clause-settled c =
-    ap is_tag (sym c.pixel-tag.ensures)
-    ∙ le-ltb 0 (get_or c.pixel-tag.result 3 0) (omega (arith, c.if-tag-eq0.true))
+pub returns-then-not-can_be_seen-clause-settled : goal.returns-then-not-can_be_seen-clause-settled
+returns-then-not-can_be_seen-clause-settled c =
+    ap is_tag (sym c.pixel-tag.ensures) ∙ sym c.can_be_seen.ensures ∙ c.if-not-can_be_seen.true
 
 pub fill_row-requires-clause-held : goal.fill_row-requires-clause-held
 fill_row-requires-clause-held c = λ _.
-    let some : 0 < get_or c.pixel-tag.result 3 0 = omega (arith, c.if-tag-eq0.false) in
-    let hit = ap is_tag (sym c.pixel-tag.ensures) ∙ lt-ltb 0 (get_or c.pixel-tag.result 3 0) some in
+    let hit = ap is_tag (sym c.pixel-tag.ensures) ∙ sym c.can_be_seen.ensures ∙ c.if-not-can_be_seen.false in
     omega (arith, c.requires.tagged.whole c.args.block c.args.row hit, c.clamp.ensures)
 
 pub fill_row-requires-2-clause-held : goal.fill_row-requires-2-clause-held
 fill_row-requires-2-clause-held c = λ _.
-    let some : 0 < get_or c.pixel-tag.result 3 0 = omega (arith, c.if-tag-eq0.false) in
-    let hit = ap is_tag (sym c.pixel-tag.ensures) ∙ lt-ltb 0 (get_or c.pixel-tag.result 3 0) some in
+    let hit = ap is_tag (sym c.pixel-tag.ensures) ∙ sym c.can_be_seen.ensures ∙ c.if-not-can_be_seen.false in
     omega (
       arith,
       c.requires.tagged.whole c.args.block c.args.row hit,
@@ -31,8 +28,7 @@ fill_row-requires-2-clause-held c = λ _.
 pub fill_row-requires-3-clause-held : goal.fill_row-requires-3-clause-held
 fill_row-requires-3-clause-held c = λ _.
     let tags = c.args.tags.now in
-    let some : 0 < get_or c.pixel-tag.result 3 0 = omega (arith, c.if-tag-eq0.false) in
-    let hit = ap is_tag (sym c.pixel-tag.ensures) ∙ lt-ltb 0 (get_or c.pixel-tag.result 3 0) some in
+    let hit = ap is_tag (sym c.pixel-tag.ensures) ∙ sym c.can_be_seen.ensures ∙ c.if-not-can_be_seen.false in
     elim (cases_lt c.args.block (reached tags c.args.row)) [
       | inl inside ↦ omega (arith, inside)
       | inr past ↦ absurd (true≢false (sym hit
@@ -41,14 +37,13 @@ fill_row-requires-3-clause-held c = λ _.
 
 pub returns-clause-seen : goal.returns-clause-seen
 returns-clause-seen c =
-    let some : 0 < get_or c.pixel-tag.result 3 0 = omega (arith, c.if-tag-eq0.false) in
     settled_seen c.args.row c.args.block c.args.from c.args.to c.clamp.result c.clamp-2.result
     c.pixel-tag.result
     (shown c.args.sheet.now) (shown c.fill_row.new.self) (shown c.fill_row-2.new.self)
     (shown c.args.tags.now) (shown c.fill_row-3.new.self)
     (omega (arith, c.clamp.ensures)) (omega (arith, c.clamp.ensures))
     (omega (arith, c.clamp-2.ensures)) (omega (arith, c.clamp-2.ensures, c.requires.ordered))
-    (sym c.pixel-tag.ensures) (lt-ltb 0 (get_or c.pixel-tag.result 3 0) some)
+    (sym c.pixel-tag.ensures) (sym c.can_be_seen.ensures ∙ c.if-not-can_be_seen.false)
     c.fill_row.ensures.drawn c.fill_row-2.ensures.drawn c.fill_row-3.ensures.drawn
 
 pub returns-clause-settled : goal.returns-clause-settled

@@ -6,7 +6,8 @@ use Rattle.sixel_canvas.specs.Row.{RowState, empty_row}
 use Rattle.sixel_canvas.specs.inside.Loan.{lent_to, share}
 use Rattle.sixel_canvas.proofs.RowStates.{length-reached_to}
 use Rattle.sixel_canvas.specs.inside.Canvas.{CanvasState, shown, reached}
-use Rattle.sixel_canvas.proofs.OneRow.{length-row_reached, made_from_reached, on_either, shown-row_reached, sound-row_set}
+use Rattle.sixel_canvas.proofs.OneRow.{length-row_reached, made_from_reached, shown-row_reached, sound-row_set}
+use Rattle.sixel_canvas.proofs.Results.{on_either}
 use Rattle.sixel_canvas.proofs.Loans.{IsBounded-rows, IsLent-made, IsLent-set}
 use Rattle.sixel_canvas.proofs.canvas.Canvas.reach_down.Goals as goal
 

@@ -10,33 +10,17 @@ use Rattle.sixel_canvas.proofs.OneRow.{made_from_reached}
 use Rattle.sixel_canvas.proofs.Loans.{IsBounded-rows, IsLent-made, IsLent-set, len_at-side}
 use Rattle.sixel_canvas.proofs.Underway.{IsUnderway-hit, IsUnderway-none, in_band, in_band-above, in_band-inside, no_less}
 use Rattle.sixel_canvas.proofs.Widening.{reached-widened, shown-widened, widened_at, widened_length}
-use Rattle.sixel_canvas.proofs.canvas.Canvas.widen_down.Goals as goal
-
-pub invariant_of-self : goal.invariant_of-self
-invariant_of-self c =
-    let loan = c.self.inside.loan in (
-      omega (arith, c.make_rows.ensures.few, c.self.invariant.0),
-      c.make_rows.ensures.rows c.self.invariant.1,
-      IsLent-made c.self.inside.background c.self.inside.rows.items c.make_rows.new.rows.items loan.top loan.credit loan.room c.self.invariant.2 c.make_rows.ensures.same,
-    )
-
-pub enter-requires-clause-side : goal.enter-requires-clause-side
-enter-requires-clause-side c = len_at-side c.self.inside.background c.make_rows.new.rows.items (c.make_rows.ensures.rows c.self.invariant.1)
-
-pub enter-requires-clause-lent : goal.enter-requires-clause-lent
-enter-requires-clause-lent c =
-    let loan = c.self.inside.loan in
-    IsLent-made c.self.inside.background c.self.inside.rows.items c.make_rows.new.rows.items loan.top loan.credit loan.room c.self.invariant.2 c.make_rows.ensures.same
+use Rattle.sixel_canvas.proofs.canvas.Canvas.widen_band.Goals as goal
 
 pub widened-init : goal.widened-init
 widened-init c =
     let canvas = c.self.inside in
-    let loan = c.enter.new.loan in (
+    let loan = canvas.loan in (
       rw (← c.self.view_is)
-          (IsUnderway-none (widened_at (share loan.top loan.room) c.args.columns c.args.top) (in_band c.args.top) c.args.top (record { background = canvas.background; rows = canvas.rows.items; band = canvas.loan.top; tagged = 0; paints = 0; spread = 0 }) c.make_rows.new.rows.items
-          (in_band-above c.args.top) (omega (arith, c.in_ok-make_rows.ensures.enough)) (omega (arith, c.make_rows.ensures.few, c.self.invariant.0)) (c.make_rows.ensures.rows c.self.invariant.1) c.make_rows.ensures.same),
-      c.enter.ensures.lent,
-      c.enter.ensures.top (omega (arith, c.requires.band, ap (λ (s : CanvasState). s.band) c.self.view_is)),
+          (IsUnderway-none (widened_at (share loan.top loan.room) c.args.columns c.args.top) (in_band c.args.top) c.args.top (record { background = canvas.background; rows = canvas.rows.items; band = canvas.loan.top; tagged = 0; paints = 0; spread = 0 }) canvas.rows.items
+          (in_band-above c.args.top) (omega (arith, c.requires.made, ap (λ (s : CanvasState). length s.rows) c.self.view_is)) c.self.invariant.0 c.self.invariant.1 (λ _. refl)),
+      c.self.invariant.2,
+      omega (arith, c.requires.band, ap (λ (s : CanvasState). s.band) c.self.view_is),
     )
 
 pub reach-requires-clause-within : goal.reach-requires-clause-within
@@ -74,12 +58,6 @@ returns-clause-grown c =
     reached-widened (share canvas.loan.top canvas.loan.room) c.args.columns c.args.top c.widened.bit c.args.self.now canvas.background canvas.rows.items
     c.widened.invariant.0 c.widened-test.false
 
-pub returns-in_err-make_rows-clause-bounded : goal.returns-in_err-make_rows-clause-bounded
-returns-in_err-make_rows-clause-bounded c =
-    let loan = c.self.inside.loan in
-    IsBounded-rows c.self.inside.background c.make_rows.new.rows.items loan.top loan.credit loan.room (omega (arith, c.make_rows.ensures.few, c.self.invariant.0)) (c.make_rows.ensures.rows c.self.invariant.1)
-    (IsLent-made c.self.inside.background c.self.inside.rows.items c.make_rows.new.rows.items loan.top loan.credit loan.room c.self.invariant.2 c.make_rows.ensures.same)
-
 pub returns-in_err-reach-clause-bounded : goal.returns-in_err-reach-clause-bounded
 returns-in_err-reach-clause-bounded c =
     let before = c.widened.invariant.0 in
@@ -92,16 +70,8 @@ returns-clause-bounded c =
     let loan = c.widened.self-inside.loan in
     rw done.over (IsBounded-rows c.args.self.now.background c.widened.self-inside.rows.items loan.top loan.credit loan.room done.few done.sound c.widened.invariant.1)
 
-pub returns-in_err-make_rows-clause-held : goal.returns-in_err-make_rows-clause-held
-returns-in_err-make_rows-clause-held c = λ held.
-    let canvas = c.args.self.now in
-    let made = made_from_reached canvas (c.args.top + 5) (omega (arith, held 5 (omega arith))) in
-    let enough : c.args.top + 6 ≤ length c.self.inside.rows.items =
-    omega (arith, made, ap (λ (s : CanvasState). length s.rows) c.self.view_is) in
-    absurd (true≢false (sym (c.in_err-make_rows.ensures.made (omega (arith, enough)))))
-
-pub invariant_of-self-in-widened : goal.invariant_of-self-in-widened
-invariant_of-self-in-widened c =
+pub invariant_of-self : goal.invariant_of-self
+invariant_of-self c =
     let done = c.widened.invariant.0 in
     (done.few, rw done.over done.sound, c.widened.invariant.1)
 
@@ -110,14 +80,6 @@ invariant_of-self-in_err-reach c =
     let before = c.widened.invariant.0 in
     rw (before.over, c.in_err-reach.ensures.refused)
     (before.few, before.sound, c.widened.invariant.1)
-
-pub returns-in_err-make_rows-clause-never_less : goal.returns-in_err-make_rows-clause-never_less
-returns-in_err-make_rows-clause-never_less c = λ row.
-    omega (
-      arith,
-      ap (λ (r : RowState). length r.pixels) (c.make_rows.ensures.same row),
-      ap (λ (s : CanvasState). reached s row) c.self.view_is,
-    )
 
 pub returns-in_err-reach-clause-never_less : goal.returns-in_err-reach-clause-never_less
 returns-in_err-reach-clause-never_less c = λ row.

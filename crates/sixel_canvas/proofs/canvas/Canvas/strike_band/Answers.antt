@@ -9,14 +9,8 @@ use Rattle.sixel_canvas.proofs.OneRow.{made_from_reached}
 use Rattle.sixel_canvas.proofs.Strokes.{length-struck_row, reached-struck, struck_row}
 use Rattle.sixel_canvas.proofs.Loans.{IsBounded-rows, IsLent-made, IsLent-set, len_at-side}
 use Rattle.sixel_canvas.proofs.Underway.{IsUnderway-hit, IsUnderway-miss, IsUnderway-none, is_struck-above, is_struck-hit, is_struck-miss, no_less, reached-all, shown-all}
-use Rattle.sixel_canvas.proofs.canvas.Canvas.draw_down.Goals as goal
-use Rattle.sixel_canvas.proofs.canvas.Canvas.draw_down.Goals.{then-bits-bit-eq1+in_ok-strike, else-bits-bit-eq1}
-
-pub returns-in_err-make_rows-clause-bounded : goal.returns-in_err-make_rows-clause-bounded
-returns-in_err-make_rows-clause-bounded c =
-    let loan = c.self.inside.loan in
-    IsBounded-rows c.self.inside.background c.make_rows.new.rows.items loan.top loan.credit loan.room (omega (arith, c.make_rows.ensures.few, c.self.invariant.0)) (c.make_rows.ensures.rows c.self.invariant.1)
-    (IsLent-made c.self.inside.background c.self.inside.rows.items c.make_rows.new.rows.items loan.top loan.credit loan.room c.self.invariant.2 c.make_rows.ensures.same)
+use Rattle.sixel_canvas.proofs.canvas.Canvas.strike_band.Goals as goal
+use Rattle.sixel_canvas.proofs.canvas.Canvas.strike_band.Goals.{then-bits-bit-eq1+in_ok-strike, else-bits-bit-eq1}
 
 pub returns-in_err-strike-clause-bounded : goal.returns-in_err-strike-clause-bounded
 returns-in_err-strike-clause-bounded c =
@@ -24,31 +18,15 @@ returns-in_err-strike-clause-bounded c =
     let loan = c.struck.self-inside.loan in
     rw (before.over, c.in_err-strike.ensures.refused) (IsBounded-rows c.args.self.now.background c.struck.self-inside.rows.items loan.top loan.credit loan.room before.few before.sound c.struck.invariant.1)
 
-pub invariant_of-self : goal.invariant_of-self
-invariant_of-self c =
-    let loan = c.self.inside.loan in (
-      omega (arith, c.make_rows.ensures.few, c.self.invariant.0),
-      c.make_rows.ensures.rows c.self.invariant.1,
-      IsLent-made c.self.inside.background c.self.inside.rows.items c.make_rows.new.rows.items loan.top loan.credit loan.room c.self.invariant.2 c.make_rows.ensures.same,
-    )
-
-pub enter-requires-clause-side : goal.enter-requires-clause-side
-enter-requires-clause-side c = len_at-side c.self.inside.background c.make_rows.new.rows.items (c.make_rows.ensures.rows c.self.invariant.1)
-
-pub enter-requires-clause-lent : goal.enter-requires-clause-lent
-enter-requires-clause-lent c =
-    let loan = c.self.inside.loan in
-    IsLent-made c.self.inside.background c.self.inside.rows.items c.make_rows.new.rows.items loan.top loan.credit loan.room c.self.invariant.2 c.make_rows.ensures.same
-
 pub struck-init : goal.struck-init
 struck-init c =
     let canvas = c.self.inside in
-    let loan = c.enter.new.loan in (
+    let loan = canvas.loan in (
       rw (← c.self.view_is)
-          (IsUnderway-none (λ row. struck_row (share loan.top loan.room row) c.args.from c.args.to c.args.color) (is_struck c.args.top c.args.bits) c.args.top (record { background = canvas.background; rows = canvas.rows.items; band = canvas.loan.top; tagged = 0; paints = 0; spread = 0 }) c.make_rows.new.rows.items
-          (is_struck-above c.args.top c.args.bits) (omega (arith, c.in_ok-make_rows.ensures.enough)) (omega (arith, c.make_rows.ensures.few, c.self.invariant.0)) (c.make_rows.ensures.rows c.self.invariant.1) c.make_rows.ensures.same),
-      c.enter.ensures.lent,
-      c.enter.ensures.top (omega (arith, c.requires.band, ap (λ (s : CanvasState). s.band) c.self.view_is)),
+          (IsUnderway-none (λ row. struck_row (share loan.top loan.room row) c.args.from c.args.to c.args.color) (is_struck c.args.top c.args.bits) c.args.top (record { background = canvas.background; rows = canvas.rows.items; band = canvas.loan.top; tagged = 0; paints = 0; spread = 0 }) canvas.rows.items
+          (is_struck-above c.args.top c.args.bits) (omega (arith, c.requires.made, ap (λ (s : CanvasState). length s.rows) c.self.view_is)) c.self.invariant.0 c.self.invariant.1 (λ _. refl)),
+      c.self.invariant.2,
+      omega (arith, c.requires.band, ap (λ (s : CanvasState). s.band) c.self.view_is),
     )
 
 pub struck-preserved : goal.struck-preserved
@@ -123,8 +101,8 @@ returns-clause-bounded c =
     let loan = c.struck.self-inside.loan in
     rw done.over (IsBounded-rows c.args.self.now.background c.struck.self-inside.rows.items loan.top loan.credit loan.room done.few done.sound c.struck.invariant.1)
 
-pub invariant_of-self-in-struck : goal.invariant_of-self-in-struck
-invariant_of-self-in-struck c =
+pub invariant_of-self : goal.invariant_of-self
+invariant_of-self c =
     let done = c.struck.invariant.0 in
     (done.few, rw done.over done.sound, c.struck.invariant.1)
 
@@ -133,20 +111,3 @@ invariant_of-self-in_err-strike c =
     let before = c.struck.invariant.0 in
     rw (before.over, c.in_err-strike.ensures.refused)
     (before.few, before.sound, c.struck.invariant.1)
-
-pub returns-in_err-make_rows-clause-never_less : goal.returns-in_err-make_rows-clause-never_less
-returns-in_err-make_rows-clause-never_less c = λ row.
-    omega (
-      arith,
-      ap (λ (r : RowState). length r.pixels) (c.make_rows.ensures.same row),
-      ap (λ (s : CanvasState). reached s row) c.self.view_is,
-    )
-
-pub returns-in_err-make_rows-clause-held : goal.returns-in_err-make_rows-clause-held
-returns-in_err-make_rows-clause-held c = λ some held.
-    let canvas = c.args.self.now in
-    let made = made_from_reached canvas (c.args.top + 5)
-    (omega (arith, some, held 5 (omega arith))) in
-    let enough : c.args.top + 6 ≤ length c.self.inside.rows.items =
-    omega (arith, made, ap (λ (s : CanvasState). length s.rows) c.self.view_is) in
-    absurd (true≢false (sym (c.in_err-make_rows.ensures.made (omega (arith, enough)))))

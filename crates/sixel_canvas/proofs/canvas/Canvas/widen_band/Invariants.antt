@@ -2,7 +2,7 @@ use Rattle.std.proofs.Common.{◌≤◌}
 use Rattle.sixel_canvas.proofs.Underway.{IsUnderway, in_band}
 use Rattle.sixel_canvas.specs.inside.Loan.{IsLent, share}
 use Rattle.sixel_canvas.proofs.Widening.{widened_at}
-use Rattle.sixel_canvas.proofs.canvas.Canvas.widen_down.Given as goal
+use Rattle.sixel_canvas.proofs.canvas.Canvas.widen_band.Given as goal
 
 abbrev pub invariant-widened : goal.invariant-widened
 invariant-widened l =

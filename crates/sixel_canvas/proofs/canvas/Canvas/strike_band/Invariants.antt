@@ -3,7 +3,7 @@ use Rattle.sixel_base.specs.Picture.{is_struck}
 use Rattle.sixel_canvas.specs.inside.Loan.{IsLent, share}
 use Rattle.sixel_canvas.proofs.Strokes.{struck_row}
 use Rattle.sixel_canvas.proofs.Underway.{IsUnderway}
-use Rattle.sixel_canvas.proofs.canvas.Canvas.draw_down.Given as goal
+use Rattle.sixel_canvas.proofs.canvas.Canvas.strike_band.Given as goal
 
 abbrev pub invariant-struck : goal.invariant-struck
 invariant-struck l =
