@@ -3,19 +3,9 @@ use Rattle.std.proofs.lemmas.Simd.{length-put_chunk}
 use Rattle.sixel_canvas.proofs.Spans.{IsColored-store}
 use Rattle.sixel_canvas.proofs.span.fill_rgba_span.Goals as goal
 
-pub by_block-preserved : goal.by_block-preserved
-by_block-preserved c = (
-  omega (arith, length-put_chunk c.by_block.at c.by_block.span c.four_pixels-block.result),
-  omega arith,
-  IsColored-store c.args.color c.by_block.span c.four_pixels-block.result c.by_block.at 16 c.four_pixels-block.ensures.lanes (omega arith) (omega arith) c.by_block.invariant.2 c.four_pixels-block.ensures.colored,
-)
-
 pub by_pixel-preserved : goal.by_pixel-preserved
 by_pixel-preserved c = (
   omega (arith, length-put_chunk c.by_pixel.at c.by_pixel.span c.args.color),
   omega arith,
   IsColored-store c.args.color c.by_pixel.span c.args.color c.by_pixel.at 4 (omega arith) (omega arith) (omega arith) c.by_pixel.invariant.2 (λ k h. ap (λ i. get_or c.args.color i 0) (omega arith)),
 )
-
-pub returns : goal.returns
-returns c = omega arith
