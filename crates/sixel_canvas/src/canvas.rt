@@ -110,8 +110,10 @@ impl Canvas {
         ensures bounded { IsBounded self.new }
     {
         self.go_up(top);
-        self.begin_band(top)?;
-        self.strike_band(from, to, top, bits, color)
+        match self.begin_band(top) {
+            Ok(()) => self.strike_band(from, to, top, bits, color),
+            Err(error) => Err(error),
+        }
     }
 
     /// How many columns each of the six rows from `top` on holds, from the left.
@@ -200,8 +202,10 @@ impl Canvas {
         ensures bounded { IsBounded self.new }
     {
         self.go_up(top);
-        self.begin_band(top)?;
-        self.widen_band(top, columns)
+        match self.begin_band(top) {
+            Ok(()) => self.widen_band(top, columns),
+            Err(error) => Err(error),
+        }
     }
 
     /// How many pixels were copied or filled so far, to grow the rows. Painting doesn't count, nor
@@ -338,9 +342,13 @@ impl Canvas {
         ensures bounded { IsBounded self.new }
     {
         let background = self.background;
-        make_rows(&mut self.rows, top + 6, background)?;
-        enter(&mut self.loan, &self.rows, top);
-        Ok(())
+        match make_rows(&mut self.rows, top + 6, background) {
+            Ok(()) => {
+                enter(&mut self.loan, &self.rows, top);
+                Ok(())
+            }
+            Err(error) => Err(error),
+        }
     }
 
     // Draws as [`Canvas::draw`] does, where the band was begun.
@@ -417,8 +425,10 @@ impl Canvas {
         ensures bounded { IsBounded self.new }
     {
         let background = self.background;
-        make_rows(&mut self.rows, row + 1, background)?;
-        reach(&mut self.rows, self.loan, row, columns)
+        match make_rows(&mut self.rows, row + 1, background) {
+            Ok(()) => reach(&mut self.rows, self.loan, row, columns),
+            Err(error) => Err(error),
+        }
     }
 }
 

@@ -12,8 +12,8 @@ ghost use Rattle.sixel_canvas.specs.inside.Tags.{is_tag, lies_in, seen, IsTagged
 
 use crate::canvas::Canvas;
 use crate::line::{AllocResult, add_pixels};
-use sixel_base::{Result, SixelError};
 use sixel_base::limits::MAX_SIDE;
+use sixel_base::{Result, SixelError};
 use std::alloc::Global;
 use std::marker::Model;
 
@@ -402,9 +402,13 @@ impl TaggedCanvas {
         ensures spread { self.old.spread ≤ self.new.spread }
         ensures bounded { IsBounded self.new }
     {
-        self.sheet.widen(top, columns_struck(bits, to))?;
-        self.strike_held(from, to, top, bits, color);
-        Ok(())
+        match self.sheet.widen(top, columns_struck(bits, to)) {
+            Ok(()) => {
+                self.strike_held(from, to, top, bits, color);
+                Ok(())
+            }
+            Err(error) => Err(error),
+        }
     }
 
     // Draws a sixel over rows that hold its columns.

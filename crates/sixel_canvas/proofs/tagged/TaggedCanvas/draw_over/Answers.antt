@@ -9,6 +9,14 @@ use Rattle.sixel_canvas.proofs.Tagging.{struck_columns}
 use Rattle.sixel_canvas.proofs.Tags.{IsTagged-grown, reached-tagged, shown-tagged}
 use Rattle.sixel_canvas.proofs.tagged.TaggedCanvas.draw_over.Goals as goal
 
+pub invariant_of-self-in-Err : goal.invariant_of-self-in-Err
+invariant_of-self-in-Err c =
+    let canvas = c.self.inside in
+    let band = canvas.band in (
+      IsTagged-grown canvas.sheet c.widen.new.self canvas.tags c.self.invariant.0 c.widen.ensures.bounded c.widen.ensures.never_less,
+      IsSpread-grown canvas.sheet c.widen.new.self band.top band.painted band.spread c.self.invariant.1 c.widen.ensures.never_less,
+    )
+
 pub invariant_of-self : goal.invariant_of-self
 invariant_of-self c =
     let canvas = c.self.inside in
@@ -17,18 +25,10 @@ invariant_of-self c =
       IsSpread-grown canvas.sheet c.widen.new.self band.top band.painted band.spread c.self.invariant.1 c.widen.ensures.never_less,
     )
 
-pub invariant_of-self-2 : goal.invariant_of-self-2
-invariant_of-self-2 c =
+pub returns-in-Err-clause-held : goal.returns-in-Err-clause-held
+returns-in-Err-clause-held c = λ some held.
     let canvas = c.self.inside in
-    let band = canvas.band in (
-      IsTagged-grown canvas.sheet c.widen.new.self canvas.tags c.self.invariant.0 c.widen.ensures.bounded c.widen.ensures.never_less,
-      IsSpread-grown canvas.sheet c.widen.new.self band.top band.painted band.spread c.self.invariant.1 c.widen.ensures.never_less,
-    )
-
-pub returns-in_err-widen-clause-held : goal.returns-in_err-widen-clause-held
-returns-in_err-widen-clause-held c = λ some held.
-    let canvas = c.self.inside in
-    absurd (true≢false (sym (c.in_err-widen.ensures.held (λ k six.
+    absurd (true≢false (sym (c.in-Err.ensures.held (λ k six.
     let row = c.args.top + k in
     let is = c.columns_struck.ensures k six in
     let before = ap (λ (s : CanvasState). reached s row) c.self.view_is in
@@ -38,8 +38,8 @@ returns-in_err-widen-clause-held c = λ some held.
       | inr miss ↦ omega (arith, some, enough, rw miss at is)
     ]))))
 
-pub returns-in_err-widen-clause-bounded : goal.returns-in_err-widen-clause-bounded
-returns-in_err-widen-clause-bounded c =
+pub returns-in-Err-clause-bounded : goal.returns-in-Err-clause-bounded
+returns-in-Err-clause-bounded c =
     let canvas = c.self.inside in
     let band = canvas.band in
     let is = IsSpread-grown canvas.sheet c.widen.new.self band.top band.painted band.spread c.self.invariant.1 c.widen.ensures.never_less in
@@ -55,34 +55,34 @@ widen-requires-clause-within c = λ k six.
 
 pub strike_held-requires-clause-held : goal.strike_held-requires-clause-held
 strike_held-requires-clause-held c = λ k hit.
-    let wide = c.in_ok-widen.ensures.grown k
+    let wide = c.in-Ok.ensures.grown k
     ∙ struck_columns c.args.top c.args.bits c.args.to k (reached c.self.inside.sheet k)
     c.columns_struck.result c.columns_struck.ensures in
     omega (arith, rw hit at wide, reached-tagged c.widen.new.self c.self.inside.tags k)
 
-pub returns-clause-drawn : goal.returns-clause-drawn
-returns-clause-drawn c = λ column row.
+pub returns-in-Ok-clause-drawn : goal.returns-in-Ok-clause-drawn
+returns-in-Ok-clause-drawn c = λ column row.
     let canvas = c.self.inside in
     let next = c.widen.new.self in
     let wide = IsTagged-grown canvas.sheet next canvas.tags c.self.invariant.0 c.widen.ensures.bounded c.widen.ensures.never_less in
     let before = shown-tagged next canvas.tags wide column row
-    ∙ ap (under (shown canvas.tags (column / 128) row)) (c.in_ok-widen.ensures.shown column row)
+    ∙ ap (under (shown canvas.tags (column / 128) row)) (c.in-Ok.ensures.shown column row)
     ∙ sym (shown-tagged canvas.sheet canvas.tags c.self.invariant.0 column row)
     ∙ ap (λ (s : CanvasState). shown s column row) c.self.view_is in
     c.strike_held.ensures.drawn column row
     ∙ ap (λ p. if covers c.args.from c.args.to c.args.top c.args.bits column row then c.args.color else p) before
 
-pub returns-clause-grown : goal.returns-clause-grown
-returns-clause-grown c = λ row.
+pub returns-in-Ok-clause-grown : goal.returns-in-Ok-clause-grown
+returns-in-Ok-clause-grown c = λ row.
     let canvas = c.self.inside in
     let before : reached canvas.sheet row ≡ reached c.args.self.now row =
     sym (reached-tagged canvas.sheet canvas.tags row) ∙ ap (λ (s : CanvasState). reached s row) c.self.view_is in
     c.strike_held.ensures.reached row
     ∙ reached-tagged c.widen.new.self canvas.tags row
-    ∙ c.in_ok-widen.ensures.grown row
+    ∙ c.in-Ok.ensures.grown row
     ∙ struck_columns c.args.top c.args.bits c.args.to row (reached canvas.sheet row) c.columns_struck.result c.columns_struck.ensures
     ∙ ap (λ n. if is_struck c.args.top c.args.bits row then max n c.args.to else n) before
 
-pub returns-in_err-widen-clause-most : goal.returns-in_err-widen-clause-most
-returns-in_err-widen-clause-most c = λ _.
+pub returns-in-Err-clause-most : goal.returns-in-Err-clause-most
+returns-in-Err-clause-most c = λ _.
     omega (arith, ap (λ (s : CanvasState). s.paints) c.self.view_is)
