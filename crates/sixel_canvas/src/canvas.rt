@@ -479,33 +479,18 @@ fn leave(loan: &mut Loan, rows: &Vec<Line>, top: usize)
     ensures lent { IsLent rows.now.items loan.new.top loan.new.credit loan.new.room }
     ensures top { loan.new.top ≡ top }
 {
-    let (held, taken, widest) = band_sizes(rows, loan.top);
-    lend(loan, top, held, taken, widest);
-}
-
-// How many columns six rows hold, their room, and how many the widest holds.
-fn band_sizes(rows: &Vec<Line>, top: usize) -> (usize, usize, usize)
-    requires above_bottom { top ≤ 1000000 }
-    requires side { (k : ℕ) → len_at rows.now.items k ≤ 1000000 }
-    requires room { (k : ℕ) → top ≤ k → room_at rows.now.items k ≤ 3000000 }
-    ensures held { result.0 ≡ total (λ k. len_at rows.now.items (top + k)) 6 }
-    ensures taken { result.1 ≡ total (λ k. room_at rows.now.items (top + k)) 6 }
-    ensures few { result.0 ≤ 6000000 }
-    ensures few_taken { result.1 ≤ 18000000 }
-    ensures widest { result.2 ≤ 1000000 }
-{
     let mut held = 0;
     let mut taken = 0;
     let mut widest = 0;
     'rows: for bit in 0..6 {
-        let (len, room) = sizes(rows, top + bit);
+        let (len, room) = sizes(rows, loan.top + bit);
         held += len;
         taken += room;
         if len > widest {
             widest = len;
         }
     }
-    (held, taken, widest)
+    lend(loan, top, held, taken, widest);
 }
 
 // Lends the rows of the next band what is left, where those of this one hold so many columns, have taken

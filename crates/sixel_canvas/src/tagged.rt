@@ -568,19 +568,6 @@ fn is_spent(band: &mut Band, sheet: &Canvas, columns: usize, top: usize, bits: u
     if top != band.top {
         return true;
     }
-    let (more, held) = asked_and_held(sheet, columns, top, bits);
-    is_past_its_share(band, more, held)
-}
-
-// How many pixels a stroke asks for in six rows, and how many these hold.
-fn asked_and_held(sheet: &Canvas, columns: usize, top: usize, bits: u8) -> (usize, usize)
-    requires within { columns ≤ 1000000 }
-    requires above_bottom { top + 6 ≤ 1000000 }
-    ensures asked { result.0 ≡ total (λ k. if is_set bits k then columns else 0) 6 }
-    ensures held { result.1 ≡ total (λ k. reached sheet.now (top + k)) 6 }
-    ensures few { result.0 ≤ 6000000 }
-    ensures few_held { result.1 ≤ 6000000 }
-{
     let mut more = 0;
     let mut held = 0;
     'rows: for bit in 0..6 {
@@ -589,7 +576,7 @@ fn asked_and_held(sheet: &Canvas, columns: usize, top: usize, bits: u8) -> (usiz
             more += columns;
         }
     }
-    (more, held)
+    is_past_its_share(band, more, held)
 }
 
 // Whether a band that paints so much more at once passes three times what its rows hold. Where it does
@@ -680,7 +667,8 @@ fn strike(
     ensures background { sheet.new.background ≡ sheet.old.background }
     ensures tagged { IsTagged sheet.new tags.new }
 {
-    let (first, last) = (from.div_ceil(BLOCK), to / BLOCK);
+    let first = from.div_ceil(BLOCK);
+    let last = to / BLOCK;
     if lazy && first < last && tags.reach_row(row, last).is_ok() {
         tag(sheet, tags, row, from, to, color);
     } else {
