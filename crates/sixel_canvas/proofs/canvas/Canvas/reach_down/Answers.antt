@@ -1,4 +1,4 @@
-use Rattle.std.proofs.Common.{◌≡◌, [], ◌+◌, ◌<◌, ◌≤◌, max, length, get_or, ap, ◌∙◌, refl, sym, arith}
+use Rattle.std.proofs.Common.{[], ◌+◌, ◌<◌, ◌≤◌, max, length, get_or, ap, ◌∙◌, refl, sym, arith}
 use Rattle.std.proofs.lemmas.Bool.{true≢false}
 use Rattle.std.proofs.lemmas.Result.{on_err_weaker, on_ok_weaker}
 use Rattle.std.specs.Prelude.{◌==◌, if◌then◌else◌}

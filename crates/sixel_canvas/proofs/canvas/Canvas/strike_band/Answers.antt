@@ -5,9 +5,8 @@ use Rattle.sixel_base.specs.Picture.{is_struck}
 use Rattle.sixel_canvas.specs.Row.{RowState, empty_row}
 use Rattle.sixel_canvas.specs.inside.Canvas.{CanvasState, reached, row_at}
 use Rattle.sixel_canvas.specs.inside.Loan.{share}
-use Rattle.sixel_canvas.proofs.OneRow.{made_from_reached}
 use Rattle.sixel_canvas.proofs.Strokes.{length-struck_row, reached-struck, struck_row}
-use Rattle.sixel_canvas.proofs.Loans.{IsBounded-rows, IsLent-made, IsLent-set, len_at-side}
+use Rattle.sixel_canvas.proofs.Loans.{IsBounded-rows, IsLent-set}
 use Rattle.sixel_canvas.proofs.Underway.{IsUnderway-hit, IsUnderway-miss, IsUnderway-none, is_struck-above, is_struck-hit, is_struck-miss, no_less, reached-all, shown-all}
 use Rattle.sixel_canvas.proofs.canvas.Canvas.strike_band.Goals as goal
 use Rattle.sixel_canvas.proofs.canvas.Canvas.strike_band.Goals.{then-bits-bit-eq1+in_ok-strike, else-bits-bit-eq1}

@@ -6,8 +6,7 @@ use Rattle.sixel_canvas.specs.inside.Loan.{lent_to, share}
 use Rattle.sixel_canvas.proofs.RowStates.{length-reached_to}
 use Rattle.sixel_canvas.specs.inside.Canvas.{CanvasState, reached, row_at}
 use Rattle.std.proofs.lemmas.Bool.{le-ltb, true≢false}
-use Rattle.sixel_canvas.proofs.OneRow.{made_from_reached}
-use Rattle.sixel_canvas.proofs.Loans.{IsBounded-rows, IsLent-made, IsLent-set, len_at-side}
+use Rattle.sixel_canvas.proofs.Loans.{IsBounded-rows, IsLent-set}
 use Rattle.sixel_canvas.proofs.Underway.{IsUnderway-hit, IsUnderway-none, in_band, in_band-above, in_band-inside, no_less}
 use Rattle.sixel_canvas.proofs.Widening.{reached-widened, shown-widened, widened_at, widened_length}
 use Rattle.sixel_canvas.proofs.canvas.Canvas.widen_band.Goals as goal

@@ -1,11 +1,8 @@
-use Rattle.std.proofs.Common.{◌≡◌, ◌+◌, ◌*◌, ◌/◌, ◌++◌, ℕ, min, sym, ap, ◌∙◌, append_assoc, arith}
+use Rattle.std.proofs.Common.{◌≡◌, ◌+◌, ◌*◌, ◌++◌, ℕ, min, sym, ap, ◌∙◌, append_assoc, arith}
 use Rattle.std.proofs.lemmas.List.{append-nil}
-use Rattle.std.proofs.lemmas.Result.{on_ok_weaker}
 use Rattle.sixel_base.specs.Picture.{joined}
-use Rattle.sixel_base.proofs.Joined.{joined-add, joined-same}
-use Rattle.sixel_canvas.specs.inside.Canvas.{CanvasState, shown}
-use Rattle.sixel_canvas.proofs.Tags.{shown-tagged, under-none}
-use Rattle.sixel_canvas.proofs.Tagging.{none_past_rows}
+use Rattle.sixel_base.proofs.Joined.{joined-add}
+use Rattle.sixel_canvas.specs.inside.Canvas.{shown}
 use Rattle.sixel_canvas.proofs.tagged.TaggedCanvas.pack_blocks.Goals as goal
 
 pub segments-init : goal.segments-init
