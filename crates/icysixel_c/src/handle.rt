@@ -26,6 +26,9 @@ impl Model for Handle {
 }
 
 impl Handle {
+    ghost use Rattle.std.specs.Borrow.{sem};
+    ghost use Rattle.icysixel_c.specs.inside.Lending.{LendsState};
+
     /// A handle that leads to nothing.
     pub fn none(alloc: Global) -> Handle
         ensures { result.state ≡ None }
@@ -47,6 +50,16 @@ impl Handle {
         ensures { self.state ≡ Some result.value }
     {
         self.into_parts().into_box()
+    }
+
+    /// What the handle leads to, lent.
+    pub fn lend(&mut self) -> &mut State
+        requires { is_some self.old.state ≡ true }
+        ensures* writes_back { sem 𝓛 (LendsState self.entry result) }
+        ensures value { self.old.state ≡ Some result.now }
+    {
+        let at = self.at as *mut State;
+        unsafe { &mut *at }
     }
 
     fn of_parts(parts: Parts<State, Global>) -> Handle

@@ -74,12 +74,10 @@ pub extern "C" fn icysixel_finish(alloc: Global, slot: &mut Slot, shape: &mut Sh
         → result ≡ fault_code (failed before.receiver.image.form) }
     ensures told { result ≢ 0 → shape.new ≡ shape.old }
 {
-    let Some(mut state) = slot.take(alloc) else {
+    if !slot.is_held() {
         return NO_HANDLE;
-    };
-    let code = finish(&mut state, shape);
-    slot.put(state);
-    code
+    }
+    finish(slot.state(), shape)
 }
 
 /// Closes the image, keeps it in place of the one before, and tells its shape where the answer is
@@ -115,7 +113,7 @@ fn finish(state: &mut State, shape: &mut Shape) -> u32
         → result ≡ fault_code (failed state.old.receiver.image.form) }
     ensures told { result ≢ 0 → shape.new ≡ shape.old }
 {
-    drop(state.take_image());
+    state.keep_image(None);
     if !state.receiver.is_receiving() {
         state.receiver.abort();
         return NO_SESSION;
@@ -172,15 +170,15 @@ pub extern "C" fn icysixel_pixels(
         → slot.new.handle.state ≡ Some after → after.text ≡ before.text }
 {
     *bytes = 0;
-    let Some(mut state) = slot.take(alloc) else {
+    if !slot.is_held() {
         return NO_HANDLE;
-    };
+    }
+    let state = slot.state();
     let code = match &state.image {
         Some(image) => copied(image, room, stride, bytes),
         None => NO_IMAGE,
     };
     state.leave_image(code);
-    slot.put(state);
     code
 }
 
@@ -266,15 +264,28 @@ pub extern "C" fn icysixel_take_pixels(alloc: Global, slot: &mut Slot, bytes: &m
     ensures text { (before after : State) → slot.old.handle.state ≡ Some before
         → slot.new.handle.state ≡ Some after → after.text ≡ before.text }
 {
-    let Some(mut state) = slot.take(alloc) else {
+    if !slot.is_held() {
         return NO_HANDLE;
-    };
+    }
+    hand_over(alloc, slot.state(), bytes)
+}
+
+/// Hands over the pixels of the image that is kept, if one is.
+fn hand_over(alloc: Global, state: &mut State, bytes: &mut Bytes) -> u32
+    ensures no_image { state.old.image ≡ None → result ≡ 4 }
+    ensures done { (image : SixelImage) → state.old.image ≡ Some image → result ≡ 0 }
+    ensures pixels { (image : SixelImage) → state.old.image ≡ Some image
+        → bytes.new.items ≡ image.pixels.items }
+    ensures unwritten { result ≢ 0 → bytes.new ≡ bytes.old }
+    ensures taken { state.new.image ≡ None }
+    ensures same { result ≢ 0 → state.new ≡ state.old }
+    ensures receiver { state.new.receiver ≡ state.old.receiver }
+    ensures text { state.new.text ≡ state.old.text }
+{
     let Some(image) = state.take_image() else {
-        slot.put(state);
         return NO_IMAGE;
     };
     *bytes = Bytes::of(alloc, image.pixels);
-    slot.put(state);
     DONE
 }
 
@@ -299,11 +310,9 @@ pub extern "C" fn icysixel_drop(alloc: Global, slot: &mut Slot) -> u32
     ensures decoder { (before after : State) → slot.old.handle.state ≡ Some before
         → slot.new.handle.state ≡ Some after → after.receiver ≡ before.receiver }
 {
-    let Some(mut state) = slot.take(alloc) else {
+    if !slot.is_held() {
         return NO_HANDLE;
-    };
-    state.keep_image(None);
-    state.keep_text(None);
-    slot.put(state);
+    }
+    slot.state().forget();
     DONE
 }

@@ -17,12 +17,10 @@ pub extern "C" fn icysixel_crop(alloc: Global, slot: &mut Slot) -> u8
     ensures value { (state : State) → slot.old.handle.state ≡ Some state
         → result ≡ cond state.receiver.decoder.raster_crop 1 0 }
 {
-    let Some(state) = slot.take(alloc) else {
+    if !slot.is_held() {
         return 0;
-    };
-    let is_cropped = state.receiver.decoder().raster_crop();
-    slot.put(state);
-    u8::from(is_cropped)
+    }
+    u8::from(slot.state().receiver.decoder().raster_crop())
 }
 
 /// Sets whether images are cropped to their raster attributes: 0 is no, any other number yes.
@@ -39,11 +37,10 @@ pub extern "C" fn icysixel_set_crop(alloc: Global, slot: &mut Slot, on: u8) -> u
     ensures kept { (before after : State) → slot.old.handle.state ≡ Some before
         → slot.new.handle.state ≡ Some after → AreKept before after }
 {
-    let Some(mut state) = slot.take(alloc) else {
+    if !slot.is_held() {
         return NO_HANDLE;
-    };
-    state.receiver.set_raster_crop(on != 0);
-    slot.put(state);
+    }
+    slot.state().receiver.set_raster_crop(on != 0);
     DONE
 }
 
@@ -55,12 +52,10 @@ pub extern "C" fn icysixel_limit(alloc: Global, slot: &mut Slot) -> usize
     ensures value { (state : State) → slot.old.handle.state ≡ Some state
         → result ≡ state.receiver.decoder.pixel_limit }
 {
-    let Some(state) = slot.take(alloc) else {
+    if !slot.is_held() {
         return 0;
-    };
-    let pixels = state.receiver.decoder().pixel_limit();
-    slot.put(state);
-    pixels
+    }
+    slot.state().receiver.decoder().pixel_limit()
 }
 
 /// Sets how many pixels an image may have, at least 1, at most 67,108,864.
@@ -77,10 +72,9 @@ pub extern "C" fn icysixel_set_limit(alloc: Global, slot: &mut Slot, pixels: usi
     ensures kept { (before after : State) → slot.old.handle.state ≡ Some before
         → slot.new.handle.state ≡ Some after → AreKept before after }
 {
-    let Some(mut state) = slot.take(alloc) else {
+    if !slot.is_held() {
         return NO_HANDLE;
-    };
-    state.receiver.set_pixel_limit(pixels);
-    slot.put(state);
+    }
+    slot.state().receiver.set_pixel_limit(pixels);
     DONE
 }

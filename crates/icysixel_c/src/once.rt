@@ -63,15 +63,14 @@ pub extern "C" fn icysixel_decode(
         (found_fault before.receiver.decoder.pixel_limit (found bytes.now)) }
     ensures told { result ≢ 0 → shape.new ≡ shape.old }
 {
-    let Some(mut state) = slot.take(alloc) else {
+    if !slot.is_held() {
         return NO_HANDLE;
-    };
+    }
+    let state = slot.state();
     let mut decoder = state.replace_decoder(SixelDecoder::new());
     let answer = decoder.decode(alloc, bytes);
     state.replace_decoder(decoder);
-    let code = state.keep_answer(answer, shape);
-    slot.put(state);
-    code
+    state.keep_answer(answer, shape)
 }
 
 /// As [`icysixel_decode`] of one payload, with these parameters.
@@ -117,13 +116,12 @@ pub extern "C" fn icysixel_decode_payload(
         (payload_fault before.receiver.decoder.pixel_limit bytes.now) }
     ensures told { result ≢ 0 → shape.new ≡ shape.old }
 {
-    let Some(mut state) = slot.take(alloc) else {
+    if !slot.is_held() {
         return NO_HANDLE;
-    };
+    }
+    let state = slot.state();
     let mut decoder = state.replace_decoder(SixelDecoder::new());
     let answer = decoder.decode_from_dcs(alloc, bytes, settings(p1, p2, grid));
     state.replace_decoder(decoder);
-    let code = state.keep_answer(answer, shape);
-    slot.put(state);
-    code
+    state.keep_answer(answer, shape)
 }

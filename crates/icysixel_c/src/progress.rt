@@ -25,12 +25,10 @@ pub extern "C" fn icysixel_is_receiving(alloc: Global, slot: &mut Slot) -> u8
     ensures value { (state : State) → slot.old.handle.state ≡ Some state
         → result ≡ cond (is_open state.receiver.image.form) 1 0 }
 {
-    let Some(state) = slot.take(alloc) else {
+    if !slot.is_held() {
         return 0;
-    };
-    let is_receiving = state.receiver.is_receiving();
-    slot.put(state);
-    u8::from(is_receiving)
+    }
+    u8::from(slot.state().receiver.is_receiving())
 }
 
 /// Whether the payload of the image that is open has begun, and was not refused: 1 or 0.
@@ -44,12 +42,10 @@ pub extern "C" fn icysixel_in_payload(alloc: Global, slot: &mut Slot) -> u8
     ensures refused { (state : State) → slot.old.handle.state ≡ Some state
         → state.receiver.image.is_refused ≡ true → result ≡ 0 }
 {
-    let Some(state) = slot.take(alloc) else {
+    if !slot.is_held() {
         return 0;
-    };
-    let in_payload = state.receiver.in_payload();
-    slot.put(state);
-    u8::from(in_payload)
+    }
+    u8::from(slot.state().receiver.in_payload())
 }
 
 /// How many pixels were copied or filled to grow the rows of the image that is open, 0 where none
@@ -63,12 +59,10 @@ pub extern "C" fn icysixel_canvas_writes(alloc: Global, slot: &mut Slot) -> u64
     ensures at_most { (state : State) → slot.old.handle.state ≡ Some state
         → result ≤ 3 * reached_area state.receiver.image.form state.receiver.image.bytes }
 {
-    let Some(state) = slot.take(alloc) else {
+    if !slot.is_held() {
         return 0;
-    };
-    let writes = state.receiver.canvas_writes();
-    slot.put(state);
-    writes
+    }
+    slot.state().receiver.canvas_writes()
 }
 
 /// How many pixels sixels of the image that is open have painted so far, at most: 0 where no image is.
@@ -82,12 +76,10 @@ pub extern "C" fn icysixel_canvas_paints(alloc: Global, slot: &mut Slot) -> u64
         → result ≤ 3 * reached_area state.receiver.image.form state.receiver.image.bytes
         + 4602 * sixels state.receiver.image.form state.receiver.image.bytes }
 {
-    let Some(state) = slot.take(alloc) else {
+    if !slot.is_held() {
         return 0;
-    };
-    let paints = state.receiver.canvas_paints();
-    slot.put(state);
-    paints
+    }
+    slot.state().receiver.canvas_paints()
 }
 
 /// Tells the sizes that the image that is open has so far.
@@ -109,18 +101,28 @@ pub extern "C" fn icysixel_size_so_far(alloc: Global, slot: &mut Slot, size: &mu
         → (result ≡ 0) × (size.new ≡ record { width = width; height = height }) }
     ensures told { result ≢ 0 → size.new ≡ size.old }
 {
-    let Some(state) = slot.take(alloc) else {
+    if !slot.is_held() {
         return NO_HANDLE;
-    };
-    let is_open = state.receiver.is_receiving();
-    let so_far = state.receiver.size_so_far();
-    slot.put(state);
-    if !is_open {
+    }
+    let receiver = &slot.state().receiver;
+    if !receiver.is_receiving() {
         return NO_SESSION;
     }
-    let Some((width, height)) = so_far else {
-        return NO_SIZE;
-    };
-    *size = Size { width, height };
-    DONE
+    tell_size(receiver.size_so_far(), size)
+}
+
+/// Tells sizes, if there are any.
+fn tell_size(so_far: Option<(usize, usize)>, size: &mut Size) -> u32
+    ensures no_size { so_far ≡ None → result ≡ 3 }
+    ensures size { (width height : ℕ) → so_far ≡ Some (width, height)
+        → (result ≡ 0) × (size.new ≡ record { width = width; height = height }) }
+    ensures told { result ≢ 0 → size.new ≡ size.old }
+{
+    match so_far {
+        Some((width, height)) => {
+            *size = Size { width, height };
+            DONE
+        }
+        None => NO_SIZE,
+    }
 }

@@ -19,6 +19,16 @@ pub struct Color {
     pub blue: u8,
 }
 
+impl Color {
+    /// The color of these channels.
+    fn of(channels: [u8; 3]) -> Color
+        ensures color { channels ≡ result.red ∷ result.green ∷ result.blue ∷ [] }
+    {
+        let [red, green, blue] = channels;
+        Color { red, green, blue }
+    }
+}
+
 /// Tells the color of a register of the decoder.
 #[unsafe(no_mangle)]
 pub extern "C" fn icysixel_register(
@@ -35,12 +45,10 @@ pub extern "C" fn icysixel_register(
         ≡ color.new.red ∷ color.new.green ∷ color.new.blue ∷ [] }
     ensures told { result ≢ 0 → color.new ≡ color.old }
 {
-    let Some(state) = slot.take(alloc) else {
+    if !slot.is_held() {
         return NO_HANDLE;
-    };
-    let [red, green, blue] = state.receiver.register(register);
-    slot.put(state);
-    *color = Color { red, green, blue };
+    }
+    *color = Color::of(slot.state().receiver.register(register));
     DONE
 }
 
@@ -68,11 +76,12 @@ pub extern "C" fn icysixel_set_register(
     ensures kept { (before after : State) → slot.old.handle.state ≡ Some before
         → slot.new.handle.state ≡ Some after → AreKept before after }
 {
-    let Some(mut state) = slot.take(alloc) else {
+    if !slot.is_held() {
         return NO_HANDLE;
-    };
-    state.receiver.set_register(register, [red, green, blue]);
-    slot.put(state);
+    }
+    slot.state()
+        .receiver
+        .set_register(register, [red, green, blue]);
     DONE
 }
 
@@ -90,10 +99,9 @@ pub extern "C" fn icysixel_reset(alloc: Global, slot: &mut Slot) -> u32
     ensures kept { (before after : State) → slot.old.handle.state ≡ Some before
         → slot.new.handle.state ≡ Some after → AreKept before after }
 {
-    let Some(mut state) = slot.take(alloc) else {
+    if !slot.is_held() {
         return NO_HANDLE;
-    };
-    state.receiver.reset_palette();
-    slot.put(state);
+    }
+    slot.state().receiver.reset_palette();
     DONE
 }

@@ -15,7 +15,7 @@ use crate::code::{DONE, NO_HANDLE, NO_SESSION, OUT_OF_MEMORY, code_of, status_by
 use crate::parameters::settings;
 use crate::slot::Slot;
 use crate::state::State;
-use icy_sixel::receiver::Received;
+use icy_sixel::receiver::{Received, SixelReceiver};
 use std::alloc::Global;
 
 /// What a feed did: how many bytes are the image's own, how it stands, and the control that ended
@@ -87,11 +87,10 @@ pub extern "C" fn icysixel_begin(alloc: Global, slot: &mut Slot) -> u32
         → slot.new.handle.state ≡ Some after
         → after.receiver.image ≡ begun OfString before.receiver.decoder }
 {
-    let Some(mut state) = slot.take(alloc) else {
+    if !slot.is_held() {
         return NO_HANDLE;
-    };
-    state.receiver.begin_dcs(alloc);
-    slot.put(state);
+    }
+    slot.state().receiver.begin_dcs(alloc);
     DONE
 }
 
@@ -116,12 +115,20 @@ pub extern "C" fn icysixel_begin_payload(
         → slot.new.handle.state ≡ Some after → after.receiver.image
         ≡ begun (OfPayload (settings_of p1 p2 grid)) before.receiver.decoder }
 {
-    let Some(mut state) = slot.take(alloc) else {
+    if !slot.is_held() {
         return NO_HANDLE;
-    };
-    state.receiver.begin_frame(alloc, settings(p1, p2, grid));
-    slot.put(state);
+    }
+    begin_payload(&mut slot.state().receiver, alloc, p1, p2, grid);
     DONE
+}
+
+/// Begins a payload with these parameters.
+fn begin_payload(receiver: &mut SixelReceiver, alloc: Global, p1: i32, p2: i32, grid: i32)
+    ensures decoder { receiver.new.decoder ≡ receiver.old.decoder }
+    ensures image { receiver.new.image
+        ≡ begun (OfPayload (settings_of p1 p2 grid)) receiver.old.decoder }
+{
+    receiver.begin_frame(alloc, settings(p1, p2, grid));
 }
 
 /// Reads a piece of the image that is open, and tells what it did where the answer is 0.
@@ -181,12 +188,10 @@ pub extern "C" fn icysixel_feed(alloc: Global, slot: &mut Slot, piece: &[u8], fe
         → result ≡ fault_code (failed before.receiver.image.form) }
     ensures told { result ≢ 0 → fed.new ≡ fed.old }
 {
-    let Some(mut state) = slot.take(alloc) else {
+    if !slot.is_held() {
         return NO_HANDLE;
-    };
-    let code = feed(&mut state, piece, fed);
-    slot.put(state);
-    code
+    }
+    feed(slot.state(), piece, fed)
 }
 
 /// Reads a piece of the image that is open, if one is, and tells what it did where the answer is 0.
@@ -251,10 +256,9 @@ pub extern "C" fn icysixel_abort(alloc: Global, slot: &mut Slot) -> u32
     ensures closed { (before after : State) → slot.old.handle.state ≡ Some before
         → slot.new.handle.state ≡ Some after → after.receiver.image ≡ no_image }
 {
-    let Some(mut state) = slot.take(alloc) else {
+    if !slot.is_held() {
         return NO_HANDLE;
-    };
-    state.receiver.abort();
-    slot.put(state);
+    }
+    slot.state().receiver.abort();
     DONE
 }

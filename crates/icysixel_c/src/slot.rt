@@ -17,6 +17,10 @@ pub struct Slot {
 }
 
 impl Slot {
+    ghost use Rattle.std.specs.Prelude.{true};
+    ghost use Rattle.std.specs.Borrow.{sem};
+    ghost use Rattle.icysixel_c.specs.inside.Lending.{LendsHeld};
+
     /// Takes the state out, if there is one.
     pub fn take(&mut self, alloc: Global) -> Option<Box<State>>
         ensures empty { self.new.handle.state ≡ None }
@@ -32,6 +36,22 @@ impl Slot {
         };
         let Slot { held: _, handle } = mem::replace(self, none);
         Some(handle.into_box())
+    }
+
+    /// Whether there is a state.
+    pub fn is_held(&self) -> bool
+        ensures { result ≡ is_some self.now.handle.state }
+    {
+        self.held != 0
+    }
+
+    /// The state, lent.
+    pub fn state(&mut self) -> &mut State
+        requires { is_some self.old.handle.state ≡ true }
+        ensures* writes_back { sem 𝓛 (LendsHeld self.entry result) }
+        ensures value { self.old.handle.state ≡ Some result.now }
+    {
+        self.handle.lend()
     }
 
     /// Puts a state in.

@@ -1,7 +1,7 @@
 //! What a handle leads to.
 
 ghost use Rattle.std.specs.Prelude.{◌≡◌, ◌≢◌, ◌*◌, Bool, Option, Some, None, length};
-ghost use Rattle.std.specs.Prelude.{OnOk, OnErr, IfOk, IfErr};
+ghost use Rattle.std.specs.Prelude.{OnOk, OnErr, IfOk, IfErr, string_bytes};
 ghost use Rattle.std.specs.Option.{ForSome};
 ghost use Rattle.sixel_base.specs.Decoder.{new_decoder};
 ghost use Rattle.sixel_base.specs.Fault.{Fault, Faults, IsFault};
@@ -85,8 +85,33 @@ impl State {
                 DONE
             }
             Err(error) => {
-                self.image = None;
+                self.keep_image(None);
                 code_of(&error)
+            }
+        }
+    }
+
+    /// Keeps a text that was encoded and tells how many bytes it has, or keeps none and gives the
+    /// code of the refusal.
+    pub fn keep_encoded(&mut self, encoded: Result<String, u32>, bytes: &mut usize) -> u32
+        ensures done { OnOk encoded (result ≡ 0) }
+        ensures found { IfOk encoded (λ text. self.new.text ≡ Some text) }
+        ensures bytes { IfOk encoded (λ text. bytes.new ≡ length (string_bytes text)) }
+        ensures refused { IfErr encoded (λ code. result ≡ code) }
+        ensures dropped { OnErr encoded (self.new.text ≡ None) }
+        ensures told { OnErr encoded (bytes.new ≡ bytes.old) }
+        ensures receiver { self.new.receiver ≡ self.old.receiver }
+        ensures image { self.new.image ≡ self.old.image }
+    {
+        match encoded {
+            Ok(text) => {
+                *bytes = text.len();
+                self.keep_text(Some(text));
+                DONE
+            }
+            Err(code) => {
+                self.keep_text(None);
+                code
             }
         }
     }
@@ -98,6 +123,16 @@ impl State {
         ensures image { self.new.image ≡ self.old.image }
     {
         self.text = text;
+    }
+
+    /// Lets go what is kept.
+    pub fn forget(&mut self)
+        ensures image { self.new.image ≡ None }
+        ensures text { self.new.text ≡ None }
+        ensures receiver { self.new.receiver ≡ self.old.receiver }
+    {
+        self.keep_image(None);
+        self.keep_text(None);
     }
 
     /// Takes the image out that is kept, if one is.

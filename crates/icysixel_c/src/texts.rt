@@ -66,22 +66,11 @@ pub extern "C" fn icysixel_encode(
     ensures image { (before after : State) → slot.old.handle.state ≡ Some before
         → slot.new.handle.state ≡ Some after → after.image ≡ before.image }
 {
-    let Some(mut state) = slot.take(alloc) else {
+    if !slot.is_held() {
         return NO_HANDLE;
-    };
-    match encoded(alloc, pixels, stride, width, height, p1, p2, max_colors) {
-        Ok(text) => {
-            *bytes = text.len();
-            state.keep_text(Some(text));
-            slot.put(state);
-            DONE
-        }
-        Err(code) => {
-            state.keep_text(None);
-            slot.put(state);
-            code
-        }
     }
+    let text = encoded(alloc, pixels, stride, width, height, p1, p2, max_colors);
+    slot.state().keep_encoded(text, bytes)
 }
 
 /// The text of these pixels, or the code of what is wrong with them.
@@ -213,15 +202,15 @@ pub extern "C" fn icysixel_take_text(
         → slot.new.handle.state ≡ Some after → after.image ≡ before.image }
 {
     *bytes = 0;
-    let Some(mut state) = slot.take(alloc) else {
+    if !slot.is_held() {
         return NO_HANDLE;
-    };
+    }
+    let state = slot.state();
     let code = match &state.text {
         Some(text) => written(text.as_bytes(), room, bytes),
         None => NO_TEXT,
     };
     state.leave_text(code);
-    slot.put(state);
     code
 }
 

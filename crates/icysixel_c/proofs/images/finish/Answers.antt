@@ -9,7 +9,7 @@ returns-clause-refused c = λ opened accepted refused.
     let wants = end_wants image.start.pixel_limit image.form image.bytes in
     let fault = end_fault image.start.pixel_limit image.form image.bytes in
     let error : IfErr c.finish-answer.result (λ error. MatchBool image.is_refused (IsFault error (failed image.form)) (Faults error wants fault)) =
-    rw (← c.take_image.ensures.receiver) c.finish-answer.ensures.error in
+    rw (← c.keep_image.ensures.receiver) c.finish-answer.ensures.error in
     c.keep_answer.ensures.code wants fault refused
     (subst (λ is_refused. IfErr c.finish-answer.result (λ error. MatchBool is_refused (IsFault error (failed image.form)) (Faults error wants fault))) accepted error)
 

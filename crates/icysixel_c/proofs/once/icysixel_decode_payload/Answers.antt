@@ -3,8 +3,8 @@ use Rattle.icysixel_c.proofs.once.icysixel_decode_payload.Goals as goal
 
 pub returns-clause-refused : goal.returns-clause-refused
 returns-clause-refused c = λ before is refused.
-    let same : c.replace_decoder-decoder.result ≡ before.receiver.decoder = grind (arith, c.in-Some.ensures.some) in
-    rw (← same) (c.keep_answer-code.ensures.code _ _ refused c.decode_from_dcs-answer.ensures.refused)
+    let same : c.replace_decoder-decoder.result ≡ before.receiver.decoder = grind (arith, c.state-state.ensures.value) in
+    rw (← same) (c.keep_answer.ensures.code _ _ refused c.decode_from_dcs-answer.ensures.refused)
 
 pub returns-clause-image : goal.returns-clause-image
 returns-clause-image c = search rules
