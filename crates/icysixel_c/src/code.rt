@@ -1,6 +1,6 @@
 //! The numbers that C sees.
 
-ghost use Rattle.std.specs.Prelude.{◌≡◌, ◌≢◌, Bool, Option, Some};
+ghost use Rattle.std.specs.Prelude.{◌≡◌, ◌≢◌, Bool, Option, Some, codes};
 ghost use Rattle.sixel_base.specs.Fault.{Fault, Faults, IsFault, text_of};
 ghost use Rattle.icysixel_c.specs.Code.{IsCodeOf, IsTold, fault_code};
 ghost use Rattle.icysixel_c.specs.Code.{status_code, status_byte};
@@ -75,10 +75,22 @@ fn text_code(text: &str) -> u32
 {
     match text {
         "image dimensions too large" => TOO_LARGE,
+        "stream decoder has failed" => STREAM_FAILED,
+        _ => string_code(text),
+    }
+}
+
+/// The code of data that are refused with this text, which is none of a payload alone.
+fn string_code(text: &str) -> u32
+    requires size { text.now ≢ codes "image dimensions too large" }
+    requires stream { text.now ≢ codes "stream decoder has failed" }
+    ensures fault { (fault : Fault) → text_of fault ≡ Some text.now → result ≡ fault_code fault }
+    ensures refused { result ≢ 0 }
+{
+    match text {
         "invalid SIXEL DCS header" => BAD_HEADER,
         "missing SIXEL DCS command" => MISSING_COMMAND,
         "incomplete SIXEL DCS sequence" => INCOMPLETE,
-        "stream decoder has failed" => STREAM_FAILED,
         "DCS stream decoder has failed" => DCS_STREAM_FAILED,
         _ => MALFORMED,
     }

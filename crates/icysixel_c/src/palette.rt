@@ -21,6 +21,21 @@ pub struct Palette {
     pub error: u32,
 }
 
+impl Palette {
+    /// What is told of this choice.
+    fn of(choice: &PaletteChoice) -> Palette
+        ensures colors { result.colors ≡ length choice.now.colors.items }
+        ensures witnesses { result.witnesses ≡ length choice.now.witnesses.items }
+        ensures error { result.error ≡ choice.now.error }
+    {
+        Palette {
+            colors: choice.colors.len(),
+            witnesses: choice.witnesses.len(),
+            error: choice.error,
+        }
+    }
+}
+
 /// Writes the palette of these pixels, the certificate of how good it is, and the place of each
 /// pixel in it into the rooms, and tells how many colors there are where the answer is 0.
 #[unsafe(no_mangle)]
@@ -90,12 +105,16 @@ pub extern "C" fn icysixel_choose_palette(
     ensures no_indices { result ≢ 0 → indices.new ≡ indices.old }
     ensures told { result ≢ 0 → palette.new ≡ palette.old }
 {
-    if pixels.len() % 4 != 0 {
-        return BUFFER_MISMATCH;
-    }
-    let room = usize::from(max_colors.clamp(2, 256));
-    if colors.len() < room || witnesses.len() < room + 1 || indices.len() < pixels.len() / 4 {
-        return SMALL_ROOM;
+    let bytes = pixels.len();
+    let code = rooms_code(
+        bytes,
+        max_colors,
+        colors.len(),
+        witnesses.len(),
+        indices.len(),
+    );
+    if code != DONE {
+        return code;
     }
     match choose_palette(alloc, pixels, max_colors) {
         Ok(choice) => {
@@ -104,6 +123,30 @@ pub extern "C" fn icysixel_choose_palette(
         }
         Err(error) => code_of(&error),
     }
+}
+
+/// Tells by 0 that so many bytes are whole pixels and that the rooms for their palette are large
+/// enough, and by a code what is wrong with them.
+fn rooms_code(bytes: usize, max_colors: u16, colors: usize, witnesses: usize, indices: usize) -> u32
+    ensures mismatch { bytes % 4 ≢ 0 → result ≡ 11 }
+    ensures few_colors { bytes % 4 ≡ 0 → colors < palette_room max_colors → result ≡ 6 }
+    ensures few_witnesses { bytes % 4 ≡ 0 → witnesses < palette_room max_colors + 1
+        → result ≡ 6 }
+    ensures few_indices { bytes % 4 ≡ 0 → indices < bytes / 4 → result ≡ 6 }
+    ensures enough { bytes % 4 ≡ 0 → palette_room max_colors ≤ colors
+        → palette_room max_colors + 1 ≤ witnesses → bytes / 4 ≤ indices → result ≡ 0 }
+    ensures colors { result ≡ 0 → palette_room max_colors ≤ colors }
+    ensures witnesses { result ≡ 0 → palette_room max_colors + 1 ≤ witnesses }
+    ensures indices { result ≡ 0 → bytes / 4 ≤ indices }
+{
+    if bytes % 4 != 0 {
+        return BUFFER_MISMATCH;
+    }
+    let room = usize::from(max_colors.clamp(2, 256));
+    if colors < room || witnesses < room + 1 || indices < bytes / 4 {
+        return SMALL_ROOM;
+    }
+    DONE
 }
 
 /// Writes a palette, its certificate and the places in it into the rooms from their starts on.
@@ -133,11 +176,7 @@ fn write_choice(
     write_colors(colors, &choice.colors);
     write_colors(witnesses, &choice.witnesses);
     indices[..choice.indices.len()].copy_from_slice(&choice.indices);
-    Palette {
-        colors: choice.colors.len(),
-        witnesses: choice.witnesses.len(),
-        error: choice.error,
-    }
+    Palette::of(choice)
 }
 
 /// Writes colors into a room from its start on.

@@ -1,6 +1,6 @@
 //! Rows of an image in the caller's memory.
 
-ghost use Rattle.std.specs.Prelude.{◌≡◌, ◌*◌, ◌≤◌, ℕ, IfOk, length, drop};
+ghost use Rattle.std.specs.Prelude.{◌≡◌, ◌+◌, ◌*◌, ◌≤◌, ℕ, IfOk, length, drop, slice_range};
 ghost use Rattle.icysixel_c.specs.Rows.{AreGapsKept, extent, rows_of, stride_of, wanted};
 
 use std::alloc::{AllocError, Global};
@@ -49,10 +49,18 @@ pub fn gathered(
 {
     let mut rows = Vec::new(alloc);
     for row in 0..height {
-        let start = row * stride;
-        rows.extend_from_slice(&bytes[start..start + wide])?;
+        rows.extend_from_slice(row_of(bytes, stride, wide, row))?;
     }
     Ok(rows)
+}
+
+/// A row.
+fn row_of(bytes: &[u8], stride: usize, wide: usize, row: usize) -> &[u8]
+    requires { row * stride + wide ≤ length bytes.now }
+    ensures rows { result.now ≡ slice_range bytes.now (row * stride) (row * stride + wide) }
+{
+    let start = row * stride;
+    &bytes[start..start + wide]
 }
 
 /// Writes the rows into the room, and leaves what lies between them.

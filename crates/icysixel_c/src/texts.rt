@@ -1,14 +1,14 @@
 //! What C calls to write the text of an image, and to take it.
 
 ghost use Rattle.std.specs.Prelude.{◌≡◌, ◌≢◌, ◌+◌, ◌*◌, ◌<◌, ◌≤◌, ℕ, List, Some, None, is_some, true};
-ghost use Rattle.std.specs.Prelude.{Ok, OnErr, IfOk, IfErr, IsErrAnd, length, drop, ◌++◌, string_bytes};
+ghost use Rattle.std.specs.Prelude.{Ok, OnOk, OnErr, IfOk, IfErr, IsErrAnd, length, drop, ◌++◌, string_bytes};
 ghost use Rattle.sixel_base.specs.Size.{encode_fault};
 ghost use Rattle.sixel_base.specs.declared.error.SixelError.{SixelError};
 ghost use Rattle.sixel_encoder.specs.Encoding.{IsText};
 ghost use Rattle.icysixel_c.specs.Code.{IsCodeOf};
 ghost use Rattle.icysixel_c.specs.Drawn.{drawn, image_of};
 ghost use Rattle.icysixel_c.specs.Kept.{kept_text};
-ghost use Rattle.icysixel_c.specs.Rows.{bytes_of, extent, rows_of};
+ghost use Rattle.icysixel_c.specs.Rows.{bytes_of, extent, rows_of, stride_of, wanted};
 ghost use Rattle.icysixel_c.specs.declared.state.State.{State};
 
 use crate::code::{
@@ -99,19 +99,44 @@ fn encoded(
     ensures text { IfOk result (λ text.
         IsText (image_of stride width height p1 p2 pixels.now) max_colors (string_bytes text)) }
 {
+    match fitting_stride(stride, width, height, pixels.len()) {
+        Ok(stride) => {
+            let settings = settings(p1, p2, -1);
+            text_of_rows(alloc, pixels, stride, width, height, settings, max_colors)
+        }
+        Err(code) => Err(code),
+    }
+}
+
+/// The stride at which so many bytes hold the rows of an image of these sizes, or the code of what
+/// is wrong.
+fn fitting_stride(stride: usize, width: usize, height: usize, bytes: usize) -> Result<usize, u32>
+    ensures sizes { (fault : SixelError) → encode_fault width height ≡ Some fault
+        → IsErrAnd result (λ code. IsCodeOf code fault) }
+    ensures stride { encode_fault width height ≡ None
+        → wanted (stride_of stride (4 * width)) (4 * width) height ≡ None → result ≡ Err 7 }
+    ensures buffer { (size : ℕ) → encode_fault width height ≡ None
+        → wanted (stride_of stride (4 * width)) (4 * width) height ≡ Some size → bytes < size
+        → result ≡ Err 11 }
+    ensures enough { (size : ℕ) → encode_fault width height ≡ None
+        → wanted (stride_of stride (4 * width)) (4 * width) height ≡ Some size → size ≤ bytes
+        → result ≡ Ok (stride_of stride (4 * width)) }
+    ensures refused { IfErr result (λ code. code ≢ 0) }
+    ensures sized { OnOk result (encode_fault width height ≡ None) }
+    ensures found { IfOk result (λ found. found ≡ stride_of stride (4 * width)) }
+    ensures wide { IfOk result (λ found. 4 * width ≤ found) }
+    ensures room { IfOk result (λ found. extent found (4 * width) height ≤ bytes) }
+{
     if let Err(error) = validate_encode_dimensions(width, height) {
         return Err(code_of(&error));
     }
     let wide = 4 * width;
     let stride = stride_of(stride, wide);
-    let Some(size) = wanted(stride, wide, height) else {
-        return Err(BAD_STRIDE);
-    };
-    if pixels.len() < size {
-        return Err(BUFFER_MISMATCH);
+    match wanted(stride, wide, height) {
+        Some(size) if size <= bytes => Ok(stride),
+        Some(_) => Err(BUFFER_MISMATCH),
+        None => Err(BAD_STRIDE),
     }
-    let settings = settings(p1, p2, -1);
-    text_of_rows(alloc, pixels, stride, width, height, settings, max_colors)
 }
 
 /// The text of pixels whose rows lie at this stride, or the code of want of memory.

@@ -6,10 +6,11 @@ pub write_choice-requires : goal.write_choice-requires
 write_choice-requires c =
     let few = length-entries c.args.pixels.now c.args.max_colors _ c.in-Ok.ensures.palette in
     let witnesses = length-witnesses c.args.pixels.now c.args.max_colors _ _ c.in-Ok.ensures.palette c.in-Ok.ensures.witnesses in
+    let done = c.if-code-ne-DONE.false in
     record {
-      colors = omega (arith, few, c.if-colors-room.false, c.from-room.ensures, c.clamp.ensures);
-      witnesses = omega (arith, witnesses, c.if-witnesses-room.false, c.from-room.ensures, c.clamp.ensures);
-      indices = omega (arith, c.in-Ok.ensures.indices.one_each, c.if-indices-pixels.false);
+      colors = omega (arith, few, c.rooms_code-code.ensures.colors done);
+      witnesses = omega (arith, witnesses, c.rooms_code-code.ensures.witnesses done);
+      indices = omega (arith, c.in-Ok.ensures.indices.one_each, c.rooms_code-code.ensures.indices done);
     }
 
 pub returns-in-Ok-clause-palette : goal.returns-in-Ok-clause-palette
@@ -55,9 +56,6 @@ returns-in-Ok-clause-colors c = λ _. ap length c.write_choice.ensures.colors �
 
 pub returns-in-Ok-clause-witness_count : goal.returns-in-Ok-clause-witness_count
 returns-in-Ok-clause-witness_count c = λ _. ap length c.write_choice.ensures.witnesses ∙ sym c.write_choice.ensures.witness_count
-
-pub returns-then-colors-room-clause-few_colors : goal.returns-then-colors-room-clause-few_colors
-returns-then-colors-room-clause-few_colors c = omega arith
 
 pub returns-in-Ok-clause-colors_after : goal.returns-in-Ok-clause-colors_after
 returns-in-Ok-clause-colors_after c = λ _. c.write_choice.ensures.colors_after

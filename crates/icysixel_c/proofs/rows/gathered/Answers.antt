@@ -3,19 +3,9 @@ use Rattle.std.specs.Prelude.{slice_range}
 use Rattle.icysixel_c.proofs.Spread.{row_inside, rows_more}
 use Rattle.icysixel_c.proofs.rows.gathered.Goals as goal
 
-pub overflow_mul-start : goal.overflow_mul-start
-overflow_mul-start c = omega (arith, row_inside c.args.stride c.args.wide c.args.height c.loop-row.row c.loop-row-test.true)
-
-pub overflow_add-start : goal.overflow_add-start
-overflow_add-start c = omega (arith, row_inside c.args.stride c.args.wide c.args.height c.loop-row.row c.loop-row-test.true)
-
-pub slice_bounds-extend_from_slice-start : goal.slice_bounds-extend_from_slice-start
-slice_bounds-extend_from_slice-start c =
-    omega (arith, row_inside c.args.stride c.args.wide c.args.height c.loop-row.row c.loop-row-test.true)
-
-pub slice_bounds-extend_from_slice-end : goal.slice_bounds-extend_from_slice-end
-slice_bounds-extend_from_slice-end c =
-    omega (arith, row_inside c.args.stride c.args.wide c.args.height c.loop-row.row c.loop-row-test.true)
+pub row_of-requires : goal.row_of-requires
+row_of-requires c =
+    omega (arith, row_inside c.args.stride c.args.wide c.args.height c.loop-row.row c.loop-row-test.true, c.requires.room)
 
 pub loop-row-preserved : goal.loop-row-preserved
 loop-row-preserved c =
@@ -27,7 +17,7 @@ loop-row-preserved c =
     let start = row * stride in
     let slice = slice_range bytes start (start + wide) in
     let inside = row_inside stride wide c.args.height row c.loop-row-test.true in
-    let pushed = c.in_ok-extend_from_slice.ensures.items in (
+    let pushed = rw c.row_of.ensures.rows at c.in_ok-extend_from_slice.ensures.items in (
       pushed ∙ (ap (λ xs. xs ++ slice) c.loop-row.invariant.0 ∙ sym (rows_more stride wide row bytes)),
       omega (arith, inside, c.requires.room, ap length pushed, length-append rows slice, length-take (start + wide - start) (drop start bytes), length-drop start bytes, c.loop-row.invariant.1),
     )
