@@ -15,3 +15,6 @@ returns-clause-refused c = λ opened accepted refused.
 
 pub returns-clause-dropped : goal.returns-clause-dropped
 returns-clause-dropped c = search rules
+
+pub returns-then-not-is_receiving-clause-dropped : goal.returns-then-not-is_receiving-clause-dropped
+returns-then-not-is_receiving-clause-dropped c = search rules

@@ -1,0 +1,5 @@
+use Rattle.std.proofs.Common.{arith}
+use Rattle.icysixel_c.proofs.limits.icysixel_limit.Goals as goal
+
+pub returns-clause-value : goal.returns-clause-value
+returns-clause-value c = grind arith
