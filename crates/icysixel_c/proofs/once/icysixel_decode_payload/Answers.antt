@@ -1,5 +1,18 @@
-use Rattle.std.proofs.Common.{◌≡◌, arith, rules}
+use Rattle.std.proofs.Common.{◌≡◌, Option, Some, None, Result, Ok, Err, OnErr, IfOk, subst, ap, ◌∙◌, arith, rules}
+use Rattle.sixel_base.specs.declared.error.SixelError.{SixelError}
+use Rattle.sixel_base.specs.Decoder.{origin_of}
+use Rattle.sixel_base.specs.Payload.{payload_image}
+use Rattle.icy_sixel.specs.ImageView.{image_value}
+use Rattle.icy_sixel.specs.declared.sixel_image.SixelImage.{SixelImage}
+use Rattle.icysixel_c.specs.Code.{settings_of}
 use Rattle.icysixel_c.proofs.once.icysixel_decode_payload.Goals as goal
+
+-- what holds of the image that was decoded holds of the one that is kept
+of_kept : (answer : Result SixelImage SixelError) (kept : Option SixelImage) (P : SixelImage → Type 0) → IfOk answer P → IfOk answer (λ image. kept ≡ Some image) → OnErr answer (kept ≡ None) → (image : SixelImage) → kept ≡ Some image → P image
+of_kept (Ok found) kept P holds is none image kept_is =
+    let same : found ≡ image = grind (arith, is, kept_is) in
+    subst P same holds
+of_kept (Err error) kept P holds is none image kept_is = absurd (grind (arith, none, kept_is))
 
 pub returns-clause-refused : goal.returns-clause-refused
 returns-clause-refused c = λ before is refused.
@@ -7,4 +20,11 @@ returns-clause-refused c = λ before is refused.
     rw (← same) (c.keep_answer.ensures.code _ _ refused c.decode_from_dcs-answer.ensures.refused)
 
 pub returns-clause-image : goal.returns-clause-image
-returns-clause-image c = search rules
+returns-clause-image c = λ before after image is is_now kept.
+    let same : c.replace_decoder-decoder.result ≡ before.receiver.decoder = grind (arith, c.state-state.ensures.value) in
+    let now : c.keep_answer.new.self.image ≡ Some image = grind arith in
+    let settings : c.settings.result ≡ settings_of c.args.p1 c.args.p2 c.args.grid = search rules in
+    let bytes = c.args.bytes.now in
+    of_kept c.decode_from_dcs-answer.result c.keep_answer.new.self.image (λ image. image_value image ≡ payload_image (origin_of c.replace_decoder-decoder.result c.settings.result) bytes) c.decode_from_dcs-answer.ensures.image c.keep_answer.ensures.image c.keep_answer.ensures.dropped image now
+    ∙ (ap (λ decoder. payload_image (origin_of decoder c.settings.result) bytes) same
+    ∙ ap (λ settings. payload_image (origin_of before.receiver.decoder settings) bytes) settings)
