@@ -1,11 +1,11 @@
-use Rattle.std.proofs.Common.{rules}
+use Rattle.std.proofs.Common.{refl}
 use Rattle.icysixel_c.proofs.sessions.feed.Goals as goal
 
 pub returns-then-not-is_receiving-clause-closed : goal.returns-then-not-is_receiving-clause-closed
-returns-then-not-is_receiving-clause-closed c = search rules
+returns-then-not-is_receiving-clause-closed c = λ closed. refl
 
 pub returns-in-Ok-clause-consumed : goal.returns-in-Ok-clause-consumed
-returns-in-Ok-clause-consumed c = search rules
+returns-in-Ok-clause-consumed c = λ done. rw c.of.ensures.consumed c.in-Ok.ensures.consumed
 
 -- a refusal is not told as done
 pub returns-in-Err-clause-accepted : goal.returns-in-Err-clause-accepted
