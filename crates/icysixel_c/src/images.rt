@@ -27,7 +27,7 @@ use std::mem;
 /// Closes the image, keeps it in place of the one before, and tells its shape where the answer is
 /// 0.
 #[unsafe(no_mangle)]
-pub extern "C" fn icysixel_finish(alloc: Global, slot: &mut Slot, shape: &mut Shape) -> u32
+pub extern "C" fn icysixel_finish(slot: &mut Slot, shape: &mut Shape) -> u32
     ensures held { is_some slot.new.handle.state ≡ is_some slot.old.handle.state }
     ensures none { slot.old.handle.state ≡ None → result ≡ 1 }
     ensures unopened { (before : State) → slot.old.handle.state ≡ Some before
@@ -125,7 +125,6 @@ fn finish(state: &mut State, shape: &mut Shape) -> u32
 /// Moves the pixels of the image that is kept into the room, and tells how many bytes that takes.
 #[unsafe(no_mangle)]
 pub extern "C" fn icysixel_pixels(
-    alloc: Global,
     slot: &mut Slot,
     room: &mut [u8],
     stride: usize,
@@ -301,7 +300,7 @@ pub extern "C" fn icysixel_free_bytes(alloc: Global, bytes: &mut Bytes)
 
 /// Frees the image and the text that are kept, if any are.
 #[unsafe(no_mangle)]
-pub extern "C" fn icysixel_drop(alloc: Global, slot: &mut Slot) -> u32
+pub extern "C" fn icysixel_drop(slot: &mut Slot) -> u32
     ensures held { is_some slot.new.handle.state ≡ is_some slot.old.handle.state }
     ensures none { slot.old.handle.state ≡ None → result ≡ 1 }
     ensures done { is_some slot.old.handle.state ≡ true → result ≡ 0 }

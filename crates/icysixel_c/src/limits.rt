@@ -7,11 +7,10 @@ ghost use Rattle.icysixel_c.specs.declared.state.State.{State};
 
 use crate::code::{DONE, NO_HANDLE};
 use crate::slot::Slot;
-use std::alloc::Global;
 
 /// Whether images are cropped to their raster attributes: 1 or 0.
 #[unsafe(no_mangle)]
-pub extern "C" fn icysixel_crop(alloc: Global, slot: &mut Slot) -> u8
+pub extern "C" fn icysixel_crop(slot: &mut Slot) -> u8
     ensures same { slot.new.handle.state ≡ slot.old.handle.state }
     ensures none { slot.old.handle.state ≡ None → result ≡ 0 }
     ensures value { (state : State) → slot.old.handle.state ≡ Some state
@@ -25,7 +24,7 @@ pub extern "C" fn icysixel_crop(alloc: Global, slot: &mut Slot) -> u8
 
 /// Sets whether images are cropped to their raster attributes: 0 is no, any other number yes.
 #[unsafe(no_mangle)]
-pub extern "C" fn icysixel_set_crop(alloc: Global, slot: &mut Slot, on: u8) -> u32
+pub extern "C" fn icysixel_set_crop(slot: &mut Slot, on: u8) -> u32
     ensures held { is_some slot.new.handle.state ≡ is_some slot.old.handle.state }
     ensures none { slot.old.handle.state ≡ None → result ≡ 1 }
     ensures done { is_some slot.old.handle.state ≡ true → result ≡ 0 }
@@ -46,7 +45,7 @@ pub extern "C" fn icysixel_set_crop(alloc: Global, slot: &mut Slot, on: u8) -> u
 
 /// How many pixels an image may have, 0 where the handle holds nothing.
 #[unsafe(no_mangle)]
-pub extern "C" fn icysixel_limit(alloc: Global, slot: &mut Slot) -> usize
+pub extern "C" fn icysixel_limit(slot: &mut Slot) -> usize
     ensures same { slot.new.handle.state ≡ slot.old.handle.state }
     ensures none { slot.old.handle.state ≡ None → result ≡ 0 }
     ensures value { (state : State) → slot.old.handle.state ≡ Some state
@@ -60,7 +59,7 @@ pub extern "C" fn icysixel_limit(alloc: Global, slot: &mut Slot) -> usize
 
 /// Sets how many pixels an image may have, at least 1, at most 67,108,864.
 #[unsafe(no_mangle)]
-pub extern "C" fn icysixel_set_limit(alloc: Global, slot: &mut Slot, pixels: usize) -> u32
+pub extern "C" fn icysixel_set_limit(slot: &mut Slot, pixels: usize) -> u32
     ensures held { is_some slot.new.handle.state ≡ is_some slot.old.handle.state }
     ensures none { slot.old.handle.state ≡ None → result ≡ 1 }
     ensures done { is_some slot.old.handle.state ≡ true → result ≡ 0 }

@@ -7,7 +7,6 @@ ghost use Rattle.icysixel_c.specs.declared.state.State.{State};
 
 use crate::code::{DONE, NO_HANDLE, NO_SESSION, NO_SIZE};
 use crate::slot::Slot;
-use std::alloc::Global;
 
 /// Sizes in pixels.
 #[repr(C)]
@@ -19,7 +18,7 @@ pub struct Size {
 
 /// Whether an image is open: 1 or 0.
 #[unsafe(no_mangle)]
-pub extern "C" fn icysixel_is_receiving(alloc: Global, slot: &mut Slot) -> u8
+pub extern "C" fn icysixel_is_receiving(slot: &mut Slot) -> u8
     ensures same { slot.new.handle.state ≡ slot.old.handle.state }
     ensures none { slot.old.handle.state ≡ None → result ≡ 0 }
     ensures value { (state : State) → slot.old.handle.state ≡ Some state
@@ -33,7 +32,7 @@ pub extern "C" fn icysixel_is_receiving(alloc: Global, slot: &mut Slot) -> u8
 
 /// Whether the payload of the image that is open has begun, and was not refused: 1 or 0.
 #[unsafe(no_mangle)]
-pub extern "C" fn icysixel_in_payload(alloc: Global, slot: &mut Slot) -> u8
+pub extern "C" fn icysixel_in_payload(slot: &mut Slot) -> u8
     ensures same { slot.new.handle.state ≡ slot.old.handle.state }
     ensures none { slot.old.handle.state ≡ None → result ≡ 0 }
     ensures accepted { (state : State) → slot.old.handle.state ≡ Some state
@@ -51,7 +50,7 @@ pub extern "C" fn icysixel_in_payload(alloc: Global, slot: &mut Slot) -> u8
 /// How many pixels were copied or filled to grow the rows of the image that is open, 0 where none
 /// is.
 #[unsafe(no_mangle)]
-pub extern "C" fn icysixel_canvas_writes(alloc: Global, slot: &mut Slot) -> u64
+pub extern "C" fn icysixel_canvas_writes(slot: &mut Slot) -> u64
     ensures same { slot.new.handle.state ≡ slot.old.handle.state }
     ensures none { slot.old.handle.state ≡ None → result ≡ 0 }
     ensures value { (state : State) → slot.old.handle.state ≡ Some state
@@ -67,7 +66,7 @@ pub extern "C" fn icysixel_canvas_writes(alloc: Global, slot: &mut Slot) -> u64
 
 /// How many pixels sixels of the image that is open have painted so far, at most: 0 where no image is.
 #[unsafe(no_mangle)]
-pub extern "C" fn icysixel_canvas_paints(alloc: Global, slot: &mut Slot) -> u64
+pub extern "C" fn icysixel_canvas_paints(slot: &mut Slot) -> u64
     ensures same { slot.new.handle.state ≡ slot.old.handle.state }
     ensures none { slot.old.handle.state ≡ None → result ≡ 0 }
     ensures value { (state : State) → slot.old.handle.state ≡ Some state
@@ -84,7 +83,7 @@ pub extern "C" fn icysixel_canvas_paints(alloc: Global, slot: &mut Slot) -> u64
 
 /// Tells the sizes that the image that is open has so far.
 #[unsafe(no_mangle)]
-pub extern "C" fn icysixel_size_so_far(alloc: Global, slot: &mut Slot, size: &mut Size) -> u32
+pub extern "C" fn icysixel_size_so_far(slot: &mut Slot, size: &mut Size) -> u32
     ensures same { slot.new.handle.state ≡ slot.old.handle.state }
     ensures none { slot.old.handle.state ≡ None → result ≡ 1 }
     ensures closed { (state : State) → slot.old.handle.state ≡ Some state

@@ -8,7 +8,6 @@ ghost use Rattle.icysixel_c.specs.declared.state.State.{State};
 
 use crate::code::{DONE, NO_HANDLE};
 use crate::slot::Slot;
-use std::alloc::Global;
 
 /// A color, a byte a channel.
 #[repr(C)]
@@ -31,12 +30,7 @@ impl Color {
 
 /// Tells the color of a register of the decoder.
 #[unsafe(no_mangle)]
-pub extern "C" fn icysixel_register(
-    alloc: Global,
-    slot: &mut Slot,
-    register: u8,
-    color: &mut Color,
-) -> u32
+pub extern "C" fn icysixel_register(slot: &mut Slot, register: u8, color: &mut Color) -> u32
     ensures same { slot.new.handle.state ≡ slot.old.handle.state }
     ensures none { slot.old.handle.state ≡ None → result ≡ 1 }
     ensures done { is_some slot.old.handle.state ≡ true → result ≡ 0 }
@@ -55,7 +49,6 @@ pub extern "C" fn icysixel_register(
 /// Gives a register of the decoder this color.
 #[unsafe(no_mangle)]
 pub extern "C" fn icysixel_set_register(
-    alloc: Global,
     slot: &mut Slot,
     register: u8,
     red: u8,
@@ -87,7 +80,7 @@ pub extern "C" fn icysixel_set_register(
 
 /// Makes the decoder's registers those of a new one.
 #[unsafe(no_mangle)]
-pub extern "C" fn icysixel_reset(alloc: Global, slot: &mut Slot) -> u32
+pub extern "C" fn icysixel_reset(slot: &mut Slot) -> u32
     ensures held { is_some slot.new.handle.state ≡ is_some slot.old.handle.state }
     ensures none { slot.old.handle.state ≡ None → result ≡ 1 }
     ensures done { is_some slot.old.handle.state ≡ true → result ≡ 0 }

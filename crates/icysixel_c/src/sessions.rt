@@ -133,7 +133,7 @@ fn begin_payload(receiver: &mut SixelReceiver, alloc: Global, p1: i32, p2: i32, 
 
 /// Reads a piece of the image that is open, and tells what it did where the answer is 0.
 #[unsafe(no_mangle)]
-pub extern "C" fn icysixel_feed(alloc: Global, slot: &mut Slot, piece: &[u8], fed: &mut Fed) -> u32
+pub extern "C" fn icysixel_feed(slot: &mut Slot, piece: &[u8], fed: &mut Fed) -> u32
     ensures held { is_some slot.new.handle.state ≡ is_some slot.old.handle.state }
     ensures none { slot.old.handle.state ≡ None → result ≡ 1 }
     ensures closed { (before : State) → slot.old.handle.state ≡ Some before
@@ -244,7 +244,7 @@ fn feed(state: &mut State, piece: &[u8], fed: &mut Fed) -> u32
 
 /// Gives up the image that is open, if one is.
 #[unsafe(no_mangle)]
-pub extern "C" fn icysixel_abort(alloc: Global, slot: &mut Slot) -> u32
+pub extern "C" fn icysixel_abort(slot: &mut Slot) -> u32
     ensures held { is_some slot.new.handle.state ≡ is_some slot.old.handle.state }
     ensures none { slot.old.handle.state ≡ None → result ≡ 1 }
     ensures done { is_some slot.old.handle.state ≡ true → result ≡ 0 }

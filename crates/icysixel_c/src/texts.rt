@@ -198,12 +198,7 @@ fn text_of(
 
 /// Moves the text that is kept into the room, and tells how many bytes it has.
 #[unsafe(no_mangle)]
-pub extern "C" fn icysixel_take_text(
-    alloc: Global,
-    slot: &mut Slot,
-    room: &mut [u8],
-    bytes: &mut usize,
-) -> u32
+pub extern "C" fn icysixel_take_text(slot: &mut Slot, room: &mut [u8], bytes: &mut usize) -> u32
     ensures held { is_some slot.new.handle.state ≡ is_some slot.old.handle.state }
     ensures none { slot.old.handle.state ≡ None → result ≡ 1 }
     ensures no_text { (before : State) → slot.old.handle.state ≡ Some before
