@@ -22,7 +22,7 @@ const ENOUGH: u32 = 100_000_000;
 ///
 /// The text is split at each semicolon. An empty piece is 0, and any other piece the lesser of its
 /// decimal value and 2147483647. A text of no bytes has no field.
-#[derive(Debug, Clone, Copy, PartialEq, Eq)]
+#[derive(Clone, Copy)]
 pub struct Parameters {
     values: [u32; KEPT_FIELDS],
     count: usize,
@@ -42,7 +42,7 @@ impl Model for Parameters {
 }
 
 /// The digits that bytes begin with: the parameters that they alone are, and how many they are.
-#[derive(Debug, Clone, Copy)]
+#[derive(Clone, Copy)]
 pub struct Digits {
     pub parameters: Parameters,
     pub len: usize,

@@ -14,7 +14,7 @@ use defaults::DEFAULT_CODES;
 pub const REGISTERS: usize = 256;
 
 /// A color for each register: red, green and blue, a byte each.
-#[derive(Debug, Clone, Copy, PartialEq, Eq)]
+#[derive(Debug, Clone, Copy)]
 pub struct Registers {
     colors: [[u8; 3]; REGISTERS],
 }
