@@ -26,7 +26,7 @@ enum Way {
     AtOnce,
 }
 
-const WAYS: [Way; 4] = [Way::Pieces, Way::SingleBytes, Way::Steps, Way::AtOnce];
+const WAYS: &[Way] = &[Way::Pieces, Way::SingleBytes, Way::Steps, Way::AtOnce];
 
 /// Bytes, the decoder that they meet, and the lengths of their pieces. The last length is for all
 /// that is left.
@@ -47,15 +47,23 @@ fn settings(source: &mut Source) -> DcsSettings {
 
 /// A decoder that has decoded another payload before.
 fn used_decoder(alloc: Global, source: &mut Source) -> Result<SixelDecoder> {
-    let mut decoder = SixelDecoder::new();
-    let bytes = random_bytes(alloc, source, Kind::Payload)?;
-    let _ = decoder.decode_from_dcs(alloc, &bytes, DcsSettings::default());
-    Ok(decoder)
+    match random_bytes(alloc, source, Kind::Payload) {
+        Ok(bytes) => {
+            let mut decoder = SixelDecoder::new();
+            let _ = decoder.decode_from_dcs(alloc, &bytes, DcsSettings::default());
+            Ok(decoder)
+        }
+        Err(error) => Err(error),
+    }
 }
 
-/// Bytes of this kind with their pieces, and a decoder.
-fn random_decoding(alloc: Global, source: &mut Source, kind: Kind) -> Result<Decoding> {
-    let start = used_decoder(alloc, source)?;
+/// Bytes of this kind with their pieces, for a decoder.
+fn random_decoding(
+    alloc: Global,
+    source: &mut Source,
+    kind: Kind,
+    start: SixelDecoder,
+) -> Result<Decoding> {
     let bytes = random_bytes(alloc, source, kind)?;
     let form = match kind {
         Kind::Payload => Form::Payload(settings(source)),
@@ -74,8 +82,11 @@ fn random_decoding(alloc: Global, source: &mut Source, kind: Kind) -> Result<Dec
 
 /// Whether bytes of this kind come to the same in every way to decode them.
 pub fn is_decoding_right(alloc: Global, source: &mut Source, kind: Kind) -> bool {
-    match random_decoding(alloc, source, kind) {
-        Ok(decoding) => decoding.is_right(alloc),
+    match used_decoder(alloc, source) {
+        Ok(start) => match random_decoding(alloc, source, kind, start) {
+            Ok(decoding) => decoding.is_right(alloc),
+            Err(_) => false,
+        },
         Err(_) => false,
     }
 }
@@ -87,16 +98,16 @@ impl Decoding {
             return false;
         };
         let whole = self.play(alloc, &mut decoder, &[usize::MAX]);
-        let mut is_right = self.is_given_up(alloc) && self.is_kept(&whole, &decoder);
+        let mut is_right = self.is_given_up(alloc) & self.is_kept(&whole, &decoder);
         for way in WAYS {
-            is_right = is_right && self.agrees(alloc, way, &whole, &decoder);
+            is_right &= self.agrees(alloc, *way, &whole, &decoder);
         }
         is_right
     }
 
     /// Whether the registers are as they were, where a session was refused.
     fn is_kept(&self, whole: &Outcome, left: &SixelDecoder) -> bool {
-        !matches!(whole, Outcome::Failed(_)) || have_same_registers(left, &self.start)
+        !matches!(whole, Outcome::Failed(_)) | have_same_registers(left, &self.start)
     }
 
     /// Whether a way comes to this outcome, and leaves the registers of this decoder.
@@ -106,7 +117,7 @@ impl Decoding {
         };
         let outcome = self.decode(alloc, way, &mut decoder);
         self.may_differ(way, whole)
-            || is_same_outcome(&outcome, whole) && have_same_registers(&decoder, left)
+            | is_same_outcome(&outcome, whole) & have_same_registers(&decoder, left)
     }
 
     /// Whether a way may come to something else: bytes that are refused as they come may have a
@@ -197,6 +208,6 @@ impl Decoding {
             Form::Payload(settings) => give_up_frame(alloc, &mut decoder, settings, bytes, cuts),
             Form::ControlString => give_up_string(alloc, &mut decoder, bytes, cuts),
         };
-        is_begun && have_same_registers(&decoder, &self.start)
+        is_begun & have_same_registers(&decoder, &self.start)
     }
 }

@@ -19,6 +19,7 @@ use payloads::Kind;
 use program::{Part, write_part};
 use source::Source;
 use std::alloc::Global;
+use std::fmt::Display;
 use std::io::Write;
 use std::process::ExitCode;
 use std::{env, io};
@@ -34,13 +35,13 @@ fn run(rt: &HostRuntime, arguments: &[String]) -> io::Result<ExitCode> {
     match arguments {
         [_, count, seed] => match numbers(count, seed) {
             Some((count, seed)) => try_cases(rt, count, seed),
-            None => usage(rt),
+            None => stop(rt, "usage", 2),
         },
         [_, part, seed, case] => match (Part::of(part), numbers(seed, case)) {
             (Some(part), Some((seed, case))) => tell_part(rt, part, Source::new(seed, case)),
-            _ => usage(rt),
+            _ => stop(rt, "usage", 2),
         },
-        _ => usage(rt),
+        _ => stop(rt, "usage", 2),
     }
 }
 
@@ -51,9 +52,12 @@ fn numbers(first: &str, second: &str) -> Option<(u64, u64)> {
     }
 }
 
-fn usage(rt: &HostRuntime) -> io::Result<ExitCode> {
-    rt.eprintln("usage")?;
-    Ok(ExitCode::from(2))
+/// Tells why nothing more is done, and gives the status that says so.
+fn stop<T: Display + Drop>(rt: &HostRuntime, why: T, status: u8) -> io::Result<ExitCode> {
+    match rt.eprintln(why) {
+        Ok(()) => Ok(ExitCode::from(status)),
+        Err(error) => Err(error),
+    }
 }
 
 /// Tries so many cases, and tells which are wrong.
@@ -65,12 +69,10 @@ fn try_cases(rt: &HostRuntime, count: u64, seed: u64) -> io::Result<ExitCode> {
             wrong = wrong.saturating_add(1);
         }
     }
-    println!(rt; "{count} cases, {wrong} wrong")?;
-    Ok(if wrong == 0 {
-        ExitCode::SUCCESS
-    } else {
-        ExitCode::FAILURE
-    })
+    match println!(rt; "{count} cases, {wrong} wrong") {
+        Ok(()) => Ok(ExitCode::from(u8::from(wrong > 0))),
+        Err(error) => Err(error),
+    }
 }
 
 /// Whether a case is right: a payload, a control string or a drawing.
@@ -89,9 +91,8 @@ fn tell_part(rt: &HostRuntime, part: Part, source: Source) -> io::Result<ExitCod
     let mut output = Written::new(rt.alloc());
     let answer = write_part(rt.alloc(), part, source, &mut output);
     rt.stdout().write_all(&output.bytes)?;
-    if let Err(error) = answer {
-        rt.eprintln(error)?;
-        return Ok(ExitCode::FAILURE);
+    match answer {
+        Ok(()) => Ok(ExitCode::SUCCESS),
+        Err(error) => stop(rt, error, 1),
     }
-    Ok(ExitCode::SUCCESS)
 }

@@ -2,7 +2,7 @@
 
 use crate::source::Source;
 use crate::written::Written;
-use icy_sixel::Result;
+use icy_sixel::{Result, SixelError};
 use std::alloc::Global;
 
 /// What bytes are made as.
@@ -16,13 +16,13 @@ pub enum Kind {
 }
 
 // Numbers of a command as a producer writes them, of repeats and sizes that stay small.
-const NUMBERS: [&[u8]; 16] = [
+const NUMBERS: &[&[u8]; 16] = &[
     b"", b"0", b"1", b"2", b"3", b"4", b"5", b"7", b"12", b"007", b"50", b"99", b"100", b"101",
     b"255", b"300",
 ];
 
 // Numbers at the limits and beyond them.
-const LIMITS: [&[u8]; 8] = [
+const LIMITS: &[&[u8]; 8] = &[
     b"65535",
     b"65536",
     b"1000000",
@@ -33,7 +33,7 @@ const LIMITS: [&[u8]; 8] = [
     b"000000000000000000000065536",
 ];
 
-const TERMINATORS: [&[u8]; 8] = [
+const TERMINATORS: &[&[u8]; 8] = &[
     b"\x1b\\",
     b"\x9c",
     b"\x18",
@@ -44,9 +44,9 @@ const TERMINATORS: [&[u8]; 8] = [
     b"\x1b\n\\",
 ];
 
-const INTRODUCERS: [&[u8]; 4] = [b"\x1bP", b"\x90", b"\x1b", b"text\x1bP"];
+const INTRODUCERS: &[&[u8]; 4] = &[b"\x1bP", b"\x90", b"\x1b", b"text\x1bP"];
 
-const HEADERS: [&[u8]; 8] = [
+const HEADERS: &[&[u8]; 8] = &[
     b"q",
     b"q",
     b";1q",
@@ -58,7 +58,7 @@ const HEADERS: [&[u8]; 8] = [
 ];
 
 // Bytes that no command begins with, and controls that are ignored.
-const SKIPPED: [&[u8]; 8] = [b" ", b"\n", b"%", b"9", b";", b"\x7f", b"\xa0", b"\xff"];
+const SKIPPED: &[&[u8]; 8] = &[b" ", b"\n", b"%", b"9", b";", b"\x7f", b"\xa0", b"\xff"];
 
 /// One text of a table.
 fn write_one(source: &mut Source, table: &[&[u8]; 8], bytes: &mut Written) {
@@ -68,7 +68,7 @@ fn write_one(source: &mut Source, table: &[&[u8]; 8], bytes: &mut Written) {
 /// A number of a command.
 fn write_number(source: &mut Source, bytes: &mut Written) {
     if source.is_rare(200) {
-        write_one(source, &LIMITS, bytes);
+        write_one(source, LIMITS, bytes);
     } else {
         bytes.write(NUMBERS[source.place(16)]);
     }
@@ -114,7 +114,7 @@ fn write_token(source: &mut Source, bytes: &mut Written) {
             let count = source.below(6);
             write_fields(source, b"\"", count, bytes);
         }
-        _ => write_one(source, &SKIPPED, bytes),
+        _ => write_one(source, SKIPPED, bytes),
     }
 }
 
@@ -128,7 +128,7 @@ fn write_tokens(source: &mut Source, bytes: &mut Written) {
 fn write_payload(source: &mut Source, bytes: &mut Written) {
     write_tokens(source, bytes);
     if source.is_rare(4) {
-        write_one(source, &TERMINATORS, bytes);
+        write_one(source, TERMINATORS, bytes);
         write_tokens(source, bytes);
     }
 }
@@ -137,9 +137,9 @@ fn write_payload(source: &mut Source, bytes: &mut Written) {
 fn write_string(source: &mut Source, bytes: &mut Written) {
     let introducers = if source.is_rare(8) { 4 } else { 2 };
     bytes.write(INTRODUCERS[source.place(introducers)]);
-    write_one(source, &HEADERS, bytes);
+    write_one(source, HEADERS, bytes);
     write_tokens(source, bytes);
-    write_one(source, &TERMINATORS, bytes);
+    write_one(source, TERMINATORS, bytes);
 }
 
 /// Bytes of a kind, before any is changed.
@@ -191,13 +191,17 @@ pub fn random_bytes(alloc: Global, source: &mut Source, kind: Kind) -> Result<Ve
 
 /// Lengths of pieces, some of them 0, with the last one for all that is left.
 pub fn cuts(alloc: Global, source: &mut Source) -> Result<Vec<usize>> {
-    let mut cuts = vec![in alloc; usize::MAX; 1 + source.below(60) as usize]?;
-    if let [lengths @ .., _] = cuts.as_mut_slice() {
-        for length in lengths {
-            *length = random_length(source);
+    match vec![in alloc; usize::MAX; 1 + source.below(60) as usize] {
+        Ok(mut cuts) => {
+            if let [lengths @ .., _] = cuts.as_mut_slice() {
+                for length in lengths {
+                    *length = random_length(source);
+                }
+            }
+            Ok(cuts)
         }
+        Err(_) => Err(SixelError::OutOfMemory),
     }
-    Ok(cuts)
 }
 
 fn random_length(source: &mut Source) -> usize {

@@ -2,28 +2,33 @@
 
 use icy_sixel::script::{Outcome, Status};
 use icy_sixel::{
-    DcsSettings, Result, SixelDcsFeedResult, SixelDcsFeedStatus, SixelDcsStreamDecoder,
-    SixelDecoder, SixelError, SixelFeedResult, SixelFeedStatus, SixelImage, SixelStreamDecoder,
+    DcsSettings, Result, SixelDcsFeedStatus, SixelDcsStreamDecoder, SixelDecoder, SixelError,
+    SixelFeedStatus, SixelImage, SixelStreamDecoder,
 };
 use std::alloc::Global;
 
-/// Feeds a payload in pieces of these lengths. A session that has ended is fed further.
+/// Feeds a payload in pieces of these lengths, up to a refusal, and tells how many bytes were
+/// consumed and how the session stands. One that has ended is fed further.
 fn feed_frame(
     session: &mut SixelStreamDecoder<'_>,
     bytes: &[u8],
     cuts: &[usize],
-) -> Result<SixelFeedResult> {
+) -> Result<(usize, Status)> {
     let mut consumed: usize = 0;
     let mut status = SixelFeedStatus::NeedMoreData;
     let mut rest = bytes;
     for cut in cuts {
         let (piece, after) = rest.split_at(rest.len().min(*cut));
-        let fed = session.feed(piece)?;
-        consumed = consumed.saturating_add(fed.consumed);
-        status = fed.status;
+        match session.feed(piece) {
+            Ok(fed) => {
+                consumed = consumed.saturating_add(fed.consumed);
+                status = fed.status;
+            }
+            Err(error) => return Err(error),
+        }
         rest = after;
     }
-    Ok(SixelFeedResult { consumed, status })
+    Ok((consumed, Status::Payload(status)))
 }
 
 /// The same of a control string.
@@ -31,22 +36,26 @@ fn feed_string(
     session: &mut SixelDcsStreamDecoder<'_>,
     bytes: &[u8],
     cuts: &[usize],
-) -> Result<SixelDcsFeedResult> {
+) -> Result<(usize, Status)> {
     let mut consumed: usize = 0;
     let mut status = SixelDcsFeedStatus::NeedMoreData;
     let mut rest = bytes;
     for cut in cuts {
         let (piece, after) = rest.split_at(rest.len().min(*cut));
-        let fed = session.feed(piece)?;
-        consumed = consumed.saturating_add(fed.consumed);
-        status = fed.status;
+        match session.feed(piece) {
+            Ok(fed) => {
+                consumed = consumed.saturating_add(fed.consumed);
+                status = fed.status;
+            }
+            Err(error) => return Err(error),
+        }
         rest = after;
     }
-    Ok(SixelDcsFeedResult { consumed, status })
+    Ok((consumed, Status::Dcs(status)))
 }
 
-/// What a session of a payload in pieces of these lengths comes to. It is dropped at a refusal, and
-/// else finished.
+/// What a session of a payload in pieces of these lengths comes to. It is finished also after a
+/// refusal.
 pub fn play_frame(
     alloc: Global,
     decoder: &mut SixelDecoder,
@@ -55,12 +64,10 @@ pub fn play_frame(
     cuts: &[usize],
 ) -> Outcome {
     match decoder.begin_frame(alloc, settings) {
-        Ok(mut session) => match feed_frame(&mut session, bytes, cuts) {
-            Ok(SixelFeedResult { consumed, status }) => {
-                finished(consumed, Status::Payload(status), session.finish())
-            }
-            Err(error) => Outcome::Failed(error),
-        },
+        Ok(mut session) => {
+            let fed = feed_frame(&mut session, bytes, cuts);
+            finished(fed, session.finish())
+        }
         Err(error) => Outcome::Failed(error),
     }
 }
@@ -73,21 +80,20 @@ pub fn play_string(
     cuts: &[usize],
 ) -> Outcome {
     let mut session = decoder.begin_dcs(alloc);
-    match feed_string(&mut session, bytes, cuts) {
-        Ok(SixelDcsFeedResult { consumed, status }) => {
-            finished(consumed, Status::Dcs(status), session.finish())
-        }
-        Err(error) => Outcome::Failed(error),
-    }
+    let fed = feed_string(&mut session, bytes, cuts);
+    finished(fed, session.finish())
 }
 
-/// What a session came to that consumed so many bytes and stood so, and then was finished.
-fn finished(consumed: usize, status: Status, image: Result<SixelImage>) -> Outcome {
-    match image {
-        Ok(image) => Outcome::Finished {
-            consumed,
-            status,
-            image,
+/// What a session came to that was fed so, and then was finished so.
+fn finished(fed: Result<(usize, Status)>, image: Result<SixelImage>) -> Outcome {
+    match fed {
+        Ok((consumed, status)) => match image {
+            Ok(image) => Outcome::Finished {
+                consumed,
+                status,
+                image,
+            },
+            Err(error) => Outcome::Failed(error),
         },
         Err(error) => Outcome::Failed(error),
     }
@@ -149,9 +155,9 @@ pub fn is_same_outcome(one: &Outcome, other: &Outcome) -> bool {
                 image: other_image,
             },
         ) => {
-            consumed == other_consumed
-                && status == other_status
-                && is_same_image(image, other_image)
+            (consumed == other_consumed)
+                & (status == other_status)
+                & is_same_image(image, other_image)
         }
         (Outcome::Decoded(image), Outcome::Finished { image: other, .. }) => {
             is_same_image(image, other)
@@ -163,25 +169,24 @@ pub fn is_same_outcome(one: &Outcome, other: &Outcome) -> bool {
 
 /// Whether two refusals are the same, and not for want of memory, which is there.
 fn is_same_error(one: &SixelError, other: &SixelError) -> bool {
-    one == other && *one != SixelError::OutOfMemory
+    (one == other) & (*one != SixelError::OutOfMemory)
 }
 
 /// Whether two images are equal in all their fields, and whole.
 pub fn is_same_image(one: &SixelImage, other: &SixelImage) -> bool {
-    one.width == other.width
-        && one.height == other.height
-        && one.aspect_ratio == other.aspect_ratio
-        && one.background_mode == other.background_mode
-        && one.pixels.as_slice() == other.pixels.as_slice()
-        && one.width.saturating_mul(one.height).saturating_mul(4) == one.pixels.len()
+    (one.width == other.width)
+        & (one.height == other.height)
+        & (one.aspect_ratio == other.aspect_ratio)
+        & (one.background_mode == other.background_mode)
+        & (one.pixels.as_slice() == other.pixels.as_slice())
+        & (one.width.saturating_mul(one.height).saturating_mul(4) == one.pixels.len())
 }
 
 /// Whether all registers of two decoders are equal.
 pub fn have_same_registers(one: &SixelDecoder, other: &SixelDecoder) -> bool {
+    let mut are_same = true;
     for register in 0..=255 {
-        if one.register(register) != other.register(register) {
-            return false;
-        }
+        are_same &= one.register(register) == other.register(register);
     }
-    true
+    are_same
 }

@@ -3,7 +3,7 @@
 use crate::payloads::{Kind, random_bytes};
 use crate::played::play_string;
 use crate::source::Source;
-use crate::trips::random_drawing;
+use crate::trips::{Drawing, random_drawing};
 use crate::written::Written;
 use icy_sixel::script::{Outcome, Status};
 use icy_sixel::{
@@ -53,13 +53,10 @@ pub fn write_part(
     mut source: Source,
     output: &mut Written,
 ) -> Result<()> {
-    let case = Case::new(alloc, &mut source)?;
-    match part {
-        Part::Words => case.write_words(alloc, output),
-        Part::Input => output.write(&case.input),
-        Part::Answer => return case.write_answer(alloc, output),
+    match Case::new(alloc, &mut source) {
+        Ok(case) => case.write(alloc, part, output),
+        Err(error) => Err(error),
     }
-    output.refusal()
 }
 
 impl Case {
@@ -78,16 +75,27 @@ impl Case {
 
     /// A drawing to be encoded, whose pixels may be too few.
     fn of_drawing(alloc: Global, source: &mut Source) -> Result<Case> {
-        let drawing = random_drawing(alloc, source)?;
-        let image = drawing.image;
-        let mut input = image.pixels;
-        if source.is_rare(8) {
-            input.pop();
+        match random_drawing(alloc, source) {
+            Ok(Drawing { image, max_colors }) => {
+                let mut input = image.pixels;
+                if source.is_rare(8) {
+                    input.pop();
+                }
+                let words = Words::Encode(image.width, image.height, max_colors);
+                Ok(Case { words, input })
+            }
+            Err(error) => Err(error),
         }
-        Ok(Case {
-            words: Words::Encode(image.width, image.height, drawing.max_colors),
-            input,
-        })
+    }
+
+    /// Writes a part of the run, up to a refusal.
+    fn write(&self, alloc: Global, part: Part, output: &mut Written) -> Result<()> {
+        match part {
+            Part::Words => self.write_words(alloc, output),
+            Part::Input => output.write(&self.input),
+            Part::Answer => return self.write_answer(alloc, output),
+        }
+        output.refusal()
     }
 
     /// Writes the words of the command line.
@@ -157,8 +165,10 @@ fn write_images(alloc: Global, bytes: &[u8], output: &mut Written) -> Result<()>
     let mut rest = bytes;
     for _ in 0..bytes.len() {
         if !rest.is_empty() {
-            let length = write_next(alloc, &mut decoder, rest, output)?;
-            (_, rest) = rest.split_at(rest.len().min(length));
+            match write_next(alloc, &mut decoder, rest, output) {
+                Ok(length) => (_, rest) = rest.split_at(rest.len().min(length)),
+                Err(error) => return Err(error),
+            }
         }
     }
     Ok(())

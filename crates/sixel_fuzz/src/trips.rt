@@ -41,14 +41,20 @@ fn random_pixel(source: &mut Source, has_few: bool) -> [u8; 4] {
 /// An image of up to 20 by 20 pixels, of any shape and background.
 pub fn random_drawing(alloc: Global, source: &mut Source) -> Result<Drawing> {
     let (width, height) = (1 + source.below(20), 1 + source.below(20));
-    let bytes = pixels(alloc, source, width * height)?;
-    let ratio = PixelAspectRatio::from_p1(source.below(10) as u16);
-    let mode = BackgroundMode::from_p2(source.below(2) as u16);
-    let image = SixelImage::from_rgba(bytes, width as usize, height as usize)
-        .with_aspect_ratio(ratio)
-        .with_background_mode(mode);
-    let max_colors = source.below(300) as u16;
-    Ok(Drawing { image, max_colors })
+    match pixels(alloc, source, width * height) {
+        Ok(pixels) => {
+            let image = SixelImage {
+                pixels,
+                width: width as usize,
+                height: height as usize,
+                aspect_ratio: PixelAspectRatio::from_p1(source.below(10) as u16),
+                background_mode: BackgroundMode::from_p2(source.below(2) as u16),
+            };
+            let max_colors = source.below(300) as u16;
+            Ok(Drawing { image, max_colors })
+        }
+        Err(error) => Err(error),
+    }
 }
 
 /// The squared distance of two channels.
@@ -96,10 +102,10 @@ fn read_back(pixel: &[u8], entries: &[[u8; 3]], background: [u8; 4]) -> [u8; 4] 
 fn height_of_trip(image: &SixelImage) -> usize {
     let mut count: usize = 0;
     let mut shown: usize = 0;
-    for pixel in image.pixels.chunks_exact(4) {
+    for byte in &image.pixels {
         count = count.saturating_add(1);
-        if let [_, _, _, 128..=255] = pixel {
-            shown = count;
+        if (count % 4 == 0) & (*byte >= 128) {
+            shown = count / 4;
         }
     }
     let bands = shown.div_ceil(image.width.saturating_mul(6).max(1));
@@ -113,12 +119,14 @@ fn are_read_back(image: &SixelImage, pixels: &[u8], entries: &[[u8; 3]]) -> bool
         BackgroundMode::Opaque => [0, 0, 0, 255],
     };
     let mut drawn = image.pixels.as_slice();
-    for pixel in pixels.chunks_exact(4) {
-        let (first, rest) = drawn.split_at(drawn.len().min(4));
-        if pixel != read_back(first, entries, background).as_slice() {
-            return false;
+    let mut rest = pixels;
+    for _ in 0..pixels.len() / 4 {
+        let (pixel, others) = drawn.split_at(drawn.len().min(4));
+        match rest.strip_prefix(&read_back(pixel, entries, background)) {
+            Some(after) => rest = after,
+            None => return false,
         }
-        drawn = rest;
+        drawn = others;
     }
     true
 }
@@ -126,11 +134,11 @@ fn are_read_back(image: &SixelImage, pixels: &[u8], entries: &[[u8; 3]]) -> bool
 /// Whether an image that is read back has the shape, background and size that it must have.
 fn is_of_shape(image: &SixelImage, drawn: &SixelImage) -> bool {
     let (width, height) = image.dimensions();
-    width == drawn.width
-        && height == height_of_trip(drawn)
-        && image.pixels.len() == width.saturating_mul(height).saturating_mul(4)
-        && image.aspect_ratio == drawn.aspect_ratio
-        && image.background_mode == drawn.background_mode
+    (width == drawn.width)
+        & (height == height_of_trip(drawn))
+        & (image.pixels.len() == width.saturating_mul(height).saturating_mul(4))
+        & (image.aspect_ratio == drawn.aspect_ratio)
+        & (image.background_mode == drawn.background_mode)
 }
 
 impl Drawing {
@@ -148,7 +156,7 @@ impl Drawing {
     /// Whether the drawing is read back as it must be, and what is read back stays as it is.
     fn is_right(&self, alloc: Global) -> bool {
         match self.trip(alloc, &self.image) {
-            Ok(image) => self.is_shown_by(alloc, &image) && self.is_kept(alloc, &image),
+            Ok(image) => self.is_shown_by(alloc, &image) & self.is_kept(alloc, &image),
             Err(_) => false,
         }
     }
@@ -158,7 +166,7 @@ impl Drawing {
         match choose_palette(alloc, &self.image.pixels, self.max_colors) {
             Ok(palette) => {
                 is_of_shape(image, &self.image)
-                    && are_read_back(&self.image, &image.pixels, &palette.colors)
+                    & are_read_back(&self.image, &image.pixels, &palette.colors)
             }
             Err(_) => false,
         }
@@ -169,7 +177,7 @@ impl Drawing {
     fn is_kept(&self, alloc: Global, image: &SixelImage) -> bool {
         match self.trip(alloc, image) {
             Ok(again) => {
-                is_same_image(&again, image) || image.background_mode == BackgroundMode::Opaque
+                is_same_image(&again, image) | (image.background_mode == BackgroundMode::Opaque)
             }
             Err(_) => false,
         }
