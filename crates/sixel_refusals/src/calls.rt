@@ -1,6 +1,6 @@
 //! The calls that take memory, and how each ended.
 
-use crate::images::{ImageCall, display_refused, from_str, palette};
+use crate::images::{ImageCall, display_refused, from_str, is_image, palette};
 use crate::receiver::{Form, receive};
 use crate::rows::{reach, reach_of_row};
 use crate::sessions::{control_string, frame};
@@ -8,6 +8,7 @@ use crate::steps::run_steps;
 use crate::unaided::no_memory;
 use icy_sixel::{DcsSettings, Result, SixelDecoder, SixelError, SixelImage};
 use std::alloc::Global;
+use std::fmt::Write;
 
 /// What is tried.
 #[derive(Clone, Copy)]
@@ -36,7 +37,7 @@ pub enum Way {
 }
 
 /// Every call that is tried on each decoder, in this order, with its name.
-pub const CALLS: [(&str, Call); 18] = [
+pub const CALLS: &[(&str, Call)] = &[
     ("calls that take no memory", Call::NoMemory),
     (
         "calls of an image that take no memory",
@@ -126,34 +127,45 @@ fn ended(answer: Result<bool>) -> Outcome {
 
 /// Whether decoding the payload gave its image, and made register 42 red.
 fn is_drawn(answer: Result<SixelImage>, decoder: &SixelDecoder) -> Result<bool> {
+    let start = b"\xff\x00\x00\xff\xff\x00\x00\xff";
+    let is_red = decoder.register(42) == [255, 0, 0];
+    also(is_image(answer, 301, 12, start), is_red)
+}
+
+/// Whether two things are right, of which the first may be refused.
+fn also(answer: Result<bool>, is_right: bool) -> Result<bool> {
     match answer {
-        Ok(image) => Ok(is_image(&image) && decoder.register(42) == [255, 0, 0]),
+        Ok(is_first_right) => Ok(is_first_right & is_right),
         Err(error) => Err(error),
     }
 }
 
-fn is_image(image: &SixelImage) -> bool {
-    image.width == 301
-        && image.height == 12
-        && image.pixels.len() == 4 * 301 * 12
-        && image
-            .pixels
-            .starts_with(b"\xff\x00\x00\xff\xff\x00\x00\xff")
-}
-
 /// Gives every register a color of its own, none of them that of a new decoder.
 fn define_registers(alloc: Global, decoder: &mut SixelDecoder) -> Result<bool> {
-    let mut payload = Vec::new(alloc);
-    write_definitions(alloc, &mut payload)?;
-    decoder.decode_from_dcs(alloc, &payload, DcsSettings::default())?;
-    Ok(decoder.register(0) == [0, 0, 252] && decoder.register(255) == [38, 38, 252])
+    match definitions(alloc) {
+        Ok(payload) => are_defined(
+            decoder.decode_from_dcs(alloc, payload.as_bytes(), DcsSettings::default()),
+            decoder,
+        ),
+        Err(error) => Err(error),
+    }
 }
 
-fn write_definitions(alloc: Global, payload: &mut Vec<u8>) -> Result<()> {
+/// The definitions of all registers.
+fn definitions(alloc: Global) -> Result<String> {
+    let mut payload = String::new(alloc);
     for register in 0..=255_u16 {
         let (red, green) = (register % 16, register / 16);
-        let text = format!(in alloc; "#{register};2;{red};{green};99")?;
-        payload.extend_from_slice(text.as_bytes())?;
+        if write!(payload, "#{register};2;{red};{green};99").is_err() {
+            return Err(SixelError::OutOfMemory);
+        }
     }
-    Ok(())
+    Ok(payload)
+}
+
+/// Whether the definitions gave the smallest image, and the first and the last were followed.
+fn are_defined(answer: Result<SixelImage>, decoder: &SixelDecoder) -> Result<bool> {
+    let is_first = decoder.register(0) == [0, 0, 252];
+    let is_last = decoder.register(255) == [38, 38, 252];
+    also(is_image(answer, 1, 1, &[]), is_first & is_last)
 }

@@ -1,7 +1,7 @@
 //! The calls of an image and of its palette.
 
 use crate::unaided::image_calls;
-use icy_sixel::{EncodeOptions, Result, SixelImage, choose_palette};
+use icy_sixel::{EncodeOptions, Result, SixelError, SixelImage, choose_palette};
 use std::alloc::Global;
 
 // Three pixels of three colors, and their text with two.
@@ -27,8 +27,13 @@ pub enum ImageCall {
 impl ImageCall {
     /// Makes the image, and does the call.
     pub fn run(self, alloc: Global) -> Result<bool> {
-        let pixels = Vec::from_slice(alloc, PIXELS)?;
-        let image = SixelImage::from_rgba(pixels, 3, 1);
+        match Vec::from_slice(alloc, PIXELS) {
+            Ok(pixels) => self.run_on(alloc, SixelImage::from_rgba(pixels, 3, 1)),
+            Err(_) => Err(SixelError::OutOfMemory),
+        }
+    }
+
+    fn run_on(self, alloc: Global, image: SixelImage) -> Result<bool> {
         match self {
             ImageCall::NoMemory => Ok(image_calls(image)),
             ImageCall::Encode => is_text(
@@ -36,7 +41,7 @@ impl ImageCall {
                 TEXT,
             ),
             ImageCall::Display => is_text(image.to_display_string(alloc), TEXT_OF_ALL),
-            ImageCall::Copy => is_copy(image.clone(alloc)),
+            ImageCall::Copy => is_image(image.clone(alloc), 3, 1, PIXELS),
         }
     }
 }
@@ -48,9 +53,19 @@ fn is_text(answer: Result<String>, expected: &str) -> Result<bool> {
     }
 }
 
-fn is_copy(answer: Result<SixelImage>) -> Result<bool> {
+/// Whether a call gave an image of this size, whole, whose pixels begin so.
+pub fn is_image(
+    answer: Result<SixelImage>,
+    width: usize,
+    height: usize,
+    start: &[u8],
+) -> Result<bool> {
     match answer {
-        Ok(copy) => Ok(copy.dimensions() == (3, 1) && copy.pixels.as_slice() == PIXELS),
+        Ok(image) => Ok(
+            (image.dimensions() == (width, height))
+                & (image.pixels.len() == width.saturating_mul(height).saturating_mul(4))
+                & image.pixels.starts_with(start),
+        ),
         Err(error) => Err(error),
     }
 }
@@ -61,19 +76,16 @@ pub fn display_refused(alloc: Global) -> Result<bool> {
 }
 
 pub fn from_str(alloc: Global) -> Result<bool> {
-    match SixelImage::from_str(alloc, TEXT) {
-        Ok(image) => Ok(image.dimensions() == (3, 6)),
-        Err(error) => Err(error),
-    }
+    is_image(SixelImage::from_str(alloc, TEXT), 3, 6, &[])
 }
 
 pub fn palette(alloc: Global) -> Result<bool> {
     match choose_palette(alloc, PIXELS, 2) {
         Ok(choice) => Ok(
-            choice.colors.len() == 2
-                && choice.indices.as_slice() == [0, 0, 1].as_slice()
-                && choice.error == 100
-                && choice.witnesses.len() == 3,
+            (choice.colors.len() == 2)
+                & (choice.indices.as_slice() == [0, 0, 1].as_slice())
+                & (choice.error == 100)
+                & (choice.witnesses.len() == 3),
         ),
         Err(error) => Err(error),
     }

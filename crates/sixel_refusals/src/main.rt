@@ -19,18 +19,22 @@ use told::{Told, try_call};
 
 fn main(rt: HostRuntime) -> io::Result<()> {
     let mut decoder = SixelDecoder::new();
-    tell_calls(&rt, "new decoder", &decoder)?;
-    let Told { refused, then } = try_call(rt.alloc(), Call::DefineRegisters, &mut decoder);
-    println!(rt; "definitions of all registers: {refused}{then}")?;
-    tell_calls(&rt, "used decoder", &decoder)
+    tell_calls(&rt, "new decoder, ", &decoder)?;
+    let told = try_call(rt.alloc(), Call::DefineRegisters, &mut decoder);
+    tell(&rt, "", "definitions of all registers", told)?;
+    tell_calls(&rt, "used decoder, ", &decoder)
 }
 
 /// Runs each call on a decoder with these registers.
 fn tell_calls(rt: &HostRuntime, kind: &str, start: &SixelDecoder) -> io::Result<()> {
-    for (name, call) in &CALLS {
+    for (name, call) in CALLS {
         let mut decoder = start.clone()?;
-        let Told { refused, then } = try_call(rt.alloc(), *call, &mut decoder);
-        println!(rt; "{kind}, {name}: {refused}{then}")?;
+        tell(rt, kind, name, try_call(rt.alloc(), *call, &mut decoder))?;
     }
     Ok(())
+}
+
+/// Writes the line of a call.
+fn tell(rt: &HostRuntime, kind: &str, name: &str, told: Told) -> io::Result<()> {
+    println!(rt; "{kind}{name}: {}{}", told.refused, told.then)
 }

@@ -17,16 +17,16 @@ pub enum Form {
 impl Form {
     fn pieces(self) -> &'static [&'static [u8]] {
         match self {
-            Form::Payload => &PIECES,
-            Form::ControlString => &STRING_PIECES,
+            Form::Payload => PIECES,
+            Form::ControlString => STRING_PIECES,
         }
     }
 
     /// What a receiver answers from its first refused feed on.
-    fn failed(self) -> SixelError {
+    fn failed(self) -> &'static SixelError {
         match self {
-            Form::Payload => FAILED,
-            Form::ControlString => DCS_FAILED,
+            Form::Payload => &FAILED,
+            Form::ControlString => &DCS_FAILED,
         }
     }
 }
@@ -59,13 +59,11 @@ fn finish_pieces(receiver: &mut SixelReceiver, form: Form) -> Result<SixelImage>
 /// closed by a finish that is refused.
 fn has_failed(receiver: &mut SixelReceiver, form: Form) -> bool {
     let failed = form.failed();
-    for (piece, _) in &AFTER_REFUSAL {
-        if !is_refused(&receiver.feed(piece), &failed)
-            || receiver.canvas_writes() != 0
-            || receiver.in_payload()
-        {
-            return false;
-        }
+    let mut is_kept = true;
+    for (piece, _) in AFTER_REFUSAL {
+        is_kept &= is_refused(receiver.feed(piece), failed)
+            & (receiver.canvas_writes() == 0)
+            & !receiver.in_payload();
     }
-    is_refused(&receiver.finish(), &failed)
+    is_kept & is_refused(receiver.finish(), failed)
 }

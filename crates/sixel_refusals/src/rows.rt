@@ -26,8 +26,13 @@ fn grow(row: &mut Row, columns: u16) -> Result<bool> {
     let before = (row.len(), row.room(), row.writes());
     match row.reach(usize::from(columns)) {
         Ok(()) => Ok(true),
-        Err(error) if (row.len(), row.room(), row.writes()) == before => Err(error),
-        Err(_) => Ok(false),
+        Err(error) => {
+            if (row.len(), row.room(), row.writes()) == before {
+                Err(error)
+            } else {
+                Ok(false)
+            }
+        }
     }
 }
 
@@ -59,14 +64,14 @@ fn shows(canvas: &Canvas, end: usize) -> Result<bool> {
 }
 
 fn are_red(pixels: &[u8], end: usize) -> bool {
-    let mut column: usize = 0;
-    for pixel in pixels.chunks_exact(4) {
-        let is_red = column < 2 || 4 <= column && column < end;
+    let mut rest = pixels;
+    for column in 0..400 {
+        let is_red = (column < 2) | (4 <= column) & (column < end);
         let color = if is_red { RED } else { BACKGROUND };
-        if pixel != color.as_slice() {
-            return false;
+        match rest.strip_prefix(&color) {
+            Some(after) => rest = after,
+            None => return false,
         }
-        column = column.saturating_add(1);
     }
     true
 }

@@ -14,10 +14,10 @@ pub type FedDcs = (&'static [u8], Result<SixelDcsFeedResult>);
 
 // A payload of 301 columns and 12 rows in pieces that each make the canvas grow. It makes register
 // 42 red.
-pub const PIECES: [&[u8]; 3] = [b"#42;2;100;0;0~", b"!300~", b"-!5~$~"];
+pub const PIECES: &[&[u8]] = &[b"#42;2;100;0;0~", b"!300~", b"-!5~$~"];
 
 // The same in a control string.
-pub const STRING_PIECES: [&[u8]; 4] = [b"\x1bPq#42;2;100;0;0~", b"!300~", b"-!5~$~", b"\x1b\\"];
+pub const STRING_PIECES: &[&[u8]] = &[b"\x1bPq#42;2;100;0;0~", b"!300~", b"-!5~$~", b"\x1b\\"];
 
 // What a session answers from its first refused feed on.
 pub const FAILED: SixelError = SixelError::InvalidData("stream decoder has failed");
@@ -25,7 +25,7 @@ pub const FAILED: SixelError = SixelError::InvalidData("stream decoder has faile
 pub const DCS_FAILED: SixelError = SixelError::InvalidData("DCS stream decoder has failed");
 
 // Pieces that a session which was refused is fed: none of them may change its answer.
-pub const AFTER_REFUSAL: [Fed; 5] = [
+pub const AFTER_REFUSAL: &[Fed] = &[
     (b"", Err(FAILED)),
     (b"~", Err(FAILED)),
     (b"\x1bPq", Err(FAILED)),
@@ -33,7 +33,7 @@ pub const AFTER_REFUSAL: [Fed; 5] = [
     (b"\x1b\\", Err(FAILED)),
 ];
 
-const AFTER_DCS_REFUSAL: [FedDcs; 5] = [
+const AFTER_DCS_REFUSAL: &[FedDcs] = &[
     (b"", Err(DCS_FAILED)),
     (b"~", Err(DCS_FAILED)),
     (b"\x1bPq", Err(DCS_FAILED)),
@@ -66,7 +66,7 @@ pub fn frame(alloc: Global, decoder: &mut SixelDecoder, is_counted: bool) -> Res
 fn counted(answer: Result<(SixelImage, u64)>, drawn: u64) -> Result<SixelImage> {
     match answer {
         Ok((image, writes)) => {
-            if writes.checked_sub(drawn) == Some(301 * 12) {
+            if writes == drawn.saturating_add(301 * 12) {
                 Ok(image)
             } else {
                 Err(WRONG)
@@ -87,28 +87,26 @@ pub fn control_string(alloc: Global, decoder: &mut SixelDecoder) -> Result<Sixel
 fn finished(fed: Result<()>, image: Result<SixelImage>, failed: &SixelError) -> Result<SixelImage> {
     match fed {
         Ok(()) => image,
-        Err(error) => {
-            if is_refused(&image, failed) {
-                Err(error)
-            } else {
-                Err(WRONG)
-            }
-        }
+        Err(error) => Err(if is_refused(image, failed) {
+            error
+        } else {
+            WRONG
+        }),
     }
 }
 
 /// Whether a call was refused for this.
-pub fn is_refused<T>(answer: &Result<T>, expected: &SixelError) -> bool {
+pub fn is_refused<T: Drop>(answer: Result<T>, expected: &SixelError) -> bool {
     match answer {
         Ok(_) => false,
-        Err(error) => error == expected,
+        Err(error) => error == *expected,
     }
 }
 
 fn feed_pieces(session: &mut SixelStreamDecoder<'_>) -> Result<()> {
     for piece in PIECES {
         if let Err(error) = session.feed(piece) {
-            let is_right = answers(session, &AFTER_REFUSAL);
+            let is_right = answers(session, AFTER_REFUSAL);
             return Err(if is_right { error } else { WRONG });
         }
     }
@@ -118,7 +116,7 @@ fn feed_pieces(session: &mut SixelStreamDecoder<'_>) -> Result<()> {
 fn follow_pieces(session: &mut SixelDcsStreamDecoder<'_>) -> Result<()> {
     for piece in STRING_PIECES {
         if let Err(error) = session.feed(piece) {
-            let is_right = answers_dcs(session, &AFTER_DCS_REFUSAL);
+            let is_right = answers_dcs(session, AFTER_DCS_REFUSAL);
             return Err(if is_right { error } else { WRONG });
         }
     }
@@ -127,20 +125,18 @@ fn follow_pieces(session: &mut SixelDcsStreamDecoder<'_>) -> Result<()> {
 
 /// Whether a session answers so to these pieces, and counts nothing.
 pub fn answers(session: &mut SixelStreamDecoder<'_>, rows: &[Fed]) -> bool {
+    let mut is_right = true;
     for (piece, expected) in rows {
-        if session.feed(piece) != *expected || session.canvas_writes() != 0 {
-            return false;
-        }
+        is_right &= (session.feed(piece) == *expected) & (session.canvas_writes() == 0);
     }
-    true
+    is_right
 }
 
 /// The same of a control string.
 pub fn answers_dcs(session: &mut SixelDcsStreamDecoder<'_>, rows: &[FedDcs]) -> bool {
+    let mut is_right = true;
     for (piece, expected) in rows {
-        if session.feed(piece) != *expected || session.canvas_writes() != 0 {
-            return false;
-        }
+        is_right &= (session.feed(piece) == *expected) & (session.canvas_writes() == 0);
     }
-    true
+    is_right
 }

@@ -89,7 +89,7 @@ struct Expected {
 }
 
 // What the steps come to, in their order. The one that resets the registers takes no memory.
-const EXPECTED: [Expected; 9] = [
+const EXPECTED: &[Expected] = &[
     Expected {
         place: "out of memory in a decoded payload",
         defined: Some((Register::Of42, Color::Red)),
@@ -189,21 +189,22 @@ fn steps(settings: DcsSettings) -> [Step<'static>; 9] {
 struct Seen {
     /// What the registers must hold.
     colors: Colors,
-    /// Where memory was refused.
-    refused: Option<&'static str>,
-    is_right: bool,
+    /// How the steps ended so far.
+    outcome: Outcome,
 }
 
 impl Seen {
     /// Looks at the next outcome, which one step may owe to want of memory.
     fn look(&mut self, outcome: &script::Outcome, expected: &Expected) {
-        match outcome {
-            script::Outcome::Failed(SixelError::OutOfMemory) if self.refused.is_none() => {
-                self.refused = Some(expected.place);
+        match (outcome, self.outcome) {
+            (script::Outcome::Failed(SixelError::OutOfMemory), Outcome::Right) => {
+                self.outcome = Outcome::RefusedWithin(expected.place);
             }
             _ => {
                 self.colors = colors_after(self.colors, expected);
-                self.is_right = self.is_right && is_shown(outcome, expected.shown, self.colors);
+                if !is_shown(outcome, expected.shown, self.colors) {
+                    self.outcome = Outcome::Wrong;
+                }
             }
         }
     }
@@ -213,16 +214,20 @@ impl Seen {
 fn ran(outcomes: &[script::Outcome], start: Colors, decoder: &SixelDecoder) -> Outcome {
     let mut seen = Seen {
         colors: start,
-        refused: None,
-        is_right: outcomes.len() == EXPECTED.len(),
+        outcome: Outcome::Right,
     };
-    for (outcome, expected) in outcomes.iter().zip(&EXPECTED) {
+    let mut rest = EXPECTED;
+    for outcome in outcomes {
+        let [expected, after @ ..] = rest else {
+            return Outcome::Wrong;
+        };
         seen.look(outcome, expected);
+        rest = after;
     }
-    match seen.refused {
-        _ if !seen.is_right || !is_left(decoder, seen.colors) => Outcome::Wrong,
-        Some(place) => Outcome::RefusedWithin(place),
-        None => Outcome::Right,
+    if rest.is_empty() & is_left(decoder, seen.colors) {
+        seen.outcome
+    } else {
+        Outcome::Wrong
     }
 }
 
@@ -252,9 +257,9 @@ fn is_shown(outcome: &script::Outcome, shown: Shown, colors: Colors) -> bool {
                 image,
             },
             Shown::Finished(bytes, end, width, register),
-        ) => (*consumed, *status) == (bytes, end) && begins(image, width, colors.get(register)),
+        ) => (*consumed == bytes) & (*status == end) & begins(image, width, colors.get(register)),
         (script::Outcome::Aborted { consumed, status }, Shown::Aborted(bytes, end)) => {
-            (*consumed, *status) == (bytes, end)
+            (*consumed == bytes) & (*status == end)
         }
         _ => false,
     }
@@ -262,22 +267,21 @@ fn is_shown(outcome: &script::Outcome, shown: Shown, colors: Colors) -> bool {
 
 /// Whether an image is so wide, and its first row begins with this color.
 fn begins(image: &SixelImage, width: usize, [red, green, blue]: [u8; 3]) -> bool {
-    image.width == width && image.pixels.starts_with(&[red, green, blue, 255])
+    (image.width == width) & image.pixels.starts_with(&[red, green, blue, 255])
 }
 
 /// Whether a decoder holds these colors, and in all other registers those of a new one, as the
 /// steps leave it.
 fn is_left(decoder: &SixelDecoder, colors: Colors) -> bool {
     let other = SixelDecoder::new();
+    let mut is_right = true;
     for register in 0..=255 {
         let expected = match register {
             42 => colors.of_42,
             43 => colors.of_43,
             _ => other.register(register),
         };
-        if decoder.register(register) != expected {
-            return false;
-        }
+        is_right &= decoder.register(register) == expected;
     }
-    true
+    is_right
 }

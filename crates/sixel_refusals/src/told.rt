@@ -13,19 +13,33 @@ pub struct Told {
 
 const OUT_OF_MEMORY: &str = "out of memory";
 
+const WRONG: Told = Told {
+    refused: "",
+    then: "wrong",
+};
+
 /// Does the call, and once more where memory was refused. A call that was refused as a whole has
 /// changed no register.
 pub fn try_call(alloc: Global, call: Call, decoder: &mut SixelDecoder) -> Told {
     let Ok(mut before) = decoder.clone() else {
-        return ended_so("", "wrong");
+        return WRONG;
     };
     match call.run(alloc, decoder) {
-        Outcome::Right => ended_so("", "ok"),
-        Outcome::Wrong => ended_so("", "wrong"),
-        Outcome::Refused if !have_same_registers(decoder, &before) => {
-            ended_so(OUT_OF_MEMORY, ", but registers changed")
+        Outcome::Right => Told {
+            refused: "",
+            then: "ok",
+        },
+        Outcome::Wrong => WRONG,
+        Outcome::Refused => {
+            if have_same_registers(decoder, &before) {
+                try_again(alloc, call, decoder, OUT_OF_MEMORY)
+            } else {
+                Told {
+                    refused: OUT_OF_MEMORY,
+                    then: ", but registers changed",
+                }
+            }
         }
-        Outcome::Refused => try_again(alloc, call, decoder, OUT_OF_MEMORY),
         Outcome::RefusedWithin(place) => try_again(alloc, call, &mut before, place),
     }
 }
@@ -33,22 +47,26 @@ pub fn try_call(alloc: Global, call: Call, decoder: &mut SixelDecoder) -> Told {
 /// Does the call again, which was refused memory as is said here.
 fn try_again(alloc: Global, call: Call, decoder: &mut SixelDecoder, refused: &'static str) -> Told {
     match call.run(alloc, decoder) {
-        Outcome::Right => ended_so(refused, ", then ok"),
-        Outcome::Wrong => ended_so(OUT_OF_MEMORY, ", then wrong"),
-        Outcome::Refused | Outcome::RefusedWithin(_) => ended_so(OUT_OF_MEMORY, " twice"),
+        Outcome::Right => Told {
+            refused,
+            then: ", then ok",
+        },
+        Outcome::Wrong => Told {
+            refused: OUT_OF_MEMORY,
+            then: ", then wrong",
+        },
+        Outcome::Refused | Outcome::RefusedWithin(_) => Told {
+            refused: OUT_OF_MEMORY,
+            then: " twice",
+        },
     }
-}
-
-fn ended_so(refused: &'static str, then: &'static str) -> Told {
-    Told { refused, then }
 }
 
 /// Whether all registers of two decoders are equal.
 fn have_same_registers(one: &SixelDecoder, other: &SixelDecoder) -> bool {
+    let mut are_same = true;
     for register in 0..=255 {
-        if one.register(register) != other.register(register) {
-            return false;
-        }
+        are_same &= one.register(register) == other.register(register);
     }
-    true
+    are_same
 }

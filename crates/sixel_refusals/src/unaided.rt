@@ -12,48 +12,44 @@ use std::alloc::Global;
 
 /// Does every call that takes no memory, but those of an image with pixels.
 pub fn no_memory(alloc: Global, decoder: &mut SixelDecoder) -> bool {
-    are_registers_kept(decoder)
-        && is_host_heard(decoder)
-        && frame_call(alloc, decoder, &ENDED, End::Abort)
-        && frame_call(alloc, decoder, &REFUSED, End::Finish)
-        && string_call(alloc, decoder, &ENDED_DCS, End::Abort)
-        && string_call(alloc, decoder, &REFUSED_DCS, End::Finish)
-        && ratio_calls()
-        && background_calls()
-        && canvas_calls(alloc)
-        && size_calls(alloc)
-        && empty_image_calls(alloc)
-        && encoding_refusals(alloc)
+    are_decoders_right(decoder)
+        & frame_call(alloc, decoder, ENDED, End::Abort)
+        & frame_call(alloc, decoder, REFUSED, End::Finish)
+        & string_call(alloc, decoder, ENDED_DCS, End::Abort)
+        & string_call(alloc, decoder, REFUSED_DCS, End::Finish)
+        & ratio_calls()
+        & background_calls()
+        & canvas_calls(alloc)
+        & are_sizes_told()
+        & are_buffers_refused(alloc)
+        & empty_image_calls(alloc)
+        & encoding_refusals(alloc)
 }
 
-/// The calls of a decoder itself.
-fn are_registers_kept(decoder: &mut SixelDecoder) -> bool {
+/// The calls of a decoder itself. What a host sets is kept by a reset and by a clone.
+fn are_decoders_right(decoder: &SixelDecoder) -> bool {
     let Ok(mut copy) = decoder.clone() else {
         return false;
     };
     let is_equal = copy.register(7) == decoder.register(7);
-    copy.reset_palette();
-    let fresh = SixelDecoder::default();
-    is_equal && copy.register(1) == [51, 51, 204] && fresh.register(1) == [51, 51, 204]
-}
-
-/// What a host sets, kept by a reset and by a clone.
-fn is_host_heard(decoder: &SixelDecoder) -> bool {
-    let Ok(mut copy) = decoder.clone() else {
-        return false;
-    };
     copy.set_raster_crop(true);
     copy.set_pixel_limit(7);
     copy.reset_palette();
+    let is_reset = copy.register(1) == [51, 51, 204];
     copy.set_register(1, [1, 2, 3]);
     let Ok(again) = copy.clone() else {
         return false;
     };
-    (again.raster_crop(), again.pixel_limit()) == (true, 7) && again.register(1) == [1, 2, 3]
+    is_equal
+        & is_reset
+        & again.raster_crop()
+        & (again.pixel_limit() == 7)
+        & (again.register(1) == [1, 2, 3])
+        & (SixelDecoder::default().register(1) == [51, 51, 204])
 }
 
 /// Feeds that close no sixel and no raster command, and feeds after an end.
-const ENDED: [Fed; 3] = [
+const ENDED: &[Fed] = &[
     (
         b"#42;2;100;0;0!12",
         Ok(SixelFeedResult {
@@ -71,7 +67,7 @@ const CANCELLED: SixelFeedResult = SixelFeedResult {
 };
 
 /// A feed that is refused, and one after it.
-const REFUSED: [Fed; 2] = [
+const REFUSED: &[Fed] = &[
     (
         b"!65536~",
         Err(SixelError::InvalidData("malformed SIXEL data")),
@@ -90,12 +86,12 @@ fn frame_call(alloc: Global, decoder: &mut SixelDecoder, rows: &[Fed], ending: E
             session.abort();
             is_answered
         }
-        End::Finish => is_answered & is_refused(&session.finish(), &FAILED),
+        End::Finish => is_answered & is_refused(session.finish(), &FAILED),
     }
 }
 
 /// The same of a control string.
-const ENDED_DCS: [FedDcs; 3] = [
+const ENDED_DCS: &[FedDcs] = &[
     (
         b"\x1bP9;1q#42;2;100;0;0!12",
         Ok(SixelDcsFeedResult {
@@ -119,7 +115,7 @@ const ENDED_DCS: [FedDcs; 3] = [
     ),
 ];
 
-const REFUSED_DCS: [FedDcs; 2] = [
+const REFUSED_DCS: &[FedDcs] = &[
     (b"text", Err(SixelError::NoSixelData)),
     (b"\x1bPq~\x1b\\", Err(DCS_FAILED)),
 ];
@@ -133,19 +129,19 @@ fn string_call(alloc: Global, decoder: &mut SixelDecoder, rows: &[FedDcs], endin
             session.abort();
             is_answered
         }
-        End::Finish => is_answered & is_refused(&session.finish(), &DCS_FAILED),
+        End::Finish => is_answered & is_refused(session.finish(), &DCS_FAILED),
     }
 }
 
 fn ratio_calls() -> bool {
     let ratio = PixelAspectRatio::from_p1(3);
     let settings = DcsSettings::default().with_pixel_aspect_ratio(ratio);
-    ratio == PixelAspectRatio::Ratio3To1
-        && ratio.to_p1_value() == 3
-        && (ratio.pan(), ratio.pad()) == (1, 3)
-        && !ratio.is_square()
-        && PixelAspectRatio::default().is_square()
-        && settings == DcsSettings::new(Some(3), None, None)
+    (ratio == PixelAspectRatio::Ratio3To1)
+        & (ratio.to_p1_value() == 3)
+        & ((ratio.pan(), ratio.pad()) == (1, 3))
+        & !ratio.is_square()
+        & PixelAspectRatio::default().is_square()
+        & (settings == DcsSettings::new(Some(3), None, None))
 }
 
 fn background_calls() -> bool {
@@ -153,11 +149,11 @@ fn background_calls() -> bool {
     let settings = DcsSettings::default()
         .with_background_mode(mode)
         .with_grid_size(3);
-    mode == BackgroundMode::Opaque
-        && mode.to_p2_value() == 0
-        && !mode.is_transparent()
-        && BackgroundMode::default().is_transparent()
-        && settings == DcsSettings::new(None, Some(0), Some(3))
+    (mode == BackgroundMode::Opaque)
+        & (mode.to_p2_value() == 0)
+        & !mode.is_transparent()
+        & BackgroundMode::default().is_transparent()
+        & (settings == DcsSettings::new(None, Some(0), Some(3)))
 }
 
 fn canvas_calls(alloc: Global) -> bool {
@@ -165,14 +161,14 @@ fn canvas_calls(alloc: Global) -> bool {
     row.paint(0, 0, [255; 4]);
     let mut span = [0; 20];
     fill_rgba_span(&mut span, [1, 2, 3, 4]);
-    (row.len(), row.room(), row.writes()) == (0, 0, 0)
-        && span[18] == 3
-        && witnesses_hold(&[[0; 3], [10, 0, 0]], 100)
-        && !witnesses_hold(&[[0; 3], [10, 0, 0]], 101)
+    ((row.len(), row.room(), row.writes()) == (0, 0, 0))
+        & (span[18] == 3)
+        & witnesses_hold(&[[0; 3], [10, 0, 0]], 100)
+        & !witnesses_hold(&[[0; 3], [10, 0, 0]], 101)
 }
 
 /// Sizes that a buffer without bytes is refused for.
-const REFUSED_BUFFERS: [(usize, usize, SixelError); 3] = [
+const REFUSED_BUFFERS: &[(usize, usize, SixelError)] = &[
     (
         0,
         4,
@@ -193,7 +189,7 @@ const REFUSED_BUFFERS: [(usize, usize, SixelError); 3] = [
 ];
 
 /// Sizes to be encoded, and how each is told.
-const TOLD_SIZES: [(usize, usize, Result<()>); 3] = [
+const TOLD_SIZES: &[(usize, usize, Result<()>)] = &[
     (1, 999996, Ok(())),
     (
         1,
@@ -207,7 +203,7 @@ const TOLD_SIZES: [(usize, usize, Result<()>); 3] = [
 ];
 
 /// Sizes that no bytes are encoded for.
-const REFUSED_ENCODINGS: [(usize, usize, SixelError); 4] = [
+const REFUSED_ENCODINGS: &[(usize, usize, SixelError)] = &[
     (
         0,
         4,
@@ -235,30 +231,21 @@ const REFUSED_ENCODINGS: [(usize, usize, SixelError); 4] = [
     ),
 ];
 
-/// Sizes that are tested, and the refusals of a buffer.
-fn size_calls(alloc: Global) -> bool {
-    are_sizes_told() && are_buffers_refused(alloc)
-}
-
 fn are_sizes_told() -> bool {
-    for (width, height, expected) in &TOLD_SIZES {
-        if validate_encode_dimensions(*width, *height) != *expected {
-            return false;
-        }
+    let mut is_right = true;
+    for (width, height, expected) in TOLD_SIZES {
+        is_right &= validate_encode_dimensions(*width, *height) == *expected;
     }
-    true
+    is_right
 }
 
 fn are_buffers_refused(alloc: Global) -> bool {
-    for (width, height, expected) in &REFUSED_BUFFERS {
-        if !is_refused(
-            &SixelImage::try_from_rgba(Vec::new(alloc), *width, *height),
-            expected,
-        ) {
-            return false;
-        }
+    let mut is_right = true;
+    for (width, height, expected) in REFUSED_BUFFERS {
+        let answer = SixelImage::try_from_rgba(Vec::new(alloc), *width, *height);
+        is_right &= is_refused(answer, expected);
     }
-    true
+    is_right
 }
 
 /// The calls of an image without pixels.
@@ -266,24 +253,23 @@ fn empty_image_calls(alloc: Global) -> bool {
     let image = SixelImage::from_rgba(Vec::new(alloc), 3, 7)
         .with_aspect_ratio(PixelAspectRatio::Ratio5To1)
         .with_background_mode(BackgroundMode::Opaque);
-    image.dimensions() == (3, 7)
-        && image.corrected_dimensions() == (3, 35)
-        && !image.has_transparency()
-        && image.background_mode == BackgroundMode::Opaque
+    (image.dimensions() == (3, 7))
+        & (image.corrected_dimensions() == (3, 35))
+        & !image.has_transparency()
+        & (image.background_mode == BackgroundMode::Opaque)
 }
 
 /// The refusals of encoding and of a palette, which come before any growth.
 fn encoding_refusals(alloc: Global) -> bool {
     let options = EncodeOptions::default();
-    for (width, height, expected) in &REFUSED_ENCODINGS {
-        if !is_refused(
-            &sixel_encode(alloc, &[], *width, *height, &options),
-            expected,
-        ) {
-            return false;
-        }
+    let mut is_right = options.max_colors == 256;
+    for (width, height, expected) in REFUSED_ENCODINGS {
+        is_right &= match sixel_encode(alloc, &[], *width, *height, &options) {
+            Ok(_) => false,
+            Err(error) => error == *expected,
+        };
     }
-    options.max_colors == 256 && is_palette_refused(alloc)
+    is_right & is_palette_refused(alloc)
 }
 
 fn is_palette_refused(alloc: Global) -> bool {
@@ -291,7 +277,10 @@ fn is_palette_refused(alloc: Global) -> bool {
         expected: 0,
         actual: 3,
     };
-    is_refused(&choose_palette(alloc, &[0; 3], 2), &expected)
+    match choose_palette(alloc, &[0; 3], 2) {
+        Ok(_) => false,
+        Err(error) => error == expected,
+    }
 }
 
 /// The calls that take no memory of an image of three pixels, none of them hidden.
@@ -311,5 +300,5 @@ pub fn image_calls(image: SixelImage) -> bool {
         return false;
     };
     let hidden = SixelImage::from_rgba(checked.pixels, 1, 3).with_aspect_ratio(aspect_ratio);
-    !seen && hidden.dimensions() == (1, 3) && hidden.corrected_dimensions() == (1, 6)
+    !seen & (hidden.dimensions() == (1, 3)) & (hidden.corrected_dimensions() == (1, 6))
 }
