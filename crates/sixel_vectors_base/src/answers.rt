@@ -45,19 +45,6 @@ pub fn bytes_of(alloc: Global, runs: &[Run]) -> std::result::Result<Vec<u8>, All
     Ok(bytes)
 }
 
-/// A text so many times.
-pub fn repeated(
-    alloc: Global,
-    text: &str,
-    count: usize,
-) -> std::result::Result<Vec<u8>, AllocError> {
-    let mut bytes = Vec::new(alloc);
-    for _ in 0..count {
-        bytes.extend_from_slice(text.as_bytes())?;
-    }
-    Ok(bytes)
-}
-
 /// The next of some numbers without a pattern.
 pub fn next(seed: &mut u64) -> usize {
     *seed = seed
@@ -95,72 +82,66 @@ pub fn fed_by(
 {
     let mut session = decoder.begin_frame(alloc, settings)?;
     for piece in payload.chunks(length) {
-        session.feed(piece)?;
+        if let Err(error) = session.feed(piece) {
+            session.abort();
+            return Err(error);
+        }
     }
     session.finish()
 }
 
 /// Whether an image has this size and these pixels.
 pub fn shows(image: &SixelImage, size: (usize, usize), pixels: &[u8]) -> bool {
-    (image.width, image.height) == size && image.pixels.as_slice() == pixels
+    image.width == size.0 && image.height == size.1 && image.pixels.as_slice() == pixels
+}
+
+/// Whether pixels are those of these runs.
+pub fn are_runs(alloc: Global, pixels: &[u8], runs: &[Run]) -> bool {
+    match bytes_of(alloc, runs) {
+        Ok(bytes) => pixels == bytes.as_slice(),
+        Err(_) => false,
+    }
+}
+
+/// Whether an image has this size and the pixels of these runs.
+pub fn has_runs(alloc: Global, image: &SixelImage, size: (usize, usize), runs: &[Run]) -> bool {
+    image.width == size.0
+        && image.height == size.1
+        && are_runs(alloc, image.pixels.as_slice(), runs)
 }
 
 /// Whether an outcome is an image of this size and these pixels.
 pub fn is_drawn(
     alloc: Global,
-    outcome: &Result<SixelImage>,
+    outcome: Result<SixelImage>,
     size: (usize, usize),
     runs: &[Run],
 ) -> bool {
-    match (outcome, bytes_of(alloc, runs)) {
-        (Ok(image), Ok(pixels)) => shows(image, size, &pixels),
-        _ => false,
+    match outcome {
+        Ok(image) => has_runs(alloc, &image, size, runs),
+        Err(_) => false,
     }
-}
-
-/// Whether a new decoder gives a payload with these settings this size and these pixels.
-pub fn draws_with(
-    alloc: Global,
-    settings: DcsSettings,
-    payload: &str,
-    size: (usize, usize),
-    runs: &[Run],
-) -> bool {
-    is_drawn(
-        alloc,
-        &decoded(alloc, payload.as_bytes(), settings),
-        size,
-        runs,
-    )
-}
-
-/// Whether a new decoder gives a payload this size and these pixels.
-pub fn draws(alloc: Global, payload: &str, size: (usize, usize), runs: &[Run]) -> bool {
-    draws_with(alloc, DcsSettings::default(), payload, size, runs)
 }
 
 /// Whether an image was refused as invalid data for this reason.
-pub fn is_refused(outcome: &Result<SixelImage>, reason: &'static str) -> bool {
+pub fn is_refused(outcome: Result<SixelImage>, reason: &'static str) -> bool {
     match outcome {
         Ok(_) => false,
-        Err(error) => *error == SixelError::InvalidData(reason),
+        Err(error) => error == SixelError::InvalidData(reason),
     }
 }
 
-/// Whether a new decoder refuses a payload for this reason.
-pub fn refuses(alloc: Global, payload: &str, reason: &'static str) -> bool {
-    is_refused(
-        &decoded(alloc, payload.as_bytes(), DcsSettings::default()),
-        reason,
-    )
-}
-
 /// Whether two outcomes are the same image or the same refusal.
-pub fn are_same(one: &Result<SixelImage>, other: &Result<SixelImage>) -> bool {
-    match (one, other) {
-        (Ok(one), Ok(other)) => is_same(one, other),
-        (Err(one), Err(other)) => one == other,
-        _ => false,
+pub fn are_same(one: Result<SixelImage>, other: &Result<SixelImage>) -> bool {
+    match one {
+        Ok(image) => match other {
+            Ok(other) => is_same(&image, other),
+            Err(_) => false,
+        },
+        Err(error) => match other {
+            Ok(_) => false,
+            Err(other) => error == *other,
+        },
     }
 }
 

@@ -30,8 +30,14 @@ pub fn decode_two_pieces(
     ensures kept { OnErr result (decoder.new ≡ decoder.old) }
 {
     let mut session = decoder.begin_frame(alloc, settings)?;
-    session.feed(first)?;
-    session.feed(second)?;
+    if let Err(error) = session.feed(first) {
+        session.abort();
+        return Err(error);
+    }
+    if let Err(error) = session.feed(second) {
+        session.abort();
+        return Err(error);
+    }
     session.finish()
 }
 

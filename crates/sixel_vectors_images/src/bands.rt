@@ -2,12 +2,12 @@
 
 ghost use Rattle.std.specs.Prelude.{◌<◌};
 
+use crate::cases::Outcome::Drawn;
+use crate::cases::{Case, NEW, assert_cases};
 use crate::payloads::{draws_in_pieces, is_shown};
 use crate::rows::assert_row;
 use icy_sixel::DcsSettings;
-use sixel_vectors_base::answers::{
-    BLACK, BLUE, CLEAR, RED, Run, decoded, draws, draws_with, fed, transparent,
-};
+use sixel_vectors_base::answers::{BLACK, BLUE, CLEAR, RED, Run, decoded, fed, transparent};
 use std::alloc::{AllocError, Global};
 
 /// The sixels of two layers of a band, as their six bits.
@@ -91,18 +91,13 @@ fn large_pixels(alloc: Global) -> Result<Vec<u8>, AllocError> {
 fn thirty_bands_of_two_layers(rt: HostRuntime) {
     let payload = large_payload(rt.alloc()).expect(&rt, "a payload");
     let pixels = large_pixels(rt.alloc()).expect(&rt, "pixels");
-    assert!(rt; draws_in_pieces(rt.alloc(), &payload, (200, 180), &pixels));
+    let are_drawn = draws_in_pieces(rt.alloc(), &payload, (200, 180), &pixels);
+    assert_row(&rt, "thirty bands", are_drawn);
 }
 
 /// A repeat of three and then each of the 64 sixels, in red.
-fn masks_payload(alloc: Global) -> Result<Vec<u8>, AllocError> {
-    let mut payload = Vec::new(alloc);
-    payload.extend_from_slice(b"#1;2;100;0;0!3")?;
-    for bits in 0..64 {
-        payload.push(sixel(bits))?;
-    }
-    Ok(payload)
-}
+const MASKS: &[u8] =
+    b"#1;2;100;0;0!3?@ABCDEFGHIJKLMNOPQRSTUVWXYZ[\\]^_`abcdefghijklmnopqrstuvwxyz{|}~";
 
 /// The pixels of that payload on a transparent background.
 fn masks_pixels(alloc: Global) -> Result<Vec<u8>, AllocError> {
@@ -118,50 +113,61 @@ fn masks_pixels(alloc: Global) -> Result<Vec<u8>, AllocError> {
 }
 
 /// Whether that payload is these pixels, at once and in pieces of all lengths.
-fn draws_masks(alloc: Global, payload: &[u8], pixels: &[u8]) -> bool {
-    let mut are_shown = is_shown(decoded(alloc, payload, transparent()), (66, 6), pixels);
+fn draws_masks(alloc: Global, pixels: &[u8]) -> bool {
+    let mut are_shown = is_shown(decoded(alloc, MASKS, transparent()), (66, 6), pixels);
     for length in 1..80 {
-        let pieces = fed(alloc, payload, transparent(), length);
-        are_shown = is_shown(pieces, (66, 6), pixels) && are_shown;
+        are_shown &= is_shown(fed(alloc, MASKS, transparent(), length), (66, 6), pixels);
     }
     are_shown
 }
 
 #[test]
 fn all_masks(rt: HostRuntime) {
-    let payload = masks_payload(rt.alloc()).expect(&rt, "a payload");
     let pixels = masks_pixels(rt.alloc()).expect(&rt, "pixels");
-    assert!(rt; draws_masks(rt.alloc(), &payload, &pixels));
+    assert_row(&rt, "masks", draws_masks(rt.alloc(), &pixels));
 }
 
 /// Six rows of red and black, and below them as many of blue.
-const WIDER_LINE: &[Run] = &[
-    (3, RED),
-    (297, BLACK),
-    (3, RED),
-    (297, BLACK),
-    (3, RED),
-    (297, BLACK),
-    (3, RED),
-    (297, BLACK),
-    (3, RED),
-    (297, BLACK),
-    (3, RED),
-    (297, BLACK),
-    (1800, BLUE),
-];
+const WIDER_LINE: &[Case] = &[(
+    "#1;2;100;0;0#1!3~-#2;2;0;0;100#2!300~",
+    NEW,
+    None,
+    Drawn(
+        (300, 12),
+        &[
+            (3, RED),
+            (297, BLACK),
+            (3, RED),
+            (297, BLACK),
+            (3, RED),
+            (297, BLACK),
+            (3, RED),
+            (297, BLACK),
+            (3, RED),
+            (297, BLACK),
+            (3, RED),
+            (297, BLACK),
+            (1800, BLUE),
+        ],
+    ),
+)];
 
 #[test]
 fn a_wider_line_below(rt: HostRuntime) {
-    let payload = "#1;2;100;0;0#1!3~-#2;2;0;0;100#2!300~";
-    assert!(rt; draws(rt.alloc(), payload, (300, 12), WIDER_LINE));
+    assert_cases(rt, WIDER_LINE);
 }
 
 /// Payloads of two bands that define register 0 anew as they go, without a size and with one.
-const TWO_BANDS: &[&str] = &[
-    "#0;2;100;0;0@?#0;2;0;100;0?-??#0;2;0;0;100@",
-    "\"1;1;3;12#0;2;100;0;0@?#0;2;0;100;0?-??#0;2;0;0;100@",
+const TWO_BANDS: &[Case] = &[
+    (NO_SIZE, NEW, None, Drawn((3, 12), ON_BLACK)),
+    (NO_SIZE, NEW, Some(1), Drawn((3, 12), ON_CLEAR)),
+    (SIZED, NEW, None, Drawn((3, 12), ON_BLACK)),
+    (SIZED, NEW, Some(1), Drawn((3, 12), ON_CLEAR)),
 ];
+
+const NO_SIZE: &str = "#0;2;100;0;0@?#0;2;0;100;0?-??#0;2;0;0;100@";
+
+const SIZED: &str = "\"1;1;3;12#0;2;100;0;0@?#0;2;0;100;0?-??#0;2;0;0;100@";
 
 /// Their pixels on black.
 const ON_BLACK: &[Run] = &[(1, RED), (19, BLACK), (1, BLUE), (15, BLACK)];
@@ -171,9 +177,5 @@ const ON_CLEAR: &[Run] = &[(1, RED), (19, CLEAR), (1, BLUE), (15, CLEAR)];
 
 #[test]
 fn the_background_is_that_of_the_beginning(rt: HostRuntime) {
-    for payload in TWO_BANDS {
-        let is_opaque = draws(rt.alloc(), payload, (3, 12), ON_BLACK);
-        let is_clear = draws_with(rt.alloc(), transparent(), payload, (3, 12), ON_CLEAR);
-        assert_row(&rt, payload, is_opaque && is_clear);
-    }
+    assert_cases(rt, TWO_BANDS);
 }

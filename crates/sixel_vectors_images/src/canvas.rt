@@ -5,7 +5,7 @@ ghost use Rattle.std.specs.Prelude.{◌≤◌, ◌+◌};
 use crate::rows::assert_row;
 use icy_sixel::canvas::{Row, fill_rgba_span};
 use sixel_canvas::Canvas;
-use sixel_vectors_base::answers::{BLACK, RED, Run, bytes_of, next};
+use sixel_vectors_base::answers::{BLACK, RED, Run, are_runs, next};
 use std::alloc::Global;
 
 const BACKGROUND: [u8; 4] = BLACK;
@@ -65,19 +65,18 @@ const GREATEST: &[Reach] = &[
     (1_000_000, (1_000_000, 1_000_000, 1_600_000)),
 ];
 
-/// How wide a row is, the room that it has, and the pixels that it has written.
-fn counts(row: &Row) -> (usize, usize, u64) {
-    (row.len(), row.room(), row.writes())
+/// Whether a row is so wide, has this room, and has written so many pixels.
+fn has_counts(row: &Row, (width, room, writes): (usize, usize, u64)) -> bool {
+    row.len() == width && row.room() == room && row.writes() == writes
 }
 
 /// Whether a new row is empty, and then reaches these widths with these counts.
 fn reaches(alloc: Global, reached: &[Reach]) -> bool {
     let mut row = Row::new(alloc, BACKGROUND);
-    let mut holds = row.is_empty();
-    holds &= counts(&row) == (0, 0, 0);
-    for (width, expected) in reached {
-        holds &= row.reach((*width).min(1_000_000)).is_ok();
-        holds &= counts(&row) == *expected;
+    let mut holds = row.is_empty() && has_counts(&row, (0, 0, 0));
+    for reach in reached {
+        holds &= row.reach(reach.0.min(1_000_000)).is_ok();
+        holds &= has_counts(&row, reach.1);
     }
     holds
 }
@@ -94,7 +93,7 @@ fn painting_counts_no_write(rt: HostRuntime) {
     row.reach(9).expect(&rt, "a row");
     row.paint(2, 3, RED);
     row.paint(0, 9, RED);
-    assert_row(&rt, "a painted row", counts(&row) == (9, 9, 9));
+    assert_row(&rt, "a painted row", has_counts(&row, (9, 9, 9)));
 }
 
 /// The dots of a sixel in its color, in the columns from the first up to before the second.
@@ -222,9 +221,9 @@ fn is_shown(alloc: Global, canvas: &Canvas, size: (usize, usize), runs: &[Run]) 
     if width.saturating_mul(height) > 67_108_864 {
         return false;
     }
-    match (canvas.pack(width, height), bytes_of(alloc, runs)) {
-        (Ok(shown), Ok(expected)) => shown.as_slice() == expected.as_slice(),
-        _ => false,
+    match canvas.pack(width, height) {
+        Ok(shown) => are_runs(alloc, &shown, runs),
+        Err(_) => false,
     }
 }
 

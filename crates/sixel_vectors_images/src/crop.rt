@@ -1,20 +1,13 @@
 //! Images that are cropped to the height that raster attributes name.
 
+use crate::cases::Outcome::{Drawn, Refused};
+use crate::cases::{CROPPING, Case, NEW, assert_cases};
 use crate::encoding::{LAST_ROW, TALL};
 use crate::rows::assert_row;
 use icy_sixel::{BackgroundMode, PixelAspectRatio, Result, SixelDecoder, SixelImage};
-use sixel_vectors_base::answers::{
-    BLACK, CLEAR, RED, Run, TOO_LARGE, is_drawn, refuses, transparent,
-};
-use sixel_vectors_base::hosted::{
-    decoder_with, followed_singly, is_drawn_by, is_refused_by, is_string_drawn_by,
-};
+use sixel_vectors_base::answers::{BLACK, CLEAR, RED, Run, TOO_LARGE, is_drawn};
+use sixel_vectors_base::hosted::{decoder_with, followed_singly, is_string_drawn_by};
 use std::alloc::Global;
-
-/// A new decoder that crops.
-fn cropping() -> SixelDecoder {
-    decoder_with(true, usize::MAX)
-}
 
 #[test]
 fn off_in_a_new_decoder(rt: HostRuntime) {
@@ -24,28 +17,52 @@ fn off_in_a_new_decoder(rt: HostRuntime) {
     assert_row(&rt, "on", decoder.raster_crop());
 }
 
-/// Payloads, and the size and the pixels of the images on a transparent background.
-const CROPPED: &[(&str, (usize, usize), &[Run])] = &[
+/// Payloads and their images on a transparent background.
+const CROPPED: &[Case] = &[
     // The height that is named.
     (
         "\"1;1;2;3#1;2;100;0;0~",
-        (2, 3),
-        &[
-            (1, RED),
-            (1, CLEAR),
-            (1, RED),
-            (1, CLEAR),
-            (1, RED),
-            (1, CLEAR),
-        ],
+        CROPPING,
+        Some(1),
+        Drawn(
+            (2, 3),
+            &[
+                (1, RED),
+                (1, CLEAR),
+                (1, RED),
+                (1, CLEAR),
+                (1, RED),
+                (1, CLEAR),
+            ],
+        ),
     ),
     // The last height above zero.
-    ("\"1;1;2;12\"1;1;2;3~", (2, 3), LEFT_COLUMN),
-    ("\"1;1;2;3\"1;1;2~", (2, 3), LEFT_COLUMN),
-    ("\"1;1;2;3\"1;1;2;0~", (2, 3), LEFT_COLUMN),
+    (
+        "\"1;1;2;12\"1;1;2;3~",
+        CROPPING,
+        Some(1),
+        Drawn((2, 3), LEFT_COLUMN),
+    ),
+    (
+        "\"1;1;2;3\"1;1;2~",
+        CROPPING,
+        Some(1),
+        Drawn((2, 3), LEFT_COLUMN),
+    ),
+    (
+        "\"1;1;2;3\"1;1;2;0~",
+        CROPPING,
+        Some(1),
+        Drawn((2, 3), LEFT_COLUMN),
+    ),
     // No height, and one after the sixels.
-    ("~", (1, 6), &[(6, BLACK)]),
-    ("~\"1;1;1;2", (1, 2), &[(2, BLACK)]),
+    ("~", CROPPING, Some(1), Drawn((1, 6), &[(6, BLACK)])),
+    (
+        "~\"1;1;1;2",
+        CROPPING,
+        Some(1),
+        Drawn((1, 2), &[(2, BLACK)]),
+    ),
 ];
 
 const LEFT_COLUMN: &[Run] = &[
@@ -59,19 +76,28 @@ const LEFT_COLUMN: &[Run] = &[
 
 #[test]
 fn to_the_height_that_is_named(rt: HostRuntime) {
-    for (payload, size, runs) in CROPPED {
-        let decoder = &mut cropping();
-        let is_cropped = is_drawn_by(rt.alloc(), decoder, transparent(), payload, *size, runs);
-        assert_row(&rt, payload, is_cropped);
-    }
+    assert_cases(rt, CROPPED);
 }
+
+/// A payload whose extent is too large, whether its image is cropped or not.
+const EXTENT: &[Case] = &[
+    (
+        "\"1;1;1000000;66-----------?",
+        CROPPING,
+        None,
+        Refused(TOO_LARGE),
+    ),
+    (
+        "\"1;1;1000000;66-----------?",
+        NEW,
+        None,
+        Refused(TOO_LARGE),
+    ),
+];
 
 #[test]
 fn the_extent_is_what_counts(rt: HostRuntime) {
-    let payload = "\"1;1;1000000;66-----------?";
-    let is_refused = is_refused_by(rt.alloc(), &mut cropping(), payload, TOO_LARGE);
-    assert_row(&rt, payload, is_refused);
-    assert_row(&rt, payload, refuses(rt.alloc(), payload, TOO_LARGE));
+    assert_cases(rt, EXTENT);
 }
 
 /// Whether an outcome is an opaque image whose pixels are twice as high as wide.
@@ -87,7 +113,8 @@ fn is_opaque_and_tall(outcome: &Result<SixelImage>) -> bool {
 
 #[test]
 fn a_text_of_seven_rows(rt: HostRuntime) {
-    let (alloc, mut decoder) = (rt.alloc(), cropping());
+    let alloc = rt.alloc();
+    let mut decoder = decoder_with(true, usize::MAX);
     let is_cropped = is_string_drawn_by(alloc, &mut decoder, TALL, (1, 7), &[(7, RED)]);
     assert_row(&rt, "cropped", is_cropped);
     let again = decoder.decode(alloc, TALL.as_bytes());
@@ -153,17 +180,22 @@ const RECEIVED: &[Received] = &[
     },
 ];
 
-/// Whether a new decoder makes this of the text.
-fn is_received(alloc: Global, expected: &Received) -> bool {
-    let bytes = expected.text.as_bytes();
-    let mut decoder = decoder_with(expected.raster_crop, usize::MAX);
-    let outcome = if expected.singly {
+/// What a new decoder makes of a text, which crops or not, in one piece or in single bytes.
+fn decoded_with(alloc: Global, received: &Received) -> Result<SixelImage> {
+    let bytes = received.text.as_bytes();
+    let mut decoder = decoder_with(received.raster_crop, usize::MAX);
+    if received.singly {
         followed_singly(alloc, &mut decoder, bytes)
     } else {
         decoder.decode(alloc, bytes)
-    };
-    let is_same = is_drawn(alloc, &outcome, expected.size, expected.runs);
-    is_same && is_opaque_and_tall(&outcome) == expected.is_tall
+    }
+}
+
+/// Whether a new decoder makes this of the text.
+fn is_received(alloc: Global, expected: &Received) -> bool {
+    let outcome = decoded_with(alloc, expected);
+    let is_tall = is_opaque_and_tall(&outcome);
+    is_drawn(alloc, outcome, expected.size, expected.runs) & (is_tall == expected.is_tall)
 }
 
 #[test]

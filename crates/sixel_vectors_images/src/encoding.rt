@@ -132,26 +132,22 @@ fn texts(rt: HostRuntime) {
 
 #[test]
 fn one_pixel_by_every_call(rt: HostRuntime) {
-    let (alloc, options) = (rt.alloc(), EncodeOptions::default());
+    let (alloc, text) = (rt.alloc(), RED_PIXEL);
+    let options = EncodeOptions::default();
     let bytes = bytes_of(alloc, &[(1, RED)]).expect(&rt, "bytes");
     let image = SixelImage::from_rgba(bytes, 1, 1);
-    assert_text(
-        &rt,
-        "encode_with",
-        image.encode_with(alloc, &options),
-        RED_PIXEL,
-    );
-    assert_text(&rt, "encode", image.encode(alloc), RED_PIXEL);
+    assert_text(&rt, "encode_with", image.encode_with(alloc, &options), text);
+    assert_text(&rt, "encode", image.encode(alloc), text);
     assert_text(
         &rt,
         "to_display_string",
         image.to_display_string(alloc),
-        RED_PIXEL,
+        text,
     );
-    let text = sixel_encode_default(alloc, &RED, 1, 1);
-    assert_text(&rt, "sixel_encode_default", text, RED_PIXEL);
-    let text = sixel_encode(alloc, &RED, 1, 1, &options);
-    assert_text(&rt, "sixel_encode", text, RED_PIXEL);
+    let outcome = sixel_encode_default(alloc, &RED, 1, 1);
+    assert_text(&rt, "sixel_encode_default", outcome, text);
+    let outcome = sixel_encode(alloc, &RED, 1, 1, &options);
+    assert_text(&rt, "sixel_encode", outcome, text);
 }
 
 #[test]

@@ -9,6 +9,8 @@ mod bands;
 #[cfg(test)]
 mod canvas;
 #[cfg(test)]
+mod cases;
+#[cfg(test)]
 mod colors;
 #[cfg(test)]
 mod crop;

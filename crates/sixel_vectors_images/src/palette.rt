@@ -130,11 +130,11 @@ fn error_of(colors: &[[u8; 3]], entries: &[[u8; 3]]) -> u32 {
 
 #[test]
 fn another_palette_has_a_quarter_of_the_error(rt: HostRuntime) {
-    for (entries, error) in ERRORS {
+    for row in ERRORS {
         assert_row(
             &rt,
             "the error of a palette",
-            error_of(&COLORS, entries) == *error,
+            error_of(&COLORS, row.0) == row.1,
         );
     }
 }
@@ -151,11 +151,7 @@ const CERTIFICATES: &[(&[[u8; 3]], u32, bool)] = &[
 
 #[test]
 fn a_certificate_speaks_of_every_two_places(rt: HostRuntime) {
-    for (witnesses, error, holds) in CERTIFICATES {
-        assert_row(
-            &rt,
-            "a certificate",
-            witnesses_hold(witnesses, *error) == *holds,
-        );
+    for row in CERTIFICATES {
+        assert_row(&rt, "a certificate", witnesses_hold(row.0, row.1) == row.2);
     }
 }

@@ -4,7 +4,7 @@ use crate::rows::assert_row;
 use sixel_base::parameters::Parameters;
 
 /// Texts of digits and semicolons, how many fields each has, and the values of the first five.
-const TEXTS: [(&str, usize, [u32; 5]); 7] = [
+const TEXTS: &[(&str, usize, [u32; 5])] = &[
     ("", 0, [0, 0, 0, 0, 0]),
     ("7", 1, [7, 0, 0, 0, 0]),
     (";", 2, [0, 0, 0, 0, 0]),
@@ -37,7 +37,7 @@ fn are_fields(parameters: &Parameters, count: usize, values: &[u32; 5]) -> bool 
 
 #[test]
 fn fields_of_a_text(rt: HostRuntime) {
-    for (text, count, values) in &TEXTS {
-        assert_row(&rt, text, are_fields(&parameters_of(text), *count, values));
+    for row in TEXTS {
+        assert_row(&rt, row.0, are_fields(&parameters_of(row.0), row.1, &row.2));
     }
 }

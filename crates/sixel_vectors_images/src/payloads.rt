@@ -1,22 +1,19 @@
 //! Payloads that are too long to be written out, and whether they are drawn however they come.
 
 use icy_sixel::{DcsSettings, Result, SixelImage};
-use sixel_vectors_base::answers::{decoded, fed, repeated, shows};
+use sixel_vectors_base::answers::{decoded, fed, shows};
 use std::alloc::{AllocError, Global};
 
-/// A front, a text so many times, and an end.
+/// A payload by its front, a text and how often that comes, and its end.
+pub type Long = (&'static str, (&'static str, usize), &'static str);
+
+/// The bytes of a long payload.
 pub fn long(
     alloc: Global,
-    front: &str,
-    (text, count): (&str, usize),
-    end: &str,
-) -> std::result::Result<Vec<u8>, AllocError> {
-    let mut bytes = repeated(alloc, front, 1)?;
-    for _ in 0..count {
-        bytes.extend_from_slice(text.as_bytes())?;
-    }
-    bytes.extend_from_slice(end.as_bytes())?;
-    Ok(bytes)
+    (front, (text, count), end): Long,
+) -> std::result::Result<String, AllocError> {
+    let middle = text.repeat(alloc, count)?;
+    [front, middle.as_str(), end].concat(alloc)
 }
 
 /// Whether an outcome is an image of this size and these pixels.
@@ -32,7 +29,7 @@ pub fn draws_in_pieces(alloc: Global, payload: &[u8], size: (usize, usize), pixe
     let settings = DcsSettings::default();
     let mut are_shown = is_shown(decoded(alloc, payload, settings), size, pixels);
     for length in [1, 7, 100, 4096] {
-        are_shown = is_shown(fed(alloc, payload, settings, length), size, pixels) && are_shown;
+        are_shown &= is_shown(fed(alloc, payload, settings, length), size, pixels);
     }
     are_shown
 }

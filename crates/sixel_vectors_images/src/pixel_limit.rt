@@ -1,13 +1,13 @@
 //! Images at the limit of pixels that a host has set, and above it.
 
+use crate::cases::Outcome::{Drawn, Refused};
+use crate::cases::{Case, assert_cases};
 use crate::rows::assert_row;
 use icy_sixel::receiver::SixelReceiver;
 use icy_sixel::script::{Outcome, Step, run};
 use icy_sixel::{DcsSettings, SixelDecoder, SixelError};
-use sixel_vectors_base::answers::{BLACK, BLUE, CLEAR, MALFORMED, RED, Run, TOO_LARGE, is_refused};
-use sixel_vectors_base::hosted::{
-    decoder_with, followed_singly, is_drawn_by, is_refused_by, is_string_drawn_by,
-};
+use sixel_vectors_base::answers::{BLACK, BLUE, CLEAR, MALFORMED, RED, TOO_LARGE, is_refused};
+use sixel_vectors_base::hosted::{decoder_with, followed_singly, is_string_drawn_by};
 use std::alloc::Global;
 
 /// Limits that a host sets, and those that are kept.
@@ -17,46 +17,45 @@ const LIMITS: &[(usize, usize)] = &[(0, 1), (72, 72), (usize::MAX, 67108864)];
 fn the_number_that_is_kept(rt: HostRuntime) {
     let limit = SixelDecoder::new().pixel_limit();
     assert_row(&rt, "of a new decoder", limit == 67108864);
-    for (limit, kept) in LIMITS {
-        let is_kept = decoder_with(false, *limit).pixel_limit() == *kept;
-        assert_row(&rt, "of a host", is_kept);
+    for row in LIMITS {
+        assert_row(
+            &rt,
+            "of a host",
+            decoder_with(false, row.0).pixel_limit() == row.1,
+        );
     }
 }
 
-/// Whether images are cropped, the limit, a payload, and the size and the pixels of its image.
-const DRAWN: &[(bool, usize, &str, (usize, usize), Run)] = &[
-    (false, 72, "!12~", (12, 6), (72, BLACK)),
-    (false, 0, "", (1, 1), (1, BLACK)),
-    (true, 18, "\"1;1;3;2!3?", (3, 2), (6, BLACK)),
+/// Payloads whose images are within the limit.
+const DRAWN: &[Case] = &[
+    ("!12~", (false, 72), None, Drawn((12, 6), &[(72, BLACK)])),
+    ("", (false, 0), None, Drawn((1, 1), &[(1, BLACK)])),
+    (
+        "\"1;1;3;2!3?",
+        (true, 18),
+        None,
+        Drawn((3, 2), &[(6, BLACK)]),
+    ),
 ];
 
 #[test]
 fn drawn_payloads(rt: HostRuntime) {
-    let settings = DcsSettings::default();
-    for (raster_crop, limit, payload, size, run) in DRAWN {
-        let decoder = &mut decoder_with(*raster_crop, *limit);
-        let is_drawn = is_drawn_by(rt.alloc(), decoder, settings, payload, *size, &[*run]);
-        assert_row(&rt, payload, is_drawn);
-    }
+    assert_cases(rt, DRAWN);
 }
 
-/// Whether images are cropped, the limit, a payload, and why it is refused.
-const REFUSED: &[(bool, usize, &str, &str)] = &[
-    (false, 72, "!13~", TOO_LARGE),
-    (false, 72, "\"1;1;6;13", TOO_LARGE),
-    (false, 72, "\"1;1;1000001;1", MALFORMED),
-    (false, 0, "?", TOO_LARGE),
+/// Payloads that are refused at their limit.
+const REFUSED: &[Case] = &[
+    ("!13~", (false, 72), None, Refused(TOO_LARGE)),
+    ("\"1;1;6;13", (false, 72), None, Refused(TOO_LARGE)),
+    ("\"1;1;1000001;1", (false, 72), None, Refused(MALFORMED)),
+    ("?", (false, 0), None, Refused(TOO_LARGE)),
     // The limit is one of the whole extent.
-    (true, 17, "\"1;1;3;2!3?", TOO_LARGE),
+    ("\"1;1;3;2!3?", (true, 17), None, Refused(TOO_LARGE)),
 ];
 
 #[test]
 fn refused_payloads(rt: HostRuntime) {
-    for (raster_crop, limit, payload, reason) in REFUSED {
-        let decoder = &mut decoder_with(*raster_crop, *limit);
-        let is_refused = is_refused_by(rt.alloc(), decoder, payload, reason);
-        assert_row(&rt, payload, is_refused);
-    }
+    assert_cases(rt, REFUSED);
 }
 
 /// A control string whose image has 12 pixels.
@@ -66,15 +65,17 @@ const STRING: &str = "\x1bP9;1;0q\"1;1;2;1#0;2;0;0;100#1;2;100;0;0#0?@$#1@?$-\x1
 fn is_text_refused(alloc: Global, decoder: &mut SixelDecoder) -> bool {
     let whole = decoder.decode(alloc, STRING.as_bytes());
     let singly = followed_singly(alloc, decoder, STRING.as_bytes());
-    is_refused(&whole, TOO_LARGE) && is_refused(&singly, TOO_LARGE)
+    is_refused(whole, TOO_LARGE) & is_refused(singly, TOO_LARGE)
 }
 
 #[test]
 fn a_text_in_whole_bands(rt: HostRuntime) {
     let runs = [(1, RED), (1, BLUE), (10, CLEAR)];
     let decoder = &mut decoder_with(false, 12);
-    assert!(rt; is_string_drawn_by(rt.alloc(), decoder, STRING, (2, 6), &runs));
-    assert!(rt; is_text_refused(rt.alloc(), &mut decoder_with(false, 11)));
+    let is_drawn = is_string_drawn_by(rt.alloc(), decoder, STRING, (2, 6), &runs);
+    assert_row(&rt, "at the limit", is_drawn);
+    let is_refused = is_text_refused(rt.alloc(), &mut decoder_with(false, 11));
+    assert_row(&rt, "above the limit", is_refused);
 }
 
 /// Whether a decoder crops and has a limit of 18 pixels.
@@ -87,7 +88,7 @@ fn kept_by_resets_and_clones(rt: HostRuntime) {
     let mut decoder = decoder_with(true, 18);
     decoder.reset_palette();
     let copy = decoder.clone().expect(&rt, "a clone");
-    assert!(rt; is_limited(&decoder) && is_limited(&copy));
+    assert_row(&rt, "a clone", is_limited(&decoder) && is_limited(&copy));
 }
 
 /// An image of 3x6 pixels, and of 3x2 with crop.
@@ -133,7 +134,8 @@ fn are_right(outcomes: &[Outcome]) -> bool {
 fn from_step_to_step(rt: HostRuntime) {
     let mut decoder = SixelDecoder::new();
     let outcomes = run(rt.alloc(), &mut decoder, &steps()).expect(&rt, "outcomes");
-    assert!(rt; are_right(&outcomes) && decoder.pixel_limit() == 18);
+    let are_right = are_right(&outcomes) && decoder.pixel_limit() == 18;
+    assert_row(&rt, "steps", are_right);
 }
 
 /// Whether a receiver refuses that image as too large, in a control string.
@@ -162,5 +164,7 @@ fn goes_by_its_host(alloc: Global, receiver: &mut SixelReceiver) -> bool {
 #[test]
 fn kept_by_a_receiver(rt: HostRuntime) {
     let mut receiver = SixelReceiver::new();
-    assert!(rt; goes_by_its_host(rt.alloc(), &mut receiver));
+    let is_kept = goes_by_its_host(rt.alloc(), &mut receiver);
+    receiver.into_decoder();
+    assert_row(&rt, "a receiver", is_kept);
 }

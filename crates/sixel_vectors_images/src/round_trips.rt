@@ -2,11 +2,12 @@
 
 ghost use Rattle.std.specs.Prelude.{◌<◌};
 
+use crate::payloads::is_shown;
 use crate::rows::assert_row;
 use icy_sixel::{
     EncodeOptions, Result, SixelDecoder, SixelImage, sixel_encode, sixel_encode_default,
 };
-use sixel_vectors_base::answers::{BLUE, CLEAR, RED, Run, bytes_of, is_drawn, shows};
+use sixel_vectors_base::answers::{BLUE, CLEAR, RED, Run, bytes_of, is_drawn};
 use std::alloc::{AllocError, Global};
 
 /// The pixels of an image, and its size.
@@ -96,26 +97,27 @@ const TRIPS: &[Trip] = &[
     },
 ];
 
-/// What a new decoder makes of the text of pixels.
-fn returned(
-    alloc: Global,
-    pixels: &[u8],
-    (width, height): (usize, usize),
-    max_colors: u16,
-) -> Result<SixelImage> {
-    match sixel_encode(alloc, pixels, width, height, &EncodeOptions { max_colors }) {
+/// What a new decoder makes of a text.
+fn returned(alloc: Global, text: Result<String>) -> Result<SixelImage> {
+    match text {
         Ok(text) => SixelDecoder::new().decode(alloc, text.as_bytes()),
         Err(error) => Err(error),
     }
 }
 
+/// The text of pixels with so many colors at most.
+fn encoded(alloc: Global, pixels: &[u8], trip: &Trip) -> Result<String> {
+    let (width, height) = trip.from.1;
+    let max_colors = trip.max_colors;
+    sixel_encode(alloc, pixels, width, height, &EncodeOptions { max_colors })
+}
+
 /// Whether a drawing comes back as the other one.
 fn comes_back(alloc: Global, trip: &Trip) -> bool {
-    let ((from, from_size), (to, to_size)) = (trip.from, trip.to);
-    match bytes_of(alloc, from) {
+    match bytes_of(alloc, trip.from.0) {
         Ok(pixels) => {
-            let outcome = returned(alloc, &pixels, from_size, trip.max_colors);
-            is_drawn(alloc, &outcome, to_size, to)
+            let image = returned(alloc, encoded(alloc, &pixels, trip));
+            is_drawn(alloc, image, trip.to.1, trip.to.0)
         }
         Err(_) => false,
     }
@@ -168,15 +170,12 @@ fn stripes_come_back(alloc: Global, width: usize, height: usize, colors: usize) 
     requires height { height < 1000 }
     requires colors { 0 < colors }
 {
-    let Ok(pixels) = stripes(alloc, width, height, colors) else {
-        return false;
-    };
-    let (given, _) = pixels.split_at(pixels.len().min(4 * width * height));
-    let Ok(text) = sixel_encode_default(alloc, given, width, height) else {
-        return false;
-    };
-    match SixelDecoder::new().decode(alloc, text.as_bytes()) {
-        Ok(image) => shows(&image, (width, height.next_multiple_of(6)), &pixels),
+    match stripes(alloc, width, height, colors) {
+        Ok(pixels) => {
+            let (given, _) = pixels.split_at(pixels.len().min(4 * width * height));
+            let image = returned(alloc, sixel_encode_default(alloc, given, width, height));
+            is_shown(image, (width, height.next_multiple_of(6)), &pixels)
+        }
         Err(_) => false,
     }
 }

@@ -58,9 +58,9 @@ const SIZES: &[(&str, usize, usize, Option<SixelError>)] = &[
 
 #[test]
 fn sizes(rt: HostRuntime) {
-    for (name, width, height, refusal) in SIZES {
-        let outcome = validate_encode_dimensions(*width, *height);
-        assert_row(&rt, name, outcome.err() == *refusal);
+    for row in SIZES {
+        let outcome = validate_encode_dimensions(row.1, row.2);
+        assert_row(&rt, row.0, outcome.err() == row.3);
     }
 }
 
@@ -124,9 +124,12 @@ fn refusal(
 
 #[test]
 fn encoding(rt: HostRuntime) {
-    for (name, run, length, size, expected) in UNENCODED {
-        let refusal = refusal(rt.alloc(), *run, *length, *size);
-        assert_row(&rt, name, refusal == *expected);
+    for row in UNENCODED {
+        assert_row(
+            &rt,
+            row.0,
+            refusal(rt.alloc(), row.1, row.2, row.3) == row.4,
+        );
     }
 }
 
@@ -172,9 +175,12 @@ fn image_refusal(alloc: Global, count: usize, width: usize, height: usize) -> Op
 
 #[test]
 fn images(rt: HostRuntime) {
-    for (name, count, width, height, expected) in IMAGES {
-        let refusal = image_refusal(rt.alloc(), *count, *width, *height);
-        assert_row(&rt, name, refusal == *expected);
+    for row in IMAGES {
+        assert_row(
+            &rt,
+            row.0,
+            image_refusal(rt.alloc(), row.1, row.2, row.3) == row.4,
+        );
     }
 }
 
@@ -195,9 +201,9 @@ const TRANSPARENCY: &[(&[u8], bool)] = &[
 
 #[test]
 fn transparency(rt: HostRuntime) {
-    for (pixels, expected) in TRANSPARENCY {
-        let bytes = pixels.to_vec(rt.alloc()).expect(&rt, "bytes");
+    for row in TRANSPARENCY {
+        let bytes = row.0.to_vec(rt.alloc()).expect(&rt, "bytes");
         let image = SixelImage::from_rgba(bytes, 1, 1);
-        assert_row(&rt, "transparency", image.has_transparency() == *expected);
+        assert_row(&rt, "transparency", image.has_transparency() == row.1);
     }
 }

@@ -6,7 +6,7 @@ use crate::rows::assert_row;
 use icy_sixel::{
     DcsSettings, SixelDcsStreamDecoder, SixelDecoder, SixelError, SixelImage, SixelStreamDecoder,
 };
-use sixel_vectors_base::answers::{MALFORMED, TOO_LARGE, repeated};
+use sixel_vectors_base::answers::{MALFORMED, TOO_LARGE};
 use sixel_vectors_base::hosted::decoder_with;
 use std::alloc::Global;
 
@@ -53,17 +53,14 @@ fn writes_within(
 ) -> bool
     requires { 0 < length }
 {
-    let (least, most) = columns(reach.0);
-    let mut writes = session.canvas_writes();
-    let mut are_right = writes == 0 && session.canvas_paints() == 0;
+    let mut are_right = session.canvas_writes() == 0 && session.canvas_paints() == 0;
     for piece in payload.chunks(length) {
-        let is_fed = session.feed(piece).is_ok();
-        let before = writes;
-        writes = session.canvas_writes();
-        are_right = are_right && is_fed && before <= writes;
+        let before = session.canvas_writes();
+        are_right &= feeds(session, piece, (before, u64::MAX));
     }
-    let are_within = least <= writes && writes <= most;
-    are_right && are_within && are_paints(session.canvas_paints(), reach)
+    let (least, most) = columns(reach.0);
+    let writes = session.canvas_writes();
+    are_right && least <= writes && writes <= most && are_paints(session.canvas_paints(), reach)
 }
 
 /// The image of a payload that comes in pieces of this length, if the canvas writes what is within
@@ -87,7 +84,7 @@ pub fn counted(
     match session.finish_counted() {
         Ok((image, writes)) => {
             let packed = (image.pixels.len() / 4) as u64;
-            (are_within && writes.checked_sub(drawn) == Some(packed)).then_some(image)
+            (are_within && drawn <= writes && writes - drawn == packed).then_some(image)
         }
         Err(_) => None,
     }
@@ -119,7 +116,7 @@ fn are_counted(
     reach: Reach,
     size: (usize, usize),
 ) -> bool {
-    match repeated(alloc, text, count) {
+    match text.as_bytes().repeat(alloc, count) {
         Ok(payload) => {
             is_counted(alloc, &payload, 1, reach, size)
                 && is_counted(alloc, &payload, 7, reach, size)
@@ -131,9 +128,12 @@ fn are_counted(
 
 #[test]
 fn drawings(rt: HostRuntime) {
-    for (text, count, reach, size) in DRAWINGS {
-        let are_counted = are_counted(rt.alloc(), text, *count, *reach, *size);
-        assert_row(&rt, text, are_counted);
+    for row in DRAWINGS {
+        assert_row(
+            &rt,
+            row.0,
+            are_counted(rt.alloc(), row.0, row.1, row.2, row.3),
+        );
     }
 }
 
@@ -180,12 +180,8 @@ const COLUMNS: &[(&str, u64, u64, Bounds)] = &[
 
 #[test]
 fn columns_in_single_bytes(rt: HostRuntime) {
-    for (front, writes, count, bounds) in COLUMNS {
-        assert_row(
-            &rt,
-            front,
-            is_grown(rt.alloc(), front, *writes, *count, *bounds),
-        );
+    for row in COLUMNS {
+        assert_row(&rt, row.0, is_grown(rt.alloc(), row.0, row.1, row.2, row.3));
     }
 }
 
@@ -213,7 +209,7 @@ fn columns_of_a_control_string(rt: HostRuntime) {
     let mut session = decoder.begin_dcs(rt.alloc());
     let are_followed = follows_columns(&mut session);
     session.abort();
-    assert!(rt; are_followed);
+    assert_row(&rt, "a control string", are_followed);
 }
 
 /// A limit of pixels, what is fed first and the bounds of what is written for it, and what is fed
@@ -254,13 +250,9 @@ fn is_refused_after(
 
 #[test]
 fn a_refusal_leaves_no_count(rt: HostRuntime) {
-    for (limit, front, bounds, piece, reason) in REFUSALS {
-        let fed = (*front, *bounds);
-        assert_row(
-            &rt,
-            piece,
-            is_refused_after(rt.alloc(), *limit, fed, piece, reason),
-        );
+    for row in REFUSALS {
+        let is_refused = is_refused_after(rt.alloc(), row.0, (row.1, row.2), row.3, row.4);
+        assert_row(&rt, row.3, is_refused);
     }
 }
 
@@ -278,5 +270,5 @@ fn a_refused_control_string_leaves_no_count(rt: HostRuntime) {
     let mut session = decoder.begin_dcs(rt.alloc());
     let is_refused = is_repeat_refused(&mut session);
     session.abort();
-    assert!(rt; is_refused);
+    assert_row(&rt, "a control string", is_refused);
 }

@@ -3,6 +3,7 @@
 ghost use Rattle.std.specs.Prelude.{◌<◌};
 
 use crate::feeds::{fed_in, followed_in};
+use crate::rows::assert_holds;
 use icy_sixel::{
     DcsSettings, Result, SixelDcsFeedStatus, SixelDecoder, SixelImage, sixel_encode_default,
 };
@@ -65,7 +66,7 @@ fn is_payload_same(
     expected: &Result<SixelImage>,
 ) -> bool {
     match uneven_pieces(alloc, payload, start, 97) {
-        Ok(pieces) => are_same(&fed_in(alloc, settings(), &pieces), expected),
+        Ok(pieces) => are_same(fed_in(alloc, settings(), &pieces), expected),
         Err(_) => false,
     }
 }
@@ -84,7 +85,7 @@ fn is_string_same(
     match uneven_pieces(alloc, string, start, longest) {
         Ok(pieces) => {
             let (has_ended, image) = followed_in(alloc, &pieces, ending);
-            has_ended && are_same(&image, expected)
+            has_ended & are_same(image, expected)
         }
         Err(_) => false,
     }
@@ -93,7 +94,7 @@ fn is_string_same(
 /// Whether a text gives the same in pieces as in one, and so does its payload.
 fn is_same_in_pieces(alloc: Global, text: &[u8], payload: &[u8]) -> bool {
     let expected = SixelDecoder::new().decode(alloc, text);
-    let mut is_same = are_same(&fed(alloc, payload, settings(), 1), &expected);
+    let mut is_same = are_same(fed(alloc, payload, settings(), 1), &expected);
     is_same &= is_string_same(alloc, text, 1, 1, &expected);
     for start in 1..=16 {
         is_same &= is_payload_same(alloc, payload, start, &expected);
@@ -106,5 +107,6 @@ fn is_same_in_pieces(alloc: Global, text: &[u8], payload: &[u8]) -> bool {
 fn a_text_in_pieces(rt: HostRuntime) {
     let text = text_of_pixels(rt.alloc()).expect(&rt, "a text");
     let payload = payload_of(text.as_bytes()).expect(&rt, "a payload");
-    assert!(rt; is_same_in_pieces(rt.alloc(), text.as_bytes(), payload));
+    let is_same = is_same_in_pieces(rt.alloc(), text.as_bytes(), payload);
+    assert_holds(&rt, "a text", is_same);
 }

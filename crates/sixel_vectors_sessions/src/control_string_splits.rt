@@ -28,7 +28,7 @@ fn is_same_cut(
         let (left, middle) = front.split_at(place);
         let pieces = [left, b"", middle, b"", back, b""];
         let (has_ended, outcome) = followed_in(alloc, &pieces, ending);
-        is_same &= has_ended && are_same(&outcome, expected);
+        is_same &= has_ended & are_same(outcome, expected);
     }
     is_same
 }
@@ -84,7 +84,7 @@ fn ends_so(alloc: Global, terminator: u8) -> bool {
         let (left, right) = bytes.split_at(place);
         let pieces = [left, b"", right, b""];
         let (has_ended, outcome) = followed_in(alloc, &pieces, ending_at(terminator));
-        is_right &= has_ended && comes_to(alloc, &outcome, Ok((1, RED)));
+        is_right &= has_ended & comes_to(alloc, outcome, Ok((1, RED)));
     }
     is_right
 }
@@ -118,7 +118,7 @@ fn means(alloc: Global, header: &Header) -> bool {
     let (string, p1, p2, p3) = *header;
     let outcome = followed_singly(alloc, &mut SixelDecoder::new(), string);
     let expected = decoded(alloc, b"?", DcsSettings::new(p1, p2, p3));
-    outcome.is_ok() && are_same(&outcome, &expected)
+    expected.is_ok() & are_same(outcome, &expected)
 }
 
 #[test]
@@ -157,7 +157,7 @@ fn is_refused_by(alloc: Global, bytes: &[u8], length: usize, refusal: &SixelErro
     let mut session = decoder.begin_dcs(alloc);
     let is_refused = refuses(&mut session, bytes, length, refusal);
     let has_failed = string_answers(&mut session, &AFTER_A_REFUSAL);
-    let is_failed = comes_to(alloc, &session.finish(), Err(&FAILED));
+    let is_failed = comes_to(alloc, session.finish(), Err(&FAILED));
     is_refused && has_failed && is_failed && decoder.register(42) == SEA
 }
 

@@ -2,7 +2,7 @@
 
 use crate::expected::{INCOMPLETE, MALFORMED_DATA, Outcome, SEA, StringFeed, comes_to};
 use crate::feeds::string_answers;
-use crate::rows::assert_row;
+use crate::rows::{assert_holds, assert_row};
 use icy_sixel::{SixelDcsFeedStatus, SixelDecoder, SixelError};
 use sixel_vectors_base::answers::{BLACK, RED};
 use sixel_vectors_base::hosted::followed_singly;
@@ -92,7 +92,7 @@ fn holds(
 ) -> bool {
     let mut session = decoder.begin_dcs(alloc);
     let is_answered = string_answers(&mut session, feeds);
-    comes_to(alloc, &session.finish(), end) && is_answered
+    comes_to(alloc, session.finish(), end) & is_answered
 }
 
 /// Whether a session on a new decoder answers so and comes to this.
@@ -123,7 +123,8 @@ fn a_command_is_refused_where_it_is_closed(rt: HostRuntime) {
     let alloc = rt.alloc();
     let mut decoder = SixelDecoder::new();
     let is_open = takes_and_aborts(alloc, &mut decoder, b"\x1bPq!65536");
-    assert!(rt; is_open && holds(alloc, &mut decoder, &CLOSED, Err(&FAILED)));
+    let is_closed = holds(alloc, &mut decoder, &CLOSED, Err(&FAILED));
+    assert_holds(&rt, "an open command", is_open && is_closed);
 }
 
 /// Whether a beginning of a control string is consumed whole, is incomplete at its end, and defines
@@ -153,7 +154,7 @@ static SINGLY: [(&[u8], Outcome); 3] = [
 /// Whether a control string in single bytes comes to this.
 fn is_so_singly(alloc: Global, case: &(&[u8], Outcome)) -> bool {
     let outcome = followed_singly(alloc, &mut SixelDecoder::new(), case.0);
-    comes_to(alloc, &outcome, case.1)
+    comes_to(alloc, outcome, case.1)
 }
 
 #[test]

@@ -7,7 +7,7 @@ use std::alloc::{AllocError, Global};
 
 /// A payload or a control string, and the first and the last place in its bytes where a control
 /// character is put in.
-const STRINGS: [(&str, usize, usize); 6] = [
+const STRINGS: &[(&str, usize, usize)] = &[
     ("!12~", 1, 3),
     ("#1;2;100;0;0~", 1, 12),
     ("#1;1;120;50;100~", 1, 15),
@@ -32,7 +32,7 @@ fn with_byte(alloc: Global, string: &str, place: usize, byte: u8) -> Result<Vec<
 fn is_passed_over(alloc: Global, string: &str, place: usize, byte: u8) -> bool {
     let plain = SixelDecoder::new().decode(alloc, string.as_bytes());
     match with_byte(alloc, string, place, byte) {
-        Ok(bytes) => are_same(&SixelDecoder::new().decode(alloc, &bytes), &plain),
+        Ok(bytes) => are_same(SixelDecoder::new().decode(alloc, &bytes), &plain),
         Err(_) => false,
     }
 }
@@ -49,13 +49,10 @@ fn is_unchanged(alloc: Global, string: &str, place: usize) -> bool {
 
 #[test]
 fn control_characters(rt: HostRuntime) {
-    for (string, first, last) in &STRINGS {
-        for place in *first..=*last {
-            assert_row(
-                &rt,
-                &(place, string),
-                is_unchanged(rt.alloc(), string, place),
-            );
+    for row in STRINGS {
+        for place in row.1..=row.2 {
+            let is_unchanged = is_unchanged(rt.alloc(), row.0, place);
+            assert_row(&rt, &(place, row.0), is_unchanged);
         }
     }
 }

@@ -1,6 +1,6 @@
 //! Each example of `sixel_examples` does what the page that shows it says.
 
-use crate::rows::assert_row;
+use crate::rows::{assert_holds, assert_row};
 use icy_sixel::receiver::SixelReceiver;
 use icy_sixel::script::Outcome;
 use icy_sixel::{Result, SixelDecoder, SixelImage};
@@ -8,9 +8,9 @@ use sixel_examples::in_one_call::{decode, decode_payload, encode, palette};
 use sixel_examples::lists::replay;
 use sixel_examples::multiplexer::{Came, read};
 use sixel_examples::streaming::{decode_payload_pieces, decode_pieces};
-use sixel_examples::terminal::Images;
+use sixel_examples::terminal::{Images, Read};
 use sixel_examples::viewer::open;
-use sixel_vectors_base::answers::{RED, bytes_of, is_drawn, shows};
+use sixel_vectors_base::answers::{RED, has_runs, is_drawn};
 use std::alloc::Global;
 use std::process::Abort;
 
@@ -21,7 +21,7 @@ const INDIGO: [u8; 4] = [51, 51, 204, 255];
 fn has_columns(alloc: Global, image: Result<SixelImage>, width: usize, color: [u8; 4]) -> bool {
     is_drawn(
         alloc,
-        &image,
+        image,
         (width, 6),
         &[(width.saturating_mul(6), color)],
     )
@@ -31,12 +31,21 @@ fn has_columns(alloc: Global, image: Result<SixelImage>, width: usize, color: [u
 fn images(rt: HostRuntime) {
     let (alloc, mut decoder) = (rt.alloc(), SixelDecoder::new());
     let image = decode(alloc, &mut decoder, b"text\x1bPq#1~\x1b\\text");
-    assert!(rt; has_columns(alloc, image, 1, INDIGO));
+    assert_holds(
+        &rt,
+        "a control string",
+        has_columns(alloc, image, 1, INDIGO),
+    );
     let image = decode_payload(alloc, &mut decoder, b"#1~~");
-    assert!(rt; has_columns(alloc, image, 2, INDIGO));
-    assert!(rt; has_columns(alloc, decode_pieces(alloc), 12, RED));
+    assert_holds(&rt, "a payload", has_columns(alloc, image, 2, INDIGO));
+    let image = decode_pieces(alloc);
+    assert_holds(&rt, "pieces", has_columns(alloc, image, 12, RED));
     let image = decode_payload_pieces(alloc, &mut decoder);
-    assert!(rt; has_columns(alloc, image, 12, INDIGO));
+    assert_holds(
+        &rt,
+        "pieces of a payload",
+        has_columns(alloc, image, 12, INDIGO),
+    );
 }
 
 /// Whether these are the outcomes of an image that was finished, one that was given up, each of 18
@@ -59,21 +68,23 @@ fn are_replayed(outcomes: &Result<Vec<Outcome>>) -> bool {
 fn a_list_of_steps(rt: HostRuntime) {
     let mut decoder = SixelDecoder::new();
     let string = b"\x1bPq#1;2;0;100;0~\x1b\\";
-    assert!(rt; are_replayed(&replay(rt.alloc(), &mut decoder, string)));
-    assert!(rt; decoder.register(1) == [51, 51, 204]);
+    let are_replayed = are_replayed(&replay(rt.alloc(), &mut decoder, string));
+    assert_holds(&rt, "outcomes", are_replayed);
+    assert_holds(&rt, "the register", decoder.register(1) == [51, 51, 204]);
 }
 
 #[test]
 fn a_palette(rt: HostRuntime) {
     let (choice, is_certified) = palette(rt.alloc(), &[1, 2, 3, 255]).expect(&rt, "a palette");
-    assert!(rt; choice.colors.len() == 1 && is_certified);
+    assert_holds(&rt, "a palette", choice.colors.len() == 1 && is_certified);
 }
 
 #[test]
 fn a_text(rt: HostRuntime) {
     let pixels = Vec::from_slice(rt.alloc(), &RED).expect(&rt, "pixels");
     let text = encode(rt.alloc(), pixels, 1, 1).expect(&rt, "a text");
-    assert!(rt; text.as_str() == "\x1bP9;1;0q\"1;1;1;1#0;2;100;0;0#0@$-\x1b\\");
+    let is_right = text.as_str() == "\x1bP9;1;0q\"1;1;1;1#0;2;100;0;0#0@$-\x1b\\";
+    assert_holds(&rt, "a text", is_right);
 }
 
 /// A size, where there is an image.
@@ -81,7 +92,7 @@ type Size = Option<(usize, usize)>;
 
 /// Bytes that a terminal reads, how many of them are an image's own and the size of an image that
 /// they end; or nothing, where they are refused.
-const TERMINAL: [(&[u8], Option<(usize, Size)>); 4] = [
+const TERMINAL: &[(&[u8], Option<(usize, Size)>)] = &[
     (b"!3", Some((2, None))),
     (b"?@\x1b\\text", Some((2, Some((4, 6))))),
     (b"\"1;1;2;3~~\x1b\\", Some((10, Some((2, 3))))),
@@ -90,15 +101,28 @@ const TERMINAL: [(&[u8], Option<(usize, Size)>); 4] = [
 
 /// Whether there is an image of this size, all of it in the terminal's background, or none.
 fn is_background(alloc: Global, image: &Option<SixelImage>, size: Size) -> bool {
-    match (image, size) {
-        (Some(image), Some((width, height))) => {
-            let run = (width.saturating_mul(height), [1, 2, 3, 255]);
-            match bytes_of(alloc, &[run]) {
-                Ok(pixels) => shows(image, (width, height), &pixels),
-                Err(_) => false,
+    match image {
+        Some(image) => match size {
+            Some((width, height)) => {
+                let run = (width.saturating_mul(height), [1, 2, 3, 255]);
+                has_runs(alloc, image, (width, height), &[run])
             }
-        }
-        (image, size) => image.is_none() && size.is_none(),
+            None => false,
+        },
+        None => size.is_none(),
+    }
+}
+
+/// Whether what a terminal has read is as expected.
+fn is_read(alloc: Global, read: Result<Read>, expected: Option<(usize, Size)>) -> bool {
+    match read {
+        Ok(read) => match expected {
+            Some((consumed, size)) => {
+                read.consumed == consumed && is_background(alloc, &read.image, size)
+            }
+            None => false,
+        },
+        Err(_) => expected.is_none(),
     }
 }
 
@@ -112,24 +136,19 @@ fn reads(
     if images.size_so_far().is_none() {
         images.begin(alloc, None, None);
     }
-    match (&images.read(bytes), expected) {
-        (Ok(read), Some((consumed, size))) => {
-            read.consumed == consumed && is_background(alloc, &read.image, size)
-        }
-        (read, expected) => read.is_err() && expected.is_none(),
-    }
+    is_read(alloc, images.read(bytes), expected)
 }
 
 #[test]
 fn a_terminal(rt: HostRuntime) {
     let mut images = Images::new([1, 2, 3], 307_200);
-    for (bytes, expected) in &TERMINAL {
-        assert_row(&rt, bytes, reads(rt.alloc(), &mut images, bytes, *expected));
+    for row in TERMINAL {
+        assert_row(&rt, &row.0, reads(rt.alloc(), &mut images, row.0, row.1));
     }
 }
 
 /// Bytes that a multiplexer reads, what they were, and how many of them were an image's own.
-const MULTIPLEXER: [(&[u8], &str, usize); 3] = [
+const MULTIPLEXER: &[(&[u8], &str, usize)] = &[
     (b"\x1bPq~", "a part", 0),
     (b"~\x1b[31m", "cut short", 2),
     (b"\x90q~\x9ctext", "whole", 4),
@@ -148,18 +167,23 @@ fn kind_of(came: &Result<Came>) -> (&'static str, usize) {
 #[test]
 fn a_multiplexer(rt: HostRuntime) {
     let mut receiver = SixelReceiver::new();
-    for (bytes, kind, own) in &MULTIPLEXER {
+    for (bytes, kind, own) in MULTIPLEXER {
         if !receiver.is_receiving() {
             receiver.begin_dcs(rt.alloc());
         }
         let came = kind_of(&read(&mut receiver, bytes));
         assert_row(&rt, bytes, came == (*kind, *own));
     }
-    assert!(rt; receiver.into_decoder().register(1) == [51, 51, 204]);
+    let decoder = receiver.into_decoder();
+    assert_holds(&rt, "the register", decoder.register(1) == [51, 51, 204]);
 }
 
 #[test]
 fn a_viewer(rt: HostRuntime) {
     let view = open(rt.alloc(), b"\x1bP0;1q~\x1b\\").expect(&rt, "a view");
-    assert!(rt; (view.row_repeat, view.has_transparency) == (2, false));
+    assert_holds(
+        &rt,
+        "a view",
+        view.row_repeat == 2 && !view.has_transparency,
+    );
 }

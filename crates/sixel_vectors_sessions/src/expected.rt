@@ -1,7 +1,7 @@
 //! What feeds, sessions and steps are expected to come to.
 
 use icy_sixel::{Result, SixelDcsFeedStatus, SixelError, SixelFeedStatus, SixelImage};
-use sixel_vectors_base::answers::{MALFORMED, bytes_of, shows};
+use sixel_vectors_base::answers::{MALFORMED, has_runs};
 use std::alloc::Global;
 
 /// How many bytes a feed consumed and its status, or its refusal.
@@ -37,17 +37,20 @@ pub const SEA: [u8; 3] = [0, 204, 102];
 
 /// Whether an image is these columns.
 pub fn shows_columns(alloc: Global, image: &SixelImage, (width, color): Columns) -> bool {
-    match bytes_of(alloc, &[(width.saturating_mul(6), color)]) {
-        Ok(pixels) => shows(image, (width, 6), &pixels),
-        Err(_) => false,
-    }
+    let run = (width.saturating_mul(6), color);
+    has_runs(alloc, image, (width, 6), &[run])
 }
 
 /// Whether a session came to these columns or to this refusal.
-pub fn comes_to(alloc: Global, outcome: &Result<SixelImage>, expected: Outcome) -> bool {
-    match (outcome, expected) {
-        (Ok(image), Ok(columns)) => shows_columns(alloc, image, columns),
-        (Err(error), Err(refusal)) => error == refusal,
-        _ => false,
+pub fn comes_to(alloc: Global, outcome: Result<SixelImage>, expected: Outcome) -> bool {
+    match outcome {
+        Ok(image) => match expected {
+            Ok(columns) => shows_columns(alloc, &image, columns),
+            Err(_) => false,
+        },
+        Err(error) => match expected {
+            Ok(_) => false,
+            Err(refusal) => error == *refusal,
+        },
     }
 }

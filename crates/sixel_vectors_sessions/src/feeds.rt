@@ -11,7 +11,7 @@ use std::alloc::Global;
 pub fn answers(session: &mut SixelStreamDecoder<'_>, feeds: &[Feed<'_>]) -> bool {
     for (piece, answer) in feeds {
         let is_right = match (session.feed(piece), answer) {
-            (Ok(fed), Ok(expected)) => (fed.consumed, fed.status) == *expected,
+            (Ok(fed), Ok(expected)) => fed.consumed == expected.0 && fed.status == expected.1,
             (Err(error), Err(refusal)) => error == **refusal,
             _ => false,
         };
@@ -26,7 +26,7 @@ pub fn answers(session: &mut SixelStreamDecoder<'_>, feeds: &[Feed<'_>]) -> bool
 pub fn string_answers(session: &mut SixelDcsStreamDecoder<'_>, feeds: &[StringFeed<'_>]) -> bool {
     for (piece, answer) in feeds {
         let is_right = match (session.feed(piece), answer) {
-            (Ok(fed), Ok(expected)) => (fed.consumed, fed.status) == *expected,
+            (Ok(fed), Ok(expected)) => fed.consumed == expected.0 && fed.status == expected.1,
             (Err(error), Err(refusal)) => error == **refusal,
             _ => false,
         };

@@ -1,5 +1,6 @@
 //! A decoder that owns the image it is receiving: what its calls answer from piece to piece.
 
+use crate::rows::assert_holds;
 use icy_sixel::receiver::{Received, SixelReceiver};
 use icy_sixel::script::Status;
 use icy_sixel::{
@@ -46,18 +47,18 @@ enum Call {
 }
 
 /// Whether a feed consumes so many bytes, with this status.
-fn is_fed(outcome: &Result<Received>, consumed: usize, status: Status) -> bool {
+fn is_fed(outcome: Result<Received>, consumed: usize, status: Status) -> bool {
     match outcome {
-        Ok(received) => *received == Received { consumed, status },
+        Ok(received) => received.consumed == consumed && received.status == status,
         Err(_) => false,
     }
 }
 
 /// Whether a feed is refused for this reason.
-fn is_feed_refused(outcome: &Result<Received>, reason: &'static str) -> bool {
+fn is_feed_refused(outcome: Result<Received>, reason: &'static str) -> bool {
     match outcome {
         Ok(_) => false,
-        Err(error) => *error == SixelError::InvalidData(reason),
+        Err(error) => error == SixelError::InvalidData(reason),
     }
 }
 
@@ -71,9 +72,10 @@ fn is_at(receiver: &SixelReceiver, is_receiving: bool, size: Size) -> bool {
 /// Whether a receiver answers as one that has no image open.
 fn is_idle(receiver: &mut SixelReceiver) -> bool {
     is_at(receiver, false, None)
-        && (receiver.canvas_writes(), receiver.canvas_paints()) == (0, 0)
-        && is_feed_refused(&receiver.feed(b"~"), FAILED)
-        && is_refused(&receiver.finish(), FAILED)
+        && receiver.canvas_writes() == 0
+        && receiver.canvas_paints() == 0
+        && is_feed_refused(receiver.feed(b"~"), FAILED)
+        && is_refused(receiver.finish(), FAILED)
 }
 
 /// Makes a call, and tells whether it is answered as expected.
@@ -87,14 +89,14 @@ fn is_answered(alloc: Global, receiver: &mut SixelReceiver, call: &Call) -> bool
             receiver.begin_dcs(alloc);
             true
         }
-        Call::Feed(piece, consumed, status) => is_fed(&receiver.feed(piece), *consumed, *status),
+        Call::Feed(piece, consumed, status) => is_fed(receiver.feed(piece), *consumed, *status),
         Call::Grow(piece, size) => receiver.feed(piece).is_ok() && is_at(receiver, true, *size),
-        Call::FeedRefused(piece, reason) => is_feed_refused(&receiver.feed(piece), reason),
+        Call::FeedRefused(piece, reason) => is_feed_refused(receiver.feed(piece), reason),
         Call::Finish(width, color) => {
             let runs = [(width.saturating_mul(6), *color)];
-            is_drawn(alloc, &receiver.finish(), (*width, 6), &runs)
+            is_drawn(alloc, receiver.finish(), (*width, 6), &runs)
         }
-        Call::FinishRefused(reason) => is_refused(&receiver.finish(), reason),
+        Call::FinishRefused(reason) => is_refused(receiver.finish(), reason),
         Call::Abort => {
             receiver.abort();
             true
@@ -140,7 +142,7 @@ fn assert_answers(
     decoder
 }
 
-const CONTROL_STRING: [Call; 11] = [
+const CONTROL_STRING: &[Call] = &[
     Call::IsIdle,
     Call::BeginString,
     Call::IsOpen,
@@ -156,10 +158,10 @@ const CONTROL_STRING: [Call; 11] = [
 
 #[test]
 fn a_control_string_over_pieces(rt: HostRuntime) {
-    assert_answers(&rt, SixelReceiver::new(), &CONTROL_STRING);
+    assert_answers(&rt, SixelReceiver::new(), CONTROL_STRING);
 }
 
-const PAYLOAD: [Call; 5] = [
+const PAYLOAD: &[Call] = &[
     Call::BeginPayload(None),
     Call::Feed(b"#1;2;100;0;0!1", 14, MORE),
     Call::Feed(b"2~", 2, MORE),
@@ -170,11 +172,11 @@ const PAYLOAD: [Call; 5] = [
 #[test]
 fn a_payload_over_pieces(rt: HostRuntime) {
     let receiver = SixelReceiver::with_decoder(SixelDecoder::new());
-    let decoder = assert_answers(&rt, receiver, &PAYLOAD);
-    assert!(rt; decoder.register(1) == [255, 0, 0]);
+    let decoder = assert_answers(&rt, receiver, PAYLOAD);
+    assert_holds(&rt, "the register", decoder.register(1) == [255, 0, 0]);
 }
 
-const REFUSAL: [Call; 10] = [
+const REFUSAL: &[Call] = &[
     Call::BeginPayload(None),
     Call::Feed(b"#42;2;100;0;0@!655", 18, MORE),
     Call::FeedRefused(b"36~", MALFORMED),
@@ -189,10 +191,10 @@ const REFUSAL: [Call; 10] = [
 
 #[test]
 fn a_refusal_is_kept_until_the_image_is_closed(rt: HostRuntime) {
-    assert_answers(&rt, SixelReceiver::default(), &REFUSAL);
+    assert_answers(&rt, SixelReceiver::default(), REFUSAL);
 }
 
-const GIVEN_UP: [Call; 10] = [
+const GIVEN_UP: &[Call] = &[
     Call::BeginPayload(None),
     Call::Feed(b"#42;2;100;0;0~", 14, MORE),
     Call::Abort,
@@ -207,10 +209,10 @@ const GIVEN_UP: [Call; 10] = [
 
 #[test]
 fn an_image_that_is_given_up(rt: HostRuntime) {
-    assert_answers(&rt, SixelReceiver::new(), &GIVEN_UP);
+    assert_answers(&rt, SixelReceiver::new(), GIVEN_UP);
 }
 
-const REGISTERS: [Call; 12] = [
+const REGISTERS: &[Call] = &[
     Call::SetRegister(0, [255, 0, 0]),
     Call::BeginPayload(None),
     Call::ResetPalette,
@@ -227,10 +229,10 @@ const REGISTERS: [Call; 12] = [
 
 #[test]
 fn registers_of_the_host(rt: HostRuntime) {
-    assert_answers(&rt, SixelReceiver::new(), &REGISTERS);
+    assert_answers(&rt, SixelReceiver::new(), REGISTERS);
 }
 
-const SIZES: [Call; 13] = [
+const SIZES: &[Call] = &[
     Call::BeginString,
     Call::Grow(b"", None),
     Call::Grow(b"\x1bP0;1", None),
@@ -248,5 +250,5 @@ const SIZES: [Call; 13] = [
 
 #[test]
 fn the_size_so_far(rt: HostRuntime) {
-    assert_answers(&rt, SixelReceiver::new(), &SIZES);
+    assert_answers(&rt, SixelReceiver::new(), SIZES);
 }

@@ -95,9 +95,8 @@ fn ends_at(alloc: Global, terminator: u8) -> bool {
     ];
     let mut decoder = SixelDecoder::new();
     let (is_answered, outcome) = finished(alloc, &mut decoder, DcsSettings::default(), &feeds);
-    is_answered
-        && is_drawn(alloc, &outcome, (1, 6), &[(1, RED), (5, BLACK)])
-        && decoder.register(1) == [255, 0, 0]
+    let is_drawn = is_drawn(alloc, outcome, (1, 6), &[(1, RED), (5, BLACK)]);
+    is_answered && is_drawn && decoder.register(1) == [255, 0, 0]
 }
 
 #[test]
@@ -147,7 +146,8 @@ fn is_refused_so(alloc: Global, refused: &Refused) -> bool {
     let mut decoder = SixelDecoder::new();
     let settings = DcsSettings::default();
     let (is_answered, outcome) = finished(alloc, &mut decoder, settings, refused.1);
-    is_answered && is_refused(&outcome, refused.2) && decoder.register(42) == SEA
+    let is_refused = is_refused(outcome, refused.2);
+    is_answered && is_refused && decoder.register(42) == SEA
 }
 
 #[test]

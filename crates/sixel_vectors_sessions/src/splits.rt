@@ -4,7 +4,7 @@ ghost use Rattle.std.specs.Prelude.{◌≤◌};
 
 use crate::expected::MALFORMED_DATA;
 use crate::feeds::fed_in;
-use crate::rows::assert_row;
+use crate::rows::{assert_holds, assert_row};
 use icy_sixel::SixelError;
 use icy_sixel::decoder::DcsSettings;
 use icy_sixel::sixel_image::PixelAspectRatio;
@@ -21,7 +21,7 @@ fn is_same_with(alloc: Global, settings: DcsSettings, payload: &Payload) -> bool
     let mut is_same = whole.as_ref().err() == refusal;
     for place in 0..=bytes.len() {
         let (front, back) = bytes.split_at(place);
-        is_same &= are_same(&fed_in(alloc, settings, &[front, b"", back]), &whole);
+        is_same &= are_same(fed_in(alloc, settings, &[front, b"", back]), &whole);
     }
     is_same
 }
@@ -72,7 +72,7 @@ fn splits(rt: HostRuntime) {
 fn is_same_singly(alloc: Global, payload: &[u8]) -> bool {
     let settings = DcsSettings::default();
     are_same(
-        &fed(alloc, payload, settings, 1),
+        fed(alloc, payload, settings, 1),
         &decoded(alloc, payload, settings),
     )
 }
@@ -102,5 +102,9 @@ fn every_byte_after_every_beginning(rt: HostRuntime) {
 
 #[test]
 fn terminators_without_introducer(rt: HostRuntime) {
-    assert!(rt; is_same_singly(rt.alloc(), b"~~\x90q~"));
+    assert_holds(
+        &rt,
+        "an introducer",
+        is_same_singly(rt.alloc(), b"~~\x90q~"),
+    );
 }

@@ -89,9 +89,9 @@ fn is_so(alloc: Global, outcome: &Outcome, expected: Expected) -> bool {
                 status,
                 image,
             },
-        ) => (*consumed, *status) == (count, end) && shows_columns(alloc, image, columns),
+        ) => *consumed == count && *status == end && shows_columns(alloc, image, columns),
         (Expected::Aborted(count, end), Outcome::Aborted { consumed, status }) => {
-            (*consumed, *status) == (count, end)
+            *consumed == count && *status == end
         }
         (Expected::Decoded(columns), Outcome::Decoded(image)) => {
             shows_columns(alloc, image, columns)

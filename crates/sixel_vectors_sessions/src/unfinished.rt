@@ -1,6 +1,6 @@
 //! Sessions that are aborted or dropped, which change nothing.
 
-use crate::rows::assert_row;
+use crate::rows::{assert_holds, assert_row};
 use icy_sixel::SixelDecoder;
 use icy_sixel::decoder::DcsSettings;
 use std::alloc::{AllocError, Global};
@@ -91,14 +91,15 @@ fn is_aborted_often(alloc: Global, payload: &[u8]) -> bool {
 #[test]
 fn aborted_sessions_define_no_register(rt: HostRuntime) {
     let payload = definitions(rt.alloc()).expect(&rt, "definitions");
-    assert!(rt; is_aborted_often(rt.alloc(), payload.as_bytes()));
+    let is_aborted = is_aborted_often(rt.alloc(), payload.as_bytes());
+    assert_holds(&rt, "a thousand sessions", is_aborted);
 }
 
 #[test]
 fn dropped_sessions_define_no_register(rt: HostRuntime) {
     let mut decoder = SixelDecoder::new();
     let is_taken = takes(rt.alloc(), &mut decoder, b"#42;2;100;0;0~", Leave::Drop);
-    assert!(rt; is_taken && is_untouched(&decoder));
+    assert_holds(&rt, "a session", is_taken && is_untouched(&decoder));
 }
 
 // Control strings that make register 42 red: within the payload, and at each kind of end.
