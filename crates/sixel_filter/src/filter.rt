@@ -28,7 +28,7 @@ const ESC: u8 = 0x1b;
 const DCS: u8 = 0x90;
 
 /// Where a filter stands in its stream.
-#[derive(Clone, Copy, Debug, PartialEq, Eq)]
+#[derive(Clone, Copy)]
 pub enum Place {
     /// In text, all of which is passed on.
     Text,

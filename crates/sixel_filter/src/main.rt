@@ -13,6 +13,7 @@ mod streams;
 mod words;
 
 use fault::Fault;
+use std::fmt::Display;
 use std::process::ExitCode;
 use std::{env, io};
 use streams::serve;
@@ -20,12 +21,14 @@ use words::asked;
 
 fn main(rt: HostRuntime) -> io::Result<ExitCode> {
     let Ok(words) = arguments(&rt) else {
-        rt.eprintln(Fault::Input)?;
-        return Ok(ExitCode::from(1));
+        return stop(&rt, Fault::Input, 1);
     };
     let Some((piece_len, work)) = asked(&words) else {
-        rt.eprintln("usage: sixel_filter PIECE size | colors COUNT | refusals")?;
-        return Ok(ExitCode::from(2));
+        return stop(
+            &rt,
+            "usage: sixel_filter PIECE size | colors COUNT | refusals",
+            2,
+        );
     };
     match serve(
         rt.alloc(),
@@ -34,12 +37,15 @@ fn main(rt: HostRuntime) -> io::Result<ExitCode> {
         &mut rt.stdin(),
         &mut rt.stdout(),
     ) {
-        Ok(()) => Ok(ExitCode::from(0)),
-        Err(fault) => {
-            rt.eprintln(fault)?;
-            Ok(ExitCode::from(1))
-        }
+        Ok(()) => Ok(ExitCode::SUCCESS),
+        Err(fault) => stop(&rt, fault, 1),
     }
+}
+
+/// Tells why nothing more is done, and gives the status that says so.
+fn stop<T: Display + Drop>(rt: &HostRuntime, why: T, status: u8) -> io::Result<ExitCode> {
+    rt.eprintln(why)?;
+    Ok(ExitCode::from(status))
 }
 
 /// The arguments after the program's own name.
@@ -48,9 +54,5 @@ fn arguments(rt: &HostRuntime) -> Result<Vec<String>, Fault> {
         return Err(Fault::Input);
     };
     let _program = arguments.next();
-    let mut words = Vec::new(rt.alloc());
-    for word in arguments {
-        words.push(word).map_err(|_| Fault::Input)?;
-    }
-    Ok(words)
+    arguments.collect(rt.alloc()).map_err(|_| Fault::Input)
 }
