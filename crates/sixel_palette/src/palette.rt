@@ -92,8 +92,14 @@ pub fn choose_palette(alloc: Global, pixels: &[u8], max_colors: u16) -> Result<P
             actual: pixels.len(),
         });
     }
-    let room = usize::from(max_colors.clamp(2, 256));
-    Ok(palette_of(alloc, pixels, room)?)
+    Ok(palette_of(alloc, pixels, room_for(max_colors))?)
+}
+
+/// How many entries a palette of at most so many colors has room for.
+fn room_for(max_colors: u16) -> usize
+    ensures { result ≡ palette_room max_colors }
+{
+    usize::from(max_colors.clamp(2, 256))
 }
 
 /// The palette of whole pixels, with room for so many entries, and its certificate.

@@ -1,4 +1,4 @@
-use Rattle.std.proofs.Common.{◌≡◌, length, arith}
+use Rattle.std.proofs.Common.{length, arith}
 use Rattle.std.proofs.lemmas.List.{get_or_default}
 use Rattle.sixel_palette.specs.Palette.{palette_room, IsShown}
 use Rattle.sixel_palette.specs.inside.PaletteChosen.{IsChosen}
@@ -9,8 +9,7 @@ use Rattle.sixel_palette.proofs.palette.choose_palette.Goals as goal
 -- the room is that of the palette
 the_choice : (c : goal.In_ok-palette_of) → IsChosen c.args.pixels.now (palette_room c.args.max_colors) c.in_ok-palette_of.field-0
 the_choice c =
-    let room : c.from-room.result ≡ palette_room c.args.max_colors = omega (arith, c.from-room.ensures, c.clamp.ensures) in
-    rw room at c.in_ok-palette_of.ensures.chosen
+    rw c.room_for.ensures at c.in_ok-palette_of.ensures.chosen
 
 pub returns-clause-palette : goal.returns-clause-palette
 returns-clause-palette c = record {
