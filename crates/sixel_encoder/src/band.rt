@@ -1,8 +1,8 @@
 //! The rows of one band: six lines of an image, a row of sixels for each palette entry, or for a
 //! part of the entries.
 
-ghost use Rattle.std.specs.Prelude.{◌≡◌, ◌≢◌, ℕ, ◌+◌, ◌*◌, ◌<◌, ◌≤◌, ◌++◌, All, OnOk, string_bytes};
-ghost use Rattle.std.specs.Prelude.{length};
+ghost use Rattle.std.specs.Prelude.{◌≡◌, ◌≢◌, ℕ, ◌+◌, ◌*◌, ◌^◌, ◌<◌, ◌≤◌, ◌++◌, All, OnOk, string_bytes};
+ghost use Rattle.std.specs.Prelude.{true, false, length, slice_index};
 ghost use Rattle.sixel_base.specs.Picture.{joined};
 ghost use Rattle.sixel_encoder.specs.Text.{sixel_of, row_text, entry_text};
 ghost use Rattle.sixel_encoder.specs.inside.Indexed.{IsIndexed, drawing_of, entry_of};
@@ -37,6 +37,26 @@ fn add_dot(
     used[entry] = true;
 }
 
+/// Whether a pixel is shown, and not hidden.
+#[inline(always)]
+fn is_shown(pixels: &[u8], pixel: usize) -> bool
+    requires { 4 * pixel + 3 < length pixels.now }
+    ensures shown { result ≡ true → 128 ≤ slice_index pixels.now (4 * pixel + 3) }
+    ensures hidden { result ≡ false → slice_index pixels.now (4 * pixel + 3) < 128 }
+{
+    pixels[4 * pixel + 3] >= 128
+}
+
+/// Whether an entry has one of so many rows, which are those of the entries from the first one on.
+#[inline(always)]
+fn has_row(entry: usize, first: usize, count: usize) -> bool
+    requires { first + count < 2 ^ 64 }
+    ensures inside { result ≡ true → (first ≤ entry) × (entry < first + count) }
+    ensures outside { result ≡ false → (k : ℕ) → k < count → entry ≢ first + k }
+{
+    first <= entry && entry < first + count
+}
+
 /// Sets a dot of this weight for each shown pixel of the line that starts at this pixel, in rows
 /// of all entries.
 fn add_whole_line(
@@ -67,7 +87,7 @@ fn add_whole_line(
     } = *image;
     for column in 0..width {
         let pixel = start + column;
-        if pixels[4 * pixel + 3] >= 128 {
+        if is_shown(pixels, pixel) {
             let entry = usize::from(indices[pixel]);
             add_dot(rows, used, width, entry, column, weight);
         }
@@ -104,7 +124,7 @@ fn add_part_of_line(
     'columns: while column < image.width {
         let pixel = start + column;
         let entry = usize::from(image.indices[pixel]);
-        if first <= entry && entry < first + used.len() && image.pixels[4 * pixel + 3] >= 128 {
+        if has_row(entry, first, used.len()) && is_shown(image.pixels, pixel) {
             add_dot(rows, used, image.width, entry - first, column, weight);
         }
         column += 1 + others_from(image.indices, pixel + 1, first, used.len());
