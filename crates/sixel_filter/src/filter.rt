@@ -20,7 +20,7 @@ use crate::making::{write_image, write_refusal};
 use crate::words::Work;
 use icy_sixel::receiver::SixelReceiver;
 use icy_sixel::script::Status;
-use icy_sixel::{Result, SixelDcsFeedStatus};
+use icy_sixel::{Result, SixelDcsFeedStatus, SixelDecoder};
 use std::alloc::Global;
 
 const ESC: u8 = 0x1b;
@@ -71,6 +71,11 @@ impl Filter {
             in_character: false,
             held: Vec::new(alloc),
         }
+    }
+
+    /// The decoder of its images. One that is open is given up.
+    pub fn into_decoder(self) -> SixelDecoder {
+        self.receiver.into_decoder()
     }
 
     /// Takes a piece of the stream, and appends to the output what is known of it.
@@ -366,7 +371,10 @@ pub fn filter_pieces(alloc: Global, work: Work, stream: &[u8], piece_len: usize)
         IsFiltered work false new_decoder stream.now output.items) }
     ensures error { IfErr result (λ e. e ≡ OutOfMemory) }
 {
-    Filter::new(alloc, work).written_of(alloc, stream, piece_len)
+    let mut filter = Filter::new(alloc, work);
+    let written = filter.written_of(alloc, stream, piece_len);
+    let _decoder = filter.into_decoder();
+    written
 }
 
 /// The status of a control string.

@@ -20,13 +20,10 @@ pub fn serve<R: Read, O: Write>(
 ) -> Result<(), Fault> {
     let mut piece = vec![in alloc; 0; piece_len]?;
     let mut made = Vec::new(alloc);
-    pass_all(
-        &mut Filter::new(alloc, work),
-        &mut piece,
-        &mut made,
-        input,
-        output,
-    )
+    let mut filter = Filter::new(alloc, work);
+    let passed = pass_all(&mut filter, &mut piece, &mut made, input, output);
+    let _decoder = filter.into_decoder();
+    passed
 }
 
 /// Passes the input through the filter to its end, and writes what that makes of each piece.
