@@ -1,40 +1,28 @@
 //! A canvas on which a wide stroke over what is there costs no more than its blocks and two ends.
-ghost use Rattle.std.specs.Prelude.{◌≡◌, ℕ, ◌+◌, ◌-◌, ◌*◌, ◌/◌, ◌^◌, ◌<◌, ◌≤◌, ◌==◌, ◌&&◌, ◌++◌, [], max};
-ghost use Rattle.std.specs.Prelude.{length, vec_len, slice_index, true, false, if◌then◌else◌};
-ghost use Rattle.std.specs.Prelude.{◌%◌, min};
-ghost use Rattle.std.specs.Prelude.{nat_le, nat_lt, IfOk, IfErr, IsOk, OnErr, OnOk};
+ghost use Rattle.std.specs.Prelude.{◌≡◌, ℕ, ◌+◌, ◌-◌, ◌*◌, ◌^◌, ◌<◌, ◌≤◌, ◌&&◌, ◌++◌, [], max};
+ghost use Rattle.std.specs.Prelude.{length, vec_len, slice_index, true, if◌then◌else◌};
+ghost use Rattle.std.specs.Prelude.{nat_le, nat_lt, IfOk, IfErr, IsOk, OnOk};
 ghost use Rattle.sixel_base.specs.declared.error.SixelError.TheVariants.{OutOfMemory};
-ghost use Rattle.sixel_base.specs.Picture.{covers, is_set, is_struck, joined, picture, total};
+ghost use Rattle.sixel_base.specs.Picture.{covers, is_set, is_struck, joined, picture};
 ghost use Rattle.sixel_canvas.specs.inside.Block.{drawn_over};
 ghost use Rattle.sixel_canvas.specs.inside.Canvas.{CanvasState, shown, reached, canvas_writes, IsBounded};
 ghost use Rattle.sixel_canvas.specs.inside.Paints.{counted, ends_and_tags, least_painted, IsSpread};
-ghost use Rattle.sixel_canvas.specs.inside.Tags.{is_tag, lies_in, seen, IsTagged};
+ghost use Rattle.sixel_canvas.specs.inside.Tags.{is_tag, IsTagged};
 
 use crate::canvas::Canvas;
 use crate::line::{AllocResult, add_pixels};
+use crate::tagged::blocks::{BLOCK, NO_TAG, can_be_seen, clear_block, strike_rows};
+use crate::tagged::cost::{Band, FOUR_SIXELS, price, with_four_sixels, with_sixel, with_stroke};
 use sixel_base::limits::MAX_SIDE;
 use sixel_base::{Result, SixelError};
 use std::alloc::Global;
 use std::marker::Model;
 
-/// How many columns of a row have a tag in common.
-const BLOCK: usize = 128;
+mod blocks;
+mod cost;
 
 /// From how many columns on a stroke may be tagged.
 const WIDE: usize = 256;
-
-/// How many pixels a sixel has.
-const SIXEL: u64 = 6;
-
-/// How many pixels four sixels have.
-const FOUR_SIXELS: u64 = 24;
-
-/// How many pixels are painted where the blocks under four sixels lose their tags, at most: two
-/// blocks in each of six rows.
-const SETTLED: u64 = 1536;
-
-/// What stands where a block has no tag.
-const NO_TAG: [u8; 4] = [0; 4];
 
 /// A canvas without an edge: its rows hold pixels only up to their last painted column, and
 /// every other place shows the background.
@@ -47,14 +35,6 @@ pub struct TaggedCanvas {
     tags: Canvas,
     band: Band,
     paints: u64,
-}
-
-// What wide strokes have painted at once: in the six rows from `top` on, and in all.
-#[derive(Clone, Copy)]
-struct Band {
-    top: usize,
-    painted: usize,
-    spread: u64,
 }
 
 impl Model for TaggedCanvas {
@@ -444,44 +424,6 @@ impl TaggedCanvas {
     }
 }
 
-// Whether a color can be seen, as that of a tag has to be.
-fn can_be_seen(color: [u8; 4]) -> bool
-    ensures { result ≡ is_tag color }
-{
-    color[3] > 0
-}
-
-// The count with a sixel of one column. One without a dot paints nothing, and a test would be a branch.
-#[inline(always)]
-fn with_sixel(paints: u64, bits: u8) -> u64
-    requires { bits < 64 }
-    ensures least { 0 < bits → counted paints 6 ≤ result }
-    ensures most { result ≤ paints + 6 }
-{
-    let painted = SIXEL * ((u64::from(bits) + 63) / 64);
-    paints.saturating_add(painted)
-}
-
-// The count with four sixels, whose rows may have tags.
-#[inline(always)]
-fn with_four_sixels(paints: u64, may_have_tags: bool) -> u64
-    ensures least { counted paints 24 ≤ result }
-    ensures most { result ≤ paints + 1560 }
-{
-    let settled = if may_have_tags { SETTLED } else { 0 };
-    paints.saturating_add(FOUR_SIXELS + settled)
-}
-
-// The count with a stroke that is painted at once.
-fn with_stroke(paints: u64, columns: usize) -> u64
-    requires { columns ≤ 1000000 }
-    ensures least { counted paints (least_painted columns) ≤ result }
-    ensures most { result ≤ paints + ends_and_tags columns }
-{
-    let painted = 6 * columns.min(columns / BLOCK + 2 * BLOCK);
-    paints.saturating_add(painted as u64)
-}
-
 // Whether a stroke over rows without tags is painted at once: it is narrow, or paints over nothing.
 fn is_painted_at_once(sheet: &Canvas, tags: &Canvas, from: usize, to: usize, top: usize) -> bool
     requires ordered { from ≤ to }
@@ -517,288 +459,4 @@ fn columns_struck(bits: u8, to: usize) -> [usize; 6]
         }
     }
     columns
-}
-
-// Whether a stroke is to be tagged, and what it is counted as. One that can't be seen never is.
-fn price(
-    band: &mut Band,
-    sheet: &Canvas,
-    columns: usize,
-    top: usize,
-    bits: u8,
-    color: [u8; 4],
-) -> (bool, u64)
-    requires within { columns ≤ 1000000 }
-    requires above_bottom { top + 6 ≤ 1000000 }
-    requires bounded { IsBounded sheet.now }
-    requires spread { IsSpread sheet.now band.old.top band.old.painted band.old.spread }
-    ensures spread { IsSpread sheet.now band.new.top band.new.painted band.new.spread }
-    ensures more { band.old.spread ≤ band.new.spread }
-    ensures visible { result.0 ≡ true → is_tag color ≡ true }
-    ensures painted { result.0 ≡ false
-        → total (λ k. if is_set bits k then columns else 0) 6 ≤ result.1 }
-    ensures least { ends_and_tags columns + (band.new.spread - band.old.spread) ≤ result.1 }
-    ensures most { is_tag color ≡ true
-        → result.1 ≡ ends_and_tags columns + (band.new.spread - band.old.spread) }
-{
-    let ends_and_tags = 6 * (columns / BLOCK + 2 * BLOCK);
-    if !can_be_seen(color) {
-        return (false, (ends_and_tags + 6 * columns) as u64);
-    }
-    let before = band.spread;
-    let lazy = is_spent(band, sheet, columns, top, bits);
-    (lazy, ends_and_tags as u64 + (band.spread - before))
-}
-
-// Whether the strokes of this band have painted so much that this one, whose rows hold its columns,
-// is to be tagged: with it, more than three times what the band's rows hold. So is one in rows above
-// the band, which no decoder draws.
-fn is_spent(band: &mut Band, sheet: &Canvas, columns: usize, top: usize, bits: u8) -> bool
-    requires within { columns ≤ 1000000 }
-    requires above_bottom { top + 6 ≤ 1000000 }
-    requires bounded { IsBounded sheet.now }
-    requires spread { IsSpread sheet.now band.old.top band.old.painted band.old.spread }
-    ensures spread { IsSpread sheet.now band.new.top band.new.painted band.new.spread }
-    ensures more { band.old.spread ≤ band.new.spread }
-    ensures few { band.new.spread ≤ band.old.spread + 6000000 }
-    ensures counted { result ≡ false → band.new.spread
-        ≡ band.old.spread + total (λ k. if is_set bits k then columns else 0) 6 }
-{
-    enter(band, top);
-    if top != band.top {
-        return true;
-    }
-    let mut more = 0;
-    let mut held = 0;
-    'rows: for bit in 0..6 {
-        held += sheet.width(top + bit);
-        if (bits >> bit) % 2 == 1 {
-            more += columns;
-        }
-    }
-    is_past_its_share(band, more, held)
-}
-
-// Whether a band that paints so much more at once passes three times what its rows hold. Where it does
-// not, that is counted.
-fn is_past_its_share(band: &mut Band, more: usize, held: usize) -> bool
-    requires few { more ≤ 6000000 }
-    requires few_held { held ≤ 6000000 }
-    requires painted { band.old.painted ≤ 18000000 }
-    requires fits { band.old.spread + more < 2 ^ 64 }
-    ensures same { result ≡ true → band.new ≡ band.old }
-    ensures top { band.new.top ≡ band.old.top }
-    ensures painted { result ≡ false → band.new.painted ≡ band.old.painted + more }
-    ensures spread { result ≡ false → band.new.painted ≤ 3 * held }
-    ensures counted { result ≡ false → band.new.spread ≡ band.old.spread + more }
-{
-    if band.painted + more > 3 * held {
-        return true;
-    }
-    band.painted += more;
-    band.spread += more as u64;
-    false
-}
-
-// Goes on to the band of these six rows, where it lies below.
-fn enter(band: &mut Band, top: usize)
-    ensures spread { (sheet : CanvasState)
-        → IsSpread sheet band.old.top band.old.painted band.old.spread
-        → IsSpread sheet band.new.top band.new.painted band.new.spread }
-    ensures same { band.new.spread ≡ band.old.spread }
-{
-    if top.saturating_sub(band.top) >= 6 {
-        band.top = top;
-        band.painted = 0;
-    }
-}
-
-// Draws a sixel over rows that hold its columns.
-fn strike_rows(
-    sheet: &mut Canvas,
-    tags: &mut Canvas,
-    from: usize,
-    to: usize,
-    top: usize,
-    bits: u8,
-    color: [u8; 4],
-    lazy: bool,
-)
-    requires ordered { from ≤ to }
-    requires within { to ≤ 1000000 }
-    requires above_bottom { top + 6 ≤ 1000000 }
-    requires held { (k : ℕ) → is_struck top bits k ≡ true → to ≤ reached sheet.old k }
-    requires tagged { IsTagged sheet.old tags.old }
-    requires visible { lazy ≡ true → is_tag color ≡ true }
-    ensures drawn { (column row : ℕ) → seen sheet.new tags.new column row
-        ≡ (if covers from to top bits column row then color
-        else seen sheet.old tags.old column row) }
-    ensures reached { (k : ℕ) → reached sheet.new k ≡ reached sheet.old k }
-    ensures background { sheet.new.background ≡ sheet.old.background }
-    ensures tagged { IsTagged sheet.new tags.new }
-{
-    'struck: for bit in 0..6 {
-        if (bits >> bit) % 2 == 1 {
-            strike(sheet, tags, top + bit, from, to, color, lazy);
-        }
-    }
-}
-
-// Draws a part of one row that holds its columns: painted, or tagged where that is asked, it covers a
-// block, and there is memory for the tags.
-fn strike(
-    sheet: &mut Canvas,
-    tags: &mut Canvas,
-    row: usize,
-    from: usize,
-    to: usize,
-    color: [u8; 4],
-    lazy: bool,
-)
-    requires ordered { from ≤ to }
-    requires within { to ≤ 1000000 }
-    requires above_bottom { row < 1000000 }
-    requires held { to ≤ reached sheet.old row }
-    requires tagged { IsTagged sheet.old tags.old }
-    requires visible { lazy ≡ true → is_tag color ≡ true }
-    ensures drawn { (column k : ℕ) → seen sheet.new tags.new column k
-        ≡ (if lies_in row from to column k then color else seen sheet.old tags.old column k) }
-    ensures reached { (k : ℕ) → reached sheet.new k ≡ reached sheet.old k }
-    ensures background { sheet.new.background ≡ sheet.old.background }
-    ensures tagged { IsTagged sheet.new tags.new }
-{
-    let first = from.div_ceil(BLOCK);
-    let last = to / BLOCK;
-    if lazy && first < last && tags.reach_row(row, last).is_ok() {
-        tag(sheet, tags, row, from, to, color);
-    } else {
-        paint(sheet, tags, row, from, to, color);
-    }
-}
-
-// Paints columns that the row holds.
-fn paint(sheet: &mut Canvas, tags: &mut Canvas, row: usize, from: usize, to: usize, color: [u8; 4])
-    requires ordered { from ≤ to }
-    requires within { to ≤ 1000000 }
-    requires held { to ≤ reached sheet.old row }
-    requires tagged { IsTagged sheet.old tags.old }
-    ensures drawn { (column k : ℕ) → seen sheet.new tags.new column k
-        ≡ (if lies_in row from to column k then color else seen sheet.old tags.old column k) }
-    ensures reached { (k : ℕ) → reached sheet.new k ≡ reached sheet.old k }
-    ensures background { sheet.new.background ≡ sheet.old.background }
-    ensures tagged { IsTagged sheet.new tags.new }
-{
-    settle_ends(sheet, tags, row, from, to);
-    let first = from.div_ceil(BLOCK);
-    let last = tags.width(row).min(to / BLOCK).max(first);
-    tags.fill_row(row, first, last, NO_TAG);
-    sheet.fill_row(row, from, to, color);
-}
-
-// Tags the blocks that lie whole in columns that the row holds, where it holds their tags, and paints
-// the two ends. It takes no memory.
-fn tag(sheet: &mut Canvas, tags: &mut Canvas, row: usize, from: usize, to: usize, color: [u8; 4])
-    requires whole { from / 128 + min 1 (from % 128) < to / 128 }
-    requires within { to ≤ 1000000 }
-    requires held { to ≤ reached sheet.old row }
-    requires tags_held { to / 128 ≤ reached tags.old row }
-    requires tagged { IsTagged sheet.old tags.old }
-    requires visible { is_tag color ≡ true }
-    ensures drawn { (column k : ℕ) → seen sheet.new tags.new column k
-        ≡ (if lies_in row from to column k then color else seen sheet.old tags.old column k) }
-    ensures reached { (k : ℕ) → reached sheet.new k ≡ reached sheet.old k }
-    ensures background { sheet.new.background ≡ sheet.old.background }
-    ensures tagged { IsTagged sheet.new tags.new }
-{
-    let first = from.div_ceil(BLOCK);
-    let last = to / BLOCK;
-    settle_ends(sheet, tags, row, from, to);
-    sheet.fill_row(row, from, first * BLOCK, color);
-    sheet.fill_row(row, last * BLOCK, to, color);
-    tags.fill_row(row, first, last, color);
-}
-
-// Takes the tags off the blocks at both ends of a stroke.
-fn settle_ends(sheet: &mut Canvas, tags: &mut Canvas, row: usize, from: usize, to: usize)
-    requires ordered { from ≤ to }
-    requires within { to ≤ 1000000 }
-    requires tagged { IsTagged sheet.old tags.old }
-    ensures seen { (column k : ℕ) → lies_in row from to column k ≡ false
-        → seen sheet.new tags.new column k ≡ seen sheet.old tags.old column k }
-    ensures left { is_tag (shown tags.new (from / 128) row) ≡ false }
-    ensures right { is_tag (shown tags.new (to / 128) row) ≡ false }
-    ensures reached { (k : ℕ) → reached sheet.new k ≡ reached sheet.old k }
-    ensures tags_reached { (k : ℕ) → reached tags.new k ≡ reached tags.old k }
-    ensures background { sheet.new.background ≡ sheet.old.background }
-    ensures tagged { IsTagged sheet.new tags.new }
-{
-    settle(sheet, tags, row, from / BLOCK, from, to);
-    settle(sheet, tags, row, to / BLOCK, from, to);
-}
-
-// Takes the tag off a block, which is painted in it, but for the columns from `from` up to before
-// `to`.
-fn settle(sheet: &mut Canvas, tags: &mut Canvas, row: usize, block: usize, from: usize, to: usize)
-    requires ordered { from ≤ to }
-    requires small { block ≤ 1000000 }
-    requires tagged { IsTagged sheet.old tags.old }
-    ensures seen { (column k : ℕ) → lies_in row from to column k ≡ false
-        → seen sheet.new tags.new column k ≡ seen sheet.old tags.old column k }
-    ensures settled { is_tag (shown tags.new block row) ≡ false }
-    ensures fewer { (b k : ℕ) → is_tag (shown tags.new b k) ≡ true
-        → shown tags.new b k ≡ shown tags.old b k }
-    ensures reached { (k : ℕ) → reached sheet.new k ≡ reached sheet.old k }
-    ensures tags_reached { (k : ℕ) → reached tags.new k ≡ reached tags.old k }
-    ensures background { sheet.new.background ≡ sheet.old.background }
-    ensures tagged { IsTagged sheet.new tags.new }
-{
-    let tag = tags.pixel(block, row);
-    if !can_be_seen(tag) {
-        return;
-    }
-    let start = block * BLOCK;
-    let end = start + BLOCK;
-    sheet.fill_row(row, start, from.clamp(start, end), tag);
-    sheet.fill_row(row, to.clamp(start, end), end, tag);
-    tags.fill_row(row, block, block + 1, NO_TAG);
-}
-
-// Takes the tags off the blocks of these four columns, in six rows, where the rows may have some.
-#[inline(always)]
-fn clear_block(sheet: &mut Canvas, tags: &mut Canvas, top: usize, from: usize)
-    requires within { from ≤ 1000000 }
-    requires above_bottom { top + 6 ≤ 1000000 }
-    requires tagged { IsTagged sheet.old tags.old }
-    ensures seen { (column k : ℕ) → seen sheet.new tags.new column k
-        ≡ seen sheet.old tags.old column k }
-    ensures settled { (column bit : ℕ) → from ≤ column → column < from + 4 → bit < 6
-        → is_tag (shown tags.new (column / 128) (top + bit)) ≡ false }
-    ensures reached { (k : ℕ) → reached sheet.new k ≡ reached sheet.old k }
-    ensures background { sheet.new.background ≡ sheet.old.background }
-    ensures tagged { IsTagged sheet.new tags.new }
-{
-    if tags.height() > top {
-        settle_four(sheet, tags, top, from);
-    }
-}
-
-// Takes the tags off the blocks of these four columns, in six rows.
-#[cold]
-#[inline(never)]
-fn settle_four(sheet: &mut Canvas, tags: &mut Canvas, top: usize, from: usize)
-    requires within { from ≤ 1000000 }
-    requires above_bottom { top + 6 ≤ 1000000 }
-    requires tagged { IsTagged sheet.old tags.old }
-    ensures seen { (column k : ℕ) → seen sheet.new tags.new column k
-        ≡ seen sheet.old tags.old column k }
-    ensures settled { (column bit : ℕ) → from ≤ column → column < from + 4 → bit < 6
-        → is_tag (shown tags.new (column / 128) (top + bit)) ≡ false }
-    ensures reached { (k : ℕ) → reached sheet.new k ≡ reached sheet.old k }
-    ensures background { sheet.new.background ≡ sheet.old.background }
-    ensures tagged { IsTagged sheet.new tags.new }
-{
-    'settled: for bit in 0..6 {
-        settle(sheet, tags, top + bit, from / BLOCK, 0, 0);
-        settle(sheet, tags, top + bit, (from + 3) / BLOCK, 0, 0);
-    }
 }
