@@ -14,7 +14,7 @@ ghost use Rattle.sixel_filter.specs.declared.filter.Place.TheVariants.{RefusedEs
 ghost use Rattle.sixel_filter.specs.Stream.{IsFiltered};
 ghost use Rattle.sixel_filter.specs.inside.Standing.{IsSound, IsHeading, IsReading, IsReceiving};
 ghost use Rattle.sixel_filter.specs.inside.Standing.{Starts, Leads, Writes, IsClosed};
-ghost use Rattle.sixel_filter.specs.inside.Standing.{leaves_escape, rank};
+ghost use Rattle.sixel_filter.specs.inside.Standing.{decoder_of, leaves_escape, rank};
 
 use crate::making::{write_image, write_refusal};
 use crate::words::Work;
@@ -74,7 +74,9 @@ impl Filter {
     }
 
     /// The decoder of its images. One that is open is given up.
-    pub fn into_decoder(self) -> SixelDecoder {
+    pub fn into_decoder(self) -> SixelDecoder
+        ensures { result ≡ decoder_of self }
+    {
         self.receiver.into_decoder()
     }
 

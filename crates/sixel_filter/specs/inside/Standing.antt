@@ -12,6 +12,10 @@ use Rattle.sixel_filter.specs.declared.filter.Filter.{Filter}
 use Rattle.sixel_filter.specs.declared.filter.Place.{Place}
 use Rattle.sixel_filter.specs.declared.filter.Place.TheVariants.{Text, Header, Image, Refused, RefusedEscape}
 
+-- the decoder of its images
+abbrev pub decoder_of : Filter → DecoderState
+decoder_of filter = filter.receiver.decoder
+
 -- bytes that may begin an image where they stand
 abbrev pub Starts : Bool → List ℕ → Type 0
 Starts in_character [] = ⊥
