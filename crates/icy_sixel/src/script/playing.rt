@@ -36,7 +36,7 @@ pub fn play_frame(
     let mut session = SixelStreamDecoder::begin(alloc, decoder, settings);
     match feed_frame(&mut session, bytes, cuts) {
         Ok(fed) => end_frame(session, fed, ending),
-        Err(error) => Outcome::Failed(error),
+        Err(refusal) => Outcome::Failed(refusal),
     }
 }
 

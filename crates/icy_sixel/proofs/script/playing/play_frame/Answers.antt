@@ -15,4 +15,4 @@ returns-in-Ok c =
 pub returns-in-Err : goal.returns-in-Err
 returns-in-Err c =
     let told = c.in-Err.ensures in
-    frame_fails c.in-Err.error c.args.decoder.now _ c.args.settings c.args.bytes.now c.args.ending (rw c.begin-session.ensures.session at told.error) (search rules)
+    frame_fails c.in-Err.refusal c.args.decoder.now _ c.args.settings c.args.bytes.now c.args.ending (rw c.begin-session.ensures.session at told.error) (search rules)
