@@ -3,12 +3,13 @@
 use crate::images::{ImageCall, display_refused, from_str, is_image, palette};
 use crate::receiver::{Form, receive};
 use crate::rows::{reach, reach_of_row};
-use crate::sessions::{control_string, frame};
+use crate::sessions::{PAYLOAD, STRING, Session, frame};
 use crate::steps::run_steps;
+use crate::told::holds;
 use crate::unaided::no_memory;
 use icy_sixel::{DcsSettings, Result, SixelDecoder, SixelError, SixelImage};
 use std::alloc::Global;
-use std::fmt::Write;
+use std::fmt::{self, Write};
 
 /// What is tried.
 #[derive(Clone, Copy)]
@@ -36,35 +37,86 @@ pub enum Way {
     Received(Form),
 }
 
-/// Every call that is tried on each decoder, in this order, with its name.
-pub const CALLS: &[(&str, Call)] = &[
-    ("calls that take no memory", Call::NoMemory),
-    (
-        "calls of an image that take no memory",
-        Call::OfImage(ImageCall::NoMemory),
-    ),
-    ("decode_from_dcs", Call::Draw(Way::DecodeFromDcs)),
-    ("decode", Call::Draw(Way::Decode)),
-    ("payload session", Call::Draw(Way::Frame)),
-    (
-        "payload session with a count",
-        Call::Draw(Way::CountedFrame),
-    ),
-    ("control string session", Call::Draw(Way::ControlString)),
-    ("payload received", Call::Draw(Way::Received(Form::Payload))),
-    (
-        "control string received",
-        Call::Draw(Way::Received(Form::ControlString)),
-    ),
-    ("Row::reach", Call::Reach),
-    ("Row::reach, by its pixels", Call::ReachOfRow),
-    ("choose_palette", Call::Palette),
-    ("encode_with", Call::OfImage(ImageCall::Encode)),
-    ("to_display_string", Call::OfImage(ImageCall::Display)),
-    ("to_display_string of a refused image", Call::DisplayRefused),
-    ("clone of an image", Call::OfImage(ImageCall::Copy)),
-    ("from_str", Call::FromStr),
-    ("script::run", Call::Run),
+/// A call and its name.
+pub struct Named {
+    pub name: &'static str,
+    pub call: Call,
+}
+
+/// Every call that is tried on each decoder, in this order.
+pub const CALLS: &[Named] = &[
+    Named {
+        name: "calls that take no memory",
+        call: Call::NoMemory,
+    },
+    Named {
+        name: "calls of an image that take no memory",
+        call: Call::OfImage(ImageCall::NoMemory),
+    },
+    Named {
+        name: "decode_from_dcs",
+        call: Call::Draw(Way::DecodeFromDcs),
+    },
+    Named {
+        name: "decode",
+        call: Call::Draw(Way::Decode),
+    },
+    Named {
+        name: "payload session",
+        call: Call::Draw(Way::Frame),
+    },
+    Named {
+        name: "payload session with a count",
+        call: Call::Draw(Way::CountedFrame),
+    },
+    Named {
+        name: "control string session",
+        call: Call::Draw(Way::ControlString),
+    },
+    Named {
+        name: "payload received",
+        call: Call::Draw(Way::Received(Form::Payload)),
+    },
+    Named {
+        name: "control string received",
+        call: Call::Draw(Way::Received(Form::ControlString)),
+    },
+    Named {
+        name: "Row::reach",
+        call: Call::Reach,
+    },
+    Named {
+        name: "Row::reach, by its pixels",
+        call: Call::ReachOfRow,
+    },
+    Named {
+        name: "choose_palette",
+        call: Call::Palette,
+    },
+    Named {
+        name: "encode_with",
+        call: Call::OfImage(ImageCall::Encode),
+    },
+    Named {
+        name: "to_display_string",
+        call: Call::OfImage(ImageCall::Display),
+    },
+    Named {
+        name: "to_display_string of a refused image",
+        call: Call::DisplayRefused,
+    },
+    Named {
+        name: "clone of an image",
+        call: Call::OfImage(ImageCall::Copy),
+    },
+    Named {
+        name: "from_str",
+        call: Call::FromStr,
+    },
+    Named {
+        name: "script::run",
+        call: Call::Run,
+    },
 ];
 
 /// How a call ended.
@@ -74,14 +126,15 @@ pub enum Outcome {
     Right,
     /// For want of memory, with all that this owes.
     Refused,
-    /// For want of memory within the call, which went on: at this place, in words.
+    /// For want of memory within the call, which went on: in words, with a call after it that is
+    /// right.
     RefusedWithin(&'static str),
     /// Otherwise.
     Wrong,
 }
 
 // A payload of 301 columns and 12 rows, which makes register 42 red.
-const PAYLOAD: &[u8] = b"#42;2;100;0;0~!300~-!5~$~";
+const DECODED: &[u8] = b"#42;2;100;0;0~!300~-!5~$~";
 
 const CONTROL_STRING: &[u8] = b"text\x1bPq#42;2;100;0;0~!300~-!5~$~\x1b\\text";
 
@@ -106,11 +159,11 @@ impl Call {
 impl Way {
     fn draw(self, alloc: Global, decoder: &mut SixelDecoder) -> Result<SixelImage> {
         match self {
-            Way::DecodeFromDcs => decoder.decode_from_dcs(alloc, PAYLOAD, DcsSettings::default()),
+            Way::DecodeFromDcs => decoder.decode_from_dcs(alloc, DECODED, DcsSettings::default()),
             Way::Decode => decoder.decode(alloc, CONTROL_STRING),
-            Way::Frame => frame(alloc, decoder, false),
-            Way::CountedFrame => frame(alloc, decoder, true),
-            Way::ControlString => control_string(alloc, decoder),
+            Way::Frame => frame(alloc, decoder, &PAYLOAD, false),
+            Way::CountedFrame => frame(alloc, decoder, &PAYLOAD, true),
+            Way::ControlString => Session::ControlString(decoder.begin_dcs(alloc)).draw(&STRING),
             Way::Received(form) => receive(alloc, decoder, form),
         }
     }
@@ -128,44 +181,31 @@ fn ended(answer: Result<bool>) -> Outcome {
 /// Whether decoding the payload gave its image, and made register 42 red.
 fn is_drawn(answer: Result<SixelImage>, decoder: &SixelDecoder) -> Result<bool> {
     let start = b"\xff\x00\x00\xff\xff\x00\x00\xff";
-    let is_red = decoder.register(42) == [255, 0, 0];
-    also(is_image(answer, 301, 12, start), is_red)
+    let is_red = holds(decoder, 42, [255, 0, 0]);
+    is_image(answer, 301, 12, start, is_red)
 }
 
-/// Whether two things are right, of which the first may be refused.
-fn also(answer: Result<bool>, is_right: bool) -> Result<bool> {
-    match answer {
-        Ok(is_first_right) => Ok(is_first_right & is_right),
-        Err(error) => Err(error),
-    }
-}
-
-/// Gives every register a color of its own, none of them that of a new decoder.
+/// Gives every register a color of its own, none of them that of a new decoder. That must give the
+/// smallest image, and the first and the last definition must be followed.
 fn define_registers(alloc: Global, decoder: &mut SixelDecoder) -> Result<bool> {
-    match definitions(alloc) {
-        Ok(payload) => are_defined(
-            decoder.decode_from_dcs(alloc, payload.as_bytes(), DcsSettings::default()),
-            decoder,
-        ),
-        Err(error) => Err(error),
-    }
-}
-
-/// The definitions of all registers.
-fn definitions(alloc: Global) -> Result<String> {
     let mut payload = String::new(alloc);
-    for register in 0..=255_u16 {
-        let (red, green) = (register % 16, register / 16);
-        if write!(payload, "#{register};2;{red};{green};99").is_err() {
-            return Err(SixelError::OutOfMemory);
+    match write_definitions(&mut payload) {
+        Ok(()) => {
+            let settings = DcsSettings::default();
+            let answer = decoder.decode_from_dcs(alloc, payload.as_bytes(), settings);
+            let are_followed = holds(decoder, 0, [0, 0, 252]) & holds(decoder, 255, [38, 38, 252]);
+            is_image(answer, 1, 1, &[], are_followed)
         }
+        Err(_) => Err(SixelError::OutOfMemory),
     }
-    Ok(payload)
 }
 
-/// Whether the definitions gave the smallest image, and the first and the last were followed.
-fn are_defined(answer: Result<SixelImage>, decoder: &SixelDecoder) -> Result<bool> {
-    let is_first = decoder.register(0) == [0, 0, 252];
-    let is_last = decoder.register(255) == [38, 38, 252];
-    also(is_image(answer, 1, 1, &[]), is_first & is_last)
+/// Writes the definitions of all registers.
+fn write_definitions(payload: &mut String) -> fmt::Result {
+    for register in 0..=255_u16 {
+        let red = register % 16;
+        let green = register / 16;
+        write!(payload, "#{register};2;{red};{green};99")?;
+    }
+    Ok(())
 }

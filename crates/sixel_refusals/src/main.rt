@@ -15,26 +15,28 @@ mod unaided;
 use calls::{CALLS, Call};
 use icy_sixel::SixelDecoder;
 use std::io;
-use told::{Told, try_call};
+use told::try_call;
 
 fn main(rt: HostRuntime) -> io::Result<()> {
-    let mut decoder = SixelDecoder::new();
-    tell_calls(&rt, "new decoder, ", &decoder)?;
-    let told = try_call(rt.alloc(), Call::DefineRegisters, &mut decoder);
+    let new = SixelDecoder::new();
+    let mut used = SixelDecoder::new();
+    tell_calls(&rt, "new decoder, ", &new)?;
+    let told = try_call(rt.alloc(), Call::DefineRegisters, &new, &mut used);
     tell(&rt, "", "definitions of all registers", told)?;
-    tell_calls(&rt, "used decoder, ", &decoder)
+    tell_calls(&rt, "used decoder, ", &used)
 }
 
 /// Runs each call on a decoder with these registers.
 fn tell_calls(rt: &HostRuntime, kind: &str, start: &SixelDecoder) -> io::Result<()> {
-    for (name, call) in CALLS {
+    for named in CALLS {
         let mut decoder = start.clone()?;
-        tell(rt, kind, name, try_call(rt.alloc(), *call, &mut decoder))?;
+        let told = try_call(rt.alloc(), named.call, start, &mut decoder);
+        tell(rt, kind, named.name, told)?;
     }
     Ok(())
 }
 
 /// Writes the line of a call.
-fn tell(rt: &HostRuntime, kind: &str, name: &str, told: Told) -> io::Result<()> {
-    println!(rt; "{kind}{name}: {}{}", told.refused, told.then)
+fn tell(rt: &HostRuntime, kind: &str, name: &str, told: &str) -> io::Result<()> {
+    println!(rt; "{kind}{name}: {told}")
 }

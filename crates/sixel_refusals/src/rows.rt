@@ -9,42 +9,35 @@ const BACKGROUND: [u8; 4] = [1, 2, 3, 4];
 
 const RED: [u8; 4] = [255, 0, 0, 255];
 
-/// Grows a row three times.
+const LENGTHS: &[u16] = &[1, 300, 5000];
+
+/// Grows a row to each of the lengths. Where one is refused, the row must be as it was.
 pub fn reach(alloc: Global) -> Result<bool> {
     let mut row = Row::new(alloc, BACKGROUND);
-    for columns in [1_u16, 300, 5000] {
-        match grow(&mut row, columns) {
-            Ok(true) => {}
-            answer => return answer,
+    for columns in LENGTHS {
+        let len = row.len();
+        let room = row.room();
+        let writes = row.writes();
+        if let Err(error) = row.reach(usize::from(*columns)) {
+            let is_kept = (row.len() == len) & (row.room() == room) & (row.writes() == writes);
+            return if is_kept { Err(error) } else { Ok(false) };
         }
     }
     Ok(row.len() == 5000)
 }
 
-/// Grows a row. Where it is refused, the row must be as it was.
-fn grow(row: &mut Row, columns: u16) -> Result<bool> {
-    let before = (row.len(), row.room(), row.writes());
-    match row.reach(usize::from(columns)) {
-        Ok(()) => Ok(true),
-        Err(error) => {
-            if (row.len(), row.room(), row.writes()) == before {
-                Err(error)
-            } else {
-                Ok(false)
-            }
-        }
+/// Draws two columns of the one row of a canvas, and then more. Where these are refused, the row
+/// must show what it showed.
+pub fn reach_of_row(alloc: Global) -> Result<bool> {
+    let mut canvas = Canvas::new(alloc, BACKGROUND);
+    match canvas.draw(0, 2, 0, 1, RED) {
+        Ok(()) => draw_more(&mut canvas),
+        Err(error) => Err(error),
     }
 }
 
-/// Grows the one row of a canvas.
-pub fn reach_of_row(alloc: Global) -> Result<bool> {
-    let mut canvas = Canvas::new(alloc, BACKGROUND);
-    grow_canvas(&mut canvas)
-}
-
-/// Draws two columns, and then more. Where these are refused, the row must show what it showed.
-fn grow_canvas(canvas: &mut Canvas) -> Result<bool> {
-    canvas.draw(0, 2, 0, 1, RED)?;
+/// Draws the columns from the fourth on.
+fn draw_more(canvas: &mut Canvas) -> Result<bool> {
     match canvas.draw(4, 300, 0, 1, RED) {
         Ok(()) => shows(canvas, 300),
         Err(error) => match shows(canvas, 4) {
@@ -58,7 +51,7 @@ fn grow_canvas(canvas: &mut Canvas) -> Result<bool> {
 /// background.
 fn shows(canvas: &Canvas, end: usize) -> Result<bool> {
     match canvas.pack(400, 1) {
-        Ok(pixels) => Ok(pixels.len() == 1600 && are_red(&pixels, end)),
+        Ok(pixels) => Ok((pixels.len() == 1600) & are_red(&pixels, end)),
         Err(error) => Err(error),
     }
 }

@@ -1,64 +1,156 @@
-//! Sessions whose feeds may be refused for want of memory, and what they owe then.
+//! Sessions and receivers whose feeds may be refused for want of memory, and what they owe then.
 
+use icy_sixel::receiver::{Received, SixelReceiver};
+use icy_sixel::script::Status;
 use icy_sixel::{
-    DcsSettings, Result, SixelDcsFeedResult, SixelDcsStreamDecoder, SixelDecoder, SixelError,
-    SixelFeedResult, SixelImage, SixelStreamDecoder,
+    DcsSettings, Result, SixelDcsStreamDecoder, SixelDecoder, SixelError, SixelImage,
+    SixelStreamDecoder,
 };
 use std::alloc::Global;
 
-/// A piece of a payload, and what a session answers to it.
-pub type Fed = (&'static [u8], Result<SixelFeedResult>);
+/// The pieces of an image, and what a session answers from the first that is refused on.
+pub struct Drawing {
+    pub pieces: &'static [&'static [u8]],
+    pub failed: SixelError,
+}
 
-/// The same of a control string.
-pub type FedDcs = (&'static [u8], Result<SixelDcsFeedResult>);
+/// A piece, and what feeding it does.
+pub struct Feed {
+    pub piece: &'static [u8],
+    pub received: Received,
+}
 
 // A payload of 301 columns and 12 rows in pieces that each make the canvas grow. It makes register
 // 42 red.
-pub const PIECES: &[&[u8]] = &[b"#42;2;100;0;0~", b"!300~", b"-!5~$~"];
+pub static PAYLOAD: Drawing = Drawing {
+    pieces: &[b"#42;2;100;0;0~", b"!300~", b"-!5~$~"],
+    failed: SixelError::InvalidData("stream decoder has failed"),
+};
 
 // The same in a control string.
-pub const STRING_PIECES: &[&[u8]] = &[b"\x1bPq#42;2;100;0;0~", b"!300~", b"-!5~$~", b"\x1b\\"];
-
-// What a session answers from its first refused feed on.
-pub const FAILED: SixelError = SixelError::InvalidData("stream decoder has failed");
-
-pub const DCS_FAILED: SixelError = SixelError::InvalidData("DCS stream decoder has failed");
+pub static STRING: Drawing = Drawing {
+    pieces: &[b"\x1bPq#42;2;100;0;0~", b"!300~", b"-!5~$~", b"\x1b\\"],
+    failed: SixelError::InvalidData("DCS stream decoder has failed"),
+};
 
 // Pieces that a session which was refused is fed: none of them may change its answer.
-pub const AFTER_REFUSAL: &[Fed] = &[
-    (b"", Err(FAILED)),
-    (b"~", Err(FAILED)),
-    (b"\x1bPq", Err(FAILED)),
-    (b"#1;2;0;0;0!9~", Err(FAILED)),
-    (b"\x1b\\", Err(FAILED)),
-];
-
-const AFTER_DCS_REFUSAL: &[FedDcs] = &[
-    (b"", Err(DCS_FAILED)),
-    (b"~", Err(DCS_FAILED)),
-    (b"\x1bPq", Err(DCS_FAILED)),
-    (b"#1;2;0;0;0!9~", Err(DCS_FAILED)),
-    (b"\x1b\\", Err(DCS_FAILED)),
+const AFTER_REFUSAL: &[&[u8]] = &[
+    b"",
+    b"~",
+    b"\x1bPq",
+    b"#1;2;0;0;0!9~",
+    b"\x1bPq~\x1b\\",
+    b"\x1b\\",
 ];
 
 // The answer of what is wrong here, which none of these calls has.
-pub const WRONG: SixelError = SixelError::NoSixelData;
+pub const WRONG: SixelError = SixelError::IntegerOverflow;
 
-/// Feeds the payload in pieces, and finishes. Where a feed is refused, all after it must be, and
-/// nothing may be counted. With a count, that must be of the canvas and of the image's pixels.
-pub fn frame(alloc: Global, decoder: &mut SixelDecoder, is_counted: bool) -> Result<SixelImage> {
-    match decoder.begin_frame(alloc, DcsSettings::default()) {
-        Ok(mut session) => {
-            let fed = feed_pieces(&mut session);
-            let drawn = session.canvas_writes();
-            let image = if is_counted {
-                counted(session.finish_counted(), drawn)
-            } else {
-                session.finish()
-            };
-            finished(fed, image, &FAILED)
+/// What draws an image from its pieces.
+#[derive(Drop)]
+pub enum Session<'a> {
+    /// Of a payload, with whether its finish is to tell how many pixels were written.
+    Payload(SixelStreamDecoder<'a>, bool),
+    ControlString(SixelDcsStreamDecoder<'a>),
+    Receiver(&'a mut SixelReceiver),
+}
+
+impl<'a> Session<'a> {
+    /// Feeds the pieces, and finishes. Where a feed is refused, all after it must be, and the
+    /// finish too.
+    pub fn draw(self, drawing: &Drawing) -> Result<SixelImage> {
+        let mut session = self;
+        for piece in drawing.pieces {
+            if let Err(error) = session.feed(piece) {
+                return Err(session.refused(error, &drawing.failed));
+            }
         }
-        Err(error) => Err(error),
+        session.finish()
+    }
+
+    /// The error of a feed, where the session stays refused.
+    fn refused(self, error: SixelError, failed: &SixelError) -> SixelError {
+        let mut session = self;
+        let is_kept = session.stays_refused(failed);
+        if is_kept & is_refused(session.finish(), failed) {
+            error
+        } else {
+            WRONG
+        }
+    }
+
+    /// Whether a session that was refused answers so whatever it is fed, and counts nothing.
+    fn stays_refused(&mut self, failed: &SixelError) -> bool {
+        let mut is_kept = self.counts_nothing();
+        for piece in AFTER_REFUSAL {
+            is_kept &= is_refused(self.feed(piece), failed) & self.counts_nothing();
+        }
+        is_kept
+    }
+
+    /// Whether a session answers so to these pieces, and counts nothing. It is then given up.
+    pub fn is_aborted(self, feeds: &[Feed]) -> bool {
+        let mut session = self;
+        let mut is_right = true;
+        for feed in feeds {
+            is_right &= (session.feed(feed.piece) == Ok(feed.received)) & session.counts_nothing();
+        }
+        session.abort();
+        is_right
+    }
+
+    /// Feeds a piece, and gives what that did as of a receiver.
+    fn feed(&mut self, piece: &[u8]) -> Result<Received> {
+        match self {
+            Session::Payload(session, _) => match session.feed(piece) {
+                Ok(fed) => Ok(Received {
+                    consumed: fed.consumed,
+                    status: Status::Payload(fed.status),
+                }),
+                Err(error) => Err(error),
+            },
+            Session::ControlString(session) => match session.feed(piece) {
+                Ok(fed) => Ok(Received {
+                    consumed: fed.consumed,
+                    status: Status::Dcs(fed.status),
+                }),
+                Err(error) => Err(error),
+            },
+            Session::Receiver(receiver) => receiver.feed(piece),
+        }
+    }
+
+    /// Whether nothing was written, and a receiver has no payload.
+    fn counts_nothing(&self) -> bool {
+        match self {
+            Session::Payload(session, _) => session.canvas_writes() == 0,
+            Session::ControlString(session) => session.canvas_writes() == 0,
+            Session::Receiver(receiver) => {
+                (receiver.canvas_writes() == 0) & !receiver.in_payload()
+            }
+        }
+    }
+
+    /// Finishes. A count must be of the canvas and of the image's pixels.
+    fn finish(self) -> Result<SixelImage> {
+        match self {
+            Session::Payload(session, false) => session.finish(),
+            Session::Payload(session, true) => {
+                let drawn = session.canvas_writes();
+                counted(session.finish_counted(), drawn)
+            }
+            Session::ControlString(session) => session.finish(),
+            Session::Receiver(receiver) => receiver.finish(),
+        }
+    }
+
+    /// Gives the image up.
+    fn abort(self) {
+        match self {
+            Session::Payload(session, _) => session.abort(),
+            Session::ControlString(session) => session.abort(),
+            Session::Receiver(receiver) => receiver.abort(),
+        }
     }
 }
 
@@ -76,22 +168,16 @@ fn counted(answer: Result<(SixelImage, u64)>, drawn: u64) -> Result<SixelImage> 
     }
 }
 
-/// The same of a control string, without a count.
-pub fn control_string(alloc: Global, decoder: &mut SixelDecoder) -> Result<SixelImage> {
-    let mut session = decoder.begin_dcs(alloc);
-    let fed = follow_pieces(&mut session);
-    finished(fed, session.finish(), &DCS_FAILED)
-}
-
-/// How a session ended that was fed so and then was finished, which a refused feed must forbid.
-fn finished(fed: Result<()>, image: Result<SixelImage>, failed: &SixelError) -> Result<SixelImage> {
-    match fed {
-        Ok(()) => image,
-        Err(error) => Err(if is_refused(image, failed) {
-            error
-        } else {
-            WRONG
-        }),
+/// Draws a payload in a session, with a count or without.
+pub fn frame(
+    alloc: Global,
+    decoder: &mut SixelDecoder,
+    drawing: &Drawing,
+    is_counted: bool,
+) -> Result<SixelImage> {
+    match decoder.begin_frame(alloc, DcsSettings::default()) {
+        Ok(session) => Session::Payload(session, is_counted).draw(drawing),
+        Err(error) => Err(error),
     }
 }
 
@@ -101,42 +187,4 @@ pub fn is_refused<T: Drop>(answer: Result<T>, expected: &SixelError) -> bool {
         Ok(_) => false,
         Err(error) => error == *expected,
     }
-}
-
-fn feed_pieces(session: &mut SixelStreamDecoder<'_>) -> Result<()> {
-    for piece in PIECES {
-        if let Err(error) = session.feed(piece) {
-            let is_right = answers(session, AFTER_REFUSAL);
-            return Err(if is_right { error } else { WRONG });
-        }
-    }
-    Ok(())
-}
-
-fn follow_pieces(session: &mut SixelDcsStreamDecoder<'_>) -> Result<()> {
-    for piece in STRING_PIECES {
-        if let Err(error) = session.feed(piece) {
-            let is_right = answers_dcs(session, AFTER_DCS_REFUSAL);
-            return Err(if is_right { error } else { WRONG });
-        }
-    }
-    Ok(())
-}
-
-/// Whether a session answers so to these pieces, and counts nothing.
-pub fn answers(session: &mut SixelStreamDecoder<'_>, rows: &[Fed]) -> bool {
-    let mut is_right = true;
-    for (piece, expected) in rows {
-        is_right &= (session.feed(piece) == *expected) & (session.canvas_writes() == 0);
-    }
-    is_right
-}
-
-/// The same of a control string.
-pub fn answers_dcs(session: &mut SixelDcsStreamDecoder<'_>, rows: &[FedDcs]) -> bool {
-    let mut is_right = true;
-    for (piece, expected) in rows {
-        is_right &= (session.feed(piece) == *expected) & (session.canvas_writes() == 0);
-    }
-    is_right
 }

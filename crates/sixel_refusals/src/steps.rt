@@ -1,6 +1,7 @@
 //! A list of steps on one decoder, each of which may be refused memory while the others go on.
 
 use crate::calls::Outcome;
+use crate::told::have_same_registers;
 use icy_sixel::script::{self, End, Status, Step, run};
 use icy_sixel::{
     DcsSettings, SixelDcsFeedStatus, SixelDecoder, SixelError, SixelFeedStatus, SixelImage,
@@ -11,138 +12,120 @@ const COMPLETE: Status = Status::Dcs(SixelDcsFeedStatus::Complete);
 
 const MORE: Status = Status::Payload(SixelFeedStatus::NeedMoreData);
 
-/// The registers that the steps define and draw with.
+/// A register and the color that a step gives it.
 #[derive(Clone, Copy)]
-enum Register {
-    Of42,
-    Of43,
+struct Definition {
+    register: u8,
+    color: [u8; 3],
 }
 
-/// A color that a step gives a register.
-#[derive(Clone, Copy)]
-enum Color {
-    Red,
-    Green,
-    Blue,
-}
-
-impl Color {
-    fn bytes(self) -> [u8; 3] {
-        match self {
-            Self::Red => [255, 0, 0],
-            Self::Green => [0, 255, 0],
-            Self::Blue => [0, 0, 255],
-        }
-    }
-}
-
-/// What those registers hold, as far as the steps went.
-#[derive(Clone, Copy)]
-struct Colors {
-    of_42: [u8; 3],
-    of_43: [u8; 3],
-}
-
-impl Colors {
-    /// What the decoder holds.
-    fn of(decoder: &SixelDecoder) -> Colors {
-        Colors {
-            of_42: decoder.register(42),
-            of_43: decoder.register(43),
-        }
-    }
-
-    fn get(self, register: Register) -> [u8; 3] {
-        match register {
-            Register::Of42 => self.of_42,
-            Register::Of43 => self.of_43,
-        }
-    }
-
-    fn set(&mut self, register: Register, color: Color) {
-        let color = color.bytes();
-        match register {
-            Register::Of42 => self.of_42 = color,
-            Register::Of43 => self.of_43 = color,
-        }
-    }
-}
-
-/// What a step comes to where memory is there.
-#[derive(Clone, Copy)]
-enum Shown {
-    Reset,
-    /// Decoded at once, to one column in that register's color.
-    Decoded(Register),
-    /// Finished after so many bytes, with an image so wide that begins with that color.
-    Finished(usize, Status, usize, Register),
-    Aborted(usize, Status),
-}
-
-/// A step, where it stands in words, and what it comes to: the register that it defines before it
-/// draws and leaves to the steps after it, and what it shows.
-#[derive(Clone, Copy)]
+/// What is told where a step was refused memory and all steps were right once it was there, and
+/// what the step comes to.
 struct Expected {
-    place: &'static str,
-    defined: Option<(Register, Color)>,
-    shown: Shown,
+    refused: &'static str,
+    /// What it defines before it draws, and leaves to the steps after it.
+    defined: Option<Definition>,
+    /// How many bytes its session consumed, and how that stood; 0 and none where it has none.
+    consumed: usize,
+    status: Option<Status>,
+    /// The width of its image, and the register of the color that this begins with; 0 and any where
+    /// it gives none.
+    width: usize,
+    register: u8,
 }
 
 // What the steps come to, in their order. The one that resets the registers takes no memory.
 const EXPECTED: &[Expected] = &[
     Expected {
-        place: "out of memory in a decoded payload",
-        defined: Some((Register::Of42, Color::Red)),
-        shown: Shown::Decoded(Register::Of42),
+        refused: "out of memory in a decoded payload, then ok",
+        defined: Some(Definition {
+            register: 42,
+            color: [255, 0, 0],
+        }),
+        consumed: 0,
+        status: None,
+        width: 1,
+        register: 42,
     },
     Expected {
-        place: "out of memory in the next decoded payload",
+        refused: "out of memory in the next decoded payload, then ok",
         defined: None,
-        shown: Shown::Decoded(Register::Of42),
+        consumed: 0,
+        status: None,
+        width: 1,
+        register: 42,
     },
     Expected {
-        place: "out of memory in a frame",
-        defined: Some((Register::Of42, Color::Green)),
-        shown: Shown::Finished(21, MORE, 301, Register::Of42),
+        refused: "out of memory in a frame, then ok",
+        defined: Some(Definition {
+            register: 42,
+            color: [0, 255, 0],
+        }),
+        consumed: 21,
+        status: Some(MORE),
+        width: 301,
+        register: 42,
     },
     Expected {
-        place: "out of memory in a control string",
+        refused: "out of memory in a control string, then ok",
         defined: None,
-        shown: Shown::Finished(9, COMPLETE, 1, Register::Of42),
+        consumed: 9,
+        status: Some(COMPLETE),
+        width: 1,
+        register: 42,
     },
     Expected {
-        place: "out of memory in a reset",
+        refused: "out of memory in a reset, then ok",
         defined: None,
-        shown: Shown::Reset,
+        consumed: 0,
+        status: None,
+        width: 0,
+        register: 42,
     },
     Expected {
-        place: "out of memory in decoded bytes",
-        defined: Some((Register::Of43, Color::Blue)),
-        shown: Shown::Decoded(Register::Of42),
+        refused: "out of memory in decoded bytes, then ok",
+        defined: Some(Definition {
+            register: 43,
+            color: [0, 0, 255],
+        }),
+        consumed: 0,
+        status: None,
+        width: 1,
+        register: 42,
     },
     Expected {
-        place: "out of memory in an aborted frame",
+        refused: "out of memory in an aborted frame, then ok",
         defined: None,
-        shown: Shown::Aborted(14, MORE),
+        consumed: 14,
+        status: Some(MORE),
+        width: 0,
+        register: 42,
     },
     Expected {
-        place: "out of memory in the next control string",
+        refused: "out of memory in the next control string, then ok",
         defined: None,
-        shown: Shown::Finished(8, COMPLETE, 1, Register::Of43),
+        consumed: 8,
+        status: Some(COMPLETE),
+        width: 1,
+        register: 43,
     },
     Expected {
-        place: "out of memory in an aborted control string",
+        refused: "out of memory in an aborted control string, then ok",
         defined: None,
-        shown: Shown::Aborted(18, COMPLETE),
+        consumed: 18,
+        status: Some(COMPLETE),
+        width: 0,
+        register: 43,
     },
 ];
 
 /// Does the steps, and looks at each outcome and at the registers after them. Where the list of
 /// outcomes is refused, no step may have been done. Where a step is, the others must go on.
 pub fn run_steps(alloc: Global, decoder: &mut SixelDecoder) -> Outcome {
-    let colors = Colors::of(decoder);
+    let mut model = SixelDecoder::new();
+    model.set_register(42, decoder.register(42));
     match run(alloc, decoder, &steps(DcsSettings::default())) {
-        Ok(outcomes) => ran(&outcomes, colors, decoder),
+        Ok(outcomes) => ran(&outcomes, &mut model, decoder),
         Err(SixelError::OutOfMemory) => Outcome::Refused,
         Err(_) => Outcome::Wrong,
     }
@@ -184,104 +167,82 @@ fn steps(settings: DcsSettings) -> [Step<'static>; 9] {
     ]
 }
 
-/// How far the outcomes were as expected.
-#[derive(Clone, Copy)]
-struct Seen {
-    /// What the registers must hold.
-    colors: Colors,
-    /// How the steps ended so far.
-    outcome: Outcome,
-}
-
-impl Seen {
-    /// Looks at the next outcome, which one step may owe to want of memory.
-    fn look(&mut self, outcome: &script::Outcome, expected: &Expected) {
-        match (outcome, self.outcome) {
-            (script::Outcome::Failed(SixelError::OutOfMemory), Outcome::Right) => {
-                self.outcome = Outcome::RefusedWithin(expected.place);
-            }
-            _ => {
-                self.colors = colors_after(self.colors, expected);
-                if !is_shown(outcome, expected.shown, self.colors) {
-                    self.outcome = Outcome::Wrong;
-                }
-            }
-        }
-    }
-}
-
-/// How the steps ended that found these colors and left this decoder.
-fn ran(outcomes: &[script::Outcome], start: Colors, decoder: &SixelDecoder) -> Outcome {
-    let mut seen = Seen {
-        colors: start,
-        outcome: Outcome::Right,
-    };
+/// How the steps ended that left this decoder. The model holds the color of register 42 that they
+/// found, since all others are reset before a step draws with them, and follows the steps that were
+/// not refused.
+fn ran(outcomes: &[script::Outcome], model: &mut SixelDecoder, decoder: &SixelDecoder) -> Outcome {
+    let mut ended = Outcome::Right;
     let mut rest = EXPECTED;
     for outcome in outcomes {
-        let [expected, after @ ..] = rest else {
-            return Outcome::Wrong;
-        };
-        seen.look(outcome, expected);
-        rest = after;
+        match rest {
+            [expected, after @ ..] => {
+                ended = expected.look(outcome, ended, model);
+                rest = after;
+            }
+            [] => ended = Outcome::Wrong,
+        }
     }
-    if rest.is_empty() & is_left(decoder, seen.colors) {
-        seen.outcome
+    if rest.is_empty() & have_same_registers(decoder, model) {
+        ended
     } else {
         Outcome::Wrong
     }
 }
 
-/// What the registers hold after a step that was not refused.
-fn colors_after(before: Colors, expected: &Expected) -> Colors {
-    if matches!(expected.shown, Shown::Reset) {
-        return Colors::of(&SixelDecoder::new());
-    }
-    let mut colors = before;
-    if let Some((register, color)) = expected.defined {
-        colors.set(register, color);
-    }
-    colors
-}
-
-/// Whether the outcome of a step is what it comes to with these colors.
-fn is_shown(outcome: &script::Outcome, shown: Shown, colors: Colors) -> bool {
-    match (outcome, shown) {
-        (script::Outcome::Reset, Shown::Reset) => true,
-        (script::Outcome::Decoded(image), Shown::Decoded(register)) => {
-            begins(image, 1, colors.get(register))
+impl Expected {
+    /// How the steps ended with this one, which came to this outcome after the others ended so. One
+    /// of them may owe it to want of memory.
+    fn look(
+        &self,
+        outcome: &script::Outcome,
+        before: Outcome,
+        model: &mut SixelDecoder,
+    ) -> Outcome {
+        if let script::Outcome::Failed(SixelError::OutOfMemory) = outcome {
+            return match before {
+                Outcome::Right => Outcome::RefusedWithin(self.refused),
+                _ => Outcome::Wrong,
+            };
         }
-        (
+        if let Some(definition) = self.defined {
+            model.set_register(definition.register, definition.color);
+        }
+        if self.is_shown(outcome, model) {
+            before
+        } else {
+            Outcome::Wrong
+        }
+    }
+
+    /// Whether this outcome is what the step comes to. A reset is followed by the model.
+    fn is_shown(&self, outcome: &script::Outcome, model: &mut SixelDecoder) -> bool {
+        match outcome {
+            script::Outcome::Reset => {
+                model.reset_palette();
+                self.status.is_none() & (self.width == 0)
+            }
+            script::Outcome::Decoded(image) => self.status.is_none() & self.is_drawn(image, model),
             script::Outcome::Finished {
                 consumed,
                 status,
                 image,
-            },
-            Shown::Finished(bytes, end, width, register),
-        ) => (*consumed == bytes) & (*status == end) & begins(image, width, colors.get(register)),
-        (script::Outcome::Aborted { consumed, status }, Shown::Aborted(bytes, end)) => {
-            (*consumed == bytes) & (*status == end)
+            } => self.has_stood(*consumed, *status) & self.is_drawn(image, model),
+            script::Outcome::Aborted { consumed, status } => {
+                self.has_stood(*consumed, *status) & (self.width == 0)
+            }
+            _ => false,
         }
-        _ => false,
     }
-}
 
-/// Whether an image is so wide, and its first row begins with this color.
-fn begins(image: &SixelImage, width: usize, [red, green, blue]: [u8; 3]) -> bool {
-    (image.width == width) & image.pixels.starts_with(&[red, green, blue, 255])
-}
-
-/// Whether a decoder holds these colors, and in all other registers those of a new one, as the
-/// steps leave it.
-fn is_left(decoder: &SixelDecoder, colors: Colors) -> bool {
-    let other = SixelDecoder::new();
-    let mut is_right = true;
-    for register in 0..=255 {
-        let expected = match register {
-            42 => colors.of_42,
-            43 => colors.of_43,
-            _ => other.register(register),
-        };
-        is_right &= decoder.register(register) == expected;
+    /// Whether a session that consumed so many bytes and stood so is the step's.
+    fn has_stood(&self, consumed: usize, status: Status) -> bool {
+        (self.consumed == consumed) & (self.status == Some(status))
     }
-    is_right
+
+    /// Whether an image is as wide as the step's, and its first row begins with the color of the
+    /// register.
+    fn is_drawn(&self, image: &SixelImage, model: &SixelDecoder) -> bool {
+        let [red, green, blue] = model.register(self.register);
+        (image.width == self.width) & image.pixels.starts_with(&[red, green, blue, 255])
+    }
 }

@@ -4,69 +4,56 @@ use crate::calls::{Call, Outcome};
 use icy_sixel::SixelDecoder;
 use std::alloc::Global;
 
-/// How a call ended, in words: that it was refused memory, and what came of it.
-#[derive(Clone, Copy)]
-pub struct Told {
-    pub refused: &'static str,
-    pub then: &'static str,
-}
-
-const OUT_OF_MEMORY: &str = "out of memory";
-
-const WRONG: Told = Told {
-    refused: "",
-    then: "wrong",
-};
-
-/// Does the call, and once more where memory was refused. A call that was refused as a whole has
-/// changed no register.
-pub fn try_call(alloc: Global, call: Call, decoder: &mut SixelDecoder) -> Told {
-    let Ok(mut before) = decoder.clone() else {
-        return WRONG;
-    };
+/// Does the call on a decoder that is equal to the start, and once more where memory was refused:
+/// how it ended, in words. A call that was refused as a whole has changed no register.
+pub fn try_call(
+    alloc: Global,
+    call: Call,
+    start: &SixelDecoder,
+    decoder: &mut SixelDecoder,
+) -> &'static str {
     match call.run(alloc, decoder) {
-        Outcome::Right => Told {
-            refused: "",
-            then: "ok",
-        },
-        Outcome::Wrong => WRONG,
+        Outcome::Right => "ok",
+        Outcome::Wrong => "wrong",
         Outcome::Refused => {
-            if have_same_registers(decoder, &before) {
-                try_again(alloc, call, decoder, OUT_OF_MEMORY)
+            if have_same_registers(decoder, start) {
+                try_again(alloc, call, decoder, "out of memory, then ok")
             } else {
-                Told {
-                    refused: OUT_OF_MEMORY,
-                    then: ", but registers changed",
-                }
+                "out of memory, but registers changed"
             }
         }
-        Outcome::RefusedWithin(place) => try_again(alloc, call, &mut before, place),
+        Outcome::RefusedWithin(told) => match start.clone() {
+            Ok(mut again) => try_again(alloc, call, &mut again, told),
+            Err(_) => "wrong",
+        },
     }
 }
 
-/// Does the call again, which was refused memory as is said here.
-fn try_again(alloc: Global, call: Call, decoder: &mut SixelDecoder, refused: &'static str) -> Told {
+/// Does the call again, which was refused memory: how it ended, of which this tells where it was
+/// right.
+fn try_again(
+    alloc: Global,
+    call: Call,
+    decoder: &mut SixelDecoder,
+    told: &'static str,
+) -> &'static str {
     match call.run(alloc, decoder) {
-        Outcome::Right => Told {
-            refused,
-            then: ", then ok",
-        },
-        Outcome::Wrong => Told {
-            refused: OUT_OF_MEMORY,
-            then: ", then wrong",
-        },
-        Outcome::Refused | Outcome::RefusedWithin(_) => Told {
-            refused: OUT_OF_MEMORY,
-            then: " twice",
-        },
+        Outcome::Right => told,
+        Outcome::Wrong => "out of memory, then wrong",
+        Outcome::Refused | Outcome::RefusedWithin(_) => "out of memory twice",
     }
 }
 
 /// Whether all registers of two decoders are equal.
-fn have_same_registers(one: &SixelDecoder, other: &SixelDecoder) -> bool {
+pub fn have_same_registers(one: &SixelDecoder, other: &SixelDecoder) -> bool {
     let mut are_same = true;
     for register in 0..=255 {
         are_same &= one.register(register) == other.register(register);
     }
     are_same
+}
+
+/// Whether a register of a decoder has this color.
+pub fn holds(decoder: &SixelDecoder, register: u8, color: [u8; 3]) -> bool {
+    decoder.register(register) == color
 }

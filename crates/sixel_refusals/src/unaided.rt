@@ -1,136 +1,132 @@
 //! Every call that takes no memory. Each must be right whatever request is refused.
 
-use crate::sessions::{DCS_FAILED, FAILED, Fed, FedDcs, answers, answers_dcs, is_refused};
+use crate::sessions::{Drawing, Feed, Session, frame, is_refused};
+use crate::told::{have_same_registers, holds};
 use icy_sixel::canvas::{Row, fill_rgba_span};
-use icy_sixel::script::End;
+use icy_sixel::receiver::Received;
+use icy_sixel::script::Status;
 use icy_sixel::{
-    BackgroundMode, DcsSettings, EncodeOptions, PixelAspectRatio, Result, SixelDcsFeedResult,
-    SixelDcsFeedStatus, SixelDecoder, SixelError, SixelFeedResult, SixelFeedStatus, SixelImage,
-    choose_palette, sixel_encode, validate_encode_dimensions, witnesses_hold,
+    BackgroundMode, DcsSettings, EncodeOptions, PixelAspectRatio, SixelDcsFeedStatus, SixelDecoder,
+    SixelError, SixelFeedStatus, SixelImage, choose_palette, sixel_encode,
+    validate_encode_dimensions, witnesses_hold,
 };
 use std::alloc::Global;
 
 /// Does every call that takes no memory, but those of an image with pixels.
 pub fn no_memory(alloc: Global, decoder: &mut SixelDecoder) -> bool {
     are_decoders_right(decoder)
-        & frame_call(alloc, decoder, ENDED, End::Abort)
-        & frame_call(alloc, decoder, REFUSED, End::Finish)
-        & string_call(alloc, decoder, ENDED_DCS, End::Abort)
-        & string_call(alloc, decoder, REFUSED_DCS, End::Finish)
+        & is_frame_aborted(alloc, decoder)
+        & Session::ControlString(decoder.begin_dcs(alloc)).is_aborted(ENDED_DCS)
+        & are_sessions_refused(alloc, decoder)
         & ratio_calls()
         & background_calls()
         & canvas_calls(alloc)
-        & are_sizes_told()
-        & are_buffers_refused(alloc)
+        & are_sizes_refused(alloc)
+        & palette_calls(alloc)
         & empty_image_calls(alloc)
-        & encoding_refusals(alloc)
 }
 
-/// The calls of a decoder itself. What a host sets is kept by a reset and by a clone.
+/// The calls of a decoder itself.
 fn are_decoders_right(decoder: &SixelDecoder) -> bool {
-    let Ok(mut copy) = decoder.clone() else {
-        return false;
-    };
-    let is_equal = copy.register(7) == decoder.register(7);
-    copy.set_raster_crop(true);
-    copy.set_pixel_limit(7);
-    copy.reset_palette();
-    let is_reset = copy.register(1) == [51, 51, 204];
-    copy.set_register(1, [1, 2, 3]);
-    let Ok(again) = copy.clone() else {
-        return false;
-    };
-    is_equal
-        & is_reset
-        & again.raster_crop()
-        & (again.pixel_limit() == 7)
-        & (again.register(1) == [1, 2, 3])
-        & (SixelDecoder::default().register(1) == [51, 51, 204])
+    match decoder.clone() {
+        Ok(copy) => have_same_registers(&copy, decoder) & keeps_settings(copy),
+        Err(_) => false,
+    }
 }
+
+/// Whether what a host sets is kept by a reset and by a clone.
+fn keeps_settings(decoder: SixelDecoder) -> bool {
+    let mut set = decoder;
+    set.set_raster_crop(true);
+    set.set_pixel_limit(7);
+    set.reset_palette();
+    let is_reset = holds(&set, 1, NEW) & holds(&SixelDecoder::default(), 1, NEW);
+    set.set_register(1, [1, 2, 3]);
+    match set.clone() {
+        Ok(copy) => {
+            is_reset & copy.raster_crop() & (copy.pixel_limit() == 7) & holds(&copy, 1, [1, 2, 3])
+        }
+        Err(_) => false,
+    }
+}
+
+// Register 1 of a new decoder.
+const NEW: [u8; 3] = [51, 51, 204];
 
 /// Feeds that close no sixel and no raster command, and feeds after an end.
-const ENDED: &[Fed] = &[
-    (
-        b"#42;2;100;0;0!12",
-        Ok(SixelFeedResult {
+const ENDED: &[Feed] = &[
+    Feed {
+        piece: b"#42;2;100;0;0!12",
+        received: Received {
             consumed: 16,
-            status: SixelFeedStatus::NeedMoreData,
-        }),
-    ),
-    (b"\x18~~", Ok(CANCELLED)),
-    (b"\"1;1;9;9~", Ok(CANCELLED)),
+            status: Status::Payload(SixelFeedStatus::NeedMoreData),
+        },
+    },
+    Feed {
+        piece: b"\x18~~",
+        received: CANCELLED,
+    },
+    Feed {
+        piece: b"\"1;1;9;9~",
+        received: CANCELLED,
+    },
 ];
 
-const CANCELLED: SixelFeedResult = SixelFeedResult {
+const CANCELLED: Received = Received {
     consumed: 0,
-    status: SixelFeedStatus::Terminated(0x18),
+    status: Status::Payload(SixelFeedStatus::Terminated(0x18)),
 };
 
-/// A feed that is refused, and one after it.
-const REFUSED: &[Fed] = &[
-    (
-        b"!65536~",
-        Err(SixelError::InvalidData("malformed SIXEL data")),
-    ),
-    (b"~", Err(FAILED)),
+/// The same of a control string.
+const ENDED_DCS: &[Feed] = &[
+    Feed {
+        piece: b"\x1bP9;1q#42;2;100;0;0!12",
+        received: Received {
+            consumed: 22,
+            status: Status::Dcs(SixelDcsFeedStatus::NeedMoreData),
+        },
+    },
+    Feed {
+        piece: b"\x18~~",
+        received: Received {
+            consumed: 1,
+            status: Status::Dcs(SixelDcsFeedStatus::Cancelled(0x18)),
+        },
+    },
+    Feed {
+        piece: b"\x1bPq~",
+        received: Received {
+            consumed: 0,
+            status: Status::Dcs(SixelDcsFeedStatus::Cancelled(0x18)),
+        },
+    },
 ];
 
-/// Feeds a payload, and gives it up, or finishes it where it was refused.
-fn frame_call(alloc: Global, decoder: &mut SixelDecoder, rows: &[Fed], ending: End) -> bool {
-    let Ok(mut session) = decoder.begin_frame(alloc, DcsSettings::default()) else {
-        return false;
-    };
-    let is_answered = answers(&mut session, rows);
-    match ending {
-        End::Abort => {
-            session.abort();
-            is_answered
-        }
-        End::Finish => is_answered & is_refused(session.finish(), &FAILED),
+/// Feeds a payload, and gives it up.
+fn is_frame_aborted(alloc: Global, decoder: &mut SixelDecoder) -> bool {
+    match decoder.begin_frame(alloc, DcsSettings::default()) {
+        Ok(session) => Session::Payload(session, false).is_aborted(ENDED),
+        Err(_) => false,
     }
 }
 
-/// The same of a control string.
-const ENDED_DCS: &[FedDcs] = &[
-    (
-        b"\x1bP9;1q#42;2;100;0;0!12",
-        Ok(SixelDcsFeedResult {
-            consumed: 22,
-            status: SixelDcsFeedStatus::NeedMoreData,
-        }),
-    ),
-    (
-        b"\x18~~",
-        Ok(SixelDcsFeedResult {
-            consumed: 1,
-            status: SixelDcsFeedStatus::Cancelled(0x18),
-        }),
-    ),
-    (
-        b"\x1bPq~",
-        Ok(SixelDcsFeedResult {
-            consumed: 0,
-            status: SixelDcsFeedStatus::Cancelled(0x18),
-        }),
-    ),
-];
+// A payload and a control string that are refused.
+static MALFORMED: Drawing = Drawing {
+    pieces: &[b"!65536~"],
+    failed: SixelError::InvalidData("stream decoder has failed"),
+};
 
-const REFUSED_DCS: &[FedDcs] = &[
-    (b"text", Err(SixelError::NoSixelData)),
-    (b"\x1bPq~\x1b\\", Err(DCS_FAILED)),
-];
+static NO_STRING: Drawing = Drawing {
+    pieces: &[b"text"],
+    failed: SixelError::InvalidData("DCS stream decoder has failed"),
+};
 
-/// Feeds a control string, and gives it up, or finishes it where it was refused.
-fn string_call(alloc: Global, decoder: &mut SixelDecoder, rows: &[FedDcs], ending: End) -> bool {
-    let mut session = decoder.begin_dcs(alloc);
-    let is_answered = answers_dcs(&mut session, rows);
-    match ending {
-        End::Abort => {
-            session.abort();
-            is_answered
-        }
-        End::Finish => is_answered & is_refused(session.finish(), &DCS_FAILED),
-    }
+/// Feeds a payload and a control string that are refused, and finishes them.
+fn are_sessions_refused(alloc: Global, decoder: &mut SixelDecoder) -> bool {
+    let malformed = SixelError::InvalidData("malformed SIXEL data");
+    let is_payload_refused = is_refused(frame(alloc, decoder, &MALFORMED, false), &malformed);
+    let string = Session::ControlString(decoder.begin_dcs(alloc));
+    is_payload_refused & is_refused(string.draw(&NO_STRING), &SixelError::NoSixelData)
 }
 
 fn ratio_calls() -> bool {
@@ -138,7 +134,8 @@ fn ratio_calls() -> bool {
     let settings = DcsSettings::default().with_pixel_aspect_ratio(ratio);
     (ratio == PixelAspectRatio::Ratio3To1)
         & (ratio.to_p1_value() == 3)
-        & ((ratio.pan(), ratio.pad()) == (1, 3))
+        & (ratio.pan() == 1)
+        & (ratio.pad() == 3)
         & !ratio.is_square()
         & PixelAspectRatio::default().is_square()
         & (settings == DcsSettings::new(Some(3), None, None))
@@ -156,96 +153,144 @@ fn background_calls() -> bool {
         & (settings == DcsSettings::new(None, Some(0), Some(3)))
 }
 
+// Two colors of the squared distance 100.
+const WITNESSES: &[[u8; 3]] = &[[0; 3], [10, 0, 0]];
+
 fn canvas_calls(alloc: Global) -> bool {
     let mut row = Row::new(alloc, [0; 4]);
     row.paint(0, 0, [255; 4]);
     let mut span = [0; 20];
     fill_rgba_span(&mut span, [1, 2, 3, 4]);
-    ((row.len(), row.room(), row.writes()) == (0, 0, 0))
-        & (span[18] == 3)
-        & witnesses_hold(&[[0; 3], [10, 0, 0]], 100)
-        & !witnesses_hold(&[[0; 3], [10, 0, 0]], 101)
+    (row.len() == 0) & (row.room() == 0) & (row.writes() == 0) & (span[18] == 3)
 }
 
-/// Sizes that a buffer without bytes is refused for.
-const REFUSED_BUFFERS: &[(usize, usize, SixelError)] = &[
-    (
-        0,
-        4,
-        SixelError::InvalidDimensions {
+/// The calls of a palette, of which one is refused.
+fn palette_calls(alloc: Global) -> bool {
+    let mismatch = SixelError::BufferSizeMismatch {
+        expected: 0,
+        actual: 3,
+    };
+    is_refused(choose_palette(alloc, &[0; 3], 2), &mismatch)
+        & witnesses_hold(WITNESSES, 100)
+        & !witnesses_hold(WITNESSES, 101)
+}
+
+/// A call that a size is given, with no bytes.
+#[derive(Clone, Copy)]
+enum Sized {
+    Image,
+    Encoding,
+    Check,
+}
+
+/// A size, and how a call that is given it is refused.
+struct RefusedSize {
+    call: Sized,
+    width: usize,
+    height: usize,
+    error: SixelError,
+}
+
+const REFUSED_SIZES: &[RefusedSize] = &[
+    RefusedSize {
+        call: Sized::Image,
+        width: 0,
+        height: 4,
+        error: SixelError::InvalidDimensions {
             width: 0,
             height: 4,
         },
-    ),
-    (usize::MAX / 4 + 1, 1, SixelError::IntegerOverflow),
-    (
-        10,
-        10,
-        SixelError::BufferSizeMismatch {
+    },
+    RefusedSize {
+        call: Sized::Image,
+        width: usize::MAX / 4 + 1,
+        height: 1,
+        error: SixelError::IntegerOverflow,
+    },
+    RefusedSize {
+        call: Sized::Image,
+        width: 10,
+        height: 10,
+        error: SixelError::BufferSizeMismatch {
             expected: 400,
             actual: 0,
         },
-    ),
-];
-
-/// Sizes to be encoded, and how each is told.
-const TOLD_SIZES: &[(usize, usize, Result<()>)] = &[
-    (1, 999996, Ok(())),
-    (
-        1,
-        999997,
-        Err(SixelError::InvalidDimensions {
+    },
+    RefusedSize {
+        call: Sized::Check,
+        width: 1,
+        height: 999997,
+        error: SixelError::InvalidDimensions {
             width: 1,
             height: 999997,
-        }),
-    ),
-    (usize::MAX, 2, Err(SixelError::IntegerOverflow)),
-];
-
-/// Sizes that no bytes are encoded for.
-const REFUSED_ENCODINGS: &[(usize, usize, SixelError)] = &[
-    (
-        0,
-        4,
-        SixelError::InvalidDimensions {
+        },
+    },
+    RefusedSize {
+        call: Sized::Check,
+        width: usize::MAX,
+        height: 2,
+        error: SixelError::IntegerOverflow,
+    },
+    RefusedSize {
+        call: Sized::Encoding,
+        width: 0,
+        height: 4,
+        error: SixelError::InvalidDimensions {
             width: 0,
             height: 4,
         },
-    ),
-    (usize::MAX, 2, SixelError::IntegerOverflow),
-    (
-        1000001,
-        1,
-        SixelError::InvalidDimensions {
+    },
+    RefusedSize {
+        call: Sized::Encoding,
+        width: usize::MAX,
+        height: 2,
+        error: SixelError::IntegerOverflow,
+    },
+    RefusedSize {
+        call: Sized::Encoding,
+        width: 1000001,
+        height: 1,
+        error: SixelError::InvalidDimensions {
             width: 1000001,
             height: 1,
         },
-    ),
-    (
-        2,
-        2,
-        SixelError::BufferSizeMismatch {
+    },
+    RefusedSize {
+        call: Sized::Encoding,
+        width: 2,
+        height: 2,
+        error: SixelError::BufferSizeMismatch {
             expected: 16,
             actual: 0,
         },
-    ),
+    },
 ];
 
-fn are_sizes_told() -> bool {
-    let mut is_right = true;
-    for (width, height, expected) in TOLD_SIZES {
-        is_right &= validate_encode_dimensions(*width, *height) == *expected;
+/// The refusals of sizes, which come before any growth, and a size that is accepted.
+fn are_sizes_refused(alloc: Global) -> bool {
+    let mut is_right = validate_encode_dimensions(1, 999996).is_ok();
+    for size in REFUSED_SIZES {
+        is_right &= is_size_refused(alloc, size);
     }
     is_right
 }
 
-fn are_buffers_refused(alloc: Global) -> bool {
-    let mut is_right = true;
-    for (width, height, expected) in REFUSED_BUFFERS {
-        let answer = SixelImage::try_from_rgba(Vec::new(alloc), *width, *height);
-        is_right &= is_refused(answer, expected);
+fn is_size_refused(alloc: Global, size: &RefusedSize) -> bool {
+    let (width, height) = (size.width, size.height);
+    match size.call {
+        Sized::Image => is_refused(
+            SixelImage::try_from_rgba(Vec::new(alloc), width, height),
+            &size.error,
+        ),
+        Sized::Check => is_refused(validate_encode_dimensions(width, height), &size.error),
+        Sized::Encoding => {
+            let options = EncodeOptions::default();
+            is_refused(
+                sixel_encode(alloc, &[], width, height, &options),
+                &size.error,
+            ) & (options.max_colors == 256)
+        }
     }
-    is_right
 }
 
 /// The calls of an image without pixels.
@@ -257,30 +302,6 @@ fn empty_image_calls(alloc: Global) -> bool {
         & (image.corrected_dimensions() == (3, 35))
         & !image.has_transparency()
         & (image.background_mode == BackgroundMode::Opaque)
-}
-
-/// The refusals of encoding and of a palette, which come before any growth.
-fn encoding_refusals(alloc: Global) -> bool {
-    let options = EncodeOptions::default();
-    let mut is_right = options.max_colors == 256;
-    for (width, height, expected) in REFUSED_ENCODINGS {
-        is_right &= match sixel_encode(alloc, &[], *width, *height, &options) {
-            Ok(_) => false,
-            Err(error) => error == *expected,
-        };
-    }
-    is_right & is_palette_refused(alloc)
-}
-
-fn is_palette_refused(alloc: Global) -> bool {
-    let expected = SixelError::BufferSizeMismatch {
-        expected: 0,
-        actual: 3,
-    };
-    match choose_palette(alloc, &[0; 3], 2) {
-        Ok(_) => false,
-        Err(error) => error == expected,
-    }
 }
 
 /// The calls that take no memory of an image of three pixels, none of them hidden.
@@ -296,9 +317,13 @@ pub fn image_calls(image: SixelImage) -> bool {
         aspect_ratio,
         ..
     } = image;
-    let Ok(checked) = SixelImage::try_from_rgba(pixels, width, height) else {
-        return false;
-    };
-    let hidden = SixelImage::from_rgba(checked.pixels, 1, 3).with_aspect_ratio(aspect_ratio);
-    !seen & (hidden.dimensions() == (1, 3)) & (hidden.corrected_dimensions() == (1, 6))
+    match SixelImage::try_from_rgba(pixels, width, height) {
+        Ok(checked) => {
+            let hidden = SixelImage::from_rgba(checked.pixels, 1, 3).with_aspect_ratio(
+                aspect_ratio,
+            );
+            !seen & (hidden.dimensions() == (1, 3)) & (hidden.corrected_dimensions() == (1, 6))
+        }
+        Err(_) => false,
+    }
 }

@@ -1,6 +1,5 @@
-//! What a decoder answers whose host has set a crop or a limit, in one piece and in single bytes.
+//! Decoders whose host has set a crop or a limit, and control strings in single bytes.
 
-use crate::answers::{Run, are_same, is_drawn};
 use icy_sixel::{Result, SixelDecoder, SixelImage};
 use std::alloc::Global;
 
@@ -26,18 +25,4 @@ pub fn followed_singly(
         }
     }
     session.finish()
-}
-
-/// Whether a decoder gives a control string this size and these pixels, of one shape and on one
-/// background however it comes.
-pub fn is_string_drawn_by(
-    alloc: Global,
-    decoder: &mut SixelDecoder,
-    string: &str,
-    size: (usize, usize),
-    runs: &[Run],
-) -> bool {
-    let whole = decoder.decode(alloc, string.as_bytes());
-    let singly = followed_singly(alloc, decoder, string.as_bytes());
-    are_same(singly, &whole) & is_drawn(alloc, whole, size, runs)
 }

@@ -3,12 +3,11 @@
 ghost use Rattle.std.specs.Prelude.{◌<◌};
 
 use crate::cases::Outcome::Drawn;
-use crate::cases::{Case, NEW, assert_cases};
+use crate::cases::{NEW, Payload};
 use crate::payloads::{draws_in_pieces, is_shown};
-use crate::rows::assert_row;
-use icy_sixel::DcsSettings;
+use crate::rows::{assert_row, assert_rows};
 use sixel_vectors_base::answers::{BLACK, BLUE, CLEAR, RED, Run, decoded, fed, transparent};
-use std::alloc::{AllocError, Global};
+use std::alloc::Global;
 
 /// The sixels of two layers of a band, as their six bits.
 #[derive(Clone, Copy)]
@@ -40,80 +39,69 @@ fn sixel(bits: usize) -> u8 {
     ((bits % 64) as u8) + b'?'
 }
 
-/// The payload of 30 bands of 200 columns, a red layer below a blue one.
-fn large_payload(alloc: Global) -> Result<Vec<u8>, AllocError> {
-    let mut payload = Vec::new(alloc);
-    payload.extend_from_slice(b"#1;2;100;0;0#2;2;0;0;100")?;
-    for band in 0..30 {
-        push_band(&mut payload, band)?;
-    }
-    Ok(payload)
-}
+/// What stands before the bands of the large image.
+const REGISTERS: &[u8; 24] = b"#1;2;100;0;0#2;2;0;0;100";
 
-/// Writes both layers of a band.
-fn push_band(payload: &mut Vec<u8>, band: usize) -> Result<(), AllocError>
+/// A byte of one of its 30 bands of 200 columns, a red layer below a blue one: `#1` and the one, and
+/// `$#2` and the other, and `-`.
+fn byte_of(band: usize, place: usize) -> u8
     requires { band < 30 }
 {
-    payload.extend_from_slice(b"#1")?;
-    for column in 0..200 {
-        payload.push(sixel(layers_at(column, band).red))?;
+    match place {
+        1 => b'1',
+        2..=201 => sixel(layers_at(place - 2, band).red),
+        202 => b'$',
+        0 | 203 => b'#',
+        204 => b'2',
+        205..=404 => sixel(layers_at(place - 205, band).blue),
+        _ => b'-',
     }
-    payload.extend_from_slice(b"$#2")?;
-    for column in 0..200 {
-        payload.push(sixel(layers_at(column, band).blue))?;
-    }
-    payload.push(b'-')?;
-    Ok(())
 }
 
-/// The pixels of that payload on a black background.
-fn large_pixels(alloc: Global) -> Result<Vec<u8>, AllocError> {
-    let mut pixels = Vec::new(alloc);
-    for band in 0..30 {
-        for row in 0..6 {
-            for column in 0..200 {
-                let layers = layers_at(column, band);
-                let color = if is_lit(layers.blue, row) {
-                    BLUE
-                } else if is_lit(layers.red, row) {
-                    RED
-                } else {
-                    BLACK
-                };
-                pixels.extend_from_slice(&color)?;
-            }
-        }
+/// The color of a pixel of that image on a black background.
+fn color_at(column: usize, row: usize) -> [u8; 4]
+    requires column { column < 200 }
+    requires row { row < 180 }
+{
+    let layers = layers_at(column, row / 6);
+    if is_lit(layers.blue, row % 6) {
+        BLUE
+    } else if is_lit(layers.red, row % 6) {
+        RED
+    } else {
+        BLACK
     }
-    Ok(pixels)
 }
 
-#[test]
-fn thirty_bands_of_two_layers(rt: HostRuntime) {
-    let payload = large_payload(rt.alloc()).expect(&rt, "a payload");
-    let pixels = large_pixels(rt.alloc()).expect(&rt, "pixels");
-    let are_drawn = draws_in_pieces(rt.alloc(), &payload, (200, 180), &pixels);
-    assert_row(&rt, "thirty bands", are_drawn);
+/// Whether that image is drawn pixel by pixel.
+fn are_bands_drawn(alloc: Global) -> bool {
+    let mut pixels = [BLACK; 36000];
+    for place in 0..36000 {
+        pixels[place] = color_at(place % 200, place / 200);
+    }
+    let mut payload = [0; 12204];
+    for place in 0..24 {
+        payload[place] = REGISTERS[place];
+    }
+    for place in 0..12180 {
+        payload[24 + place] = byte_of(place / 406, place % 406);
+    }
+    draws_in_pieces(alloc, &payload, (200, 180), pixels.as_flattened())
 }
 
 /// A repeat of three and then each of the 64 sixels, in red.
 const MASKS: &[u8] =
     b"#1;2;100;0;0!3?@ABCDEFGHIJKLMNOPQRSTUVWXYZ[\\]^_`abcdefghijklmnopqrstuvwxyz{|}~";
 
-/// The pixels of that payload on a transparent background.
-fn masks_pixels(alloc: Global) -> Result<Vec<u8>, AllocError> {
-    let mut pixels = Vec::new(alloc);
-    for row in 0..6 {
-        for column in 0..66_usize {
-            let bits = column.saturating_sub(2);
-            let color = if is_lit(bits, row) { RED } else { CLEAR };
-            pixels.extend_from_slice(&color)?;
+/// Whether that payload is drawn on a transparent background, at once and in pieces of all lengths.
+fn are_masks_drawn(alloc: Global) -> bool {
+    let mut pixels = [CLEAR; 396];
+    for place in 0..396_usize {
+        if is_lit((place % 66).saturating_sub(2), place / 66) {
+            pixels[place] = RED;
         }
     }
-    Ok(pixels)
-}
-
-/// Whether that payload is these pixels, at once and in pieces of all lengths.
-fn draws_masks(alloc: Global, pixels: &[u8]) -> bool {
+    let pixels = pixels.as_flattened();
     let mut are_shown = is_shown(decoded(alloc, MASKS, transparent()), (66, 6), pixels);
     for length in 1..80 {
         are_shown &= is_shown(fed(alloc, MASKS, transparent(), length), (66, 6), pixels);
@@ -122,60 +110,59 @@ fn draws_masks(alloc: Global, pixels: &[u8]) -> bool {
 }
 
 #[test]
-fn all_masks(rt: HostRuntime) {
-    let pixels = masks_pixels(rt.alloc()).expect(&rt, "pixels");
-    assert_row(&rt, "masks", draws_masks(rt.alloc(), &pixels));
+fn pixel_by_pixel(rt: HostRuntime) {
+    assert_row(&rt, "thirty bands", are_bands_drawn(rt.alloc()));
+    assert_row(&rt, "masks", are_masks_drawn(rt.alloc()));
 }
 
-/// Six rows of red and black, and below them as many of blue.
-const WIDER_LINE: &[Case] = &[(
-    "#1;2;100;0;0#1!3~-#2;2;0;0;100#2!300~",
-    NEW,
-    None,
-    Drawn(
-        (300, 12),
-        &[
-            (3, RED),
-            (297, BLACK),
-            (3, RED),
-            (297, BLACK),
-            (3, RED),
-            (297, BLACK),
-            (3, RED),
-            (297, BLACK),
-            (3, RED),
-            (297, BLACK),
-            (3, RED),
-            (297, BLACK),
-            (1800, BLUE),
-        ],
+/// Payloads of two bands.
+const TWO_BANDS: &[(&str, Payload)] = &[
+    // Six rows of red and black, and below them as many of blue.
+    (
+        "#1;2;100;0;0#1!3~-#2;2;0;0;100#2!300~",
+        Payload(
+            NEW,
+            None,
+            Drawn(
+                (300, 12),
+                &[
+                    (3, RED),
+                    (297, BLACK),
+                    (3, RED),
+                    (297, BLACK),
+                    (3, RED),
+                    (297, BLACK),
+                    (3, RED),
+                    (297, BLACK),
+                    (3, RED),
+                    (297, BLACK),
+                    (3, RED),
+                    (297, BLACK),
+                    (1800, BLUE),
+                ],
+            ),
+        ),
     ),
-)];
-
-#[test]
-fn a_wider_line_below(rt: HostRuntime) {
-    assert_cases(rt, WIDER_LINE);
-}
-
-/// Payloads of two bands that define register 0 anew as they go, without a size and with one.
-const TWO_BANDS: &[Case] = &[
-    (NO_SIZE, NEW, None, Drawn((3, 12), ON_BLACK)),
-    (NO_SIZE, NEW, Some(1), Drawn((3, 12), ON_CLEAR)),
-    (SIZED, NEW, None, Drawn((3, 12), ON_BLACK)),
-    (SIZED, NEW, Some(1), Drawn((3, 12), ON_CLEAR)),
+    // Bands that define register 0 anew as they go, without a size and with one.
+    (NO_SIZE, Payload(NEW, None, Drawn((3, 12), ON_BLACK))),
+    (NO_SIZE, Payload(NEW, Some(1), Drawn((3, 12), ON_CLEAR))),
+    (SIZED, Payload(NEW, None, Drawn((3, 12), ON_BLACK))),
+    (SIZED, Payload(NEW, Some(1), Drawn((3, 12), ON_CLEAR))),
 ];
 
+/// Bands without a size.
 const NO_SIZE: &str = "#0;2;100;0;0@?#0;2;0;100;0?-??#0;2;0;0;100@";
 
+/// The same bands with a size.
 const SIZED: &str = "\"1;1;3;12#0;2;100;0;0@?#0;2;0;100;0?-??#0;2;0;0;100@";
 
-/// Their pixels on black.
+/// The pixels of both on black.
 const ON_BLACK: &[Run] = &[(1, RED), (19, BLACK), (1, BLUE), (15, BLACK)];
 
-/// Their pixels on a transparent background.
+/// The pixels of both on a transparent background.
 const ON_CLEAR: &[Run] = &[(1, RED), (19, CLEAR), (1, BLUE), (15, CLEAR)];
 
 #[test]
-fn the_background_is_that_of_the_beginning(rt: HostRuntime) {
-    assert_cases(rt, TWO_BANDS);
+fn two_bands(rt: HostRuntime) {
+    assert_rows(&rt, TWO_BANDS);
 }

@@ -35,8 +35,6 @@ mod rows;
 #[cfg(test)]
 mod sizes;
 #[cfg(test)]
-mod wide_line;
-#[cfg(test)]
 mod wide_strokes;
 #[cfg(test)]
 mod work;

@@ -1,17 +1,21 @@
 //! Parameters of a command, field by field.
 
-use crate::rows::assert_row;
+use crate::rows::{Expected, assert_rows};
 use sixel_base::parameters::Parameters;
+use std::alloc::Global;
 
-/// Texts of digits and semicolons, how many fields each has, and the values of the first five.
-const TEXTS: &[(&str, usize, [u32; 5])] = &[
-    ("", 0, [0, 0, 0, 0, 0]),
-    ("7", 1, [7, 0, 0, 0, 0]),
-    (";", 2, [0, 0, 0, 0, 0]),
-    ("1;;03;4;5;6;7", 6, [1, 0, 3, 4, 5]),
-    ("2147483646", 1, [2147483646, 0, 0, 0, 0]),
-    ("2147483648", 1, [2147483647, 0, 0, 0, 0]),
-    ("99999999999999999999", 1, [2147483647, 0, 0, 0, 0]),
+/// How many fields a text has, and the values of the first five.
+struct Fields(usize, [u32; 5]);
+
+/// Texts of digits and semicolons.
+const TEXTS: &[(&str, Fields)] = &[
+    ("", Fields(0, [0, 0, 0, 0, 0])),
+    ("7", Fields(1, [7, 0, 0, 0, 0])),
+    (";", Fields(2, [0, 0, 0, 0, 0])),
+    ("1;;03;4;5;6;7", Fields(6, [1, 0, 3, 4, 5])),
+    ("2147483646", Fields(1, [2147483646, 0, 0, 0, 0])),
+    ("2147483648", Fields(1, [2147483647, 0, 0, 0, 0])),
+    ("99999999999999999999", Fields(1, [2147483647, 0, 0, 0, 0])),
 ];
 
 /// The parameters of a text of digits and semicolons.
@@ -26,18 +30,18 @@ fn parameters_of(text: &str) -> Parameters {
     parameters
 }
 
-/// Whether parameters have so many fields, of which the first five have these values.
-fn are_fields(parameters: &Parameters, count: usize, values: &[u32; 5]) -> bool {
-    let mut are_equal = parameters.len() == count;
-    for place in 0..5 {
-        are_equal = are_equal && parameters.get(place) == values[place];
+impl Expected for Fields {
+    fn holds(&self, _: Global, name: &str) -> bool {
+        let parameters = parameters_of(name);
+        let mut are_equal = parameters.len() == self.0;
+        for place in 0..5 {
+            are_equal &= parameters.get(place) == self.1[place];
+        }
+        are_equal
     }
-    are_equal
 }
 
 #[test]
 fn fields_of_a_text(rt: HostRuntime) {
-    for row in TEXTS {
-        assert_row(&rt, row.0, are_fields(&parameters_of(row.0), row.1, &row.2));
-    }
+    assert_rows(&rt, TEXTS);
 }

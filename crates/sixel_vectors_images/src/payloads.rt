@@ -4,16 +4,16 @@ use icy_sixel::{DcsSettings, Result, SixelImage};
 use sixel_vectors_base::answers::{decoded, fed, shows};
 use std::alloc::{AllocError, Global};
 
-/// A payload by its front, a text and how often that comes, and its end.
-pub type Long = (&'static str, (&'static str, usize), &'static str);
-
-/// The bytes of a long payload.
+/// A payload by its front, what comes next and how often, and its end.
 pub fn long(
     alloc: Global,
-    (front, (text, count), end): Long,
-) -> std::result::Result<String, AllocError> {
+    front: &[u8],
+    text: &[u8],
+    count: usize,
+    end: &[u8],
+) -> std::result::Result<Vec<u8>, AllocError> {
     let middle = text.repeat(alloc, count)?;
-    [front, middle.as_str(), end].concat(alloc)
+    [front, middle.as_slice(), end].concat(alloc)
 }
 
 /// Whether an outcome is an image of this size and these pixels.

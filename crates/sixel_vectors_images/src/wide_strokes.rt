@@ -1,120 +1,101 @@
 //! Sixels with great repeats that go over one another, against a plain computation of each pixel.
 
+use crate::canvas::{PLAIN_WIDTH, Stroke, draw_plainly};
 use crate::payloads::draws_in_pieces;
 use crate::rows::assert_row;
 use icy_sixel::SixelDecoder;
-use sixel_vectors_base::answers::next;
+use sixel_vectors_base::answers::{BLACK, next};
 use std::alloc::{AllocError, Global};
-
-const WIDTH: usize = 2000;
-
-const BANDS: usize = 3;
-
-/// A text, and the pixels that it draws.
-#[derive(Drop)]
-struct Picture {
-    text: String,
-    pixels: Vec<[u8; 4]>,
-}
 
 /// A repeated sixel: its first column and the one after its last, its bits and its color.
 #[derive(Clone, Copy)]
-struct Stroke {
+struct Repeat {
     from: usize,
     to: usize,
-    bits: usize,
+    bits: u8,
     register: u8,
 }
 
-/// A stroke from a column on, of up to so many columns.
-fn stroke_from(seed: &mut u64, from: usize, longest: usize) -> Stroke {
-    let columns = next(seed) % longest.max(1);
-    Stroke {
-        from,
-        to: from.saturating_add(columns).saturating_add(1).min(WIDTH),
-        bits: next(seed) % 64,
-        register: (next(seed) % 16) as u8,
-    }
-}
+const LONGEST: [usize; 3] = [2000, 700, 30];
 
-/// Draws a stroke on a band of some pixels.
-fn paint(pixels: &mut [[u8; 4]], band: usize, stroke: Stroke) {
-    let [red, green, blue] = SixelDecoder::new().register(stroke.register);
-    for (place, pixel) in pixels.iter_mut().enumerate() {
-        let (row, column) = (place / WIDTH, place % WIDTH);
-        let is_struck = row / 6 == band && stroke.bits >> (row % 6) & 1 == 1;
-        if is_struck && stroke.from <= column && column < stroke.to {
-            *pixel = [red, green, blue, 255];
-        }
-    }
-}
-
-impl Picture {
-    /// Nothing yet, on black, of the size that raster attributes give.
-    fn new(alloc: Global) -> Result<Picture, AllocError> {
-        Ok(Picture {
-            text: "\"1;1;2000;18".repeat(alloc, 1)?,
-            pixels: vec![in alloc; [0, 0, 0, 255]; 6 * BANDS * WIDTH]?,
-        })
-    }
-
-    /// Draws a stroke on a band, where it has a column.
-    fn draw(&mut self, band: usize, stroke: Stroke) -> Result<(), AllocError> {
-        paint(&mut self.pixels, band, stroke);
-        match stroke.to.saturating_sub(stroke.from) {
-            0 => Ok(()),
-            count => self.write(stroke, count),
-        }
-    }
-
-    /// Writes a stroke of so many columns.
-    fn write(&mut self, stroke: Stroke, count: usize) -> Result<(), AllocError> {
-        let sixel = char::from((stroke.bits % 64) as u8 + b'?');
-        write!(self.text, "#{}!{count}{sixel}", stroke.register)
-    }
-
-    /// Goes to a column by a sixel without a dot, and draws strokes from there on, side by side, each
-    /// up to so many columns wide.
-    fn draw_line(&mut self, seed: &mut u64, band: usize, longest: usize) -> Result<(), AllocError> {
-        let mut stroke = Stroke {
+/// The next of 90 lines of five repeats: the first goes to a column by a sixel without a dot, and the
+/// others go on from there side by side, each up to so many columns wide. Wide lines and narrow ones
+/// take turns.
+fn next_repeat(seed: &mut u64, last: Repeat, place: usize) -> Repeat {
+    if place % 5 == 0 {
+        return Repeat {
             from: 0,
             to: next(seed) % 1000,
             bits: 0,
             register: 0,
         };
-        self.draw(band, stroke)?;
-        for _ in 0..4 {
-            stroke = stroke_from(seed, stroke.to, longest);
-            self.draw(band, stroke)?;
-        }
-        self.text.push('$')
     }
-
-    /// Draws on a band: wide strokes over one another, and narrow ones between them.
-    fn draw_band(&mut self, seed: &mut u64, band: usize) -> Result<(), AllocError> {
-        for _ in 0..10 {
-            for longest in [2000, 700, 30] {
-                self.draw_line(seed, band, longest)?;
-            }
-        }
-        self.text.push('-')
+    let columns = next(seed) % LONGEST[place / 5 % 3];
+    Repeat {
+        from: last.to,
+        to: last
+            .to
+            .saturating_add(columns)
+            .saturating_add(1)
+            .min(PLAIN_WIDTH),
+        bits: (next(seed) % 64) as u8,
+        register: (next(seed) % 16) as u8,
     }
 }
 
-/// A picture of all bands.
-fn drawn_picture(alloc: Global) -> Result<Picture, AllocError> {
-    let mut picture = Picture::new(alloc)?;
-    let mut seed = 1;
-    for band in 0..BANDS {
-        picture.draw_band(&mut seed, band)?;
+/// Writes a repeat, where it has a column, and the end of its line and its band, where it is the last
+/// of them.
+fn write(text: &mut String, repeat: Repeat, place: usize) -> Result<(), AllocError> {
+    let count = repeat.to.saturating_sub(repeat.from);
+    if 0 < count {
+        let sixel = char::from(repeat.bits % 64 + b'?');
+        write!(text, "#{}!{count}{sixel}", repeat.register)?;
     }
-    Ok(picture)
+    text.push_str(match place % 150 {
+        149 => "$-",
+        place if place % 5 == 4 => "$",
+        _ => "",
+    })
+}
+
+/// What a repeat draws on a band.
+fn stroke_of(repeat: Repeat, band: usize) -> Stroke {
+    let [red, green, blue] = SixelDecoder::new().register(repeat.register);
+    Stroke {
+        from: repeat.from,
+        to: repeat.to,
+        top: band.saturating_mul(6),
+        bits: repeat.bits,
+        color: [red, green, blue, 255],
+    }
+}
+
+/// Whether three bands of repeats are drawn, on black, of the size that raster attributes give.
+fn are_repeats_drawn(alloc: Global) -> bool {
+    let (mut text, mut pixels) = (String::new(alloc), [BLACK; 18 * PLAIN_WIDTH]);
+    let mut is_written = text.push_str("\"1;1;2000;18").is_ok();
+    let mut seed = 1;
+    let mut repeat = Repeat {
+        from: 0,
+        to: 0,
+        bits: 0,
+        register: 0,
+    };
+    for place in 0..450 {
+        repeat = next_repeat(&mut seed, repeat, place);
+        draw_plainly(&mut pixels, stroke_of(repeat, place / 150));
+        is_written &= write(&mut text, repeat, place).is_ok();
+    }
+    is_written
+        & draws_in_pieces(
+            alloc,
+            text.as_bytes(),
+            (PLAIN_WIDTH, 18),
+            pixels.as_flattened(),
+        )
 }
 
 #[test]
-fn strokes_of_all_widths(rt: HostRuntime) {
-    let picture = drawn_picture(rt.alloc()).expect(&rt, "a picture");
-    let pixels = picture.pixels.as_flattened();
-    let is_drawn = draws_in_pieces(rt.alloc(), picture.text.as_bytes(), (WIDTH, 18), pixels);
-    assert_row(&rt, "strokes", is_drawn);
+fn repeats_of_all_widths(rt: HostRuntime) {
+    assert_row(&rt, "repeats", are_repeats_drawn(rt.alloc()));
 }

@@ -2,7 +2,9 @@
 
 ghost use Rattle.std.specs.Prelude.{◌<◌};
 
-use crate::rows::assert_row;
+use crate::payloads::long;
+use crate::rows::{Expected, assert_rows};
+use icy_sixel::SixelError::InvalidData;
 use icy_sixel::{
     DcsSettings, SixelDcsStreamDecoder, SixelDecoder, SixelError, SixelImage, SixelStreamDecoder,
 };
@@ -11,264 +13,278 @@ use sixel_vectors_base::hosted::decoder_with;
 use std::alloc::Global;
 
 /// How many columns of six pixels are reached in all bands together, and by how many sixels.
-pub type Reach = (u32, u32);
+type Reach = (u32, u32);
 
-/// The least and the greatest number of pixels.
-type Bounds = (u64, u64);
-
-/// From once to three times so many columns of six pixels.
-fn columns(count: u32) -> Bounds {
-    (6 * u64::from(count), 18 * u64::from(count))
+/// Whether what a canvas wrote and painted is within its bounds. It writes each pixel of a column
+/// once at least, and of all columns so many pixels at most for each; without tags of blocks a wide
+/// sixel would paint all its pixels each time.
+fn are_within(writes: u64, paints: u64, (columns, sixels): Reach, most: u64) -> bool {
+    let (columns, sixels) = (u64::from(columns), u64::from(sixels));
+    let are_writes = (6 * columns <= writes) & (writes <= columns.saturating_mul(most));
+    let are_paints = (0 < paints) == (0 < sixels);
+    are_writes & are_paints & (paints <= 18 * columns + 4602 * sixels)
 }
 
-/// Whether what painting wrote is within its bound: without tags of blocks a wide sixel would write
-/// all its pixels each time.
-fn are_paints(paints: u64, (columns, sixels): Reach) -> bool {
-    let most = 18 * u64::from(columns) + 4602 * u64::from(sixels);
-    (0 < paints) == (0 < sixels) && paints <= most
-}
+/// What comes before a text, how often the text comes, what they reach, and the size of the image.
+struct Drawing(&'static [u8], usize, Reach, (usize, usize));
 
-/// Texts and how often each comes, what they reach, and the sizes of their images.
-const DRAWINGS: &[(&str, usize, Reach, (usize, usize))] = &[
-    ("", 1, (0, 0), (1, 1)),
-    ("~", 2000, (2000, 2000), (2000, 6)),
+const DRAWINGS: &[(&str, Drawing)] = &[
+    ("", Drawing(b"", 1, (0, 0), (1, 1))),
+    ("~", Drawing(b"", 2000, (2000, 2000), (2000, 6))),
     // Bands whose widths rise and fall, with empty ones between.
-    ("!200~-~-!200~-~~-!150~", 1, (553, 6), (200, 30)),
-    ("!1000~---~~~-----!999~", 1, (2002, 5), (1000, 54)),
-    ("~-!2~-!4~-!8~-!16~-!32~-!64~-!128~", 1, (255, 8), (128, 48)),
-    ("!128~-!64~-!32~-!16~-!8~-!4~-!2~-~", 1, (255, 8), (128, 48)),
-    ("!100~-!10~!91~-!50~!52~-~!200~", 1, (504, 7), (201, 24)),
-    ("--!300~$~--~~$!301~-!9~", 1, (610, 6), (301, 36)),
+    (
+        "!200~-~-!200~-~~-!150~",
+        Drawing(b"", 1, (553, 6), (200, 30)),
+    ),
+    (
+        "!1000~---~~~-----!999~",
+        Drawing(b"", 1, (2002, 5), (1000, 54)),
+    ),
+    (
+        "~-!2~-!4~-!8~-!16~-!32~-!64~-!128~",
+        Drawing(b"", 1, (255, 8), (128, 48)),
+    ),
+    (
+        "!128~-!64~-!32~-!16~-!8~-!4~-!2~-~",
+        Drawing(b"", 1, (255, 8), (128, 48)),
+    ),
+    (
+        "!100~-!10~!91~-!50~!52~-~!200~",
+        Drawing(b"", 1, (504, 7), (201, 24)),
+    ),
+    (
+        "--!300~$~--~~$!301~-!9~",
+        Drawing(b"", 1, (610, 6), (301, 36)),
+    ),
     // A line that is drawn over.
-    ("!65535~$", 200, (65535, 200), (65535, 6)),
+    ("!65535~$", Drawing(b"", 200, (65535, 200), (65535, 6))),
+    // A line wider than a repeat and far down.
+    ("~", Drawing(WIDE_LINE, 1000, (525280, 1008), (525280, 66))),
 ];
+
+/// Ten bands down, eight great repeats.
+pub const WIDE_LINE: &[u8] = b"----------!65535~!65535~!65535~!65535~!65535~!65535~!65535~!65535~";
+
+/// How a piece was taken, and how many pixels the canvas has then written and painted.
+#[derive(Drop)]
+struct Fed {
+    refusal: Option<SixelError>,
+    writes: u64,
+    paints: u64,
+}
+
+/// A session that pieces are fed to.
+trait Session {
+    /// Feeds a piece.
+    fn fed(&mut self, piece: &[u8]) -> Fed;
+}
+
+impl Session for SixelStreamDecoder<'_> {
+    fn fed(&mut self, piece: &[u8]) -> Fed {
+        Fed {
+            refusal: self.feed(piece).err(),
+            writes: self.canvas_writes(),
+            paints: self.canvas_paints(),
+        }
+    }
+}
+
+impl Session for SixelDcsStreamDecoder<'_> {
+    fn fed(&mut self, piece: &[u8]) -> Fed {
+        Fed {
+            refusal: self.feed(piece).err(),
+            writes: self.canvas_writes(),
+            paints: self.canvas_paints(),
+        }
+    }
+}
 
 /// Feeds a payload in pieces of this length. Whether the number of pixels that the canvas has copied
-/// or filled never falls, and whether it ends within its bounds, and that of painted ones too.
-fn writes_within(
-    session: &mut SixelStreamDecoder<'_>,
-    payload: &[u8],
-    length: usize,
-    reach: Reach,
-) -> bool
+/// or filled never falls.
+fn never_falls(session: &mut SixelStreamDecoder<'_>, payload: &[u8], length: usize) -> bool
     requires { 0 < length }
 {
-    let mut are_right = session.canvas_writes() == 0 && session.canvas_paints() == 0;
+    let mut writes = 0;
+    let mut are_right = session.canvas_writes() == 0;
     for piece in payload.chunks(length) {
-        let before = session.canvas_writes();
-        are_right &= feeds(session, piece, (before, u64::MAX));
+        let fed = session.fed(piece);
+        are_right &= fed.refusal.is_none() & (writes <= fed.writes);
+        writes = fed.writes;
     }
-    let (least, most) = columns(reach.0);
-    let writes = session.canvas_writes();
-    are_right && least <= writes && writes <= most && are_paints(session.canvas_paints(), reach)
+    are_right
 }
 
-/// The image of a payload that comes in pieces of this length, if the canvas writes what is within
-/// its bounds, and the count of the whole has as many pixels more as the image.
-pub fn counted(
-    alloc: Global,
-    payload: &[u8],
-    settings: DcsSettings,
-    length: usize,
-    reach: Reach,
-) -> Option<SixelImage>
-    requires { 0 < length }
-{
-    let mut decoder = SixelDecoder::new();
-    let mut session = match decoder.begin_frame(alloc, settings) {
-        Ok(session) => session,
-        Err(_) => return None,
-    };
-    let are_within = writes_within(&mut session, payload, length, reach);
-    let drawn = session.canvas_writes();
-    match session.finish_counted() {
-        Ok((image, writes)) => {
-            let packed = (image.pixels.len() / 4) as u64;
-            (are_within && drawn <= writes && writes - drawn == packed).then_some(image)
+impl Drawing {
+    /// Whether a payload in pieces of this length has the size, the canvas writes what is within its
+    /// bounds, and the count of the whole has as many pixels more as the image.
+    fn is_counted(&self, alloc: Global, payload: &[u8], length: usize) -> bool
+        requires { 0 < length }
+    {
+        let mut decoder = SixelDecoder::new();
+        let mut is_counted = false;
+        if let Ok(mut session) = decoder.begin_frame(alloc, DcsSettings::default()) {
+            is_counted = never_falls(&mut session, payload, length);
+            let (writes, paints) = (session.canvas_writes(), session.canvas_paints());
+            is_counted &= are_within(writes, paints, self.2, 18);
+            is_counted &= match session.finish_counted() {
+                Ok((image, counted)) => {
+                    let packed = (image.pixels.len() / 4) as u64;
+                    (counted.checked_sub(writes) == Some(packed)) & (image.dimensions() == self.3)
+                }
+                Err(_) => false,
+            };
         }
-        Err(_) => None,
+        is_counted
     }
 }
 
-/// Whether a payload, in pieces of this length, has an image of this size and is counted as it must
-/// be.
-pub fn is_counted(
-    alloc: Global,
-    payload: &[u8],
-    length: usize,
-    reach: Reach,
-    size: (usize, usize),
-) -> bool
-    requires { 0 < length }
-{
-    match counted(alloc, payload, DcsSettings::default(), length, reach) {
-        Some(image) => image.dimensions() == size,
-        None => false,
-    }
-}
-
-/// Whether a text so many times, in pieces of all lengths, has an image of this size and is counted
-/// as it must be.
-fn are_counted(
-    alloc: Global,
-    text: &str,
-    count: usize,
-    reach: Reach,
-    size: (usize, usize),
-) -> bool {
-    match text.as_bytes().repeat(alloc, count) {
-        Ok(payload) => {
-            is_counted(alloc, &payload, 1, reach, size)
-                && is_counted(alloc, &payload, 7, reach, size)
-                && is_counted(alloc, &payload, 4096, reach, size)
+impl Expected for Drawing {
+    fn holds(&self, alloc: Global, name: &str) -> bool {
+        match long(alloc, self.0, name.as_bytes(), self.1, b"") {
+            Ok(payload) => {
+                self.is_counted(alloc, &payload, 1)
+                    & self.is_counted(alloc, &payload, 7)
+                    & self.is_counted(alloc, &payload, 4096)
+            }
+            Err(_) => false,
         }
-        Err(_) => false,
     }
 }
 
-#[test]
-fn drawings(rt: HostRuntime) {
-    for row in DRAWINGS {
-        assert_row(
-            &rt,
-            row.0,
-            are_counted(rt.alloc(), row.0, row.1, row.2, row.3),
-        );
+/// A piece and how often it comes, how many columns are reached once it has come first, and why it
+/// is refused. Each time it comes again a sixel reaches a column more. A refusal leaves no count.
+struct Feed(&'static str, u32, u32, Option<SixelError>);
+
+/// Feeds a piece as often as it comes. Whether each is taken as it must be, and the canvas writes so
+/// many pixels at most for each column.
+fn takes<S: Session>(session: &mut S, feed: &Feed, most: u64) -> bool {
+    let mut are_right = true;
+    for time in 0..feed.1 {
+        let columns = feed.2.saturating_add(time);
+        let fed = session.fed(feed.0.as_bytes());
+        are_right &= fed.refusal == feed.3;
+        are_right &= are_within(fed.writes, fed.paints, (columns, columns), most);
     }
+    are_right
 }
 
-/// Feeds a piece to a payload session. Whether its canvas has then written within these bounds.
-fn feeds(session: &mut SixelStreamDecoder<'_>, piece: &[u8], (least, most): Bounds) -> bool {
-    let is_fed = session.feed(piece).is_ok();
-    let writes = session.canvas_writes();
-    is_fed && least <= writes && writes <= most
-}
-
-/// Feeds columns singly. Whether the canvas writes within these bounds for each.
-fn feeds_columns(session: &mut SixelStreamDecoder<'_>, count: u64, (least, most): Bounds) -> bool {
-    let before = session.canvas_writes();
-    let mut are_within = true;
-    for column in 1..=count {
-        let from = before.saturating_add(least.saturating_mul(column));
-        let to = before.saturating_add(most.saturating_mul(column));
-        are_within = feeds(session, b"~", (from, to)) && are_within;
+/// Whether a session takes all pieces as it must.
+fn takes_all<S: Session>(session: &mut S, feeds: &[Feed], most: u64) -> bool {
+    let mut are_right = true;
+    for feed in feeds {
+        are_right &= takes(session, feed, most);
     }
-    are_within
+    are_right
 }
 
-/// Whether a new session writes so many pixels for a front, and for columns singly within the bounds.
-fn is_grown(alloc: Global, front: &str, writes: u64, count: u64, bounds: Bounds) -> bool {
-    let mut decoder = SixelDecoder::new();
-    match decoder.begin_frame(alloc, DcsSettings::default()) {
-        Ok(mut session) => {
-            let is_front_fed = feeds(&mut session, front.as_bytes(), (writes, writes));
-            let are_fed = feeds_columns(&mut session, count, bounds);
-            session.abort();
-            is_front_fed && are_fed
-        }
-        Err(_) => false,
-    }
+/// How a session begins.
+#[derive(Clone, Copy)]
+enum Form {
+    /// As one of a payload at a limit of pixels, which has an image at the end or not.
+    Payload(usize, bool),
+    /// As one of a control string.
+    ControlString,
 }
 
-/// What is fed first and how many pixels are written for it, how many columns then come singly, and
-/// the least and the most that is written for each.
-const COLUMNS: &[(&str, u64, u64, Bounds)] = &[
-    ("", 0, 2000, (6, 18)),
+use Form::{ControlString, Payload};
+
+/// How a session begins, how many pixels are written for a column at most, and the pieces.
+struct Course(Form, u64, &'static [Feed]);
+
+const COURSES: &[(&str, Course)] = &[
+    (
+        "columns in single bytes",
+        Course(Payload(usize::MAX, true), 18, &[Feed("~", 2000, 1, None)]),
+    ),
     // Nothing is copied: the second band has the room of the first from the beginning.
-    ("!100~-", 600, 100, (6, 6)),
+    (
+        "columns in a second band",
+        Course(
+            Payload(usize::MAX, true),
+            6,
+            &[Feed("!100~-", 1, 100, None), Feed("~", 100, 101, None)],
+        ),
+    ),
+    (
+        "a great repeat",
+        Course(
+            Payload(67108864, false),
+            18,
+            &[
+                Feed("~", 1, 1, None),
+                Feed("!65536~", 1, 0, Some(InvalidData(MALFORMED))),
+            ],
+        ),
+    ),
+    (
+        "a repeat above the limit",
+        Course(
+            Payload(72, false),
+            18,
+            &[
+                Feed("!13", 1, 0, None),
+                Feed("~", 1, 0, Some(InvalidData(TOO_LARGE))),
+            ],
+        ),
+    ),
+    (
+        "columns of a control string",
+        Course(
+            ControlString,
+            18,
+            &[
+                Feed("\x1bP", 1, 0, None),
+                Feed("q", 1, 0, None),
+                Feed("~", 2000, 1, None),
+            ],
+        ),
+    ),
+    (
+        "a great repeat in a control string",
+        Course(
+            ControlString,
+            18,
+            &[
+                Feed("\x1bPq~", 1, 1, None),
+                Feed("!65536~", 1, 0, Some(InvalidData(MALFORMED))),
+            ],
+        ),
+    ),
 ];
 
-#[test]
-fn columns_in_single_bytes(rt: HostRuntime) {
-    for row in COLUMNS {
-        assert_row(&rt, row.0, is_grown(rt.alloc(), row.0, row.1, row.2, row.3));
+impl Course {
+    /// Whether a payload session takes the pieces as it must, and has an image then or has failed.
+    fn goes(&self, alloc: Global, limit: usize, has_image: bool) -> bool {
+        let mut decoder = decoder_with(false, limit);
+        let mut are_right = false;
+        if let Ok(mut session) = decoder.begin_frame(alloc, DcsSettings::default()) {
+            are_right = takes_all(&mut session, self.2, self.1);
+            are_right &= match session.finish_counted() {
+                Ok(_) => has_image,
+                Err(error) => !has_image & (error == SixelError::stream_failed()),
+            };
+        }
+        are_right
     }
 }
 
-/// Feeds a piece to a control string session. Whether its canvas has then written within these
-/// bounds.
-fn follows(session: &mut SixelDcsStreamDecoder<'_>, piece: &[u8], (least, most): Bounds) -> bool {
-    let is_fed = session.feed(piece).is_ok();
-    let writes = session.canvas_writes();
-    is_fed && least <= writes && writes <= most
-}
-
-/// Feeds a header in two pieces and 2000 columns singly. Whether the canvas has written within its
-/// bounds after each.
-fn follows_columns(session: &mut SixelDcsStreamDecoder<'_>) -> bool {
-    let mut are_within = follows(session, b"\x1bP", (0, 0)) && follows(session, b"q", (0, 0));
-    for column in 1..=2000 {
-        are_within = follows(session, b"~", columns(column)) && are_within;
-    }
-    are_within && are_paints(session.canvas_paints(), (2000, 2000))
-}
-
-#[test]
-fn columns_of_a_control_string(rt: HostRuntime) {
-    let mut decoder = SixelDecoder::new();
-    let mut session = decoder.begin_dcs(rt.alloc());
-    let are_followed = follows_columns(&mut session);
-    session.abort();
-    assert_row(&rt, "a control string", are_followed);
-}
-
-/// A limit of pixels, what is fed first and the bounds of what is written for it, and what is fed
-/// then and refused for which reason.
-const REFUSALS: &[(usize, &str, Bounds, &str, &str)] = &[
-    (67108864, "~", (6, 18), "!65536~", MALFORMED),
-    (72, "!13", (0, 0), "~", TOO_LARGE),
-];
-
-/// Whether a session is refused a piece at once, and has no count then.
-fn is_refused(session: &mut SixelStreamDecoder<'_>, piece: &str, reason: &'static str) -> bool {
-    let refusal = session.feed(piece.as_bytes()).err();
-    refusal == Some(SixelError::InvalidData(reason)) && session.canvas_writes() == 0
-}
-
-/// Whether a session at this limit accepts a front within the bounds, is refused a piece, and has no
-/// image then.
-fn is_refused_after(
-    alloc: Global,
-    limit: usize,
-    (front, bounds): (&str, Bounds),
-    piece: &str,
-    reason: &'static str,
-) -> bool {
-    let mut decoder = decoder_with(false, limit);
-    match decoder.begin_frame(alloc, DcsSettings::default()) {
-        Ok(mut session) => {
-            let is_front_fed = feeds(&mut session, front.as_bytes(), bounds);
-            let is_refused = is_refused(&mut session, piece, reason);
-            match session.finish_counted() {
-                Ok(_) => false,
-                Err(error) => is_front_fed && is_refused && error == SixelError::stream_failed(),
+impl Expected for Course {
+    fn holds(&self, alloc: Global, _: &str) -> bool {
+        match self.0 {
+            Payload(limit, has_image) => self.goes(alloc, limit, has_image),
+            ControlString => {
+                let mut decoder = SixelDecoder::new();
+                let mut session = decoder.begin_dcs(alloc);
+                let are_taken = takes_all(&mut session, self.2, self.1);
+                session.abort();
+                are_taken
             }
         }
-        Err(_) => false,
     }
 }
 
 #[test]
-fn a_refusal_leaves_no_count(rt: HostRuntime) {
-    for row in REFUSALS {
-        let is_refused = is_refused_after(rt.alloc(), row.0, (row.1, row.2), row.3, row.4);
-        assert_row(&rt, row.3, is_refused);
-    }
-}
-
-/// Whether a control string is refused a great repeat at once, and has no count then.
-fn is_repeat_refused(session: &mut SixelDcsStreamDecoder<'_>) -> bool {
-    let is_front_fed = follows(session, b"\x1bPq~", columns(1));
-    let refusal = session.feed(b"!65536~").err();
-    let is_refused = refusal == Some(SixelError::InvalidData(MALFORMED));
-    is_front_fed && is_refused && session.canvas_writes() == 0
-}
-
-#[test]
-fn a_refused_control_string_leaves_no_count(rt: HostRuntime) {
-    let mut decoder = SixelDecoder::new();
-    let mut session = decoder.begin_dcs(rt.alloc());
-    let is_refused = is_repeat_refused(&mut session);
-    session.abort();
-    assert_row(&rt, "a control string", is_refused);
+fn pixels_are_counted(rt: HostRuntime) {
+    assert_rows(&rt, DRAWINGS);
+    assert_rows(&rt, COURSES);
 }

@@ -2,12 +2,10 @@
 
 ghost use Rattle.std.specs.Prelude.{◌<◌};
 
-use crate::feeds::{fed_in, followed_in};
+use crate::feeds::{Fed, Opening, fed_in, is_same_fed, string_fed};
 use crate::rows::assert_holds;
-use icy_sixel::{
-    DcsSettings, Result, SixelDcsFeedStatus, SixelDecoder, SixelImage, sixel_encode_default,
-};
-use sixel_vectors_base::answers::{are_same, fed};
+use icy_sixel::{Result, sixel_encode_default};
+use sixel_vectors_base::answers::are_same;
 use std::alloc::{AllocError, Global};
 
 /// The pixels of an image 64 wide and 24 high, every fifth of which is hidden.
@@ -26,15 +24,8 @@ fn text_of_pixels(alloc: Global) -> Result<String> {
     sixel_encode_default(alloc, &pixels(alloc)?, 64, 24)
 }
 
-/// The settings in the header of that text.
-fn settings() -> DcsSettings {
-    DcsSettings::new(Some(9), Some(1), None)
-}
-
-/// The payload in that text.
-fn payload_of(text: &[u8]) -> Option<&[u8]> {
-    text.strip_prefix(b"\x1bP9;1;0q")?.strip_suffix(b"\x1b\\")
-}
+/// The P1 and P2 in the header of that text.
+const OPENING: Opening = Opening::Payload(Some(9), Some(1));
 
 /// The bytes in pieces of uneven lengths up to a longest, an empty piece after each.
 fn uneven_pieces(
@@ -58,55 +49,36 @@ fn uneven_pieces(
     Ok(pieces)
 }
 
-/// Whether a payload in uneven pieces comes to this.
-fn is_payload_same(
-    alloc: Global,
-    payload: &[u8],
-    start: u32,
-    expected: &Result<SixelImage>,
-) -> bool {
-    match uneven_pieces(alloc, payload, start, 97) {
-        Ok(pieces) => are_same(fed_in(alloc, settings(), &pieces), expected),
-        Err(_) => false,
+/// Whether bytes in uneven pieces of every start come to this, and in single bytes.
+fn is_same_in_pieces(alloc: Global, opening: Opening, bytes: &[u8], expected: &Fed) -> bool {
+    let mut is_same = true;
+    for start in 0..=16 {
+        let longest = if start == 0 { 1 } else { 97 };
+        is_same &= match uneven_pieces(alloc, bytes, start, longest) {
+            Ok(pieces) => is_same_fed(fed_in(alloc, opening, &pieces), expected),
+            Err(_) => false,
+        };
     }
-}
-
-/// Whether a control string in uneven pieces is consumed whole and comes to this.
-fn is_string_same(
-    alloc: Global,
-    string: &[u8],
-    start: u32,
-    longest: usize,
-    expected: &Result<SixelImage>,
-) -> bool
-    requires { 0 < longest }
-{
-    let ending = (string.len(), SixelDcsFeedStatus::Complete);
-    match uneven_pieces(alloc, string, start, longest) {
-        Ok(pieces) => {
-            let (has_ended, image) = followed_in(alloc, &pieces, ending);
-            has_ended & are_same(image, expected)
-        }
-        Err(_) => false,
-    }
+    is_same
 }
 
 /// Whether a text gives the same in pieces as in one, and so does its payload.
-fn is_same_in_pieces(alloc: Global, text: &[u8], payload: &[u8]) -> bool {
-    let expected = SixelDecoder::new().decode(alloc, text);
-    let mut is_same = are_same(fed(alloc, payload, settings(), 1), &expected);
-    is_same &= is_string_same(alloc, text, 1, 1, &expected);
-    for start in 1..=16 {
-        is_same &= is_payload_same(alloc, payload, start, &expected);
-        is_same &= is_string_same(alloc, text, start, 97, &expected);
+fn is_text_same(alloc: Global, text: &[u8]) -> bool {
+    let whole = string_fed(alloc, text);
+    match text.strip_prefix(b"\x1bP9;1;0q") {
+        Some(payload) => {
+            let fed = fed_in(alloc, OPENING, &[payload]);
+            is_same_in_pieces(alloc, Opening::ControlString, text, &whole)
+                & is_same_in_pieces(alloc, OPENING, payload, &fed)
+                & are_same(fed.outcome, &whole.outcome)
+        }
+        None => false,
     }
-    is_same
 }
 
 #[test]
 fn a_text_in_pieces(rt: HostRuntime) {
     let text = text_of_pixels(rt.alloc()).expect(&rt, "a text");
-    let payload = payload_of(text.as_bytes()).expect(&rt, "a payload");
-    let is_same = is_same_in_pieces(rt.alloc(), text.as_bytes(), payload);
+    let is_same = is_text_same(rt.alloc(), text.as_bytes());
     assert_holds(&rt, "a text", is_same);
 }

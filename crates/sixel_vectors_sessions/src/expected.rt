@@ -1,56 +1,143 @@
-//! What feeds, sessions and steps are expected to come to.
+//! What feeds and sessions are expected to come to.
 
-use icy_sixel::{Result, SixelDcsFeedStatus, SixelError, SixelFeedStatus, SixelImage};
-use sixel_vectors_base::answers::{MALFORMED, has_runs};
+use icy_sixel::receiver::Received;
+use icy_sixel::script::Status;
+use icy_sixel::{BackgroundMode, PixelAspectRatio, Result, SixelDecoder, SixelError, SixelImage};
+use sixel_vectors_base::answers::{BLACK, FAILED, MALFORMED, RED, TOO_LARGE, has_runs};
 use std::alloc::Global;
 
-/// How many bytes a feed consumed and its status, or its refusal.
-pub type Answer<S> = std::result::Result<(usize, S), &'static SixelError>;
+/// Why a feed or a session is refused.
+#[derive(Clone, Copy)]
+pub enum Refusal {
+    NoSixelData,
+    BadHeader,
+    Malformed,
+    TooLarge,
+    Incomplete,
+    /// A feed of this payload was refused before.
+    Failed,
+    /// A feed of this control string was refused before.
+    StringFailed,
+}
 
-/// A piece of a payload, and what its feed answers.
-pub type Feed<'a> = (&'a [u8], Answer<SixelFeedStatus>);
+/// The error of a refusal.
+pub fn error_of(refusal: Refusal) -> SixelError {
+    SixelError::InvalidData(match refusal {
+        Refusal::NoSixelData => return SixelError::NoSixelData,
+        Refusal::BadHeader => "invalid SIXEL DCS header",
+        Refusal::Malformed => MALFORMED,
+        Refusal::TooLarge => TOO_LARGE,
+        Refusal::Incomplete => "incomplete SIXEL DCS sequence",
+        Refusal::Failed => FAILED,
+        Refusal::StringFailed => "DCS stream decoder has failed",
+    })
+}
 
-/// A piece of a control string, and what its feed answers.
-pub type StringFeed<'a> = (&'a [u8], Answer<SixelDcsFeedStatus>);
+/// Whether an error is this refusal's.
+fn is_error(error: SixelError, refusal: Refusal) -> bool {
+    error == error_of(refusal)
+}
 
-/// An image of so many columns, each six pixels of one color.
-pub type Columns = (usize, [u8; 4]);
+/// What a feed answers.
+#[derive(Clone, Copy)]
+pub enum Answer {
+    /// It consumes so many bytes, with this status.
+    Taken(usize, Status),
+    Refused(Refusal),
+}
 
-/// The image that a session comes to, or its refusal.
-pub type Outcome = std::result::Result<Columns, &'static SixelError>;
+/// Whether a feed answers so.
+pub fn is_answer(fed: Result<Received>, expected: Answer) -> bool {
+    match fed {
+        Ok(fed) => match expected {
+            Answer::Taken(consumed, status) => {
+                (fed.consumed == consumed) & (fed.status == status)
+            }
+            Answer::Refused(_) => false,
+        },
+        Err(error) => match expected {
+            Answer::Taken(..) => false,
+            Answer::Refused(refusal) => is_error(error, refusal),
+        },
+    }
+}
 
-pub const MALFORMED_DATA: SixelError = SixelError::InvalidData(MALFORMED);
+/// What an image shows: its size, the colors of its first pixel and of all others, the shape of its
+/// pixels and its background.
+#[derive(Clone, Copy)]
+pub struct Shown(
+    pub (usize, usize),
+    pub [u8; 4],
+    pub [u8; 4],
+    pub PixelAspectRatio,
+    pub BackgroundMode,
+);
 
-pub const INCOMPLETE: SixelError = SixelError::InvalidData("incomplete SIXEL DCS sequence");
+/// One black column, opaque and of square pixels.
+pub const BLACK_COLUMN: Shown = Shown(
+    (1, 6),
+    BLACK,
+    BLACK,
+    PixelAspectRatio::Square,
+    BackgroundMode::Opaque,
+);
 
-pub const BAD_HEADER: SixelError = SixelError::InvalidData("invalid SIXEL DCS header");
+/// One red column, opaque and of square pixels.
+pub const RED_COLUMN: Shown = Shown(
+    (1, 6),
+    RED,
+    RED,
+    PixelAspectRatio::Square,
+    BackgroundMode::Opaque,
+);
 
-/// The bytes that end a payload: CAN, SUB, ESC and the C1 controls.
-pub static TERMINATORS: [u8; 35] = [
-    0x18, 0x1a, 0x1b, 0x80, 0x81, 0x82, 0x83, 0x84, 0x85, 0x86, 0x87, 0x88, 0x89, 0x8a, 0x8b, 0x8c,
-    0x8d, 0x8e, 0x8f, 0x90, 0x91, 0x92, 0x93, 0x94, 0x95, 0x96, 0x97, 0x98, 0x99, 0x9a, 0x9b, 0x9c,
-    0x9d, 0x9e, 0x9f,
-];
+/// Twelve red columns of square pixels on a transparent background.
+pub const RED_COLUMNS: Shown = Shown(
+    (12, 6),
+    RED,
+    RED,
+    PixelAspectRatio::Square,
+    BackgroundMode::Transparent,
+);
+
+/// Whether an image shows this.
+pub fn shows(alloc: Global, image: &SixelImage, shown: Shown) -> bool {
+    let (width, height) = shown.0;
+    let others = width.saturating_mul(height).saturating_sub(1);
+    has_runs(alloc, image, shown.0, &[(1, shown.1), (others, shown.2)])
+        & (image.aspect_ratio == shown.3)
+        & (image.background_mode == shown.4)
+}
+
+/// What a session comes to.
+#[derive(Clone, Copy)]
+pub enum Outcome {
+    Drawn(Shown),
+    Refused(Refusal),
+}
+
+/// Whether a session came to what is expected.
+pub fn comes_to(alloc: Global, outcome: Result<SixelImage>, expected: Outcome) -> bool {
+    match outcome {
+        Ok(image) => match expected {
+            Outcome::Drawn(shown) => shows(alloc, &image, shown),
+            Outcome::Refused(_) => false,
+        },
+        Err(error) => match expected {
+            Outcome::Drawn(_) => false,
+            Outcome::Refused(refusal) => is_error(error, refusal),
+        },
+    }
+}
 
 /// The color of register 42 in a new decoder.
 pub const SEA: [u8; 3] = [0, 204, 102];
 
-/// Whether an image is these columns.
-pub fn shows_columns(alloc: Global, image: &SixelImage, (width, color): Columns) -> bool {
-    let run = (width.saturating_mul(6), color);
-    has_runs(alloc, image, (width, 6), &[run])
-}
-
-/// Whether a session came to these columns or to this refusal.
-pub fn comes_to(alloc: Global, outcome: Result<SixelImage>, expected: Outcome) -> bool {
-    match outcome {
-        Ok(image) => match expected {
-            Ok(columns) => shows_columns(alloc, &image, columns),
-            Err(_) => false,
-        },
-        Err(error) => match expected {
-            Ok(_) => false,
-            Err(refusal) => error == *refusal,
-        },
+/// Whether all registers of two decoders have the same colors.
+pub fn have_same_registers(one: &SixelDecoder, other: &SixelDecoder) -> bool {
+    let mut are_same = true;
+    for register in 0..=255 {
+        are_same &= one.register(register) == other.register(register);
     }
+    are_same
 }

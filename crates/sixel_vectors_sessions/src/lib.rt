@@ -7,10 +7,6 @@
 #[cfg(test)]
 mod chunks;
 #[cfg(test)]
-mod control_string_splits;
-#[cfg(test)]
-mod control_strings;
-#[cfg(test)]
 mod controls;
 #[cfg(test)]
 mod examples;
@@ -34,5 +30,7 @@ mod settings;
 mod splits;
 #[cfg(test)]
 mod steps;
+#[cfg(test)]
+mod terminators;
 #[cfg(test)]
 mod unfinished;

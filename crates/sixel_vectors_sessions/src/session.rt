@@ -1,158 +1,152 @@
-//! Payloads that come in pieces: what each feed consumes and answers.
+//! Payloads and control strings that come in pieces: what each feed consumes and answers.
 
-use crate::expected::{Columns, Feed, MALFORMED_DATA, SEA, TERMINATORS, shows_columns};
-use crate::feeds::answers;
-use crate::rows::assert_row;
-use icy_sixel::{
-    BackgroundMode, DcsSettings, PixelAspectRatio, Result, SixelDecoder, SixelError,
-    SixelFeedStatus, SixelImage,
+use crate::expected::Answer::{Refused, Taken};
+use crate::expected::Refusal::{
+    Failed, Incomplete, Malformed, NoSixelData, StringFailed, TooLarge,
 };
-use sixel_vectors_base::answers::{BLACK, FAILED, MALFORMED, RED, TOO_LARGE, is_drawn, is_refused};
-use std::alloc::Global;
+use crate::expected::{BLACK_COLUMN, Outcome, RED_COLUMNS, Shown};
+use crate::feeds::{COMPLETE, Case, ESCAPE, Feed, MORE, Opening, PAYLOAD, STRING_MORE, holds};
+use crate::rows::assert_row;
+use icy_sixel::script::Status;
+use icy_sixel::sixel_image::BackgroundMode::Opaque;
+use icy_sixel::sixel_image::PixelAspectRatio::Ratio3To1;
+use icy_sixel::{SixelDcsFeedStatus, SixelDecoder};
+use sixel_vectors_base::answers::BLACK;
 
-const MORE: SixelFeedStatus = SixelFeedStatus::NeedMoreData;
+const CANCELLED: Status = Status::Dcs(SixelDcsFeedStatus::Cancelled(0x18));
 
-const ESCAPE: SixelFeedStatus = SixelFeedStatus::Terminated(0x1b);
+const CUT_BY_CONTROL: Status = Status::Dcs(SixelDcsFeedStatus::Interrupted(0x9b));
 
-const FAILED_SESSION: SixelError = SixelError::InvalidData(FAILED);
+const CUT_BY_ESCAPE: Status = Status::Dcs(SixelDcsFeedStatus::Interrupted(0x1b));
 
-/// A payload with its name, the P1 and P2 of its settings, what its feeds answer, and the columns,
-/// the pixel shape and the background of its image.
-struct Drawn {
-    name: &'static str,
-    parameters: (Option<u16>, Option<u16>),
-    feeds: &'static [Feed<'static>],
-    columns: Columns,
-    shape: PixelAspectRatio,
-    background: BackgroundMode,
-}
-
-static IMAGES: [Drawn; 2] = [
-    Drawn {
+/// Payloads and then control strings in pieces, one after the other on one decoder.
+static CASES: [Case<'static>; 17] = [
+    Case {
         name: "a repeat over two pieces",
-        parameters: (Some(9), Some(1)),
+        opening: Opening::Payload(Some(9), Some(1)),
         feeds: &[
-            (b"#1;2;100;0;0!1", Ok((14, MORE))),
-            (b"2~\x1b\\remaining terminal data", Ok((2, ESCAPE))),
+            Feed(b"#1;2;100;0;0!1", Taken(14, MORE)),
+            Feed(b"2~\x1b\\remaining terminal data", Taken(2, ESCAPE)),
         ],
-        columns: (12, RED),
-        shape: PixelAspectRatio::Square,
-        background: BackgroundMode::Transparent,
+        outcome: Outcome::Drawn(RED_COLUMNS),
     },
-    Drawn {
+    Case {
         name: "raster attributes at the end",
-        parameters: (None, None),
-        feeds: &[(b"\"3;1;12;6", Ok((9, MORE)))],
-        columns: (12, BLACK),
-        shape: PixelAspectRatio::Ratio3To1,
-        background: BackgroundMode::Opaque,
+        opening: PAYLOAD,
+        feeds: &[Feed(b"\"3;1;12;6", Taken(9, MORE))],
+        outcome: Outcome::Drawn(Shown((12, 6), BLACK, BLACK, Ratio3To1, Opaque)),
+    },
+    Case {
+        name: "a refused feed, which ends the session",
+        opening: PAYLOAD,
+        feeds: &[
+            Feed(b"#42;2;100;0;0@!655", Taken(18, MORE)),
+            Feed(b"36~", Refused(Malformed)),
+            Feed(b"", Refused(Failed)),
+        ],
+        outcome: Outcome::Refused(Failed),
+    },
+    Case {
+        name: "a repeat that the end closes",
+        opening: PAYLOAD,
+        feeds: &[Feed(b"!65536", Taken(6, MORE))],
+        outcome: Outcome::Refused(Malformed),
+    },
+    Case {
+        name: "an area that the end closes",
+        opening: PAYLOAD,
+        feeds: &[Feed(b"\"1;1;8192;8193", Taken(14, MORE))],
+        outcome: Outcome::Refused(TooLarge),
+    },
+    Case {
+        name: "a side that the end closes",
+        opening: PAYLOAD,
+        feeds: &[Feed(b"\"1;1;1000001;6", Taken(14, MORE))],
+        outcome: Outcome::Refused(Malformed),
+    },
+    Case {
+        name: "a long side that the end closes",
+        opening: PAYLOAD,
+        feeds: &[Feed(b"\"1;1;1000000;68", Taken(15, MORE))],
+        outcome: Outcome::Refused(TooLarge),
+    },
+    Case {
+        name: "a string terminator over two pieces",
+        opening: Opening::ControlString,
+        feeds: &[
+            Feed(b"\x1b", Taken(1, STRING_MORE)),
+            Feed(b"P9;1q#1;2;100;0;0!12~\x1b", Taken(22, STRING_MORE)),
+            Feed(b"\\terminal text", Taken(1, COMPLETE)),
+        ],
+        outcome: Outcome::Drawn(RED_COLUMNS),
+    },
+    Case {
+        name: "an escape that begins no string terminator",
+        opening: Opening::ControlString,
+        feeds: &[
+            Feed(b"\x1bPq~\x1b", Taken(5, STRING_MORE)),
+            Feed(b"", Taken(0, STRING_MORE)),
+            Feed(b"[31m", Taken(0, CUT_BY_ESCAPE)),
+        ],
+        outcome: Outcome::Drawn(BLACK_COLUMN),
+    },
+    Case {
+        name: "one piece",
+        opening: Opening::ControlString,
+        feeds: &[Feed(b"\x1bP9;1q#1;2;100;0;0!12~\x9c", Taken(23, COMPLETE))],
+        outcome: Outcome::Drawn(RED_COLUMNS),
+    },
+    Case {
+        name: "another control",
+        opening: Opening::ControlString,
+        feeds: &[Feed(b"\x1bPq~\x9b0m", Taken(4, CUT_BY_CONTROL))],
+        outcome: Outcome::Drawn(BLACK_COLUMN),
+    },
+    Case {
+        name: "text after the end",
+        opening: Opening::ControlString,
+        feeds: &[Feed(b"\x1bPq~\x9ctail", Taken(5, COMPLETE))],
+        outcome: Outcome::Drawn(BLACK_COLUMN),
+    },
+    Case {
+        name: "a cancel",
+        opening: Opening::ControlString,
+        feeds: &[Feed(b"\x1bPq~\x18tail", Taken(5, CANCELLED))],
+        outcome: Outcome::Drawn(BLACK_COLUMN),
+    },
+    Case {
+        name: "an escape before a new line",
+        opening: Opening::ControlString,
+        feeds: &[Feed(b"\x1bPq~\x1b\n\\", Taken(5, CUT_BY_ESCAPE))],
+        outcome: Outcome::Drawn(BLACK_COLUMN),
+    },
+    Case {
+        name: "a refused feed, which ends the session",
+        opening: Opening::ControlString,
+        feeds: &[
+            Feed(b"text", Refused(NoSixelData)),
+            Feed(b"\x1bPq~\x1b\\", Refused(StringFailed)),
+        ],
+        outcome: Outcome::Refused(StringFailed),
+    },
+    Case {
+        name: "an open command, which is not refused",
+        opening: Opening::ControlString,
+        feeds: &[Feed(b"\x1bPq!65536", Taken(9, STRING_MORE))],
+        outcome: Outcome::Refused(Incomplete),
+    },
+    Case {
+        name: "a command that is refused where it is closed",
+        opening: Opening::ControlString,
+        feeds: &[Feed(b"\x1bPq!65536\x1b\\", Refused(Malformed))],
+        outcome: Outcome::Refused(StringFailed),
     },
 ];
 
-/// Whether the feeds of a session on this decoder answer so, and what it comes to.
-fn finished(
-    alloc: Global,
-    decoder: &mut SixelDecoder,
-    settings: DcsSettings,
-    feeds: &[Feed<'_>],
-) -> (bool, Result<SixelImage>) {
-    let mut session = decoder.begin_frame(alloc, settings).unwrap();
-    let is_answered = answers(&mut session, feeds);
-    (is_answered, session.finish())
-}
-
-/// Whether a session answers so and gives this image.
-fn draws(alloc: Global, drawn: &Drawn) -> bool {
-    let (p1, p2) = drawn.parameters;
-    let settings = DcsSettings::new(p1, p2, None);
-    match finished(alloc, &mut SixelDecoder::new(), settings, drawn.feeds) {
-        (true, Ok(image)) => {
-            shows_columns(alloc, &image, drawn.columns)
-                && image.aspect_ratio == drawn.shape
-                && image.background_mode == drawn.background
-        }
-        _ => false,
-    }
-}
-
 #[test]
-fn images(rt: HostRuntime) {
-    for drawn in &IMAGES {
-        assert_row(&rt, &drawn.name, draws(rt.alloc(), drawn));
-    }
-}
-
-/// Whether a session ends at this terminator within a repeat, and leaves what follows alone, also a
-/// command that would be refused.
-fn ends_at(alloc: Global, terminator: u8) -> bool {
-    let mut piece = *b"12?!999999999~";
-    piece[2] = terminator;
-    let status = SixelFeedStatus::Terminated(terminator);
-    let feeds: [Feed<'_>; 3] = [
-        (b"#1;2;100;0;0@!", Ok((14, MORE))),
-        (&piece, Ok((2, status))),
-        (b"\\text", Ok((0, status))),
-    ];
+fn cases(rt: HostRuntime) {
     let mut decoder = SixelDecoder::new();
-    let (is_answered, outcome) = finished(alloc, &mut decoder, DcsSettings::default(), &feeds);
-    let is_drawn = is_drawn(alloc, outcome, (1, 6), &[(1, RED), (5, BLACK)]);
-    is_answered && is_drawn && decoder.register(1) == [255, 0, 0]
-}
-
-#[test]
-fn terminators(rt: HostRuntime) {
-    for byte in &TERMINATORS {
-        assert_row(&rt, byte, ends_at(rt.alloc(), *byte));
-    }
-}
-
-/// A payload that is refused: its name, what its feeds answer, and why its session is refused.
-type Refused = (&'static str, &'static [Feed<'static>], &'static str);
-
-static REFUSED: [Refused; 5] = [
-    (
-        "a refused feed, which ends the session",
-        &[
-            (b"#42;2;100;0;0@!655", Ok((18, MORE))),
-            (b"36~", Err(&MALFORMED_DATA)),
-            (b"", Err(&FAILED_SESSION)),
-        ],
-        FAILED,
-    ),
-    (
-        "a repeat that the end closes",
-        &[(b"!65536", Ok((6, MORE)))],
-        MALFORMED,
-    ),
-    (
-        "an area that the end closes",
-        &[(b"\"1;1;8192;8193", Ok((14, MORE)))],
-        TOO_LARGE,
-    ),
-    (
-        "a side that the end closes",
-        &[(b"\"1;1;1000001;6", Ok((14, MORE)))],
-        MALFORMED,
-    ),
-    (
-        "a long side that the end closes",
-        &[(b"\"1;1;1000000;68", Ok((15, MORE)))],
-        TOO_LARGE,
-    ),
-];
-
-/// Whether feeds answer so, and the session is refused and defines no register.
-fn is_refused_so(alloc: Global, refused: &Refused) -> bool {
-    let mut decoder = SixelDecoder::new();
-    let settings = DcsSettings::default();
-    let (is_answered, outcome) = finished(alloc, &mut decoder, settings, refused.1);
-    let is_refused = is_refused(outcome, refused.2);
-    is_answered && is_refused && decoder.register(42) == SEA
-}
-
-#[test]
-fn refusals(rt: HostRuntime) {
-    for refused in &REFUSED {
-        assert_row(&rt, &refused.0, is_refused_so(rt.alloc(), refused));
+    for case in &CASES {
+        assert_row(&rt, &case.name, holds(rt.alloc(), &mut decoder, case));
     }
 }

@@ -1,60 +1,67 @@
 //! Lists of steps on one decoder: what each comes to, and what becomes of the registers.
 
-use crate::expected::{BAD_HEADER, Columns, INCOMPLETE, MALFORMED_DATA, SEA, shows_columns};
+use crate::expected::Refusal::{BadHeader, Incomplete, Malformed};
+use crate::expected::{Refusal, SEA, error_of};
+use crate::feeds::{COMPLETE, ESCAPE, MORE};
 use crate::rows::assert_row;
 use icy_sixel::script::{End, Outcome, Status, Step, run};
-use icy_sixel::{DcsSettings, SixelDcsFeedStatus, SixelDecoder, SixelError, SixelFeedStatus};
-use sixel_vectors_base::answers::{BLACK, GREEN, RED};
+use icy_sixel::{DcsSettings, SixelDecoder, SixelImage};
+use sixel_vectors_base::answers::{BLACK, GREEN, RED, has_runs};
 use std::alloc::{AllocError, Global};
-use std::process::Abort;
 
-/// A step whose payload has the settings of its list. Frames and control strings have their cuts.
+/// A step whose payload has the settings of its list, and whose cuts are those of its list.
 #[derive(Clone, Copy)]
-enum Task<'a> {
+enum Task {
     Reset,
-    Frame(&'a [u8], &'a [usize], End),
-    Dcs(&'a [u8], &'a [usize], End),
-    Decode(&'a [u8]),
-    DecodeFromDcs(&'a [u8]),
+    Frame(&'static [u8], End),
+    Dcs(&'static [u8], End),
+    Decode(&'static [u8]),
+    DecodeFromDcs(&'static [u8]),
 }
+
+/// An image of so many columns, each six pixels of one color.
+#[derive(Clone, Copy)]
+struct Columns(usize, [u8; 4]);
 
 /// What a step is expected to come to.
 #[derive(Clone, Copy)]
 enum Expected {
     Reset,
-    Failed(&'static SixelError),
+    Failed(Refusal),
     Finished(usize, Status, Columns),
     Aborted(usize, Status),
     Decoded(Columns),
 }
 
-const MORE: Status = Status::Payload(SixelFeedStatus::NeedMoreData);
+/// A step, and what it is expected to come to.
+struct Line(Task, Expected);
 
-const ESCAPE: Status = Status::Payload(SixelFeedStatus::Terminated(0x1b));
+/// A column in the color that register 42 of a new decoder has.
+const IN_SEA: Columns = Columns(1, [0, 204, 102, 255]);
 
-const COMPLETE: Status = Status::Dcs(SixelDcsFeedStatus::Complete);
+const IN_RED: Columns = Columns(1, RED);
 
-// A column in the color that register 42 of a new decoder has.
-const IN_SEA: Columns = (1, [0, 204, 102, 255]);
+const IN_BLACK: Columns = Columns(1, BLACK);
 
-const IN_RED: Columns = (1, RED);
+const IN_GREEN: Columns = Columns(1, GREEN);
 
 /// A payload that draws in register 42.
-const IN_42: Task<'static> = Task::DecodeFromDcs(b"#42~");
+const IN_42: Task = Task::DecodeFromDcs(b"#42~");
 
-// A payload that makes register 42 red, and ends within a repeat that is too great.
+/// A payload that makes register 42 red, and ends within a repeat that is too great.
 const TOO_OFTEN: &[u8] = b"#42;2;100;0;0~!65536";
 
-fn step(settings: DcsSettings, task: Task<'_>) -> Step<'_> {
+/// A task as a step with these settings and cuts.
+fn step(settings: DcsSettings, cuts: &[usize], task: Task) -> Step<'_> {
     match task {
         Task::Reset => Step::Reset,
-        Task::Frame(bytes, cuts, ending) => Step::Frame {
+        Task::Frame(bytes, ending) => Step::Frame {
             settings,
             bytes,
             cuts,
             ending,
         },
-        Task::Dcs(bytes, cuts, ending) => Step::Dcs {
+        Task::Dcs(bytes, ending) => Step::Dcs {
             bytes,
             cuts,
             ending,
@@ -68,45 +75,57 @@ fn step(settings: DcsSettings, task: Task<'_>) -> Step<'_> {
 fn steps<'a>(
     alloc: Global,
     settings: DcsSettings,
-    list: &[(Task<'a>, Expected)],
-) -> std::result::Result<Vec<Step<'a>>, AllocError> {
+    cuts: &'a [usize],
+    lines: &[Line],
+) -> Result<Vec<Step<'a>>, AllocError> {
     let mut steps = Vec::new(alloc);
-    for (task, _) in list {
-        steps.extend_from_slice(&[step(settings, *task)])?;
+    for line in lines {
+        steps.extend_from_slice(&[step(settings, cuts, line.0)])?;
     }
     Ok(steps)
 }
 
+/// Whether an image is these columns.
+fn shows(alloc: Global, image: &SixelImage, columns: Columns) -> bool {
+    let Columns(width, color) = columns;
+    let run = (width.saturating_mul(6), color);
+    has_runs(alloc, image, (width, 6), &[run])
+}
+
 /// Whether an outcome is as expected.
 fn is_so(alloc: Global, outcome: &Outcome, expected: Expected) -> bool {
-    match (expected, outcome) {
-        (Expected::Reset, Outcome::Reset) => true,
-        (Expected::Failed(refusal), Outcome::Failed(error)) => error == refusal,
-        (
-            Expected::Finished(count, end, columns),
+    match expected {
+        Expected::Reset => matches!(outcome, Outcome::Reset),
+        Expected::Failed(refusal) => match outcome {
+            Outcome::Failed(error) => *error == error_of(refusal),
+            _ => false,
+        },
+        Expected::Finished(count, end, columns) => match outcome {
             Outcome::Finished {
                 consumed,
                 status,
                 image,
-            },
-        ) => *consumed == count && *status == end && shows_columns(alloc, image, columns),
-        (Expected::Aborted(count, end), Outcome::Aborted { consumed, status }) => {
-            *consumed == count && *status == end
-        }
-        (Expected::Decoded(columns), Outcome::Decoded(image)) => {
-            shows_columns(alloc, image, columns)
-        }
-        _ => false,
+            } => (*consumed == count) & (*status == end) & shows(alloc, image, columns),
+            _ => false,
+        },
+        Expected::Aborted(count, end) => match outcome {
+            Outcome::Aborted { consumed, status } => (*consumed == count) & (*status == end),
+            _ => false,
+        },
+        Expected::Decoded(columns) => match outcome {
+            Outcome::Decoded(image) => shows(alloc, image, columns),
+            _ => false,
+        },
     }
 }
 
 /// Whether there is an outcome for each step, as expected.
-fn are_so(alloc: Global, outcomes: &[Outcome], list: &[(Task<'_>, Expected)]) -> bool {
-    let mut are_right = outcomes.len() == list.len();
-    let mut rest = list.iter();
+fn are_so(alloc: Global, outcomes: &[Outcome], lines: &[Line]) -> bool {
+    let mut are_right = outcomes.len() == lines.len();
+    let mut rest = lines.iter();
     for outcome in outcomes {
         are_right &= match rest.next() {
-            Some((_, expected)) => is_so(alloc, outcome, *expected),
+            Some(line) => is_so(alloc, outcome, line.1),
             None => false,
         };
     }
@@ -118,74 +137,89 @@ fn runs(
     alloc: Global,
     decoder: &mut SixelDecoder,
     settings: DcsSettings,
-    list: &[(Task<'_>, Expected)],
+    cuts: &[usize],
+    lines: &[Line],
 ) -> bool {
-    match steps(alloc, settings, list) {
+    match steps(alloc, settings, cuts, lines) {
         Ok(steps) => match run(alloc, decoder, &steps) {
-            Ok(outcomes) => are_so(alloc, &outcomes, list),
+            Ok(outcomes) => are_so(alloc, &outcomes, lines),
             Err(_) => false,
         },
         Err(_) => false,
     }
 }
 
-/// Steps with what each comes to, and the color of a register after them.
+/// Steps with their cuts and with what each comes to, and the color of a register after them.
 struct List {
     name: &'static str,
-    steps: &'static [(Task<'static>, Expected)],
+    cuts: &'static [usize],
+    lines: &'static [Line],
     register: u8,
     color: [u8; 3],
 }
 
-static LISTS: [List; 7] = [
+/// Lists, one after the other on one decoder.
+static LISTS: [List; 10] = [
     List {
         name: "an open repeat of a frame that is aborted",
-        steps: &[
-            (
-                Task::Frame(TOO_OFTEN, &[3, 0, 40], End::Abort),
+        cuts: &[3, 0, 40],
+        lines: &[
+            Line(
+                Task::Frame(TOO_OFTEN, End::Abort),
                 Expected::Aborted(20, MORE),
             ),
-            (IN_42, Expected::Decoded(IN_SEA)),
+            Line(IN_42, Expected::Decoded(IN_SEA)),
         ],
         register: 42,
         color: SEA,
     },
     List {
         name: "an open repeat of a frame that is finished",
-        steps: &[
-            (
-                Task::Frame(TOO_OFTEN, &[3, 0, 40], End::Finish),
-                Expected::Failed(&MALFORMED_DATA),
+        cuts: &[3, 0, 40],
+        lines: &[
+            Line(
+                Task::Frame(TOO_OFTEN, End::Finish),
+                Expected::Failed(Malformed),
             ),
-            (IN_42, Expected::Decoded(IN_SEA)),
+            Line(IN_42, Expected::Decoded(IN_SEA)),
         ],
         register: 42,
         color: SEA,
     },
     List {
         name: "a control string without an end",
-        steps: &[(
-            Task::Dcs(b"\x1bPq#42;2;100;0;0~\x1b", &[], End::Finish),
-            Expected::Failed(&INCOMPLETE),
+        cuts: &[],
+        lines: &[Line(
+            Task::Dcs(b"\x1bPq#42;2;100;0;0~\x1b", End::Finish),
+            Expected::Failed(Incomplete),
         )],
         register: 42,
         color: SEA,
     },
     List {
         name: "registers from step to step",
-        steps: &[
-            (
+        cuts: &[],
+        lines: &[
+            Line(
                 Task::DecodeFromDcs(b"#0;2;100;0;0~"),
                 Expected::Decoded(IN_RED),
             ),
-            (
-                Task::Frame(b"?", &[], End::Finish),
+            Line(
+                Task::Frame(b"?", End::Finish),
                 Expected::Finished(1, MORE, IN_RED),
             ),
-            (Task::Reset, Expected::Reset),
-            (
-                Task::Dcs(b"\x1bPq?\x9cx", &[1, 1, 1], End::Finish),
-                Expected::Finished(5, COMPLETE, (1, BLACK)),
+        ],
+        register: 0,
+        color: [255, 0, 0],
+    },
+    List {
+        name: "a reset before a control string",
+        cuts: &[1, 1, 1],
+        lines: &[
+            Line(Task::Reset, Expected::Reset),
+            Line(
+                Task::Dcs(b"\x1bPq?\x9cx", End::Finish),
+                Expected::Finished(5, COMPLETE, IN_BLACK),
             ),
         ],
         register: 0,
@@ -193,49 +227,51 @@ static LISTS: [List; 7] = [
     },
     List {
         name: "definitions over a refusal and a reset",
-        steps: &[
-            (
+        cuts: &[],
+        lines: &[
+            Line(
                 Task::DecodeFromDcs(b"#0;2;100;0;0~"),
                 Expected::Decoded(IN_RED),
             ),
-            (
+            Line(
                 Task::DecodeFromDcs(b"#0;2;0;0;100!65536~"),
-                Expected::Failed(&MALFORMED_DATA),
+                Expected::Failed(Malformed),
             ),
-            (
+            Line(
                 Task::DecodeFromDcs(b"#0;2;0;100;0?"),
                 Expected::Decoded(IN_RED),
             ),
-            (Task::DecodeFromDcs(b"?"), Expected::Decoded((1, GREEN))),
-            (Task::Reset, Expected::Reset),
-            (Task::DecodeFromDcs(b"?"), Expected::Decoded((1, BLACK))),
+            Line(Task::DecodeFromDcs(b"?"), Expected::Decoded(IN_GREEN)),
+            Line(Task::Reset, Expected::Reset),
+            Line(Task::DecodeFromDcs(b"?"), Expected::Decoded(IN_BLACK)),
         ],
         register: 0,
         color: [0, 0, 0],
     },
     List {
         name: "definitions over a refused frame and a reset",
-        steps: &[
-            (
-                Task::Frame(b"#0;2;100;0;0~", &[1, 2], End::Finish),
+        cuts: &[1, 2],
+        lines: &[
+            Line(
+                Task::Frame(b"#0;2;100;0;0~", End::Finish),
                 Expected::Finished(13, MORE, IN_RED),
             ),
-            (
-                Task::Frame(b"#0;2;0;0;100!65536~", &[1, 2], End::Finish),
-                Expected::Failed(&MALFORMED_DATA),
+            Line(
+                Task::Frame(b"#0;2;0;0;100!65536~", End::Finish),
+                Expected::Failed(Malformed),
             ),
-            (
-                Task::Frame(b"#0;2;0;100;0?", &[1, 2], End::Finish),
+            Line(
+                Task::Frame(b"#0;2;0;100;0?", End::Finish),
                 Expected::Finished(13, MORE, IN_RED),
             ),
-            (
-                Task::Frame(b"?", &[1, 2], End::Finish),
-                Expected::Finished(1, MORE, (1, GREEN)),
+            Line(
+                Task::Frame(b"?", End::Finish),
+                Expected::Finished(1, MORE, IN_GREEN),
             ),
-            (Task::Reset, Expected::Reset),
-            (
-                Task::Frame(b"?", &[1, 2], End::Finish),
-                Expected::Finished(1, MORE, (1, BLACK)),
+            Line(Task::Reset, Expected::Reset),
+            Line(
+                Task::Frame(b"?", End::Finish),
+                Expected::Finished(1, MORE, IN_BLACK),
             ),
         ],
         register: 0,
@@ -243,7 +279,35 @@ static LISTS: [List; 7] = [
     },
     List {
         name: "no step",
-        steps: &[],
+        cuts: &[],
+        lines: &[],
+        register: 42,
+        color: SEA,
+    },
+    List {
+        name: "a definition, and one after a header that is refused",
+        cuts: &[],
+        lines: &[
+            Line(
+                Task::Decode(b"\x1bPq#42;2;100;0;0~\x1b\\"),
+                Expected::Decoded(IN_RED),
+            ),
+            Line(
+                Task::Decode(b"\x1bPbadq#42;2;0;100;0~\x1b\\"),
+                Expected::Failed(BadHeader),
+            ),
+            Line(IN_42, Expected::Decoded(IN_RED)),
+        ],
+        register: 42,
+        color: [255, 0, 0],
+    },
+    List {
+        name: "a reset",
+        cuts: &[],
+        lines: &[
+            Line(Task::Reset, Expected::Reset),
+            Line(IN_42, Expected::Decoded(IN_SEA)),
+        ],
         register: 42,
         color: SEA,
     },
@@ -251,60 +315,24 @@ static LISTS: [List; 7] = [
 
 /// Whether each step of a list comes to what is expected on this decoder, and leaves this color.
 fn is_list_so(alloc: Global, decoder: &mut SixelDecoder, list: &List) -> bool {
-    runs(alloc, decoder, DcsSettings::default(), list.steps)
-        && decoder.register(list.register) == list.color
-}
-
-/// The same on a new decoder.
-fn is_new_list_so(alloc: Global, list: &List) -> bool {
-    is_list_so(alloc, &mut SixelDecoder::new(), list)
+    runs(
+        alloc,
+        decoder,
+        DcsSettings::default(),
+        list.cuts,
+        list.lines,
+    ) & (decoder.register(list.register) == list.color)
 }
 
 #[test]
 fn lists(rt: HostRuntime) {
-    for list in &LISTS {
-        assert_row(&rt, &list.name, is_new_list_so(rt.alloc(), list));
-    }
-}
-
-/// Lists on one decoder.
-static DECODING_AT_ONCE: [List; 2] = [
-    List {
-        name: "a definition, and one after a header that is refused",
-        steps: &[
-            (
-                Task::Decode(b"\x1bPq#42;2;100;0;0~\x1b\\"),
-                Expected::Decoded(IN_RED),
-            ),
-            (
-                Task::Decode(b"\x1bPbadq#42;2;0;100;0~\x1b\\"),
-                Expected::Failed(&BAD_HEADER),
-            ),
-            (IN_42, Expected::Decoded(IN_RED)),
-        ],
-        register: 42,
-        color: [255, 0, 0],
-    },
-    List {
-        name: "a reset",
-        steps: &[
-            (Task::Reset, Expected::Reset),
-            (IN_42, Expected::Decoded(IN_SEA)),
-        ],
-        register: 42,
-        color: SEA,
-    },
-];
-
-#[test]
-fn decoding_at_once(rt: HostRuntime) {
     let mut decoder = SixelDecoder::new();
-    for list in &DECODING_AT_ONCE {
+    for list in &LISTS {
         assert_row(&rt, &list.name, is_list_so(rt.alloc(), &mut decoder, list));
     }
 }
 
-// Ways to cut the same bytes: not at all, into nothing, singly, within numbers, past the end.
+/// Ways to cut the same bytes: not at all, into nothing, singly, within numbers, past the end.
 static CUTS: [&[usize]; 7] = [
     &[],
     &[0],
@@ -319,34 +347,33 @@ const PAYLOAD: &[u8] = b"#1;2;100;0;0!12~\x1b\\remaining terminal data";
 
 const STRING: &[u8] = b"\x1bP9;1q#1;2;100;0;0!12~\x1b\\terminal text";
 
+/// What these two come to, finished and aborted.
+static SESSIONS: [Line; 4] = [
+    Line(
+        Task::Frame(PAYLOAD, End::Finish),
+        Expected::Finished(16, ESCAPE, Columns(12, RED)),
+    ),
+    Line(
+        Task::Dcs(STRING, End::Finish),
+        Expected::Finished(24, COMPLETE, Columns(12, RED)),
+    ),
+    Line(
+        Task::Frame(PAYLOAD, End::Abort),
+        Expected::Aborted(16, ESCAPE),
+    ),
+    Line(
+        Task::Dcs(STRING, End::Abort),
+        Expected::Aborted(24, COMPLETE),
+    ),
+];
+
 /// Whether images and statuses are the same with these cuts, on an opaque and on a transparent
 /// background.
 fn have_no_effect(alloc: Global, cuts: &[usize]) -> bool {
-    let list = [
-        (
-            Task::Frame(PAYLOAD, cuts, End::Finish),
-            Expected::Finished(16, ESCAPE, (12, RED)),
-        ),
-        (
-            Task::Dcs(STRING, cuts, End::Finish),
-            Expected::Finished(24, COMPLETE, (12, RED)),
-        ),
-        (
-            Task::Frame(PAYLOAD, cuts, End::Abort),
-            Expected::Aborted(16, ESCAPE),
-        ),
-        (
-            Task::Dcs(STRING, cuts, End::Abort),
-            Expected::Aborted(24, COMPLETE),
-        ),
-    ];
     let transparent = DcsSettings::new(Some(9), Some(1), None);
-    runs(
-        alloc,
-        &mut SixelDecoder::new(),
-        DcsSettings::default(),
-        &list,
-    ) && runs(alloc, &mut SixelDecoder::new(), transparent, &list)
+    let mut decoder = SixelDecoder::new();
+    runs(alloc, &mut decoder, DcsSettings::default(), cuts, &SESSIONS)
+        & runs(alloc, &mut decoder, transparent, cuts, &SESSIONS)
 }
 
 #[test]

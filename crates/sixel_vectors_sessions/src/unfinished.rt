@@ -1,20 +1,15 @@
 //! Sessions that are aborted or dropped, which change nothing.
 
+use crate::expected::have_same_registers;
+use crate::feeds::{Opening, PAYLOAD, Session};
 use crate::rows::{assert_holds, assert_row};
 use icy_sixel::SixelDecoder;
-use icy_sixel::decoder::DcsSettings;
 use std::alloc::{AllocError, Global};
 use std::process::Abort;
 
 /// Whether each register has the color that a new decoder gives it.
 fn is_untouched(decoder: &SixelDecoder) -> bool {
-    let untouched = SixelDecoder::new();
-    for register in 0..=255 {
-        if decoder.register(register) != untouched.register(register) {
-            return false;
-        }
-    }
-    true
+    have_same_registers(decoder, &SixelDecoder::new())
 }
 
 /// How a session is left.
@@ -24,52 +19,59 @@ enum Leave {
     Drop,
 }
 
-/// Whether a session consumes a payload whole. It is left then.
-fn takes(alloc: Global, decoder: &mut SixelDecoder, payload: &[u8], leave: Leave) -> bool {
-    let mut session = decoder.begin_frame(alloc, DcsSettings::default()).unwrap();
-    let fed = session.feed(payload);
+/// What a session is begun for, and bytes that it consumes whole.
+#[derive(Clone, Copy)]
+struct Bytes<'a>(Opening, &'a [u8]);
+
+/// Whether a session consumes its bytes whole. It is left then.
+fn takes(alloc: Global, decoder: &mut SixelDecoder, bytes: Bytes<'_>, leave: Leave) -> bool {
+    let mut session = Session::begin(alloc, decoder, bytes.0);
+    let fed = session.feed(bytes.1);
     match leave {
         Leave::Abort => session.abort(),
         Leave::Drop => drop(session),
     }
-    matches!(fed, Ok(answer) if answer.consumed == payload.len())
+    matches!(fed, Ok(received) if received.consumed == bytes.1.len())
 }
 
-/// Whether a session consumes a control string whole. It is left then.
-fn follows(alloc: Global, decoder: &mut SixelDecoder, string: &[u8], leave: Leave) -> bool {
-    let mut session = decoder.begin_dcs(alloc);
-    let fed = session.feed(string);
-    match leave {
-        Leave::Abort => session.abort(),
-        Leave::Drop => drop(session),
-    }
-    matches!(fed, Ok(answer) if answer.consumed == string.len())
-}
-
-// Payloads that end within a command that would be refused.
-static OPEN: [&[u8]; 5] = [
-    b"!65536",
-    b"\"1;1;8192;8193",
-    b"\"1;1;8192;8192?",
-    b"\"1;1;1000000;67?",
-    b"#42;2;100;0;0~!65536",
+/// What sessions are left with.
+static UNFINISHED: [Bytes<'static>; 12] = [
+    // Payloads that end within a command that would be refused.
+    Bytes(PAYLOAD, b"!65536"),
+    Bytes(PAYLOAD, b"\"1;1;8192;8193"),
+    Bytes(PAYLOAD, b"\"1;1;8192;8192?"),
+    Bytes(PAYLOAD, b"\"1;1;1000000;67?"),
+    Bytes(PAYLOAD, b"#42;2;100;0;0~!65536"),
+    // A payload that makes register 42 red.
+    Bytes(PAYLOAD, b"#42;2;100;0;0~"),
+    // A control string that ends within a command that would be refused.
+    Bytes(Opening::ControlString, b"\x1bPq!65536"),
+    // Control strings that make register 42 red: within the payload, and at each kind of end.
+    Bytes(Opening::ControlString, b"\x1bPq#42;2;100;0;0~"),
+    Bytes(Opening::ControlString, b"\x1bPq#42;2;100;0;0~!65536"),
+    Bytes(Opening::ControlString, b"\x1bPq#42;2;100;0;0~\x1b\\"),
+    Bytes(Opening::ControlString, b"\x90q#42;2;100;0;0~\x9c"),
+    Bytes(Opening::ControlString, b"\x90q#42;2;100;0;0~\x18"),
 ];
 
-/// Whether a payload is taken and aborted, and changes no register.
-fn is_aborted(alloc: Global, decoder: &mut SixelDecoder, payload: &[u8]) -> bool {
-    takes(alloc, decoder, payload, Leave::Abort) && is_untouched(decoder)
+/// Whether a session takes its bytes and changes no register, aborted or dropped.
+fn is_left(alloc: Global, decoder: &mut SixelDecoder, bytes: Bytes<'_>) -> bool {
+    takes(alloc, decoder, bytes, Leave::Abort)
+        && is_untouched(decoder)
+        && takes(alloc, decoder, bytes, Leave::Drop)
+        && is_untouched(decoder)
 }
 
 #[test]
-fn an_open_command_is_not_refused(rt: HostRuntime) {
+fn unfinished_sessions_define_no_register(rt: HostRuntime) {
     let mut decoder = SixelDecoder::new();
-    for payload in &OPEN {
-        assert_row(&rt, payload, is_aborted(rt.alloc(), &mut decoder, payload));
+    for bytes in &UNFINISHED {
+        assert_row(&rt, &bytes.1, is_left(rt.alloc(), &mut decoder, *bytes));
     }
 }
 
 /// A definition of each register, and a sixel.
-fn definitions(alloc: Global) -> std::result::Result<String, AllocError> {
+fn definitions(alloc: Global) -> Result<String, AllocError> {
     let mut text = String::new(alloc);
     for register in 0..=255 {
         let sixel = if register == 255 { "~" } else { "" };
@@ -83,7 +85,7 @@ fn is_aborted_often(alloc: Global, payload: &[u8]) -> bool {
     let mut decoder = SixelDecoder::new();
     let mut is_taken = true;
     for _ in 0..1000 {
-        is_taken &= takes(alloc, &mut decoder, payload, Leave::Abort);
+        is_taken &= takes(alloc, &mut decoder, Bytes(PAYLOAD, payload), Leave::Abort);
     }
     is_taken && is_untouched(&decoder)
 }
@@ -93,36 +95,4 @@ fn aborted_sessions_define_no_register(rt: HostRuntime) {
     let payload = definitions(rt.alloc()).expect(&rt, "definitions");
     let is_aborted = is_aborted_often(rt.alloc(), payload.as_bytes());
     assert_holds(&rt, "a thousand sessions", is_aborted);
-}
-
-#[test]
-fn dropped_sessions_define_no_register(rt: HostRuntime) {
-    let mut decoder = SixelDecoder::new();
-    let is_taken = takes(rt.alloc(), &mut decoder, b"#42;2;100;0;0~", Leave::Drop);
-    assert_holds(&rt, "a session", is_taken && is_untouched(&decoder));
-}
-
-// Control strings that make register 42 red: within the payload, and at each kind of end.
-static STRINGS: [&[u8]; 5] = [
-    b"\x1bPq#42;2;100;0;0~",
-    b"\x1bPq#42;2;100;0;0~!65536",
-    b"\x1bPq#42;2;100;0;0~\x1b\\",
-    b"\x90q#42;2;100;0;0~\x9c",
-    b"\x90q#42;2;100;0;0~\x18",
-];
-
-/// Whether a session takes a control string and changes no register, aborted or dropped.
-fn is_left(alloc: Global, decoder: &mut SixelDecoder, string: &[u8]) -> bool {
-    follows(alloc, decoder, string, Leave::Abort)
-        && is_untouched(decoder)
-        && follows(alloc, decoder, string, Leave::Drop)
-        && is_untouched(decoder)
-}
-
-#[test]
-fn control_strings_define_no_register(rt: HostRuntime) {
-    let mut decoder = SixelDecoder::new();
-    for string in &STRINGS {
-        assert_row(&rt, string, is_left(rt.alloc(), &mut decoder, string));
-    }
 }
