@@ -1,6 +1,6 @@
 //! The canvas, its rows and the filling of spans.
 
-ghost use Rattle.std.specs.Prelude.{◌≤◌, ◌<◌, ◌+◌};
+ghost use Rattle.std.specs.Prelude.{◌<◌};
 
 use crate::rows::{Expected, assert_row, assert_rows};
 use icy_sixel::canvas::{Row, fill_rgba_span};

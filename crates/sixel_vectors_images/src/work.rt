@@ -5,9 +5,7 @@ ghost use Rattle.std.specs.Prelude.{◌<◌};
 use crate::payloads::long;
 use crate::rows::{Expected, assert_rows};
 use icy_sixel::SixelError::InvalidData;
-use icy_sixel::{
-    DcsSettings, SixelDcsStreamDecoder, SixelDecoder, SixelError, SixelImage, SixelStreamDecoder,
-};
+use icy_sixel::{DcsSettings, SixelDcsStreamDecoder, SixelDecoder, SixelError, SixelStreamDecoder};
 use sixel_vectors_base::answers::{MALFORMED, TOO_LARGE};
 use sixel_vectors_base::hosted::decoder_with;
 use std::alloc::Global;
@@ -105,7 +103,7 @@ fn never_falls(session: &mut SixelStreamDecoder<'_>, payload: &[u8], length: usi
     requires { 0 < length }
 {
     let mut writes = 0;
-    let mut are_right = session.canvas_writes() == 0;
+    let mut are_right = (session.canvas_writes() == 0) & (session.canvas_paints() == 0);
     for piece in payload.chunks(length) {
         let fed = session.fed(piece);
         are_right &= fed.refusal.is_none() & (writes <= fed.writes);
