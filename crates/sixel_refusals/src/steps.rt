@@ -2,6 +2,7 @@
 
 use crate::calls::Outcome;
 use crate::told::have_same_registers;
+use icy_sixel::receiver::Received;
 use icy_sixel::script::{self, End, Status, Step, run};
 use icy_sixel::{
     DcsSettings, SixelDcsFeedStatus, SixelDecoder, SixelError, SixelFeedStatus, SixelImage,
@@ -19,19 +20,22 @@ struct Definition {
     color: [u8; 3],
 }
 
+/// The width of an image, and the register of the color that it begins with.
+#[derive(Clone, Copy)]
+struct Drawn {
+    width: usize,
+    register: u8,
+}
+
 /// What is told where a step was refused memory and all steps were right once it was there, and
 /// what the step comes to.
 struct Expected {
     refused: &'static str,
     /// What it defines before it draws, and leaves to the steps after it.
     defined: Option<Definition>,
-    /// How many bytes its session consumed, and how that stood; 0 and none where it has none.
-    consumed: usize,
-    status: Option<Status>,
-    /// The width of its image, and the register of the color that this begins with; 0 and any where
-    /// it gives none.
-    width: usize,
-    register: u8,
+    /// How many bytes its session consumed, and how that stood.
+    received: Option<Received>,
+    drawn: Option<Drawn>,
 }
 
 // What the steps come to, in their order. The one that resets the registers takes no memory.
@@ -42,18 +46,20 @@ const EXPECTED: &[Expected] = &[
             register: 42,
             color: [255, 0, 0],
         }),
-        consumed: 0,
-        status: None,
-        width: 1,
-        register: 42,
+        received: None,
+        drawn: Some(Drawn {
+            width: 1,
+            register: 42,
+        }),
     },
     Expected {
         refused: "out of memory in the next decoded payload, then ok",
         defined: None,
-        consumed: 0,
-        status: None,
-        width: 1,
-        register: 42,
+        received: None,
+        drawn: Some(Drawn {
+            width: 1,
+            register: 42,
+        }),
     },
     Expected {
         refused: "out of memory in a frame, then ok",
@@ -61,26 +67,32 @@ const EXPECTED: &[Expected] = &[
             register: 42,
             color: [0, 255, 0],
         }),
-        consumed: 21,
-        status: Some(MORE),
-        width: 301,
-        register: 42,
+        received: Some(Received {
+            consumed: 21,
+            status: MORE,
+        }),
+        drawn: Some(Drawn {
+            width: 301,
+            register: 42,
+        }),
     },
     Expected {
         refused: "out of memory in a control string, then ok",
         defined: None,
-        consumed: 9,
-        status: Some(COMPLETE),
-        width: 1,
-        register: 42,
+        received: Some(Received {
+            consumed: 9,
+            status: COMPLETE,
+        }),
+        drawn: Some(Drawn {
+            width: 1,
+            register: 42,
+        }),
     },
     Expected {
         refused: "out of memory in a reset, then ok",
         defined: None,
-        consumed: 0,
-        status: None,
-        width: 0,
-        register: 42,
+        received: None,
+        drawn: None,
     },
     Expected {
         refused: "out of memory in decoded bytes, then ok",
@@ -88,34 +100,41 @@ const EXPECTED: &[Expected] = &[
             register: 43,
             color: [0, 0, 255],
         }),
-        consumed: 0,
-        status: None,
-        width: 1,
-        register: 42,
+        received: None,
+        drawn: Some(Drawn {
+            width: 1,
+            register: 42,
+        }),
     },
     Expected {
         refused: "out of memory in an aborted frame, then ok",
         defined: None,
-        consumed: 14,
-        status: Some(MORE),
-        width: 0,
-        register: 42,
+        received: Some(Received {
+            consumed: 14,
+            status: MORE,
+        }),
+        drawn: None,
     },
     Expected {
         refused: "out of memory in the next control string, then ok",
         defined: None,
-        consumed: 8,
-        status: Some(COMPLETE),
-        width: 1,
-        register: 43,
+        received: Some(Received {
+            consumed: 8,
+            status: COMPLETE,
+        }),
+        drawn: Some(Drawn {
+            width: 1,
+            register: 43,
+        }),
     },
     Expected {
         refused: "out of memory in an aborted control string, then ok",
         defined: None,
-        consumed: 18,
-        status: Some(COMPLETE),
-        width: 0,
-        register: 43,
+        received: Some(Received {
+            consumed: 18,
+            status: COMPLETE,
+        }),
+        drawn: None,
     },
 ];
 
@@ -219,16 +238,18 @@ impl Expected {
         match outcome {
             script::Outcome::Reset => {
                 model.reset_palette();
-                self.status.is_none() & (self.width == 0)
+                self.received.is_none() & self.drawn.is_none()
             }
-            script::Outcome::Decoded(image) => self.status.is_none() & self.is_drawn(image, model),
+            script::Outcome::Decoded(image) => {
+                self.received.is_none() & self.is_drawn(image, model)
+            }
             script::Outcome::Finished {
                 consumed,
                 status,
                 image,
             } => self.has_stood(*consumed, *status) & self.is_drawn(image, model),
             script::Outcome::Aborted { consumed, status } => {
-                self.has_stood(*consumed, *status) & (self.width == 0)
+                self.has_stood(*consumed, *status) & self.drawn.is_none()
             }
             _ => false,
         }
@@ -236,13 +257,18 @@ impl Expected {
 
     /// Whether a session that consumed so many bytes and stood so is the step's.
     fn has_stood(&self, consumed: usize, status: Status) -> bool {
-        (self.consumed == consumed) & (self.status == Some(status))
+        self.received == Some(Received { consumed, status })
     }
 
     /// Whether an image is as wide as the step's, and its first row begins with the color of the
     /// register.
     fn is_drawn(&self, image: &SixelImage, model: &SixelDecoder) -> bool {
-        let [red, green, blue] = model.register(self.register);
-        (image.width == self.width) & image.pixels.starts_with(&[red, green, blue, 255])
+        match self.drawn {
+            Some(drawn) => {
+                let [red, green, blue] = model.register(drawn.register);
+                (image.width == drawn.width) & image.pixels.starts_with(&[red, green, blue, 255])
+            }
+            None => false,
+        }
     }
 }
