@@ -1,0 +1,15 @@
+use Rattle.std.proofs.Common.{◌≡◌, ◌++◌, false, length}
+use Rattle.icy_sixel.specs.Receiver.{OfPayload}
+use Rattle.sixel_examples.proofs.host.Terminal.payload.Given as goal
+
+abbrev pub invariant-pieces : goal.invariant-pieces
+invariant-pieces l = record {
+  decoder : l.self.receiver.decoder ≡ l.fn.self.receiver.decoder;
+  form : l.self.receiver.image.form ≡ OfPayload l.fn.settings;
+  start : l.self.receiver.image.start ≡ l.fn.self.receiver.decoder;
+  accepted : l.self.receiver.image.is_refused ≡ false;
+  bytes : l.self.receiver.image.bytes ++ l.rest ≡ l.bytes;
+}
+
+abbrev pub decreases-pieces : goal.decreases-pieces
+decreases-pieces l = length l.rest
