@@ -1,8 +1,9 @@
-use Rattle.std.proofs.Common.{◌≡◌, ◌*◌, length, ap, sym, ◌∙◌, arith}
+use Rattle.std.proofs.Common.{◌≡◌, ◌*◌, length, ap, sym, ◌∙◌, arith, rules}
 use Rattle.std.proofs.Math.Nat.{mul_assoc}
-use Rattle.icysixel_c.specs.Rows.{stride_of}
-use Rattle.icysixel_c.proofs.Spread.{none_wanted}
 use Rattle.icysixel_c.proofs.images.copied.Goals as goal
+
+pub returns-in_default : goal.returns-in_default
+returns-in_default c = search rules
 
 pub copied_rows-requires : goal.copied_rows-requires
 copied_rows-requires c =
@@ -10,21 +11,6 @@ copied_rows-requires c =
     let wide : 4 * image.width ≡ c.in-Some.wide = omega (arith, c.in-Some.ensures.1) in
     ap length c.deref.ensures.value
     ∙ (c.requires ∙ (sym (mul_assoc 4 image.width image.height) ∙ ap (λ n. n * image.height) wide))
-
-pub returns-in_default-clause-small : goal.returns-in_default-clause-small
-returns-in_default-clause-small c = λ size is short.
-    let image = c.args.image.now in
-    cc (none_wanted (stride_of c.args.stride (4 * image.width)) (4 * image.width) image.height (omega (arith, c.in_default.ensures)))
-
-pub returns-in_default-clause-bytes : goal.returns-in_default-clause-bytes
-returns-in_default-clause-bytes c = λ size is.
-    let image = c.args.image.now in
-    cc (none_wanted (stride_of c.args.stride (4 * image.width)) (4 * image.width) image.height (omega (arith, c.in_default.ensures)))
-
-pub returns-in_default-clause-moved : goal.returns-in_default-clause-moved
-returns-in_default-clause-moved c = λ size is enough.
-    let image = c.args.image.now in
-    cc (none_wanted (stride_of c.args.stride (4 * image.width)) (4 * image.width) image.height (omega (arith, c.in_default.ensures)))
 
 pub returns-clause-bad_stride : goal.returns-clause-bad_stride
 returns-clause-bad_stride c =
@@ -50,6 +36,9 @@ pub returns-clause-moved : goal.returns-clause-moved
 returns-clause-moved c =
     let wide : 4 * c.args.image.now.width ≡ c.in-Some.wide = omega (arith, c.in-Some.ensures.1) in
     rw (wide, ← c.stride_of-stride.ensures) c.copied_rows.ensures.moved
+
+pub returns-clause-pixels : goal.returns-clause-pixels
+returns-clause-pixels c = grind arith
 
 pub returns-clause-gaps : goal.returns-clause-gaps
 returns-clause-gaps c =

@@ -1,8 +1,8 @@
-use Rattle.std.proofs.Common.{refl, arith}
+use Rattle.std.proofs.Common.{arith}
 use Rattle.icysixel_c.proofs.images.hand_over.Goals as goal
 
-pub returns-in_default-clause-no_image : goal.returns-in_default-clause-no_image
-returns-in_default-clause-no_image c = λ none. refl
+pub returns-in_default : goal.returns-in_default
+returns-in_default c = grind arith
 
-pub returns-clause-taken : goal.returns-clause-taken
-returns-clause-taken c = grind arith
+pub returns : goal.returns
+returns c = grind arith

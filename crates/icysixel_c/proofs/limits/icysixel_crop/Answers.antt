@@ -1,5 +1,11 @@
 use Rattle.std.proofs.Common.{arith}
 use Rattle.icysixel_c.proofs.limits.icysixel_crop.Goals as goal
 
-pub returns-clause-value : goal.returns-clause-value
-returns-clause-value c = grind arith
+pub returns-then-not-is_held : goal.returns-then-not-is_held
+returns-then-not-is_held c = grind arith
+
+pub state-requires : goal.state-requires
+state-requires c = grind arith
+
+pub returns : goal.returns
+returns c = grind arith

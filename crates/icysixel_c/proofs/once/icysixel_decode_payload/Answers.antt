@@ -14,6 +14,21 @@ of_kept (Ok found) kept P holds is none image kept_is =
     subst P same holds
 of_kept (Err error) kept P holds is none image kept_is = absurd (grind (arith, none, kept_is))
 
+pub returns-then-not-is_held : goal.returns-then-not-is_held
+returns-then-not-is_held c = grind arith
+
+pub state-state-requires : goal.state-state-requires
+state-state-requires c = grind arith
+
+pub keep_answer-requires : goal.keep_answer-requires
+keep_answer-requires c = grind arith
+
+pub returns-clause-held : goal.returns-clause-held
+returns-clause-held c = grind arith
+
+pub returns-clause-none : goal.returns-clause-none
+returns-clause-none c = grind arith
+
 pub returns-clause-refused : goal.returns-clause-refused
 returns-clause-refused c = λ before is refused.
     let same : c.replace_decoder-decoder.result ≡ before.receiver.decoder = grind (arith, c.state-state.ensures.value) in
@@ -28,3 +43,15 @@ returns-clause-image c = λ before after image is is_now kept.
     of_kept c.decode_from_dcs-answer.result c.keep_answer.new.self.image (λ image. image_value image ≡ payload_image (origin_of c.replace_decoder-decoder.result c.settings.result) bytes) c.decode_from_dcs-answer.ensures.image c.keep_answer.ensures.image c.keep_answer.ensures.dropped image now
     ∙ (ap (λ decoder. payload_image (origin_of decoder c.settings.result) bytes) same
     ∙ ap (λ settings. payload_image (origin_of before.receiver.decoder settings) bytes) settings)
+
+pub returns-clause-shape : goal.returns-clause-shape
+returns-clause-shape c = grind arith
+
+pub returns-clause-registers : goal.returns-clause-registers
+returns-clause-registers c = grind arith
+
+pub returns-clause-text : goal.returns-clause-text
+returns-clause-text c = grind arith
+
+pub returns-clause-kept : goal.returns-clause-kept
+returns-clause-kept c = grind arith

@@ -2,6 +2,9 @@ use Rattle.std.proofs.Common.{length, ap, sym, ◌∙◌, arith}
 use Rattle.icysixel_c.proofs.Witnesses.{length-entries, length-witnesses}
 use Rattle.icysixel_c.proofs.palette.icysixel_choose_palette.Goals as goal
 
+pub returns-then-code-ne-DONE : goal.returns-then-code-ne-DONE
+returns-then-code-ne-DONE c = grind arith
+
 pub write_choice-requires : goal.write_choice-requires
 write_choice-requires c =
     let few = length-entries c.args.pixels.now c.args.max_colors _ c.in-Ok.ensures.palette in
@@ -12,6 +15,21 @@ write_choice-requires c =
       witnesses = omega (arith, witnesses, c.rooms_code-code.ensures.witnesses done);
       indices = omega (arith, c.in-Ok.ensures.indices.one_each, c.rooms_code-code.ensures.indices done);
     }
+
+pub returns-in-Ok-clause-mismatch : goal.returns-in-Ok-clause-mismatch
+returns-in-Ok-clause-mismatch c = grind arith
+
+pub returns-in-Ok-clause-few_colors : goal.returns-in-Ok-clause-few_colors
+returns-in-Ok-clause-few_colors c = grind arith
+
+pub returns-in-Ok-clause-few_witnesses : goal.returns-in-Ok-clause-few_witnesses
+returns-in-Ok-clause-few_witnesses c = grind arith
+
+pub returns-in-Ok-clause-few_indices : goal.returns-in-Ok-clause-few_indices
+returns-in-Ok-clause-few_indices c = grind arith
+
+pub returns-in-Ok-clause-memory : goal.returns-in-Ok-clause-memory
+returns-in-Ok-clause-memory c = grind arith
 
 pub returns-in-Ok-clause-palette : goal.returns-in-Ok-clause-palette
 returns-in-Ok-clause-palette c = λ _. rw c.write_choice.ensures.colors c.in-Ok.ensures.palette
@@ -63,47 +81,17 @@ returns-in-Ok-clause-colors_after c = λ _. c.write_choice.ensures.colors_after
 pub returns-in-Ok-clause-witnesses_after : goal.returns-in-Ok-clause-witnesses_after
 returns-in-Ok-clause-witnesses_after c = λ _. c.write_choice.ensures.witnesses_after
 
-pub returns-in-Err-clause-palette : goal.returns-in-Err-clause-palette
-returns-in-Err-clause-palette c = λ done. absurd (c.code_of.ensures.refused done)
+pub returns-in-Ok-clause-no_colors : goal.returns-in-Ok-clause-no_colors
+returns-in-Ok-clause-no_colors c = grind arith
 
-pub returns-in-Err-clause-indices : goal.returns-in-Err-clause-indices
-returns-in-Err-clause-indices c = λ done. absurd (c.code_of.ensures.refused done)
+pub returns-in-Ok-clause-no_witnesses : goal.returns-in-Ok-clause-no_witnesses
+returns-in-Ok-clause-no_witnesses c = grind arith
 
-pub returns-in-Err-clause-error : goal.returns-in-Err-clause-error
-returns-in-Err-clause-error c = λ done. absurd (c.code_of.ensures.refused done)
+pub returns-in-Ok-clause-no_indices : goal.returns-in-Ok-clause-no_indices
+returns-in-Ok-clause-no_indices c = grind arith
 
-pub returns-in-Err-clause-occur : goal.returns-in-Err-clause-occur
-returns-in-Err-clause-occur c = λ done. absurd (c.code_of.ensures.refused done)
+pub returns-in-Ok-clause-told : goal.returns-in-Ok-clause-told
+returns-in-Ok-clause-told c = grind arith
 
-pub returns-in-Err-clause-witnesses : goal.returns-in-Err-clause-witnesses
-returns-in-Err-clause-witnesses c = λ done. absurd (c.code_of.ensures.refused done)
-
-pub returns-in-Err-clause-witnesses_occur : goal.returns-in-Err-clause-witnesses_occur
-returns-in-Err-clause-witnesses_occur c = λ done. absurd (c.code_of.ensures.refused done)
-
-pub returns-in-Err-clause-witnesses_apart : goal.returns-in-Err-clause-witnesses_apart
-returns-in-Err-clause-witnesses_apart c = λ done. absurd (c.code_of.ensures.refused done)
-
-pub returns-in-Err-clause-colors : goal.returns-in-Err-clause-colors
-returns-in-Err-clause-colors c = λ done. absurd (c.code_of.ensures.refused done)
-
-pub returns-in-Err-clause-witness_count : goal.returns-in-Err-clause-witness_count
-returns-in-Err-clause-witness_count c = λ done. absurd (c.code_of.ensures.refused done)
-
-pub returns-in-Err-clause-colors_after : goal.returns-in-Err-clause-colors_after
-returns-in-Err-clause-colors_after c = λ done. absurd (c.code_of.ensures.refused done)
-
-pub returns-in-Err-clause-witnesses_after : goal.returns-in-Err-clause-witnesses_after
-returns-in-Err-clause-witnesses_after c = λ done. absurd (c.code_of.ensures.refused done)
-
-pub returns-in-Err-clause-indices_after : goal.returns-in-Err-clause-indices_after
-returns-in-Err-clause-indices_after c = λ done. absurd (c.code_of.ensures.refused done)
-
-pub returns-in-Err-clause-complete : goal.returns-in-Err-clause-complete
-returns-in-Err-clause-complete c = λ n color done. absurd (c.code_of.ensures.refused done)
-
-pub returns-in-Err-clause-empty : goal.returns-in-Err-clause-empty
-returns-in-Err-clause-empty c = λ none done. absurd (c.code_of.ensures.refused done)
-
-pub returns-in-Err-clause-bound : goal.returns-in-Err-clause-bound
-returns-in-Err-clause-bound c = λ color done. absurd (c.code_of.ensures.refused done)
+pub returns-in-Err : goal.returns-in-Err
+returns-in-Err c = grind arith

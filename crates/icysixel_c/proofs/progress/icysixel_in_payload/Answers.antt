@@ -1,5 +1,11 @@
 use Rattle.std.proofs.Common.{arith}
 use Rattle.icysixel_c.proofs.progress.icysixel_in_payload.Goals as goal
 
-pub returns-clause-accepted : goal.returns-clause-accepted
-returns-clause-accepted c = grind arith
+pub returns-then-not-is_held : goal.returns-then-not-is_held
+returns-then-not-is_held c = grind arith
+
+pub state-requires : goal.state-requires
+state-requires c = grind arith
+
+pub returns : goal.returns
+returns c = grind arith

@@ -1,5 +1,8 @@
 use Rattle.std.proofs.Common.{arith}
 use Rattle.icysixel_c.proofs.progress.tell_size.Goals as goal
 
-pub returns-in-Some-clause-size : goal.returns-in-Some-clause-size
-returns-in-Some-clause-size c = grind arith
+pub returns-in-Some : goal.returns-in-Some
+returns-in-Some c = grind arith
+
+pub returns-in-None : goal.returns-in-None
+returns-in-None c = grind arith

@@ -1,4 +1,5 @@
-use Rattle.std.proofs.Common.{◌+◌, ◌-◌, ◌*◌, ◌++◌, length, drop, ap, sym, ◌∙◌, arith, length-append, length-take, length-drop}
+use Rattle.std.proofs.Common.{◌≡◌, ◌+◌, ◌-◌, ◌*◌, ◌++◌, Result, Ok, Err, IfOk, IsErr, length, drop, ap, sym, ◌∙◌, arith, length-append, length-take, length-drop}
+use Rattle.std.proofs.lemmas.Bool.{false≢true}
 use Rattle.std.specs.Prelude.{slice_range}
 use Rattle.icysixel_c.proofs.Spread.{row_inside, rows_more}
 use Rattle.icysixel_c.proofs.rows.gathered.Goals as goal
@@ -21,3 +22,19 @@ loop-row-preserved c =
       pushed ∙ (ap (λ xs. xs ++ slice) c.loop-row.invariant.0 ∙ sym (rows_more stride wide row bytes)),
       omega (arith, inside, c.requires.room, ap length pushed, length-append rows slice, length-take (start + wide - start) (drop start bytes), length-drop start bytes, c.loop-row.invariant.1),
     )
+
+-- what is said of rows holds where there are none
+of_none : {T E : Type 0} (result : Result T E) (P : T → Type 0) → IsErr result → IfOk result P
+of_none (Ok rows) P none = absurd (false≢true none)
+of_none (Err error) P none = tt
+
+pub returns-in_err-extend_from_slice : goal.returns-in_err-extend_from_slice
+returns-in_err-extend_from_slice c = record {
+  rows = of_none c.from_residual.result _ c.from_residual.ensures.0;
+  size = of_none c.from_residual.result _ c.from_residual.ensures.0;
+}
+
+pub returns : goal.returns
+returns c =
+    let all : c.args.height ≡ c.loop-row.row = omega arith in
+    record { rows = rw all c.loop-row.invariant.0; size = rw all c.loop-row.invariant.1 }

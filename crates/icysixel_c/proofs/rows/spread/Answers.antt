@@ -2,6 +2,24 @@ use Rattle.std.proofs.Common.{◌≡◌, ◌+◌, ◌-◌, ◌*◌, ◌≤◌, l
 use Rattle.icysixel_c.proofs.Spread.{row_inside, row_more, gap_kept, rest_kept}
 use Rattle.icysixel_c.proofs.rows.spread.Goals as goal
 
+pub overflow_mul-to : goal.overflow_mul-to
+overflow_mul-to c =
+    omega (arith, row_inside c.args.stride c.args.wide c.args.height c.loop-row.row c.loop-row-test.true, c.requires.room)
+
+pub overflow_mul-from : goal.overflow_mul-from
+overflow_mul-from c = grind arith
+
+pub overflow_add-to : goal.overflow_add-to
+overflow_add-to c =
+    omega (arith, row_inside c.args.stride c.args.wide c.args.height c.loop-row.row c.loop-row-test.true, c.requires.room)
+
+pub slice_bounds-copy_from_slice-end : goal.slice_bounds-copy_from_slice-end
+slice_bounds-copy_from_slice-end c =
+    omega (arith, row_inside c.args.stride c.args.wide c.args.height c.loop-row.row c.loop-row-test.true, c.requires.room)
+
+pub overflow_add-from : goal.overflow_add-from
+overflow_add-from c = grind arith
+
 pub loop-row-preserved : goal.loop-row-preserved
 loop-row-preserved c =
     let stride = c.args.stride in

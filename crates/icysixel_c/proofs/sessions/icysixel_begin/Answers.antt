@@ -1,8 +1,8 @@
 use Rattle.std.proofs.Common.{arith}
 use Rattle.icysixel_c.proofs.sessions.icysixel_begin.Goals as goal
 
-pub returns-clause-decoder : goal.returns-clause-decoder
-returns-clause-decoder c = grind arith
+pub returns-then-not-is_held : goal.returns-then-not-is_held
+returns-then-not-is_held c = grind arith
 
-pub returns-clause-held : goal.returns-clause-held
-returns-clause-held c = grind arith
+pub returns : goal.returns
+returns c = grind arith

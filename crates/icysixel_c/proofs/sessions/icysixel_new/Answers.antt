@@ -1,5 +1,8 @@
 use Rattle.std.proofs.Common.{arith}
 use Rattle.icysixel_c.proofs.sessions.icysixel_new.Goals as goal
 
-pub returns-in_default-clause-codes : goal.returns-in_default-clause-codes
-returns-in_default-clause-codes c = omega arith
+pub returns-in_default : goal.returns-in_default
+returns-in_default c = grind arith
+
+pub returns : goal.returns
+returns c = grind arith

@@ -1,4 +1,4 @@
-use Rattle.std.proofs.Common.{◌≡◌, ◌≢◌, ℕ, Result, Ok, Err, OnOk, OnErr, IfErr, IsErrAnd, subst, sym, ◌∙◌}
+use Rattle.std.proofs.Common.{◌≡◌, ◌≢◌, ℕ, Result, Ok, Err, OnOk, OnErr, IfErr, IsErrAnd, subst, sym, ◌∙◌, arith}
 use Rattle.sixel_base.specs.declared.error.SixelError.{SixelError}
 use Rattle.icysixel_c.specs.Code.{IsCodeOf}
 use Rattle.icysixel_c.proofs.texts.icysixel_encode.Goals as goal
@@ -15,6 +15,18 @@ kept_where_refused : {T : Type 0} (encoded : Result T ℕ) (result before after 
 kept_where_refused (Ok text) result before after done same refused = absurd (refused done)
 kept_where_refused (Err code) result before after done same refused = same
 
+pub returns-then-not-is_held : goal.returns-then-not-is_held
+returns-then-not-is_held c = grind arith
+
+pub state-requires : goal.state-requires
+state-requires c = grind arith
+
+pub returns-clause-held : goal.returns-clause-held
+returns-clause-held c = grind arith
+
+pub returns-clause-none : goal.returns-clause-none
+returns-clause-none c = grind arith
+
 pub returns-clause-sizes : goal.returns-clause-sizes
 returns-clause-sizes c = λ before fault is wrong.
     code_told c.encoded-text.result c.keep_encoded.result fault (c.encoded-text.ensures.sizes fault wrong) c.keep_encoded.ensures.refused
@@ -30,6 +42,21 @@ pub returns-clause-memory : goal.returns-clause-memory
 returns-clause-memory c = λ before size is sized wanted room.
     memory_told c.encoded-text.result c.keep_encoded.result c.keep_encoded.ensures.done c.keep_encoded.ensures.refused (c.encoded-text.ensures.memory size sized wanted room)
 
+pub returns-clause-found : goal.returns-clause-found
+returns-clause-found c = grind arith
+
+pub returns-clause-bytes : goal.returns-clause-bytes
+returns-clause-bytes c = grind arith
+
+pub returns-clause-dropped : goal.returns-clause-dropped
+returns-clause-dropped c = grind arith
+
 pub returns-clause-told : goal.returns-clause-told
 returns-clause-told c =
     kept_where_refused c.encoded-text.result c.keep_encoded.result c.args.bytes.now c.keep_encoded.new.bytes c.keep_encoded.ensures.done c.keep_encoded.ensures.told
+
+pub returns-clause-decoder : goal.returns-clause-decoder
+returns-clause-decoder c = grind arith
+
+pub returns-clause-image : goal.returns-clause-image
+returns-clause-image c = grind arith

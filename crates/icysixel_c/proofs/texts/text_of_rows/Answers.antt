@@ -1,8 +1,23 @@
 use Rattle.std.proofs.Common.{arith}
 use Rattle.icysixel_c.proofs.texts.text_of_rows.Goals as goal
 
+pub dense-rows-requires : goal.dense-rows-requires
+dense-rows-requires c = grind arith
+
+pub returns-then-stride-wide-clause-memory : goal.returns-then-stride-wide-clause-memory
+returns-then-stride-wide-clause-memory c = grind arith
+
 pub returns-in-Ok-clause-text : goal.returns-in-Ok-clause-text
 returns-in-Ok-clause-text c = grind arith
 
 pub returns-then-stride-wide-clause-text : goal.returns-then-stride-wide-clause-text
 returns-then-stride-wide-clause-text c = grind arith
+
+pub gathered-requires-clause-stride : goal.gathered-requires-clause-stride
+gathered-requires-clause-stride c = grind arith
+
+pub gathered-requires-clause-room : goal.gathered-requires-clause-room
+gathered-requires-clause-room c = grind arith
+
+pub returns-in-Ok-clause-memory : goal.returns-in-Ok-clause-memory
+returns-in-Ok-clause-memory c = grind arith

@@ -1,5 +1,11 @@
 use Rattle.std.proofs.Common.{arith}
 use Rattle.icysixel_c.proofs.state.State.keep_answer.Goals as goal
 
-pub returns-in-Ok-clause-image : goal.returns-in-Ok-clause-image
-returns-in-Ok-clause-image c = grind arith
+pub keep_image-requires-in-Err : goal.keep_image-requires-in-Err
+keep_image-requires-in-Err c = grind arith
+
+pub returns-in-Ok : goal.returns-in-Ok
+returns-in-Ok c = grind arith
+
+pub returns-in-Err : goal.returns-in-Err
+returns-in-Err c = grind arith

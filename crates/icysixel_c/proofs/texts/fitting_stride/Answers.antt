@@ -1,0 +1,17 @@
+use Rattle.std.proofs.Common.{arith}
+use Rattle.icysixel_c.proofs.texts.fitting_stride.Goals as goal
+
+pub returns-in-Err : goal.returns-in-Err
+returns-in-Err c = grind arith
+
+pub overflow_mul-wide : goal.overflow_mul-wide
+overflow_mul-wide c = grind arith
+
+pub returns-in-Some : goal.returns-in-Some
+returns-in-Some c = grind arith
+
+pub returns-in-Some-2 : goal.returns-in-Some-2
+returns-in-Some-2 c = grind arith
+
+pub returns-in-None : goal.returns-in-None
+returns-in-None c = grind arith

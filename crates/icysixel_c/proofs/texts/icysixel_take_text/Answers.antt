@@ -1,0 +1,11 @@
+use Rattle.std.proofs.Common.{arith}
+use Rattle.icysixel_c.proofs.texts.icysixel_take_text.Goals as goal
+
+pub returns-then-not-is_held : goal.returns-then-not-is_held
+returns-then-not-is_held c = grind arith
+
+pub state-state-requires : goal.state-state-requires
+state-state-requires c = grind arith
+
+pub returns : goal.returns
+returns c = grind arith
