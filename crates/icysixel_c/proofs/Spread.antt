@@ -1,15 +1,15 @@
 -- Rows that are written into room, one below the other.
 use Rattle.std.proofs.Common.{rules, ◌≡◌, ℕ, zero, suc, ◌+◌, ◌-◌, ◌*◌, ◌<◌, ◌≤◌, List, ◌++◌, length, take, drop, refl, sym, ap, subst, ◌∙◌, arith, inl, inr, add-one}
-use Rattle.std.specs.Prelude.{slice_range, Bool, true, false, ◌||◌, if◌then◌else◌, nat_lt, Option, Some, None}
+use Rattle.std.specs.Prelude.{slice_range}
 use Rattle.std.proofs.Math.Nat.{mul_comm}
 use Rattle.std.proofs.Math.Seq.{take-add}
 use lib.Seq.{drop-drop}
-use Rattle.std.proofs.lemmas.Bool.{cases_lt, lt-ltb}
+use Rattle.std.proofs.lemmas.Bool.{cases_lt}
 use Rattle.std.proofs.lemmas.Nat.{mul-le}
 use Rattle.std.proofs.lemmas.Slice.{between_is, take-put_mid_below, drop-put_mid, between-put_mid}
 use borrow.Rule.Slice.PartMut.{put_mid}
 use Rattle.sixel_base.specs.Picture.{joined}
-use Rattle.icysixel_c.specs.Rows.{extent, rows_of, wanted}
+use Rattle.icysixel_c.specs.Rows.{extent, rows_of}
 
 inner : (xs : List ℕ) (i j : ℕ) → slice_range xs i j ≡ drop i (take j xs)
 inner xs i j = search (rules, between_is)
@@ -18,15 +18,6 @@ inner xs i j = search (rules, between_is)
 pub row_inside : (stride wide height row : ℕ) → row < height → row * stride + wide ≤ extent stride wide height
 row_inside stride wide height row below =
     omega (arith, mul-le row stride (height - 1) stride (omega arith) (omega arith), mul_comm stride (height - 1))
-
--- a number does not count rows that are too wide
-none_either : (a b : Bool) (size : Option ℕ) → b ≡ true → (if a || b then None else size) ≡ None
-none_either true b size is = refl
-none_either false b size is = rw is
-
-pub none_wanted : (stride wide height : ℕ) → 0xffff_ffff_ffff_ffff < wide → wanted stride wide height ≡ None
-none_wanted stride wide height over =
-    none_either (nat_lt stride wide) (nat_lt 0xffff_ffff_ffff_ffff (extent stride wide height)) (Some (extent stride wide height)) (lt-ltb 0xffff_ffff_ffff_ffff (extent stride wide height) (omega arith))
 
 -- all of them are the rows before the last one, and that one
 pub rows_more : (stride wide n : ℕ) (xs : List ℕ) → rows_of stride wide (n + 1) xs ≡ rows_of stride wide n xs ++ slice_range xs (n * stride) (n * stride + wide)
