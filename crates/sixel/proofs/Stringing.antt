@@ -62,23 +62,6 @@ goes_on Complete going = absurd (false≢true going)
 goes_on (Cancelled byte) going = absurd (false≢true going)
 goes_on (Interrupted byte) going = absurd (false≢true going)
 
-waits : (status : SixelDcsFeedStatus) (f : Fault) → end_fault status ≡ Some f → status ≡ NeedMoreData
-waits NeedMoreData f is = refl
-waits Complete f is = absurd cc
-waits (Cancelled byte) f is = absurd cc
-waits (Interrupted byte) f is = absurd cc
-
--- an end that has not come with the last byte is the string's fault
-pub refused_at_end : (e : SixelError) (may : Bool) (limit : ℕ) (fed bytes : List ℕ) → (dcs_status fed ≡ NeedMoreData → fed ≡ bytes) → 0 < length bytes
-    → dcs_fault limit fed ≡ None → Faults e may (end_fault (dcs_status fed)) → Faults e true (string_fault limit bytes)
-refused_at_end e may limit fed bytes all some faultless is =
-    Faults-weaker e may (end_fault (dcs_status fed)) (string_fault limit bytes)
-    (λ f found.
-    let whole : fed ≡ bytes = all (waits (dcs_status fed) f found) in
-    let fine : dcs_fault limit bytes ≡ None = ap (dcs_fault limit) (sym whole) ∙ faultless in
-    string_fault-some limit bytes some ∙ ap (λ o. option_or o (end_fault (dcs_status bytes))) fine ∙ ap (λ b. end_fault (dcs_status b)) (sym whole) ∙ found)
-    is
-
 no_end_fault : (status : SixelDcsFeedStatus) → has_ended status ≡ true → end_fault status ≡ None
 no_end_fault NeedMoreData ended = absurd cc
 no_end_fault Complete ended = refl

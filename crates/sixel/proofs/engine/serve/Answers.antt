@@ -1,10 +1,13 @@
-use Rattle.std.proofs.Common.{◌≡◌, ◌⊎◌, subst}
+use Rattle.std.proofs.Common.{◌≡◌, ◌⊎◌, subst, arith}
 use Rattle.std.proofs.lemmas.Result.{err_from_is_err_and}
 use Rattle.sixel_base.specs.declared.error.SixelError.TheVariants.{OutOfMemory}
 use Rattle.sixel.specs.declared.fault.Fault.{Fault}
 use Rattle.sixel.specs.declared.fault.Fault.TheVariants.{Sixel, Input}
 use Rattle.sixel.proofs.Serving.{Writes-wanting, Keeps-same}
 use Rattle.sixel.proofs.engine.serve.Goals as goal
+
+pub returns-in_err-bytes-clause-done : goal.returns-in_err-bytes-clause-done
+returns-in_err-bytes-clause-done g c = grind arith
 
 pub returns-in_err-bytes-clause-refused : goal.returns-in_err-bytes-clause-refused
 returns-in_err-bytes-clause-refused g c = λ error is.
@@ -14,3 +17,9 @@ returns-in_err-bytes-clause-refused g c = λ error is.
 
 pub returns-in_err-bytes-clause-unread : goal.returns-in_err-bytes-clause-unread
 returns-in_err-bytes-clause-unread g c = λ _. Keeps-same (g.O.Write.contents c.args.output.now)
+
+pub returns-in_err-bytes-clause-at_end : goal.returns-in_err-bytes-clause-at_end
+returns-in_err-bytes-clause-at_end g c = grind arith
+
+pub returns : goal.returns
+returns g c = grind arith

@@ -1,6 +1,21 @@
-use Rattle.std.proofs.Common.{arith, length-drop, length-take}
+use Rattle.std.proofs.Common.{arith, length-drop, length-take, rules}
 use Rattle.sixel.proofs.Sending.{Appends-rest}
 use Rattle.sixel.proofs.streams.write_all.Goals as goal
+
+pub returns-then-done-bytes-clause-refused : goal.returns-then-done-bytes-clause-refused
+returns-then-done-bytes-clause-refused g c = grind arith
+
+pub slice_bounds-write-count : goal.slice_bounds-write-count
+slice_bounds-write-count g c = grind arith
+
+pub slice_bounds-write-start : goal.slice_bounds-write-start
+slice_bounds-write-start g c = grind arith
+
+pub overflow_add-done : goal.overflow_add-done
+overflow_add-done g c = grind arith
+
+pub returns-in-Ok-eq0 : goal.returns-in-Ok-eq0
+returns-in-Ok-eq0 g c = search rules
 
 pub writes-preserved : goal.writes-preserved
 writes-preserved g c =
@@ -10,5 +25,5 @@ writes-preserved g c =
       written = Appends-rest _ _ _ _ _ _ c.writes.invariant.written c.in-Ok.ensures.bytes;
     }
 
-pub returns-in-Ok-eq0-clause-whole : goal.returns-in-Ok-eq0-clause-whole
-returns-in-Ok-eq0-clause-whole c = omega arith
+pub returns : goal.returns
+returns g c = grind arith

@@ -5,6 +5,33 @@ use Rattle.sixel.proofs.Pieces.{Cut, cut_begins, cut_joined, cut_more}
 use Rattle.sixel.proofs.Stringing.{begins_fits, goes_on, refused_early}
 use Rattle.sixel.proofs.strings.feed_pieces.Goals as goal
 
+pub pieces-init : goal.pieces-init
+pieces-init c = grind arith
+
+pub returns-in_err-feed-clause-start : goal.returns-in_err-feed-clause-start
+returns-in_err-feed-clause-start c = grind arith
+
+pub returns-in_err-feed-clause-accepts : goal.returns-in_err-feed-clause-accepts
+returns-in_err-feed-clause-accepts c = grind arith
+
+pub returns-in_err-feed-clause-pieces : goal.returns-in_err-feed-clause-pieces
+returns-in_err-feed-clause-pieces c = grind arith
+
+pub returns-in_err-feed-clause-consumed : goal.returns-in_err-feed-clause-consumed
+returns-in_err-feed-clause-consumed c = grind arith
+
+pub returns-in_err-feed-clause-status : goal.returns-in_err-feed-clause-status
+returns-in_err-feed-clause-status c = grind arith
+
+pub returns-in_err-feed-clause-within : goal.returns-in_err-feed-clause-within
+returns-in_err-feed-clause-within c = grind arith
+
+pub returns-in_err-feed-clause-over : goal.returns-in_err-feed-clause-over
+returns-in_err-feed-clause-over c = grind arith
+
+pub returns-in_err-feed-clause-faultless : goal.returns-in_err-feed-clause-faultless
+returns-in_err-feed-clause-faultless c = grind arith
+
 pub returns-in_err-feed-clause-refused : goal.returns-in_err-feed-clause-refused
 returns-in_err-feed-clause-refused c =
     let p = err_from_is_err_and c.from_residual.result c.from_residual.ensures.1 in
@@ -50,3 +77,9 @@ pieces-preserved c =
       over = λ ended. subst (λ (w : List ℕ). IsSameString c.args.session.now.progress.decoder.pixel_limit fed w) (cut_joined _ _ fed after cut) (rw before.start at (s.over_for_good after (ap has_ended (sym all.status) ∙ ended)));
       known = all.status ∙ s.status;
     }
+
+pub returns-clause-consumed : goal.returns-clause-consumed
+returns-clause-consumed c = grind arith
+
+pub returns-clause-within : goal.returns-clause-within
+returns-clause-within c = grind arith

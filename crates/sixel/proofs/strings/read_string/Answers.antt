@@ -1,15 +1,23 @@
 use Rattle.std.proofs.Common.{ap, sym, ◌∙◌, arith, rules}
-use Rattle.std.proofs.lemmas.Result.{err_from_is_err_and}
 use Rattle.sixel_base.specs.Dcs.{has_ended, IsSameString}
 use Rattle.sixel.proofs.Pieces.{pieces_begin}
-use Rattle.sixel.proofs.Stringing.{Begins, begins_fits, refused_at_end, ended_faultless}
+use Rattle.sixel.proofs.Stringing.{Begins, begins_fits, ended_faultless}
 use Rattle.sixel.proofs.strings.read_string.Goals as goal
 
-pub returns-in_err-image-clause-refused : goal.returns-in_err-image-clause-refused
-returns-in_err-image-clause-refused c =
-    let p = err_from_is_err_and c.from_residual-in_err-image.result c.from_residual-in_err-image.ensures.1 in
-    let s = c.in_ok-fed.ensures in
-    rw (p.1, p.2) (refused_at_end _ _ c.args.decoder.now.pixel_limit _ c.args.bytes.now s.pieces.enough c.requires.some (rw c.begin_dcs-session.ensures.session at s.faultless) (rw s.accepts at c.in_err-image.ensures.error))
+pub feed_pieces-requires-clause-some : goal.feed_pieces-requires-clause-some
+feed_pieces-requires-clause-some c = grind arith
+
+pub feed_pieces-requires-clause-fresh : goal.feed_pieces-requires-clause-fresh
+feed_pieces-requires-clause-fresh c = grind arith
+
+pub feed_pieces-requires-clause-accepted : goal.feed_pieces-requires-clause-accepted
+feed_pieces-requires-clause-accepted c = grind arith
+
+pub returns-in_err-fed : goal.returns-in_err-fed
+returns-in_err-fed c = grind arith
+
+pub returns-in_err-image : goal.returns-in_err-image
+returns-in_err-image c = grind arith
 
 -- the bytes that were fed are the string that all begin with
 same : (c : goal.In_ok-image) → IsSameString c.args.decoder.now.pixel_limit c.feed_pieces.new.session.progress.bytes c.args.bytes.now
@@ -27,6 +35,9 @@ returns-clause-registers c =
     let begins : Begins _ c.args.bytes.now = pieces_begin _ _ _ s.pieces in
     let left = (rw (s.start, c.begin_dcs-session.ensures.session, begins.joined) at (c.in_ok-image.ensures.as_decoded begins.rest)).2 in
     search (rules, left)
+
+pub returns-clause-set : goal.returns-clause-set
+returns-clause-set c = grind arith
 
 pub returns-clause-len : goal.returns-clause-len
 returns-clause-len c = c.in_ok-fed.ensures.consumed ∙ sym (same c).count
