@@ -1,4 +1,4 @@
-use Rattle.std.proofs.Common.{◌≡◌, ℕ, ◌++◌, None, subst}
+use Rattle.std.proofs.Common.{◌≡◌, ℕ, ◌++◌, None, subst, arith}
 use Rattle.sixel_base.specs.Fault.{Faults}
 use Rattle.sixel_base.specs.OneShot.{found, IsDecodedAs}
 use Rattle.sixel_base.specs.declared.state.DecoderState.{DecoderState}
@@ -6,6 +6,15 @@ use Rattle.icy_sixel.specs.ImageView.{image_value}
 use Rattle.icy_sixel.specs.Receiver.{Form, found_followed, end_fault, end_wants}
 use Rattle.sixel_filter.proofs.Leading.{on_ok, closed_shown, closed_refused}
 use Rattle.sixel_filter.proofs.filter.Filter.close.Goals as goal
+
+pub returns-in-Ok-clause-character : goal.returns-in-Ok-clause-character
+returns-in-Ok-clause-character c = grind arith
+
+pub returns-in-Ok-clause-held : goal.returns-in-Ok-clause-held
+returns-in-Ok-clause-held c = grind arith
+
+pub returns-in-Ok-clause-work : goal.returns-in-Ok-clause-work
+returns-in-Ok-clause-work c = grind arith
 
 pub returns-in-Ok-clause-closed : goal.returns-in-Ok-clause-closed
 returns-in-Ok-clause-closed c = λ more last.
@@ -19,6 +28,18 @@ returns-in-Ok-clause-closed c = λ more last.
     (closed_shown f.work f.receiver.decoder c.finish.new.self.decoder f.receiver.image.bytes more c.args.output.now.items c.write_image.new.output.items (image_value c.in-Ok.image) r.sound ended decoded
     c.in-Ok.ensures.set)
     c.write_image.ensures.written
+
+pub returns-in-Err-clause-place : goal.returns-in-Err-clause-place
+returns-in-Err-clause-place c = grind arith
+
+pub returns-in-Err-clause-character : goal.returns-in-Err-clause-character
+returns-in-Err-clause-character c = grind arith
+
+pub returns-in-Err-clause-held : goal.returns-in-Err-clause-held
+returns-in-Err-clause-held c = grind arith
+
+pub returns-in-Err-clause-work : goal.returns-in-Err-clause-work
+returns-in-Err-clause-work c = grind arith
 
 pub returns-in-Err-clause-closed : goal.returns-in-Err-clause-closed
 returns-in-Err-clause-closed c = λ more last.

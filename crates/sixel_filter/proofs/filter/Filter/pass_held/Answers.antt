@@ -1,7 +1,19 @@
-use Rattle.std.proofs.Common.{◌≡◌, List, ℕ, ◌++◌, length}
+use Rattle.std.proofs.Common.{◌≡◌, List, ℕ, ◌++◌, length, arith}
 use Rattle.std.specs.Prelude.{◌==◌, ◌&&◌, slice_index}
 use Rattle.sixel_filter.proofs.Leading.{writes_held}
 use Rattle.sixel_filter.proofs.filter.Filter.pass_held.Goals as goal
+
+pub returns-in_err-extend_from_slice : goal.returns-in_err-extend_from_slice
+returns-in_err-extend_from_slice c = grind arith
+
+pub returns-clause-none : goal.returns-clause-none
+returns-clause-none c = grind arith
+
+pub returns-clause-work : goal.returns-clause-work
+returns-clause-work c = grind arith
+
+pub returns-clause-receiver : goal.returns-clause-receiver
+returns-clause-receiver c = grind arith
 
 pub returns-clause-passes : goal.returns-clause-passes
 returns-clause-passes c = λ more whole none w.

@@ -1,10 +1,28 @@
-use Rattle.std.proofs.Common.{◌≡◌, true, List, ℕ, [], ◌∷◌, ◌++◌, refl, ap, ◌∙◌, subst}
+use Rattle.std.proofs.Common.{◌≡◌, true, List, ℕ, [], ◌∷◌, ◌++◌, refl, ap, ◌∙◌, subst, arith, append_assoc}
 use Rattle.sixel_base.specs.Dcs.{dcs_in_payload, dcs_status}
 use Rattle.sixel_base.specs.declared.status.SixelDcsFeedStatus.TheVariants.{NeedMoreData}
 use Rattle.icy_sixel.specs.Receiver.{Form, Receiver, is_open, in_payload}
 use Rattle.sixel_filter.proofs.Header.{header_refused, header_done}
 use Rattle.sixel_filter.proofs.Leading.{on_ok, string_error, fed, header_lost}
 use Rattle.sixel_filter.proofs.filter.Filter.take_header.Goals as goal
+
+pub returns-in_err-pass_held-in-Err : goal.returns-in_err-pass_held-in-Err
+returns-in_err-pass_held-in-Err c = grind arith
+
+pub take_text-requires-clause-none : goal.take_text-requires-clause-none
+take_text-requires-clause-none c = grind arith
+
+pub take_text-requires-clause-place : goal.take_text-requires-clause-place
+take_text-requires-clause-place c = grind arith
+
+pub returns-in-Err-clause-sound : goal.returns-in-Err-clause-sound
+returns-in-Err-clause-sound c = grind arith
+
+pub returns-in-Err-clause-one : goal.returns-in-Err-clause-one
+returns-in-Err-clause-one c = grind arith
+
+pub returns-in-Err-clause-sooner : goal.returns-in-Err-clause-sooner
+returns-in-Err-clause-sooner c = grind arith
 
 pub returns-in-Err-clause-passes : goal.returns-in-Err-clause-passes
 returns-in-Err-clause-passes c = λ more whole.
@@ -20,6 +38,9 @@ returns-in-Err-clause-passes c = λ more whole.
     c.feed.new.self.decoder h c.requires.place c.in_ok-pass_held-in-Err.ensures.work (ap (λ (r : Receiver). r.decoder) receiver) c.feed.ensures.decoder none
     (c.in_ok-pass_held-in-Err.ensures.passes (byte ∷ more) whole) c.take_text.new.self c.take_text.new.output.items)
     (c.take_text.ensures.passes more whole)
+
+pub returns-in-Err-clause-error : goal.returns-in-Err-clause-error
+returns-in-Err-clause-error c = grind arith
 
 pub returns-then-in_payload-clause-sound : goal.returns-then-in_payload-clause-sound
 returns-then-in_payload-clause-sound c =
@@ -39,4 +60,30 @@ returns-then-in_payload-clause-sound c =
       reading = reading;
       waiting = waiting;
       none = c.clear.ensures.items;
+    }
+
+pub returns-in_err-push : goal.returns-in_err-push
+returns-in_err-push c = grind arith
+
+pub returns-clause-sooner : goal.returns-clause-sooner
+returns-clause-sooner c = grind arith
+
+pub returns-then-in_payload-clause-passes : goal.returns-then-in_payload-clause-passes
+returns-then-in_payload-clause-passes c = λ more whole l.
+    let f = c.args.self.now in
+    let grown : c.feed.new.self.image.bytes ≡ f.receiver.image.bytes ++ c.args.byte ∷ [] = c.feed.ensures.bytes (ap is_open c.requires.heading.receiving.form) in
+    record {
+      text = l.text;
+      rest = rw c.requires.place (rw (c.feed.ensures.decoder, grown, append_assoc) at l.rest);
+      joined = l.joined;
+    }
+
+pub returns-clause-passes : goal.returns-clause-passes
+returns-clause-passes c = λ more whole l.
+    let f = c.args.self.now in
+    let grown : c.feed.new.self.image.bytes ≡ f.receiver.image.bytes ++ c.args.byte ∷ [] = c.feed.ensures.bytes (ap is_open c.requires.heading.receiving.form) in
+    record {
+      text = l.text;
+      rest = rw c.requires.place (rw (c.requires.place, c.feed.ensures.decoder, grown, append_assoc) at l.rest);
+      joined = l.joined;
     }

@@ -1,4 +1,5 @@
-use Rattle.std.proofs.Common.{◌≡◌, true, false, List, ℕ, ◌++◌, refl, ap, sym, ◌∙◌, subst, drop}
+use Rattle.std.proofs.Common.{◌≡◌, true, false, List, ℕ, ◌++◌, refl, ap, sym, ◌∙◌, subst, drop, arith, append_assoc}
+use Rattle.std.proofs.Math.Seq.{drop-length}
 use Rattle.std.specs.Prelude.{nat_lt}
 use Rattle.sixel_base.specs.Dcs.{dcs_in_payload, dcs_status, dcs_fault, dcs_growths, has_ended}
 use Rattle.sixel_base.specs.Fault.{Faults}
@@ -12,6 +13,9 @@ use Rattle.sixel_filter.specs.inside.Standing.{Writes, leaves_escape}
 use Rattle.sixel_filter.proofs.Filtering.{stays_in}
 use Rattle.sixel_filter.proofs.Leading.{string_error, fed, refused_leads, sound_image, string_counted, last_of, leads_begun, leads_closed, follows_by, ended_leads}
 use Rattle.sixel_filter.proofs.filter.Filter.take_payload.Goals as goal
+
+pub returns-in_err-write_refusal-in-Err : goal.returns-in_err-write_refusal-in-Err
+returns-in_err-write_refusal-in-Err c = grind arith
 
 pub returns-in-Err-clause-passes : goal.returns-in-Err-clause-passes
 returns-in-Err-clause-passes c = λ more whole l.
@@ -50,6 +54,21 @@ returns-then-is_waiting-clause-sound c =
       none = r.none;
     })
 
+pub returns-in_err-close : goal.returns-in_err-close
+returns-in_err-close c = grind arith
+
+pub returns-in_err-begin : goal.returns-in_err-begin
+returns-in_err-begin c = grind arith
+
+pub returns-then-leaves_escape-clause-sound : goal.returns-then-leaves_escape-clause-sound
+returns-then-leaves_escape-clause-sound c = grind arith
+
+pub returns-then-leaves_escape-clause-within : goal.returns-then-leaves_escape-clause-within
+returns-then-leaves_escape-clause-within c = grind arith
+
+pub returns-then-leaves_escape-clause-sooner : goal.returns-then-leaves_escape-clause-sooner
+returns-then-leaves_escape-clause-sooner c = grind arith
+
 pub returns-then-leaves_escape-clause-passes : goal.returns-then-leaves_escape-clause-passes
 returns-then-leaves_escape-clause-passes c = λ more whole l.
     let f = c.args.self.now in
@@ -73,6 +92,12 @@ returns-then-leaves_escape-clause-passes c = λ more whole l.
     ended_leads f c.feed.new.self.decoder after now piece c.args.output.now.items out more whole n c.requires.place r c.feed.ensures.decoder grown ended counted c.in-Ok.ensures.within closed
     (follows_by f.work after out (drop n piece ++ more) whole (dcs_status now) true leaves left)
 
+pub returns-clause-sound : goal.returns-clause-sound
+returns-clause-sound c = grind arith
+
+pub returns-clause-sooner : goal.returns-clause-sooner
+returns-clause-sooner c = grind arith
+
 pub returns-clause-passes : goal.returns-clause-passes
 returns-clause-passes c = λ more whole l.
     let f = c.args.self.now in
@@ -94,3 +119,20 @@ returns-clause-passes c = λ more whole l.
     let left = leads_closed c.close.new.self f.work out (drop n piece ++ more) whole told_closed.place told_closed.work told_closed.character l in
     ended_leads f c.feed.new.self.decoder after now piece c.args.output.now.items out more whole n c.requires.place r c.feed.ensures.decoder grown ended counted c.in-Ok.ensures.within closed
     (follows_by f.work after out (drop n piece ++ more) whole (dcs_status now) false stays left)
+
+pub returns-then-is_waiting-clause-passes : goal.returns-then-is_waiting-clause-passes
+returns-then-is_waiting-clause-passes c = λ more whole l.
+    let f = c.args.self.now in
+    let piece : List ℕ = c.args.bytes.now in
+    let grown : c.feed.new.self.image.bytes ≡ f.receiver.image.bytes ++ piece = c.feed.ensures.bytes (ap is_open c.requires.reading.receiving.form) in
+    record {
+      text = l.text;
+      rest = rw c.requires.place (rw (c.requires.place, c.feed.ensures.decoder, grown, drop-length piece, append_assoc) at l.rest);
+      joined = l.joined;
+    }
+
+pub close-requires : goal.close-requires
+close-requires c =
+    let r = c.requires.reading in record {
+      receiving = fed c.args.self.now _ c.args.bytes.now r.receiving refl c.feed.ensures.decoder c.feed.ensures.form c.feed.ensures.start c.feed.ensures.bytes c.in-Ok.ensures.ok.1 c.in-Ok.ensures.faultless;
+    }
