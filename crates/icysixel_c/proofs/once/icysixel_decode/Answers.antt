@@ -16,6 +16,9 @@ returns-clause-held c = grind arith
 pub returns-clause-none : goal.returns-clause-none
 returns-clause-none c = grind arith
 
+pub returns-clause-closed : goal.returns-clause-closed
+returns-clause-closed c = grind arith
+
 pub returns-clause-found : goal.returns-clause-found
 returns-clause-found c = grind arith
 
@@ -34,6 +37,9 @@ returns-clause-faultless c = grind arith
 pub returns-clause-set : goal.returns-clause-set
 returns-clause-set c = grind arith
 
+pub returns-clause-text : goal.returns-clause-text
+returns-clause-text c = grind arith
+
 pub returns-clause-kept : goal.returns-clause-kept
 returns-clause-kept c = grind arith
 
@@ -44,3 +50,6 @@ pub returns-clause-refused : goal.returns-clause-refused
 returns-clause-refused c = λ before is refused.
     let same : c.replace_decoder-decoder.result ≡ before.receiver.decoder = grind (arith, c.state-state.ensures.value) in
     rw (← same) (c.keep_answer.ensures.code _ _ refused c.decode-answer.ensures.refused)
+
+pub returns-clause-told : goal.returns-clause-told
+returns-clause-told c = grind arith

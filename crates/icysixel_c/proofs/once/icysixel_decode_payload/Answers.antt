@@ -29,10 +29,19 @@ returns-clause-held c = grind arith
 pub returns-clause-none : goal.returns-clause-none
 returns-clause-none c = grind arith
 
+pub returns-clause-dropped : goal.returns-clause-dropped
+returns-clause-dropped c = grind arith
+
 pub returns-clause-refused : goal.returns-clause-refused
 returns-clause-refused c = λ before is refused.
     let same : c.replace_decoder-decoder.result ≡ before.receiver.decoder = grind (arith, c.state-state.ensures.value) in
     rw (← same) (c.keep_answer.ensures.code _ _ refused c.decode_from_dcs-answer.ensures.refused)
+
+pub returns-clause-closed : goal.returns-clause-closed
+returns-clause-closed c = grind arith
+
+pub returns-clause-found : goal.returns-clause-found
+returns-clause-found c = grind arith
 
 pub returns-clause-image : goal.returns-clause-image
 returns-clause-image c = λ before after image is is_now kept.
@@ -50,8 +59,17 @@ returns-clause-shape c = grind arith
 pub returns-clause-registers : goal.returns-clause-registers
 returns-clause-registers c = grind arith
 
+pub returns-clause-faultless : goal.returns-clause-faultless
+returns-clause-faultless c = grind arith
+
+pub returns-clause-set : goal.returns-clause-set
+returns-clause-set c = grind arith
+
 pub returns-clause-text : goal.returns-clause-text
 returns-clause-text c = grind arith
 
 pub returns-clause-kept : goal.returns-clause-kept
 returns-clause-kept c = grind arith
+
+pub returns-clause-told : goal.returns-clause-told
+returns-clause-told c = grind arith

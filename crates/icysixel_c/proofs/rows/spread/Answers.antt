@@ -1,6 +1,12 @@
 use Rattle.std.proofs.Common.{◌≡◌, ◌+◌, ◌-◌, ◌*◌, ◌≤◌, length, drop, ◌∙◌, arith, length-take, length-drop}
+use Rattle.std.proofs.lemmas.Grind.{common_steps}
+use Rattle.sixel_base.specs.Picture.{joined}
 use Rattle.icysixel_c.proofs.Spread.{row_inside, row_more, gap_kept, rest_kept}
 use Rattle.icysixel_c.proofs.rows.spread.Goals as goal
+
+pub loop-row-init : goal.loop-row-init
+unfolding joined
+loop-row-init c = grind (arith, common_steps)
 
 pub overflow_mul-to : goal.overflow_mul-to
 overflow_mul-to c =
