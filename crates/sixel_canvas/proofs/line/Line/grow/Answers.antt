@@ -1,4 +1,4 @@
-use Rattle.std.proofs.Common.{◌≡◌, ◌+◌, ◌-◌, ◌≤◌, ◌++◌, length, replicate, sym, ap, ◌∙◌, arith}
+use Rattle.std.proofs.Common.{◌≡◌, ◌+◌, ◌-◌, ◌≤◌, ◌++◌, length, replicate, sym, ap, ◌∙◌, arith, rules}
 use Rattle.std.specs.Prelude.{nat_lt, if◌then◌else◌}
 use Rattle.sixel_canvas.specs.Row.{RowState, row_state, writes_for}
 use Rattle.sixel_canvas.proofs.Strokes.{struck_row, row_state-struck, IsRoomy-struck_row}
@@ -38,3 +38,39 @@ invariant_of-self c = (
 
 pub returns-in_err-room-clause-roomy : goal.returns-in_err-room-clause-roomy
 returns-in_err-room-clause-roomy c = (invariant_of-self c).1
+
+pub len-requires : goal.len-requires
+len-requires c = grind arith
+
+pub written_to_grow-written-requires : goal.written_to_grow-written-requires
+written_to_grow-written-requires c = grind arith
+
+pub make_room-requires : goal.make_room-requires
+make_room-requires c = grind arith
+
+pub branch-room-requires : goal.branch-room-requires
+branch-room-requires c κs = search rules
+
+pub from_residual-requires : goal.from_residual-requires
+from_residual-requires c κs = search rules
+
+pub returns-in_err-room-clause-ok : goal.returns-in_err-room-clause-ok
+returns-in_err-room-clause-ok c = grind arith
+
+pub returns-in_err-room-clause-within_room : goal.returns-in_err-room-clause-within_room
+returns-in_err-room-clause-within_room c = grind arith
+
+pub returns-in_err-room-clause-refused : goal.returns-in_err-room-clause-refused
+returns-in_err-room-clause-refused c = grind arith
+
+pub fill_both-requires : goal.fill_both-requires
+fill_both-requires c = grind arith
+
+pub overflow_add-self : goal.overflow_add-self
+overflow_add-self c = grind arith
+
+pub returns-clause-within_room : goal.returns-clause-within_room
+returns-clause-within_room c = grind arith
+
+pub returns-clause-refused : goal.returns-clause-refused
+returns-clause-refused c = grind arith

@@ -1,4 +1,4 @@
-use Rattle.std.proofs.Common.{◌≡◌, ◌+◌, ◌-◌, ◌++◌, min, length, get_or, take, drop, sym, ap, ◌∙◌, append_assoc, length-drop, take_all, arith}
+use Rattle.std.proofs.Common.{◌≡◌, ◌+◌, ◌-◌, ◌++◌, min, length, get_or, take, drop, sym, ap, ◌∙◌, append_assoc, length-drop, take_all, arith, rules}
 use Rattle.std.specs.List.{flat_map}
 use Rattle.std.proofs.lemmas.Result.{on_ok_weaker}
 use Rattle.sixel_base.specs.Picture.{joined}
@@ -29,3 +29,54 @@ returns-clause-ok c =
     let step : c.extend_from_slice.new.self.items ++ rest ≡ front ++ joined (λ k. get_or c.args.self.now.pixels (from + k) c.args.self.now.background) count =
     ap (λ xs. xs ++ rest) copied ∙ append_assoc front part rest ∙ rw (← c.self.view_is) (ap (λ xs. front ++ xs) (sym whole)) in
     on_ok_weaker c.add_pixels.result (λ written. written ∙ step) c.add_pixels.ensures.ok
+
+pub len-requires : goal.len-requires
+len-requires c = grind arith
+
+pub min-begin-requires : goal.min-begin-requires
+min-begin-requires c = grind arith
+
+pub deref-requires : goal.deref-requires
+deref-requires c κs = search rules
+
+pub offset_bounds-deref-begin : goal.offset_bounds-deref-begin
+offset_bounds-deref-begin c = grind arith
+
+pub slice_bounds-rest-count : goal.slice_bounds-rest-count
+slice_bounds-rest-count c = grind arith
+
+pub slice_bounds-rest-start : goal.slice_bounds-rest-start
+slice_bounds-rest-start c = grind arith
+
+pub slice_bounds-rest-end : goal.slice_bounds-rest-end
+slice_bounds-rest-end c = grind arith
+
+pub min-held-requires : goal.min-held-requires
+min-held-requires c = grind arith
+
+pub slice_bounds-as_flattened-end : goal.slice_bounds-as_flattened-end
+slice_bounds-as_flattened-end c = search rules
+
+pub as_flattened-requires : goal.as_flattened-requires
+as_flattened-requires c = grind arith
+
+pub extend_from_slice-requires : goal.extend_from_slice-requires
+extend_from_slice-requires c κs = search rules
+
+pub branch-extend_from_slice-requires : goal.branch-extend_from_slice-requires
+branch-extend_from_slice-requires c κs = search rules
+
+pub from_residual-requires : goal.from_residual-requires
+from_residual-requires c κs = search rules
+
+pub returns-in_err-extend_from_slice : goal.returns-in_err-extend_from_slice
+returns-in_err-extend_from_slice c = grind arith
+
+pub overflow_sub-count : goal.overflow_sub-count
+overflow_sub-count c = grind arith
+
+pub add_pixels-requires : goal.add_pixels-requires
+add_pixels-requires c = search rules
+
+pub returns-clause-len : goal.returns-clause-len
+returns-clause-len c = search rules

@@ -33,3 +33,60 @@ returns-then-holds_one-clause-least c = λ some.
 pub returns-then-holds_one-clause-most : goal.returns-then-holds_one-clause-most
 returns-then-holds_one-clause-most c = λ _.
     omega (arith, c.column.ensures.most, c.column.ensures.spread)
+
+pub holds_one-requires : goal.holds_one-requires
+holds_one-requires c = grind arith
+
+pub column-requires-clause-plain : goal.column-requires-clause-plain
+column-requires-clause-plain c = grind arith
+
+pub column-requires-clause-six : goal.column-requires-clause-six
+column-requires-clause-six c = grind arith
+
+pub returns-then-holds_one-clause-background : goal.returns-then-holds_one-clause-background
+returns-then-holds_one-clause-background c = grind arith
+
+pub returns-then-holds_one-clause-held : goal.returns-then-holds_one-clause-held
+returns-then-holds_one-clause-held c = grind arith
+
+pub returns-then-holds_one-clause-error : goal.returns-then-holds_one-clause-error
+returns-then-holds_one-clause-error c = grind arith
+
+pub returns-then-holds_one-clause-spread : goal.returns-then-holds_one-clause-spread
+returns-then-holds_one-clause-spread c = grind arith
+
+pub returns-then-holds_one-clause-bounded : goal.returns-then-holds_one-clause-bounded
+returns-then-holds_one-clause-bounded c = grind arith
+
+pub returns-then-bits-eq0-clause-drawn : goal.returns-then-bits-eq0-clause-drawn
+returns-then-bits-eq0-clause-drawn c = grind arith
+
+pub returns-then-bits-eq0-clause-grown : goal.returns-then-bits-eq0-clause-grown
+returns-then-bits-eq0-clause-grown c = grind arith
+
+pub returns-then-bits-eq0-clause-background : goal.returns-then-bits-eq0-clause-background
+returns-then-bits-eq0-clause-background c = grind arith
+
+pub returns-then-bits-eq0-clause-held : goal.returns-then-bits-eq0-clause-held
+returns-then-bits-eq0-clause-held c = grind arith
+
+pub returns-then-bits-eq0-clause-error : goal.returns-then-bits-eq0-clause-error
+returns-then-bits-eq0-clause-error c = grind arith
+
+pub returns-then-bits-eq0-clause-least : goal.returns-then-bits-eq0-clause-least
+returns-then-bits-eq0-clause-least c = grind arith
+
+pub returns-then-bits-eq0-clause-most : goal.returns-then-bits-eq0-clause-most
+returns-then-bits-eq0-clause-most c = grind arith
+
+pub returns-then-bits-eq0-clause-spread : goal.returns-then-bits-eq0-clause-spread
+returns-then-bits-eq0-clause-spread c = grind arith
+
+pub draw_dots-requires : goal.draw_dots-requires
+draw_dots-requires c = grind arith
+
+pub map_err-requires : goal.map_err-requires
+map_err-requires c = grind arith
+
+pub returns : goal.returns
+returns c = grind arith

@@ -20,3 +20,33 @@ returns-clause-drawn c =
     painted_seen row from to first last (to / 128) c.args.color (seen c.args.sheet.now c.args.tags.now)
     (shown sheet) (shown c.fill_row-2.new.self) (shown tags) (shown c.fill_row.new.self)
     (omega arith) (omega arith) (λ h. omega (arith, h)) settled past c.fill_row.ensures.drawn c.fill_row-2.ensures.drawn
+
+pub settle_ends-requires : goal.settle_ends-requires
+settle_ends-requires c = grind arith
+
+pub div_ceil-first-requires : goal.div_ceil-first-requires
+div_ceil-first-requires c = grind arith
+
+pub width-requires : goal.width-requires
+width-requires c = grind arith
+
+pub min-requires : goal.min-requires
+min-requires c = grind arith
+
+pub max-last-requires : goal.max-last-requires
+max-last-requires c = grind arith
+
+pub fill_row-requires : goal.fill_row-requires
+fill_row-requires c = grind arith
+
+pub fill_row-requires-2 : goal.fill_row-requires-2
+fill_row-requires-2 c = grind arith
+
+pub returns-clause-reached : goal.returns-clause-reached
+returns-clause-reached c = grind arith
+
+pub returns-clause-background : goal.returns-clause-background
+returns-clause-background c = grind arith
+
+pub returns-clause-tagged : goal.returns-clause-tagged
+returns-clause-tagged c = grind arith

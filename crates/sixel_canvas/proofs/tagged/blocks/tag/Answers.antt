@@ -1,4 +1,4 @@
-use Rattle.std.proofs.Common.{◌/◌, arith}
+use Rattle.std.proofs.Common.{◌/◌, arith, rules}
 use Rattle.sixel_canvas.specs.inside.Canvas.{shown}
 use Rattle.sixel_canvas.specs.inside.Tags.{seen}
 use Rattle.sixel_canvas.proofs.Tagging.{IsSettled, tagged_seen}
@@ -19,3 +19,33 @@ returns-clause-drawn c =
     tagged_seen row from to first (to / 128) c.args.color before
     (shown sheet) (shown c.fill_row.new.self) (shown c.fill_row-2.new.self) (shown tags) (shown c.fill_row-3.new.self)
     (omega arith) (omega arith) (omega arith) c.requires.visible settled c.fill_row.ensures.drawn c.fill_row-2.ensures.drawn c.fill_row-3.ensures.drawn
+
+pub div_ceil-first-requires : goal.div_ceil-first-requires
+div_ceil-first-requires c = grind arith
+
+pub settle_ends-requires : goal.settle_ends-requires
+settle_ends-requires c = grind arith
+
+pub overflow_mul-first : goal.overflow_mul-first
+overflow_mul-first c = grind arith
+
+pub fill_row-requires : goal.fill_row-requires
+fill_row-requires c = grind arith
+
+pub overflow_mul-last : goal.overflow_mul-last
+overflow_mul-last c = grind arith
+
+pub fill_row-requires-2 : goal.fill_row-requires-2
+fill_row-requires-2 c = grind arith
+
+pub fill_row-requires-3 : goal.fill_row-requires-3
+fill_row-requires-3 c = grind arith
+
+pub returns-clause-reached : goal.returns-clause-reached
+returns-clause-reached c = grind arith
+
+pub returns-clause-background : goal.returns-clause-background
+returns-clause-background c = grind arith
+
+pub returns-clause-tagged : goal.returns-clause-tagged
+returns-clause-tagged c = search rules
