@@ -71,21 +71,28 @@ const REACHED: &[(&str, Reached)] = &[
     ("a painted row", Reached(&[Reach(9, (9, 9, 9))])),
 ];
 
-impl Expected<&str> for Reached {
-    /// Painting counts no write.
-    fn holds(&self, alloc: Global, _: &str) -> Result<bool> {
-        let mut row = Row::new(alloc, BACKGROUND);
-        let mut are_right = row.is_empty() & (row.room() == 0) & (row.writes() == 0);
-        for reach in self.0 {
-            row.reach(reach.0.min(1_000_000))?;
-            if 3 <= row.len() {
-                row.paint(2, 3, RED);
-                row.paint(0, row.len(), RED);
-            }
-            let (width, room, writes) = reach.1;
-            are_right &= (row.len() == width) & (row.room() == room) & (row.writes() == writes);
+/// Whether a row is as wide, has so much room, and has written so many pixels.
+fn has_counts(row: &Row, (width, room, writes): Counts) -> bool {
+    (row.len() == width) & (row.room() == room) & (row.writes() == writes)
+}
+
+/// Has a row reach these widths, and tells whether it counts so. Painting counts no write.
+fn reaches(row: &mut Row, reached: &[Reach]) -> Result<bool> {
+    let mut are_right = row.is_empty() & has_counts(row, (0, 0, 0));
+    for reach in reached {
+        row.reach(reach.0.min(1_000_000))?;
+        if 3 <= row.len() {
+            row.paint(2, 3, RED);
+            row.paint(0, row.len(), RED);
         }
-        Ok(are_right)
+        are_right &= has_counts(row, reach.1);
+    }
+    Ok(are_right)
+}
+
+impl Expected<&str> for Reached {
+    fn holds(&self, alloc: Global, _: &str) -> Result<bool> {
+        reaches(&mut Row::new(alloc, BACKGROUND), self.0)
     }
 }
 
@@ -215,19 +222,35 @@ fn draw(canvas: &mut Canvas, stroke: Stroke) -> bool {
         && canvas.draw(from, to, top, bits, color).is_ok()
 }
 
+/// Draws strokes, and tells whether they are such as there can be.
+fn draw_all(canvas: &mut Canvas, strokes: &[Stroke]) -> bool {
+    let mut are_drawn = true;
+    for stroke in strokes {
+        are_drawn &= draw(canvas, *stroke);
+    }
+    are_drawn
+}
+
+/// Whether a canvas shows this picture.
+fn is_shown(canvas: &Canvas, Picture((width, height), runs): Picture) -> Result<bool> {
+    if width.saturating_mul(height) > 67_108_864 {
+        return Ok(false);
+    }
+    let shown = canvas.pack(width, height)?;
+    Ok(are_runs(&shown, runs))
+}
+
+impl Drawn {
+    /// Whether a new canvas has written so many pixels after these strokes, and shows this.
+    fn is_drawn(&self, canvas: &mut Canvas) -> Result<bool> {
+        let are_drawn = draw_all(canvas, self.strokes) & (canvas.writes() == self.writes);
+        Ok(are_drawn & is_shown(canvas, self.picture)?)
+    }
+}
+
 impl Expected<&str> for Drawn {
     fn holds(&self, alloc: Global, _: &str) -> Result<bool> {
-        let mut canvas = Canvas::new(alloc, BACKGROUND);
-        let mut are_drawn = true;
-        for stroke in self.strokes {
-            are_drawn &= draw(&mut canvas, *stroke);
-        }
-        let Picture((width, height), runs) = self.picture;
-        if width.saturating_mul(height) > 67_108_864 {
-            return Ok(false);
-        }
-        let shown = canvas.pack(width, height)?;
-        Ok(are_drawn & (canvas.writes() == self.writes) & are_runs(&shown, runs))
+        self.is_drawn(&mut Canvas::new(alloc, BACKGROUND))
     }
 }
 

@@ -141,22 +141,38 @@ impl Image {
     }
 }
 
+impl Image {
+    /// Whether each call that looks for a control string gives it.
+    fn is_found(&self, alloc: Global, bytes: &[u8]) -> Result<bool> {
+        Ok(
+            self.is_shown(alloc, SixelDecoder::new().decode(alloc, bytes))?
+                & self.is_shown(alloc, SixelImage::decode(alloc, bytes))?
+                & self.is_shown(alloc, sixel_decode(alloc, bytes))?,
+        )
+    }
+
+    /// Whether each call that takes a payload gives it.
+    fn is_taken(&self, alloc: Global, bytes: &[u8]) -> Result<bool> {
+        let settings = DcsSettings::default();
+        let by_decoder = SixelDecoder::new().decode_from_dcs(alloc, bytes, settings);
+        Ok(
+            self.is_shown(alloc, by_decoder)?
+                & self.is_shown(alloc, SixelImage::decode_from_dcs(alloc, bytes, settings))?
+                & self.is_shown(alloc, sixel_decode_from_dcs(alloc, bytes, settings))?,
+        )
+    }
+}
+
 impl Expected<&[u8]> for Image {
     /// It is given by each call that looks for a control string; of a payload, also by each call
     /// that takes one.
     fn holds(&self, alloc: Global, bytes: &[u8]) -> Result<bool> {
-        let settings = DcsSettings::default();
-        let mut is_given = self.is_shown(alloc, SixelDecoder::new().decode(alloc, bytes))?
-            & self.is_shown(alloc, SixelImage::decode(alloc, bytes))?
-            & self.is_shown(alloc, sixel_decode(alloc, bytes))?;
+        let mut is_given = self.is_found(alloc, bytes)?;
         if let Ok(text) = str::from_utf8(bytes) {
             is_given &= self.is_shown(alloc, SixelImage::from_str(alloc, text))?;
         }
         if self.is_payload {
-            let by_decoder = SixelDecoder::new().decode_from_dcs(alloc, bytes, settings);
-            is_given &= self.is_shown(alloc, by_decoder)?
-                & self.is_shown(alloc, SixelImage::decode_from_dcs(alloc, bytes, settings))?
-                & self.is_shown(alloc, sixel_decode_from_dcs(alloc, bytes, settings))?;
+            is_given &= self.is_taken(alloc, bytes)?;
         }
         Ok(is_given)
     }

@@ -324,7 +324,30 @@ fn is_so(outcome: &Outcome, expected: Expected) -> bool {
     }
 }
 
-/// Whether each step of a list, and no more, comes to what is expected on this decoder.
+/// The steps of these lines, with these settings and cuts.
+fn steps_of<'a>(
+    alloc: Global,
+    settings: DcsSettings,
+    cuts: &'a [usize],
+    lines: &[Line],
+) -> Result<Vec<Step<'a>>> {
+    let mut steps = Vec::new(alloc);
+    for line in lines {
+        steps.extend_from_slice(&[step(settings, cuts, line.0)])?;
+    }
+    Ok(steps)
+}
+
+/// Whether each step of a list, and no more, came to what is expected.
+fn are_so(outcomes: &[Outcome], lines: &[Line]) -> bool {
+    let mut are_right = outcomes.len() == lines.len();
+    for (outcome, line) in outcomes.iter().zip(lines) {
+        are_right &= is_so(outcome, line.1);
+    }
+    are_right
+}
+
+/// Whether the steps of a list come to what is expected on this decoder.
 fn runs(
     alloc: Global,
     decoder: &mut SixelDecoder,
@@ -332,16 +355,9 @@ fn runs(
     cuts: &[usize],
     lines: &[Line],
 ) -> Result<bool> {
-    let mut steps = Vec::new(alloc);
-    for line in lines {
-        steps.extend_from_slice(&[step(settings, cuts, line.0)])?;
-    }
+    let steps = steps_of(alloc, settings, cuts, lines)?;
     let outcomes = run(alloc, decoder, &steps)?;
-    let mut are_right = outcomes.len() == lines.len();
-    for (outcome, line) in outcomes.iter().zip(lines) {
-        are_right &= is_so(outcome, line.1);
-    }
-    Ok(are_right)
+    Ok(are_so(&outcomes, lines))
 }
 
 #[test]
