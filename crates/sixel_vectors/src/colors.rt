@@ -81,6 +81,14 @@ pub const COLUMNS: &[(&str, Decoding)] = &[
         ),
     ),
     (
+        "#1;1;359;50;100~",
+        Decoding(
+            NEW,
+            PAYLOAD,
+            Drawn(Picture((1, 6), &[(6, [0, 4, 255, 255])])),
+        ),
+    ),
+    (
         "#1;1;60;25;50~",
         Decoding(
             NEW,
@@ -124,10 +132,6 @@ pub struct Alike(&'static str);
 
 /// Payloads whose hue turns round, and the same with the hue that it comes to.
 pub const HUES: &[(&str, Alike)] = &[
-    ("#0;1;0;50;100~", Alike("#0;1;0;50;100~")),
-    ("#0;1;120;50;100~", Alike("#0;1;120;50;100~")),
-    ("#0;1;240;50;100~", Alike("#0;1;240;50;100~")),
-    ("#0;1;359;50;100~", Alike("#0;1;359;50;100~")),
     ("#0;1;360;50;100~", Alike("#0;1;0;50;100~")),
     ("#0;1;480;50;100~", Alike("#0;1;120;50;100~")),
     ("#0;1;720;50;100~", Alike("#0;1;0;50;100~")),

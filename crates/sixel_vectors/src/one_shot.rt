@@ -139,9 +139,7 @@ impl Image {
                 & comes_to(Ok(image), self.shown),
         )
     }
-}
 
-impl Image {
     /// Whether each call that looks for a control string gives it.
     fn is_found(&self, alloc: Global, bytes: &[u8]) -> Result<bool> {
         Ok(
