@@ -5,7 +5,6 @@ ghost use Rattle.std.specs.Prelude.{slice_index, IsTrue, None, OnOk, IfErr, IfOk
 ghost use Rattle.std.specs.Prelude.{◌++◌, Some, MatchOption, MatchResult, codes, string_bytes};
 ghost use Rattle.std.specs.Option.{option_or};
 ghost use Rattle.sixel_base.specs.Settings.{pad_of};
-ghost use Rattle.sixel_base.specs.Message.{message};
 ghost use Rattle.sixel_base.specs.Size.{size_fault, buffer_fault};
 
 use crate::decoder::{DcsSettings, SixelDecoder};
@@ -281,14 +280,14 @@ impl SixelImage {
         encode_source(alloc, &source, options.max_colors)
     }
 
-    /// The text of [`encode`](Self::encode), or a line that says why there is none.
+    /// The text of [`encode`](Self::encode), or a line with the error of an image that has none.
     pub fn to_display_string(&self, alloc: Global) -> Result<String>
         ensures memory { IfErr result (λ e. e ≡ SixelError.OutOfMemory) }
         ensures text { image_fault (image_value self.now) ≡ None
             → IfOk result (λ text. IsText (image_value self.now) 256 (string_bytes text)) }
         ensures refused { (fault : SixelError) → image_fault (image_value self.now) ≡ Some fault
-            → IfOk result (λ text. string_bytes text
-            ≡ codes "[SIXEL encoding failed: " ++ message fault ++ codes "]") }
+            → IfOk result (λ text. (words : List ℕ) × (string_bytes text
+            ≡ codes "[SIXEL encoding failed: " ++ words ++ codes "]")) }
     {
         match self.encode(alloc) {
             Err(SixelError::OutOfMemory) => Err(SixelError::OutOfMemory),
@@ -298,11 +297,12 @@ impl SixelImage {
     }
 }
 
-/// A line that says why an image has no text.
+/// A line with the error of an image that has no text.
 fn refusal_line(alloc: Global, error: SixelError) -> Result<String>
     ensures memory { IfErr result (λ e. e ≡ SixelError.OutOfMemory) }
-    ensures text { IfOk result (λ text. string_bytes text
-        ≡ codes "[SIXEL encoding failed: " ++ message error ++ codes "]") }
+    ensures text { IfOk result (λ text. (words : List ℕ) × (string_bytes text
+        ≡ codes "[SIXEL encoding failed: " ++ words ++ codes "]")) }
 {
+    let error = format!(in alloc; "{error}")?;
     Ok(format!(in alloc; "[SIXEL encoding failed: {error}]")?)
 }

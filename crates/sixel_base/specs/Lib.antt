@@ -1,5 +1,4 @@
 pub mod Fault
-pub mod Message
 pub mod Size
 pub mod Settings
 pub mod Fields

@@ -1,106 +1,102 @@
+//! The errors of the encoder and of the decoder.
+
 ghost use Rattle.std.specs.Prelude.{◌≡◌};
 ghost use Rattle.sixel_base.specs.declared.error.SixelError.TheVariants.{OutOfMemory};
-ghost use Rattle.sixel_base.specs.Fault.{IsFault, Malformed, TooLarge, MissingCommand, BadHeader, StreamFailed, DcsStreamFailed, Incomplete};
+ghost use Rattle.sixel_base.specs.Fault.{IsFault, Malformed, TooLarge, MissingCommand, BadHeader};
+ghost use Rattle.sixel_base.specs.Fault.{StreamFailed, DcsStreamFailed, Incomplete};
 
 use std::alloc::{AllocError, AllocFailed};
-use std::error::Error;
-use std::fmt;
+use thiserror::Error;
 
-/// The answer of a call that can be refused.
+/// The text of data that break the grammar or a limit of one command.
+pub const MALFORMED: &str = "malformed SIXEL data";
+/// The text of an image whose area is above the limit.
+pub const TOO_LARGE: &str = "image dimensions too large";
+/// The text of a DCS sequence that ends in its header.
+pub const MISSING_COMMAND: &str = "missing SIXEL DCS command";
+/// The text of a header with a byte that has no place in it.
+pub const BAD_HEADER: &str = "invalid SIXEL DCS header";
+/// The text of a payload session after an error.
+pub const STREAM_FAILED: &str = "stream decoder has failed";
+/// The text of a DCS session after an error.
+pub const DCS_STREAM_FAILED: &str = "DCS stream decoder has failed";
+/// The text of a DCS sequence that has not ended.
+pub const INCOMPLETE: &str = "incomplete SIXEL DCS sequence";
+
+/// The result of a call that can fail.
 pub type Result<T> = std::result::Result<T, SixelError>;
 
-/// Why a call was refused.
-#[derive(Debug, PartialEq, Eq, Drop)]
+/// Why a call failed.
+#[derive(Debug, PartialEq, Eq, Drop, Error)]
 pub enum SixelError {
-    /// A size is zero, or above what the format can hold.
+    /// A size is zero, or above the limits of the format.
+    #[error("invalid dimensions: {width}x{height}")]
     InvalidDimensions { width: usize, height: usize },
-    /// The pixels are not as many bytes as the sizes ask for.
+    /// The pixels have another number of bytes than the sizes require.
+    #[error("buffer size mismatch: expected {expected} bytes, got {actual}")]
     BufferSizeMismatch { expected: usize, actual: usize },
-    /// The bytes are no SIXEL data, for this reason.
+    /// The bytes are not SIXEL data, for this reason.
+    #[error("invalid SIXEL data: {0}")]
     InvalidData(&'static str),
-    /// No introducer of a device control string was found.
+    /// The data have no DCS introducer.
+    #[error("no SIXEL data found (missing DCS introducer)")]
     NoSixelData,
     /// A size does not fit its type.
+    #[error("integer overflow")]
     IntegerOverflow,
-    /// Memory was refused.
+    /// An allocation failed.
+    #[error("out of memory")]
     OutOfMemory,
 }
 
-impl fmt::Display for SixelError {
-    ghost use Rattle.std.specs.Prelude.{Some};
-    ghost use Rattle.sixel_base.specs.Message.{message};
-
-    ghost output = { λ error. Some (message error) };
-
-    fn fmt<W: fmt::Write>(&self, f: &mut fmt::Formatter<W>) -> fmt::Result {
-        match self {
-            Self::InvalidDimensions { width, height } => {
-                write!(f, "invalid dimensions: {width}x{height}")
-            }
-            Self::BufferSizeMismatch { expected, actual } => {
-                write!(
-                    f,
-                    "buffer size mismatch: expected {expected} bytes, got {actual}"
-                )
-            }
-            Self::InvalidData(text) => write!(f, "invalid SIXEL data: {text}"),
-            Self::NoSixelData => f.write_str("no SIXEL data found (missing DCS introducer)"),
-            Self::IntegerOverflow => f.write_str("integer overflow"),
-            Self::OutOfMemory => f.write_str("out of memory"),
-        }
-    }
-}
-
-impl Error for SixelError {}
-
 impl SixelError {
-    /// The refusal of data that breaks the grammar or a limit of one command.
+    /// The error of data that break the grammar or a limit of one command.
     pub fn malformed() -> SixelError
         ensures { IsFault result Malformed }
     {
-        SixelError::InvalidData("malformed SIXEL data")
+        SixelError::InvalidData(MALFORMED)
     }
 
-    /// The refusal of an image whose area is above the limit.
+    /// The error of an image whose area is above the limit.
     pub fn too_large() -> SixelError
         ensures { IsFault result TooLarge }
     {
-        SixelError::InvalidData("image dimensions too large")
+        SixelError::InvalidData(TOO_LARGE)
     }
 
-    /// The answer of a payload session after a refused feed.
+    /// The error of a payload session after an earlier error.
     pub fn stream_failed() -> SixelError
         ensures { IsFault result StreamFailed }
     {
-        SixelError::InvalidData("stream decoder has failed")
+        SixelError::InvalidData(STREAM_FAILED)
     }
 
-    /// The answer of a control string session after a refused feed.
+    /// The error of a DCS session after an earlier error.
     pub fn dcs_stream_failed() -> SixelError
         ensures { IsFault result DcsStreamFailed }
     {
-        SixelError::InvalidData("DCS stream decoder has failed")
+        SixelError::InvalidData(DCS_STREAM_FAILED)
     }
 
-    /// The refusal of a header by a byte that has no place in it.
+    /// The error of a header with a byte that has no place in it.
     pub fn bad_header() -> SixelError
         ensures { IsFault result BadHeader }
     {
-        SixelError::InvalidData("invalid SIXEL DCS header")
+        SixelError::InvalidData(BAD_HEADER)
     }
 
-    /// The refusal of a control string that ends in its header.
+    /// The error of a DCS sequence that ends in its header.
     pub fn missing_command() -> SixelError
         ensures { IsFault result MissingCommand }
     {
-        SixelError::InvalidData("missing SIXEL DCS command")
+        SixelError::InvalidData(MISSING_COMMAND)
     }
 
-    /// The refusal to finish a control string that has not ended.
+    /// The error of a DCS sequence that is finished before it has ended.
     pub fn incomplete() -> SixelError
         ensures { IsFault result Incomplete }
     {
-        SixelError::InvalidData("incomplete SIXEL DCS sequence")
+        SixelError::InvalidData(INCOMPLETE)
     }
 }
 

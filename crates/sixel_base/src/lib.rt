@@ -2,7 +2,7 @@
 //! format, which stands in `specs`.
 #![tactic(auto)]
 
-mod error;
+pub mod error;
 pub mod grammar;
 pub mod limits;
 pub mod parameters;
