@@ -1,9 +1,10 @@
-# Builds, tests and installs the program `sixel` and the library for C. `rt` proves and compiles each crate.
+# Builds, tests and installs the program `sixel` and the library for C.
+# `rt` proves and compiles each crate.
 #
 #   make            crates/sixel/out/sixel, out/libicysixel.a, out/icysixel.h, out/icysixel.pc
 #   make check      proves and tests everything
 #   make test       runs the test suite over what is built
-#   make install    copies the program and the library to DESTDIR/PREFIX; PREFIX is /usr/local by default
+#   make install    copies both to DESTDIR/PREFIX; PREFIX is /usr/local by default
 #   make bench      times the program and the library
 
 MAKEFLAGS += --no-builtin-rules
@@ -16,13 +17,11 @@ archive_by_rattle = $(crate)/out/libicysixel_c.by-rattle.a
 library = out/libicysixel.a out/icysixel.h out/icysixel.pc
 installed = $(DESTDIR)$(or $(PREFIX),/usr/local)
 
-all: program library
+all: program lib
 
 program: $(program)
 
-library: $(library)
-
-lib: $(library) $(archive_by_rattle)
+lib: $(library)
 
 check:
 	./check
@@ -32,15 +31,15 @@ built: program $(filter) lib
 test: built
 	python3 tests
 
-bench: $(program) library
+bench: all
 	python3 bench
 
-install: install-program install-library
+install: install-program install-lib
 
 install-program: program
 	install -D $(program) $(installed)/bin/sixel
 
-install-library: library
+install-lib: lib
 	install -D -m 644 out/libicysixel.a $(installed)/lib/libicysixel.a
 	install -D -m 644 out/icysixel.h $(installed)/include/icysixel.h
 	mkdir -p $(installed)/lib/pkgconfig
@@ -49,9 +48,9 @@ install-library: library
 clean:
 	rm -rf out crates/*/out
 
-.PHONY: all program library lib built check test bench install install-program install-library clean
+.PHONY: all program lib built check test bench install install-program install-lib clean
 
-# A crate and the crates of this repository below it, as crates.txt lists them, and the sources of all these.
+# A crate and the crates below it, as crates.txt lists them, and the sources of all of them.
 below = $1 $(foreach name,$(shell sed -n 's/^$1\( [^:]*\)*://p' crates.txt),\
 	$(if $(wildcard crates/$(name)),$(call below,$(name))))
 sources = crates.txt $(shell find $(wildcard $(foreach name,$(sort $(call below,$1)),\
@@ -67,16 +66,14 @@ $(filter): $$(call sources,sixel_filter)
 	cd crates/sixel_filter && rt run -- 1 size </dev/null >/dev/null
 	touch $@
 
-$(archive): $$(call sources,icysixel_c)
-	cd $(crate) && rt lib >&2
-	touch $@
-
-# `rt lib` gives both archives the same name.
-$(archive_by_rattle): $(archive)
-	cp -p $(archive) $(archive).llvm
+# `rt lib` writes either archive to the same file.
+$(archive_by_rattle): $$(call sources,icysixel_c)
 	cd $(crate) && rt lib --backend rattle >&2
 	mv $(archive) $@
-	mv $(archive).llvm $(archive)
+	touch $@
+
+$(archive): $(archive_by_rattle)
+	cd $(crate) && rt lib >&2
 	touch $@
 
 out/libicysixel.a: $(archive) $(crate)/memory/icysixel_memory.c
@@ -90,8 +87,8 @@ out/icysixel.h: $(crate)/include/icysixel.h
 	install -D -m 644 $(crate)/include/icysixel.h $@
 
 # (written anew, because it depends on PREFIX; without one, it names its own folder)
-described = sed 's|@prefix@|$(or $1,$${pcfiledir})|; s|@lib@|$(if $1,/lib)|; s|@include@|$(if $1,/include)|' \
-	$(crate)/icysixel.pc.in
+described = sed 's|@prefix@|$(or $1,$${pcfiledir})|; s|@lib@|$(if $1,/lib)|; \
+	s|@include@|$(if $1,/include)|' $(crate)/icysixel.pc.in
 
 .PHONY: out/icysixel.pc
 out/icysixel.pc:

@@ -1,12 +1,13 @@
 /* Times libsixel in process, as speed.c times this library: libsixel FILE TURNS [COLORS]
  *
- * What it decodes becomes pixels of four bytes in each turn. What it encodes comes from such, by way of the three bytes a
- * pixel that it takes, without dithering, and with the effort that img2sixel gives to more than eight colors. */
+ * Each turn of decoding ends with pixels of four bytes. Each turn of encoding begins with such
+ * pixels, converts them to three bytes each, does not dither, and has the quality that img2sixel
+ * chooses for more than eight colors. */
 #define _POSIX_C_SOURCE 200809L
 #include "timing.h"
 #include <sixel.h>
 
-/* Ends the program with the words of a status, if it is one of a failure. */
+/* Writes the text of an error status and ends the program. */
 static void want(SIXELSTATUS status)
 {
     if (SIXEL_SUCCEEDED(status)) return;
@@ -14,7 +15,7 @@ static void want(SIXELSTATUS status)
     exit(1);
 }
 
-/* Room for so many bytes. */
+/* Allocates a buffer. */
 static uint8_t *room_for(size_t bytes)
 {
     uint8_t *room = malloc(bytes);
@@ -22,7 +23,7 @@ static uint8_t *room_for(size_t bytes)
     return room;
 }
 
-/* The pixels of a control string, for the caller to free. */
+/* The pixels of a DCS sequence, for the caller to free. */
 static uint8_t *decoded(uint8_t *bytes, size_t length, size_t *width, size_t *height)
 {
     uint8_t *indices, *palette, colors[256][4] = {0};
@@ -35,13 +36,14 @@ static uint8_t *decoded(uint8_t *bytes, size_t length, size_t *width, size_t *he
     *width = (size_t)wide;
     *height = (size_t)high;
     uint8_t *pixels = room_for(4 * *width * *height);
-    for (size_t pixel = 0; pixel < *width * *height; pixel++) memcpy(pixels + 4 * pixel, colors[indices[pixel]], 4);
+    for (size_t pixel = 0; pixel < *width * *height; pixel++)
+        memcpy(pixels + 4 * pixel, colors[indices[pixel]], 4);
     free(indices);
     free(palette);
     return pixels;
 }
 
-/* A text that grows. */
+/* A buffer that grows. */
 typedef struct {
     char *bytes;
     size_t length;
@@ -53,24 +55,26 @@ static int append(char *bytes, int length, void *to)
     text *whole = to;
     while (whole->length + (size_t)length > whole->room) {
         whole->room = whole->room > 0 ? 2 * whole->room : 1 << 16;
-        if ((whole->bytes = realloc(whole->bytes, whole->room)) == NULL) want(SIXEL_BAD_ALLOCATION);
+        whole->bytes = realloc(whole->bytes, whole->room);
+        if (whole->bytes == NULL) want(SIXEL_BAD_ALLOCATION);
     }
     memcpy(whole->bytes + whole->length, bytes, (size_t)length);
     whole->length += (size_t)length;
     return length;
 }
 
-/* How many bytes the text of these pixels has. */
+/* The number of bytes of the SIXEL output of these pixels. */
 static size_t encoded(const uint8_t *pixels, size_t width, size_t height, int colors)
 {
     sixel_dither_t *dither;
     sixel_output_t *output;
     text whole = {0};
     uint8_t *rgb = room_for(3 * width * height);
-    for (size_t pixel = 0; pixel < width * height; pixel++) memcpy(rgb + 3 * pixel, pixels + 4 * pixel, 3);
+    for (size_t pixel = 0; pixel < width * height; pixel++)
+        memcpy(rgb + 3 * pixel, pixels + 4 * pixel, 3);
     want(sixel_dither_new(&dither, colors, NULL));
-    want(sixel_dither_initialize(dither, rgb, (int)width, (int)height, SIXEL_PIXELFORMAT_RGB888, SIXEL_LARGE_AUTO,
-                                 SIXEL_REP_AUTO, SIXEL_QUALITY_LOW));
+    want(sixel_dither_initialize(dither, rgb, (int)width, (int)height, SIXEL_PIXELFORMAT_RGB888,
+                                 SIXEL_LARGE_AUTO, SIXEL_REP_AUTO, SIXEL_QUALITY_LOW));
     sixel_dither_set_diffusion_type(dither, SIXEL_DIFFUSE_NONE);
     want(sixel_output_new(&output, append, &whole, NULL));
     want(sixel_encode(rgb, (int)width, (int)height, 3, dither, output));
@@ -88,7 +92,8 @@ int main(int argc, char **argv)
     int is_raw = turns > 0 && part_size(argv[1], &width, &height);
     uint8_t *file = turns > 0 ? read_file(argv[1], &length) : NULL;
     double *times = calloc(turns, sizeof *times);
-    if (file == NULL || times == NULL) return fputs("usage: libsixel FILE TURNS [COLORS]\n", stderr), 2;
+    if (file == NULL || times == NULL)
+        return fputs("usage: libsixel FILE TURNS [COLORS]\n", stderr), 2;
     uint8_t *pixels = is_raw ? file : decoded(file, length, &width, &height);
     for (size_t turn = 0; turn < turns && !is_raw; turn++) {
         double begun = now();

@@ -1,11 +1,11 @@
-/* What a program has that times calls in process: the clock, the best and the median turn, the bytes of a file. */
+/* Shared by programs that time calls in process: clock, best and median turn, bytes of a file. */
 #include <stdint.h>
 #include <stdio.h>
 #include <stdlib.h>
 #include <string.h>
 #include <time.h>
 
-/* Nanoseconds of a clock that only goes on. */
+/* Nanoseconds of a monotonic clock. */
 static double now(void)
 {
     struct timespec time;
@@ -19,11 +19,12 @@ static int by_value(const void *left, const void *right)
     return (a > b) - (a < b);
 }
 
-/* Tells the word, nanoseconds a pixel of the best turn and of the median, and the bytes of the text, in a line. */
+/* Writes a line: the word, nanoseconds per pixel of the best and of the median turn, and bytes. */
 static void report(const char *word, double *times, size_t turns, size_t pixels, size_t bytes)
 {
     qsort(times, turns, sizeof *times, by_value);
-    printf("%s %.3f %.3f %zu\n", word, times[0] / (double)pixels, times[turns / 2] / (double)pixels, bytes);
+    printf("%s %.3f %.3f %zu\n", word, times[0] / (double)pixels,
+           times[turns / 2] / (double)pixels, bytes);
 }
 
 /* The bytes of a file, for the caller to free. */
@@ -31,7 +32,8 @@ static uint8_t *read_file(const char *name, size_t *length)
 {
     FILE *file = fopen(name, "rb");
     uint8_t *bytes = NULL;
-    if (file != NULL && fseek(file, 0, SEEK_END) == 0 && (bytes = malloc((size_t)ftell(file) + 1)) != NULL) {
+    if (file != NULL && fseek(file, 0, SEEK_END) == 0 &&
+        (bytes = malloc((size_t)ftell(file) + 1)) != NULL) {
         rewind(file);
         *length = fread(bytes, 1, (size_t)1 << 31, file);
         fclose(file);
@@ -39,7 +41,7 @@ static uint8_t *read_file(const char *name, size_t *length)
     return bytes;
 }
 
-/* Parts the size of raw pixels from a file's name, FILE:WIDTHxHEIGHT, and tells whether there is one. */
+/* Cuts the size of raw pixels off a name FILE:WIDTHxHEIGHT; returns whether there is one. */
 static int part_size(char *name, size_t *width, size_t *height)
 {
     char *colon = strrchr(name, ':');

@@ -1,14 +1,14 @@
-/* What a program does that goes no further after a refusal. */
+/* Ends a program at the first error. */
 #include "icysixel.h"
 #include <stdio.h>
 #include <stdlib.h>
 
-/* Ends the program with the words of a code, if it is one of a refusal. */
+/* Writes the text of an error code and ends the program. */
 static void want(uint32_t code)
 {
-    char words[64];
+    char text[64];
     if (code == ICYSIXEL_DONE) return;
-    icysixel_text(code, (uint8_t *)words, sizeof words);
-    fprintf(stderr, "%s\n", words);
+    icysixel_text(code, (uint8_t *)text, sizeof text);
+    fprintf(stderr, "%s\n", text);
     exit(1);
 }

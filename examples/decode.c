@@ -1,20 +1,22 @@
-/* Reads a control string from standard input as it comes, and writes its pixels: red, green, blue and alpha of each. */
+/* Decodes a DCS sequence from standard input in chunks, and writes its RGBA pixels. */
 #include "icysixel.h"
 #include <stdio.h>
 #include <stdlib.h>
 
-/* The pixels of the control string that comes from a file, for the caller to free; null where there are none. */
+/* The pixels of the DCS sequence in a file, for the caller to free; null if there are none. */
 static uint8_t *read_image(FILE *file, icysixel_shape *shape)
 {
     icysixel decoder = {0};
     icysixel_fed fed = {0};
-    uint8_t piece[4096], *pixels = NULL;
+    uint8_t chunk[4096], *pixels = NULL;
     size_t length, wanted;
     icysixel_new(&decoder);
     icysixel_begin(&decoder);
-    while (fed.status == ICYSIXEL_MORE && (length = fread(piece, 1, sizeof piece, file)) > 0)
-        if (icysixel_feed(&decoder, piece, length, &fed) != ICYSIXEL_DONE) break;
-    if (icysixel_finish(&decoder, shape) == ICYSIXEL_DONE && (pixels = malloc(shape->bytes)) != NULL)
+    while (fed.status == ICYSIXEL_MORE && (length = fread(chunk, 1, sizeof chunk, file)) > 0)
+        if (icysixel_feed(&decoder, chunk, length, &fed) != ICYSIXEL_DONE) break;
+    if (icysixel_finish(&decoder, shape) == ICYSIXEL_DONE)
+        pixels = malloc(shape->bytes);
+    if (pixels != NULL)
         icysixel_pixels(&decoder, pixels, shape->bytes, 0, &wanted);
     icysixel_free(&decoder);
     return pixels;

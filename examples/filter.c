@@ -1,11 +1,11 @@
-/* A terminal's filter: copies standard input to standard output, and in place of each SIXEL image that it reads as it comes
- * a line that says its sizes. A control string that is no SIXEL, or is refused, is passed on from its first byte. */
+/* A filter for terminals: copies standard input to standard output, with the size of each SIXEL
+ * image in its place. DCS sequences that are not SIXEL or are rejected are copied whole. */
 #include "icysixel.h"
 #include <stdio.h>
 #include <stdlib.h>
 #include <string.h>
 
-/* The bytes of the control string that is open, for the case that they have to be passed on. */
+/* The bytes of the open DCS sequence, in case they have to be copied. */
 typedef struct {
     uint8_t *bytes;
     size_t length, room;
@@ -30,7 +30,7 @@ static void pass_on(kept *string)
     string->length = 0;
 }
 
-/* Ends the control string: with its image, or with its bytes. */
+/* Ends the DCS sequence: writes the size of its image, or copies its bytes. */
 static void finish(icysixel *decoder, kept *string)
 {
     icysixel_shape shape;
@@ -43,7 +43,7 @@ static void finish(icysixel *decoder, kept *string)
     icysixel_drop(decoder);
 }
 
-/* Reads a byte outside of control strings: 0x1b waits for the byte after it, and `P` then opens one. */
+/* Reads a byte outside of DCS sequences, which 0x1b and `P` begin. */
 static void outside(icysixel *decoder, kept *string, uint8_t byte)
 {
     if (byte == 0x1b) pass_on(string);
@@ -57,7 +57,7 @@ static void outside(icysixel *decoder, kept *string, uint8_t byte)
     pass_on(string);
 }
 
-/* Reads a byte of the control string that is open, and says whether it was the string's own. */
+/* Reads a byte of the open DCS sequence; returns whether the sequence contains it. */
 static int inside(icysixel *decoder, kept *string, uint8_t byte)
 {
     icysixel_fed fed = {0};
@@ -68,7 +68,7 @@ static int inside(icysixel *decoder, kept *string, uint8_t byte)
     }
     if (fed.consumed == 1 && !keep(string, byte)) exit(3);
     if (fed.status != ICYSIXEL_MORE) {
-        /* An ESC that cut the string short was consumed, and begins what follows. */
+        /* An ESC that interrupts the sequence was consumed, and begins what follows. */
         int is_cut = fed.status == ICYSIXEL_INTERRUPTED && fed.byte == 0x1b;
         string->length -= (size_t)is_cut;
         finish(decoder, string);

@@ -1,5 +1,4 @@
 """What the tests share: the paths of what is built, and a run of a program."""
-import re
 import resource
 import shutil
 import subprocess
@@ -20,16 +19,14 @@ def builds_of(program):
 
 
 def run(*command, stdin=b"", memory=None, **options):
-    """Runs a command on bytes or an open file; returns its status, standard output and standard error.
+    """Runs a command on bytes or an open file; returns its status, standard output and error.
 
     `memory` limits the address space, in kilobytes.
     """
-    if isinstance(stdin, bytes):
-        options["input"] = stdin
-    else:
-        options["stdin"] = stdin
+    options["input" if isinstance(stdin, bytes) else "stdin"] = stdin
     if memory:
-        options["preexec_fn"] = lambda: resource.setrlimit(resource.RLIMIT_AS, (memory * 1024, memory * 1024))
+        limits = (memory * 1024, memory * 1024)
+        options["preexec_fn"] = lambda: resource.setrlimit(resource.RLIMIT_AS, limits)
     options = {"stdout": subprocess.PIPE, "stderr": subprocess.PIPE, "timeout": 60, **options}
     ended = subprocess.run(command, check=False, **options)
     return ended.returncode, ended.stdout, ended.stderr
@@ -39,10 +36,3 @@ def needs(*tools):
     """Skips a test where one of these tools is not installed."""
     missing = [it for it in tools if not shutil.which(it)]
     return unittest.skipIf(missing, f"not installed: {', '.join(missing)}")
-
-
-def below(crate):
-    """The crates of the repository that a crate depends on, as crates.txt lists them, and the crate itself."""
-    listed = re.search(rf"^{crate}\b[^:\n]*:(.*)", (ROOT / "crates.txt").read_text(), re.M)
-    own = [it for it in listed[1].split() if (ROOT / "crates" / it).is_dir()] if listed else []
-    return {crate}.union(*(below(it) for it in own))

@@ -4,9 +4,10 @@ from typing import NamedTuple
 
 from build import DATA
 
-# Pixel aspect ratios: the P1 of the program's first line, and its word.
+# Pixel aspect ratios, and P1 of the program's first line for each.
 RATIOS = {"1:1": 9, "2:1": 0, "3:1": 3, "5:1": 2}
-# Bytes between angle brackets: one in hexadecimal, a text that is repeated, or none.
+MODES = {"opaque": 0, "transparent": 1}
+# Between angle brackets: one byte in hexadecimal, a text that is repeated, or nothing.
 SPELLED = re.compile(r"<(?:([0-9a-f]{2})|(\d+)\*([^<>]+))?>")
 
 
@@ -21,9 +22,9 @@ class Image(NamedTuple):
 
 
 def vectors(file):
-    """The vectors of a file, of which there is at least one: the place of each, and its columns."""
+    """The vectors of a file, of which there is at least one: the place and columns of each."""
     lines = enumerate((DATA / file).read_text(encoding="ascii").splitlines(), 1)
-    found = [(f"{file}:{number}", line.split("\t")) for number, line in lines if line and line[0] != "#"]
+    found = [(f"{file}:{at}", it.split("\t")) for at, it in lines if it and it[0] != "#"]
     if not found:
         raise ValueError(f"{file} has no vector")
     return found
@@ -44,7 +45,8 @@ def bytes_of(text):
 def image_of(text):
     """The image that a column spells, whose count of pixels may differ from its size."""
     size, ratio, mode, *runs = text.split(" ", 3)
-    width, height = (int(it) for it in size.split("x"))
-    repeated = re.sub(r"(\d+)\*\(([^()]*)\)", lambda it: " ".join([it[2]] * int(it[1])), " ".join(runs))
-    pixels = b"".join(int(count) * bytes.fromhex(color) for count, color in (it.split("*") for it in repeated.split()))
-    return Image(width, height, RATIOS[ratio], {"opaque": 0, "transparent": 1}[mode], pixels)
+    width, height = map(int, size.split("x"))
+    repeated = re.sub(r"(\d+)\*\(([^()]*)\)", lambda it: int(it[1]) * f"{it[2]} ", "".join(runs))
+    pairs = [it.split("*") for it in repeated.split()]
+    pixels = b"".join(int(count) * bytes.fromhex(color) for count, color in pairs)
+    return Image(width, height, RATIOS[ratio], MODES[mode], pixels)

@@ -1,4 +1,4 @@
-"""Tests the documents: their code stands in tested examples, and the session with other tools writes what they show."""
+"""Tests the documents: their code stands in tested examples, and their commands write what they show."""
 import os
 import re
 import subprocess
@@ -22,7 +22,8 @@ def blocks():
     """Each block of code in the documents and in doc comments, with its language and its file."""
     comments = re.compile(r"^ */// ?(.*)$", re.M)
     pages = [(it, it.read_text()) for it in DOCUMENTS]
-    pages += [(it, "\n".join(comments.findall(it.read_text()))) for it in sorted(ROOT.glob("crates/*/src/**/*.rt"))]
+    for source in sorted(ROOT.glob("crates/*/src/**/*.rt")):
+        pages.append((source, "\n".join(comments.findall(source.read_text()))))
     for page, text in pages:
         for language, block in re.findall(r"^```(rust|c)\n(.*?)^```", text, re.M | re.S):
             yield page.relative_to(ROOT), language, block
@@ -44,12 +45,12 @@ def folder_of_imagemagick():
 
 class TestDocuments(unittest.TestCase):
     def test_code_is_tested(self):
-        sources = {language: [lines_of(it.read_text()) for it in files] for language, files in EXAMPLES.items()}
         found = list(blocks())
-        self.assertEqual({language for _, language, _ in found}, {"rust", "c"})
+        self.assertEqual({language for _, language, _ in found}, {*EXAMPLES})
         for page, language, block in found:
             with self.subTest(page=str(page), block=block):
-                self.assertTrue(any(lines_of(block) in it for it in sources[language]), "no example has this code")
+                texts = (lines_of(it.read_text()) for it in EXAMPLES[language])
+                self.assertTrue(any(lines_of(block) in it for it in texts), "not in an example")
 
     @needs("bash", "img2sixel", "sixel2png")
     def test_session(self):
@@ -60,7 +61,8 @@ class TestDocuments(unittest.TestCase):
         with tempfile.TemporaryDirectory() as room:
             (Path(room) / "sixel").symlink_to(ROOT / "sixel")
             for script, output in commands:
-                ended = run("bash", "-eu", "-c", script, cwd=room, env=paths, stderr=subprocess.STDOUT)
+                options = {"cwd": room, "env": paths, "stderr": subprocess.STDOUT}
+                ended = run("bash", "-eu", "-c", script, **options)
                 self.assertEqual(ended, (0, output.encode(), None), script)
 
 

@@ -1,4 +1,4 @@
-"""Tests the program `sixel`: its arguments, exit statuses, standard error and memory, and each vector it can run.
+"""Tests the program `sixel`: its arguments, exit statuses, errors and memory, and test vectors.
 
 The expected bytes are computed by hand from docs/FORMAT.md.
 """
@@ -11,46 +11,40 @@ from pathlib import Path
 from build import builds_of, run
 from vectors import bytes_of, image_of, vectors
 
-BLACK, RED, BLUE, CLEAR = b"\0\0\0\xff", b"\xff\0\0\xff", b"\x33\x33\xcc\xff", bytes(4)
+BLACK, RED, CLEAR = b"\0\0\0\xff", b"\xff\0\0\xff", bytes(4)
 
 
-def column(parameters, *pixels):
-    """What is written of an image one pixel wide and six high: its top pixel, and the others."""
-    return b"image 1 6 %s\n%s%s\n" % (parameters, pixels[0], 5 * pixels[-1])
+def column(parameters, top, others):
+    """What the program writes of an image that is one pixel wide and six high."""
+    return b"image 1 6 %s\n%s%s\n" % (parameters, top, 5 * others)
 
 
-RED_DOT, BLACK_DOT = column(b"9 0", RED, BLACK), column(b"9 0", BLACK)
+DOT, BLACK_DOT = b"\x1bPq@\x1b\\", column(b"9 0", BLACK, BLACK)
+RED_DOT = column(b"9 0", RED, BLACK)
 TWO_DOTS = b"\x1bPq#42;2;100;0;0@\x1b\\\x90q#42@\x18tail"
 CLEAR_DOT = b"\x1bP2;1q#1;2;100;0;0@\x1b\\"
 COLORS = BLACK + b"\x0a\0\0\xff" + 4 * b"\xff"
-TWO_COLORS = b'\x1bP9;1;0q"1;1;3;1#0;2;0;0;0#1;2;100;100;100#0@@?$#1??@$-\x1b\\'
-THREE_COLORS = b'\x1bP9;1;0q"1;1;3;1#0;2;0;0;0#1;2;100;100;100#2;2;4;0;0#0@??$#1??@$#2?@?$-\x1b\\'
-UPRIGHT = b'\x1bP9;1;0q"1;1;1;3#0;2;0;0;0#1;2;100;100;100#2;2;4;0;0#0@$#1C$#2A$-\x1b\\'
+HEADER = b'\x1bP9;1;0q"1;1;%s#0;2;0;0;0#1;2;100;100;100'
+TWO_COLORS = HEADER % b"3;1" + b"#0@@?$#1??@$-\x1b\\"
+THREE_COLORS = HEADER % b"3;1" + b"#2;2;4;0;0#0@??$#1??@$#2?@?$-\x1b\\"
+UPRIGHT = HEADER % b"1;3" + b"#2;2;4;0;0#0@$#1C$#2A$-\x1b\\"
 
 # Arguments, standard input and standard output.
 DONE = [
-    ("payload", b"#1~", column(b"9 0", BLUE)),
-    ("decode", b"#1~", column(b"9 0", BLUE)),
-    ("decode", b"\x1bPq#1~\x1b\\", column(b"9 0", BLUE)),
-    ("decode", CLEAR_DOT, column(b"2 1", RED, CLEAR)),
     ("frames 1", CLEAR_DOT, column(b"2 1", RED, CLEAR)),
-    *((f"frames {it}", TWO_DOTS, 2 * RED_DOT) for it in ("1", "2", "7", "07", "18446744073709551615")),
-    ("frames 1", b"\x1bPq@\x9b0m", BLACK_DOT),
+    *((f"frames {it}", TWO_DOTS, 2 * RED_DOT) for it in (1, 2, 7, "07", 2**64 - 1)),
     ("frames 3", b"\x1bPq@\x18\x1bPq~\x1b\\", BLACK_DOT),
-    ("frames 5", b"\x90q@\x1b[31m", BLACK_DOT),
     ("frames 1", b"", b""),
-    ("payload", b"", b"image 1 1 9 0\n" + BLACK + b"\n"),
-    ("decode", b"", b"image 1 1 9 0\n" + BLACK + b"\n"),
-    *((f"encode 3 1 {it}", COLORS, TWO_COLORS) for it in ("0", "1", "2", "02")),
-    *((f"encode {it}", COLORS, THREE_COLORS) for it in ("3 1 3", "3 01 3", "3 1 256", "3 1 65535")),
+    *((f"encode 3 1 {it}", COLORS, TWO_COLORS) for it in (0, 1, 2, "02")),
+    *((f"encode {it}", COLORS, THREE_COLORS) for it in ("3 1 3", "3 01 3", "3 1 65535")),
     ("encode 1 3 256", COLORS, UPRIGHT),
 ]
 
-NO_COUNTS = ["", "+1", "-1", "1.0", "1e3", "0x1", " 1", "1 ", "x", "18446744073709551616", 23 * "9"]
+NO_COUNTS = ["", "+1", "-1", "1.0", "1e3", "0x1", " 1", "1 ", "x", str(2**64), 23 * "9"]
+NO_COMMANDS = ["", "Payload", " payload", "payload ", "pay", "Decode", "decoder", "Frames"]
 USAGE = [
     [],
-    *([it] for it in ["", "Payload", " payload", "payload ", "pay", "Decode", "decoder", "Frames", "Encode"]),
-    *([it] for it in ["frames", "encode", "-h", "--help", "1"]),
+    *([it] for it in [*NO_COMMANDS, "Encode", "frames", "encode", "-h", "--help", "1"]),
     *(["payload", *it] for it in ([""], ["payload"], ["1", "1", "1"])),
     *(["decode", *it] for it in ([""], ["1"], ["1", "2"])),
     *(["frames", it] for it in ["0", "00", *NO_COUNTS]),
@@ -58,35 +52,23 @@ USAGE = [
     *(["encode", it, "1", "2"] for it in NO_COUNTS),
     *(["encode", "3", it, "2"] for it in NO_COUNTS),
     *(["encode", "3", "1", it] for it in ["65536", *NO_COUNTS]),
-    *(["encode", "3", *it] for it in ([], ["1"], ["1", "2", "2"], ["1", "2", ""], ["1", "2", "3", "4", "5", "6"])),
+    *(["encode", "3", *it] for it in ([], ["1"], ["1", "2", "2"], ["1", "2", ""], list("12345"))),
 ]
 
 MALFORMED = "invalid SIXEL data: malformed SIXEL data"
 INCOMPLETE = "invalid SIXEL data: incomplete SIXEL DCS sequence"
 NO_INTRODUCER = "no SIXEL data found (missing DCS introducer)"
-DOT = b"\x1bPq@\x1b\\"
-# Arguments, standard input, the error, and standard output before it.
-REJECTED = [
-    ("payload", b"!65536~", MALFORMED, b""),
-    ("payload", b'"1;1;8192;8193~', "invalid SIXEL data: image dimensions too large", b""),
-    ("decode", b"\x1bP1;2", "invalid SIXEL data: missing SIXEL DCS command", b""),
-    ("decode", b"\x1bPbad", "invalid SIXEL data: invalid SIXEL DCS header", b""),
-    *((f"frames {it}", b"#1~", NO_INTRODUCER, b"") for it in (1, 2)),
-    ("frames 3", b"\x1bPq~", INCOMPLETE, b""),
-    ("frames 1", b"\x1bPq!65536", INCOMPLETE, b""),
-    *((f"frames {it}", DOT + b"\n", NO_INTRODUCER, BLACK_DOT) for it in (1, 2, 100)),
-    ("frames 5", DOT + b"\x1bPq#1;2;100;0;0!65536~\x1b\\", MALFORMED, BLACK_DOT),
-    ("frames 6", DOT + b"\x1bPq!65536~\x1b\\", MALFORMED, BLACK_DOT),
-    ("frames 5", DOT + b"\x1bPq@", INCOMPLETE, BLACK_DOT),
-    ("frames 4", DOT + b"\x90q@", INCOMPLETE, BLACK_DOT),
-    ("frames 2", DOT + b"\x1b", INCOMPLETE, BLACK_DOT),
-    ("encode 0 4 16", b"", "invalid dimensions: 0x4", b""),
-    ("encode 1000001 1 16", b"", "invalid dimensions: 1000001x1", b""),
-    ("encode 18446744073709551615 2 16", b"", "integer overflow", b""),
-    ("encode 2 2 256", b"123456789012345", "buffer size mismatch: expected 16 bytes, got 15", b""),
+# The length of chunks, DCS sequences after a first one, and the error after its image.
+LATER = [
+    *((it, b"\n", NO_INTRODUCER) for it in (1, 2, 100)),
+    (5, b"\x1bPq#1;2;100;0;0!65536~\x1b\\", MALFORMED),
+    (6, b"\x1bPq!65536~\x1b\\", MALFORMED),
+    (5, b"\x1bPq@", INCOMPLETE),
+    (4, b"\x90q@", INCOMPLETE),
+    (2, b"\x1b", INCOMPLETE),
 ]
 
-# Words of the shell, and the error where these descriptors or arguments fail.
+# Arguments and redirections of the shell, and the error of the one that fails.
 FAILING = [
     ("payload <&-", "input fault"),
     ("frames 1 </", "input fault"),
@@ -97,50 +79,45 @@ FAILING = [
 ]
 
 MILLION = b"image 1000000 6 9 0\n" + 6_000_000 * BLACK + b"\n"
-# Arguments, standard input, the status, standard output and the error, in 200 MB of memory.
+TOO_FEW = b"buffer size mismatch: expected 268304400 bytes, got 4\n"
+# Arguments, standard input, and how the program ends in 200 MB of memory.
 MEMORY = [
-    ("payload", 15 * b"!65535~" + b"!16975~", 0, MILLION, b""),
-    ("payload", 1_000_000 * b"~", 0, MILLION, b""),
-    ("payload", b'"1;1;8192;8192', 1, b"", b"out of memory\n"),
-    ("encode 8190 8190 16", BLACK, 1, b"", b"buffer size mismatch: expected 268304400 bytes, got 4\n"),
+    ("payload", 15 * b"!65535~" + b"!16975~", (0, MILLION, b"")),
+    ("payload", 1_000_000 * b"~", (0, MILLION, b"")),
+    ("payload", b'"1;1;8192;8192', (1, b"", b"out of memory\n")),
+    ("encode 8190 8190 16", BLACK, (1, b"", TOO_FEW)),
 ]
 
-
-# A folder of files of other programs, with expected.tsv, which has a line of titles.
+# A folder of files of other programs, with expected.tsv, whose first line has the titles.
 SAMPLES = os.environ.get("SAMPLES")
 # The command that decodes a vector of these settings.
 COMMANDS = {"payload": "payload", "dcs": "decode"}
 
 
-def line(error):
-    return error.encode() + b"\n"
-
-
 def written(text):
     """What the program writes of the image that a column spells."""
-    image = image_of(text)
-    return b"image %d %d %d %d\n%s\n" % image
+    return b"image %d %d %d %d\n%s\n" % image_of(text)
 
 
-def outcome(result, bytes_in):
+def outcome(result, output):
     """How the program ends for the last column of a vector."""
     if result.startswith("error: "):
-        return 1, b"", line(result.removeprefix("error: "))
-    return 0, bytes_in(result), b""
+        return 1, b"", result.removeprefix("error: ").encode() + b"\n"
+    return 0, output(result), b""
 
 
 class TestSixel(unittest.TestCase):
     def ends(self, arguments, stdin, expected, **options):
-        """Tests how each build ends on an input: its status, standard output and standard error."""
+        """Tests the status, output and error of each build, on a pipe and on a file."""
         for program in builds_of("sixel"):
-            with self.subTest(program=program.name, arguments=arguments, stdin=stdin[:80], **options):
-                ended = run(program, *arguments, stdin=stdin, **options)
-                self.assertTrue(ended == expected, f"{ended[0]} {ended[1][:200]} {ended[2]}")
-                with tempfile.TemporaryFile() as file:
-                    file.write(stdin)
-                    file.seek(0)
-                    ended = run(program, *arguments, stdin=file, **options)
-                self.assertTrue(ended == expected, f"from a file: {ended[0]} {ended[1][:200]} {ended[2]}")
+            with tempfile.TemporaryFile() as file:
+                file.write(stdin)
+                for source in (stdin, file):
+                    with self.subTest(program=program.name, arguments=arguments, stdin=stdin[:80]):
+                        file.seek(0)
+                        ended = run(program, *arguments, stdin=source, **options)
+                        told = f"{ended[0]} {ended[1][:200]} {ended[2]}"
+                        self.assertTrue(ended == expected, told)
 
     def test_arguments(self):
         for arguments, stdin, output in DONE:
@@ -148,33 +125,36 @@ class TestSixel(unittest.TestCase):
 
     def test_usage_errors(self):
         for arguments in USAGE:
-            self.ends(arguments, b"#1~", (2, b"", b"usage\n"))
+            self.ends(arguments, DOT, (2, b"", b"usage\n"))
 
-    def test_rejected_data(self):
-        for arguments, stdin, error, output in REJECTED:
-            self.ends(arguments.split(), stdin, (1, output, line(error)))
+    def test_errors_of_later_sequences(self):
+        for length, later, error in LATER:
+            expected = (1, BLACK_DOT, error.encode() + b"\n")
+            self.ends(["frames", str(length)], DOT + later, expected)
 
     def test_failing_descriptors_and_arguments(self):
         for words, error in FAILING:
             for program in builds_of("sixel"):
                 with self.subTest(program=program.name, words=words):
                     ended = run("sh", "-c", f'exec "$0" {words}', program, stdin=b"#1~")
-                    self.assertEqual(ended, (1, b"", line(error)))
+                    self.assertEqual(ended, (1, b"", error.encode() + b"\n"))
 
     def test_memory(self):
-        for arguments, stdin, status, output, error in MEMORY:
-            self.ends(arguments.split(), stdin, (status, output, error), memory=200_000)
+        for arguments, stdin, expected in MEMORY:
+            self.ends(arguments.split(), stdin, expected, memory=200_000)
 
     @unittest.skipUnless(SAMPLES, "SAMPLES does not name a folder of samples")
     def test_samples(self):
-        """Each file of expected.tsv, with its arguments, status, and the SHA-256 of standard output."""
-        rows = [it.split("\t") for it in (Path(SAMPLES) / "expected.tsv").read_text().splitlines()[1:]]
+        """Each file, with the arguments, status and SHA-256 of standard output."""
+        rows = (Path(SAMPLES) / "expected.tsv").read_text().splitlines()[1:]
         self.assertTrue(rows)
-        for file, arguments, status, digest in rows:
+        for file, arguments, status, digest in (it.split("\t") for it in rows):
             for program in builds_of("sixel"):
                 with self.subTest(program=program.name, file=file):
-                    ended = run(program, *arguments.split(), stdin=(Path(SAMPLES) / file).read_bytes())
-                    self.assertEqual((str(ended[0]), hashlib.sha256(ended[1]).hexdigest()), (status, digest))
+                    stdin = (Path(SAMPLES) / file).read_bytes()
+                    ended = run(program, *arguments.split(), stdin=stdin)
+                    found = (str(ended[0]), hashlib.sha256(ended[1]).hexdigest())
+                    self.assertEqual(found, (status, digest))
 
     def test_image_vectors(self):
         for place, (settings, text, result) in vectors("images.tsv"):
@@ -183,7 +163,7 @@ class TestSixel(unittest.TestCase):
                     self.ends([COMMANDS[settings]], bytes_of(text), outcome(result, written))
 
     def test_string_vectors(self):
-        """One DCS sequence, without what follows its terminator: bytes that follow would be one more."""
+        """After a complete DCS sequence, other bytes would be one more: they are left out."""
         for place, (text, consumed, status, result) in vectors("strings.tsv"):
             data = bytes_of(text)[: int(consumed) if status == "complete" else None]
             for length in ("1", "5") if data else ():
@@ -192,8 +172,8 @@ class TestSixel(unittest.TestCase):
 
     def test_text_vectors(self):
         """The program encodes square pixels and a transparent background."""
-        for place, (colors, image, result) in vectors("texts.tsv"):
-            image = image_of(image)
+        for place, (colors, column, result) in vectors("texts.tsv"):
+            image = image_of(column)
             if (image.p1, image.p2) == (9, 1):
                 with self.subTest(place=place):
                     arguments = ["encode", str(image.width), str(image.height), colors]
