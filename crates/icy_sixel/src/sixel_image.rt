@@ -44,7 +44,7 @@ impl SixelImage {
     ghost use Rattle.icy_sixel.specs.ImageView.{image_value};
     ghost use Rattle.sixel_decoder.specs.PictureView.{picture_value};
     ghost use Rattle.sixel_encoder.specs.Encoding.{AreShortest, shown_image};
-    ghost use Rattle.sixel_trip.specs.Trip.{CanRead, IsOneString, IsReadAs, IsTrip, trip};
+    ghost use Rattle.sixel_encoder.specs.Trip.{CanRead, IsOneString, IsReadAs, IsTrip, trip};
 
     /// Decodes the first control string in the bytes, or all of them as a payload if there is none,
     /// as [`SixelDecoder::decode`] of a new decoder does.

@@ -2,3 +2,4 @@ pub mod Pieces
 pub mod Text
 pub mod inside
 pub mod Encoding
+pub mod Trip

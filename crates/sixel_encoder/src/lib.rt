@@ -14,6 +14,7 @@ ghost use Rattle.sixel_encoder.specs.Encoding.{square_value};
 
 mod band;
 mod entries;
+pub mod laws;
 mod pieces;
 mod runs;
 mod source;

@@ -3,9 +3,9 @@ use Rattle.std.specs.Prelude.{IfOk, string_bytes}
 use Rattle.sixel_base.specs.Payload.{Image}
 use Rattle.sixel_encoder.specs.Encoding.{AreShortest, IsDrawing, shown_image}
 use Rattle.sixel_encoder.specs.Text.{Drawing, text_of}
-use Rattle.sixel_trip.specs.Trip.{trip, IsTrip, IsReadAs}
+use Rattle.sixel_encoder.specs.Trip.{trip, IsTrip, IsReadAs}
 use Rattle.icy_sixel.specs.declared.sixel_image.SixelImage.{SixelImage}
-use Rattle.sixel_trip.proofs.Written.{shortest-written, hidden-written, one_string-written, readable-written, read_back-written, again-written}
+use Rattle.sixel_encoder.proofs.EncodedText.{shortest-written, hidden-written, one_string-written, readable-written, read_back-written, again-written}
 use Rattle.icy_sixel.proofs.sixel_image.SixelImage.encode_with.Goals as goal
 
 -- the image with these bytes as its pixels

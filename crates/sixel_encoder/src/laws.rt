@@ -1,0 +1,100 @@
+//! Laws of the text and its meaning, stated by functions with empty bodies.
+
+ghost use Rattle.std.specs.Prelude.{◌≡◌, ℕ, ◌≤◌, ◌<◌, ◌*◌, Bool, List, ◌∷◌, ◌++◌, length, codes};
+ghost use Rattle.std.specs.Prelude.{Some, None};
+ghost use Rattle.std.specs.Prelude.{All};
+ghost use Rattle.sixel_base.specs.declared.settings.BackgroundMode.TheVariants.{Transparent};
+ghost use Rattle.sixel_base.specs.Bytes.{before_terminator, front, first_terminator, count};
+ghost use Rattle.sixel_base.specs.Color.{byte_of, default_registers};
+ghost use Rattle.sixel_base.specs.Decoder.{new_decoder, origin_of};
+ghost use Rattle.sixel_base.specs.declared.state.DecoderState.{DecoderState};
+ghost use Rattle.sixel_base.specs.Size.{banded};
+ghost use Rattle.sixel_base.specs.Payload.{Image, payload_fault, payload_image};
+ghost use Rattle.sixel_encoder.specs.Text.{Drawing, percent, parameters_text, text_of};
+ghost use Rattle.sixel_encoder.specs.Encoding.{image_fault, IsDrawing, IsText};
+ghost use Rattle.sixel_base.specs.Dcs.{Reading, stage};
+ghost use Rattle.sixel_base.specs.OneShot.{Payload, found};
+ghost use Rattle.sixel_encoder.specs.Trip.{IsWritable, payload_text, drawing_settings};
+ghost use Rattle.sixel_encoder.specs.Trip.{rounded, trip, CanRead, IsTrip, IsReadAs, IsOneString};
+
+/// A text is its parameters, a payload and the string terminator. Every byte of the payload is its
+/// own and carries meaning.
+pub fn whole_payload()
+    ensures text { (drawing : Drawing)
+        → text_of drawing ≡ parameters_text drawing ++ (payload_text drawing ++ 27 ∷ codes "\\") }
+    ensures own { (drawing : Drawing) (rest : List ℕ) → IsWritable drawing
+        → before_terminator (payload_text drawing ++ 27 ∷ rest) ≡ payload_text drawing }
+    ensures front { (drawing : Drawing) (rest : List ℕ) → IsWritable drawing
+        → front (payload_text drawing ++ 27 ∷ rest) ≡ payload_text drawing }
+    ensures counted { (drawing : Drawing) (rest : List ℕ) → IsWritable drawing
+        → count (payload_text drawing ++ 27 ∷ rest) ≡ length (payload_text drawing) }
+    ensures ended { (drawing : Drawing) (rest : List ℕ) → IsWritable drawing
+        → first_terminator (payload_text drawing ++ 27 ∷ rest) ≡ Some 27 }
+{}
+
+/// A payload is read back without a fault, as the drawing's trip.
+pub fn round_trip()
+    ensures sound { (limit : ℕ) (drawing : Drawing) (rest : List ℕ) → IsWritable drawing
+        → drawing.width * banded drawing.height ≤ limit
+        → payload_fault limit (payload_text drawing ++ 27 ∷ rest) ≡ None }
+    ensures image { (decoder : DecoderState) (drawing : Drawing) (rest : List ℕ)
+        → IsWritable drawing → decoder.registers ≡ default_registers
+        → payload_image (origin_of decoder (drawing_settings drawing))
+        (payload_text drawing ++ 27 ∷ rest)
+        ≡ trip decoder.raster_crop drawing }
+{}
+
+/// A text is one control string with the drawing's settings, to its last byte. A decoder that can
+/// read it does so as the drawing's trip.
+pub fn one_control_string()
+    ensures found { (drawing : Drawing) → found (text_of drawing)
+        ≡ Payload (drawing_settings drawing) (payload_text drawing ++ 27 ∷ codes "\\") }
+    ensures staged { (drawing : Drawing) → stage (text_of drawing)
+        ≡ Reading (drawing_settings drawing) (payload_text drawing ++ 27 ∷ codes "\\") }
+    ensures whole { (limit : ℕ) (drawing : Drawing) → IsWritable drawing
+        → drawing.width * banded drawing.height ≤ limit → IsOneString limit (text_of drawing) }
+    ensures read_back { (decoder : DecoderState) (drawing : Drawing) → IsWritable drawing
+        → CanRead decoder drawing.width drawing.height
+        → IsReadAs decoder (text_of drawing) (trip decoder.raster_crop drawing) }
+{}
+
+/// A percentage that has been a byte is the same, so that a byte is rounded only once.
+pub fn rounding()
+    ensures percentages { (p : ℕ) → p ≤ 100 → percent (byte_of p) ≡ p }
+    ensures bytes { (channel : ℕ) → rounded (rounded channel) ≡ rounded channel }
+{}
+
+/// The text of an image is one control string, and is read back as the trip of its drawing by
+/// each decoder that can read it, as a new one can. The trip is again an image that can be encoded.
+pub fn image_trip()
+    ensures writable { (image : Image) (max_colors : ℕ) (drawing : Drawing)
+        → image_fault image ≡ None → All (λ byte. byte < 256) image.pixels
+        → IsDrawing image max_colors drawing → IsWritable drawing }
+    ensures readable { (image : Image) → image_fault image ≡ None
+        → CanRead new_decoder image.width image.height }
+    ensures whole { (limit : ℕ) (image : Image) (max_colors : ℕ) (text : List ℕ)
+        → image_fault image ≡ None → All (λ byte. byte < 256) image.pixels
+        → image.width * banded image.height ≤ limit
+        → IsText image max_colors text → IsOneString limit text }
+    ensures read_back { (decoder : DecoderState) (image : Image) (max_colors : ℕ) (text : List ℕ)
+        → image_fault image ≡ None → All (λ byte. byte < 256) image.pixels
+        → CanRead decoder image.width image.height → IsText image max_colors text
+        → (drawing : Drawing) × IsDrawing image max_colors drawing
+        × IsReadAs decoder text (trip decoder.raster_crop drawing) }
+    ensures sound { (raster_crop : Bool) (drawing : Drawing) → IsWritable drawing
+        → image_fault (trip raster_crop drawing) ≡ None }
+    ensures bytes { (raster_crop : Bool) (drawing : Drawing) → IsWritable drawing
+        → All (λ byte. byte < 256) (trip raster_crop drawing).pixels }
+{}
+
+/// A transparent image that is itself the trip of an image is read back as it is: a second trip
+/// with as many colors changes nothing.
+pub fn second_trip()
+    ensures trip { (raster_crop : Bool) (image : Image) (max_colors : ℕ) (drawing : Drawing)
+        → IsTrip raster_crop image max_colors → image.background_mode ≡ Transparent
+        → IsDrawing image max_colors drawing → trip raster_crop drawing ≡ image }
+    ensures read_back { (decoder : DecoderState) (image : Image) (max_colors : ℕ) (text : List ℕ)
+        → IsTrip decoder.raster_crop image max_colors → image.background_mode ≡ Transparent
+        → CanRead decoder image.width image.height
+        → IsText image max_colors text → IsReadAs decoder text image }
+{}
