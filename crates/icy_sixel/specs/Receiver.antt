@@ -96,6 +96,12 @@ sixels Nothing bytes = 0
 sixels (OfPayload settings) bytes = paints.sixels (settled bytes)
 sixels OfString bytes = paints.dcs_sixels bytes
 
+-- what these are counted as at least
+abbrev pub least_count : Form → List ℕ → ℕ
+least_count Nothing bytes = 0
+least_count (OfPayload settings) bytes = paints.least_count (settled bytes)
+least_count OfString bytes = paints.dcs_least_count bytes
+
 -- whether the payload has begun
 abbrev pub in_payload : Form → List ℕ → Bool
 in_payload Nothing bytes = false

@@ -13,7 +13,7 @@ ghost use Rattle.sixel_base.specs.Dcs.{dcs_fault, dcs_growths, IsSameString};
 ghost use Rattle.sixel_base.specs.OneShot.{found_fault, IsFoundImage, AreFoundRegisters, IsDecodedAs};
 ghost use Rattle.icy_sixel.specs.Receiver.{OfPayload, OfString, begun, no_image, is_open};
 ghost use Rattle.icy_sixel.specs.Receiver.{count, status, is_over, fault, failed, growths, reached_area};
-ghost use Rattle.icy_sixel.specs.Receiver.{sixels};
+ghost use Rattle.icy_sixel.specs.Receiver.{sixels, least_count};
 ghost use Rattle.icy_sixel.specs.Receiver.{found, found_followed, end_fault, end_wants, in_payload, size};
 ghost use Rattle.icy_sixel.specs.inside.Receiving.{reception_of};
 
@@ -294,10 +294,12 @@ impl SixelReceiver {
     /// How many pixels sixels have painted so far, at most; 0 where no image is open. It takes no
     /// memory.
     ///
-    /// The bound is that of the sessions, by
+    /// The bounds are those of the sessions, by
     /// [`canvas_paints`](crate::SixelStreamDecoder::canvas_paints).
     pub fn canvas_paints(&self) -> u64
         ensures value { result ≡ self.now.image.paints }
+        ensures at_least { self.now.image.is_refused ≡ false
+            → least_count self.now.image.form self.now.image.bytes ≤ result }
         ensures at_most { result ≤ 3 * reached_area self.now.image.form self.now.image.bytes
             + 4602 * sixels self.now.image.form self.now.image.bytes }
         ensures refused { self.now.image.is_refused ≡ true → result ≡ 0 }

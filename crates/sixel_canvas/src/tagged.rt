@@ -6,7 +6,8 @@ ghost use Rattle.sixel_base.specs.declared.error.SixelError.TheVariants.{OutOfMe
 ghost use Rattle.sixel_base.specs.Picture.{covers, is_set, is_struck, joined, picture};
 ghost use Rattle.sixel_canvas.specs.inside.Block.{drawn_over};
 ghost use Rattle.sixel_canvas.specs.inside.Canvas.{CanvasState, shown, reached, canvas_writes, IsBounded};
-ghost use Rattle.sixel_canvas.specs.inside.Paints.{counted, ends_and_tags, least_painted, IsSpread};
+ghost use Rattle.sixel_canvas.specs.inside.Paints.{counted, ends_and_tags, four_painted};
+ghost use Rattle.sixel_canvas.specs.inside.Paints.{least_painted, IsSpread};
 ghost use Rattle.sixel_canvas.specs.inside.Tags.{is_tag, IsTagged};
 
 use crate::canvas::Canvas;
@@ -105,8 +106,9 @@ impl TaggedCanvas {
         ensures held { 0 < to → ((k : ℕ) → k < 6 → to ≤ reached self.old (top + k))
             → IsOk result }
         ensures error { IfErr result (λ e. e ≡ OutOfMemory) }
-        ensures least { OnOk result (0 < bits → counted self.old.paints
-            (least_painted (to - from) + (self.new.spread - self.old.spread)) ≤ self.new.paints) }
+        ensures least { OnOk result (counted self.old.paints (if nat_lt 0 bits
+            then least_painted (to - from) + (self.new.spread - self.old.spread) else 0)
+            ≤ self.new.paints) }
         ensures most { is_tag color ≡ true → self.new.paints ≤ self.old.paints
             + ends_and_tags (to - from) + (self.new.spread - self.old.spread) }
         ensures spread { self.old.spread ≤ self.new.spread }
@@ -151,7 +153,7 @@ impl TaggedCanvas {
             else shown self.old column row) }
         ensures reached { (row : ℕ) → reached self.new row ≡ reached self.old row }
         ensures background { self.new.background ≡ self.old.background }
-        ensures least { 0 < bits → counted self.old.paints 6 ≤ self.new.paints }
+        ensures least { counted self.old.paints (if nat_lt 0 bits then 6 else 0) ≤ self.new.paints }
         ensures most { self.new.paints ≤ self.old.paints + 6 }
         ensures spread { self.new.spread ≡ self.old.spread }
         ensures bounded { IsBounded self.new }
@@ -190,7 +192,8 @@ impl TaggedCanvas {
             ≡ drawn_over from sixels top color column row (shown self.old column row) }
         ensures reached { (row : ℕ) → reached self.new row ≡ reached self.old row }
         ensures background { self.new.background ≡ self.old.background }
-        ensures least { counted self.old.paints 24 ≤ self.new.paints }
+        ensures least { counted self.old.paints (four_painted (nat_lt top self.old.tagged))
+            ≤ self.new.paints }
         ensures most { self.new.paints ≤ self.old.paints + 1560 }
         ensures spread { self.new.spread ≡ self.old.spread }
     {

@@ -12,13 +12,14 @@ use Rattle.sixel_base.specs.Stroke.{Origin, color}
 use Rattle.sixel_base.specs.declared.error.SixelError.{SixelError}
 use Rattle.sixel_base.specs.declared.error.SixelError.TheVariants.{OutOfMemory}
 use Rattle.sixel_canvas.specs.inside.Canvas.{shown, reached}
-use Rattle.sixel_canvas.specs.inside.Paints.{ends_and_tags}
+use Rattle.sixel_canvas.specs.inside.Paints.{counted, ends_and_tags, least_painted}
 use Rattle.sixel_canvas.specs.inside.Tags.{is_tag}
 use Rattle.sixel_decoder.specs.declared.painter.Painter.{Painter}
 use Rattle.sixel_decoder.specs.inside.Painter.{Shows, Draws, IsExtended}
 use Rattle.sixel_decoder.specs.inside.Sizes.{IsTooLarge}
 use Rattle.sixel_decoder.proofs.Feeding.{or_right}
 use Rattle.sixel_decoder.proofs.Finding.{Faults-named}
+use Rattle.sixel_decoder.proofs.Paid.{least-sixel}
 
 -- a side above a million
 pub extent_malformed : (limit right lower : ℕ) (h : History) → (1000000 < right) ⊎ (1000000 < lower) → extent_fault limit right lower h ≡ Some Malformed
@@ -62,19 +63,21 @@ pub Shows-drawn : (o : Origin) (h : History) (old wide new : Painter) (bits righ
     → right ≡ wide.across + wide.span → length wide.color ≡ 4 → wide.span ≤ 65535 → wide.width * wide.height ≤ wide.pixel_limit
     → ((column row : ℕ) → shown new.canvas column row ≡ (if covers wide.across right wide.down bits column row then wide.color else shown wide.canvas column row))
     → ((row : ℕ) → reached new.canvas row ≡ (if is_struck wide.down bits row then max (reached wide.canvas row) right else reached wide.canvas row))
+    → counted wide.canvas.paints (if nat_lt 0 bits then least_painted (right - wide.across) + (new.canvas.spread - wide.canvas.spread) else 0) ≤ new.canvas.paints
     → (is_tag wide.color ≡ true → new.canvas.paints ≤ wide.canvas.paints + ends_and_tags (right - wide.across) + (new.canvas.spread - wide.canvas.spread))
     → wide.canvas.spread ≤ new.canvas.spread
     → new.registers ≡ wide.registers → new.color ≡ wide.color → new.span ≡ 1 → new.across ≡ right → new.down ≡ wide.down
     → new.width ≡ wide.width → new.height ≡ wide.height → new.raster_height ≡ wide.raster_height
     → new.ratio ≡ wide.ratio → new.settings ≡ wide.settings → new.raster_crop ≡ wide.raster_crop → new.pixel_limit ≡ wide.pixel_limit
     → Shows o new (Sixel bits ∷ h)
-Shows-drawn o h old wide new bits right shows is ends four narrow area drawn grown paid' more registers' color' span' across' down' width' height' raster' ratio' settings' crop' limit' =
+Shows-drawn o h old wide new bits right shows is ends four narrow area drawn grown least' paid' more registers' color' span' across' down' width' height' raster' ratio' settings' crop' limit' =
     let ink : List ℕ = color o.registers h in
     let inked : wide.color ≡ ink ++ 255 ∷ [] = is.color ∙ shows.color in
     let tag : is_tag wide.color ≡ true = rw inked (tag_from_opaque ink (rw inked at four)) in
     let most = paid' tag in
     let from : wide.across ≡ across h = is.across ∙ shows.across in
     let to : right ≡ across h + span h = ends ∙ rw (is.across, is.span, shows.across, shows.span) refl in
+    let columns : right - wide.across ≡ span h = omega (arith, from, to) in
     let top : wide.down ≡ down h = is.down ∙ shows.down in
     let across : wide.width ≡ width (Sixel bits ∷ h) = is.width ∙ rw (shows.width, to) refl in
     let high : wide.height ≡ height (Sixel bits ∷ h) = is.height ∙ rw (shows.height, shows.down) refl in
@@ -82,6 +85,8 @@ Shows-drawn o h old wide new bits right shows is ends four narrow area drawn gro
       pixels = λ column row. drawn column row ∙ rw (from, to, top, inked, is.canvas, shows.pixels column row) refl;
       reached = λ row. grown row ∙ rw (is.canvas, shows.reached row, top, to) refl;
       paid = omega (arith, rw is.canvas at most, rw is.canvas at more, shows.paid, narrow, ends);
+      least = least-sixel h bits (least_painted (right - wide.across) + (new.canvas.spread - wide.canvas.spread)) wide.canvas.paints new.canvas.paints
+          (rw columns (omega arith)) (rw is.canvas shows.least) least';
       registers = registers' ∙ is.registers ∙ shows.registers;
       color = color' ∙ inked;
       span = span';
@@ -103,7 +108,8 @@ Shows-drawn o h old wide new bits right shows is ends four narrow area drawn gro
     }
 
 -- what is drawn unless memory is refused
-pub draws_unless : {A : Type 0} → (result : Result A SixelError) (o : Origin) (painter : Painter) (h : History) (drawn grown : Type 0)
-    → OnOk result drawn → OnOk result grown → IfErr result (λ e. e ≡ OutOfMemory) → (drawn → grown → Shows o painter h) → Draws result o painter h true
-draws_unless (Ok x) o painter h drawn grown is more error shows = shows is more
-draws_unless (Err e) o painter h drawn grown is more error shows = rw error refl
+pub draws_unless : {A : Type 0} → (result : Result A SixelError) (o : Origin) (painter : Painter) (h : History) (drawn grown rises : Type 0)
+    → OnOk result drawn → OnOk result grown → OnOk result rises → IfErr result (λ e. e ≡ OutOfMemory)
+    → (drawn → grown → rises → Shows o painter h) → Draws result o painter h true
+draws_unless (Ok x) o painter h drawn grown rises is more least error shows = shows is more least
+draws_unless (Err e) o painter h drawn grown rises is more least error shows = rw error refl

@@ -81,6 +81,7 @@ shows_skip o painter h byte shows = record {
   pixels = shows.pixels;
   reached = shows.reached;
   paid = shows.paid;
+  least = shows.least;
   registers = shows.registers;
   color = shows.color;
   span = shows.span;

@@ -24,9 +24,11 @@ use Rattle.sixel_decoder.specs.declared.frame.Frame.{Frame}
 use Rattle.sixel_decoder.specs.declared.frame.Phase.{Phase}
 use Rattle.sixel_decoder.specs.declared.frame.Phase.TheVariants.{Ground}
 use Rattle.sixel_decoder.specs.inside.Frame.{IsDrawn, Stands, StandsIn, ReadsFront}
-use Rattle.sixel_decoder.specs.Paints.{sixels}
+use Rattle.sixel_canvas.specs.inside.Paints.{counted}
+use Rattle.sixel_decoder.specs.Paints.{sixels, least_paints}
 use Rattle.sixel_decoder.specs.inside.Runs.{IsSixelByte, IsRun, Holds, bits_of, four_of, next_end, end_of, columns_for}
 use Rattle.sixel_decoder.proofs.Framing.{growths-closed}
+use Rattle.sixel_decoder.proofs.Paid.{least-sixel, least-single}
 
 -- the history after sixels with these bits
 abbrev pub with_sixels : History → List ℕ → History
@@ -451,6 +453,11 @@ sixels-with : (h : History) (more : List ℕ) → sixels (with_sixels h more) �
 sixels-with h [] = omega arith
 sixels-with h (bits ∷ more) = omega (arith, sixels-with (Sixel bits ∷ h) more)
 
+-- what they paint at least
+least-with : (h : History) (more : List ℕ) → span h ≡ 1 → least_paints (with_sixels h more) ≤ least_paints h + 6 * length more
+least-with h [] single = omega arith
+least-with h (bits ∷ more) single = omega (arith, least-with (Sixel bits ∷ h) more refl, least-single h bits single)
+
 -- the painter once a run was drawn on its canvas
 pub Shows-run : (o : Origin) (h after : History) (old new : Painter) (held : CanvasState) (run : List ℕ) → after ≡ with_sixels h (bits_of run) → Shows o old h
     → old.span ≡ 1 → old.across + length run ≤ old.width → old.down + 6 ≤ old.height
@@ -458,12 +465,13 @@ pub Shows-run : (o : Origin) (h after : History) (old new : Painter) (held : Can
     → Holds old.canvas held old.down old.across run
     → ((column row : ℕ) → shown new.canvas column row ≡ drawn_over old.across (bits_of run) old.down old.color column row (shown held column row))
     → ((row : ℕ) → reached new.canvas row ≡ reached held row)
+    → counted old.canvas.paints (6 * length run) ≤ new.canvas.paints
     → new.canvas.paints + old.canvas.spread ≤ old.canvas.paints + new.canvas.spread + 4602 * length run
     → new.registers ≡ old.registers → new.color ≡ old.color → new.span ≡ old.span → new.across ≡ old.across + length run → new.down ≡ old.down
     → new.width ≡ old.width → new.height ≡ old.height → new.raster_height ≡ old.raster_height → new.ratio ≡ old.ratio → new.settings ≡ old.settings
     → new.raster_crop ≡ old.raster_crop → new.pixel_limit ≡ old.pixel_limit
     → Shows o new after
-Shows-run o h after old new held run whole shows single right lower wide high area holds drawn kept paid' registers' color' span' across' down' width' height' raster' ratio' settings' crop' limit' =
+Shows-run o h after old new held run whole shows single right lower wide high area holds drawn kept least' paid' registers' color' span' across' down' width' height' raster' ratio' settings' crop' limit' =
     let limit : ℕ = o.pixel_limit in
     let inside : IsInside limit (length run) h = record {
       single = sym shows.span ∙ single;
@@ -483,6 +491,7 @@ Shows-run o h after old new held run whole shows single right lower wide high ar
       pixels = λ column row. drawn column row ∙ ap (drawn_over old.across (bits_of run) old.down old.color column row) (holds.shows column row) ∙ (rw (shows.across, shows.down, shows.color, shows.pixels column row) (sym (pixel-sixels limit o h (bits_of run) column row inside')));
       reached = λ row. kept row ∙ row_reach-held limit h old.canvas held run row inside shows.reached holds';
       paid = omega (arith, paid', shows.paid, sixels-with h (bits_of run), long);
+      least = omega (arith, least', shows.least, least-with h (bits_of run) (sym shows.span ∙ single), long);
       registers = registers' ∙ shows.registers ∙ sym passed.registers;
       color = color' ∙ shows.color ∙ ap (λ c. c ++ 255 ∷ []) (sym passed.color);
       span = span' ∙ single ∙ sym passed.span;
@@ -503,12 +512,13 @@ pub Shows-alone : (o : Origin) (h : History) (old new : Painter) (bits : ℕ) �
     → old.width ≤ 1000000 → old.height ≤ 1000000 → old.width * old.height ≤ old.pixel_limit
     → ((column row : ℕ) → shown new.canvas column row ≡ (if covers old.across (old.across + 1) old.down bits column row then old.color else shown old.canvas column row))
     → ((row : ℕ) → reached new.canvas row ≡ reached old.canvas row)
+    → counted old.canvas.paints (if nat_lt 0 bits then 6 else 0) ≤ new.canvas.paints
     → new.canvas.paints + old.canvas.spread ≤ old.canvas.paints + new.canvas.spread + 4602
     → new.registers ≡ old.registers → new.color ≡ old.color → new.span ≡ old.span → new.across ≡ old.across + 1 → new.down ≡ old.down
     → new.width ≡ old.width → new.height ≡ old.height → new.raster_height ≡ old.raster_height → new.ratio ≡ old.ratio → new.settings ≡ old.settings
     → new.raster_crop ≡ old.raster_crop → new.pixel_limit ≡ old.pixel_limit
     → Shows o new (Sixel bits ∷ h)
-Shows-alone o h old new bits shows alone wide high area drawn kept paid' registers' color' span' across' down' width' height' raster' ratio' settings' crop' limit' =
+Shows-alone o h old new bits shows alone wide high area drawn kept least' paid' registers' color' span' across' down' width' height' raster' ratio' settings' crop' limit' =
     let limit : ℕ = o.pixel_limit in
     let inside : IsInside limit 1 h = record {
       single = sym shows.span ∙ alone.single;
@@ -525,6 +535,7 @@ Shows-alone o h old new bits shows alone wide high area drawn kept paid' registe
       pixels = λ column row. drawn column row ∙ rw (shows.across, shows.down, shows.color, shows.pixels column row, inside.single) refl;
       reached = λ row. kept row ∙ grown row ∙ rw (shows.reached row, shows.down, shows.across, inside.single) refl;
       paid = omega (arith, paid', shows.paid);
+      least = least-sixel h bits 6 old.canvas.paints new.canvas.paints (omega (arith, inside.single)) shows.least least';
       registers = registers' ∙ shows.registers ∙ sym passed.registers;
       color = color' ∙ shows.color ∙ ap (λ c. c ++ 255 ∷ []) (sym passed.color);
       span = span' ∙ alone.single ∙ sym passed.span;

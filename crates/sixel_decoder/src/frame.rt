@@ -92,7 +92,7 @@ impl Frame {
     ghost use Rattle.sixel_decoder.specs.inside.Frame.{ReadsFront, ReadsBytes, after};
     ghost use Rattle.sixel_decoder.specs.inside.Painter.{Ends};
     ghost use Rattle.sixel_base.specs.Reach.{reached_area, size};
-    ghost use Rattle.sixel_decoder.specs.Paints.{sixels};
+    ghost use Rattle.sixel_decoder.specs.Paints.{sixels, least_count};
     ghost use Rattle.sixel_base.specs.Payload.{closed};
 
     /// A frame of which nothing was read.
@@ -388,6 +388,9 @@ impl Frame {
     /// How many pixels sixels have painted, at most. An open command draws nothing.
     pub fn paints(&self) -> u64
         ensures value { result ≡ self.now.painter.canvas.paints }
+        ensures at_least { (o : Origin) (h : History) (ended : Bool)
+            → StandsAfter ended o self.now h
+            → least_count (if ended then h else closed h) ≤ result }
         ensures at_most { (o : Origin) (h : History) (ended : Bool)
             → StandsAfter ended o self.now h
             → result ≤ 3 * reached_area (if ended then h else closed h)

@@ -8,7 +8,7 @@ ghost use Rattle.sixel_base.specs.Fault.{Faults, IsFault, StreamFailed};
 ghost use Rattle.sixel_base.specs.Payload.{fed_fault, settled, growths, payload_fault};
 ghost use Rattle.sixel_base.specs.Payload.{payload_image, payload_registers};
 ghost use Rattle.sixel_base.specs.Reach.{reached_area, size};
-ghost use Rattle.sixel_decoder.specs.Paints.{sixels};
+ghost use Rattle.sixel_decoder.specs.Paints.{sixels, least_count};
 ghost use Rattle.sixel_base.specs.Status.{status_of};
 ghost use Rattle.sixel_base.specs.Stroke.{Origin};
 ghost use Rattle.sixel_decoder.specs.PictureView.{picture_value};
@@ -124,6 +124,8 @@ impl Intake {
     /// How many pixels sixels have painted so far, at most.
     pub fn paints(&self) -> u64
         ensures value { result ≡ self.now.paints }
+        ensures at_least { self.now.is_refused ≡ false
+            → least_count (settled self.now.bytes) ≤ result }
         ensures at_most { result ≤ 3 * reached_area (settled self.now.bytes)
             + 4602 * sixels (settled self.now.bytes) }
         ensures refused { self.now.is_refused ≡ true → result ≡ 0 }

@@ -9,6 +9,7 @@ ghost use Rattle.sixel_base.specs.Picture.{is_set};
 ghost use Rattle.sixel_base.specs.declared.error.SixelError.TheVariants.{OutOfMemory};
 ghost use Rattle.sixel_canvas.specs.inside.Block.{drawn_over};
 ghost use Rattle.sixel_canvas.specs.inside.Canvas.{shown, reached};
+ghost use Rattle.sixel_canvas.specs.inside.Paints.{counted};
 ghost use Rattle.sixel_decoder.specs.inside.Runs.{IsSixelByte, IsRun, Holds, bits_of};
 ghost use Rattle.sixel_base.specs.History.{read};
 ghost use Rattle.sixel_canvas.specs.inside.Canvas.{canvas_writes, canvas_room};
@@ -348,7 +349,8 @@ fn paint(
     ensures drawn { (column row : ℕ) → shown canvas.new column row
         ≡ drawn_over from (bits_of run.now) top color column row (shown canvas.old column row) }
     ensures kept { (row : ℕ) → reached canvas.new row ≡ reached canvas.old row }
-    ensures paints { canvas.new.paints ≤ canvas.old.paints + 1560 * length run.now }
+    ensures least { counted canvas.old.paints (6 * length run.now) ≤ canvas.new.paints }
+    ensures most { canvas.new.paints ≤ canvas.old.paints + 1560 * length run.now }
     ensures spread { canvas.new.spread ≡ canvas.old.spread }
 {
     let by_four = columns_by_four(held, from, run.len());
@@ -442,7 +444,7 @@ impl Painter {
     ghost use Rattle.sixel_decoder.specs.inside.Painter.{Shows};
     ghost use Rattle.sixel_decoder.specs.inside.Painter.{Ends};
     ghost use Rattle.sixel_base.specs.Reach.{reached_area};
-    ghost use Rattle.sixel_decoder.specs.Paints.{sixels};
+    ghost use Rattle.sixel_decoder.specs.Paints.{sixels, least_count};
 
     /// How many pixels the canvas has copied or filled, to grow. It has room for at most twice those
     /// that were reached.
@@ -461,6 +463,8 @@ impl Painter {
     /// How many pixels sixels have painted, in rows and in the tags of their blocks, at most.
     pub fn paints(&self) -> u64
         ensures value { result ≡ self.now.canvas.paints }
+        ensures at_least { (o : Origin) (h : History) → Shows o self.now h
+            → least_count h ≤ result }
         ensures at_most { (o : Origin) (h : History) → Shows o self.now h
             → result ≤ 3 * reached_area h + 4602 * sixels h }
     {

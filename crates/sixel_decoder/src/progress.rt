@@ -2,7 +2,7 @@
 
 ghost use Rattle.std.specs.Prelude.{◌≡◌, ◌+◌, ◌*◌, ◌≤◌, ◌++◌, [], false, true, nat_lt, None};
 ghost use Rattle.std.specs.Prelude.{OnOk, OnErr, IfOk, IfErr, MatchBool, List, ℕ};
-ghost use Rattle.sixel_decoder.specs.Paints.{dcs_sixels};
+ghost use Rattle.sixel_decoder.specs.Paints.{dcs_sixels, dcs_least_count};
 ghost use Rattle.sixel_base.specs.Dcs.{dcs_count, dcs_status, dcs_fault, dcs_growths};
 ghost use Rattle.sixel_base.specs.Dcs.{dcs_in_payload, dcs_size};
 ghost use Rattle.sixel_base.specs.Dcs.{dcs_reached_area, has_ended, has_come, end_fault, stage};
@@ -117,6 +117,8 @@ impl Progress {
     /// How many pixels sixels of the payload have painted so far, at most.
     pub fn paints(&self) -> u64
         ensures value { result ≡ self.now.paints }
+        ensures at_least { self.now.is_refused ≡ false
+            → dcs_least_count self.now.bytes ≤ result }
         ensures at_most { result ≤ 3 * dcs_reached_area self.now.bytes
             + 4602 * dcs_sixels self.now.bytes }
         ensures refused { self.now.is_refused ≡ true → result ≡ 0 }

@@ -4,7 +4,7 @@ ghost use Rattle.std.specs.Prelude.{◌≡◌, ◌+◌, ◌*◌, ◌≤◌, ◌+
 ghost use Rattle.std.specs.Prelude.{OnOk, OnErr, IfOk, IfErr, MatchBool, List, ℕ, length, Ok, Err};
 ghost use Rattle.sixel_base.specs.Dcs.{dcs_count, dcs_status, dcs_fault, dcs_growths};
 ghost use Rattle.sixel_base.specs.Dcs.{dcs_in_payload, dcs_size};
-ghost use Rattle.sixel_decoder.specs.Paints.{dcs_sixels};
+ghost use Rattle.sixel_decoder.specs.Paints.{dcs_sixels, dcs_least_count};
 ghost use Rattle.sixel_base.specs.Dcs.{dcs_reached_area, has_ended, end_fault, stage};
 ghost use Rattle.sixel_base.specs.Dcs.{IsSameString, IsStringImage, AreStringRegisters};
 ghost use Rattle.sixel_base.specs.Decoder.{IsSetAs};
@@ -124,10 +124,12 @@ impl<'a> SixelDcsStreamDecoder<'a> {
     /// How many pixels sixels of the payload have painted so far, at most; 0 before the payload and
     /// after a refusal. It takes no memory.
     ///
-    /// The bound is that of a payload session, by
+    /// The bounds are those of a payload session, by
     /// [`canvas_paints`](crate::SixelStreamDecoder::canvas_paints).
     pub fn canvas_paints(&self) -> u64
         ensures value { result ≡ self.now.progress.paints }
+        ensures at_least { self.now.progress.is_refused ≡ false
+            → dcs_least_count self.now.progress.bytes ≤ result }
         ensures at_most { result ≤ 3 * dcs_reached_area self.now.progress.bytes
             + 4602 * dcs_sixels self.now.progress.bytes }
         ensures refused { self.now.progress.is_refused ≡ true → result ≡ 0 }

@@ -10,7 +10,7 @@ ghost use Rattle.sixel_base.specs.Payload.{fed_fault, settled, growths, payload_
 ghost use Rattle.sixel_base.specs.Payload.{payload_area, payload_image, payload_registers};
 ghost use Rattle.sixel_base.specs.Payload.{payload_wants};
 ghost use Rattle.sixel_base.specs.Reach.{reached_area, size};
-ghost use Rattle.sixel_decoder.specs.Paints.{sixels};
+ghost use Rattle.sixel_decoder.specs.Paints.{sixels, least_count};
 ghost use Rattle.sixel_base.specs.Status.{status_of};
 ghost use Rattle.icy_sixel.specs.ImageView.{image_value};
 
@@ -131,11 +131,15 @@ impl<'a> SixelStreamDecoder<'a> {
     /// How many pixels sixels have painted so far, at most, where a wide one over pixels that are
     /// there may be kept as the colors of its blocks; 0 after a refusal. It takes no memory.
     ///
-    /// It is at most three times the area that the closed sixels reach and 4602 for each of them,
-    /// which is two ends and 511 blocks in six rows. At the greatest number it stays. Where memory
-    /// for the colors of blocks was refused, a sixel is counted as if it had them.
+    /// Each closed sixel with a set pixel counts at least six for each of its columns. One of more
+    /// than 258 columns may count less: six for each whole 128 columns, and 1536 for two ends.
+    /// The number is at most three times the area that the closed sixels reach and 4602 for each of
+    /// them, which is two ends and 511 blocks in six rows. At the greatest number it stays. Where
+    /// memory for the colors of blocks was refused, a sixel is counted as if it had them.
     pub fn canvas_paints(&self) -> u64
         ensures value { result ≡ self.now.intake.paints }
+        ensures at_least { self.now.intake.is_refused ≡ false
+            → least_count (settled self.now.intake.bytes) ≤ result }
         ensures at_most { result ≤ 3 * reached_area (settled self.now.intake.bytes)
             + 4602 * sixels (settled self.now.intake.bytes) }
         ensures refused { self.now.intake.is_refused ≡ true → result ≡ 0 }

@@ -1,9 +1,10 @@
 //! What strokes are counted as, and which wide ones a band is to tag.
 ghost use Rattle.std.specs.Prelude.{◌≡◌, ◌+◌, ◌-◌, ◌*◌, ◌^◌, ◌<◌, ◌≤◌};
-ghost use Rattle.std.specs.Prelude.{true, false, if◌then◌else◌};
+ghost use Rattle.std.specs.Prelude.{true, false, nat_lt, if◌then◌else◌};
 ghost use Rattle.sixel_base.specs.Picture.{is_set, total};
 ghost use Rattle.sixel_canvas.specs.inside.Canvas.{CanvasState, IsBounded};
-ghost use Rattle.sixel_canvas.specs.inside.Paints.{counted, ends_and_tags, least_painted, IsSpread};
+ghost use Rattle.sixel_canvas.specs.inside.Paints.{counted, ends_and_tags, four_painted};
+ghost use Rattle.sixel_canvas.specs.inside.Paints.{least_painted, IsSpread};
 ghost use Rattle.sixel_canvas.specs.inside.Tags.{is_tag};
 
 use crate::canvas::Canvas;
@@ -31,7 +32,7 @@ pub struct Band {
 #[inline(always)]
 pub fn with_sixel(paints: u64, bits: u8) -> u64
     requires { bits < 64 }
-    ensures least { 0 < bits → counted paints 6 ≤ result }
+    ensures least { counted paints (if nat_lt 0 bits then 6 else 0) ≤ result }
     ensures most { result ≤ paints + 6 }
 {
     let painted = SIXEL * ((u64::from(bits) + 63) / 64);
@@ -41,7 +42,7 @@ pub fn with_sixel(paints: u64, bits: u8) -> u64
 /// The count with four sixels, whose rows may have tags.
 #[inline(always)]
 pub fn with_four_sixels(paints: u64, may_have_tags: bool) -> u64
-    ensures least { counted paints 24 ≤ result }
+    ensures least { counted paints (four_painted may_have_tags) ≤ result }
     ensures most { result ≤ paints + 1560 }
 {
     let settled = if may_have_tags { SETTLED } else { 0 };

@@ -13,13 +13,14 @@ use Rattle.sixel_base.specs.Payload.{first_fault, image_of}
 use Rattle.sixel_decoder.specs.declared.painter.Picture.{Picture}
 use Rattle.sixel_decoder.specs.PictureView.{picture_value}
 use Rattle.sixel_base.specs.Reach.{row_reach}
-use Rattle.sixel_decoder.specs.Paints.{sixels}
+use Rattle.sixel_decoder.specs.Paints.{sixels, least_count}
 
 -- The painter has drawn these tokens, none of which has a fault.
 pub record Shows (origin : Origin) (painter : Painter) (history : History) : Type 0 where
   pub pixels : (column row : ℕ) → shown painter.canvas column row ≡ pixel origin history column row
   pub reached : (row : ℕ) → reached painter.canvas row ≡ row_reach history row
   pub paid : painter.canvas.paints ≤ painter.canvas.spread + 4602 * sixels history
+  pub least : least_count history ≤ painter.canvas.paints
   pub registers : painter.registers ≡ registers origin.registers history
   pub color : painter.color ≡ color origin.registers history ++ 255 ∷ []
   pub span : painter.span ≡ span history

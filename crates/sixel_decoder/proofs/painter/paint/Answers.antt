@@ -1,4 +1,5 @@
 use Rattle.std.proofs.Common.{◌+◌, ◌<◌, ◌≤◌, length, ◌∙◌, arith}
+use Rattle.sixel_decoder.proofs.Paid.{least-four}
 use Rattle.sixel_decoder.proofs.Runs.{drawn_by_four, drawn_whole, four_held}
 use Rattle.sixel_decoder.proofs.painter.paint.Goals as goal
 
@@ -13,12 +14,13 @@ fours-preserved c =
           (omega (arith, le)) before.1 c.four_sixels.ensures c.block.ensures.drawn,
       λ row. c.block.ensures.reached row ∙ before.2 row,
       omega (arith, before.3, c.block.ensures.paints, c.fours-test.true, c.columns_by_four-by_four.ensures.few),
-      c.block.ensures.spread ∙ before.4,
-      λ more. omega (arith, before.5 (omega (arith, c.fours-test.true)), c.block.ensures.plain),
+      omega (arith, before.4, c.block.ensures.paints),
+      c.block.ensures.spread ∙ before.5,
+      λ more. omega (arith, before.6 (omega (arith, c.fours-test.true)), c.block.ensures.plain),
     )
 
 pub last-init : goal.last-init
-last-init c = (omega (arith, c.fours.invariant.0), c.fours.invariant.1, c.fours.invariant.2, c.fours.invariant.3, c.fours.invariant.4, c.fours.invariant.5)
+last-init c = (omega (arith, c.fours.invariant.0), c.fours.invariant.1, c.fours.invariant.2, c.fours.invariant.3, c.fours.invariant.4, c.fours.invariant.5, c.fours.invariant.6)
 
 pub last-preserved : goal.last-preserved
 last-preserved c =
@@ -31,12 +33,13 @@ last-preserved c =
           (omega (arith, lt)) before.1 c.sixels_in_front.ensures c.block-in-last.ensures.drawn,
       λ row. c.block-in-last.ensures.reached row ∙ before.2 row,
       omega (arith, before.3, c.block-in-last.ensures.paints, c.last-test.true, c.columns_by_four-by_four.ensures.few),
-      c.block-in-last.ensures.spread ∙ before.4,
-      λ more. omega (arith, before.5 (omega (arith, c.last-test.true)), c.block-in-last.ensures.plain),
+      omega (arith, before.4, c.block-in-last.ensures.paints),
+      c.block-in-last.ensures.spread ∙ before.5,
+      λ more. omega (arith, before.6 (omega (arith, c.last-test.true)), c.block-in-last.ensures.plain),
     )
 
 pub ends-init : goal.ends-init
-ends-init c = (c.last.invariant.0, c.last.invariant.1, c.last.invariant.2, c.last.invariant.3, c.last.invariant.4)
+ends-init c = (c.last.invariant.0, c.last.invariant.1, c.last.invariant.2, c.last.invariant.3, c.last.invariant.4, c.last.invariant.5)
 
 pub dots-requires-clause-held : goal.dots-requires-clause-held
 dots-requires-clause-held c =
@@ -54,7 +57,8 @@ ends-preserved c =
           (omega (arith, lt)) before.1 c.sixels_in_front-in-ends.ensures c.dots.ensures.drawn,
       λ row. c.dots.ensures.reached row ∙ before.2 row,
       omega (arith, before.3, c.dots.ensures.most, c.ends-test.true, c.columns_by_four-by_four.ensures.few),
-      c.dots.ensures.spread ∙ before.4,
+      least-four _ done _ _ _ before.4 c.dots.ensures.least,
+      c.dots.ensures.spread ∙ before.5,
     )
 
 pub returns-clause-drawn : goal.returns-clause-drawn

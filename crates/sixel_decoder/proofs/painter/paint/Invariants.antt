@@ -1,5 +1,6 @@
 use Rattle.std.proofs.Common.{◌≡◌, ℕ, ◌+◌, ◌-◌, ◌<◌, ◌≤◌, ◌*◌, min, length}
 use Rattle.sixel_canvas.specs.inside.Canvas.{reached}
+use Rattle.sixel_canvas.specs.inside.Paints.{counted}
 use Rattle.sixel_decoder.proofs.Runs.{IsDrawnTo}
 use Rattle.sixel_decoder.proofs.painter.paint.Given as goal
 
@@ -9,6 +10,7 @@ invariant-fours l =
     × IsDrawnTo l.done l.fn.canvas l.canvas l.top l.from l.run l.color
     × ((row : ℕ) → reached l.canvas row ≡ reached l.fn.canvas row)
     × (l.canvas.paints ≤ l.fn.canvas.paints + 1560 * min l.done (length l.run))
+    × (counted l.fn.canvas.paints (6 * l.done) ≤ l.canvas.paints)
     × (l.canvas.spread ≡ l.fn.canvas.spread)
     × (l.done < l.by_four → l.canvas.tagged ≤ l.top)
 
@@ -21,6 +23,7 @@ invariant-last l =
     × IsDrawnTo l.done l.fn.canvas l.canvas l.top l.from l.run l.color
     × ((row : ℕ) → reached l.canvas row ≡ reached l.fn.canvas row)
     × (l.canvas.paints ≤ l.fn.canvas.paints + 1560 * min l.done (length l.run))
+    × (counted l.fn.canvas.paints (6 * l.done) ≤ l.canvas.paints)
     × (l.canvas.spread ≡ l.fn.canvas.spread)
     × (l.done < l.by_four → l.canvas.tagged ≤ l.top)
 
@@ -33,6 +36,7 @@ invariant-ends l =
     × IsDrawnTo l.done l.fn.canvas l.canvas l.top l.from l.run l.color
     × ((row : ℕ) → reached l.canvas row ≡ reached l.fn.canvas row)
     × (l.canvas.paints ≤ l.fn.canvas.paints + 1560 * min l.done (length l.run))
+    × (counted l.fn.canvas.paints (6 * l.done) ≤ l.canvas.paints)
     × (l.canvas.spread ≡ l.fn.canvas.spread)
 
 abbrev pub decreases-ends : goal.decreases-ends

@@ -1,4 +1,5 @@
-use Rattle.std.proofs.Common.{ap, ◌∙◌, arith}
+use Rattle.std.proofs.Common.{ap, ◌∙◌, inl, inr, arith}
+use Rattle.std.proofs.lemmas.Bool.{cases_lt, lt-ltb, le-ltb}
 use Rattle.std.specs.Prelude.{if◌then◌else◌}
 use Rattle.sixel_base.specs.Picture.{covers}
 use Rattle.sixel_canvas.specs.inside.Canvas.{shown}
@@ -27,8 +28,14 @@ returns-then-holds_one-clause-drawn c = λ column row.
     shown c.args.self.now column row) next
 
 pub returns-then-holds_one-clause-least : goal.returns-then-holds_one-clause-least
-returns-then-holds_one-clause-least c = λ some.
-    omega (arith, c.column.ensures.least some, c.column.ensures.spread, c.holds_one.ensures.one c.if-holds_one.true)
+returns-then-holds_one-clause-least c = elim (cases_lt 0 c.args.bits) [
+  | inl some ↦
+      let set = lt-ltb 0 c.args.bits some in
+      rw set (omega (arith, rw set at c.column.ensures.least, c.column.ensures.spread, c.holds_one.ensures.one c.if-holds_one.true))
+  | inr none ↦
+      let blank = le-ltb 0 c.args.bits none in
+      rw blank (rw blank at c.column.ensures.least)
+]
 
 pub returns-then-holds_one-clause-most : goal.returns-then-holds_one-clause-most
 returns-then-holds_one-clause-most c = λ _.

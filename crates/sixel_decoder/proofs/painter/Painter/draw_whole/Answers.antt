@@ -56,5 +56,6 @@ returns-in-Ok-clause-shows c = λ o h shows.
     let whole : fold read h (take len bytes) ≡ with_sixels h (bits_of run) = ap (fold read h) (sym c.front-run.ensures) ∙ fold_run h run are in
     Shows-run o h _ old _ c.hold.new.canvas run whole shows c.requires.single (omega (arith, long, c.requires.inside)) c.requires.above_bottom
     old.width_fits old.height_fits old.area_fits c.in-Ok.ensures.holds c.paint.ensures.drawn c.paint.ensures.kept
-    (omega (arith, c.in-Ok.ensures.paints, c.in-Ok.ensures.spread, c.paint.ensures.paints, c.paint.ensures.spread, long))
+    (omega (arith, c.in-Ok.ensures.paints, c.paint.ensures.least))
+    (omega (arith, c.in-Ok.ensures.paints, c.in-Ok.ensures.spread, c.paint.ensures.most, c.paint.ensures.spread, long))
     refl refl refl (ap (λ (n : ℕ). old.across + n) (sym long)) refl refl refl refl refl refl refl refl

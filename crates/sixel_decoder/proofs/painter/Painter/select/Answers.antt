@@ -12,6 +12,7 @@ returns-clause-shows c = λ o h text keeps shows.
       pixels = shows.pixels;
       reached = shows.reached;
       paid = shows.paid;
+      least = shows.least;
       registers = defined;
       color = c.opaque-self.ensures ∙ ap (λ w. w ++ 255 ∷ []) (c.get-2.ensures.color ∙ rw (defined, named) refl);
       span = shows.span;

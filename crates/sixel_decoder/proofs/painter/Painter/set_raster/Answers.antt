@@ -13,6 +13,7 @@ returns-in-Ok c = λ o h text keeps shows.
       pixels = λ column row. rw is.canvas (shows.pixels column row);
       reached = λ row. rw is.canvas (shows.reached row);
       paid = rw is.canvas shows.paid;
+      least = rw is.canvas shows.least;
       registers = is.registers ∙ shows.registers;
       color = is.color ∙ shows.color;
       span = is.span ∙ shows.span;
