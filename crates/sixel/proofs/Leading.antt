@@ -14,12 +14,13 @@ use Rattle.sixel_base.specs.declared.status.SixelDcsFeedStatus.{SixelDcsFeedStat
 use Rattle.sixel_base.specs.declared.status.SixelDcsFeedStatus.TheVariants.{NeedMoreData, Complete, Cancelled, Interrupted}
 use Rattle.sixel_base.specs.Dcs.{dcs_status, dcs_count, has_ended}
 use Rattle.sixel_base.specs.OneShot.{found, IsFoundImage, AreFoundRegisters}
-use Rattle.sixel.specs.declared.fault.Fault.{Fault}
-use Rattle.sixel.specs.declared.fault.Fault.TheVariants.{Sixel, Input, Output}
+use Rattle.sixel_io.specs.declared.fault.Fault.{Fault}
+use Rattle.sixel_io.specs.declared.fault.Fault.TheVariants.{Sixel, Input, Output}
 use Rattle.sixel.specs.Form.{image_form}
 use Rattle.sixel.specs.Ending.{Ending, Done, Refused}
 use Rattle.sixel.specs.Strings.{string_fault, is_cut_short, AreAnswered, Over, Broken, CutShort, Followed}
-use Rattle.sixel.specs.Answer.{IsImageAnswer, Writes, Begins, Serves}
+use Rattle.sixel_io.specs.Output.{Writes}
+use Rattle.sixel.specs.Answer.{IsImageAnswer, Begins, Serves}
 use Rattle.sixel.proofs.Counting.{complete_counts}
 
 -- The images before the rest were written, and an answer to the rest completes the answer to all.

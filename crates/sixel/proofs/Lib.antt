@@ -2,7 +2,6 @@ pub mod Counting
 pub mod Leading
 mod Pieces
 pub mod Responding
-pub mod Sending
 pub mod Serving
 pub mod Stringing
 pub mod Wording

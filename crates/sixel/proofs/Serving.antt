@@ -7,14 +7,15 @@ use Rattle.sixel_base.specs.declared.error.SixelError.TheVariants.{OutOfMemory}
 use Rattle.sixel_base.specs.Decoder.{new_decoder}
 use Rattle.sixel_base.specs.Payload.{Image}
 use Rattle.sixel_base.specs.Fault as data_fault
-use Rattle.sixel.specs.declared.fault.Fault.{Fault}
-use Rattle.sixel.specs.declared.fault.Fault.TheVariants.{Sixel, Input, Output}
+use Rattle.sixel_io.specs.declared.fault.Fault.{Fault}
+use Rattle.sixel_io.specs.declared.fault.Fault.TheVariants.{Sixel, Input, Output}
 use Rattle.sixel.specs.declared.words.Word.{Word}
 use Rattle.sixel.specs.declared.words.Word.TheVariants.{Payload, Decode, Frames, Encode}
 use Rattle.sixel.specs.Form.{line_end, image_line, image_form}
 use Rattle.sixel.specs.Ending.{Ending, Done, Refused}
 use Rattle.sixel.specs.Strings.{Broken}
-use Rattle.sixel.specs.Answer.{IsAnswer, IsImageAnswer, Writes, Begins, Serves}
+use Rattle.sixel_io.specs.Output.{Writes}
+use Rattle.sixel.specs.Answer.{IsAnswer, IsImageAnswer, Begins, Serves}
 
 -- ---- an answer that is written in parts
 

@@ -1,7 +1,6 @@
 -- What the program writes for a word and the bytes of its input, and how it ends: as the definitions of the data's meaning say, or for
 -- want of memory, which may come before any image. The order of the two is this program's own: an image is written once it is whole.
 use Rattle.std.specs.Prelude.{◌≡◌, ◌⊎◌, ℕ, true, List, [], ◌++◌, Option, None, Some, Result, Ok, Err}
-use Rattle.std.specs.Io.KnownBytes.{Appends}
 use Rattle.sixel_base.specs.declared.error.SixelError.TheVariants.{OutOfMemory}
 use Rattle.sixel_base.specs.Decoder.{new_decoder, origin_of}
 use Rattle.sixel_base.specs.Stroke.{Origin}
@@ -9,8 +8,9 @@ use Rattle.sixel_base.specs.Fault as data_fault
 use Rattle.sixel_base.specs.Payload.{Image, payload_fault, payload_image}
 use Rattle.sixel_encoder.specs.Encoding.{image_fault, IsText, square_value}
 use Rattle.sixel_base.specs.OneShot.{no_settings, found, found_fault, IsFoundImage}
-use Rattle.sixel.specs.declared.fault.Fault.{Fault}
-use Rattle.sixel.specs.declared.fault.Fault.TheVariants.{Sixel, Input, Output}
+use Rattle.sixel_io.specs.declared.fault.Fault.{Fault}
+use Rattle.sixel_io.specs.declared.fault.Fault.TheVariants.{Sixel, Input, Output}
+use Rattle.sixel_io.specs.Output.{Writes}
 use Rattle.sixel.specs.declared.words.Word.{Word}
 use Rattle.sixel.specs.declared.words.Word.TheVariants.{Payload, Decode, Frames, Encode}
 use Rattle.sixel.specs.Form.{image_form}
@@ -37,10 +37,6 @@ IsAnswer Payload bytes = IsImageAnswer (payload_fault fresh.pixel_limit bytes) (
 IsAnswer Decode bytes = IsImageAnswer (found_fault new_decoder.pixel_limit (found bytes)) (IsFoundImage new_decoder (found bytes))
 IsAnswer (Frames length) bytes = AreAnswered new_decoder bytes
 IsAnswer (Encode width height colors) bytes = IsTextAnswer (square_value bytes width height) colors
-
--- what a writer holds grew by a text of this kind
-abbrev pub Writes : (List ℕ → Type 0) → Option (List ℕ) → Option (List ℕ) → Type 0
-Writes IsText old new = (text : List ℕ) × IsText text × Appends old new text
 
 -- an answer, whatever its ending, begins with this text
 abbrev pub Begins : (List ℕ → Ending → Type 0) → List ℕ → Type 0

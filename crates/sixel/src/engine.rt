@@ -1,31 +1,30 @@
 ghost use Rattle.std.specs.Prelude.{◌≡◌, OnOk, IfSome};
 ghost use Rattle.std.specs.Io.KnownBytes.{Keeps, IsAtEnd};
 ghost use Rattle.sixel_base.specs.declared.error.SixelError.{SixelError};
-ghost use Rattle.sixel.specs.declared.fault.Fault.TheVariants.{Sixel, Input, Output};
+ghost use Rattle.sixel_io.specs.declared.fault.Fault.TheVariants.{Sixel, Input, Output};
 ghost use Rattle.sixel.specs.declared.words.Word.TheVariants.{Payload, Decode, Encode};
 ghost use Rattle.sixel.specs.Words.{IsServable};
 ghost use Rattle.sixel.specs.Ending.{Done, Refused};
-ghost use Rattle.sixel.specs.Answer.{IsAnswer, Writes, Begins, Serves};
+ghost use Rattle.sixel.specs.Answer.{IsAnswer, Begins, Serves};
+ghost use Rattle.sixel_io.specs.Output.{Writes};
 
-use crate::fault::Fault;
 use crate::images::write_image;
-use crate::streams::{read_all, write_all};
 use crate::strings::write_strings;
 use crate::words::Word;
 use icy_sixel::{DcsSettings, EncodeOptions, SixelImage, sixel_encode};
+use sixel_io::{Fault, read_to_end, write_all};
 use std::alloc::Global;
 use std::io::{Read, Write};
 
-/// Does what the word asks for with the bytes of the input, which is read to its end first. It may
-/// be known to have so many bytes.
+/// Reads the input to its end, does the work of the word, and writes the output.
 ///
-/// The pieces of [`Word::Frames`] have at least one byte, as `read_word` sees to.
+/// The chunks of [`Word::Frames`] have at least one byte, as `read_word` sees to.
 ///
-/// The clauses on bytes hold where the reader tells what it has left and the writer what it holds.
+/// The clauses on bytes hold where the reader reports the bytes that it has left, and the writer
+/// those that it contains.
 pub fn serve<R: Read, O: Write>(
     alloc: Global,
     word: Word,
-    known: Option<usize>,
     input: &mut R,
     output: &mut O,
 ) -> Result<(), Fault>
@@ -42,16 +41,17 @@ pub fn serve<R: Read, O: Write>(
         Writes (Begins (IsAnswer word bytes)) (O.contents output.old) (O.contents output.new)) }
     ensures at_end { OnOk result (IsAtEnd (R.remaining input.new)) }
 {
-    let bytes = read_all(alloc, input, expected_len(word, known))?;
+    let bytes = read_to_end(alloc, input, input_len(word))?;
     answer(alloc, word, &bytes, output)
 }
 
-/// How many bytes are expected for the word, whose input may be known to have so many: raw pixels
-/// have four bytes each.
-fn expected_len(word: Word, known: Option<usize>) -> usize {
+/// The number of bytes that the input of the word is to have, or 0 where any number will do.
+///
+/// Raw pixels have four bytes each.
+fn input_len(word: Word) -> usize {
     match word {
         Word::Encode(width, height, _) => width.saturating_mul(height).saturating_mul(4),
-        Word::Payload | Word::Decode | Word::Frames(_) => known.unwrap_or(0),
+        Word::Payload | Word::Decode | Word::Frames(_) => 0,
     }
 }
 

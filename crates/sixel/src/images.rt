@@ -1,13 +1,12 @@
 ghost use Rattle.std.specs.Prelude.{◌≡◌, None, IfOk, IfErr, string_bytes};
 ghost use Rattle.sixel_base.specs.declared.error.SixelError.TheVariants.{OutOfMemory};
 ghost use Rattle.icy_sixel.specs.ImageView.{image_value};
-ghost use Rattle.sixel.specs.declared.fault.Fault.TheVariants.{Sixel};
+ghost use Rattle.sixel_io.specs.declared.fault.Fault.TheVariants.{Sixel};
 ghost use Rattle.sixel.specs.Form.{image_line};
 ghost use Rattle.sixel.specs.Answer.{IsImageAnswer, Serves};
 
-use crate::fault::Fault;
-use crate::streams::write_all;
 use icy_sixel::SixelImage;
+use sixel_io::{Fault, write_all};
 use std::alloc::Global;
 use std::io::Write;
 

@@ -2,27 +2,19 @@
 #![tactic(auto)]
 
 mod engine;
-mod fault;
 mod images;
 mod response;
-mod streams;
 mod strings;
 mod words;
 
-use fault::Fault;
 use response::{Response, respond};
+use sixel_io::Fault;
 use std::process::ExitCode;
-use std::{env, fs, io};
+use std::{env, io};
 
 fn main(rt: HostRuntime) -> io::Result<ExitCode> {
     let response = match arguments(&rt) {
-        Ok(words) => respond(
-            rt.alloc(),
-            &words,
-            known_len(&rt),
-            &mut rt.stdin(),
-            &mut rt.stdout(),
-        ),
+        Ok(words) => respond(rt.alloc(), &words, &mut rt.stdin(), &mut rt.stdout()),
         Err(fault) => Response::Failed(fault),
     };
     tell(&rt, &response)?;
@@ -42,12 +34,6 @@ fn arguments(rt: &HostRuntime) -> Result<Vec<String>, Fault> {
         }
     }
     Ok(words)
-}
-
-/// How many bytes standard input has, if it is a file and the system can say.
-fn known_len(rt: &HostRuntime) -> Option<usize> {
-    let data = fs::metadata(rt, "/dev/stdin").ok()?;
-    usize::try_from(data.len()).ok()
 }
 
 /// Writes a line to standard error where something is wrong.

@@ -3,16 +3,17 @@
 ghost use Rattle.std.specs.Prelude.{◌≡◌, ◌≢◌, true, Err, IfSome, is_ok};
 ghost use Rattle.std.specs.Io.KnownBytes.{Keeps};
 ghost use Rattle.sixel_base.specs.declared.error.SixelError.{SixelError};
-ghost use Rattle.sixel.specs.declared.fault.Fault.TheVariants.{Sixel, Input, Output};
+ghost use Rattle.sixel_io.specs.declared.fault.Fault.TheVariants.{Sixel, Input, Output};
 ghost use Rattle.sixel.specs.declared.response.Response.TheVariants.{Done, Usage, Failed};
 ghost use Rattle.sixel.specs.declared.words.Word.{Word};
 ghost use Rattle.sixel.specs.Ending.{Done as Whole, Refused};
 ghost use Rattle.sixel.specs.Words.{IsAskedBy, words_of};
-ghost use Rattle.sixel.specs.Answer.{IsAnswer, Writes, Begins};
+ghost use Rattle.sixel.specs.Answer.{IsAnswer, Begins};
+ghost use Rattle.sixel_io.specs.Output.{Writes};
 
 use crate::engine::serve;
-use crate::fault::Fault;
 use crate::words::asked;
+use sixel_io::Fault;
 use std::alloc::Global;
 use std::io::{Read, Write};
 
@@ -42,14 +43,13 @@ impl Response {
     }
 }
 
-/// Does what the words after the program's own name ask for. Where they ask for nothing that it
-/// does, it reads and writes nothing. The input may be known to have so many bytes.
+/// Does the work of the arguments after the program's own name.
 ///
-/// The clauses on bytes hold where the reader tells what it has left and the writer what it holds.
+/// Where they ask for no work, nothing is read or written. The clauses on bytes hold where the
+/// reader reports the bytes that it has left, and the writer those that it contains.
 pub fn respond<R: Read, O: Write>(
     alloc: Global,
     words: &[String],
-    known: Option<usize>,
     input: &mut R,
     output: &mut O,
 ) -> Response
@@ -73,7 +73,7 @@ pub fn respond<R: Read, O: Write>(
     let Some(word) = asked(words) else {
         return Response::Usage;
     };
-    response_of(serve(alloc, word, known, input, output))
+    response_of(serve(alloc, word, input, output))
 }
 
 /// How the program ends whose work came to this.

@@ -14,12 +14,12 @@ ghost use Rattle.sixel.specs.Strings.{string_fault, is_cut_short, IsFedInPieces,
 ghost use Rattle.sixel.specs.Form.{image_form};
 ghost use Rattle.sixel.specs.Answer.{IsImageAnswer, Serves};
 
-use crate::fault::Fault;
 use crate::images::write_image;
 use icy_sixel::{
     SixelDcsFeedResult, SixelDcsFeedStatus, SixelDcsStreamDecoder, SixelDecoder, SixelError,
     SixelImage,
 };
+use sixel_io::Fault;
 use std::alloc::Global;
 use std::io::Write;
 

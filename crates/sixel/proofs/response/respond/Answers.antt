@@ -1,8 +1,9 @@
 use Rattle.std.proofs.Common.{arith}
-use Rattle.sixel.specs.declared.fault.Fault.TheVariants.{Sixel, Output}
+use Rattle.sixel_io.specs.declared.fault.Fault.TheVariants.{Sixel, Output}
 use Rattle.sixel.specs.Ending.{Refused}
 use Rattle.sixel.specs.Words.{IsAskedBy, words_of}
-use Rattle.sixel.specs.Answer.{IsAnswer, Writes, Begins}
+use Rattle.sixel_io.specs.Output.{Writes}
+use Rattle.sixel.specs.Answer.{IsAnswer, Begins}
 use Rattle.sixel.proofs.Responding.{asked-for}
 use Rattle.sixel.proofs.response.respond.Goals as goal
 

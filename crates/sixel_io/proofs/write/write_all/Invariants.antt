@@ -1,7 +1,7 @@
 -- The writer holds what it held, and then the bytes that are done.
 use Rattle.std.proofs.Common.{◌≤◌, length, take}
 use Rattle.std.specs.Io.KnownBytes.{Appends}
-use Rattle.sixel.proofs.streams.write_all.Given as goal
+use Rattle.sixel_io.proofs.write.write_all.Given as goal
 
 abbrev pub invariant-writes : goal.invariant-writes
 invariant-writes g l = record {

@@ -1,18 +1,20 @@
+//! The errors that stop a program.
+
 ghost use Rattle.std.specs.Prelude.{◌≡◌};
 ghost use Rattle.sixel_base.specs.declared.error.SixelError.TheVariants.{OutOfMemory};
-ghost use Rattle.sixel.specs.declared.fault.Fault.TheVariants.{Sixel};
+ghost use Rattle.sixel_io.specs.declared.fault.Fault.TheVariants.{Sixel};
 
-use icy_sixel::SixelError;
+use sixel_base::SixelError;
 use std::alloc::AllocError;
 use thiserror::Error;
 
-/// Why the program stops before its end.
+/// Why a program stops.
 #[derive(Debug, Drop, Error)]
 pub enum Fault {
-    /// The data are refused, or memory is.
+    /// The data are rejected, or an allocation fails.
     #[error("{0}")]
     Sixel(SixelError),
-    /// The input, or the arguments, can't be read.
+    /// The input or the arguments can't be read.
     #[error("input fault")]
     Input,
     /// The output can't be written.

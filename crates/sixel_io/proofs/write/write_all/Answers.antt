@@ -1,9 +1,9 @@
 use Rattle.std.proofs.Common.{arith, length-drop, length-take, rules}
-use Rattle.sixel.proofs.Sending.{Appends-rest}
-use Rattle.sixel.proofs.streams.write_all.Goals as goal
+use Rattle.sixel_io.proofs.Sending.{Appends-rest}
+use Rattle.sixel_io.proofs.write.write_all.Goals as goal
 
-pub returns-then-done-bytes-clause-refused : goal.returns-then-done-bytes-clause-refused
-returns-then-done-bytes-clause-refused g c = grind arith
+pub returns-then-done-bytes-clause-error : goal.returns-then-done-bytes-clause-error
+returns-then-done-bytes-clause-error g c = grind arith
 
 pub slice_bounds-write-count : goal.slice_bounds-write-count
 slice_bounds-write-count g c = grind arith

@@ -1,0 +1,6 @@
+use Rattle.std.proofs.Common.{[]}
+use Rattle.std.proofs.KnownBytes.{Consumes-nil, Consumes-trans, Consumes-all}
+use Rattle.sixel_io.proofs.read.read_to_end.Goals as goal
+
+pub reads-init : goal.reads-init
+reads-init g c = rw c.new-bytes.ensures.items (Consumes-nil _)
