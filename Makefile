@@ -56,25 +56,33 @@ below = $1 $(foreach name,$(shell sed -n 's/^$1\( [^:]*\)*://p' crates.txt),\
 sources = crates.txt $(shell find $(wildcard $(foreach name,$(sort $(call below,$1)),\
 	crates/$(name)/src crates/$(name)/specs crates/$(name)/proofs)))
 
+# What is built is as old as its start, because a source may change meanwhile.
+start = mkdir -p out && touch out/start
+end = touch -r out/start $@
+
 .SECONDEXPANSION:
 
 $(program): $$(call sources,sixel)
+	$(start)
 	cd crates/sixel && rt run -- decode </dev/null >/dev/null
-	touch $@
+	$(end)
 
 $(filter): $$(call sources,sixel_filter)
+	$(start)
 	cd crates/sixel_filter && rt run -- 1 size </dev/null >/dev/null
-	touch $@
+	$(end)
 
 # `rt lib` writes either archive to the same file.
 $(archive_by_rattle): $$(call sources,icysixel_c)
+	$(start)
 	cd $(crate) && rt lib --backend rattle >&2
 	mv $(archive) $@
-	touch $@
+	$(end)
 
 $(archive): $(archive_by_rattle)
+	$(start)
 	cd $(crate) && rt lib >&2
-	touch $@
+	$(end)
 
 out/libicysixel.a: $(archive) $(crate)/memory/icysixel_memory.c
 	mkdir -p out
@@ -86,7 +94,7 @@ out/libicysixel.a: $(archive) $(crate)/memory/icysixel_memory.c
 out/icysixel.h: $(crate)/include/icysixel.h
 	install -D -m 644 $(crate)/include/icysixel.h $@
 
-# (written anew, because it depends on PREFIX; without one, it names its own folder)
+# Without PREFIX, icysixel.pc names its own folder.
 described = sed 's|@prefix@|$(or $1,$${pcfiledir})|; s|@lib@|$(if $1,/lib)|; \
 	s|@include@|$(if $1,/include)|' $(crate)/icysixel.pc.in
 
