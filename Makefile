@@ -10,7 +10,9 @@
 MAKEFLAGS += --no-builtin-rules
 
 program = crates/sixel/out/sixel
-filter = crates/sixel_filter/out/sixel_filter
+# The programs that tests run; `rt ci` alone runs sixel_vectors.
+programs = $(foreach name,$(filter-out sixel_vectors,$(patsubst crates/%/src/main.rt,%,\
+	$(wildcard crates/*/src/main.rt))),crates/$(name)/out/$(name))
 crate = crates/icysixel_c
 archive = $(crate)/out/libicysixel_c.a
 archive_by_rattle = $(crate)/out/libicysixel_c.by-rattle.a
@@ -26,7 +28,7 @@ lib: $(library)
 check:
 	./check
 
-built: program $(filter) lib
+built: $(programs) lib
 
 test: built
 	python3 tests
@@ -57,19 +59,15 @@ sources = crates.txt $(shell find $(wildcard $(foreach name,$(sort $(call below,
 	crates/$(name)/src crates/$(name)/specs crates/$(name)/proofs)))
 
 # What is built is as old as its start, because a source may change meanwhile.
-start = mkdir -p out && touch out/start
-end = touch -r out/start $@
+start = mkdir -p out && touch out/start.$(@F)
+end = touch -r out/start.$(@F) $@
 
 .SECONDEXPANSION:
 
-$(program): $$(call sources,sixel)
+# `rt run` proves, compiles and runs a program.
+$(programs): $$(call sources,$$(@F))
 	$(start)
-	cd crates/sixel && rt run -- decode </dev/null >/dev/null
-	$(end)
-
-$(filter): $$(call sources,sixel_filter)
-	$(start)
-	cd crates/sixel_filter && rt run -- 1 size </dev/null >/dev/null
+	cd crates/$(@F) && rt run -- $$(cat args 2>&-) </dev/null >/dev/null
 	$(end)
 
 # `rt lib` writes either archive to the same file.
