@@ -64,7 +64,3 @@ class TestDocuments(unittest.TestCase):
                 options = {"cwd": room, "env": paths, "stderr": subprocess.STDOUT}
                 ended = run("bash", "-eu", "-c", script, **options)
                 self.assertEqual(ended, (0, output.encode(), None), script)
-
-
-if __name__ == "__main__":
-    unittest.main()

@@ -103,7 +103,3 @@ class TestFilter(unittest.TestCase):
                     script = f'exec "$0" 1 size {redirection}'
                     ended = run("sh", "-c", script, program, stdin=RECORDED)
                     self.assertEqual(ended, (1, b"", error))
-
-
-if __name__ == "__main__":
-    unittest.main()

@@ -32,7 +32,3 @@ class TestShell(unittest.TestCase):
                 self.assertEqual(run(ROOT / "lib", *words)[:2], (0, b""))
                 found = run("pkg-config", "--cflags", "--libs", out / "icysixel.pc")[1]
                 self.assertEqual(found.decode().split(), [*flags.split(), "-licysixel"])
-
-
-if __name__ == "__main__":
-    unittest.main()
