@@ -62,6 +62,8 @@ sources = crates.txt $(shell find $(wildcard $(foreach name,$(sort $(call below,
 start = mkdir -p out && touch out/start.$(@F)
 end = touch -r out/start.$(@F) $@
 
+.DELETE_ON_ERROR:
+
 .SECONDEXPANSION:
 
 # `rt run` proves, compiles and runs a program.
