@@ -10,7 +10,9 @@
 MAKEFLAGS += --no-builtin-rules
 
 program = crates/sixel/out/sixel
-filter = crates/sixel_filter/out/sixel_filter
+# The programs that tests run; `rt ci` alone runs sixel_vectors.
+programs = $(foreach name,$(filter-out sixel_vectors,$(patsubst crates/%/src/main.rt,%,\
+	$(wildcard crates/*/src/main.rt))),crates/$(name)/out/$(name))
 crate = crates/icysixel_c
 archive = $(crate)/out/libicysixel_c.a
 archive_by_rattle = $(crate)/out/libicysixel_c.by-rattle.a
@@ -26,7 +28,7 @@ lib: $(library)
 check:
 	./check
 
-built: program $(filter) lib
+built: $(programs) lib
 
 test: built
 	python3 tests
@@ -56,25 +58,31 @@ below = $1 $(foreach name,$(shell sed -n 's/^$1\( [^:]*\)*://p' crates.txt),\
 sources = crates.txt $(shell find $(wildcard $(foreach name,$(sort $(call below,$1)),\
 	crates/$(name)/src crates/$(name)/specs crates/$(name)/proofs)))
 
+# What is built is as old as its start, because a source may change meanwhile.
+start = mkdir -p out && touch out/start.$(@F)
+end = touch -r out/start.$(@F) $@
+
+.DELETE_ON_ERROR:
+
 .SECONDEXPANSION:
 
-$(program): $$(call sources,sixel)
-	cd crates/sixel && rt run -- decode </dev/null >/dev/null
-	touch $@
-
-$(filter): $$(call sources,sixel_filter)
-	cd crates/sixel_filter && rt run -- 1 size </dev/null >/dev/null
-	touch $@
+# `rt run` proves, compiles and runs a program.
+$(programs): $$(call sources,$$(@F))
+	$(start)
+	cd crates/$(@F) && rt run -- $$(cat args 2>&-) </dev/null >/dev/null
+	$(end)
 
 # `rt lib` writes either archive to the same file.
 $(archive_by_rattle): $$(call sources,icysixel_c)
+	$(start)
 	cd $(crate) && rt lib --backend rattle >&2
 	mv $(archive) $@
-	touch $@
+	$(end)
 
 $(archive): $(archive_by_rattle)
+	$(start)
 	cd $(crate) && rt lib >&2
-	touch $@
+	$(end)
 
 out/libicysixel.a: $(archive) $(crate)/memory/icysixel_memory.c
 	mkdir -p out
@@ -86,7 +94,7 @@ out/libicysixel.a: $(archive) $(crate)/memory/icysixel_memory.c
 out/icysixel.h: $(crate)/include/icysixel.h
 	install -D -m 644 $(crate)/include/icysixel.h $@
 
-# (written anew, because it depends on PREFIX; without one, it names its own folder)
+# Without PREFIX, icysixel.pc names its own folder.
 described = sed 's|@prefix@|$(or $1,$${pcfiledir})|; s|@lib@|$(if $1,/lib)|; \
 	s|@include@|$(if $1,/include)|' $(crate)/icysixel.pc.in
 

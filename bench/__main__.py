@@ -102,12 +102,16 @@ def report(room, file, timers):
 
 def made(room):
     """Two images, one of smooth colors and one of flat ones, and their SIXEL output."""
-    noise, smooth, flat = random.Random(1), bytearray(), bytearray()
+    noise = random.Random(1)
+
+    def shade(a, b):
+        return int(127 + 80 * math.sin(a) + 40 * math.cos(b) + 8 * noise.random())
+
+    smooth, flat = bytearray(), bytearray()
     for y in range(480):
         for x in range(640):
-            waves = (x / 90, y / 50), ((x + y) / 120, x / 70), (y / 100, (x - y) / 60)
-            shades = (127 + 80 * math.sin(a) + 40 * math.cos(b) for a, b in waves)
-            smooth += bytes([*(int(it + 8 * noise.random()) for it in shades), 255])
+            smooth += bytes([shade(x / 90, y / 50), shade((x + y) / 120, x / 70)])
+            smooth += bytes([shade(y / 100, (x - y) / 60), 255])
             flat += bytes([x // 80 % 4 * 60, y // 40 % 3 * 90, (x + y) // 200 % 2 * 200])
             flat.append(0 if x < 20 else 255)
     for name, pixels in (("smooth", smooth), ("flat", flat)):

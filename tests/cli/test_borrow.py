@@ -64,7 +64,3 @@ class TestBorrow(unittest.TestCase):
     def test_one_session_compiles(self):
         status, told = self.compiled([(call, "") for call, _ in USES])
         self.assertEqual(status, 0, told)
-
-
-if __name__ == "__main__":
-    unittest.main()

@@ -1,4 +1,4 @@
-"""Tests the documents: their code stands in tested examples, and their commands write what they show."""
+"""Tests the documents: examples contain their code, and their commands write what they show."""
 import os
 import re
 import subprocess
@@ -54,7 +54,7 @@ class TestDocuments(unittest.TestCase):
 
     @needs("bash", "img2sixel", "sixel2png")
     def test_session(self):
-        """Each block of commands of docs/SESSION.md writes the block of text after it, or nothing."""
+        """Each block of commands in docs/SESSION.md writes the text after it, or nothing."""
         paths = {**os.environ, "PATH": f"{folder_of_imagemagick()}:{os.environ['PATH']}"}
         commands = SESSION.findall((ROOT / "docs/SESSION.md").read_text())
         self.assertTrue(commands)
@@ -64,7 +64,3 @@ class TestDocuments(unittest.TestCase):
                 options = {"cwd": room, "env": paths, "stderr": subprocess.STDOUT}
                 ended = run("bash", "-eu", "-c", script, **options)
                 self.assertEqual(ended, (0, output.encode(), None), script)
-
-
-if __name__ == "__main__":
-    unittest.main()

@@ -1,4 +1,4 @@
-"""Tests the program `sixel_filter`: its arguments, its output in chunks of any length, and its exit statuses.
+"""Tests the program `sixel_filter`: its arguments, its output, its errors and exit statuses.
 
 The expected bytes are computed by hand from docs/FORMAT.md.
 """
@@ -34,6 +34,7 @@ TEXTS = [
 ]
 
 REJECTED = b"\x1bPq!65536~~"
+TERMINATORS = b"\x1b\\", b"\x9c", b"\x18", b"\x1a"
 RED_DOT = b"a\x1bPq#1;2;100;0;0@\x1b\\b"
 # Arguments, a stream and its output.
 STREAMS = [
@@ -50,7 +51,7 @@ STREAMS = [
     ("size", b"\x1bP1\x1bPq~\x9c", b"\x1bP1[image 1x6]"),
     ("size", b"\x1bPq\x1b\\", b"[image 1x1]"),
     # Only errors are written in the place of images.
-    *(("refusals", REJECTED + b"#" + it, MALFORMED) for it in (b"\x1b\\", b"\x9c", b"\x18", b"\x1a")),
+    *(("refusals", REJECTED + b"#" + it, MALFORMED) for it in TERMINATORS),
     ("refusals", REJECTED + b"#~!65536~\x9c", MALFORMED),
     ("refusals", REJECTED + b"\x1b", MALFORMED),
     ("refusals", b"\x1bPq~", INCOMPLETE),
@@ -100,8 +101,5 @@ class TestFilter(unittest.TestCase):
             for program in builds_of("sixel_filter"):
                 with self.subTest(program=program.name, redirection=redirection):
                     script = f'exec "$0" 1 size {redirection}'
-                    self.assertEqual(run("sh", "-c", script, program, stdin=RECORDED), (1, b"", error))
-
-
-if __name__ == "__main__":
-    unittest.main()
+                    ended = run("sh", "-c", script, program, stdin=RECORDED)
+                    self.assertEqual(ended, (1, b"", error))

@@ -27,12 +27,8 @@ class TestShell(unittest.TestCase):
     def test_lib_describes_itself(self):
         """icysixel.pc names PREFIX, or its own folder, which is the last that is written."""
         out = ROOT / "out"
-        for words, headers, archives in ((["/x"], "/x/include", "/x/lib"), ([], out, out)):
+        for words, flags in ((["/x"], "-I/x/include -L/x/lib"), ([], f"-I{out} -L{out}")):
             with self.subTest(words=words):
                 self.assertEqual(run(ROOT / "lib", *words)[:2], (0, b""))
-                flags = run("pkg-config", "--cflags", "--libs", out / "icysixel.pc")[1]
-                self.assertEqual(flags.decode().split(), [f"-I{headers}", f"-L{archives}", "-licysixel"])
-
-
-if __name__ == "__main__":
-    unittest.main()
+                found = run("pkg-config", "--cflags", "--libs", out / "icysixel.pc")[1]
+                self.assertEqual(found.decode().split(), [*flags.split(), "-licysixel"])

@@ -178,7 +178,3 @@ class TestSixel(unittest.TestCase):
                 with self.subTest(place=place):
                     arguments = ["encode", str(image.width), str(image.height), colors]
                     self.ends(arguments, image.pixels, outcome(result, bytes_of))
-
-
-if __name__ == "__main__":
-    unittest.main()
