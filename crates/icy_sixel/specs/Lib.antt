@@ -1,4 +1,5 @@
 pub mod ImageView
 pub mod Script
 pub mod Receiver
+pub mod Sessions
 pub mod inside

@@ -65,6 +65,8 @@ impl Default for SixelDecoder {
 }
 
 impl SixelDecoder {
+    ghost use Rattle.icy_sixel.specs.Sessions.{payload, payload_owner, sequence, sequence_owner};
+
     /// A decoder with the registers of a terminal that has just been switched on, which crops no
     /// image and has the limit of 67,108,864 pixels.
     pub fn new() -> Self
@@ -190,9 +192,10 @@ impl SixelDecoder {
         settings: DcsSettings,
     ) -> Result<SixelStreamDecoder<'_>>
         ensures ok { IsOk result }
-        ensures owner { IfOk result (λ session. session.owner.ghost_name ≡ self.entry.ghost_name) }
-        ensures registers { IfOk result (λ session. session.owner.now ≡ self.old) }
-        ensures session { IfOk result (λ session. session.intake ≡ record {
+        ensures owner { IfOk result
+            (λ session. (payload_owner session).ghost_name ≡ self.entry.ghost_name) }
+        ensures registers { IfOk result (λ session. (payload_owner session).now ≡ self.old) }
+        ensures session { IfOk result (λ session. payload session ≡ record {
           origin = origin_of self.old settings;
           bytes = [];
           is_refused = false;
@@ -218,9 +221,9 @@ impl SixelDecoder {
     ///
     /// It takes no memory.
     pub fn begin_dcs(&mut self, alloc: Global) -> SixelDcsStreamDecoder<'_>
-        ensures owner { result.owner.ghost_name ≡ self.entry.ghost_name }
-        ensures registers { result.owner.now ≡ self.old }
-        ensures session { result.progress ≡ record {
+        ensures owner { (sequence_owner result).ghost_name ≡ self.entry.ghost_name }
+        ensures registers { (sequence_owner result).now ≡ self.old }
+        ensures session { sequence result ≡ record {
           decoder = self.old;
           bytes = [];
           is_refused = false;

@@ -28,8 +28,10 @@ pub struct SixelDcsStreamDecoder<'a, P = Progress> {
 }
 
 impl<'a, P: Drop> Drop for SixelDcsStreamDecoder<'a, P> {
+    ghost use Rattle.icy_sixel.specs.Sessions.{sequence_owner};
+
     fn drop(self)
-        ensures { self.exit.0.now ≡ self.entry.owner.now }
+        ensures { self.exit.0.now ≡ (sequence_owner self.entry).now }
     {
         let SixelDcsStreamDecoder {
             owner: _,
@@ -39,11 +41,13 @@ impl<'a, P: Drop> Drop for SixelDcsStreamDecoder<'a, P> {
 }
 
 impl<'a> SixelDcsStreamDecoder<'a> {
+    ghost use Rattle.icy_sixel.specs.Sessions.{sequence, sequence_owner};
+
     /// A session that was fed nothing.
     pub(crate) fn begin(alloc: Global, owner: &'a mut SixelDecoder) -> Self
-        ensures owner { result.owner.ghost_name ≡ owner.entry.ghost_name }
-        ensures registers { result.owner.now ≡ owner.old }
-        ensures session { result.progress ≡ record {
+        ensures owner { (sequence_owner result).ghost_name ≡ owner.entry.ghost_name }
+        ensures registers { (sequence_owner result).now ≡ owner.old }
+        ensures session { sequence result ≡ record {
           decoder = owner.old;
           bytes = [];
           is_refused = false;
@@ -67,39 +71,41 @@ impl<'a> SixelDcsStreamDecoder<'a> {
     /// with DCS, as one byte or as ESC and `P`, or what is wrong with its header or payload; after
     /// it each feed answers `SixelError::InvalidData("DCS stream decoder has failed")`.
     pub fn feed(&mut self, piece: &[u8]) -> Result<SixelDcsFeedResult>
-        ensures owner { self.new.owner.ghost_name ≡ self.old.owner.ghost_name }
-        ensures registers { self.new.owner.now ≡ self.old.owner.now }
-        ensures start { self.new.progress.decoder ≡ self.old.progress.decoder }
-        ensures bytes { self.new.progress.bytes ≡ self.old.progress.bytes ++ piece.now }
+        ensures owner { (sequence_owner self.new).ghost_name
+            ≡ (sequence_owner self.old).ghost_name }
+        ensures registers { (sequence_owner self.new).now ≡ (sequence_owner self.old).now }
+        ensures start { (sequence self.new).decoder ≡ (sequence self.old).decoder }
+        ensures bytes { (sequence self.new).bytes ≡ (sequence self.old).bytes ++ piece.now }
         ensures ok { OnOk result
-            ((self.old.progress.is_refused ≡ false) × (self.new.progress.is_refused ≡ false)) }
-        ensures err { OnErr result (self.new.progress.is_refused ≡ true) }
+            (((sequence self.old).is_refused ≡ false) × ((sequence self.new).is_refused ≡ false)) }
+        ensures err { OnErr result ((sequence self.new).is_refused ≡ true) }
         ensures faultless { OnOk result
-            (dcs_fault self.old.progress.decoder.pixel_limit self.new.progress.bytes ≡ None) }
-        ensures sound { self.old.progress.is_refused ≡ false
-            → dcs_fault self.old.progress.decoder.pixel_limit self.old.progress.bytes ≡ None }
-        ensures over { self.old.progress.is_refused ≡ false
-            → has_ended (dcs_status self.old.progress.bytes) ≡ true
+            (dcs_fault (sequence self.old).decoder.pixel_limit (sequence self.new).bytes ≡ None) }
+        ensures sound { (sequence self.old).is_refused ≡ false
+            → dcs_fault (sequence self.old).decoder.pixel_limit (sequence self.old).bytes ≡ None }
+        ensures over { (sequence self.old).is_refused ≡ false
+            → has_ended (dcs_status (sequence self.old).bytes) ≡ true
             → result ≡ Ok (record {
               consumed = 0;
-              status = dcs_status self.old.progress.bytes;
+              status = dcs_status (sequence self.old).bytes;
             }) }
         ensures over_for_good { (more : List ℕ) → IfOk result (λ fed. has_ended fed.status ≡ true
-            → IsSameString self.old.progress.decoder.pixel_limit
-            self.new.progress.bytes (self.new.progress.bytes ++ more)) }
-        ensures consumed { IfOk result (λ fed. dcs_count self.old.progress.bytes + fed.consumed
-            ≡ dcs_count self.new.progress.bytes) }
+            → IsSameString (sequence self.old).decoder.pixel_limit
+            (sequence self.new).bytes ((sequence self.new).bytes ++ more)) }
+        ensures consumed { IfOk result (λ fed. dcs_count (sequence self.old).bytes + fed.consumed
+            ≡ dcs_count (sequence self.new).bytes) }
         ensures within { IfOk result (λ fed. fed.consumed ≤ length piece.now) }
-        ensures status { IfOk result (λ fed. fed.status ≡ dcs_status self.new.progress.bytes) }
-        ensures error { IfErr result (λ error. MatchBool self.old.progress.is_refused
+        ensures status { IfOk result (λ fed. fed.status ≡ dcs_status (sequence self.new).bytes) }
+        ensures error { IfErr result (λ error. MatchBool (sequence self.old).is_refused
             (IsFault error DcsStreamFailed)
-            (Faults error (nat_lt (dcs_growths self.old.progress.bytes)
-            (dcs_growths self.new.progress.bytes))
-            (dcs_fault self.old.progress.decoder.pixel_limit self.new.progress.bytes))) }
+            (Faults error (nat_lt (dcs_growths (sequence self.old).bytes)
+            (dcs_growths (sequence self.new).bytes))
+            (dcs_fault (sequence self.old).decoder.pixel_limit (sequence self.new).bytes))) }
         ensures refused_for_good { (error : SixelError) (more : List ℕ) → result ≡ Err error
-            → self.old.progress.is_refused ≡ false
-            → Faults error (nat_lt 0 (dcs_growths (self.new.progress.bytes ++ more)))
-            (dcs_fault self.old.progress.decoder.pixel_limit (self.new.progress.bytes ++ more)) }
+            → (sequence self.old).is_refused ≡ false
+            → Faults error (nat_lt 0 (dcs_growths ((sequence self.new).bytes ++ more)))
+            (dcs_fault (sequence self.old).decoder.pixel_limit
+            ((sequence self.new).bytes ++ more)) }
     {
         self.progress.feed(piece)
     }
@@ -110,13 +116,13 @@ impl<'a> SixelDcsStreamDecoder<'a> {
     /// The bounds are those of a payload session, by
     /// [`canvas_writes`](crate::SixelStreamDecoder::canvas_writes).
     pub fn canvas_writes(&self) -> u64
-        ensures value { result ≡ self.now.progress.writes }
-        ensures at_least { self.now.progress.is_refused ≡ false
-            → dcs_reached_area self.now.progress.bytes ≤ result }
-        ensures at_most { result ≤ 3 * dcs_reached_area self.now.progress.bytes }
-        ensures room { self.now.progress.room
-            ≤ 2 * dcs_reached_area self.now.progress.bytes }
-        ensures refused { self.now.progress.is_refused ≡ true → result ≡ 0 }
+        ensures value { result ≡ (sequence self.now).writes }
+        ensures at_least { (sequence self.now).is_refused ≡ false
+            → dcs_reached_area (sequence self.now).bytes ≤ result }
+        ensures at_most { result ≤ 3 * dcs_reached_area (sequence self.now).bytes }
+        ensures room { (sequence self.now).room
+            ≤ 2 * dcs_reached_area (sequence self.now).bytes }
+        ensures refused { (sequence self.now).is_refused ≡ true → result ≡ 0 }
     {
         self.progress.writes()
     }
@@ -127,12 +133,12 @@ impl<'a> SixelDcsStreamDecoder<'a> {
     /// The bounds are those of a payload session, by
     /// [`canvas_paints`](crate::SixelStreamDecoder::canvas_paints).
     pub fn canvas_paints(&self) -> u64
-        ensures value { result ≡ self.now.progress.paints }
-        ensures at_least { self.now.progress.is_refused ≡ false
-            → dcs_least_count self.now.progress.bytes ≤ result }
-        ensures at_most { result ≤ 3 * dcs_reached_area self.now.progress.bytes
-            + 4602 * dcs_sixels self.now.progress.bytes }
-        ensures refused { self.now.progress.is_refused ≡ true → result ≡ 0 }
+        ensures value { result ≡ (sequence self.now).paints }
+        ensures at_least { (sequence self.now).is_refused ≡ false
+            → dcs_least_count (sequence self.now).bytes ≤ result }
+        ensures at_most { result ≤ 3 * dcs_reached_area (sequence self.now).bytes
+            + 4602 * dcs_sixels (sequence self.now).bytes }
+        ensures refused { (sequence self.now).is_refused ≡ true → result ≡ 0 }
     {
         self.progress.paints()
     }
@@ -142,9 +148,9 @@ impl<'a> SixelDcsStreamDecoder<'a> {
     /// A string that is refused before that, as one with another command than `q`, has no SIXEL
     /// data.
     pub fn in_payload(&self) -> bool
-        ensures accepted { self.now.progress.is_refused ≡ false
-            → result ≡ dcs_in_payload self.now.progress.bytes }
-        ensures refused { self.now.progress.is_refused ≡ true → result ≡ false }
+        ensures accepted { (sequence self.now).is_refused ≡ false
+            → result ≡ dcs_in_payload (sequence self.now).bytes }
+        ensures refused { (sequence self.now).is_refused ≡ true → result ≡ false }
     {
         self.progress.in_payload()
     }
@@ -153,9 +159,9 @@ impl<'a> SixelDcsStreamDecoder<'a> {
     /// [`size_so_far`](crate::SixelStreamDecoder::size_so_far). `None` before the payload and after
     /// a refusal. It takes no memory.
     pub fn size_so_far(&self) -> Option<(usize, usize)>
-        ensures accepted { self.now.progress.is_refused ≡ false
-            → result ≡ dcs_size self.now.progress.bytes }
-        ensures refused { self.now.progress.is_refused ≡ true → result ≡ None }
+        ensures accepted { (sequence self.now).is_refused ≡ false
+            → result ≡ dcs_size (sequence self.now).bytes }
+        ensures refused { (sequence self.now).is_refused ≡ true → result ≡ None }
     {
         self.progress.size_so_far()
     }
@@ -168,25 +174,25 @@ impl<'a> SixelDcsStreamDecoder<'a> {
     /// the image of the payload that came: as [`decode`](SixelDecoder::decode) of the bytes that were
     /// fed, whatever comes after them. A refusal leaves the decoder as it was.
     pub fn finish(self) -> Result<SixelImage>
-        ensures image { IfOk result (λ image. IsStringImage self.entry.progress.decoder
-            (stage self.entry.progress.bytes) (image_value image)) }
-        ensures registers { OnOk result (AreStringRegisters self.entry.progress.decoder
-            (stage self.entry.progress.bytes) self.exit.0.now.registers) }
+        ensures image { IfOk result (λ image. IsStringImage (sequence self.entry).decoder
+            (stage (sequence self.entry).bytes) (image_value image)) }
+        ensures registers { OnOk result (AreStringRegisters (sequence self.entry).decoder
+            (stage (sequence self.entry).bytes) self.exit.0.now.registers) }
         ensures as_decoded { (more : List ℕ) → IfOk result (λ image.
-            IsDecodedAs self.entry.progress.decoder (found (self.entry.progress.bytes ++ more))
+            IsDecodedAs (sequence self.entry).decoder (found ((sequence self.entry).bytes ++ more))
             (image_value image) self.exit.0.now.registers) }
         ensures area { IfOk result (λ image.
-            image.width * image.height ≤ self.entry.progress.decoder.pixel_limit) }
+            image.width * image.height ≤ (sequence self.entry).decoder.pixel_limit) }
         ensures pixels { IfOk result (λ image.
             length image.pixels.items ≡ 4 * (image.width * image.height)) }
-        ensures set { IsSetAs self.entry.owner.now self.exit.0.now }
-        ensures accepted { OnOk result (self.entry.progress.is_refused ≡ false) }
-        ensures ended { OnOk result (has_ended (dcs_status self.entry.progress.bytes) ≡ true) }
-        ensures kept { OnErr result (self.exit.0.now ≡ self.entry.owner.now) }
-        ensures error { IfErr result (λ error. MatchBool self.entry.progress.is_refused
+        ensures set { IsSetAs (sequence_owner self.entry).now self.exit.0.now }
+        ensures accepted { OnOk result ((sequence self.entry).is_refused ≡ false) }
+        ensures ended { OnOk result (has_ended (dcs_status (sequence self.entry).bytes) ≡ true) }
+        ensures kept { OnErr result (self.exit.0.now ≡ (sequence_owner self.entry).now) }
+        ensures error { IfErr result (λ error. MatchBool (sequence self.entry).is_refused
             (IsFault error DcsStreamFailed)
-            (Faults error (has_ended (dcs_status self.entry.progress.bytes))
-            (end_fault (dcs_status self.entry.progress.bytes)))) }
+            (Faults error (has_ended (dcs_status (sequence self.entry).bytes))
+            (end_fault (dcs_status (sequence self.entry).bytes)))) }
     {
         let SixelDcsStreamDecoder { owner, progress } = self;
         let picture = progress.finish()?;
@@ -196,7 +202,7 @@ impl<'a> SixelDcsStreamDecoder<'a> {
 
     /// Ends the session, and changes nothing, as dropping it does.
     pub fn abort(self)
-        ensures { self.exit.0.now ≡ self.entry.owner.now }
+        ensures { self.exit.0.now ≡ (sequence_owner self.entry).now }
     {
         drop(self);
     }

@@ -30,8 +30,10 @@ pub struct SixelStreamDecoder<'a, F = Intake> {
 }
 
 impl<'a, F: Drop> Drop for SixelStreamDecoder<'a, F> {
+    ghost use Rattle.icy_sixel.specs.Sessions.{payload_owner};
+
     fn drop(self)
-        ensures { self.exit.0.now ≡ self.entry.owner.now }
+        ensures { self.exit.0.now ≡ (payload_owner self.entry).now }
     {
         let SixelStreamDecoder {
             owner: _,
@@ -41,11 +43,13 @@ impl<'a, F: Drop> Drop for SixelStreamDecoder<'a, F> {
 }
 
 impl<'a> SixelStreamDecoder<'a> {
+    ghost use Rattle.icy_sixel.specs.Sessions.{payload, payload_owner};
+
     /// A session that was fed nothing.
     pub(crate) fn begin(alloc: Global, owner: &'a mut SixelDecoder, settings: DcsSettings) -> Self
-        ensures owner { result.owner.ghost_name ≡ owner.entry.ghost_name }
-        ensures registers { result.owner.now ≡ owner.old }
-        ensures session { result.intake ≡ record {
+        ensures owner { (payload_owner result).ghost_name ≡ owner.entry.ghost_name }
+        ensures registers { (payload_owner result).now ≡ owner.old }
+        ensures session { payload result ≡ record {
           origin = origin_of owner.old settings;
           bytes = [];
           is_refused = false;
@@ -69,43 +73,45 @@ impl<'a> SixelStreamDecoder<'a> {
     /// [`decode_from_dcs`](SixelDecoder::decode_from_dcs); after a refusal each later feed answers
     /// `SixelError::InvalidData("stream decoder has failed")`.
     pub fn feed(&mut self, piece: &[u8]) -> Result<SixelFeedResult>
-        ensures owner { self.new.owner.ghost_name ≡ self.old.owner.ghost_name }
-        ensures registers { self.new.owner.now ≡ self.old.owner.now }
-        ensures origin { self.new.intake.origin ≡ self.old.intake.origin }
-        ensures bytes { self.new.intake.bytes ≡ self.old.intake.bytes ++ piece.now }
+        ensures owner { (payload_owner self.new).ghost_name ≡ (payload_owner self.old).ghost_name }
+        ensures registers { (payload_owner self.new).now ≡ (payload_owner self.old).now }
+        ensures origin { (payload self.new).origin ≡ (payload self.old).origin }
+        ensures bytes { (payload self.new).bytes ≡ (payload self.old).bytes ++ piece.now }
         ensures ok { OnOk result
-            ((self.old.intake.is_refused ≡ false) × (self.new.intake.is_refused ≡ false)) }
-        ensures err { OnErr result (self.new.intake.is_refused ≡ true) }
+            (((payload self.old).is_refused ≡ false) × ((payload self.new).is_refused ≡ false)) }
+        ensures err { OnErr result ((payload self.new).is_refused ≡ true) }
         ensures faultless { OnOk result
-            (fed_fault self.old.intake.origin.pixel_limit self.new.intake.bytes ≡ None) }
-        ensures sound { self.old.intake.is_refused ≡ false
-            → fed_fault self.old.intake.origin.pixel_limit self.old.intake.bytes ≡ None }
-        ensures over { (terminator : ℕ) → self.old.intake.is_refused ≡ false
-            → first_terminator self.old.intake.bytes ≡ Some terminator
+            (fed_fault (payload self.old).origin.pixel_limit (payload self.new).bytes ≡ None) }
+        ensures sound { (payload self.old).is_refused ≡ false
+            → fed_fault (payload self.old).origin.pixel_limit (payload self.old).bytes ≡ None }
+        ensures over { (terminator : ℕ) → (payload self.old).is_refused ≡ false
+            → first_terminator (payload self.old).bytes ≡ Some terminator
             → result ≡ Ok (record {
               consumed = 0;
               status = SixelFeedStatus.Terminated terminator;
             }) }
         ensures consumed { IfOk result (λ fed.
-            count self.old.intake.bytes + fed.consumed ≡ count self.new.intake.bytes) }
+            count (payload self.old).bytes + fed.consumed ≡ count (payload self.new).bytes) }
         ensures within { IfOk result (λ fed. fed.consumed ≤ length piece.now) }
         ensures status { IfOk result (λ fed.
-            fed.status ≡ status_of (first_terminator self.new.intake.bytes)) }
-        ensures error { IfErr result (λ error. MatchBool self.old.intake.is_refused
+            fed.status ≡ status_of (first_terminator (payload self.new).bytes)) }
+        ensures error { IfErr result (λ error. MatchBool (payload self.old).is_refused
             (IsFault error StreamFailed)
             (Faults error
-            (nat_lt (growths (settled self.old.intake.bytes))
-            (growths (settled self.new.intake.bytes)))
-            (fed_fault self.old.intake.origin.pixel_limit self.new.intake.bytes))) }
+            (nat_lt (growths (settled (payload self.old).bytes))
+            (growths (settled (payload self.new).bytes)))
+            (fed_fault (payload self.old).origin.pixel_limit (payload self.new).bytes))) }
         ensures refused { (error : SixelError) → result ≡ Err error
-            → self.old.intake.is_refused ≡ false
-            → Faults error (payload_wants self.old.intake.origin.pixel_limit self.new.intake.bytes)
-            (payload_fault self.old.intake.origin.pixel_limit self.new.intake.bytes) }
+            → (payload self.old).is_refused ≡ false
+            → Faults error
+            (payload_wants (payload self.old).origin.pixel_limit (payload self.new).bytes)
+            (payload_fault (payload self.old).origin.pixel_limit (payload self.new).bytes) }
         ensures refused_for_good { (error : SixelError) (more : List ℕ) → result ≡ Err error
-            → self.old.intake.is_refused ≡ false
-            → Faults error (payload_wants self.old.intake.origin.pixel_limit
-            (self.new.intake.bytes ++ more))
-            (payload_fault self.old.intake.origin.pixel_limit (self.new.intake.bytes ++ more)) }
+            → (payload self.old).is_refused ≡ false
+            → Faults error (payload_wants (payload self.old).origin.pixel_limit
+            ((payload self.new).bytes ++ more))
+            (payload_fault (payload self.old).origin.pixel_limit
+            ((payload self.new).bytes ++ more)) }
     {
         self.intake.feed(piece)
     }
@@ -117,13 +123,13 @@ impl<'a> SixelStreamDecoder<'a> {
     /// all rows of the greatest right edge of a sixel that covers a pixel of the row. The rows
     /// together have room for at most twice that area.
     pub fn canvas_writes(&self) -> u64
-        ensures value { result ≡ self.now.intake.writes }
-        ensures at_least { self.now.intake.is_refused ≡ false
-            → reached_area (settled self.now.intake.bytes) ≤ result }
-        ensures at_most { result ≤ 3 * reached_area (settled self.now.intake.bytes) }
-        ensures room { self.now.intake.room
-            ≤ 2 * reached_area (settled self.now.intake.bytes) }
-        ensures refused { self.now.intake.is_refused ≡ true → result ≡ 0 }
+        ensures value { result ≡ (payload self.now).writes }
+        ensures at_least { (payload self.now).is_refused ≡ false
+            → reached_area (settled (payload self.now).bytes) ≤ result }
+        ensures at_most { result ≤ 3 * reached_area (settled (payload self.now).bytes) }
+        ensures room { (payload self.now).room
+            ≤ 2 * reached_area (settled (payload self.now).bytes) }
+        ensures refused { (payload self.now).is_refused ≡ true → result ≡ 0 }
     {
         self.intake.writes()
     }
@@ -137,12 +143,12 @@ impl<'a> SixelStreamDecoder<'a> {
     /// them, which is two ends and 511 blocks in six rows. At the greatest number it stays. Where
     /// memory for the colors of blocks was refused, a sixel is counted as if it had them.
     pub fn canvas_paints(&self) -> u64
-        ensures value { result ≡ self.now.intake.paints }
-        ensures at_least { self.now.intake.is_refused ≡ false
-            → least_count (settled self.now.intake.bytes) ≤ result }
-        ensures at_most { result ≤ 3 * reached_area (settled self.now.intake.bytes)
-            + 4602 * sixels (settled self.now.intake.bytes) }
-        ensures refused { self.now.intake.is_refused ≡ true → result ≡ 0 }
+        ensures value { result ≡ (payload self.now).paints }
+        ensures at_least { (payload self.now).is_refused ≡ false
+            → least_count (settled (payload self.now).bytes) ≤ result }
+        ensures at_most { result ≤ 3 * reached_area (settled (payload self.now).bytes)
+            + 4602 * sixels (settled (payload self.now).bytes) }
+        ensures refused { (payload self.now).is_refused ≡ true → result ≡ 0 }
     {
         self.intake.paints()
     }
@@ -152,9 +158,9 @@ impl<'a> SixelStreamDecoder<'a> {
     ///
     /// The image of the whole payload is at least as large.
     pub fn size_so_far(&self) -> Option<(usize, usize)>
-        ensures accepted { self.now.intake.is_refused ≡ false
-            → result ≡ Some (size (settled self.now.intake.bytes)) }
-        ensures refused { self.now.intake.is_refused ≡ true → result ≡ None }
+        ensures accepted { (payload self.now).is_refused ≡ false
+            → result ≡ Some (size (settled (payload self.now).bytes)) }
+        ensures refused { (payload self.now).is_refused ≡ true → result ≡ None }
     {
         self.intake.size_so_far()
     }
@@ -165,28 +171,31 @@ impl<'a> SixelStreamDecoder<'a> {
     /// refusal leaves the decoder as it was.
     pub fn finish(self) -> Result<SixelImage>
         ensures image { IfOk result (λ image.
-            image_value image ≡ payload_image self.entry.intake.origin self.entry.intake.bytes) }
+            image_value image
+            ≡ payload_image (payload self.entry).origin (payload self.entry).bytes) }
         ensures faultless { OnOk result
-            (payload_fault self.entry.intake.origin.pixel_limit self.entry.intake.bytes ≡ None) }
+            (payload_fault (payload self.entry).origin.pixel_limit (payload self.entry).bytes
+            ≡ None) }
         ensures registers { OnOk result (self.exit.0.now.registers
-            ≡ payload_registers self.entry.intake.origin self.entry.intake.bytes) }
+            ≡ payload_registers (payload self.entry).origin (payload self.entry).bytes) }
         ensures area { IfOk result (λ image.
-            image.width * image.height ≤ self.entry.intake.origin.pixel_limit) }
+            image.width * image.height ≤ (payload self.entry).origin.pixel_limit) }
         ensures pixels { IfOk result (λ image.
             length image.pixels.items ≡ 4 * (image.width * image.height)) }
-        ensures set { IsSetAs self.entry.owner.now self.exit.0.now }
-        ensures accepted { OnOk result (self.entry.intake.is_refused ≡ false) }
-        ensures kept { OnErr result (self.exit.0.now ≡ self.entry.owner.now) }
-        ensures error { IfErr result (λ error. MatchBool self.entry.intake.is_refused
+        ensures set { IsSetAs (payload_owner self.entry).now self.exit.0.now }
+        ensures accepted { OnOk result ((payload self.entry).is_refused ≡ false) }
+        ensures kept { OnErr result (self.exit.0.now ≡ (payload_owner self.entry).now) }
+        ensures error { IfErr result (λ error. MatchBool (payload self.entry).is_refused
             (IsFault error StreamFailed)
             (Faults error
-            (is_none (payload_fault self.entry.intake.origin.pixel_limit self.entry.intake.bytes))
-            (payload_fault self.entry.intake.origin.pixel_limit self.entry.intake.bytes))) }
+            (is_none (payload_fault (payload self.entry).origin.pixel_limit
+            (payload self.entry).bytes))
+            (payload_fault (payload self.entry).origin.pixel_limit (payload self.entry).bytes))) }
         ensures refused { (error : SixelError) → result ≡ Err error
-            → self.entry.intake.is_refused ≡ false
+            → (payload self.entry).is_refused ≡ false
             → Faults error
-            (payload_wants self.entry.intake.origin.pixel_limit self.entry.intake.bytes)
-            (payload_fault self.entry.intake.origin.pixel_limit self.entry.intake.bytes) }
+            (payload_wants (payload self.entry).origin.pixel_limit (payload self.entry).bytes)
+            (payload_fault (payload self.entry).origin.pixel_limit (payload self.entry).bytes) }
     {
         let SixelStreamDecoder { owner, intake } = self;
         let picture = intake.finish()?;
@@ -201,32 +210,34 @@ impl<'a> SixelStreamDecoder<'a> {
     /// cropped.
     pub fn finish_counted(self) -> Result<(SixelImage, u64)>
         ensures image { IfOk result (λ counted. image_value counted.0
-            ≡ payload_image self.entry.intake.origin self.entry.intake.bytes) }
+            ≡ payload_image (payload self.entry).origin (payload self.entry).bytes) }
         ensures counted { IfOk result (λ counted. counted.1
-            ≡ self.entry.intake.writes + counted.0.width * counted.0.height) }
+            ≡ (payload self.entry).writes + counted.0.width * counted.0.height) }
         ensures at_most { IfOk result
-            (λ counted. counted.1 ≤ 4 * payload_area self.entry.intake.bytes) }
+            (λ counted. counted.1 ≤ 4 * payload_area (payload self.entry).bytes) }
         ensures faultless { OnOk result
-            (payload_fault self.entry.intake.origin.pixel_limit self.entry.intake.bytes ≡ None) }
+            (payload_fault (payload self.entry).origin.pixel_limit (payload self.entry).bytes
+            ≡ None) }
         ensures registers { OnOk result (self.exit.0.now.registers
-            ≡ payload_registers self.entry.intake.origin self.entry.intake.bytes) }
+            ≡ payload_registers (payload self.entry).origin (payload self.entry).bytes) }
         ensures area { IfOk result (λ counted.
-            counted.0.width * counted.0.height ≤ self.entry.intake.origin.pixel_limit) }
+            counted.0.width * counted.0.height ≤ (payload self.entry).origin.pixel_limit) }
         ensures pixels { IfOk result (λ counted.
             length counted.0.pixels.items ≡ 4 * (counted.0.width * counted.0.height)) }
-        ensures set { IsSetAs self.entry.owner.now self.exit.0.now }
-        ensures accepted { OnOk result (self.entry.intake.is_refused ≡ false) }
-        ensures kept { OnErr result (self.exit.0.now ≡ self.entry.owner.now) }
-        ensures error { IfErr result (λ error. MatchBool self.entry.intake.is_refused
+        ensures set { IsSetAs (payload_owner self.entry).now self.exit.0.now }
+        ensures accepted { OnOk result ((payload self.entry).is_refused ≡ false) }
+        ensures kept { OnErr result (self.exit.0.now ≡ (payload_owner self.entry).now) }
+        ensures error { IfErr result (λ error. MatchBool (payload self.entry).is_refused
             (IsFault error StreamFailed)
             (Faults error
-            (is_none (payload_fault self.entry.intake.origin.pixel_limit self.entry.intake.bytes))
-            (payload_fault self.entry.intake.origin.pixel_limit self.entry.intake.bytes))) }
+            (is_none (payload_fault (payload self.entry).origin.pixel_limit
+            (payload self.entry).bytes))
+            (payload_fault (payload self.entry).origin.pixel_limit (payload self.entry).bytes))) }
         ensures refused { (error : SixelError) → result ≡ Err error
-            → self.entry.intake.is_refused ≡ false
+            → (payload self.entry).is_refused ≡ false
             → Faults error
-            (payload_wants self.entry.intake.origin.pixel_limit self.entry.intake.bytes)
-            (payload_fault self.entry.intake.origin.pixel_limit self.entry.intake.bytes) }
+            (payload_wants (payload self.entry).origin.pixel_limit (payload self.entry).bytes)
+            (payload_fault (payload self.entry).origin.pixel_limit (payload self.entry).bytes) }
     {
         let writes = self.canvas_writes();
         let image = self.finish()?;
@@ -236,7 +247,7 @@ impl<'a> SixelStreamDecoder<'a> {
 
     /// Ends the session, and changes nothing, as dropping it does.
     pub fn abort(self)
-        ensures { self.exit.0.now ≡ self.entry.owner.now }
+        ensures { self.exit.0.now ≡ (payload_owner self.entry).now }
     {
         drop(self);
     }
