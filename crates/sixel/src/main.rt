@@ -5,6 +5,8 @@ mod engine;
 mod images;
 mod response;
 mod strings;
+#[cfg(test)]
+mod tests;
 mod words;
 
 use response::{Response, respond};

@@ -1,6 +1,6 @@
 -- What is left to be written before a step of the filter, by what is left after it.
 use Rattle.std.proofs.Common.{◌≡◌, ◌≤◌, ◌+◌, ◌<◌, ◌⊎◌, inl, inr, ℕ, Bool, true, false, cond, List, [], ◌∷◌, ◌++◌, refl, ap, sym, ◌∙◌, subst, arith, Option, Some, None, Result, Ok, Err, length, drop, append_assoc, append-nil}
-use Rattle.std.specs.Prelude.{◌==◌, ◌&&◌, ◌||◌, not, nat_lt, slice_index, OnOk, IfOk, IsSomeAnd}
+use Rattle.std.specs.Prelude.{◌==◌, ◌&&◌, ◌||◌, not, nat_lt, is_none, slice_index, OnOk, IfOk, IfErr, IsSomeAnd, IsTrue, MatchOption}
 use Rattle.std.specs.Option.{option_or}
 use Rattle.std.proofs.lemmas.Bool.{false≢true}
 use Rattle.std.proofs.lemmas.List.{drop-append-le}
@@ -16,11 +16,13 @@ use Rattle.sixel_base.specs.Payload.{Image}
 use Rattle.sixel_base.specs.Dcs.{Stage, Heading, Failing, Reading, stage, stage_in_payload, stage_fault, dcs_status, dcs_count, dcs_fault, dcs_growths, dcs_in_payload, has_ended, end_fault}
 use Rattle.sixel_decoder.proofs.Ended.{status_ended, dcs_fault_ended}
 use Rattle.icy_sixel.specs.Receiver.{Form, OfString, Reception, is_open, count, growths, fault}
+use Rattle.sixel_encoder.specs.Encoding.{image_fault}
 use Rattle.sixel_filter.specs.declared.words.Work.{Work}
+use Rattle.sixel_filter.specs.declared.words.Work.TheVariants.{Colors}
 use Rattle.sixel_filter.specs.declared.filter.Filter.{Filter}
 use Rattle.sixel_filter.specs.declared.filter.Place.{Place}
 use Rattle.sixel_filter.specs.declared.filter.Place.TheVariants as place
-use Rattle.sixel_filter.specs.Making.{Shown, Refused, IsWritten, string_fault, refusal_note}
+use Rattle.sixel_filter.specs.Making.{Shown, Refused, IsWritten, IsRefusalNote, string_fault, string_wants}
 use Rattle.sixel_filter.specs.Stream.{IsFiltered, Over, Passed, is_part, after_image, after_payload}
 use Rattle.sixel_filter.specs.inside.Standing.{Starts, IsReceiving, IsHeading, IsReading, IsSound, IsSoundAt, IsRestAt, Leads, Writes, IsClosed, leaves_escape}
 use Rattle.sixel_filter.proofs.Header.{not_begun, passed_held, held_class}
@@ -124,15 +126,26 @@ named_along : (e : SixelError) (found found' : Option Fault) → ((f : Fault) �
 named_along e None found' stays is = absurd is
 named_along e (Some f) found' stays is = subst (λ w. IsSomeAnd w (IsFault e)) (sym (stays f refl)) is
 
--- a refusal goes on along a fault that stays
-pub refused_along : (e : SixelError) (may : Bool) (found found' : Option Fault) → ((f : Fault) → found ≡ Some f → found' ≡ Some f) → Faults e may found
-    → Faults e true found'
-refused_along (InvalidDimensions w h) may found found' stays is = named_along (InvalidDimensions w h) found found' stays is
-refused_along (BufferSizeMismatch w h) may found found' stays is = named_along (BufferSizeMismatch w h) found found' stays is
-refused_along (InvalidData t) may found found' stays is = named_along (InvalidData t) found found' stays is
-refused_along NoSixelData may found found' stays is = named_along NoSixelData found found' stays is
-refused_along IntegerOverflow may found found' stays is = named_along IntegerOverflow found found' stays is
-refused_along OutOfMemory may found found' stays is = refl
+-- an error goes on along a fault that stays, and out of memory where it still may come
+pub refused_along : (e : SixelError) (may may' : Bool) (found found' : Option Fault) → ((f : Fault) → found ≡ Some f → found' ≡ Some f)
+    → (IsTrue may → IsTrue may') → Faults e may found → Faults e may' found'
+refused_along (InvalidDimensions w h) may may' found found' stays wants is = named_along (InvalidDimensions w h) found found' stays is
+refused_along (BufferSizeMismatch w h) may may' found found' stays wants is = named_along (BufferSizeMismatch w h) found found' stays is
+refused_along (InvalidData t) may may' found found' stays wants is = named_along (InvalidData t) found found' stays is
+refused_along NoSixelData may may' found found' stays wants is = named_along NoSixelData found found' stays is
+refused_along IntegerOverflow may may' found found' stays wants is = named_along IntegerOverflow found found' stays is
+refused_along OutOfMemory may may' found found' stays wants is = wants is
+
+or_true : (a b : Bool) → b ≡ true → (a || b) ≡ true
+or_true true b is = refl
+or_true false b is = is
+
+-- memory may be out where the payload grows, and where the image has no fault
+grows_wants : (limit : ℕ) (bytes : List ℕ) → nat_lt 0 (dcs_growths bytes) ≡ true → string_wants limit bytes ≡ true
+grows_wants limit bytes is = or_true (is_none (string_fault limit bytes)) (nat_lt 0 (dcs_growths bytes)) is
+
+fine_wants : (limit : ℕ) (bytes : List ℕ) → string_fault limit bytes ≡ None → string_wants limit bytes ≡ true
+fine_wants limit bytes fine = ap (λ (f : Option Fault). is_none f || nat_lt 0 (dcs_growths bytes)) fine
 
 ended_of : (status : SixelDcsFeedStatus) → end_fault status ≡ None → has_ended status ≡ true
 ended_of NeedMoreData is = absurd cc
@@ -149,30 +162,45 @@ unended_of (Interrupted byte) f is = absurd cc
 no_end_fault : (status : SixelDcsFeedStatus) → has_ended status ≡ true → end_fault status ≡ None
 no_end_fault status ended = ap (λ w. cond w None (Some Incomplete)) ended
 
+-- a string that has ended without a fault has none, whatever follows it
+ended_fine : (limit : ℕ) (bytes more : List ℕ) → dcs_fault limit bytes ≡ None → has_ended (dcs_status bytes) ≡ true → string_fault limit (bytes ++ more) ≡ None
+ended_fine limit bytes more sound over =
+    ap (λ o. option_or o (end_fault (dcs_status (bytes ++ more)))) (dcs_fault_ended limit bytes more over ∙ sound)
+    ∙ (ap end_fault (status_ended bytes more over) ∙ no_end_fault (dcs_status bytes) over)
+
 pub closed_shown : (work : Work) (decoder after : DecoderState) (bytes more written now : List ℕ) (image : Image) → dcs_fault decoder.pixel_limit bytes ≡ None
     → end_fault (dcs_status bytes) ≡ None → IsDecodedAs decoder (found (bytes ++ more)) image after.registers → IsSetAs decoder after
     → (text : List ℕ) × IsWritten work image text × (now ≡ written ++ text) → IsClosed work decoder (bytes ++ more) written after now
 closed_shown work decoder after bytes more written now image sound ended decoded set (text, is, joined) =
-    let over = ended_of (dcs_status bytes) ended in
-    let fine : string_fault decoder.pixel_limit (bytes ++ more) ≡ None =
-    ap (λ o. option_or o (end_fault (dcs_status (bytes ++ more)))) (dcs_fault_ended decoder.pixel_limit bytes more over ∙ sound)
-    ∙ (ap end_fault (status_ended bytes more over) ∙ ended) in
+    let fine = ended_fine decoder.pixel_limit bytes more sound (ended_of (dcs_status bytes) ended) in
     record { text = text; made = Shown work decoder after (bytes ++ more) text image fine decoded set is; joined = joined }
 
 pub closed_refused : (work : Work) (decoder after : DecoderState) (bytes more written now : List ℕ) (e : SixelError) → dcs_fault decoder.pixel_limit bytes ≡ None
-    → Faults e (has_ended (dcs_status bytes)) (end_fault (dcs_status bytes)) → (dcs_status bytes ≡ NeedMoreData → more ≡ []) → after ≡ decoder → now ≡ written ++ refusal_note e
-    → IsClosed work decoder (bytes ++ more) written after now
-closed_refused work decoder after bytes more written now e sound refused last kept joined =
+    → Faults e (has_ended (dcs_status bytes)) (end_fault (dcs_status bytes)) → (dcs_status bytes ≡ NeedMoreData → more ≡ []) → after ≡ decoder
+    → (note : List ℕ) × IsRefusalNote note × (now ≡ written ++ note) → IsClosed work decoder (bytes ++ more) written after now
+closed_refused work decoder after bytes more written now e sound refused last kept (note, is_note, joined) =
     let limit : ℕ = decoder.pixel_limit in
-    let told : Faults e true (string_fault limit (bytes ++ more)) =
-    refused_along e _ (end_fault (dcs_status bytes)) (string_fault limit (bytes ++ more))
+    let told : Faults e (string_wants limit (bytes ++ more)) (string_fault limit (bytes ++ more)) =
+    refused_along e (has_ended (dcs_status bytes)) (string_wants limit (bytes ++ more)) (end_fault (dcs_status bytes)) (string_fault limit (bytes ++ more))
     (λ f is.
     let none : more ≡ [] = last (unended_of (dcs_status bytes) f is) in
     let whole : bytes ++ more ≡ bytes = ap (λ (l : List ℕ). bytes ++ l) none ∙ append-nil bytes in
     ap (string_fault limit) whole ∙ (ap (λ o. option_or o (end_fault (dcs_status bytes))) sound ∙ is))
+    (λ over. fine_wants limit (bytes ++ more) (ended_fine limit bytes more sound over))
     refused in
     subst (λ (d : DecoderState). IsClosed work decoder (bytes ++ more) written d now) (sym kept)
-    (record { text = refusal_note e; made = Refused work decoder (bytes ++ more) e told; joined = joined })
+    (record { text = note; made = Refused work decoder (bytes ++ more) note e told is_note; joined = joined })
+
+named_error : {A : Type 0} (found : Option SixelError) (e : SixelError) (result : Result A SixelError) → result ≡ Err e
+    → MatchOption found (IfErr result (λ x. x ≡ OutOfMemory)) (λ fault. result ≡ Err fault) → MatchOption found (e ≡ OutOfMemory) (λ fault. e ≡ fault)
+named_error {A} None e result failed is = subst (λ (r : Result A SixelError). IfErr r (λ x. x ≡ OutOfMemory)) failed is
+named_error (Some fault) e result failed is = cc
+
+-- a note of why an image has no text
+pub noted : {A : Type 0} (image : Image) (most : ℕ) (e : SixelError) (result : Result A SixelError) (written now : List ℕ) → result ≡ Err e
+    → MatchOption (image_fault image) (IfErr result (λ x. x ≡ OutOfMemory)) (λ fault. result ≡ Err fault) → (note : List ℕ) × IsRefusalNote note × (now ≡ written ++ note)
+    → (text : List ℕ) × IsWritten (Colors most) image text × (now ≡ written ++ text)
+noted image most e result written now failed is (note, is_note, grown) = (note, inr (e, named_error (image_fault image) e result failed is, is_note), grown)
 
 -- ---- what the receiver tells
 
@@ -233,19 +261,22 @@ ends_image f after written now at sound closed =
     (made_rest f.work f.in_character f.receiver.decoder after (bytes ++ []) written now now (begins f.in_character bytes [] r.receiving.starts r.reading) closed
     (subst (λ (l : List ℕ). Writes f.work false after now l now) (sym none) (nothing_left f.work false after now)))
 
-pub refused_leads : (f : Filter) (e : SixelError) (may : Bool) (piece written now more whole : List ℕ) → f.place ≡ place.Image → IsReading f
+pub refused_leads : (f : Filter) (e : SixelError) (piece written now more whole : List ℕ) → f.place ≡ place.Image → IsReading f
     → Faults e (nat_lt (dcs_growths f.receiver.image.bytes) (dcs_growths (f.receiver.image.bytes ++ piece))) (dcs_fault f.receiver.decoder.pixel_limit (f.receiver.image.bytes ++ piece))
-    → Faults e may (dcs_fault f.receiver.decoder.pixel_limit ((f.receiver.image.bytes ++ piece) ++ more)) → now ≡ written ++ refusal_note e
+    → Faults e (nat_lt 0 (dcs_growths ((f.receiver.image.bytes ++ piece) ++ more))) (dcs_fault f.receiver.decoder.pixel_limit ((f.receiver.image.bytes ++ piece) ++ more))
+    → (note : List ℕ) × IsRefusalNote note × (now ≡ written ++ note)
     → Writes f.work false f.receiver.decoder now (after_payload (piece ++ more)) whole → Leads f written (piece ++ more) whole
-refused_leads f e may piece written now more whole at r refused for_good grown w =
+refused_leads f e piece written now more whole at r refused for_good (note, is_note, grown) w =
     let bytes : List ℕ = f.receiver.image.bytes in
     let limit : ℕ = f.receiver.decoder.pixel_limit in
     let all : List ℕ = bytes ++ (piece ++ more) in
-    let told : Faults e true (string_fault limit all) =
-    refused_along e may (dcs_fault limit ((bytes ++ piece) ++ more)) (string_fault limit all)
-    (λ x is. ap (λ o. option_or o (end_fault (dcs_status all))) (ap (dcs_fault limit) (sym (append_assoc bytes piece more)) ∙ is)) for_good in
+    let join : (bytes ++ piece) ++ more ≡ all = append_assoc bytes piece more in
+    let told : Faults e (string_wants limit all) (string_fault limit all) =
+    refused_along e (nat_lt 0 (dcs_growths ((bytes ++ piece) ++ more))) (string_wants limit all) (dcs_fault limit ((bytes ++ piece) ++ more)) (string_fault limit all)
+    (λ x is. ap (λ o. option_or o (end_fault (dcs_status all))) (ap (dcs_fault limit) (sym join) ∙ is))
+    (λ grows. grows_wants limit all (ap (λ (l : List ℕ). nat_lt 0 (dcs_growths l)) (sym join) ∙ grows)) for_good in
     let closed : IsClosed f.work f.receiver.decoder all written f.receiver.decoder now =
-    record { text = refusal_note e; made = Refused f.work f.receiver.decoder all e told; joined = grown } in
+    record { text = note; made = Refused f.work f.receiver.decoder all note e told is_note; joined = grown } in
     image_leads f written (piece ++ more) whole at
     (made_rest f.work f.in_character f.receiver.decoder f.receiver.decoder all written now whole (begins f.in_character bytes (piece ++ more) r.receiving.starts r.reading) closed
     (subst (λ (l : List ℕ). Writes f.work false f.receiver.decoder now l whole) (sym (after_refused e limit bytes piece more r.reading r.receiving.sound refused)) w))

@@ -1,3 +1,4 @@
 pub mod Header
 pub mod Filtering
 pub mod Leading
+pub mod Serving

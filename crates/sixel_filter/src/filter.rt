@@ -110,35 +110,6 @@ impl Filter {
         }
     }
 
-    /// Takes a whole stream in pieces of up to so many bytes, and ends it.
-    fn pass_whole(&mut self, stream: &[u8], piece_len: usize, output: &mut Vec<u8>) -> Result<()>
-        requires some { 0 < piece_len }
-        requires sound { IsSound self.old }
-        ensures ends { OnOk result
-            (Leads self.old output.old.items stream.now output.new.items) }
-        ensures error { IfErr result (λ e. e ≡ OutOfMemory) }
-    {
-        let mut rest = stream;
-        'pieces: while !rest.is_empty() {
-            let (piece, after) = rest.split_at(piece_len.min(rest.len()));
-            self.pass(piece, output)?;
-            rest = after;
-        }
-        self.end(output)
-    }
-
-    /// What the filter writes of a whole stream, which it takes in pieces of up to so many bytes.
-    fn written_of(&mut self, alloc: Global, stream: &[u8], piece_len: usize) -> Result<Vec<u8>>
-        requires some { 0 < piece_len }
-        requires sound { IsSound self.old }
-        ensures leads { IfOk result (λ output. Leads self.old [] stream.now output.items) }
-        ensures error { IfErr result (λ e. e ≡ OutOfMemory) }
-    {
-        let mut output = Vec::new(alloc);
-        self.pass_whole(stream, piece_len, &mut output)?;
-        Ok(output)
-    }
-
     /// Takes some of the bytes, and answers how many. It may take none where an image ends.
     fn step(&mut self, bytes: &[u8], output: &mut Vec<u8>) -> Result<usize>
         requires sound { IsSound self.old }
@@ -362,21 +333,6 @@ impl Filter {
         self.begin(ESC)?;
         Ok(0)
     }
-}
-
-/// What a filter writes of a whole stream that comes in pieces of up to so many bytes.
-///
-/// The program does the same between reads and writes; the contract says what it comes to.
-pub fn filter_pieces(alloc: Global, work: Work, stream: &[u8], piece_len: usize) -> Result<Vec<u8>>
-    requires { 0 < piece_len }
-    ensures filtered { IfOk result (λ output.
-        IsFiltered work false new_decoder stream.now output.items) }
-    ensures error { IfErr result (λ e. e ≡ OutOfMemory) }
-{
-    let mut filter = Filter::new(alloc, work);
-    let written = filter.written_of(alloc, stream, piece_len);
-    let _decoder = filter.into_decoder();
-    written
 }
 
 /// The status of a control string.

@@ -6,17 +6,16 @@
 //! image is refused. The input is read in pieces of up to `PIECE` bytes.
 #![tactic(auto)]
 
-mod fault;
+mod engine;
 mod filter;
 mod making;
-mod streams;
 mod words;
 
-use fault::Fault;
+use engine::serve;
+use sixel_io::Fault;
 use std::fmt::Display;
 use std::process::ExitCode;
 use std::{env, io};
-use streams::serve;
 use words::asked;
 
 fn main(rt: HostRuntime) -> io::Result<ExitCode> {

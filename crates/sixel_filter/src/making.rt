@@ -3,7 +3,7 @@
 ghost use Rattle.std.specs.Prelude.{◌≡◌, ◌++◌, List, ℕ, OnOk, IfErr};
 ghost use Rattle.sixel_base.specs.declared.error.SixelError.TheVariants.{OutOfMemory};
 ghost use Rattle.icy_sixel.specs.ImageView.{image_value};
-ghost use Rattle.sixel_filter.specs.Making.{IsWritten, refusal_note, size_note};
+ghost use Rattle.sixel_filter.specs.Making.{IsWritten, IsRefusalNote, size_note};
 ghost use Rattle.sixel_filter.specs.declared.words.Work.TheVariants.{Colors};
 
 use crate::words::Work;
@@ -61,12 +61,13 @@ fn write_anew(
     }
 }
 
-/// Writes a note of why an image is refused.
+/// Writes a note with the error of an image that is rejected.
 pub fn write_refusal(alloc: Global, error: &SixelError, output: &mut Vec<u8>) -> Result<()>
-    ensures written { OnOk result
-        (output.new.items ≡ output.old.items ++ refusal_note error.now) }
+    ensures written { OnOk result ((note : List ℕ) × IsRefusalNote note
+        × (output.new.items ≡ output.old.items ++ note)) }
     ensures error { IfErr result (λ e. e ≡ OutOfMemory) }
 {
+    let error = format!(in alloc; "{error}")?;
     let note = format!(in alloc; "[image refused: {error}]")?;
     output.extend_from_slice(note.as_bytes())?;
     Ok(())

@@ -1,4 +1,4 @@
--- What a program has written, and how far it came where it stopped. These are the words of both programs.
+-- What a program has written. These are the words of both programs.
 use Rattle.std.specs.Prelude.{ℕ, List, ◌++◌, Option}
 use Rattle.std.specs.Io.KnownBytes.{Appends}
 

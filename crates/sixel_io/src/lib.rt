@@ -3,6 +3,8 @@
 
 mod fault;
 mod read;
+#[cfg(test)]
+mod tests;
 mod write;
 
 pub use fault::Fault;

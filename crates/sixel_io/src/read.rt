@@ -3,8 +3,8 @@
 //! The clauses on bytes hold where the reader reports the bytes that it has left. An error of the
 //! reader is the fault `Input`, and is not retried.
 
-ghost use Rattle.std.specs.Prelude.{◌≡◌, ◌<◌, ◌≤◌, ◌⊎◌, ◌++◌, length, take, OnOk, OnErr, IfOk, IfErr};
-ghost use Rattle.std.specs.Prelude.{IfSome};
+ghost use Rattle.std.specs.Prelude.{◌≡◌, ◌<◌, ◌≤◌, ◌⊎◌, ◌++◌, length, take};
+ghost use Rattle.std.specs.Prelude.{OnOk, OnErr, IfOk, IfErr, IfSome};
 ghost use Rattle.std.specs.Io.KnownBytes.{Consumes, IsAtEnd, Keeps};
 ghost use Rattle.sixel_base.specs.declared.error.SixelError.TheVariants.{OutOfMemory};
 ghost use Rattle.sixel_io.specs.declared.fault.Fault.TheVariants.{Sixel, Input};
@@ -21,7 +21,8 @@ const CHUNK_LEN: usize = 65536;
 /// `expected` is the number of bytes that the input is likely to have, or 0. It saves memory where
 /// it is right; no more than twice what was read is allocated for its sake.
 pub fn read_to_end<R: Read>(alloc: Global, input: &mut R, expected: usize) -> Result<Vec<u8>, Fault>
-    ensures bytes { IfOk result (λ bytes. IfSome (R.remaining input.old) (λ all. bytes.items ≡ all)) }
+    ensures bytes { IfOk result (λ bytes.
+        IfSome (R.remaining input.old) (λ all. bytes.items ≡ all)) }
     ensures at_end { OnOk result (IsAtEnd (R.remaining input.new)) }
     ensures error { IfErr result (λ fault. (fault ≡ Input) ⊎ (fault ≡ Sixel OutOfMemory)) }
 {

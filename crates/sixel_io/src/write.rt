@@ -12,7 +12,8 @@ use std::io::Write;
 
 /// Writes all of the bytes. Before an error it writes a beginning of them.
 pub fn write_all<O: Write>(output: &mut O, bytes: &[u8]) -> Result<(), Fault>
-    ensures whole { OnOk result (Appends (O.contents output.old) (O.contents output.new) bytes.now) }
+    ensures whole { OnOk result
+        (Appends (O.contents output.old) (O.contents output.new) bytes.now) }
     ensures part { OnErr result ((count : ℕ)
         × Appends (O.contents output.old) (O.contents output.new) (take count bytes.now)) }
     ensures error { IfErr result (λ fault. fault ≡ Output) }

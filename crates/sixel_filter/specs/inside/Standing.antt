@@ -1,5 +1,6 @@
 -- Where a filter stands: what its parts hold, and what is left to be written of the bytes that come. This program's own.
-use Rattle.std.specs.Prelude.{ℕ, ◌≡◌, ◌==◌, Bool, true, false, ◌&&◌, List, [], ◌∷◌, ◌++◌, None}
+use Rattle.std.specs.Prelude.{ℕ, ◌≡◌, ◌==◌, Bool, true, false, ◌&&◌, List, [], ◌∷◌, ◌++◌, Option, None}
+use Rattle.std.specs.Io.KnownBytes.{Appends}
 use Rattle.icy_sixel.specs.Receiver.{OfString}
 use Rattle.sixel_base.specs.Dcs.{Heading, stage, dcs_status, dcs_fault, dcs_in_payload}
 use Rattle.sixel_base.specs.declared.status.SixelDcsFeedStatus.{SixelDcsFeedStatus}
@@ -65,6 +66,12 @@ pub record Leads (filter : Filter) (written more whole : List ℕ) : Type 0 wher
   pub text : List ℕ
   pub rest : IsRestAt filter.place filter more text
   pub joined : whole ≡ written ++ text
+
+-- A filter has taken these bytes, and what it made of them was written: this and then what the filter is to write now is the whole.
+pub record Passes (old new : Filter) (bytes : List ℕ) (output output' : Option (List ℕ)) : Type 0 where
+  pub written : List ℕ
+  pub appended : Appends output output' written
+  pub leads : (more whole : List ℕ) → Leads new written more whole → Leads old [] (bytes ++ more) whole
 
 -- What was written, and then what is to be written of these bytes, is the whole.
 pub record Writes (work : Work) (in_character : Bool) (decoder : DecoderState) (written bytes whole : List ℕ) : Type 0 where

@@ -33,7 +33,7 @@ returns-in-Err-clause-passes c = λ more whole l.
     let left : Writes f.work false f.receiver.decoder c.write_refusal.new.output.items (after_payload (piece ++ more)) whole =
     subst (λ (d : DecoderState). Writes f.work false d c.write_refusal.new.output.items (after_payload (piece ++ more)) whole) c.feed.ensures.decoder
     (record { text = l.text; filtered = l.rest; joined = l.joined }) in
-    refused_leads f e (nat_lt 0 (dcs_growths ((bytes ++ piece) ++ more))) piece c.args.output.now.items c.write_refusal.new.output.items more whole c.requires.place r here for_good c.in_ok-write_refusal-in-Err.ensures.written left
+    refused_leads f e piece c.args.output.now.items c.write_refusal.new.output.items more whole c.requires.place r here for_good c.in_ok-write_refusal-in-Err.ensures.written left
 
 pub returns-then-is_waiting-clause-sound : goal.returns-then-is_waiting-clause-sound
 returns-then-is_waiting-clause-sound c =
