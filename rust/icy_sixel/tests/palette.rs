@@ -1,4 +1,4 @@
-//! Worked palettes, and their certificates.
+//! Palettes, and the witnesses of their error.
 
 mod common;
 
@@ -48,8 +48,8 @@ fn pixels_are_whole() {
     assert_eq!(choose_palette(&[255; 11], 256), mismatch(8, 11));
 }
 
-/// More colors than entries: the whole rooms of entries and of witnesses are in use, and the
-/// entries are those of the text.
+/// With more colors than entries the buffers of entries and of witnesses are full, and the entries
+/// are those of the text.
 #[test]
 fn a_full_palette() {
     let pixels: Vec<u8> =
