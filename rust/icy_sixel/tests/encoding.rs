@@ -1,11 +1,10 @@
-//! Images: their fields, their sizes, and how they are written.
+//! Images: their fields, and how they are written.
 
 mod common;
 
 use common::*;
 use icy_sixel::{
-    BackgroundMode, EncodeOptions, PixelAspectRatio, SixelError, SixelImage, sixel_encode_default,
-    validate_encode_dimensions,
+    BackgroundMode, EncodeOptions, PixelAspectRatio, SixelImage, sixel_encode_default,
 };
 
 #[test]
@@ -33,35 +32,11 @@ fn options_are_updated() {
 }
 
 #[test]
-fn sizes_are_checked() {
-    let invalid = |width, height| SixelError::InvalidDimensions { width, height };
-    for (width, height, expected) in [
-        (0, usize::MAX, Err(invalid(0, usize::MAX))),
-        (usize::MAX, 2, Err(SixelError::IntegerOverflow)),
-        (8192, 8184, Ok(())),
-        (8192, 8192, Err(invalid(8192, 8192))),
-        (1, 999_996, Ok(())),
-        (1, 999_997, Err(invalid(1, 999_997))),
-        (1_000_001, 1, Err(invalid(1_000_001, 1))),
-    ] {
-        assert_eq!(validate_encode_dimensions(width, height), expected);
-    }
-    let image = |length, width, height| SixelImage::try_from_rgba(vec![0; length], width, height);
-    let mismatch = SixelError::BufferSizeMismatch { expected: 16, actual: 15 };
-    assert_eq!(image(15, 2, 2), Err(mismatch));
-    assert_eq!(image(4, 0, 1), Err(invalid(0, 1)));
-    assert_eq!(image(4, usize::MAX, 1), Err(SixelError::IntegerOverflow));
-    assert_eq!(image(16, 2, 2), Ok(SixelImage::from_rgba(vec![0; 16], 2, 2)));
-}
-
-#[test]
 fn an_image_has_fields() {
     let image = SixelImage::from_rgba(vec![1, 2, 3, 128], 1, 1);
     assert_eq!(image.aspect_ratio, PixelAspectRatio::Square);
     assert_eq!(image.background_mode, BackgroundMode::Transparent);
     assert_eq!(image.clone(), image);
-    assert!(!image.has_transparency());
-    assert!(SixelImage::from_rgba(vec![1, 2, 3, 127], 1, 1).has_transparency());
     let SixelImage { pixels, width, height, .. } = image;
     assert_eq!((pixels, width, height), (vec![1, 2, 3, 128], 1, 1));
     let tall =

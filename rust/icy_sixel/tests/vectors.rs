@@ -8,9 +8,10 @@ use common::*;
 use icy_sixel::receiver::SixelReceiver;
 use icy_sixel::script::Status;
 use icy_sixel::{
-    BackgroundMode, DcsSettings, EncodeOptions, PixelAspectRatio, Result,
-    SixelDcsFeedStatus as Dcs, SixelDecoder, SixelFeedStatus as Payload, SixelImage, sixel_decode,
-    sixel_decode_from_dcs, sixel_encode,
+    BackgroundMode, DcsSettings, EncodeOptions, PaletteChoice, PixelAspectRatio, Result,
+    SixelDcsFeedStatus as Dcs, SixelDecoder, SixelFeedStatus as Payload, SixelImage,
+    choose_palette, sixel_decode, sixel_decode_from_dcs, sixel_encode, validate_encode_dimensions,
+    witnesses_hold,
 };
 use std::path::PathBuf;
 use std::{env, fs};
@@ -60,7 +61,7 @@ fn bytes(mut text: &str) -> Vec<u8> {
 /// The pixels of runs. One in parentheses is repeated as a whole.
 fn pixels(text: &str) -> Vec<u8> {
     let mut pixels = Vec::new();
-    let mut rest = text;
+    let mut rest = if text == "none" { "" } else { text };
     while !rest.is_empty() {
         let (count, run) = rest.split_once('*').unwrap();
         let (run, next) = match run.strip_prefix('(') {
@@ -79,27 +80,55 @@ fn pixels(text: &str) -> Vec<u8> {
     pixels
 }
 
+fn ratio(text: &str) -> PixelAspectRatio {
+    match text {
+        "1:1" => PixelAspectRatio::Square,
+        "2:1" => PixelAspectRatio::Ratio2To1,
+        "3:1" => PixelAspectRatio::Ratio3To1,
+        "5:1" => PixelAspectRatio::Ratio5To1,
+        other => panic!("{other}"),
+    }
+}
+
+fn mode(text: &str) -> BackgroundMode {
+    match text {
+        "opaque" => BackgroundMode::Opaque,
+        "transparent" => BackgroundMode::Transparent,
+        other => panic!("{other}"),
+    }
+}
+
+/// The words of a column.
+fn words(text: &str) -> impl Iterator<Item = &str> {
+    text.split(' ').filter(|word| *word != "none")
+}
+
+/// The colors of a column, each as `RRGGBB`.
+fn colors(text: &str) -> Vec<[u8; 3]> {
+    let color = |word| {
+        let [_, red, green, blue] = u32::from_str_radix(word, 16).unwrap().to_be_bytes();
+        [red, green, blue]
+    };
+    words(text).map(color).collect()
+}
+
+/// The width and the height of a column.
+fn size(text: &str) -> (usize, usize) {
+    let (width, height) = text.split_once('x').unwrap();
+    (width.parse().unwrap(), height.parse().unwrap())
+}
+
 /// The image or the error of a column.
 fn outcome(text: &str) -> Outcome {
     if let Some(error) = text.strip_prefix("error: ") {
         return Err(error.to_string());
     }
     let mut parts = text.splitn(4, ' ');
-    let (width, height) = parts.next().unwrap().split_once('x').unwrap();
-    let ratio = match parts.next() {
-        Some("1:1") => PixelAspectRatio::Square,
-        Some("2:1") => PixelAspectRatio::Ratio2To1,
-        Some("3:1") => PixelAspectRatio::Ratio3To1,
-        Some("5:1") => PixelAspectRatio::Ratio5To1,
-        other => panic!("{other:?}"),
-    };
-    let mode = match parts.next() {
-        Some("opaque") => BackgroundMode::Opaque,
-        Some("transparent") => BackgroundMode::Transparent,
-        other => panic!("{other:?}"),
-    };
+    let (width, height) = size(parts.next().unwrap());
+    let ratio = ratio(parts.next().unwrap());
+    let mode = mode(parts.next().unwrap());
     let pixels = pixels(parts.next().unwrap_or(""));
-    let image = SixelImage::from_rgba(pixels, width.parse().unwrap(), height.parse().unwrap());
+    let image = SixelImage::from_rgba(pixels, width, height);
     Ok(image.with_aspect_ratio(ratio).with_background_mode(mode))
 }
 
@@ -316,5 +345,101 @@ fn texts() {
             assert_eq!(image.encode(), text);
         }
         assert_eq!(text.map_err(|error| error.to_string()), expected);
+    });
+}
+
+/// An image is decoded again with its bands, and with its own height where it is cropped.
+#[test]
+fn trips() {
+    each_vector("trips.tsv", |columns| {
+        let image = outcome(columns[1]).unwrap();
+        let options = EncodeOptions { max_colors: columns[0].parse().unwrap() };
+        let text = image.encode_with(&options).unwrap();
+        let expected = outcome(columns[2]).unwrap();
+        assert_eq!(SixelImage::decode(text.as_bytes()), Ok(expected.clone()));
+        let mut decoder = SixelDecoder::new();
+        decoder.set_raster_crop(true);
+        let cropped = decoder.decode(text.as_bytes()).unwrap();
+        assert_eq!(cropped.dimensions(), image.dimensions());
+        assert!(expected.pixels.starts_with(&cropped.pixels));
+    });
+}
+
+#[test]
+fn palettes() {
+    each_vector("palettes.tsv", |columns| {
+        let expected = PaletteChoice {
+            colors: colors(columns[2]),
+            indices: words(columns[3]).map(|index| index.parse().unwrap()).collect(),
+            error: columns[4].parse().unwrap(),
+            witnesses: colors(columns[5]),
+        };
+        let choice = choose_palette(&pixels(columns[1]), columns[0].parse().unwrap());
+        assert_eq!(choice, Ok(expected));
+    });
+}
+
+#[test]
+fn witnesses() {
+    each_vector("witnesses.tsv", |columns| {
+        let holds = witnesses_hold(&colors(columns[0]), columns[1].parse().unwrap());
+        assert_eq!(if holds { "yes" } else { "no" }, columns[2]);
+    });
+}
+
+#[test]
+fn sizes() {
+    each_vector("sizes.tsv", |columns| {
+        let bytes = bytes(columns[2]);
+        let (call, shape) = columns[0].split_once(' ').unwrap_or((columns[0], "1:1"));
+        let (width, height) = if call == "choose_palette" { (0, 0) } else { size(columns[1]) };
+        let image = SixelImage::from_rgba(bytes.clone(), width, height);
+        let image = image.with_aspect_ratio(ratio(shape));
+        let result = match call {
+            "validate_encode_dimensions" => validate_encode_dimensions(width, height),
+            "sixel_encode" => image.encode().map(drop),
+            "try_from_rgba" => SixelImage::try_from_rgba(bytes, width, height).map(drop),
+            "choose_palette" => choose_palette(&bytes, 256).map(drop),
+            "has_transparency" => {
+                return assert_eq!(image.has_transparency(), columns[3] == "yes");
+            }
+            "corrected_dimensions" => {
+                return assert_eq!(image.corrected_dimensions(), size(columns[3]));
+            }
+            other => panic!("{other}"),
+        };
+        let result = result.map_or_else(|error| format!("error: {error}"), |()| "ok".to_string());
+        assert_eq!(result, columns[3]);
+    });
+}
+
+#[test]
+fn settings() {
+    each_vector("settings.tsv", |columns| {
+        let (name, value) = columns[0].split_once('=').unwrap();
+        if name == "limit" {
+            let mut decoder = SixelDecoder::new();
+            decoder.set_pixel_limit(value.parse().unwrap());
+            return assert_eq!(decoder.pixel_limit().to_string(), columns[1]);
+        }
+        let value = value.parse().unwrap();
+        if name == "p1" {
+            let ratio = ratio(columns[1]);
+            assert_eq!(PixelAspectRatio::from_p1(value), ratio);
+            assert_eq!((ratio.pan(), ratio.pad().to_string().as_str()), (1, columns[2]));
+            assert_eq!(ratio.to_p1_value().to_string(), columns[3]);
+        } else {
+            let mode = mode(columns[1]);
+            assert_eq!(BackgroundMode::from_p2(value), mode);
+            assert_eq!(mode.to_p2_value().to_string(), columns[2]);
+        }
+    });
+}
+
+#[test]
+fn registers_of_a_new_decoder() {
+    let decoder = SixelDecoder::new();
+    each_vector("registers.tsv", |columns| {
+        assert_eq!(vec![decoder.register(columns[0].parse().unwrap())], colors(columns[1]));
     });
 }
