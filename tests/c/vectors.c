@@ -105,7 +105,7 @@ struct vector {
     struct expected expected;
     size_t consumed;   /* bytes that feeds consume */
     size_t ends_after; /* bytes after which the session has ended */
-    size_t fails_at;   /* the byte whose feed fails; SIZE_MAX if that is none or unknown */
+    size_t fails_at;   /* the byte whose feed fails, or the end; SIZE_MAX if that is unknown */
     icysixel_fed end;  /* the status then, and its byte */
 };
 
@@ -242,7 +242,7 @@ static void try_session(const struct vector *vector, struct cuts cuts,
     }
     if (code == ICYSIXEL_DONE) {
         code = icysixel_finish(&decoder, &shape);
-        CHECK(vector->fails_at == SIZE_MAX);
+        CHECK(vector->fails_at >= vector->input.length);
     } else {
         check_failed(&decoder, failed);
     }
@@ -310,11 +310,12 @@ static void try_string(char **columns)
     char *name = strtok(columns[2], " "), *byte = strtok(NULL, " ");
     while (status < 4 && strcmp(name, names[status]) != 0) status++;
     CHECK(status < 4 || strcmp(name, "rejected") == 0);
+    CHECK(vector.consumed + (status == 4) <= vector.input.length);
     vector.end = (icysixel_fed){0, status, byte == NULL ? 0 : (uint8_t)strtoul(byte, NULL, 16)};
     vector.ends_after = vector.consumed + (status == ICYSIXEL_INTERRUPTED);
     if (status == ICYSIXEL_MORE || status == 4) vector.ends_after = SIZE_MAX;
     else after = decode(&vector);
-    if (status == 4) vector.fails_at = vector.consumed;
+    vector.fails_at = status == 4 ? vector.consumed : vector.input.length;
     try_sessions(&vector, &after);
     free(vector.input.at), free(vector.expected.pixels.at);
 }
