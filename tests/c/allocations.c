@@ -85,11 +85,13 @@ static uint32_t make_payload_session(icysixel *h, struct bytes *made)
     return make_session(h, input, ICYSIXEL_STREAM_FAILED, made);
 }
 
-/* Encodes 31 of 32 columns, so that the rows are copied. */
+/* Encodes 31 of 32 columns, so that the rows are copied: in fewer colors, then in all colors. */
 static uint32_t make_encode(icysixel *h, struct bytes *made)
 {
-    size_t length = 7, wanted;
+    size_t length, wanted;
     uint32_t code = icysixel_encode(h, pixels, sizeof pixels, 128, 31, 40, 9, 1, 16, &length);
+    if (code == ICYSIXEL_DONE)
+        code = icysixel_encode(h, pixels, sizeof pixels, 128, 31, 40, 9, 1, 64, &length);
     if (code == ICYSIXEL_DONE) *made = (struct bytes){malloc(length), length};
     CHECK(icysixel_take_text(h, made->at, made->length, &wanted)
           == (code == ICYSIXEL_DONE ? ICYSIXEL_DONE : ICYSIXEL_NO_TEXT));

@@ -90,8 +90,7 @@ static void test_pixels(icysixel *h)
         CHECK(is_red(buffer + 64 * row, 12));
         for (size_t gap = 48; gap < 64; gap++) CHECK(buffer[64 * row + gap] == 7);
     }
-    CHECK(icysixel_pixels(h, buffer, sizeof buffer, 0, &wanted) == ICYSIXEL_NO_IMAGE);
-    CHECK(wanted == 0);
+    CHECK(icysixel_pixels(h, NULL, 0, 0, &wanted) == ICYSIXEL_NO_IMAGE && wanted == 0);
 }
 
 /* The library's own block belongs to the caller, and outlives later images and the handle. */
@@ -161,7 +160,6 @@ static void test_errors(icysixel *h)
     CHECK(icysixel_feed(h, BYTES("!9~!65536~"), &fed) == ICYSIXEL_MALFORMED);
     CHECK(icysixel_in_payload(h) == 0 && icysixel_is_receiving(h) == 1);
     CHECK(icysixel_finish(h, &shape) == ICYSIXEL_STREAM_FAILED);
-    CHECK(icysixel_is_receiving(h) == 0);
     CHECK(icysixel_pixels(h, NULL, 0, 0, &wanted) == ICYSIXEL_NO_IMAGE);
     CHECK(icysixel_begin(h) == ICYSIXEL_DONE);
     CHECK(icysixel_feed(h, BYTES("\033Pq!65536~"), &fed) == ICYSIXEL_MALFORMED);

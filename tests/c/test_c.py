@@ -63,8 +63,8 @@ class TestC(unittest.TestCase):
         """Runs a command, whose status has to be 0, and returns what it writes."""
         command = [str(word) for word in command]
         status, written, errors = run(*command, **{"timeout": 900, **options})
-        lines = b"\n".join([" ".join(command).encode(), written[-2000:], errors[-2000:]])
-        self.assertEqual(status, 0, lines.decode(errors="replace"))
+        text = (written + errors)[-4000:].decode(errors="replace")
+        self.assertEqual(status, 0, f"{' '.join(command)}\n{text}")
         return written
 
     def program(self, name, build="LLVM", folder=HERE):
@@ -77,9 +77,10 @@ class TestC(unittest.TestCase):
 
     def arguments(self, name, is_brief=False):
         """The arguments of a test program."""
-        random = [os.environ.get("FUZZ_COUNT", 600), os.environ.get("FUZZ_SEED", 1)]
-        vectors = [DATA, *["brief"] * is_brief]
-        return {"vectors": vectors, "peak": [self.folder], "random": random}.get(name, [])
+        count = os.environ.get("FUZZ_COUNT", 60 if is_brief else 600)
+        random = [count, os.environ.get("FUZZ_SEED", 1)]
+        words = {"vectors": [DATA, *["brief"] * is_brief], "peak": [self.folder], "random": random}
+        return words.get(name, [])
 
     def test_header(self):
         """Each function has its type, and each struct its size, in C and in C++."""
@@ -111,7 +112,7 @@ class TestC(unittest.TestCase):
     def test_valgrind(self):
         """Nothing is read or written outside of its block, nothing leaks, no threads conflict."""
         for build in "LLVM", "Rattle":
-            for name in "calls", "vectors", "allocations":
+            for name in "calls", "vectors", "allocations", "random":
                 with self.subTest(program=name, build=build):
                     arguments = self.arguments(name, is_brief=True)
                     self.succeeds(*MEMCHECK, self.program(name, build), *arguments)

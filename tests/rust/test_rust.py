@@ -11,7 +11,6 @@ from rust.declared import comparison
 
 CRATE = ROOT / "rust/icy_sixel"
 MEMORY = ROOT / "crates/icysixel_c/memory/icysixel_memory.c"
-# What the test harness itself keeps until the end is no leak.
 MEMCHECK = ["valgrind", "-q", "--leak-check=full", "--show-leak-kinds=definite,indirect"]
 MEMCHECK += ["--errors-for-leak-kinds=definite,indirect", "--error-exitcode=9"]
 STRING = b"text\x1bP9;1q#1;2;100;0;0@\x1b\\text"
