@@ -1,6 +1,6 @@
 //! The border to the proved archive: every `unsafe` of this crate stands here, and what it trusts.
 //!
-//! What is called is documented by `icysixel.h`, and `scripts/rust` compares these declarations
+//! What is called is documented by `icysixel.h`, and `tests/rust` compares these declarations
 //! with it. Each of these functions is proved to return, and to keep to what it was passed, for all
 //! bytes and numbers and for any handle that it left; none has a further condition. What is trusted
 //! beside that proof is this file, and the compilers on both sides.

@@ -1,6 +1,6 @@
-//! Each request for memory refused in turn: the answer is want of memory, nothing is lost, and the
-//! same call does better afterwards. What the library asks for comes from Rust's global allocator,
-//! which this one stands in for.
+//! Each allocation fails in turn: the call returns `OutOfMemory`, no register changes, and the same
+//! call succeeds with memory. The library allocates by Rust's global allocator, which this file
+//! replaces by one that counts and fails.
 
 #![allow(unsafe_code)]
 
@@ -16,34 +16,34 @@ use std::alloc::{GlobalAlloc, Layout, System};
 use std::cell::Cell;
 use std::ptr::null_mut;
 
-/// The system's allocator, with counts of the thread that asks.
+/// The system's allocator, with counts for each thread.
 struct Counting;
 
 #[global_allocator]
 static COUNTING: Counting = Counting;
 
 thread_local! {
-    /// How many requests are granted before one is refused; none is where it is negative.
+    /// How many allocations succeed before one fails; none fails if it is negative.
     static GRANTED: Cell<i64> = const { Cell::new(-1) };
-    /// The requests that are counted, for at least so many bytes, and how many there were.
+    /// How many bytes a counted allocation has at least, and how many of those there were.
     static LEAST: Cell<usize> = const { Cell::new(0) };
     static REQUESTS: Cell<u64> = const { Cell::new(0) };
-    /// Bytes that are held.
+    /// Bytes that are allocated.
     static HELD: Cell<i64> = const { Cell::new(0) };
 }
 
-/// Whether the next request is refused, which is one for so many bytes.
-fn is_refused(size: usize) -> bool {
+/// Counts an allocation of so many bytes, and returns whether it fails.
+fn fails(size: usize) -> bool {
     REQUESTS.set(REQUESTS.get() + u64::from(size >= LEAST.get()));
     let granted = GRANTED.get();
     GRANTED.set(granted - i64::from(granted >= 0));
     granted == 0
 }
 
-// SAFETY: each call is handed on to the system's allocator as it is, or refused, as any may be.
+// SAFETY: each call goes to the system's allocator unchanged, or fails, as any allocation may.
 unsafe impl GlobalAlloc for Counting {
     unsafe fn alloc(&self, layout: Layout) -> *mut u8 {
-        if is_refused(layout.size()) {
+        if fails(layout.size()) {
             return null_mut();
         }
         HELD.set(HELD.get() + layout.size() as i64);
@@ -52,7 +52,7 @@ unsafe impl GlobalAlloc for Counting {
     }
 
     unsafe fn realloc(&self, start: *mut u8, layout: Layout, size: usize) -> *mut u8 {
-        if is_refused(size) {
+        if fails(size) {
             return null_mut();
         }
         HELD.set(HELD.get() + size as i64 - layout.size() as i64);
@@ -67,22 +67,21 @@ unsafe impl GlobalAlloc for Counting {
     }
 }
 
-/// Runs the call with the request refused that follows so many others; tells its answer, and
-/// whether one was.
-fn refusing<T>(place: i64, call: impl FnOnce() -> T) -> (T, bool) {
+/// Makes the call with the allocation failing that follows so many others. Returns the result, and
+/// whether one failed.
+fn failing<T>(place: i64, call: impl FnOnce() -> T) -> (T, bool) {
     GRANTED.set(place);
     let answer = call();
     let met = GRANTED.replace(-1) < 0;
     (answer, met)
 }
 
-/// Refuses each request of the call in turn, where it is made on what `made` makes, and looks at
-/// what is left then.
-fn refuse_each<S, T: PartialEq + std::fmt::Debug>(
+/// Makes each allocation of the call fail in turn, on a new subject, and checks the subject then.
+fn fail_each<S, T: PartialEq + std::fmt::Debug>(
     name: &str,
     made: impl Fn() -> S,
     call: impl Fn(&mut S) -> Result<T>,
-    look: impl Fn(&S),
+    check: impl Fn(&S),
 ) {
     let mut subject = made();
     let expected = call(&mut subject).unwrap_or_else(|error| panic!("{name}: {error}"));
@@ -90,91 +89,92 @@ fn refuse_each<S, T: PartialEq + std::fmt::Debug>(
     for place in 0.. {
         let held = HELD.get();
         let mut subject = made();
-        let (answer, met) = refusing(place, || call(&mut subject));
+        let (answer, met) = failing(place, || call(&mut subject));
         if !met {
             assert_eq!(answer, Ok(expected));
-            assert!(place > 0, "{name} takes no memory");
+            assert!(place > 0, "{name} does not allocate");
             return;
         }
-        assert_eq!(answer, Err(SixelError::OutOfMemory), "{name}, request {place}");
-        look(&subject);
+        assert_eq!(answer, Err(SixelError::OutOfMemory), "{name}, allocation {place}");
+        check(&subject);
         assert_eq!(
             call(&mut subject).as_ref(),
             Ok(&expected),
-            "{name}, again after request {place}"
+            "{name}, again after allocation {place}"
         );
         drop((subject, answer));
-        assert_eq!(HELD.get(), held, "{name} leaks after request {place}");
+        assert_eq!(HELD.get(), held, "{name} leaks after allocation {place}");
     }
 }
 
 const STRING: &[u8] = b"\x1bPq#42;2;100;0;0!40~-#3!700~\x1b\\";
 const PAYLOAD: &[u8] = b"#42;2;100;0;0!40~-#3!700~";
 
-/// The register that the data above define is as before.
+/// All registers are those of a new decoder.
 fn is_unchanged(decoder: &SixelDecoder) {
-    assert_eq!(decoder.register(42), [0, 204, 102]);
+    let new = SixelDecoder::new();
+    assert!((0..=u8::MAX).all(|number| decoder.register(number) == new.register(number)));
 }
 
-/// Feeds small pieces, until one is refused.
-fn feed_pieces<T>(bytes: &[u8], feed: impl FnMut(&[u8]) -> Result<T>) -> Result<()> {
-    pieces(bytes, 7).map(feed).try_for_each(|fed| fed.map(|_| ()))
+/// Feeds small chunks until one fails.
+fn feed_chunks<T>(bytes: &[u8], feed: impl FnMut(&[u8]) -> Result<T>) -> Result<()> {
+    bytes.chunks(7).map(feed).try_for_each(|fed| fed.map(|_| ()))
 }
 
 #[test]
 fn decoding() {
     let default = DcsSettings::default();
-    refuse_each("SixelImage::decode", || (), |()| SixelImage::decode(STRING), |()| ());
-    refuse_each("from_str", || (), |()| "#1!9~".parse::<SixelImage>(), |()| ());
+    fail_each("SixelImage::decode", || (), |()| SixelImage::decode(STRING), |()| ());
+    fail_each("from_str", || (), |()| "#1!9~".parse::<SixelImage>(), |()| ());
     let decode = |()| SixelImage::decode_from_dcs(PAYLOAD, default);
-    refuse_each("SixelImage::decode_from_dcs", || (), |()| decode(()), |()| ());
-    refuse_each("decode", SixelDecoder::new, |decoder| decoder.decode(STRING), is_unchanged);
-    refuse_each(
+    fail_each("SixelImage::decode_from_dcs", || (), |()| decode(()), |()| ());
+    fail_each("decode", SixelDecoder::new, |decoder| decoder.decode(STRING), is_unchanged);
+    fail_each(
         "decode_from_dcs",
         SixelDecoder::new,
         |decoder| decoder.decode_from_dcs(PAYLOAD, default),
         is_unchanged,
     );
-    refuse_each(
+    fail_each(
         "a payload session",
         SixelDecoder::new,
         |decoder| {
             let mut session = decoder.begin_frame(default)?;
-            feed_pieces(PAYLOAD, |piece| session.feed(piece))?;
+            feed_chunks(PAYLOAD, |chunk| session.feed(chunk))?;
             session.finish()
         },
         is_unchanged,
     );
-    refuse_each(
-        "a control string session",
+    fail_each(
+        "a DCS session",
         SixelDecoder::new,
         |decoder| {
             let mut session = decoder.begin_dcs();
-            feed_pieces(STRING, |piece| session.feed(piece))?;
+            feed_chunks(STRING, |chunk| session.feed(chunk))?;
             session.finish()
         },
         is_unchanged,
     );
-    refuse_each(
+    fail_each(
         "a receiver",
         SixelReceiver::new,
         |receiver| {
             receiver.begin_dcs();
-            feed_pieces(STRING, |piece| receiver.feed(piece))?;
+            feed_chunks(STRING, |chunk| receiver.feed(chunk))?;
             receiver.finish()
         },
         |receiver| is_unchanged(receiver.decoder()),
     );
 }
 
-/// A finish alone: what was fed is lost by its refusal, and no register is.
+/// If `finish` fails, the image is lost, and no register changes.
 #[test]
 fn finishing() {
     for place in 0.. {
         let mut decoder = SixelDecoder::new();
         let mut session = decoder.begin_frame(DcsSettings::default()).unwrap();
         assert!(session.feed(b"#42;2;100;0;0!40~\"1;1;50;50").is_ok());
-        let (answer, met) = refusing(place, || session.finish());
+        let (answer, met) = failing(place, || session.finish());
         if !met {
             assert_eq!(answer.unwrap().dimensions(), (50, 50));
             assert_eq!(decoder.register(42), [255, 0, 0]);
@@ -190,35 +190,35 @@ fn finishing() {
 fn encoding() {
     let pixels = (0..64 * 24u32).flat_map(|i| [i as u8, (i / 7) as u8, 80, 255]).collect();
     let image = SixelImage::try_from_rgba(pixels, 64, 24).unwrap();
-    refuse_each("encode", || (), |()| image.encode(), |()| ());
+    fail_each("encode", || (), |()| image.encode(), |()| ());
     let options = EncodeOptions { max_colors: 16 };
-    refuse_each("encode_with", || (), |()| image.encode_with(&options), |()| ());
-    refuse_each("choose_palette", || (), |()| choose_palette(&image.pixels, 16), |()| ());
+    fail_each("encode_with", || (), |()| image.encode_with(&options), |()| ());
+    fail_each("choose_palette", || (), |()| choose_palette(&image.pixels, 16), |()| ());
 }
 
 #[test]
 fn decoders() {
     let decoder = SixelDecoder::new();
-    refuse_each("try_new", || (), |()| SixelDecoder::try_new().map(|_| ()), |()| ());
-    refuse_each("try_clone", || (), |()| decoder.try_clone().map(|_| ()), |()| ());
+    fail_each("try_new", || (), |()| SixelDecoder::try_new().map(|_| ()), |()| ());
+    fail_each("try_clone", || (), |()| decoder.try_clone().map(|_| ()), |()| ());
 }
 
-/// The words of a refusal take memory too; without it the refusal is want of memory.
+/// The text of an error is allocated too. If that fails, the error is `OutOfMemory`.
 #[test]
-fn words() {
+fn texts_of_errors() {
     let mut decoder = SixelDecoder::new();
     let mut session = decoder.begin_frame(DcsSettings::default()).unwrap();
-    let (answer, met) = refusing(0, || session.feed(b"!65536~"));
+    let (answer, met) = failing(0, || session.feed(b"!65536~"));
     assert!(met);
     assert_eq!(answer, Err(SixelError::OutOfMemory));
     assert_eq!(session.feed(b"~"), Err(invalid(STREAM_FAILED)));
 }
 
 #[test]
-fn calls_that_take_no_memory() {
+fn calls_that_do_not_allocate() {
     let mut decoder = SixelDecoder::new();
     let mut receiver = SixelReceiver::new();
-    let (_, met) = refusing(0, || {
+    let (_, met) = failing(0, || {
         decoder.set_register(1, [1, 2, 3]);
         decoder.set_raster_crop(true);
         decoder.set_pixel_limit(1000);
@@ -240,7 +240,7 @@ fn calls_that_take_no_memory() {
     assert!(!met);
 }
 
-/// Whether more than this is held until the end, and this after it.
+/// Asserts that more than this is allocated until the end, and this after it.
 #[track_caller]
 fn is_freed_by(held: i64, end: impl FnOnce()) {
     assert!(HELD.get() > held);
@@ -248,10 +248,9 @@ fn is_freed_by(held: i64, end: impl FnOnce()) {
     assert_eq!(HELD.get(), held);
 }
 
-/// A session gives back what it took as it ends, however it ends, and so does an image that a
-/// receiver gives up.
+/// A session frees its memory however it ends, and so does a receiver's image.
 #[test]
-fn what_ends_is_freed() {
+fn sessions_are_freed() {
     let mut decoder = SixelDecoder::new();
     let held = HELD.get();
     let ends: [fn(SixelStreamDecoder<'_>); 3] =
@@ -284,8 +283,8 @@ fn what_ends_is_freed() {
     drop(decoder);
 }
 
-/// How many requests a call makes for at least as many bytes as the pixels have of the image that it
-/// gives, whose size is this one; the image is freed as any `Vec` is.
+/// How many blocks a call allocates that could contain the pixels of its image, of this size.
+/// The image is freed as any `Vec` is.
 #[track_caller]
 fn blocks_for_pixels((width, height): (usize, usize), call: impl FnOnce() -> SixelImage) -> u64 {
     LEAST.set(4 * width * height);
@@ -301,7 +300,7 @@ fn blocks_for_pixels((width, height): (usize, usize), call: impl FnOnce() -> Six
     REQUESTS.get()
 }
 
-/// The image is packed into the vector that the caller gets: one block is had for its pixels.
+/// The image is packed into the vector that the caller gets: its pixels take one block.
 #[test]
 fn the_pixels_are_one_block() {
     let default = DcsSettings::default();
@@ -327,8 +326,8 @@ fn the_pixels_are_one_block() {
     }
 }
 
-/// The same of an image of few rows that are cropped from more: it has the library's own room, that of
-/// four rows, where a copy would have no more than it needs.
+/// An image that is cropped to one row has the library's own block, with the capacity of four rows.
+/// A copy would have no more than it needs.
 #[test]
 fn a_cropped_row() {
     let string = b"\x1bP9;1q\"1;1;1000;1#1!1000~\x1b\\";
@@ -345,7 +344,7 @@ fn a_cropped_row() {
     assert_eq!(REQUESTS.get(), 1);
     assert_eq!(fed.pixels.capacity(), 16 * 1000);
     assert_eq!(fed, whole);
-    refuse_each(
+    fail_each(
         "decode",
         || decoder.try_clone().unwrap(),
         |decoder| decoder.decode(string),

@@ -1,55 +1,9 @@
-//! Worked palettes, and their certificates.
+//! A palette of more colors than it has entries for.
 
-mod common;
+use icy_sixel::{EncodeOptions, choose_palette, sixel_encode, witnesses_hold};
 
-use common::*;
-use icy_sixel::{
-    EncodeOptions, PaletteChoice, SixelError, choose_palette, sixel_encode, witnesses_hold,
-};
-
-const NEAR_BLACK: [u8; 4] = [10, 0, 0, 128];
-const HIDDEN: [u8; 4] = [90, 90, 90, 127];
-
-#[test]
-fn farthest_first() {
-    let pixels = [WHITE, NEAR_BLACK, BLACK, HIDDEN, WHITE].concat();
-    let expected = PaletteChoice {
-        colors: vec![[0, 0, 0], [255, 255, 255]],
-        indices: vec![1, 0, 0, 0, 1],
-        error: 100,
-        witnesses: vec![[0, 0, 0], [255, 255, 255], [10, 0, 0]],
-    };
-    for max_colors in [0, 1, 2] {
-        assert_eq!(choose_palette(&pixels, max_colors).as_ref(), Ok(&expected));
-    }
-    let expected = PaletteChoice {
-        colors: vec![[0, 0, 0], [255, 255, 255], [10, 0, 0]],
-        indices: vec![1, 2, 0, 0, 1],
-        error: 0,
-        witnesses: vec![],
-    };
-    for max_colors in [3, 256, u16::MAX] {
-        assert_eq!(choose_palette(&pixels, max_colors).as_ref(), Ok(&expected));
-    }
-}
-
-#[test]
-fn nothing_is_shown() {
-    let of_nothing =
-        |indices| PaletteChoice { colors: vec![], indices, error: 0, witnesses: vec![] };
-    assert_eq!(choose_palette(&[], 256), Ok(of_nothing(vec![])));
-    assert_eq!(choose_palette(&HIDDEN.repeat(3), 2), Ok(of_nothing(vec![0; 3])));
-}
-
-#[test]
-fn pixels_are_whole() {
-    let mismatch = |expected, actual| Err(SixelError::BufferSizeMismatch { expected, actual });
-    assert_eq!(choose_palette(&[1], 256), mismatch(0, 1));
-    assert_eq!(choose_palette(&[255; 11], 256), mismatch(8, 11));
-}
-
-/// More colors than entries: the whole rooms of entries and of witnesses are in use, and the
-/// entries are those of the text.
+/// With more colors than entries the buffers of entries and of witnesses are full, and the entries
+/// are those of the text.
 #[test]
 fn a_full_palette() {
     let pixels: Vec<u8> =
@@ -68,20 +22,4 @@ fn a_full_palette() {
             assert!(text.contains(&format!("#{entry};2;{red};{green};{blue}")), "{entry}");
         }
     }
-}
-
-#[test]
-fn certificates() {
-    let [black, grey, white] = [[0; 3], [100; 3], [255; 3]];
-    for (witnesses, least) in [
-        (vec![black, grey], 30000),
-        (vec![black, white, grey], 30000),
-        (vec![white, black, black], 0),
-        (vec![[0, 1, 2], [255, 0, 0]], 255 * 255 + 1 + 4),
-        (vec![black, white], 3 * 255 * 255),
-    ] {
-        assert!(witnesses_hold(&witnesses, least));
-        assert!(!witnesses_hold(&witnesses, least + 1));
-    }
-    assert!(witnesses_hold(&[], u32::MAX) && witnesses_hold(&[black], u32::MAX));
 }

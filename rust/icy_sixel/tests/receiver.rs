@@ -22,7 +22,7 @@ struct Host {
 }
 
 impl Host {
-    /// Reads bytes of control strings that follow each other.
+    /// Reads DCS sequences that follow each other.
     fn read(&mut self, mut bytes: &[u8]) -> Result<()> {
         while !bytes.is_empty() {
             if !self.receiver.is_receiving() {
@@ -39,12 +39,12 @@ impl Host {
 }
 
 #[test]
-fn a_host_reads_pieces_of_any_length() {
+fn a_host_reads_chunks_of_any_length() {
     let bytes = STRING.repeat(3);
     for length in 1..=bytes.len() {
         let mut host = Host::default();
-        for piece in pieces(&bytes, length) {
-            host.read(piece).unwrap();
+        for chunk in bytes.chunks(length) {
+            host.read(chunk).unwrap();
         }
         assert!(!host.receiver.is_receiving());
         assert_eq!(host.images.len(), 3);
@@ -85,7 +85,7 @@ fn nothing_is_open() {
 }
 
 #[test]
-fn refusals_close_the_image() {
+fn errors_close_the_image() {
     let mut receiver = SixelReceiver::new();
     receiver.set_pixel_limit(10);
     receiver.begin_dcs();
@@ -123,10 +123,10 @@ fn a_receiver_owns_its_decoder() {
 
 #[test]
 fn a_receiver_moves_between_threads() {
-    let (to_worker, pieces_in) = mpsc::channel::<SixelReceiver>();
-    let (to_main, pieces_out) = mpsc::channel();
+    let (to_worker, receivers_in) = mpsc::channel::<SixelReceiver>();
+    let (to_main, receivers_out) = mpsc::channel();
     let worker = thread::spawn(move || {
-        for (mut receiver, byte) in pieces_in.into_iter().zip(STRING) {
+        for (mut receiver, byte) in receivers_in.into_iter().zip(STRING) {
             assert!(receiver.feed(&[*byte]).is_ok());
             to_main.send(receiver).unwrap();
         }
@@ -135,7 +135,7 @@ fn a_receiver_moves_between_threads() {
     receiver.begin_dcs();
     for _ in STRING {
         to_worker.send(receiver).unwrap();
-        receiver = pieces_out.recv().unwrap();
+        receiver = receivers_out.recv().unwrap();
     }
     drop(to_worker);
     worker.join().unwrap();
@@ -189,8 +189,8 @@ fn each_thread_has_its_own() {
             scope.spawn(|| {
                 for length in 1..=STRING.len() {
                     let mut host = Host::default();
-                    for piece in pieces(STRING, length) {
-                        host.read(piece).unwrap();
+                    for chunk in STRING.chunks(length) {
+                        host.read(chunk).unwrap();
                     }
                     images.lock().unwrap().append(&mut host.images);
                 }

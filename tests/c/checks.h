@@ -1,0 +1,99 @@
+/* Shared by the tests of the C library: checks, bytes, registers and images. */
+#ifndef CHECKS_H
+#define CHECKS_H
+
+#include "icysixel.h"
+#include <stdbool.h>
+#include <stdio.h>
+#include <stdlib.h>
+#include <string.h>
+
+#define COUNT_OF(table) (sizeof(table) / sizeof *(table))
+#define CHECK(fact) ((fact) ? (void)0 : stop(__FILE__, __LINE__, #fact))
+
+/* The input that is tried, as a failed check names it: a file or a table, and a line of it. */
+static const char *subject = "";
+static size_t line_number;
+
+/* Ends the program because a check failed. */
+static inline void stop(const char *file, int line, const char *fact)
+{
+    printf("%s:%d: %s:%zu: failed: %s\n", file, line, subject, line_number, fact);
+    exit(1);
+}
+
+/* Bytes in a block of their own, or a part of one. */
+struct bytes {
+    uint8_t *at;
+    size_t length;
+};
+
+/* Up to `length` of the bytes from a place on. */
+static inline struct bytes part(struct bytes bytes, size_t from, size_t length)
+{
+    size_t left = bytes.length - from;
+    return (struct bytes){bytes.at + from, length < left ? length : left};
+}
+
+/* Appends bytes. A block is exactly as long as its bytes, so that tools see each access beyond. */
+static inline void append(struct bytes *bytes, const void *more, size_t length)
+{
+    if (length == 0) return;
+    bytes->at = realloc(bytes->at, bytes->length + length);
+    CHECK(bytes->at != NULL);
+    memcpy(bytes->at + bytes->length, more, length);
+    bytes->length += length;
+}
+
+/* Appends a text without its zero. */
+static inline void append_text(struct bytes *bytes, const char *text)
+{
+    append(bytes, text, strlen(text));
+}
+
+/* All 256 registers of a decoder. */
+struct registers { icysixel_color colors[256]; };
+
+static inline struct registers registers_of(icysixel *decoder)
+{
+    struct registers registers;
+    for (int i = 0; i < 256; i++)
+        CHECK(icysixel_register(decoder, (uint8_t)i, &registers.colors[i]) == ICYSIXEL_DONE);
+    return registers;
+}
+
+static inline bool has_registers(icysixel *decoder, const struct registers *expected)
+{
+    struct registers found = registers_of(decoder);
+    return memcmp(&found, expected, sizeof found) == 0;
+}
+
+/* An image, or the code of the error in place of one. */
+struct outcome {
+    uint32_t code;
+    icysixel_shape shape;
+    uint8_t *pixels;
+};
+
+/* Copies the stored image into the outcome if the code is that of success. */
+static inline struct outcome outcome_of(icysixel *decoder, uint32_t code, icysixel_shape shape)
+{
+    struct outcome outcome = {code, shape, NULL};
+    size_t wanted = 0;
+    if (code != ICYSIXEL_DONE) return outcome;
+    CHECK(shape.bytes == 4 * shape.width * shape.height);
+    outcome.pixels = malloc(shape.bytes);
+    CHECK(icysixel_pixels(decoder, outcome.pixels, shape.bytes, 0, &wanted) == ICYSIXEL_DONE);
+    CHECK(wanted == shape.bytes);
+    return outcome;
+}
+
+static inline bool is_same(const struct outcome *one, const struct outcome *other)
+{
+    const icysixel_shape *a = &one->shape, *b = &other->shape;
+    if (one->code != other->code || one->code != ICYSIXEL_DONE) return one->code == other->code;
+    return a->width == b->width && a->height == b->height && a->pan == b->pan && a->pad == b->pad
+        && a->p1 == b->p1 && a->p2 == b->p2 && memcmp(one->pixels, other->pixels, a->bytes) == 0;
+}
+
+#endif

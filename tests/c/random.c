@@ -1,0 +1,134 @@
+/* Random inputs for the builds by two compilers, which must agree: random COUNT SEED
+ *
+ * Writes a line for each case with a digest of all results: images, codes, registers, counts, texts
+ * and palettes. */
+#include "checks.h"
+
+static uint64_t state, digest;
+
+/* The generator SplitMix64. */
+static uint32_t below(uint32_t bound)
+{
+    uint64_t word = state += 0x9e3779b97f4a7c15;
+    word = (word ^ word >> 30) * 0xbf58476d1ce4e5b9;
+    word = (word ^ word >> 27) * 0x94d049bb133111eb;
+    return (uint32_t)((word ^ word >> 31) % bound);
+}
+
+/* Adds bytes to the digest: FNV-1a. */
+static void add(const void *bytes, size_t length)
+{
+    for (size_t i = 0; i < length; i++)
+        digest = (digest ^ ((const uint8_t *)bytes)[i]) * 0x100000001b3;
+}
+
+static void add_outcome(icysixel *decoder, const struct outcome *outcome)
+{
+    const icysixel_shape *shape = &outcome->shape;
+    uint64_t numbers[] = {outcome->code, shape->width, shape->height, shape->p1, shape->p2};
+    struct registers registers = registers_of(decoder);
+    add(numbers, sizeof numbers);
+    add(outcome->pixels, outcome->code == ICYSIXEL_DONE ? shape->bytes : 0);
+    add(&registers, sizeof registers);
+}
+
+/* SIXEL data: sixels between commands, terminators and bytes of any value. */
+static struct bytes random_data(bool is_string)
+{
+    static const char *const headers[] = {"\033Pq", "\x90q", "\033P9;1q", "\033P2;1;0q"};
+    static const char *const parts[] = {
+        "~~~~", "?@AC", "N", "_^", "!", "!3", "!70", "!300", "!65536", "#", "#1", "#2;2;100;0;0",
+        "#3;1;120;50;99", "#300;1;7;7;7", "\"1;1;9;9", "\"2;1;30;4", "$", "-", ";", "0", "12",
+        "\n", " ", "\xff", "\x18", "\033", "\x9c", "\x9b" "0m"};
+    struct bytes data = {0};
+    if (is_string) append_text(&data, headers[below(COUNT_OF(headers))]);
+    for (uint32_t left = below(60); left > 0; left--) {
+        uint8_t byte = (uint8_t)below(256), sixel = (uint8_t)(63 + below(64));
+        uint32_t rare = below(20) == 0 ? 0 : 4;
+        append(&data, &sixel, 1);
+        append_text(&data, parts[below((uint32_t)COUNT_OF(parts) - rare)]);
+        append(&data, &byte, below(100) == 0);
+    }
+    if (is_string) append_text(&data, "\033\\");
+    return data;
+}
+
+/* Decodes at once and by a session in random chunks. A payload comes to the same both times. */
+static void try_data(bool is_string)
+{
+    struct bytes data = random_data(is_string);
+    icysixel whole = {0}, parts = {0};
+    icysixel_shape shape = {0};
+    icysixel_fed fed = {0};
+    int32_t p1 = (int32_t)below(12) - 1, p2 = (int32_t)below(4) - 1;
+    uint32_t code = ICYSIXEL_DONE;
+    CHECK(icysixel_new(&whole) == ICYSIXEL_DONE && icysixel_new(&parts) == ICYSIXEL_DONE);
+    icysixel_set_limit(&whole, 20000), icysixel_set_limit(&parts, 20000);
+    struct outcome at_once = outcome_of(&whole, is_string
+        ? icysixel_decode(&whole, data.at, data.length, &shape)
+        : icysixel_decode_payload(&whole, data.at, data.length, p1, p2, -1, &shape), shape);
+    at_once.shape = shape;
+    add_outcome(&whole, &at_once);
+    is_string ? icysixel_begin(&parts) : icysixel_begin_payload(&parts, p1, p2, -1);
+    for (size_t at = 0; code == ICYSIXEL_DONE && at < data.length;) {
+        struct bytes chunk = part(data, at, below(30)), copy = {0};
+        append(&copy, chunk.at, chunk.length);
+        code = icysixel_feed(&parts, copy.at, copy.length, &fed);
+        uint64_t numbers[] = {code, fed.consumed, fed.status, fed.byte};
+        add(numbers, sizeof numbers);
+        at += copy.length;
+        free(copy.at);
+    }
+    if (code == ICYSIXEL_DONE) code = icysixel_finish(&parts, &shape);
+    struct outcome fed_outcome = outcome_of(&parts, code, shape);
+    add_outcome(&parts, &fed_outcome);
+    CHECK(is_string || is_same(&fed_outcome, &at_once));
+    free(data.at), free(at_once.pixels), free(fed_outcome.pixels);
+    icysixel_free(&whole), icysixel_free(&parts);
+}
+
+/* Chooses a palette for random pixels, encodes them, and decodes the text. */
+static void try_pixels(void)
+{
+    uint32_t width = 1 + below(40), height = 1 + below(30), levels = 2 + below(254);
+    uint16_t colors = (uint16_t)below(300);
+    struct bytes pixels = {0}, indices = {malloc(width * height), width * height}, text = {0};
+    icysixel_color entries[256], witnesses[257];
+    icysixel_palette palette = {0};
+    icysixel h = {0};
+    icysixel_shape shape = {0};
+    size_t wanted;
+    for (uint32_t left = width * height; left > 0; left--) {
+        uint8_t rgba[4];
+        for (int i = 0; i < 4; i++) rgba[i] = (uint8_t)(below(levels) * 255 / (levels - 1));
+        append(&pixels, rgba, 4);
+    }
+    CHECK(icysixel_choose_palette(pixels.at, pixels.length, colors, entries, 256, witnesses, 257,
+                                  indices.at, indices.length, &palette) == ICYSIXEL_DONE);
+    add(entries, 3 * palette.colors), add(witnesses, 3 * palette.witnesses);
+    add(&palette.error, 4), add(indices.at, indices.length);
+    CHECK(icysixel_new(&h) == ICYSIXEL_DONE);
+    CHECK(icysixel_encode(&h, pixels.at, pixels.length, 0, width, height, (int32_t)below(10),
+                          (int32_t)below(2), colors, &text.length) == ICYSIXEL_DONE);
+    text.at = malloc(text.length);
+    CHECK(icysixel_take_text(&h, text.at, text.length, &wanted) == ICYSIXEL_DONE);
+    add(text.at, text.length);
+    CHECK(icysixel_decode(&h, text.at, text.length, &shape) == ICYSIXEL_DONE);
+    struct outcome outcome = outcome_of(&h, ICYSIXEL_DONE, shape);
+    add_outcome(&h, &outcome);
+    free(pixels.at), free(indices.at), free(text.at), free(outcome.pixels);
+    icysixel_free(&h);
+}
+
+int main(int argc, char **argv)
+{
+    CHECK(argc == 3);
+    subject = "case";
+    for (size_t count = strtoull(argv[1], NULL, 10); line_number < count; line_number++) {
+        state = strtoull(argv[2], NULL, 10) * 1000003 + line_number, digest = 0xcbf29ce484222325;
+        if (line_number % 3 == 2) try_pixels();
+        else try_data(line_number % 3 == 1);
+        printf("%zu %016llx\n", line_number, (unsigned long long)digest);
+    }
+    return 0;
+}

@@ -1,0 +1,183 @@
+"""Tests the C library: its header, its archives, each call from C, its memory and its examples.
+
+Each program of this folder runs with the archive that LLVM builds, under sanitizers and plain, and
+with the archive that Rattle's own compiler builds. FUZZ_COUNT and FUZZ_SEED choose other cases.
+"""
+import os
+import re
+import tempfile
+import unittest
+from pathlib import Path
+
+from build import ARCHIVES, DATA, HEADERS, ROOT, needs, run
+
+HERE = ROOT / "tests/c"
+EXAMPLES = ROOT / "examples"
+MEMORY = ROOT / "crates/icysixel_c/memory/icysixel_memory.c"
+FILTER = ROOT / "crates/sixel_filter/out/sixel_filter"
+
+C11 = ["gcc", "-std=c11", "-Wall", "-Wextra", "-Werror", f"-I{HEADERS}"]
+SANITIZERS = ["-fsanitize=address,undefined", "-fno-sanitize-recover=all"]
+BUILDS = {
+    "sanitizers": [*SANITIZERS, ARCHIVES[0]],
+    "LLVM": [ARCHIVES[0]],
+    "Rattle": [ARCHIVES[1]],
+}
+MEMCHECK = ["valgrind", "-q", "--leak-check=full", "--show-leak-kinds=all", "--error-exitcode=9"]
+HELGRIND = ["valgrind", "-q", "--tool=helgrind", "--error-exitcode=9"]
+
+NEEDED = {*"memcpy memmove memset rattle_alloc rattle_dealloc rattle_realloc".split()}
+RED = b"\x1bP9;1q#1;2;100;0;0!2@\x1b\\"
+RED_PIXELS = b"\xff\0\0\xff\xff\0\0\xff" + bytes(40)
+# A stream of a terminal, and what the example filter.c makes of it.
+STREAM = (
+    b"a\x1b[1mb" + RED + b"c\x1b\x1bPbad\x1b\\d\x1bPq~\x1b[0me"
+    b"\x1bP2;1q!5~\x18f\x1bPq!65536~\x1b\\g\x1bPq~"
+)
+FILTERED = (
+    b"a\x1b[1mb[image of 2 x 6 pixels]c\x1b\x1bPbad\x1b\\d[image of 1 x 6 pixels]\x1b[0me"
+    b"[image of 5 x 30 pixels]f\x1bPq!65536~\x1b\\g\x1bPq~"
+)
+# Images, and each again in a form that libsixel shows as the example preload.c does. None has no
+# such form: libsixel rounds the channels of a hue to percentages.
+SHOWN = [
+    (RED.replace(b"@", b"~"), RED.replace(b"@", b"~")),
+    (b"\x1bPq#1A@\x1b\\", b'\x1bPq"1;1;2;6#1A@\x1b\\'),
+    (b"\x1bP9;1q~\x1b\\", b"\x1bP9;1q#15~\x1b\\"),
+    (b"\x1bPq#1;1;333;77;74~\x1b\\", None),
+]
+# Kilobytes of address space in which sixel_filter reads an image of the program `peak` three times.
+# The limit is a fifth more.
+FILTER_MEMORY = {"photograph": 3329, "chart": 4918, "icon": 2602}
+FILTER_MEMORY |= {"wide": 3881, "tall": 4960, "raster": 7496}
+
+
+class TestC(unittest.TestCase):
+    """The tests share a folder, in which each program is compiled once for each build."""
+
+    @classmethod
+    def setUpClass(cls):
+        cls.folder = Path(cls.enterClassContext(tempfile.TemporaryDirectory()))
+
+    def succeeds(self, *command, **options):
+        """Runs a command, whose status has to be 0, and returns what it writes."""
+        command = [str(word) for word in command]
+        status, written, errors = run(*command, **{"timeout": 900, **options})
+        text = (written + errors)[-4000:].decode(errors="replace")
+        self.assertEqual(status, 0, f"{' '.join(command)}\n{text}")
+        return written
+
+    def program(self, name, build="LLVM", folder=HERE):
+        """The path of a compiled program."""
+        program = self.folder / f"{name}.{build}"
+        if not program.exists():
+            sources = [folder / f"{name}.c", MEMORY, *BUILDS[build]]
+            self.succeeds(*C11, "-g", "-O1", "-pthread", *sources, "-o", program)
+        return program
+
+    def arguments(self, name, is_brief=False):
+        """The arguments of a test program."""
+        count = os.environ.get("FUZZ_COUNT", 60 if is_brief else 600)
+        random = [count, os.environ.get("FUZZ_SEED", 1)]
+        words = {"vectors": [DATA, *["brief"] * is_brief], "peak": [self.folder], "random": random}
+        return words.get(name, [])
+
+    def test_header(self):
+        """Each function has its type, and each struct its size, in C and in C++."""
+        for compiler in C11, ["g++", "-x", "c++", *C11[2:]]:
+            with self.subTest(compiler=compiler[0]):
+                self.succeeds(*compiler, "-pedantic", "-fsyntax-only", HERE / "header.c")
+
+    def test_archives(self):
+        """The archives define the functions of the header and no variable, and need six at most."""
+        header = (HEADERS / "icysixel.h").read_text()
+        declared = sorted(re.findall(r"^\w+ (icysixel_\w+)\(", header, re.M))
+        checked = re.findall(r"=\s*(icysixel_\w+);", (HERE / "header.c").read_text())
+        self.assertEqual(sorted(checked), declared)
+        for archive in ARCHIVES:
+            with self.subTest(archive=archive.name):
+                names = re.findall(r" (\w) (\w+)$", self.succeeds("nm", archive).decode(), re.M)
+                self.assertEqual(sorted(name for kind, name in names if kind in "TWV"), declared)
+                self.assertLessEqual({name for kind, name in names if kind == "U"}, NEEDED)
+                self.assertEqual([name for kind, name in names if kind in "dDbBC"], [])
+
+    def test_programs(self):
+        """Each test program passes with each build."""
+        for build in BUILDS:
+            for name in "calls", "vectors", "allocations", "peak", "threads":
+                with self.subTest(program=name, build=build):
+                    self.succeeds(self.program(name, build), *self.arguments(name))
+
+    @needs("valgrind")
+    def test_valgrind(self):
+        """Nothing is read or written outside of its block, nothing leaks, no threads conflict."""
+        for build in "LLVM", "Rattle":
+            for name in "calls", "vectors", "allocations", "random":
+                with self.subTest(program=name, build=build):
+                    arguments = self.arguments(name, is_brief=True)
+                    self.succeeds(*MEMCHECK, self.program(name, build), *arguments)
+            with self.subTest(program="threads", build=build):
+                self.succeeds(*HELGRIND, self.program("threads", build))
+
+    def test_random(self):
+        """The builds of both compilers give the same results for random inputs."""
+        arguments = self.arguments("random")
+        llvm, *others = [self.succeeds(self.program("random", it), *arguments) for it in BUILDS]
+        self.assertEqual(llvm.count(b"\n"), int(arguments[0]))
+        self.assertEqual(others, [llvm, llvm])
+
+    @unittest.skipUnless(FILTER.exists(), "sixel_filter is not built")
+    def test_filter_memory(self):
+        """The program sixel_filter needs little more memory than an image of its stream."""
+        self.succeeds(self.program("peak"), self.folder)
+        for name, memory in FILTER_MEMORY.items():
+            with self.subTest(image=name):
+                stream = 3 * (self.folder / f"{name}.six").read_bytes()
+                limit = memory * 6 // 5
+                written = self.succeeds(FILTER, "4096", "size", stdin=stream, memory=limit)
+                self.assertRegex(written, rb"\A(\[image \d+x\d+\]){3}\Z")
+
+    def test_decode_example(self):
+        """decode.c writes the pixels of a DCS sequence, and nothing for other bytes."""
+        decode = self.program("decode", "sanitizers", EXAMPLES)
+        self.assertEqual(run(decode, stdin=RED)[:2], (0, RED_PIXELS))
+        self.assertEqual(run(decode, stdin=b"no SIXEL")[:2], (1, b""))
+
+    def test_filter_example(self):
+        """filter.c writes a line for each image, and copies the rest."""
+        program = self.program("filter", "sanitizers", EXAMPLES)
+        self.assertEqual(self.succeeds(program, stdin=STREAM), FILTERED)
+
+    @needs("sixel2png", "pkg-config")
+    def test_preload_example(self):
+        """sixel2png shows the same with preload.c as without, in a form without differences."""
+        library = self.folder / "preload.so"
+        flags = self.succeeds("pkg-config", "--cflags", "libsixel").decode().split()
+        sources = [EXAMPLES / "preload.c", MEMORY, ARCHIVES[0]]
+        linked = ["-shared", "-fPIC", "-Wl,-Bsymbolic", "-o", library]
+        self.succeeds(*C11, *flags, *sources, *linked)
+
+        def shows_same(text):
+            # Pixels that libsixel does not set are made black.
+            variables = {"LD_PRELOAD": str(library)}, {"MALLOC_PERTURB_": "255"}
+            runs = [{"stdin": text, "env": os.environ | it} for it in variables]
+            ours, theirs = [self.succeeds("sixel2png", **it) for it in runs]
+            self.assertEqual((ours[:4], theirs[:4]), (b"\x89PNG", b"\x89PNG"))
+            return ours == theirs
+
+        self.succeeds(self.program("peak"), self.folder)
+        made = [(self.folder / f"{name}.six").read_bytes() for name in ("photograph", "chart")]
+        for text, adapted in [*SHOWN, *zip(made, made)]:
+            with self.subTest(text=text[:40]):
+                self.assertEqual(shows_same(text), text == adapted)
+                self.assertTrue(adapted is None or shows_same(adapted))
+
+    @needs("pkg-config")
+    def test_installation(self):
+        """`./lib install` installs a library that pkg-config finds."""
+        self.succeeds(ROOT / "lib", "install", self.folder / "prefix")
+        found = os.environ | {"PKG_CONFIG_PATH": str(self.folder / "prefix/lib/pkgconfig")}
+        flags = self.succeeds("pkg-config", "--cflags", "--libs", "icysixel", env=found)
+        program, words = self.folder / "installed", flags.decode().split()
+        self.succeeds("gcc", "-std=c11", EXAMPLES / "decode.c", *words, "-o", program)
+        self.assertEqual(self.succeeds(program, stdin=RED), RED_PIXELS)
