@@ -11,8 +11,8 @@ pub const DCS: &[u8] = b"text\x1bPq#42;2;100;0;0~!300~-!5~$~\x1b\\text";
 /// A payload of one wide run.
 pub const RUN: &[u8] = b"#42;2;100;0;0!999~";
 
-/// A payload whose runs draw one band seven times, for which the canvas allocates tags.
-pub const RUNS: &[u8] = b"#1!999~$#2!999~$#3!999~$#4!999~$#5!999~$#6!999~$#42;2;100;0;0!300~";
+/// A payload whose runs draw one band five times. The canvas allocates tags for the last one.
+pub const RUNS: &[u8] = b"#1!999~$#2!999~$#3!999~$#4!999~$#42;2;100;0;0!300~";
 
 /// A picture that is red on the left, and has the color of a register on the right.
 pub struct Picture {
@@ -40,7 +40,7 @@ pub static FILLED: Picture = Picture {
 pub static OVERDRAWN: Picture = Picture {
     width: 999,
     red: &[300; 6],
-    register: 6,
+    register: 4,
 };
 
 impl Picture {
