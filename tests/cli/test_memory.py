@@ -26,8 +26,8 @@ CALLS = [
     *(f"{it}: out of memory" for it in ("decode", "decode_from_dcs", "payload session", "DCS session")),
     *(RUN, RUNS, None, RUNS, "script::run: out of memory"),
     *(f"failed step: Some({it})" for it in range(5)),
-    *(f"{it}: out of memory" for it in ("encode_with", "to_display_string", "clone", "from_str")),
-    *("choose_palette: out of memory", "Row::reach: out of memory"),
+    *(f"{it}: out of memory" for it in ("encode_with", "to_display_string", "to_display_string of an error")),
+    *(f"{it}: out of memory" for it in ("clone", "from_str", "choose_palette", "Row::reach")),
 ]
 
 

@@ -12,7 +12,9 @@ mod steps;
 mod unallocated;
 
 use icy_sixel::{DcsSettings, EncodeOptions, Result, SixelDecoder, SixelImage};
-use image::{PIXELS, TEXT, TEXT_OF_TWO_COLORS, choose_colors, grow_row, is_shown, is_text};
+use image::{
+    PIXELS, TEXT, TEXT_OF_ERROR, TEXT_OF_TWO_COLORS, choose_colors, grow_row, is_shown, is_text,
+};
 use picture::{BANDS, DCS, FILLED, OVERDRAWN, PAYLOAD, RUN, RUNS, set_colors};
 use session::{DCS_CHUNKS, PAYLOAD_CHUNKS, Session, draw_payload};
 use std::io;
@@ -61,6 +63,12 @@ fn make_calls_of_image(rt: &HostRuntime, image: &SixelImage) -> io::Result<()> {
     tell(rt, "encode_with", is_text(text, TEXT_OF_TWO_COLORS))?;
     let text = image.to_display_string(alloc);
     tell(rt, "to_display_string", is_text(text, TEXT))?;
+    let text = SixelImage::from_rgba(Vec::new(alloc), 0, 4).to_display_string(alloc);
+    tell(
+        rt,
+        "to_display_string of an error",
+        is_text(text, TEXT_OF_ERROR),
+    )?;
     tell(rt, "clone", is_shown(image.clone(alloc), 1))?;
     let decoded = SixelImage::from_str(alloc, TEXT);
     tell(rt, "from_str", is_shown(decoded, 6))?;
