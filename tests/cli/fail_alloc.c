@@ -1,6 +1,7 @@
 /* Makes one allocation of a program fail. The program loads it before the C library, by LD_PRELOAD.
  *
- * FAIL_ALLOC is the number of that allocation, counted from 1. The file FAILED is made when it fails. */
+ * FAIL_ALLOC is the number of that allocation, counted from 1. The file FAILED is created when it
+ * fails. */
 #include <errno.h>
 #include <fcntl.h>
 #include <stdlib.h>

@@ -20,14 +20,23 @@ SIXEL = [
     ("encode 3 1 2", PIXELS, TEXT, [b""]),
 ]
 RUN, RUNS = "a run: out of memory", "runs over a run: out of memory"
-# The lines of sixel_allocations that differ, in the order of the allocations of one pass. The canvas draws
-# without tags if an allocation of tags fails, so no line differs then.
+# The lines of sixel_allocations that differ, in the order of the allocations of one pass. The
+# canvas draws without tags if an allocation of tags fails, so no line differs then.
 CALLS = [
-    *(f"{it}: out of memory" for it in ("decode", "decode_from_dcs", "payload session", "DCS session")),
-    *(RUN, RUNS, None, RUNS, "script::run: out of memory"),
+    "decode: out of memory",
+    "decode_from_dcs: out of memory",
+    "payload session: out of memory",
+    "DCS session: out of memory",
+    *(RUN, RUNS, None, RUNS),
+    "script::run: out of memory",
     *(f"failed step: Some({it})" for it in range(5)),
-    *(f"{it}: out of memory" for it in ("encode_with", "to_display_string", "to_display_string of an error")),
-    *(f"{it}: out of memory" for it in ("clone", "from_str", "choose_palette", "Row::reach")),
+    "encode_with: out of memory",
+    "to_display_string: out of memory",
+    "to_display_string of an error: out of memory",
+    "clone: out of memory",
+    "from_str: out of memory",
+    "choose_palette: out of memory",
+    "Row::reach: out of memory",
 ]
 
 
@@ -44,12 +53,14 @@ class Memory(unittest.TestCase):
         cls.addClassCleanup(folder.cleanup)
         cls.shim, cls.failed = Path(folder.name, "shim.so"), Path(folder.name, "failed")
         source = Path(__file__).with_name("fail_alloc.c")
-        subprocess.run(["cc", "-shared", "-fPIC", "-Wall", "-Wextra", "-Werror", "-o", cls.shim, source], check=True)
+        options = ["-shared", "-fPIC", "-Wall", "-Wextra", "-Werror"]
+        subprocess.run(["cc", *options, "-o", cls.shim, source], check=True)
 
     def failures(self, *command, stdin=b""):
         """How a program ends, for each of its allocations in turn, which fails."""
+        environment = {"LD_PRELOAD": self.shim, "FAILED": self.failed}
         for number in itertools.count(1):
-            environment = {"LD_PRELOAD": self.shim, "FAIL_ALLOC": str(number), "FAILED": self.failed}
+            environment["FAIL_ALLOC"] = str(number)
             ended = run(*command, stdin=stdin, env=environment)
             if not self.failed.exists():
                 return
@@ -57,7 +68,8 @@ class Memory(unittest.TestCase):
             yield ended
 
     def test_sixel(self):
-        for sixel, (arguments, stdin, output, beginnings) in itertools.product(builds_of("sixel"), SIXEL):
+        for sixel, row in itertools.product(builds_of("sixel"), SIXEL):
+            arguments, stdin, output, beginnings = row
             with self.subTest(sixel.name, arguments=arguments):
                 command = [sixel, *arguments.split()]
                 self.assertEqual(run(*command, stdin=stdin), (0, output, b""))
