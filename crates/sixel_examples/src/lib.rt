@@ -10,4 +10,6 @@ pub mod multiplexer;
 pub mod pieces;
 pub mod streaming;
 pub mod terminal;
+#[cfg(test)]
+mod tests;
 pub mod viewer;
