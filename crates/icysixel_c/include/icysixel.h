@@ -69,7 +69,7 @@ typedef struct {
 typedef struct {
     size_t width;  /* pixels in a row */
     size_t height; /* rows */
-    size_t bytes;  /* 4 * width * height: what the pixels take with stride 0 */
+    size_t bytes;  /* 4 * width * height, at most 4 * limit: what the pixels take with stride 0 */
     uint16_t pan;  /* the width of a pixel, as it is shown */
     uint16_t pad;  /* its height, in the same unit: 1, 2, 3 or 5 */
     uint8_t p1;    /* a P1 that asks for this shape of a pixel: 9, 0, 3 or 2 */
@@ -119,7 +119,7 @@ enum {
     ICYSIXEL_MALFORMED = 13,          /* a command that breaks the grammar or a limit */
     ICYSIXEL_TOO_LARGE = 14,          /* the image has more pixels than the limit */
     ICYSIXEL_BAD_HEADER = 15,         /* a byte that has no place in the header */
-    ICYSIXEL_MISSING_COMMAND = 16,    /* the control string ended in its header */
+    ICYSIXEL_MISSING_COMMAND = 16,    /* icysixel_decode alone: the bytes end in the header */
     ICYSIXEL_INCOMPLETE = 17,         /* the control string has not ended */
     ICYSIXEL_STREAM_FAILED = 18,      /* the payload was refused before: begin another */
     ICYSIXEL_DCS_STREAM_FAILED = 19   /* the control string was refused before: begin another */
@@ -157,7 +157,8 @@ uint32_t icysixel_begin_payload(icysixel *handle, int32_t p1, int32_t p2, int32_
 /* Reads a piece of the image that is open. Pieces may end anywhere; how the bytes are cut changes no
  * answer. It is refused with ICYSIXEL_NO_SESSION where no image is open, with what is wrong with the
  * bytes so far, or for want of memory. A refusal is kept: each further feed and finish of the image is
- * ICYSIXEL_STREAM_FAILED of a payload, ICYSIXEL_DCS_STREAM_FAILED of a control string. */
+ * ICYSIXEL_STREAM_FAILED of a payload, ICYSIXEL_DCS_STREAM_FAILED of a control string. A feed after the
+ * end of the image returns ICYSIXEL_DONE, consumes nothing and reports the same status again. */
 uint32_t icysixel_feed(icysixel *handle, const uint8_t *piece, size_t length, icysixel_fed *fed);
 
 /* 1 where an image is open, as it was begun, and neither finished nor given up; else 0. */
@@ -171,17 +172,17 @@ uint8_t icysixel_in_payload(icysixel *handle);
 uint32_t icysixel_size_so_far(icysixel *handle, icysixel_size *size);
 
 /* How many pixels were copied or filled so far, to grow the rows of the image that is open; 0 where
- * none is, and after a refusal. At most three times the area that its sixels reach. */
+ * none is, and after an error. At most three times the area that its sixels reach. */
 uint64_t icysixel_canvas_writes(icysixel *handle);
 
 /* How many pixels sixels of the image that is open have painted so far, at most; 0 where none is, and
- * after a refusal. At most three times the area that its sixels reach, and 4602 for each sixel. */
+ * after an error. At most three times the area that its sixels reach, and 4602 for each sixel. */
 uint64_t icysixel_canvas_paints(icysixel *handle);
 
 /* Closes the image that is open, keeps it in place of the one that was kept before, and tells its shape.
- * The decoder then has the registers that the image left. It is refused as icysixel_feed is, and with
- * ICYSIXEL_MISSING_COMMAND or ICYSIXEL_INCOMPLETE where a control string has not ended; a payload may
- * end anywhere. A refusal closes the image too, and changes no register; no image is kept then. */
+ * The decoder then has the registers that the image left. It fails as icysixel_feed does, and with
+ * ICYSIXEL_INCOMPLETE where a DCS sequence has not ended. A payload may end anywhere. An error closes
+ * the image too and changes no register; no image is stored then. */
 uint32_t icysixel_finish(icysixel *handle, icysixel_shape *shape);
 
 /* Gives up the image that is open, if one is. The decoder stays as it is. */
@@ -191,7 +192,8 @@ uint32_t icysixel_abort(icysixel *handle);
 
 /* Decodes the first control string in the bytes, or all of them as a payload if there is none, keeps the
  * image, and tells its shape, as icysixel_finish does. It need not have ended. It is refused with what is
- * wrong with the bytes, or for want of memory. An image that is open is given up. */
+ * wrong with the bytes, or for want of memory. Where the bytes end in the header of the DCS sequence, the
+ * code is ICYSIXEL_MISSING_COMMAND. An image that is open is given up. */
 uint32_t icysixel_decode(icysixel *handle, const uint8_t *bytes, size_t length, icysixel_shape *shape);
 
 /* The same of one payload, with the parameters of icysixel_begin_payload. */
@@ -201,9 +203,9 @@ uint32_t icysixel_decode_payload(icysixel *handle, const uint8_t *bytes, size_t 
 /* -- The image that is kept -- */
 
 /* Moves the pixels of the image that is kept into the room: row n begins at n * stride, and has 4 * width
- * bytes; what lies between two rows is left as it was. `wanted` is told how many bytes that takes, also
- * where the answer is ICYSIXEL_SMALL_ROOM; it is 0 with ICYSIXEL_NO_IMAGE and ICYSIXEL_BAD_STRIDE. A
- * refusal leaves the room as it was, and the image where it is. It takes no memory. */
+ * bytes; what lies between two rows is left as it was. Writes to `wanted` how many bytes that takes, also
+ * with ICYSIXEL_SMALL_ROOM. With any other error `wanted` is 0. An error changes neither the room nor the
+ * stored image. It does not allocate. */
 uint32_t icysixel_pixels(icysixel *handle, uint8_t *room, size_t length, size_t stride,
                          size_t *wanted);
 
@@ -259,9 +261,9 @@ uint32_t icysixel_encode(icysixel *handle, const uint8_t *pixels, size_t length,
                          size_t width, size_t height, int32_t p1, int32_t p2, uint16_t max_colors,
                          size_t *text_length);
 
-/* Moves the text that is kept into the room, a control string without a zero after it. `wanted` is told
- * how many bytes it has, also where the answer is ICYSIXEL_SMALL_ROOM; it is 0 with ICYSIXEL_NO_TEXT. A
- * refusal leaves the room as it was, and the text where it is. It takes no memory. */
+/* Moves the text that is kept into the room, a DCS sequence without a zero after it. Writes to `wanted`
+ * how many bytes the text has, also with ICYSIXEL_SMALL_ROOM. With any other error `wanted` is 0. An error
+ * changes neither the room nor the stored text. It does not allocate. */
 uint32_t icysixel_take_text(icysixel *handle, uint8_t *room, size_t length, size_t *wanted);
 
 /* -- Palettes -- */
@@ -291,9 +293,9 @@ uint32_t icysixel_choose_palette(const uint8_t *pixels, size_t length, uint16_t 
 
 /* -- Words -- */
 
-/* Writes what a code means, in English, and a zero after it, into the room; into room that is too small for
- * both, a zero alone. Answers how many bytes the text has, without the zero. What is not a code is
- * "unknown code". */
+/* Writes what a code means, in English, and a zero after it, into the room. If the room is too small for
+ * both, writes a zero alone at its start. The rest of the room does not change. Returns how many bytes the
+ * text has, without the zero. The text of any other number is "unknown code". */
 size_t icysixel_text(uint32_t code, uint8_t *room, size_t length);
 
 #ifdef __cplusplus

@@ -1,5 +1,9 @@
 pub mod AsBox
 pub mod AsBytes
 pub mod Dense
+pub mod Ended
+pub mod Known
+pub mod MissingCommand
 pub mod Spread
+pub mod Stored
 pub mod Witnesses

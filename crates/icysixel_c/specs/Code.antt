@@ -1,6 +1,6 @@
 -- The numbers that C is told: a code for each cause of a refusal, and how an image stands that is received. This library's own;
 -- include/icysixel.h names them for C. Here 8 is want of memory, 9 an overflow, and from 10 on what is wrong with sizes and data.
-use Rattle.std.specs.Prelude.{◌≡◌, ℕ, nat_le, ℤ, pos, negsuc, Bool, IsTrue, if◌then◌else◌, ◌⊎◌, Option, Some, None, IsSomeAnd}
+use Rattle.std.specs.Prelude.{◌≡◌, ℕ, nat_le, ℤ, pos, negsuc, Bool, IsTrue, if◌then◌else◌, ◌⊎◌, List, Option, Some, None, IsSomeAnd}
 use Rattle.sixel_base.specs.Fault.{Fault, text_of, Malformed, TooLarge, MissingCommand, BadHeader, StreamFailed, DcsStreamFailed, Incomplete, NoIntroducer, Overflow}
 use Rattle.sixel_base.specs.Settings.{Settings}
 use Rattle.sixel_base.specs.declared.error.SixelError.{SixelError}
@@ -34,6 +34,19 @@ IsCodeOf code (error.InvalidDimensions width height) = code ≡ 10
 IsCodeOf code (error.BufferSizeMismatch expected actual) = code ≡ 11
 IsCodeOf code error.NoSixelData = code ≡ 12
 IsCodeOf code (error.InvalidData text) = (fault : Fault) → text_of fault ≡ Some text.now → code ≡ fault_code fault
+
+-- a text that an error has with invalid data: that of a fault
+abbrev pub IsFaultText : List ℕ → Type 0
+IsFaultText text = (fault : Fault) × (text_of fault ≡ Some text)
+
+-- an error with a text has that of a fault
+abbrev pub IsKnown : SixelError → Type 0
+IsKnown error.OutOfMemory = Unit {0}
+IsKnown error.IntegerOverflow = Unit {0}
+IsKnown (error.InvalidDimensions width height) = Unit {0}
+IsKnown (error.BufferSizeMismatch expected actual) = Unit {0}
+IsKnown error.NoSixelData = Unit {0}
+IsKnown (error.InvalidData text) = IsFaultText text.now
 
 -- a parameter of a control string: a number that is none of 0 to 65535 is an absent one
 abbrev pub given : ℤ → Option ℕ

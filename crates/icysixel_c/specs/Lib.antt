@@ -1,6 +1,8 @@
 pub mod Code
 pub mod Colors
 pub mod Drawn
+pub mod Feed
+pub mod Finish
 pub mod Kept
 pub mod Rows
 pub mod Shape

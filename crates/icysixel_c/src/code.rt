@@ -1,8 +1,8 @@
 //! The numbers that C sees.
 
-ghost use Rattle.std.specs.Prelude.{◌≡◌, ◌≢◌, Bool, Option, Some, codes};
+ghost use Rattle.std.specs.Prelude.{◌≡◌, ◌≢◌, Bool, Option, Some};
 ghost use Rattle.sixel_base.specs.Fault.{Fault, Faults, IsFault, text_of};
-ghost use Rattle.icysixel_c.specs.Code.{IsCodeOf, IsTold, fault_code};
+ghost use Rattle.icysixel_c.specs.Code.{IsCodeOf, IsFaultText, IsKnown, IsTold, fault_code};
 ghost use Rattle.icysixel_c.specs.Code.{status_code, status_byte};
 
 use icy_sixel::script::Status;
@@ -49,8 +49,9 @@ pub const STREAM_FAILED: u32 = 18;
 /// The control string was refused before.
 pub const DCS_STREAM_FAILED: u32 = 19;
 
-/// The code of a refusal.
+/// The code of an error.
 pub fn code_of(error: &SixelError) -> u32
+    requires { IsKnown error.now }
     ensures fault { (fault : Fault) → IsFault error.now fault → result ≡ fault_code fault }
     ensures told { (may_want : Bool) (found : Option Fault) → Faults error.now may_want found
         → IsTold result may_want found }
@@ -68,31 +69,21 @@ pub fn code_of(error: &SixelError) -> u32
     }
 }
 
-/// The code of data that are refused with this text.
+/// The code of invalid data, by the text of the error.
 fn text_code(text: &str) -> u32
+    requires { IsFaultText text.now }
     ensures fault { (fault : Fault) → text_of fault ≡ Some text.now → result ≡ fault_code fault }
     ensures refused { result ≢ 0 }
 {
     match text {
+        "malformed SIXEL data" => MALFORMED,
         "image dimensions too large" => TOO_LARGE,
-        "stream decoder has failed" => STREAM_FAILED,
-        _ => string_code(text),
-    }
-}
-
-/// The code of data that are refused with this text, which is none of a payload alone.
-fn string_code(text: &str) -> u32
-    requires size { text.now ≢ codes "image dimensions too large" }
-    requires stream { text.now ≢ codes "stream decoder has failed" }
-    ensures fault { (fault : Fault) → text_of fault ≡ Some text.now → result ≡ fault_code fault }
-    ensures refused { result ≢ 0 }
-{
-    match text {
         "invalid SIXEL DCS header" => BAD_HEADER,
         "missing SIXEL DCS command" => MISSING_COMMAND,
         "incomplete SIXEL DCS sequence" => INCOMPLETE,
+        "stream decoder has failed" => STREAM_FAILED,
         "DCS stream decoder has failed" => DCS_STREAM_FAILED,
-        _ => MALFORMED,
+        _ => unreachable!(),
     }
 }
 

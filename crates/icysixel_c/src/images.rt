@@ -9,6 +9,7 @@ ghost use Rattle.icy_sixel.specs.ImageView.{image_value};
 ghost use Rattle.icy_sixel.specs.Receiver.{end_fault, end_wants, failed, found, is_open, no_image};
 ghost use Rattle.icy_sixel.specs.declared.sixel_image.SixelImage.{SixelImage};
 ghost use Rattle.icysixel_c.specs.Code.{IsTold, fault_code};
+ghost use Rattle.icysixel_c.specs.Finish.{IsFinished};
 ghost use Rattle.icysixel_c.specs.Kept.{kept_image};
 ghost use Rattle.icysixel_c.specs.Rows.{AreGapsKept, bytes_of, rows_of, stride_of, wanted};
 ghost use Rattle.icysixel_c.specs.Shape.{shape_of};
@@ -30,48 +31,9 @@ use std::mem;
 pub extern "C" fn icysixel_finish(slot: &mut Slot, shape: &mut Shape) -> u32
     ensures held { is_some slot.new.handle.state ≡ is_some slot.old.handle.state }
     ensures none { slot.old.handle.state ≡ None → result ≡ 1 }
-    ensures unopened { (before : State) → slot.old.handle.state ≡ Some before
-        → is_open before.receiver.image.form ≡ false → result ≡ 2 }
-    ensures closed { (after : State) → slot.new.handle.state ≡ Some after
-        → after.receiver.image ≡ no_image }
-    ensures found { (after : State) → slot.new.handle.state ≡ Some after → result ≡ 0
-        → is_some after.image ≡ true }
-    ensures image { (before after : State) (image : SixelImage)
-        → slot.old.handle.state ≡ Some before → slot.new.handle.state ≡ Some after
-        → after.image ≡ Some image → IsFoundImage before.receiver.image.start
-        (found before.receiver.image.form before.receiver.image.bytes) (image_value image) }
-    ensures shape { (after : State) (image : SixelImage) → slot.new.handle.state ≡ Some after
-        → after.image ≡ Some image → shape.new ≡ shape_of (image_value image) }
-    ensures registers { (before after : State) → slot.old.handle.state ≡ Some before
-        → slot.new.handle.state ≡ Some after → result ≡ 0
-        → AreFoundRegisters before.receiver.image.start
-        (found before.receiver.image.form before.receiver.image.bytes)
-        after.receiver.decoder.registers }
-    ensures accepted { (before : State) → slot.old.handle.state ≡ Some before → result ≡ 0
-        → before.receiver.image.is_refused ≡ false }
-    ensures faultless { (before : State) → slot.old.handle.state ≡ Some before → result ≡ 0
-        → end_fault before.receiver.image.start.pixel_limit
-        before.receiver.image.form before.receiver.image.bytes ≡ None }
-    ensures set { (before after : State) → slot.old.handle.state ≡ Some before
-        → slot.new.handle.state ≡ Some after
-        → IsSetAs before.receiver.decoder after.receiver.decoder }
-    ensures text { (before after : State) → slot.old.handle.state ≡ Some before
-        → slot.new.handle.state ≡ Some after → after.text ≡ before.text }
-    ensures kept { (before after : State) → slot.old.handle.state ≡ Some before
-        → slot.new.handle.state ≡ Some after → result ≢ 0
-        → after.receiver.decoder ≡ before.receiver.decoder }
-    ensures dropped { (after : State) → slot.new.handle.state ≡ Some after → result ≢ 0
-        → after.image ≡ None }
-    ensures refused { (before : State) → slot.old.handle.state ≡ Some before
-        → is_open before.receiver.image.form ≡ true → before.receiver.image.is_refused ≡ false
-        → result ≢ 0 → IsTold result
-        (end_wants before.receiver.image.start.pixel_limit
-        before.receiver.image.form before.receiver.image.bytes)
-        (end_fault before.receiver.image.start.pixel_limit
-        before.receiver.image.form before.receiver.image.bytes) }
-    ensures again { (before : State) → slot.old.handle.state ≡ Some before
-        → is_open before.receiver.image.form ≡ true → before.receiver.image.is_refused ≡ true
-        → result ≡ fault_code (failed before.receiver.image.form) }
+    ensures finished { (before after : State) → slot.old.handle.state ≡ Some before
+        → slot.new.handle.state ≡ Some after → IsFinished before after shape.new result }
+    ensures commanded { result ≢ 16 }
     ensures told { result ≢ 0 → shape.new ≡ shape.old }
 {
     if !slot.is_held() {
@@ -83,34 +45,7 @@ pub extern "C" fn icysixel_finish(slot: &mut Slot, shape: &mut Shape) -> u32
 /// Closes the image, keeps it in place of the one before, and tells its shape where the answer is
 /// 0.
 fn finish(state: &mut State, shape: &mut Shape) -> u32
-    ensures unopened { is_open state.old.receiver.image.form ≡ false → result ≡ 2 }
-    ensures closed { state.new.receiver.image ≡ no_image }
-    ensures found { result ≡ 0 → is_some state.new.image ≡ true }
-    ensures image { (image : SixelImage) → state.new.image ≡ Some image
-        → IsFoundImage state.old.receiver.image.start
-        (found state.old.receiver.image.form state.old.receiver.image.bytes) (image_value image) }
-    ensures shape { (image : SixelImage) → state.new.image ≡ Some image
-        → shape.new ≡ shape_of (image_value image) }
-    ensures registers { result ≡ 0 → AreFoundRegisters state.old.receiver.image.start
-        (found state.old.receiver.image.form state.old.receiver.image.bytes)
-        state.new.receiver.decoder.registers }
-    ensures accepted { result ≡ 0 → state.old.receiver.image.is_refused ≡ false }
-    ensures faultless { result ≡ 0 → end_fault state.old.receiver.image.start.pixel_limit
-        state.old.receiver.image.form state.old.receiver.image.bytes ≡ None }
-    ensures set { IsSetAs state.old.receiver.decoder state.new.receiver.decoder }
-    ensures text { state.new.text ≡ state.old.text }
-    ensures kept { result ≢ 0 → state.new.receiver.decoder ≡ state.old.receiver.decoder }
-    ensures dropped { result ≢ 0 → state.new.image ≡ None }
-    ensures refused { is_open state.old.receiver.image.form ≡ true
-        → state.old.receiver.image.is_refused ≡ false → result ≢ 0
-        → IsTold result
-        (end_wants state.old.receiver.image.start.pixel_limit
-        state.old.receiver.image.form state.old.receiver.image.bytes)
-        (end_fault state.old.receiver.image.start.pixel_limit
-        state.old.receiver.image.form state.old.receiver.image.bytes) }
-    ensures again { is_open state.old.receiver.image.form ≡ true
-        → state.old.receiver.image.is_refused ≡ true
-        → result ≡ fault_code (failed state.old.receiver.image.form) }
+    ensures finished { IsFinished state.old state.new shape.new result }
     ensures told { result ≢ 0 → shape.new ≡ shape.old }
 {
     state.keep_image(None);
@@ -142,8 +77,7 @@ pub extern "C" fn icysixel_pixels(
     ensures bytes { (before : State) (image : Image) (size : ℕ)
         → slot.old.handle.state ≡ Some before → kept_image before ≡ Some image
         → bytes_of stride image ≡ Some size → bytes.new ≡ size }
-    ensures no_bytes { (before : State) → slot.old.handle.state ≡ Some before
-        → kept_image before ≡ None → bytes.new ≡ 0 }
+    ensures no_bytes { result ≢ 0 → result ≢ 6 → bytes.new ≡ 0 }
     ensures moved { (before : State) (image : Image) (size : ℕ)
         → slot.old.handle.state ≡ Some before → kept_image before ≡ Some image
         → bytes_of stride image ≡ Some size → size ≤ length room.old → result ≡ 0 }
@@ -185,7 +119,7 @@ pub extern "C" fn icysixel_pixels(
 fn copied(image: &SixelImage, room: &mut [u8], stride: usize, bytes: &mut usize) -> u32
     requires { length image.now.pixels.items ≡ 4 * (image.now.width * image.now.height) }
     ensures bad_stride { bytes_of stride (image_value image.now) ≡ None → result ≡ 7 }
-    ensures no_bytes { bytes_of stride (image_value image.now) ≡ None → bytes.new ≡ bytes.old }
+    ensures no_bytes { result ≢ 0 → result ≢ 6 → bytes.new ≡ bytes.old }
     ensures small { (size : ℕ) → bytes_of stride (image_value image.now) ≡ Some size
         → length room.old < size → result ≡ 6 }
     ensures bytes { (size : ℕ) → bytes_of stride (image_value image.now) ≡ Some size
@@ -219,7 +153,7 @@ fn copied_rows(
 ) -> u32
     requires { length rows.now ≡ wide * height }
     ensures bad_stride { wanted stride wide height ≡ None → result ≡ 7 }
-    ensures no_bytes { wanted stride wide height ≡ None → bytes.new ≡ bytes.old }
+    ensures no_bytes { result ≢ 0 → result ≢ 6 → bytes.new ≡ bytes.old }
     ensures small { (size : ℕ) → wanted stride wide height ≡ Some size
         → length room.old < size → result ≡ 6 }
     ensures bytes { (size : ℕ) → wanted stride wide height ≡ Some size → bytes.new ≡ size }

@@ -1,6 +1,6 @@
 //! What C calls to decode in one call.
 
-ghost use Rattle.std.specs.Prelude.{◌≡◌, ◌≢◌, Some, None, is_some, true};
+ghost use Rattle.std.specs.Prelude.{◌≡◌, ◌≢◌, ◌*◌, ◌≤◌, Some, None, is_some, true};
 ghost use Rattle.sixel_base.specs.Decoder.{IsSetAs, origin_of};
 ghost use Rattle.sixel_base.specs.OneShot.{IsFoundImage, AreFoundRegisters};
 ghost use Rattle.sixel_base.specs.OneShot.{found, found_fault, found_wants};
@@ -42,6 +42,9 @@ pub extern "C" fn icysixel_decode(
         → IsFoundImage before.receiver.decoder (found bytes.now) (image_value image) }
     ensures shape { (after : State) (image : SixelImage) → slot.new.handle.state ≡ Some after
         → after.image ≡ Some image → shape.new ≡ shape_of (image_value image) }
+    ensures bytes { result ≡ 0 → shape.new.bytes ≡ 4 * (shape.new.width * shape.new.height) }
+    ensures area { (before : State) → slot.old.handle.state ≡ Some before → result ≡ 0
+        → shape.new.width * shape.new.height ≤ before.receiver.decoder.pixel_limit }
     ensures registers { (before after : State) → slot.old.handle.state ≡ Some before
         → slot.new.handle.state ≡ Some after → result ≡ 0
         → AreFoundRegisters before.receiver.decoder (found bytes.now)
@@ -96,6 +99,9 @@ pub extern "C" fn icysixel_decode_payload(
         ≡ payload_image (origin_of before.receiver.decoder (settings_of p1 p2 grid)) bytes.now }
     ensures shape { (after : State) (image : SixelImage) → slot.new.handle.state ≡ Some after
         → after.image ≡ Some image → shape.new ≡ shape_of (image_value image) }
+    ensures bytes { result ≡ 0 → shape.new.bytes ≡ 4 * (shape.new.width * shape.new.height) }
+    ensures area { (before : State) → slot.old.handle.state ≡ Some before → result ≡ 0
+        → shape.new.width * shape.new.height ≤ before.receiver.decoder.pixel_limit }
     ensures registers { (before after : State) → slot.old.handle.state ≡ Some before
         → slot.new.handle.state ≡ Some after → result ≡ 0 → after.receiver.decoder.registers
         ≡ payload_registers (origin_of before.receiver.decoder (settings_of p1 p2 grid)) bytes.now }

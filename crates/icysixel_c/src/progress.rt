@@ -57,6 +57,8 @@ pub extern "C" fn icysixel_canvas_writes(slot: &mut Slot) -> u64
         → result ≡ state.receiver.image.writes }
     ensures at_most { (state : State) → slot.old.handle.state ≡ Some state
         → result ≤ 3 * reached_area state.receiver.image.form state.receiver.image.bytes }
+    ensures refused { (state : State) → slot.old.handle.state ≡ Some state
+        → state.receiver.image.is_refused ≡ true → result ≡ 0 }
 {
     if !slot.is_held() {
         return 0;
@@ -74,6 +76,8 @@ pub extern "C" fn icysixel_canvas_paints(slot: &mut Slot) -> u64
     ensures at_most { (state : State) → slot.old.handle.state ≡ Some state
         → result ≤ 3 * reached_area state.receiver.image.form state.receiver.image.bytes
         + 4602 * sixels state.receiver.image.form state.receiver.image.bytes }
+    ensures refused { (state : State) → slot.old.handle.state ≡ Some state
+        → state.receiver.image.is_refused ≡ true → result ≡ 0 }
 {
     if !slot.is_held() {
         return 0;

@@ -8,6 +8,7 @@ ghost use Rattle.icy_sixel.specs.Receiver.{count, status, fault, failed, growths
 ghost use Rattle.icysixel_c.specs.Code.{IsTold, fault_code, settings_of};
 ghost use Rattle.icysixel_c.specs.Code.{status_code as code_of_status};
 ghost use Rattle.icysixel_c.specs.Code.{status_byte as byte_of_status};
+ghost use Rattle.icysixel_c.specs.Feed.{IsFed};
 ghost use Rattle.icysixel_c.specs.Kept.{AreKept};
 ghost use Rattle.icysixel_c.specs.declared.state.State.{State};
 
@@ -136,56 +137,9 @@ fn begin_payload(receiver: &mut SixelReceiver, alloc: Global, p1: i32, p2: i32, 
 pub extern "C" fn icysixel_feed(slot: &mut Slot, piece: &[u8], fed: &mut Fed) -> u32
     ensures held { is_some slot.new.handle.state ≡ is_some slot.old.handle.state }
     ensures none { slot.old.handle.state ≡ None → result ≡ 1 }
-    ensures closed { (before : State) → slot.old.handle.state ≡ Some before
-        → is_open before.receiver.image.form ≡ false → result ≡ 2 }
-    ensures decoder { (before after : State) → slot.old.handle.state ≡ Some before
+    ensures fed { (before after : State) → slot.old.handle.state ≡ Some before
         → slot.new.handle.state ≡ Some after
-        → after.receiver.decoder ≡ before.receiver.decoder }
-    ensures kept { (before after : State) → slot.old.handle.state ≡ Some before
-        → slot.new.handle.state ≡ Some after → AreKept before after }
-    ensures form { (before after : State) → slot.old.handle.state ≡ Some before
-        → slot.new.handle.state ≡ Some after
-        → after.receiver.image.form ≡ before.receiver.image.form }
-    ensures start { (before after : State) → slot.old.handle.state ≡ Some before
-        → slot.new.handle.state ≡ Some after
-        → after.receiver.image.start ≡ before.receiver.image.start }
-    ensures bytes { (before after : State) → slot.old.handle.state ≡ Some before
-        → slot.new.handle.state ≡ Some after → is_open before.receiver.image.form ≡ true
-        → after.receiver.image.bytes ≡ before.receiver.image.bytes ++ piece.now }
-    ensures unchanged { (before : State) → slot.old.handle.state ≡ Some before
-        → is_open before.receiver.image.form ≡ false
-        → slot.new.handle.state ≡ slot.old.handle.state }
-    ensures accepted { (after : State) → slot.new.handle.state ≡ Some after → result ≡ 0
-        → after.receiver.image.is_refused ≡ false }
-    ensures failed { (before after : State) → slot.old.handle.state ≡ Some before
-        → slot.new.handle.state ≡ Some after → is_open before.receiver.image.form ≡ true
-        → result ≢ 0 → after.receiver.image.is_refused ≡ true }
-    ensures faultless { (before after : State) → slot.old.handle.state ≡ Some before
-        → slot.new.handle.state ≡ Some after → result ≡ 0
-        → fault before.receiver.image.start.pixel_limit after.receiver.image.form
-        after.receiver.image.bytes ≡ None }
-    ensures consumed { (before after : State) → slot.old.handle.state ≡ Some before
-        → slot.new.handle.state ≡ Some after → result ≡ 0
-        → count before.receiver.image.form before.receiver.image.bytes + fed.new.consumed
-        ≡ count after.receiver.image.form after.receiver.image.bytes }
-    ensures within { result ≡ 0 → fed.new.consumed ≤ length piece.now }
-    ensures status { (after : State) → slot.new.handle.state ≡ Some after → result ≡ 0
-        → fed.new.status
-        ≡ code_of_status (status after.receiver.image.form after.receiver.image.bytes) }
-    ensures byte { (after : State) → slot.new.handle.state ≡ Some after → result ≡ 0
-        → fed.new.byte
-        ≡ byte_of_status (status after.receiver.image.form after.receiver.image.bytes) }
-    ensures refused { (before after : State) → slot.old.handle.state ≡ Some before
-        → slot.new.handle.state ≡ Some after → is_open before.receiver.image.form ≡ true
-        → before.receiver.image.is_refused ≡ false → result ≢ 0
-        → IsTold result
-        (nat_lt (growths before.receiver.image.form before.receiver.image.bytes)
-        (growths after.receiver.image.form after.receiver.image.bytes))
-        (fault before.receiver.image.start.pixel_limit
-        after.receiver.image.form after.receiver.image.bytes) }
-    ensures again { (before : State) → slot.old.handle.state ≡ Some before
-        → is_open before.receiver.image.form ≡ true → before.receiver.image.is_refused ≡ true
-        → result ≡ fault_code (failed before.receiver.image.form) }
+        → IsFed before after piece.now fed.new result }
     ensures told { result ≢ 0 → fed.new ≡ fed.old }
 {
     if !slot.is_held() {
@@ -196,38 +150,7 @@ pub extern "C" fn icysixel_feed(slot: &mut Slot, piece: &[u8], fed: &mut Fed) ->
 
 /// Reads a piece of the image that is open, if one is, and tells what it did where the answer is 0.
 fn feed(state: &mut State, piece: &[u8], fed: &mut Fed) -> u32
-    ensures closed { is_open state.old.receiver.image.form ≡ false → result ≡ 2 }
-    ensures unchanged { is_open state.old.receiver.image.form ≡ false
-        → state.new ≡ state.old }
-    ensures decoder { state.new.receiver.decoder ≡ state.old.receiver.decoder }
-    ensures kept { AreKept state.old state.new }
-    ensures form { state.new.receiver.image.form ≡ state.old.receiver.image.form }
-    ensures start { state.new.receiver.image.start ≡ state.old.receiver.image.start }
-    ensures bytes { is_open state.old.receiver.image.form ≡ true
-        → state.new.receiver.image.bytes ≡ state.old.receiver.image.bytes ++ piece.now }
-    ensures accepted { result ≡ 0 → state.new.receiver.image.is_refused ≡ false }
-    ensures failed { is_open state.old.receiver.image.form ≡ true → result ≢ 0
-        → state.new.receiver.image.is_refused ≡ true }
-    ensures faultless { result ≡ 0 → fault state.old.receiver.image.start.pixel_limit
-        state.new.receiver.image.form state.new.receiver.image.bytes ≡ None }
-    ensures consumed { result ≡ 0
-        → count state.old.receiver.image.form state.old.receiver.image.bytes + fed.new.consumed
-        ≡ count state.new.receiver.image.form state.new.receiver.image.bytes }
-    ensures within { result ≡ 0 → fed.new.consumed ≤ length piece.now }
-    ensures status { result ≡ 0 → fed.new.status
-        ≡ code_of_status (status state.new.receiver.image.form state.new.receiver.image.bytes) }
-    ensures byte { result ≡ 0 → fed.new.byte
-        ≡ byte_of_status (status state.new.receiver.image.form state.new.receiver.image.bytes) }
-    ensures refused { is_open state.old.receiver.image.form ≡ true
-        → state.old.receiver.image.is_refused ≡ false → result ≢ 0
-        → IsTold result
-        (nat_lt (growths state.old.receiver.image.form state.old.receiver.image.bytes)
-        (growths state.new.receiver.image.form state.new.receiver.image.bytes))
-        (fault state.old.receiver.image.start.pixel_limit
-        state.new.receiver.image.form state.new.receiver.image.bytes) }
-    ensures again { is_open state.old.receiver.image.form ≡ true
-        → state.old.receiver.image.is_refused ≡ true
-        → result ≡ fault_code (failed state.old.receiver.image.form) }
+    ensures fed { IsFed state.old state.new piece.now fed.new result }
     ensures told { result ≢ 0 → fed.new ≡ fed.old }
 {
     if !state.receiver.is_receiving() {

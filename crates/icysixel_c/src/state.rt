@@ -1,13 +1,13 @@
 //! What a handle leads to.
 
-ghost use Rattle.std.specs.Prelude.{◌≡◌, ◌≢◌, ◌*◌, Bool, Option, Some, None, length};
+ghost use Rattle.std.specs.Prelude.{◌≡◌, ◌≢◌, ◌*◌, ◌≤◌, ℕ, Bool, Option, Some, None, length};
 ghost use Rattle.std.specs.Prelude.{OnOk, OnErr, IfOk, IfErr, string_bytes};
 ghost use Rattle.std.specs.Option.{ForSome};
 ghost use Rattle.sixel_base.specs.Decoder.{new_decoder};
 ghost use Rattle.sixel_base.specs.Fault.{Fault, Faults, IsFault};
 ghost use Rattle.icy_sixel.specs.ImageView.{image_value};
 ghost use Rattle.icy_sixel.specs.Receiver.{no_image};
-ghost use Rattle.icysixel_c.specs.Code.{IsTold, fault_code};
+ghost use Rattle.icysixel_c.specs.Code.{IsKnown, IsTold, fault_code};
 ghost use Rattle.icysixel_c.specs.Shape.{shape_of};
 
 use crate::code::{DONE, code_of};
@@ -63,10 +63,14 @@ impl State {
     /// Keeps an image that was decoded and tells its shape, or keeps none and gives the code of the
     /// refusal.
     pub fn keep_answer(&mut self, answer: Result<SixelImage, SixelError>, shape: &mut Shape) -> u32
-        requires { IfOk answer (λ i. length i.pixels.items ≡ 4 * (i.width * i.height)) }
+        requires pixels { IfOk answer (λ i. length i.pixels.items ≡ 4 * (i.width * i.height)) }
+        requires known { IfErr answer IsKnown }
         ensures done { OnOk answer (result ≡ 0) }
         ensures image { IfOk answer (λ image. self.new.image ≡ Some image) }
         ensures shape { IfOk answer (λ image. shape.new ≡ shape_of (image_value image)) }
+        ensures bytes { result ≡ 0 → shape.new.bytes ≡ 4 * (shape.new.width * shape.new.height) }
+        ensures area { (limit : ℕ) → result ≡ 0 → IfOk answer (λ i. i.width * i.height ≤ limit)
+            → shape.new.width * shape.new.height ≤ limit }
         ensures refused { OnErr answer (result ≢ 0) }
         ensures dropped { OnErr answer (self.new.image ≡ None) }
         ensures told { OnErr answer (shape.new ≡ shape.old) }

@@ -202,7 +202,8 @@ pub extern "C" fn icysixel_take_text(slot: &mut Slot, room: &mut [u8], bytes: &m
     ensures held { is_some slot.new.handle.state ≡ is_some slot.old.handle.state }
     ensures none { slot.old.handle.state ≡ None → result ≡ 1 }
     ensures no_text { (before : State) → slot.old.handle.state ≡ Some before
-        → kept_text before ≡ None → (result ≡ 5) × (bytes.new ≡ 0) }
+        → kept_text before ≡ None → result ≡ 5 }
+    ensures no_bytes { result ≢ 0 → result ≢ 6 → bytes.new ≡ 0 }
     ensures small { (before : State) (text : List ℕ) → slot.old.handle.state ≡ Some before
         → kept_text before ≡ Some text → length room.old < length text → result ≡ 6 }
     ensures moved { (before : State) (text : List ℕ) → slot.old.handle.state ≡ Some before

@@ -1,6 +1,6 @@
 //! What C calls to tell a person what a code means.
 
-ghost use Rattle.std.specs.Prelude.{◌≡◌, ◌<◌, ◌≤◌, length, slice_index, slice_range};
+ghost use Rattle.std.specs.Prelude.{◌≡◌, ◌+◌, ◌<◌, ◌≤◌, ◌∷◌, ◌++◌, length, drop};
 ghost use Rattle.icysixel_c.specs.Words.{words};
 
 /// Writes what a code means and a zero into the room, if both fit, and tells how many bytes the
@@ -8,10 +8,10 @@ ghost use Rattle.icysixel_c.specs.Words.{words};
 #[unsafe(no_mangle)]
 pub extern "C" fn icysixel_text(code: u32, room: &mut [u8]) -> usize
     ensures length { result ≡ length (words code) }
-    ensures text { result < length room.old → slice_range room.new 0 result ≡ words code }
-    ensures zero { result < length room.old → slice_index room.new result ≡ 0 }
+    ensures text { result < length room.old
+        → room.new ≡ words code ++ (0 ∷ drop (result + 1) room.old) }
     ensures empty { 0 < length room.old → length room.old ≤ result
-        → slice_index room.new 0 ≡ 0 }
+        → room.new ≡ 0 ∷ drop 1 room.old }
 {
     write_text(words(code).as_bytes(), room)
 }
@@ -19,10 +19,10 @@ pub extern "C" fn icysixel_text(code: u32, room: &mut [u8]) -> usize
 /// Writes a text and a zero into the room, or a zero alone, and tells how many bytes the text has.
 fn write_text(text: &[u8], room: &mut [u8]) -> usize
     ensures length { result ≡ length text.now }
-    ensures text { result < length room.old → slice_range room.new 0 result ≡ text.now }
-    ensures zero { result < length room.old → slice_index room.new result ≡ 0 }
+    ensures text { result < length room.old
+        → room.new ≡ text.now ++ (0 ∷ drop (result + 1) room.old) }
     ensures empty { 0 < length room.old → length room.old ≤ result
-        → slice_index room.new 0 ≡ 0 }
+        → room.new ≡ 0 ∷ drop 1 room.old }
 {
     if text.len() < room.len() {
         room[..text.len()].copy_from_slice(text);

@@ -17,11 +17,6 @@ returns-clause-bad_stride c =
     let wide : 4 * c.args.image.now.width ≡ c.in-Some.wide = omega (arith, c.in-Some.ensures.1) in
     rw (wide, ← c.stride_of-stride.ensures) c.copied_rows.ensures.bad_stride
 
-pub returns-clause-no_bytes : goal.returns-clause-no_bytes
-returns-clause-no_bytes c =
-    let wide : 4 * c.args.image.now.width ≡ c.in-Some.wide = omega (arith, c.in-Some.ensures.1) in
-    rw (wide, ← c.stride_of-stride.ensures) c.copied_rows.ensures.no_bytes
-
 pub returns-clause-small : goal.returns-clause-small
 returns-clause-small c =
     let wide : 4 * c.args.image.now.width ≡ c.in-Some.wide = omega (arith, c.in-Some.ensures.1) in

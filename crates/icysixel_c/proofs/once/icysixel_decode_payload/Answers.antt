@@ -1,18 +1,12 @@
-use Rattle.std.proofs.Common.{◌≡◌, Option, Some, None, Result, Ok, Err, OnErr, IfOk, subst, ap, ◌∙◌, arith, rules}
-use Rattle.sixel_base.specs.declared.error.SixelError.{SixelError}
+use Rattle.std.proofs.Common.{◌≡◌, Some, ap, ◌∙◌, arith, rules}
 use Rattle.sixel_base.specs.Decoder.{origin_of}
-use Rattle.sixel_base.specs.Payload.{payload_image}
+use Rattle.sixel_base.specs.Fault.{Faults}
+use Rattle.sixel_base.specs.Payload.{payload_fault, payload_image, payload_wants}
 use Rattle.icy_sixel.specs.ImageView.{image_value}
-use Rattle.icy_sixel.specs.declared.sixel_image.SixelImage.{SixelImage}
 use Rattle.icysixel_c.specs.Code.{settings_of}
+use Rattle.icysixel_c.proofs.Known.{found_known, result_known}
+use Rattle.icysixel_c.proofs.Stored.{of_stored}
 use Rattle.icysixel_c.proofs.once.icysixel_decode_payload.Goals as goal
-
--- what holds of the image that was decoded holds of the one that is kept
-of_kept : (answer : Result SixelImage SixelError) (kept : Option SixelImage) (P : SixelImage → Type 0) → IfOk answer P → IfOk answer (λ image. kept ≡ Some image) → OnErr answer (kept ≡ None) → (image : SixelImage) → kept ≡ Some image → P image
-of_kept (Ok found) kept P holds is none image kept_is =
-    let same : found ≡ image = grind (arith, is, kept_is) in
-    subst P same holds
-of_kept (Err error) kept P holds is none image kept_is = absurd (grind (arith, none, kept_is))
 
 pub returns-then-not-is_held : goal.returns-then-not-is_held
 returns-then-not-is_held c = grind arith
@@ -20,8 +14,15 @@ returns-then-not-is_held c = grind arith
 pub state-state-requires : goal.state-state-requires
 state-state-requires c = grind arith
 
-pub keep_answer-requires : goal.keep_answer-requires
-keep_answer-requires c = grind arith
+pub keep_answer-requires-clause-pixels : goal.keep_answer-requires-clause-pixels
+keep_answer-requires-clause-pixels c = grind arith
+
+pub keep_answer-requires-clause-known : goal.keep_answer-requires-clause-known
+keep_answer-requires-clause-known c =
+    let limit = c.replace_decoder-decoder.result.pixel_limit in
+    let wants = payload_wants limit c.args.bytes.now in
+    let fault = payload_fault limit c.args.bytes.now in
+    result_known c.decode_from_dcs-answer.result (λ error. Faults error wants fault) (λ error. found_known error wants fault) c.decode_from_dcs-answer.ensures.refused
 
 pub returns-clause-held : goal.returns-clause-held
 returns-clause-held c = grind arith
@@ -49,7 +50,7 @@ returns-clause-image c = λ before after image is is_now kept.
     let now : c.keep_answer.new.self.image ≡ Some image = grind arith in
     let settings : c.settings.result ≡ settings_of c.args.p1 c.args.p2 c.args.grid = search rules in
     let bytes = c.args.bytes.now in
-    of_kept c.decode_from_dcs-answer.result c.keep_answer.new.self.image (λ image. image_value image ≡ payload_image (origin_of c.replace_decoder-decoder.result c.settings.result) bytes) c.decode_from_dcs-answer.ensures.image c.keep_answer.ensures.image c.keep_answer.ensures.dropped image now
+    of_stored c.decode_from_dcs-answer.result c.keep_answer.new.self.image (λ image. image_value image ≡ payload_image (origin_of c.replace_decoder-decoder.result c.settings.result) bytes) c.decode_from_dcs-answer.ensures.image c.keep_answer.ensures.image c.keep_answer.ensures.dropped image now
     ∙ (ap (λ decoder. payload_image (origin_of decoder c.settings.result) bytes) same
     ∙ ap (λ settings. payload_image (origin_of before.receiver.decoder settings) bytes) settings)
 
