@@ -1,5 +1,5 @@
 -- A text that is written into a buffer with a zero after it.
-use Rattle.std.proofs.Common.{◌≡◌, ℕ, ◌+◌, ◌-◌, ◌<◌, List, ◌∷◌, ◌++◌, length, set, take, drop, length-drop, refl, ap, ◌∙◌, arith}
+use Rattle.std.proofs.Common.{◌≡◌, ℕ, ◌+◌, ◌-◌, ◌<◌, List, ◌∷◌, ◌++◌, length, set, drop, length-drop, refl, ap, ◌∙◌, arith}
 use Rattle.std.proofs.lemmas.List.{set-append_right, set_split}
 use lib.Seq.{drop-drop}
 

@@ -1,12 +1,10 @@
 -- What finishing an image does, as C sees it: the state before and after, what is reported, and the
 -- code. Each field is one fact. The words for what bytes mean are those of the receiver.
-use Rattle.std.specs.Prelude.{ℕ, ◌≡◌, ◌≢◌, ◌*◌, ◌≤◌, ◌++◌, List, true, false, Some, None, is_some}
+use Rattle.std.specs.Prelude.{ℕ, ◌≡◌, ◌≢◌, ◌*◌, ◌≤◌, List, true, false, Some, None, is_some}
 use Rattle.sixel_base.specs.Decoder.{IsSetAs}
 use Rattle.sixel_base.specs.OneShot.{IsFoundImage, AreFoundRegisters, IsDecodedAs}
-use Rattle.sixel_base.specs.Payload.{payload_fault, payload_wants}
-use Rattle.sixel_base.specs.Settings.{Settings}
 use Rattle.icy_sixel.specs.ImageView.{image_value}
-use Rattle.icy_sixel.specs.Receiver.{OfPayload, end_fault, end_wants, is_open, no_image}
+use Rattle.icy_sixel.specs.Receiver.{end_fault, end_wants, is_open, no_image}
 use Rattle.icy_sixel.specs.Receiver as receivers
 use Rattle.icy_sixel.specs.declared.sixel_image.SixelImage.{SixelImage}
 use Rattle.icysixel_c.specs.Code.{IsTold, fault_code}

@@ -1,18 +1,13 @@
 //! What C calls to finish an image and to take its pixels.
 
-ghost use Rattle.std.specs.Prelude.{◌≡◌, ◌≢◌, ◌*◌, ◌<◌, ◌≤◌, ℕ, Some, None, is_some, true, false};
+ghost use Rattle.std.specs.Prelude.{◌≡◌, ◌≢◌, ◌*◌, ◌<◌, ◌≤◌, ℕ, Some, None, is_some, true};
 ghost use Rattle.std.specs.Prelude.{[], length, drop};
-ghost use Rattle.sixel_base.specs.Decoder.{IsSetAs};
 ghost use Rattle.sixel_base.specs.Payload.{Image};
-ghost use Rattle.sixel_base.specs.OneShot.{IsFoundImage, AreFoundRegisters};
 ghost use Rattle.icy_sixel.specs.ImageView.{image_value};
-ghost use Rattle.icy_sixel.specs.Receiver.{end_fault, end_wants, failed, found, is_open, no_image};
 ghost use Rattle.icy_sixel.specs.declared.sixel_image.SixelImage.{SixelImage};
-ghost use Rattle.icysixel_c.specs.Code.{IsTold, fault_code};
 ghost use Rattle.icysixel_c.specs.Finish.{IsFinished};
 ghost use Rattle.icysixel_c.specs.Kept.{kept_image};
 ghost use Rattle.icysixel_c.specs.Rows.{AreGapsKept, bytes_of, rows_of, stride_of, wanted};
-ghost use Rattle.icysixel_c.specs.Shape.{shape_of};
 ghost use Rattle.icysixel_c.specs.declared.state.State.{State};
 
 use crate::bytes::Bytes;

@@ -1,11 +1,9 @@
 //! What C calls to begin an image, to feed it and to give it up.
 
-ghost use Rattle.std.specs.Prelude.{◌≡◌, ◌≢◌, ◌+◌, ◌≤◌, ◌++◌, Some, None, is_some, true, false};
-ghost use Rattle.std.specs.Prelude.{length, nat_lt};
+ghost use Rattle.std.specs.Prelude.{◌≡◌, ◌≢◌, Some, None, is_some, true};
 ghost use Rattle.sixel_base.specs.Decoder.{new_decoder};
-ghost use Rattle.icy_sixel.specs.Receiver.{OfPayload, OfString, begun, no_image, is_open};
-ghost use Rattle.icy_sixel.specs.Receiver.{count, status, fault, failed, growths};
-ghost use Rattle.icysixel_c.specs.Code.{IsTold, fault_code, settings_of};
+ghost use Rattle.icy_sixel.specs.Receiver.{OfPayload, OfString, begun, no_image};
+ghost use Rattle.icysixel_c.specs.Code.{settings_of};
 ghost use Rattle.icysixel_c.specs.Code.{status_code as code_of_status};
 ghost use Rattle.icysixel_c.specs.Code.{status_byte as byte_of_status};
 ghost use Rattle.icysixel_c.specs.Feed.{IsFed};

@@ -1,7 +1,7 @@
 //! What C calls to write the text of an image, and to take it.
 
 ghost use Rattle.std.specs.Prelude.{◌≡◌, ◌≢◌, ◌+◌, ◌*◌, ◌<◌, ◌≤◌, ℕ, List, Some, None, is_some, true};
-ghost use Rattle.std.specs.Prelude.{Ok, OnOk, OnErr, IfOk, IfErr, IsErrAnd, length, drop, ◌++◌, string_bytes};
+ghost use Rattle.std.specs.Prelude.{Ok, OnOk, IfOk, IfErr, IsErrAnd, length, drop, ◌++◌, string_bytes};
 ghost use Rattle.sixel_base.specs.Size.{encode_fault};
 ghost use Rattle.sixel_base.specs.declared.error.SixelError.{SixelError};
 ghost use Rattle.sixel_encoder.specs.Encoding.{IsText};
