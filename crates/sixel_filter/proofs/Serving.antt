@@ -1,5 +1,5 @@
 -- What was read and written so far, chunk by chunk, and where the program stops.
-use Rattle.std.proofs.Common.{◌≡◌, ◌⊎◌, inl, inr, ℕ, List, [], ◌++◌, refl, ap, sym, ◌∙◌, subst, take, drop, take-append-drop, append_assoc, append-nil, Option, Result, Ok, Err, false}
+use Rattle.std.proofs.Common.{◌≡◌, inl, inr, ℕ, List, [], ◌++◌, refl, ap, sym, ◌∙◌, subst, take, drop, take-append-drop, append_assoc, append-nil, Option, Result, Ok, Err, false}
 use Rattle.std.proofs.KnownBytes.{Appends-nil, Appends-trans, Consumes-trans}
 use Rattle.std.specs.Prelude.{codes, IfErr, OnErr}
 use Rattle.std.specs.Result.{IsErrAnd}
@@ -7,8 +7,8 @@ use Rattle.std.specs.Io.KnownBytes.{Appends, Consumes}
 use Rattle.sixel_base.specs.Decoder.{new_decoder}
 use Rattle.sixel_base.specs.declared.error.SixelError.{SixelError}
 use Rattle.sixel_base.specs.declared.error.SixelError.TheVariants.{InvalidData, OutOfMemory}
-use Rattle.sixel_base.specs.Fault.{Faults, Incomplete}
-use Rattle.sixel_base.specs.Dcs.{Heading, stage, stage_in_payload, dcs_status, dcs_in_payload, has_ended, end_fault}
+use Rattle.sixel_base.specs.Fault.{Faults}
+use Rattle.sixel_base.specs.Dcs.{stage_in_payload, dcs_status, dcs_in_payload, has_ended, end_fault}
 use Rattle.sixel_io.specs.declared.fault.Fault.{Fault}
 use Rattle.sixel_io.specs.declared.fault.Fault.TheVariants.{Sixel}
 use Rattle.sixel_io.specs.Output.{Writes}
@@ -16,8 +16,7 @@ use Rattle.sixel_filter.specs.declared.words.Work.{Work}
 use Rattle.sixel_filter.specs.declared.filter.Filter.{Filter}
 use Rattle.sixel_filter.specs.declared.filter.Place.{Place}
 use Rattle.sixel_filter.specs.declared.filter.Place.TheVariants as place
-use Rattle.sixel_filter.specs.Making.{IsRefusalNote}
-use Rattle.sixel_filter.specs.Stop.{Begins, Stops}
+use Rattle.sixel_filter.specs.Stop.{Stops}
 use Rattle.sixel_filter.specs.Stream.{IsFiltered, Over}
 use Rattle.sixel_filter.specs.inside.Standing.{IsSound, IsSoundAt, IsHeading, IsReading, IsRestAt, Leads, Passes}
 use Rattle.sixel_filter.proofs.Header.{passed_held}

@@ -9,6 +9,8 @@
 mod engine;
 mod filter;
 mod making;
+#[cfg(test)]
+mod tests;
 mod words;
 
 use engine::serve;
