@@ -1,5 +1,5 @@
 -- What a program has written. These are the words of both programs.
-use Rattle.std.specs.Prelude.{ℕ, List, ◌++◌, Option}
+use Rattle.std.specs.Prelude.{ℕ, List, Option}
 use Rattle.std.specs.Io.KnownBytes.{Appends}
 
 -- what a writer contains grew by a text of this kind

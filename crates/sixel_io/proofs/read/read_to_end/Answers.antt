@@ -1,5 +1,4 @@
-use Rattle.std.proofs.Common.{[]}
-use Rattle.std.proofs.KnownBytes.{Consumes-nil, Consumes-trans, Consumes-all}
+use Rattle.std.proofs.KnownBytes.{Consumes-nil}
 use Rattle.sixel_io.proofs.read.read_to_end.Goals as goal
 
 pub reads-init : goal.reads-init
