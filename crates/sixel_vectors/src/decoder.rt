@@ -15,23 +15,36 @@ use std::alloc::Global;
 pub fn check_image(alloc: Global, [settings, text, outcome]: [&str; 3]) -> Result<()> {
     let start = Start::parse(settings)?;
     let (text, outcome) = (bytes(alloc, text)?, Outcome::parse(alloc, outcome)?);
-    let (decoded, mut after) = start.decode(alloc, &text)?;
+    let (decoded, after) = start.decode(alloc, &text)?;
     outcome.check_same(&decoded)?;
     decoded.check_clone(alloc)?;
-    if !settings.contains("crop") && !settings.contains("limit") {
-        check_calls(alloc, start.form, &text, &outcome)?;
-    }
-    if matches!(start.form, Form::Payload(_)) {
-        Plan::new(&start, &text, &outcome, &after).check_all(alloc)?;
-    }
-    check_decoder(&after.clone()?, &after)?;
-    after.reset_palette();
-    check_decoder(&after, &start.decoder)
+    check_copy(&start, &after)?;
+    check_calls(alloc, &start, &text, &outcome)?;
+    check_payload(alloc, Plan::new(&start, &text, &outcome, &after))
 }
 
-/// Checks the calls that make a decoder of their own.
-fn check_calls(alloc: Global, form: Form, bytes: &[u8], outcome: &Outcome) -> Result<()> {
-    if let Form::Payload(settings) = form {
+/// Checks a copy of a decoder, and that it keeps crop and pixel limit where its palette is reset.
+fn check_copy(start: &Start, after: &SixelDecoder) -> Result<()> {
+    let mut copy = after.clone()?;
+    check_decoder(&copy, after)?;
+    copy.reset_palette();
+    check_decoder(&copy, &start.decoder)
+}
+
+/// Checks the sessions of a payload.
+fn check_payload(alloc: Global, plan: Plan<'_>) -> Result<()> {
+    match plan.start.form {
+        Form::Payload(_) => plan.check_all(alloc),
+        Form::Dcs => Ok(()),
+    }
+}
+
+/// Checks the calls that make a decoder of their own, which has no crop and the greatest limit.
+fn check_calls(alloc: Global, start: &Start, bytes: &[u8], outcome: &Outcome) -> Result<()> {
+    if check_decoder(&start.decoder, &SixelDecoder::new()).is_err() {
+        return Ok(());
+    }
+    if let Form::Payload(settings) = start.form {
         outcome.check(alloc, SixelImage::decode_from_dcs(alloc, bytes, settings))?;
         return outcome.check(alloc, sixel_decode_from_dcs(alloc, bytes, settings));
     }

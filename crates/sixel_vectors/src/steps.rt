@@ -121,18 +121,14 @@ pub fn check(alloc: Global, columns: &[&str]) -> Result<()> {
 }
 
 /// Runs the steps on a new decoder and checks outcomes and registers.
-fn check_run<'a>(
+fn check_run(
     alloc: Global,
     registers: &str,
-    lines: &'a [Line<'a>],
-    lengths: Option<&'a [usize]>,
+    lines: &[Line<'_>],
+    lengths: Option<&[usize]>,
 ) -> Result<()> {
-    let mut steps = Vec::new(alloc);
-    for line in lines {
-        steps.push(line.step(lengths.unwrap_or(&line.lengths))?)?;
-    }
     let mut decoder = SixelDecoder::new();
-    let outcomes = run(alloc, &mut decoder, &steps)?;
+    let outcomes = outcomes(alloc, &mut decoder, lines, lengths)?;
     equal("outcomes", &outcomes.len(), &lines.len())?;
     for (line, outcome) in lines.iter().zip(outcomes) {
         line.check(alloc, outcome)?;
@@ -146,4 +142,22 @@ fn check_run<'a>(
         )?;
     }
     Ok(())
+}
+
+/// The outcomes of the steps.
+fn outcomes<'a>(
+    alloc: Global,
+    decoder: &mut SixelDecoder,
+    lines: &'a [Line<'a>],
+    lengths: Option<&'a [usize]>,
+) -> Result<Vec<script::Outcome>> {
+    let mut steps = Vec::new(alloc);
+    for line in lines {
+        let cuts = match lengths {
+            Some(lengths) => lengths,
+            None => line.lengths.as_slice(),
+        };
+        steps.extend_from_slice(&[line.step(cuts)?])?;
+    }
+    Ok(run(alloc, decoder, &steps)?)
 }
