@@ -20,24 +20,15 @@ SIXEL = [
     ("encode 3 1 2", PIXELS, TEXT, [b""]),
 ]
 RUN, RUNS = "a run: out of memory", "runs over a run: out of memory"
+SESSIONS = ["decode", "decode_from_dcs", "payload session", "DCS session"]
+OTHERS = ["encode_with", "to_display_string", "to_display_string of an error", "clone"]
+OTHERS += ["from_str", "choose_palette", "Row::reach"]
 # The lines of sixel_allocations that differ, in the order of the allocations of one pass. The
 # canvas draws without tags if an allocation of tags fails, so no line differs then.
-CALLS = [
-    "decode: out of memory",
-    "decode_from_dcs: out of memory",
-    "payload session: out of memory",
-    "DCS session: out of memory",
-    *(RUN, RUNS, None, RUNS),
-    "script::run: out of memory",
-    *(f"failed step: Some({it})" for it in range(5)),
-    "encode_with: out of memory",
-    "to_display_string: out of memory",
-    "to_display_string of an error: out of memory",
-    "clone: out of memory",
-    "from_str: out of memory",
-    "choose_palette: out of memory",
-    "Row::reach: out of memory",
-]
+CALLS = [f"{it}: out of memory" for it in SESSIONS]
+CALLS += [RUN, RUNS, None, RUNS, "script::run: out of memory"]
+CALLS += [f"failed step: Some({it})" for it in range(5)]
+CALLS += [f"{it}: out of memory" for it in OTHERS]
 
 
 def distinct(items):
