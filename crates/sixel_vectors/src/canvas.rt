@@ -8,6 +8,7 @@ use crate::session::{Form, Session, Start};
 use anyhow::{Context, Result, bail, ensure};
 use icy_sixel::canvas::{Row, fill_rgba_span};
 use icy_sixel::receiver::SixelReceiver;
+use icy_sixel::{DcsSettings, SixelDecoder};
 use std::alloc::Global;
 
 /// Checks a vector of `rows.tsv`.
@@ -94,19 +95,29 @@ pub fn check_writes(
         work.check(Session::begin(alloc, &mut decoder, start.form)?, length)?;
         work.check(Session::receive(alloc, &mut receiver, start.form), length)?;
     }
-    if let Form::Payload(settings) = start.form {
-        let mut session = decoder.begin_frame(alloc, settings)?;
-        session.feed(&work.payload)?;
-        let writes = session.canvas_writes();
-        let (image, counted) = session.finish_counted()?;
-        let packed = (image.pixels.len() / 4) as u64;
-        equal(
-            "counted writes",
-            &counted.checked_sub(writes),
-            &Some(packed),
-        )?;
+    match start.form {
+        Form::Payload(settings) => check_counted(alloc, decoder, settings, &work.payload),
+        Form::Dcs => Ok(()),
     }
-    Ok(())
+}
+
+/// Checks that `finish_counted` adds the packed pixels to the writes.
+fn check_counted(
+    alloc: Global,
+    mut decoder: SixelDecoder,
+    settings: DcsSettings,
+    payload: &[u8],
+) -> Result<()> {
+    let mut session = decoder.begin_frame(alloc, settings)?;
+    session.feed(payload)?;
+    let writes = session.canvas_writes();
+    let (image, counted) = session.finish_counted()?;
+    let packed = (image.pixels.len() / 4) as u64;
+    equal(
+        "counted writes",
+        &counted.checked_sub(writes),
+        &Some(packed),
+    )
 }
 
 impl Work {

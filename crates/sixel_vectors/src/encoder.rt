@@ -6,8 +6,8 @@ use crate::plan::Plan;
 use crate::session::{Form, Start};
 use anyhow::{Context, Result, bail, ensure};
 use icy_sixel::{
-    BackgroundMode, DcsSettings, EncodeOptions, PixelAspectRatio, SixelDecoder, SixelImage,
-    choose_palette, sixel_encode, sixel_encode_default, validate_encode_dimensions,
+    BackgroundMode, DcsSettings, EncodeOptions, PixelAspectRatio, SixelDecoder, SixelError,
+    SixelImage, choose_palette, sixel_encode, sixel_encode_default, validate_encode_dimensions,
 };
 use std::alloc::Global;
 
@@ -56,67 +56,151 @@ fn check_encoded(alloc: Global, encoded: icy_sixel::Result<String>, expected: &s
 
 /// Checks a vector of `trips.tsv`.
 pub fn check_trip(alloc: Global, [max_colors, source, decoded]: [&str; 3]) -> Result<()> {
-    let options = EncodeOptions {
-        max_colors: small_number(max_colors)?,
-    };
-    let (source, mut decoded) = (image(alloc, source)?, image(alloc, decoded)?);
-    let expected = Outcome::Image(decoded.clone(alloc)?);
-    let text = source.encode_with(alloc, &options)?;
-    let mut decoder = SixelDecoder::new();
-    expected.check(alloc, decoder.decode(alloc, text.as_bytes()))?;
-    let start = Start::parse("dcs")?;
-    Plan::new(&start, text.as_bytes(), &expected, &decoder)
-        .with_end(text.len(), "complete")
-        .check_all(alloc)?;
-    let settings = DcsSettings::default()
-        .with_pixel_aspect_ratio(source.aspect_ratio)
-        .with_background_mode(source.background_mode);
-    let start = Start {
-        form: Form::Payload(settings),
-        decoder: SixelDecoder::new(),
-    };
-    let (_, payload) = text.split_once('q').context("no payload")?;
-    Plan::new(&start, payload.as_bytes(), &expected, &decoder).check_all(alloc)?;
-    if source.background_mode == BackgroundMode::Transparent {
-        let again = decoded.encode_with(alloc, &options)?;
-        expected.check(alloc, SixelImage::decode(alloc, again.as_bytes()))?;
+    let trip = Trip::parse(alloc, small_number(max_colors)?, source, decoded)?;
+    trip.check_sequence(alloc)?;
+    trip.check_payload(alloc)?;
+    trip.check_again(alloc)?;
+    trip.check_cropped(alloc)
+}
+
+/// An image, its text, and the image that the text means.
+#[derive(Drop)]
+struct Trip {
+    max_colors: u16,
+    source: SixelImage,
+    decoded: Outcome,
+    text: String,
+}
+
+impl Trip {
+    /// The trip of two images.
+    fn parse(alloc: Global, max_colors: u16, source: &str, decoded: &str) -> Result<Self> {
+        let source = image(alloc, source)?;
+        Ok(Self {
+            max_colors,
+            decoded: Outcome::parse(alloc, decoded)?,
+            text: source.encode_with(alloc, &EncodeOptions { max_colors })?,
+            source,
+        })
     }
-    let len = source.width.saturating_mul(source.height).saturating_mul(4);
-    decoded.pixels.truncate(len);
-    decoded.height = source.height;
-    decoder.set_raster_crop(true);
-    Outcome::Image(decoded).check(alloc, decoder.decode(alloc, text.as_bytes()))
+
+    /// Checks the text as a DCS sequence.
+    fn check_sequence(&self, alloc: Global) -> Result<()> {
+        let start = Start::parse("dcs")?;
+        self.check_plan(alloc, &start, self.text.as_bytes())
+    }
+
+    /// Checks the part of the text that is a payload.
+    fn check_payload(&self, alloc: Global) -> Result<()> {
+        let settings = DcsSettings::default()
+            .with_pixel_aspect_ratio(self.source.aspect_ratio)
+            .with_background_mode(self.source.background_mode);
+        let start = Start {
+            form: Form::Payload(settings),
+            decoder: SixelDecoder::new(),
+        };
+        let (_, payload) = self.text.split_once('q').context("no payload")?;
+        self.check_plan(alloc, &start, payload.as_bytes())
+    }
+
+    /// Checks what bytes of the text mean, at once and in chunks.
+    fn check_plan(&self, alloc: Global, start: &Start, bytes: &[u8]) -> Result<()> {
+        let (decoded, after) = start.decode(alloc, bytes)?;
+        self.decoded.check_same(&decoded)?;
+        let plan = Plan::new(start, bytes, &self.decoded, &after);
+        match start.form {
+            Form::Payload(_) => plan.check_all(alloc),
+            Form::Dcs => plan.with_end(bytes.len(), "complete").check_all(alloc),
+        }
+    }
+
+    /// Checks that a second trip of a transparent image changes nothing.
+    fn check_again(&self, alloc: Global) -> Result<()> {
+        match &self.decoded {
+            Outcome::Image(image) if image.background_mode == BackgroundMode::Transparent => {
+                let max_colors = self.max_colors;
+                let text = image.encode_with(alloc, &EncodeOptions { max_colors })?;
+                self.decoded
+                    .check(alloc, SixelImage::decode(alloc, text.as_bytes()))
+            }
+            _ => Ok(()),
+        }
+    }
+
+    /// Checks that a decoder that crops gives the height of the source.
+    fn check_cropped(&self, alloc: Global) -> Result<()> {
+        let Outcome::Image(image) = &self.decoded else {
+            bail!("no image");
+        };
+        let (width, height) = self.source.dimensions();
+        let mut cropped = image.clone(alloc)?;
+        cropped.height = height;
+        cropped
+            .pixels
+            .truncate(width.saturating_mul(height).saturating_mul(4));
+        let mut decoder = SixelDecoder::new();
+        decoder.set_raster_crop(true);
+        Outcome::Image(cropped).check(alloc, decoder.decode(alloc, self.text.as_bytes()))
+    }
 }
 
 /// Checks a vector of `sizes.tsv`.
 pub fn check_size(alloc: Global, [call, dimensions, buffer, answer]: [&str; 4]) -> Result<()> {
     let buffer = bytes(alloc, buffer)?;
-    let (width, height) = match dimensions {
+    let size = match dimensions {
         "none" => (0, 0),
         _ => size(dimensions)?,
     };
-    let error = match call.split_once(' ').unwrap_or((call, "")) {
-        ("choose_palette", "") => choose_palette(alloc, &buffer, 2).err(),
-        ("validate_encode_dimensions", "") => validate_encode_dimensions(width, height).err(),
-        ("sixel_encode", "") => {
+    match call.split_once(' ').unwrap_or((call, "")) {
+        ("has_transparency", "") => check_transparency(buffer, size, flag(answer)?),
+        ("corrected_dimensions", text) => check_corrected(buffer, size, ratio(text)?, answer),
+        _ => {
+            let error = size_error(alloc, call, buffer, size)?;
+            let shown = match error {
+                Some(error) => format!(in alloc; "error: {error}")?,
+                None => String::from_str(alloc, "ok")?,
+            };
+            equal(call, &shown.as_str(), &answer)
+        }
+    }
+}
+
+/// The error of a call with these bytes and this size.
+fn size_error(
+    alloc: Global,
+    call: &str,
+    buffer: Vec<u8>,
+    (width, height): (usize, usize),
+) -> Result<Option<SixelError>> {
+    Ok(match call {
+        "choose_palette" => choose_palette(alloc, &buffer, 2).err(),
+        "validate_encode_dimensions" => validate_encode_dimensions(width, height).err(),
+        "sixel_encode" => {
             sixel_encode(alloc, &buffer, width, height, &EncodeOptions::default()).err()
         }
-        ("try_from_rgba", "") => SixelImage::try_from_rgba(buffer, width, height).err(),
-        ("has_transparency", "") => {
-            let image = SixelImage::from_rgba(buffer, width, height);
-            return equal(call, &image.has_transparency(), &flag(answer)?);
-        }
-        ("corrected_dimensions", text) if height <= 1_000_000 => {
-            let image = SixelImage::from_rgba(buffer, width, height).with_aspect_ratio(ratio(
-                text,
-            )?);
-            return equal(call, &image.corrected_dimensions(), &size(answer)?);
-        }
+        "try_from_rgba" => SixelImage::try_from_rgba(buffer, width, height).err(),
         _ => bail!("no call: {call}"),
-    };
-    let shown = match error {
-        Some(error) => format!(in alloc; "error: {error}")?,
-        None => String::from_str(alloc, "ok")?,
-    };
-    equal(call, &shown.as_str(), &answer)
+    })
+}
+
+/// Checks whether an image of these bytes has transparency.
+fn check_transparency(buffer: Vec<u8>, (width, height): (usize, usize), flag: bool) -> Result<()> {
+    let image = SixelImage::from_rgba(buffer, width, height);
+    equal("has_transparency", &image.has_transparency(), &flag)
+}
+
+/// Checks the size of an image where its pixels are drawn square.
+fn check_corrected(
+    buffer: Vec<u8>,
+    (width, height): (usize, usize),
+    ratio: PixelAspectRatio,
+    expected: &str,
+) -> Result<()> {
+    ensure!(height <= 1_000_000, "no height: {height}");
+    let image = SixelImage::from_rgba(buffer, width, height).with_aspect_ratio(ratio);
+    equal(
+        "corrected_dimensions",
+        &image.corrected_dimensions(),
+        &size(expected)?,
+    )
 }

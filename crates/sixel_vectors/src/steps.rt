@@ -9,12 +9,37 @@ use icy_sixel::receiver::Received;
 use icy_sixel::script::{self, End, Step, run};
 use std::alloc::Global;
 
+/// What a step does.
+#[derive(Clone, Copy)]
+enum Task {
+    Reset,
+    Crop(bool),
+    Limit(usize),
+    Decode(Form),
+    Session(Form, End),
+}
+
+impl Task {
+    /// The task that two columns write.
+    fn parse(step: &str, end: &str) -> Result<Self> {
+        let (word, value) = step.split_once(' ').unwrap_or((step, ""));
+        Ok(match (word, value, end) {
+            ("reset", "", "") => Self::Reset,
+            ("crop", on, "") => Self::Crop(flag(on)?),
+            ("limit", pixels, "") => Self::Limit(number(pixels)?),
+            (_, _, "once") => Self::Decode(Start::parse(step)?.form),
+            (_, _, "finish") => Self::Session(Start::parse(step)?.form, End::Finish),
+            (_, _, "abort") => Self::Session(Start::parse(step)?.form, End::Abort),
+            _ => bail!("no step: {step}"),
+        })
+    }
+}
+
 /// A step with bytes and lengths of chunks of its own, and its results.
 #[derive(Drop)]
 struct Line<'a> {
-    step: &'a str,
+    task: Task,
     bytes: Vec<u8>,
-    end: &'a str,
     lengths: Vec<usize>,
     answer: &'a str,
     outcome: Outcome,
@@ -25,13 +50,12 @@ impl<'a> Line<'a> {
     fn parse(alloc: Global, [step, text, end, answer, outcome]: [&'a str; 5]) -> Result<Self> {
         let (end, lengths) = end.split_once(' ').unwrap_or((end, "none"));
         Ok(Self {
-            step,
+            task: Task::parse(step, end)?,
             bytes: if end.is_empty() {
                 Vec::new(alloc)
             } else {
                 bytes(alloc, text)?
             },
-            end,
             lengths: numbers(alloc, lengths)?,
             answer,
             outcome: Outcome::parse(alloc, outcome)?,
@@ -39,41 +63,26 @@ impl<'a> Line<'a> {
     }
 
     /// The step, with these lengths of chunks.
-    fn step<'b>(&'b self, cuts: &'b [usize]) -> Result<Step<'b>> {
+    fn step<'b>(&'b self, cuts: &'b [usize]) -> Step<'b> {
         let bytes = self.bytes.as_slice();
-        let ending = if self.end == "abort" {
-            End::Abort
-        } else {
-            End::Finish
-        };
-        Ok(
-            match (
-                self.step.split_once(' ').unwrap_or((self.step, "")),
-                self.end,
-            ) {
-                (("reset", ""), "") => Step::Reset,
-                (("crop", on), "") => Step::RasterCrop(flag(on)?),
-                (("limit", pixels), "") => Step::PixelLimit(number(pixels)?),
-                (_, "once") => match Start::parse(self.step)?.form {
-                    Form::Payload(settings) => Step::DecodeFromDcs(bytes, settings),
-                    Form::Dcs => Step::Decode(bytes),
-                },
-                (_, "finish" | "abort") => match Start::parse(self.step)?.form {
-                    Form::Payload(settings) => Step::Frame {
-                        settings,
-                        bytes,
-                        cuts,
-                        ending,
-                    },
-                    Form::Dcs => Step::Dcs {
-                        bytes,
-                        cuts,
-                        ending,
-                    },
-                },
-                _ => bail!("no step: {}", self.step),
+        match self.task {
+            Task::Reset => Step::Reset,
+            Task::Crop(on) => Step::RasterCrop(on),
+            Task::Limit(pixels) => Step::PixelLimit(pixels),
+            Task::Decode(Form::Payload(settings)) => Step::DecodeFromDcs(bytes, settings),
+            Task::Decode(Form::Dcs) => Step::Decode(bytes),
+            Task::Session(Form::Payload(settings), ending) => Step::Frame {
+                settings,
+                bytes,
+                cuts,
+                ending,
             },
-        )
+            Task::Session(Form::Dcs, ending) => Step::Dcs {
+                bytes,
+                cuts,
+                ending,
+            },
+        }
     }
 
     /// Checks what came of the step.
@@ -128,11 +137,34 @@ fn check_run(
     lengths: Option<&[usize]>,
 ) -> Result<()> {
     let mut decoder = SixelDecoder::new();
-    let outcomes = outcomes(alloc, &mut decoder, lines, lengths)?;
+    let steps = steps(alloc, lines, lengths)?;
+    let outcomes = run(alloc, &mut decoder, &steps)?;
     equal("outcomes", &outcomes.len(), &lines.len())?;
     for (line, outcome) in lines.iter().zip(outcomes) {
         line.check(alloc, outcome)?;
     }
+    check_registers(&decoder, registers)
+}
+
+/// The steps of some lines, with lengths of chunks that are theirs or these.
+fn steps<'a>(
+    alloc: Global,
+    lines: &'a [Line<'_>],
+    lengths: Option<&'a [usize]>,
+) -> Result<Vec<Step<'a>>> {
+    let mut steps = Vec::new(alloc);
+    for line in lines {
+        let cuts = match lengths {
+            Some(lengths) => lengths,
+            None => line.lengths.as_slice(),
+        };
+        steps.extend_from_slice(&[line.step(cuts)])?;
+    }
+    Ok(steps)
+}
+
+/// Checks the colors of some registers.
+fn check_registers(decoder: &SixelDecoder, registers: &str) -> Result<()> {
     for word in registers.split(' ') {
         let (register, color) = word.split_once('=').context("no register")?;
         equal(
@@ -142,22 +174,4 @@ fn check_run(
         )?;
     }
     Ok(())
-}
-
-/// The outcomes of the steps.
-fn outcomes<'a>(
-    alloc: Global,
-    decoder: &mut SixelDecoder,
-    lines: &'a [Line<'a>],
-    lengths: Option<&'a [usize]>,
-) -> Result<Vec<script::Outcome>> {
-    let mut steps = Vec::new(alloc);
-    for line in lines {
-        let cuts = match lengths {
-            Some(lengths) => lengths,
-            None => line.lengths.as_slice(),
-        };
-        steps.extend_from_slice(&[line.step(cuts)?])?;
-    }
-    Ok(run(alloc, decoder, &steps)?)
 }

@@ -8,24 +8,51 @@ use anyhow::{Result, ensure};
 use icy_sixel::receiver::SixelReceiver;
 use std::alloc::Global;
 
+/// Bytes in which others are put, and what they mean with and without.
+#[derive(Drop)]
+struct Controls {
+    start: Start,
+    before: Vec<u8>,
+    inside: Vec<u8>,
+    after: Vec<u8>,
+    outcome: Outcome,
+}
+
 /// Checks a vector of `controls.tsv`.
 pub fn check_controls(
     alloc: Global,
     [settings, before, inside, after, outcome]: [&str; 5],
 ) -> Result<()> {
-    let (start, outcome) = (Start::parse(settings)?, Outcome::parse(alloc, outcome)?);
-    let (before, after) = (bytes(alloc, before)?, bytes(alloc, after)?);
-    let inside = bytes(alloc, inside)?;
-    for control in 0..=0x7f {
-        if matches!(control, 0..=0x17 | 0x19 | 0x1c..=0x1f | 0x7f) {
-            for place in 0..=inside.len() {
-                let (left, right) = inside.split_at(place);
-                let varied = [&before, left, &[control], right, &after].concat(alloc)?;
-                check_singly(alloc, &start, &varied, &outcome)?;
+    let controls = Controls {
+        start: Start::parse(settings)?,
+        before: bytes(alloc, before)?,
+        inside: bytes(alloc, inside)?,
+        after: bytes(alloc, after)?,
+        outcome: Outcome::parse(alloc, outcome)?,
+    };
+    controls.check(alloc)
+}
+
+impl Controls {
+    /// Checks each ignored control.
+    fn check(&self, alloc: Global) -> Result<()> {
+        for control in 0..=0x7f {
+            if matches!(control, 0..=0x17 | 0x19 | 0x1c..=0x1f | 0x7f) {
+                self.check_control(alloc, control)?;
             }
         }
+        Ok(())
     }
-    Ok(())
+
+    /// Checks a control at every place.
+    fn check_control(&self, alloc: Global, control: u8) -> Result<()> {
+        for place in 0..=self.inside.len() {
+            let (left, right) = self.inside.split_at(place);
+            let varied = [&self.before, left, &[control], right, &self.after].concat(alloc)?;
+            check_singly(alloc, &self.start, &varied, &self.outcome)?;
+        }
+        Ok(())
+    }
 }
 
 /// Checks a vector of `beginnings.tsv`.
@@ -34,11 +61,17 @@ pub fn check_beginnings(alloc: Global, [settings, text, after]: [&str; 3]) -> Re
     let (text, after) = (bytes(alloc, text)?, bytes(alloc, after)?);
     for place in 0..=text.len() {
         let (beginning, _) = text.split_at(place);
-        for byte in 0..=0xff {
-            let varied = [beginning, &[byte], &after].concat(alloc)?;
-            let (outcome, _) = start.decode(alloc, &varied)?;
-            check_singly(alloc, &start, &varied, &outcome)?;
-        }
+        check_bytes_after(alloc, &start, beginning, &after)?;
+    }
+    Ok(())
+}
+
+/// Checks a beginning with each byte after it.
+fn check_bytes_after(alloc: Global, start: &Start, beginning: &[u8], after: &[u8]) -> Result<()> {
+    for byte in 0..=0xff {
+        let varied = [beginning, &[byte], after].concat(alloc)?;
+        let (outcome, _) = start.decode(alloc, &varied)?;
+        check_singly(alloc, start, &varied, &outcome)?;
     }
     Ok(())
 }
@@ -61,18 +94,27 @@ pub fn check_aborts(alloc: Global, [settings, count, text]: [&str; 3]) -> Result
     let mut decoder = start.decoder.clone()?;
     let mut receiver = SixelReceiver::with_decoder(start.decoder.clone()?);
     for _ in 0..number(count)? {
-        let mut session = Session::begin(alloc, &mut decoder, start.form)?;
-        session.feed(&text)?;
-        session.abort();
-        let mut session = Session::receive(alloc, &mut receiver, start.form);
-        session.feed(&text)?;
-        session.abort();
+        abort(Session::begin(alloc, &mut decoder, start.form)?, &text)?;
+        abort(Session::receive(alloc, &mut receiver, start.form), &text)?;
     }
     check_decoder(&decoder, &start.decoder)?;
     check_decoder(receiver.decoder(), &start.decoder)?;
-    let (_, after) = start.decode(alloc, &text)?;
+    check_defined(alloc, &start, &text)
+}
+
+/// Feeds a session and aborts it.
+fn abort(mut session: Session<'_>, text: &[u8]) -> Result<()> {
+    let fed = session.feed(text);
+    session.abort();
+    fed?;
+    Ok(())
+}
+
+/// Checks that bytes define every register anew.
+fn check_defined(alloc: Global, start: &Start, text: &[u8]) -> Result<()> {
+    let (_, after) = start.decode(alloc, text)?;
     for register in 0..=255 {
-        let is_defined = after.register(register) != decoder.register(register);
+        let is_defined = after.register(register) != start.decoder.register(register);
         ensure!(is_defined, "register {register} is not defined");
     }
     Ok(())
