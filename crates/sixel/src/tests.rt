@@ -112,16 +112,31 @@ fn runs(rt: HostRuntime) -> Result<(), Fail> {
     let alloc = rt.alloc();
     let blue = b"image 1 6 9 0\n33\xcc\xff33\xcc\xff33\xcc\xff33\xcc\xff33\xcc\xff33\xcc\xff\n";
     check(&rt, outcome(alloc, Word::Payload, b"#1~")?, blue, "");
-    check(&rt, outcome(alloc, Word::Decode, b"\x1bPq#1~\x1b\\")?, blue, "");
+    check(
+        &rt,
+        outcome(alloc, Word::Decode, b"\x1bPq#1~\x1b\\")?,
+        blue,
+        "",
+    );
     let header = "invalid SIXEL data: invalid SIXEL DCS header";
     check(&rt, outcome(alloc, Word::Decode, b"\x1bPbad")?, b"", header);
     check(&rt, outcome(alloc, Word::Frames(1), b"")?, b"", "");
     check(&rt, outcome(alloc, Word::Frames(1), SEQUENCES)?, IMAGES, "");
     let black = b"image 1 6 9 0\n\0\0\0\xff\0\0\0\xff\0\0\0\xff\0\0\0\xff\0\0\0\xff\0\0\0\xff\n";
     let none = "no SIXEL data found (missing DCS introducer)";
-    check(&rt, outcome(alloc, Word::Frames(1), b"\x1bPq@\x1b\\\n")?, black, none);
+    check(
+        &rt,
+        outcome(alloc, Word::Frames(1), b"\x1bPq@\x1b\\\n")?,
+        black,
+        none,
+    );
     let red = b"\x1bP9;1;0q\"1;1;1;1#0;2;100;0;0#0@$-\x1b\\";
-    check(&rt, outcome(alloc, Word::Encode(1, 1, 256), b"\xff\0\0\xff")?, red, "");
+    check(
+        &rt,
+        outcome(alloc, Word::Encode(1, 1, 256), b"\xff\0\0\xff")?,
+        red,
+        "",
+    );
     Ok(())
 }
 
