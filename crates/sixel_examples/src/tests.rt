@@ -4,12 +4,12 @@ use crate::in_one_call::{decode, decode_payload, encode, palette};
 use crate::lists::replay;
 use crate::multiplexer::{Came, read};
 use crate::streaming::{decode_payload_pieces, decode_pieces};
-use crate::terminal::Images;
+use crate::terminal::{Images, Read};
 use crate::viewer::open;
 use icy_sixel::receiver::SixelReceiver;
 use icy_sixel::script::Outcome;
-use icy_sixel::{SixelDecoder, SixelImage};
-use std::test::Fail;
+use icy_sixel::{Result, SixelDecoder, SixelImage};
+use std::alloc::Global;
 
 const RED: [u8; 4] = [255, 0, 0, 255];
 
@@ -21,84 +21,131 @@ const INDIGO: [u8; 4] = [51, 51, 204, 255];
 
 /// Whether an image has a size and one color.
 fn is_filled(image: &SixelImage, size: (usize, usize), color: [u8; 4]) -> bool {
-    let are_equal = image.pixels.chunks(4).all(|pixel| *pixel == color);
+    let mut are_equal = image.pixels.len() == size.0.saturating_mul(size.1).saturating_mul(4);
+    for pixel in image.pixels.chunks(4) {
+        are_equal &= pixel == color.as_slice();
+    }
     image.dimensions() == size && are_equal
 }
 
+/// Whether a call returned an image of a size and one color.
+fn is_drawn(decoded: Result<SixelImage>, size: (usize, usize), color: [u8; 4]) -> bool {
+    match decoded {
+        Ok(image) => is_filled(&image, size, color),
+        Err(_) => false,
+    }
+}
+
+/// Whether a session is replayed as finished, as aborted, and before a reset.
+fn is_replayed(alloc: Global, decoder: &mut SixelDecoder) -> bool {
+    match replay(alloc, decoder, b"\x1bPq#1;2;0;100;0~\x1b\\") {
+        Ok(outcomes) => matches!(
+            outcomes.as_slice(),
+            [
+                Outcome::Finished { consumed: 18, .. },
+                Outcome::Aborted { consumed: 18, .. },
+                Outcome::Reset,
+            ]
+        ),
+        Err(_) => false,
+    }
+}
+
 #[test]
-fn decoders(rt: HostRuntime) -> Result<(), Fail> {
+fn decoders(rt: HostRuntime) {
     let mut decoder = SixelDecoder::new();
-    let image = decode(rt.alloc(), &mut decoder, b"text\x1bPq#1~\x1b\\text")?;
-    assert!(rt; is_filled(&image, (1, 6), INDIGO));
-    let image = decode_payload(rt.alloc(), &mut decoder, b"#1~~")?;
-    assert!(rt; is_filled(&image, (2, 6), INDIGO));
-    let image = decode_pieces(rt.alloc())?;
-    assert!(rt; is_filled(&image, (12, 6), RED));
-    let image = decode_payload_pieces(rt.alloc(), &mut decoder)?;
-    assert!(rt; is_filled(&image, (12, 6), INDIGO));
-    let outcomes = replay(rt.alloc(), &mut decoder, b"\x1bPq#1;2;0;100;0~\x1b\\")?;
-    let are_replayed = matches!(
-        outcomes.as_slice(),
-        [
-            Outcome::Finished { consumed: 18, .. },
-            Outcome::Aborted { consumed: 18, .. },
-            Outcome::Reset,
-        ]
-    );
-    assert!(rt; are_replayed);
-    assert_eq!(rt; decoder.register(1), [51, 51, 204]);
-    Ok(())
+    let sequence = decode(rt.alloc(), &mut decoder, b"text\x1bPq#1~\x1b\\text");
+    let payload = decode_payload(rt.alloc(), &mut decoder, b"#1~~");
+    let chunks = decode_pieces(rt.alloc());
+    let payload_chunks = decode_payload_pieces(rt.alloc(), &mut decoder);
+    let are_drawn = is_drawn(sequence, (1, 6), INDIGO)
+        & is_drawn(payload, (2, 6), INDIGO)
+        & is_drawn(chunks, (12, 6), RED)
+        & is_drawn(payload_chunks, (12, 6), INDIGO);
+    let is_replayed = is_replayed(rt.alloc(), &mut decoder);
+    assert!(rt; are_drawn & is_replayed & (decoder.register(1) == [51, 51, 204]));
+}
+
+/// Whether one color has a certified palette of itself.
+fn is_certified(alloc: Global) -> bool {
+    match palette(alloc, &NAVY) {
+        Ok((choice, is_certified)) => {
+            is_certified & (choice.colors.as_slice() == [[1, 2, 3]].as_slice())
+        }
+        Err(_) => false,
+    }
+}
+
+/// Whether a red pixel is encoded.
+fn is_encoded(alloc: Global) -> bool {
+    let Ok(pixels) = Vec::from_slice(alloc, &RED) else {
+        return false;
+    };
+    match encode(alloc, pixels, 1, 1) {
+        Ok(text) => text.as_str() == "\x1bP9;1;0q\"1;1;1;1#0;2;100;0;0#0@$-\x1b\\",
+        Err(_) => false,
+    }
+}
+
+/// Whether a viewer draws each row twice, on an opaque background.
+fn is_viewed(alloc: Global) -> bool {
+    match open(alloc, b"\x1bP0;1q~\x1b\\") {
+        Ok(view) => (view.row_repeat == 2) & !view.has_transparency,
+        Err(_) => false,
+    }
 }
 
 #[test]
-fn images(rt: HostRuntime) -> Result<(), Fail> {
-    let (choice, is_certified) = palette(rt.alloc(), &NAVY)?;
-    assert!(rt; is_certified);
-    assert_eq!(rt; choice.colors.as_slice(), [[1, 2, 3]].as_slice());
-    let text = encode(rt.alloc(), Vec::from_slice(rt.alloc(), &RED)?, 1, 1)?;
-    assert_eq!(rt;
-        text.as_str(),
-        "\x1bP9;1;0q\"1;1;1;1#0;2;100;0;0#0@$-\x1b\\"
-    );
-    let view = open(rt.alloc(), b"\x1bP0;1q~\x1b\\")?;
-    assert_eq!(rt; view.row_repeat, 2);
-    assert!(rt; !view.has_transparency);
-    Ok(())
+fn images(rt: HostRuntime) {
+    let alloc = rt.alloc();
+    assert!(rt; is_certified(alloc) & is_encoded(alloc) & is_viewed(alloc));
+}
+
+/// Whether a terminal consumed so many bytes, and got an image in its background of this size.
+fn is_read(read: Result<Read>, consumed: usize, size: Option<(usize, usize)>) -> bool {
+    let Ok(read) = read else {
+        return false;
+    };
+    let is_expected = match (&read.image, size) {
+        (None, None) => true,
+        (Some(image), Some(size)) => is_filled(image, size, NAVY),
+        _ => false,
+    };
+    is_expected & (read.consumed == consumed)
 }
 
 #[test]
-fn terminal(rt: HostRuntime) -> Result<(), Fail> {
+fn terminal(rt: HostRuntime) {
     let mut images = Images::new([1, 2, 3], 307_200);
     images.begin(rt.alloc(), None, None);
-    let open = images.read(b"!3")?;
-    assert!(rt; open.consumed == 2 && open.image.is_none());
-    assert_eq!(rt; images.size_so_far(), Some((1, 1)));
-    let ended = images.read(b"?@\x1b\\text")?;
-    let is_drawn = ended
-        .image
-        .is_some_and(|image| is_filled(&image, (4, 6), NAVY));
-    assert!(rt; ended.consumed == 2 && is_drawn);
-    assert_eq!(rt; images.size_so_far(), None);
+    let is_open = is_read(images.read(b"!3"), 2, None);
+    let is_ended = is_read(images.read(b"?@\x1b\\text"), 2, Some((4, 6)));
     images.begin(rt.alloc(), None, None);
-    let ended = images.read(b"\"1;1;2;3~~\x1b\\")?;
-    let is_cropped = ended
-        .image
-        .is_some_and(|image| is_filled(&image, (2, 3), NAVY));
-    assert!(rt; ended.consumed == 10 && is_cropped);
+    let is_cropped = is_read(images.read(b"\"1;1;2;3~~\x1b\\"), 10, Some((2, 3)));
     images.begin(rt.alloc(), None, None);
-    assert!(rt; images.read(b"!51201~").is_err());
-    Ok(())
+    let is_rejected = images.read(b"!51201~").is_err();
+    assert!(rt; is_open & is_ended & is_cropped & is_rejected);
+}
+
+/// What bytes are to a multiplexer: part of a sequence, its end, or where it is cut short, and how
+/// many of them belong to the sequence.
+fn kind_of(came: Result<Came>) -> Option<(u8, usize)> {
+    match came {
+        Ok(Came::Part) => Some((0, 0)),
+        Ok(Came::Whole(_, own)) => Some((1, own)),
+        Ok(Came::CutShort(_, own)) => Some((2, own)),
+        Err(_) => None,
+    }
 }
 
 #[test]
-fn multiplexer(rt: HostRuntime) -> Result<(), Fail> {
+fn multiplexer(rt: HostRuntime) {
     let mut receiver = SixelReceiver::new();
     receiver.begin_dcs(rt.alloc());
-    assert!(rt; matches!(read(&mut receiver, b"\x1bPq~")?, Came::Part));
-    assert!(rt; matches!(read(&mut receiver, b"~\x1b[31m")?, Came::CutShort(_, 2)));
-    assert!(rt; !receiver.is_receiving());
+    let part = kind_of(read(&mut receiver, b"\x1bPq~"));
+    let cut_short = kind_of(read(&mut receiver, b"~\x1b[31m"));
     receiver.begin_dcs(rt.alloc());
-    assert!(rt; matches!(read(&mut receiver, b"\x90q~\x9ctext")?, Came::Whole(_, 4)));
-    assert_eq!(rt; receiver.into_decoder().register(1), [51, 51, 204]);
-    Ok(())
+    let whole = kind_of(read(&mut receiver, b"\x90q~\x9ctext"));
+    let are_kinds = (part == Some((0, 0))) & (cut_short == Some((2, 2))) & (whole == Some((1, 4)));
+    assert!(rt; are_kinds & (receiver.into_decoder().register(1) == [51, 51, 204]));
 }

@@ -8,7 +8,6 @@ use crate::session::{Form, Session, Start};
 use anyhow::{Context, Result, bail, ensure};
 use icy_sixel::canvas::{Row, fill_rgba_span};
 use icy_sixel::receiver::SixelReceiver;
-use icy_sixel::{DcsSettings, SixelDecoder};
 use std::alloc::Global;
 
 /// Checks a vector of `rows.tsv`.
@@ -95,19 +94,15 @@ pub fn check_writes(
         work.check(Session::begin(alloc, &mut decoder, start.form)?, length)?;
         work.check(Session::receive(alloc, &mut receiver, start.form), length)?;
     }
-    match start.form {
-        Form::Payload(settings) => check_counted(alloc, decoder, settings, &work.payload),
-        Form::Dcs => Ok(()),
-    }
+    check_counted(alloc, &start, &work.payload)
 }
 
-/// Checks that `finish_counted` adds the packed pixels to the writes.
-fn check_counted(
-    alloc: Global,
-    mut decoder: SixelDecoder,
-    settings: DcsSettings,
-    payload: &[u8],
-) -> Result<()> {
+/// Checks that `finish_counted` of a payload adds the packed pixels to the writes.
+fn check_counted(alloc: Global, start: &Start, payload: &[u8]) -> Result<()> {
+    let Form::Payload(settings) = start.form else {
+        return Ok(());
+    };
+    let mut decoder = start.decoder.clone()?;
     let mut session = decoder.begin_frame(alloc, settings)?;
     session.feed(payload)?;
     let writes = session.canvas_writes();

@@ -77,11 +77,12 @@ impl Outcome {
 
 /// The image that a column writes.
 pub fn image(alloc: Global, text: &str) -> Result<SixelImage> {
-    let mut words = text.split(' ');
-    let (width, height) = size(words.next().context("no size")?)?;
-    let ratio = ratio(words.next().context("no ratio")?)?;
-    let mode = mode(words.next().context("no mode")?)?;
-    let image = SixelImage::from_rgba(pixels(alloc, words)?, width, height);
+    let (dimensions, rest) = text.split_once(' ').context("no ratio")?;
+    let (shape, rest) = rest.split_once(' ').context("no mode")?;
+    let (background, runs) = rest.split_once(' ').unwrap_or((rest, "none"));
+    let (width, height) = size(dimensions)?;
+    let (ratio, mode) = (ratio(shape)?, mode(background)?);
+    let image = SixelImage::from_rgba(pixels(alloc, runs)?, width, height);
     Ok(image.with_aspect_ratio(ratio).with_background_mode(mode))
 }
 
@@ -112,10 +113,10 @@ pub fn mode(text: &str) -> Result<BackgroundMode> {
 }
 
 /// The pixels that runs write.
-pub fn pixels<'a>(alloc: Global, words: impl Iterator<Item = &'a str> + Drop) -> Result<Vec<u8>> {
+pub fn pixels(alloc: Global, runs: &str) -> Result<Vec<u8>> {
     let (mut pixels, mut group) = (Vec::new(alloc), Vec::new(alloc));
     let (mut count, mut is_open) = (1, false);
-    for word in words {
+    for word in runs.split(' ').filter(|word| *word != "none") {
         let mut run = word;
         if let Some((times, first)) = word.split_once("*(") {
             ensure!(!is_open, "a group in a group");

@@ -11,7 +11,7 @@ pub fn check_palette(
     alloc: Global,
     [max_colors, runs, entries, indices, error, witnesses]: [&str; 6],
 ) -> Result<()> {
-    let pixels = pixels(alloc, runs.split(' ').filter(|word| *word != "none"))?;
+    let pixels = pixels(alloc, runs)?;
     let choice = choose_palette(alloc, &pixels, small_number(max_colors)?)?;
     let mut places = Vec::new(alloc);
     for index in choice.indices.iter() {
