@@ -65,8 +65,8 @@ def instructions(arguments, stdin):
     if not which("valgrind"):
         return math.nan
     valgrind = "valgrind --tool=callgrind --callgrind-out-file=/dev/null"
-    told = run(f"{valgrind} {SIXEL} {arguments}", stdin)[1]
-    return int(re.search(rb"Collected : (\d+)", told)[1])
+    found = run(f"{valgrind} {SIXEL} {arguments}", stdin)[1]
+    return int(re.search(rb"Collected : (\d+)", found)[1])
 
 
 def in_process(room, command, file, colors, timers):
@@ -74,8 +74,8 @@ def in_process(room, command, file, colors, timers):
     least = dict.fromkeys(TIMERS, math.inf)
     for timer in RUNS * timers:
         words = TIMERS[timer][1].format(room=room, file=shlex.quote(file), colors=colors)
-        told = re.search(rb"^ *%s +(\S+)" % command.encode(), run(words)[0] or b"", re.M)
-        least[timer] = min(least[timer], float(told[1]) if told else math.inf)
+        found = re.search(rb"^ *%s +(\S+)" % command.encode(), run(words)[0] or b"", re.M)
+        least[timer] = min(least[timer], float(found[1]) if found else math.inf)
     return least.values()
 
 

@@ -146,7 +146,7 @@ void icysixel_free(icysixel *handle);
 /* -- Images as they come -- */
 
 /* Begins a control string, from its introducer on, with the registers, the crop and the limit that the
- * decoder has now. An image that is open is given up. */
+ * decoder has now. An open image is aborted. */
 uint32_t icysixel_begin(icysixel *handle);
 
 /* Begins a payload: what stands between a control string's `q` and its terminator. p1, p2 and grid are
@@ -157,7 +157,7 @@ uint32_t icysixel_begin_payload(icysixel *handle, int32_t p1, int32_t p2, int32_
 /* Reads a piece of the image that is open. Pieces may end anywhere; how the bytes are cut changes no
  * answer. It is refused with ICYSIXEL_NO_SESSION where no image is open, with what is wrong with the
  * bytes so far, or for want of memory. A refusal is kept: each further feed and finish of the image is
- * ICYSIXEL_STREAM_FAILED of a payload, ICYSIXEL_DCS_STREAM_FAILED of a control string. A feed after the
+ * ICYSIXEL_STREAM_FAILED of a payload, ICYSIXEL_DCS_STREAM_FAILED of a DCS sequence. A feed after the
  * end of the image returns ICYSIXEL_DONE, consumes nothing and reports the same status again. */
 uint32_t icysixel_feed(icysixel *handle, const uint8_t *piece, size_t length, icysixel_fed *fed);
 
@@ -192,8 +192,8 @@ uint32_t icysixel_abort(icysixel *handle);
 
 /* Decodes the first control string in the bytes, or all of them as a payload if there is none, keeps the
  * image, and tells its shape, as icysixel_finish does. It need not have ended. It is refused with what is
- * wrong with the bytes, or for want of memory. Where the bytes end in the header of the DCS sequence, the
- * code is ICYSIXEL_MISSING_COMMAND. An image that is open is given up. */
+ * wrong with the bytes, or if an allocation fails. Where the bytes end in the header of the DCS sequence, the
+ * code is ICYSIXEL_MISSING_COMMAND. An open image is aborted. */
 uint32_t icysixel_decode(icysixel *handle, const uint8_t *bytes, size_t length, icysixel_shape *shape);
 
 /* The same of one payload, with the parameters of icysixel_begin_payload. */
@@ -261,7 +261,7 @@ uint32_t icysixel_encode(icysixel *handle, const uint8_t *pixels, size_t length,
                          size_t width, size_t height, int32_t p1, int32_t p2, uint16_t max_colors,
                          size_t *text_length);
 
-/* Moves the text that is kept into the room, a DCS sequence without a zero after it. Writes to `wanted`
+/* Copies the stored text into the room and releases it, a DCS sequence without a zero after it. Writes to `wanted`
  * how many bytes the text has, also with ICYSIXEL_SMALL_ROOM. With any other error `wanted` is 0. An error
  * changes neither the room nor the stored text. It does not allocate. */
 uint32_t icysixel_take_text(icysixel *handle, uint8_t *room, size_t length, size_t *wanted);
