@@ -7,6 +7,7 @@ ghost use Rattle.icysixel_c.specs.Code.{status_code, status_byte};
 
 use icy_sixel::script::Status;
 use icy_sixel::{SixelDcsFeedStatus, SixelError, SixelFeedStatus};
+use sixel_base::error;
 
 /// The call was done.
 pub const DONE: u32 = 0;
@@ -76,13 +77,13 @@ fn text_code(text: &str) -> u32
     ensures refused { result ≢ 0 }
 {
     match text {
-        "malformed SIXEL data" => MALFORMED,
-        "image dimensions too large" => TOO_LARGE,
-        "invalid SIXEL DCS header" => BAD_HEADER,
-        "missing SIXEL DCS command" => MISSING_COMMAND,
-        "incomplete SIXEL DCS sequence" => INCOMPLETE,
-        "stream decoder has failed" => STREAM_FAILED,
-        "DCS stream decoder has failed" => DCS_STREAM_FAILED,
+        error::MALFORMED => MALFORMED,
+        error::TOO_LARGE => TOO_LARGE,
+        error::BAD_HEADER => BAD_HEADER,
+        error::MISSING_COMMAND => MISSING_COMMAND,
+        error::INCOMPLETE => INCOMPLETE,
+        error::STREAM_FAILED => STREAM_FAILED,
+        error::DCS_STREAM_FAILED => DCS_STREAM_FAILED,
         _ => unreachable!(),
     }
 }

@@ -3,6 +3,8 @@
 ghost use Rattle.std.specs.Prelude.{◌≡◌, ◌+◌, ◌<◌, ◌≤◌, ◌∷◌, ◌++◌, length, drop};
 ghost use Rattle.icysixel_c.specs.Words.{words};
 
+use sixel_base::error;
+
 /// Writes what a code means and a zero into the room, if both fit, and tells how many bytes the
 /// words have. Into room that is too small it writes a zero alone.
 #[unsafe(no_mangle)]
@@ -51,13 +53,13 @@ fn words(code: u32) -> &'static str
         10 => "invalid dimensions",
         11 => "buffer size mismatch",
         12 => "no SIXEL data found (missing DCS introducer)",
-        13 => "malformed SIXEL data",
-        14 => "image dimensions too large",
-        15 => "invalid SIXEL DCS header",
-        16 => "missing SIXEL DCS command",
-        17 => "incomplete SIXEL DCS sequence",
-        18 => "stream decoder has failed",
-        19 => "DCS stream decoder has failed",
+        13 => error::MALFORMED,
+        14 => error::TOO_LARGE,
+        15 => error::BAD_HEADER,
+        16 => error::MISSING_COMMAND,
+        17 => error::INCOMPLETE,
+        18 => error::STREAM_FAILED,
+        19 => error::DCS_STREAM_FAILED,
         _ => "unknown code",
     }
 }
