@@ -1,4 +1,6 @@
 //! What a payload session was fed, and what it has read of it.
+//!
+//! The contracts of its calls are the records of `PayloadCalls`.
 
 ghost use Rattle.std.specs.Prelude.{◌≡◌, None, Some, List, ℕ};
 ghost use Rattle.sixel_base.specs.Decoder.{origin_of};

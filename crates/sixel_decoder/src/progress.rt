@@ -1,4 +1,6 @@
 //! What a control string session was fed, and how far its control string has come.
+//!
+//! The contracts of its calls are the records of `DcsCalls`.
 
 ghost use Rattle.std.specs.Prelude.{◌≡◌, true, false};
 ghost use Rattle.sixel_base.specs.Dcs.{dcs_in_payload, has_come};
