@@ -1,5 +1,6 @@
 -- How the distance to the nearest entry changes with the entries.
-use Rattle.std.proofs.Common.{◌≡◌, ℕ, zero, suc, ◌<◌, ◌≤◌, min, List, [], ◌∷◌, ◌++◌, length, get_or, take, refl, arith}
+use Rattle.std.proofs.Common.{◌≡◌, ℕ, zero, suc, ◌<◌, ◌≤◌, min, List, [], ◌∷◌, ◌++◌, length, get_or}
+use Rattle.std.proofs.Common.{take, refl, arith}
 use Rattle.sixel_palette.specs.Palette.{distance, nearest}
 
 -- with no entry it is above every distance of byte colors
@@ -8,13 +9,15 @@ unfolding nearest
 nearest-nil c = refl
 
 -- one more entry
-pub nearest-push : (ps : List (List ℕ)) (q c : List ℕ) → nearest (ps ++ q ∷ []) c ≡ min (nearest ps c) (distance q c)
+pub nearest-push : (ps : List (List ℕ)) (q c : List ℕ)
+    → nearest (ps ++ q ∷ []) c ≡ min (nearest ps c) (distance q c)
 unfolding nearest
 nearest-push [] q c = omega arith
 nearest-push (p ∷ ps) q c = omega (arith, nearest-push ps q c)
 
 -- no entry is nearer
-pub nearest-le : (ps : List (List ℕ)) (c : List ℕ) (i : ℕ) (d : List ℕ) → i < length ps → nearest ps c ≤ distance (get_or ps i d) c
+pub nearest-le : (ps : List (List ℕ)) (c : List ℕ) (i : ℕ) (d : List ℕ) → i < length ps
+    → nearest ps c ≤ distance (get_or ps i d) c
 unfolding nearest
 nearest-le [] c i d l = absurd (omega arith)
 nearest-le (p ∷ ps) c zero d l = omega arith

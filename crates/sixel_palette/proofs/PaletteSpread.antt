@@ -1,11 +1,14 @@
--- From what is kept for each listed color to the farthest color, and from the places of entries to the nearest ones.
-use Rattle.std.proofs.Common.{◌≡◌, ℕ, ◌+◌, ◌*◌, ◌/◌, ◌%◌, ◌<◌, ◌≤◌, List, [], length, get_or, refl, ap, sym, ◌∙◌, ⊎_elim, arith}
+-- From what is kept for each listed color to the farthest color, and from the places of entries to
+-- the nearest ones.
+use Rattle.std.proofs.Common.{◌≡◌, ℕ, ◌+◌, ◌*◌, ◌/◌, ◌%◌, ◌<◌, ◌≤◌, List, [], length, get_or, refl}
+use Rattle.std.proofs.Common.{ap, sym, ◌∙◌, ⊎_elim, arith}
 use Rattle.std.specs.List.{Contains}
 use Rattle.std.specs.List.Sorted.{IsStrictlyIncreasing}
 use Rattle.std.proofs.lemmas.Bool.{cases_lt}
 use Rattle.std.proofs.lemmas.List.{get_or_default}
 use Rattle.sixel_palette.specs.declared.palette.farthest.Near.{Near}
-use Rattle.sixel_palette.specs.Palette.{nearest, rank, color_at, IsOpaque, IsShown, IsFarthest, IsNearest}
+use Rattle.sixel_palette.specs.Palette.{nearest, rank, color_at, IsOpaque, IsShown, IsFarthest}
+use Rattle.sixel_palette.specs.Palette.{IsNearest}
 use Rattle.sixel_palette.specs.inside.PaletteCodes.{color_of, IsListed}
 use Rattle.sixel_palette.specs.inside.PaletteNear.{IsNear, AreKept, IsIndexOf, IsIndex}
 use Rattle.sixel_palette.specs.inside.PaletteChunks.{IsFirstGreatest}
@@ -15,12 +18,15 @@ use Rattle.sixel_palette.proofs.PaletteColors.{rank-color_of, color_of-rank}
 use Rattle.sixel_palette.proofs.PaletteShown.{IsColor-color_at}
 
 -- an earlier place has a color that is no later in order
-rank-le : (codes : List ℕ) → IsStrictlyIncreasing codes → (i j : ℕ) → i ≤ j → j < length codes → rank (color_of (get_or codes i 0)) ≤ rank (color_of (get_or codes j 0))
+rank-le : (codes : List ℕ) → IsStrictlyIncreasing codes → (i j : ℕ) → i ≤ j → j < length codes
+    → rank (color_of (get_or codes i 0)) ≤ rank (color_of (get_or codes j 0))
 rank-le codes up i j l m =
-    rw (rank-color_of (get_or codes i 0), rank-color_of (get_or codes j 0)) (increasing-le codes up i j l m)
+    rw (rank-color_of (get_or codes i 0), rank-color_of (get_or codes j 0))
+    (increasing-le codes up i j l m)
 
 -- with no entry the first of the listed colors is farthest
-pub farthest_of_none : (codes : List ℕ) → IsStrictlyIncreasing codes → 0 < length codes → IsFarthest (IsListed codes) [] (color_of (get_or codes 0 0))
+pub farthest_of_none : (codes : List ℕ) → IsStrictlyIncreasing codes → 0 < length codes
+    → IsFarthest (IsListed codes) [] (color_of (get_or codes 0 0))
 farthest_of_none codes up some = record {
   member = (0, some, refl);
   farthest = λ d _. omega (arith, nearest-nil d, nearest-nil (color_of (get_or codes 0 0)));
@@ -28,22 +34,44 @@ farthest_of_none codes up some = record {
 }
 
 -- what is kept for a listed color is its distance to the nearest entry
-squared-listed : (entries : List (List ℕ)) (codes squares places : List ℕ) → AreKept entries codes squares places → (d : List ℕ) (m : IsListed codes d) → get_or squares m.0 0 ≡ nearest entries d
+squared-listed : (entries : List (List ℕ)) (codes squares places : List ℕ)
+    → AreKept entries codes squares places → (d : List ℕ) (m : IsListed codes d)
+    → get_or squares m.0 0 ≡ nearest entries d
 squared-listed entries codes squares places kept d m = rw (← m.2) (kept m.0 m.1).gap
 
 -- the first place of the greatest distance is that of the farthest color
-pub farthest_from_place : (entries : List (List ℕ)) (codes squares places : List ℕ) (place : ℕ) → IsStrictlyIncreasing codes → length squares ≡ length codes → AreKept entries codes squares places → IsFirstGreatest squares place → IsFarthest (IsListed codes) entries (color_of (get_or codes place 0))
+pub farthest_from_place : (entries : List (List ℕ)) (codes squares places : List ℕ) (place : ℕ)
+    → IsStrictlyIncreasing codes → length squares ≡ length codes
+    → AreKept entries codes squares places → IsFirstGreatest squares place
+    → IsFarthest (IsListed codes) entries (color_of (get_or codes place 0))
 farthest_from_place entries codes squares places place up same kept first =
-    let here : IsListed codes (color_of (get_or codes place 0)) = (place, omega (arith, first.within), refl) in
-    let gap = squared-listed entries codes squares places kept (color_of (get_or codes place 0)) here in
+    let here : IsListed codes (color_of (get_or codes place 0)) = (
+      place,
+      omega (arith, first.within),
+      refl,
+    ) in
+    let gap =
+    squared-listed entries codes squares places kept (color_of (get_or codes place 0)) here in
     record {
       member = here;
-      farthest = λ d m. omega (arith, gap, squared-listed entries codes squares places kept d m, first.greatest m.0 (omega (arith, m.1)));
-      least = λ d m e. rw (← m.2) (rank-le codes up place m.0 (⊎_elim (λ l. absurd (omega (arith, gap, squared-listed entries codes squares places kept d m, first.first m.0 l, e))) (λ l. l) (cases_lt m.0 place)) m.1);
+      farthest = λ d m.
+          omega (
+            arith,
+            gap,
+            squared-listed entries codes squares places kept d m,
+            first.greatest m.0 (omega (arith, m.1)),
+          );
+      least = λ d m e.
+          rw (← m.2) (rank-le codes up place m.0 (⊎_elim
+          (λ l.
+          absurd (omega
+          (arith, gap, squared-listed entries codes squares places kept d m, first.first m.0 l, e)))
+          (λ l. l) (cases_lt m.0 place)) m.1);
     }
 
 -- what is kept below the number for no entry tells the nearest entry
-pub nearest_from_near : (entries : List (List ℕ)) (c : List ℕ) (near : Near) → nearest entries c < 195076 → IsNear entries c near → IsNearest entries c near.entry
+pub nearest_from_near : (entries : List (List ℕ)) (c : List ℕ) (near : Near)
+    → nearest entries c < 195076 → IsNear entries c near → IsNearest entries c near.entry
 nearest_from_near entries c near l h = record {
   entry = h.within l;
   least = λ j m. rw (h.least l) (nearest-le entries c j [] m);
@@ -51,29 +79,45 @@ nearest_from_near entries c near l h = record {
 }
 
 -- a code that is the place of a listed color is among the codes
-code_from_listed : (codes : List ℕ) (c : List ℕ) (m : IsListed codes c) → get_or codes m.0 0 ≡ rank c
+code_from_listed : (codes : List ℕ) (c : List ℕ) (m : IsListed codes c)
+    → get_or codes m.0 0 ≡ rank c
 code_from_listed codes c m = sym (rank-color_of (get_or codes m.0 0)) ∙ ap rank m.2
 
 -- so the code of an opaque pixel's word is among those of all shown colors
-pub Contains-word : (pixels codes : List ℕ) (pixel word : ℕ) → word / 256 ≡ rank (color_at pixels pixel) → pixel < length pixels / 4 → IsOpaque pixels pixel → ((c : List ℕ) → IsShown pixels c → IsListed codes c) → Contains codes (word / 256)
+pub Contains-word : (pixels codes : List ℕ) (pixel word : ℕ)
+    → word / 256 ≡ rank (color_at pixels pixel) → pixel < length pixels / 4 → IsOpaque pixels pixel
+    → ((c : List ℕ) → IsShown pixels c → IsListed codes c) → Contains codes (word / 256)
 Contains-word pixels codes pixel word code l opaque listed =
     let color = color_at pixels pixel in
-    let m = listed color (pixel, l, opaque, refl) in
-    (m.0, m.1, get_or_default codes m.0 (word / 256) 0 m.1 ∙ code_from_listed codes color m ∙ sym code)
+    let m = listed color (pixel, l, opaque, refl) in (
+      m.0,
+      m.1,
+      get_or_default codes m.0 (word / 256) 0 m.1 ∙ code_from_listed codes color m ∙ sym code,
+    )
 
 -- the color of a pixel is that of its word
-color_of_word : (pixels : List ℕ) (pixel word : ℕ) → ((k : ℕ) → get_or pixels k 0 < 256) → word / 256 ≡ rank (color_at pixels pixel) → color_of (word / 256) ≡ color_at pixels pixel
+color_of_word : (pixels : List ℕ) (pixel word : ℕ) → ((k : ℕ) → get_or pixels k 0 < 256)
+    → word / 256 ≡ rank (color_at pixels pixel) → color_of (word / 256) ≡ color_at pixels pixel
 color_of_word pixels pixel word bytes code =
     ap color_of code ∙ color_of-rank (color_at pixels pixel) (IsColor-color_at pixels pixel bytes)
 
 -- what holds of shown colors holds of that of an opaque pixel's word
-pub word_below : (pixels : List ℕ) (entries : List (List ℕ)) (pixel word : ℕ) → ((k : ℕ) → get_or pixels k 0 < 256) → word / 256 ≡ rank (color_at pixels pixel) → pixel < length pixels / 4 → IsOpaque pixels pixel → ((c : List ℕ) → IsShown pixels c → nearest entries c < 195076) → nearest entries (color_of (word / 256)) < 195076
+pub word_below : (pixels : List ℕ) (entries : List (List ℕ)) (pixel word : ℕ)
+    → ((k : ℕ) → get_or pixels k 0 < 256) → word / 256 ≡ rank (color_at pixels pixel)
+    → pixel < length pixels / 4 → IsOpaque pixels pixel
+    → ((c : List ℕ) → IsShown pixels c → nearest entries c < 195076)
+    → nearest entries (color_of (word / 256)) < 195076
 word_below pixels entries pixel word bytes code l opaque below =
-    rw (color_of_word pixels pixel word bytes code) (below (color_at pixels pixel) (pixel, l, opaque, refl))
+    rw (color_of_word pixels pixel word bytes code)
+    (below (color_at pixels pixel) (pixel, l, opaque, refl))
 
 -- the index for a word is that of each pixel with the word
-pub index_from_word : (pixels : List ℕ) (entries : List (List ℕ)) (pixel word index : ℕ) → ((k : ℕ) → get_or pixels k 0 < 256) → word / 256 ≡ rank (color_at pixels pixel) → word % 256 ≡ get_or pixels (4 * pixel + 3) 0 → IsIndexOf entries word index → IsIndex pixels entries pixel index
+pub index_from_word : (pixels : List ℕ) (entries : List (List ℕ)) (pixel word index : ℕ)
+    → ((k : ℕ) → get_or pixels k 0 < 256) → word / 256 ≡ rank (color_at pixels pixel)
+    → word % 256 ≡ get_or pixels (4 * pixel + 3) 0 → IsIndexOf entries word index
+    → IsIndex pixels entries pixel index
 index_from_word pixels entries pixel word index bytes code alpha h = record {
-  opaque = λ o. rw (color_of_word pixels pixel word bytes code) at h.opaque (omega (arith, alpha, o));
+  opaque = λ o.
+      rw (color_of_word pixels pixel word bytes code) at h.opaque (omega (arith, alpha, o));
   hidden = λ l. h.hidden (omega (arith, alpha, l));
 }

@@ -1,6 +1,8 @@
--- The chunks that the palette's working keeps its colors in: 64 colors next to each other in order, the box round them
--- and the greatest squared distance of one of them. They only save work, and follow from no rule of palettes.
-use Rattle.std.specs.Prelude.{◌≡◌, ◌⊎◌, ℕ, ◌+◌, ◌*◌, ◌/◌, ◌%◌, ◌≤◌, ◌<◌, List, length, slice_index, slice_index_or}
+-- The chunks that the palette's working keeps its colors in: 64 colors next to each other in order,
+-- the box round them and the greatest squared distance of one of them. They only save work, and
+-- follow from no rule of palettes.
+use Rattle.std.specs.Prelude.{◌≡◌, ◌⊎◌, ℕ, ◌+◌, ◌*◌, ◌/◌, ◌%◌, ◌≤◌, ◌<◌, List, length, slice_index}
+use Rattle.std.specs.Prelude.{slice_index_or}
 use Rattle.sixel_palette.specs.declared.palette.chunks.Side.{Side}
 use Rattle.sixel_palette.specs.declared.palette.chunks.Chunk.{Chunk}
 use Rattle.sixel_palette.specs.inside.PaletteCodes.{color_of}
@@ -40,12 +42,14 @@ pub record IsChunk (codes squares : List ℕ) (place : ℕ) (chunk : Chunk) : Ty
 -- so it is for all chunks, and these hold all places
 pub record AreChunks (codes squares : List ℕ) (chunks : List Chunk) : Type 0 where
   pub all : length codes ≤ 64 * length chunks
-  pub each : (j : ℕ) (d : Chunk) → j < length chunks → IsChunk codes squares j (slice_index_or chunks j d)
+  pub each : (j : ℕ) (d : Chunk) → j < length chunks
+      → IsChunk codes squares j (slice_index_or chunks j d)
 
 -- what is kept for the colors of a chunk tells of the nearest entry
 abbrev pub AreKeptIn : List (List ℕ) → List ℕ → List ℕ → List ℕ → ℕ → Type 0
 AreKeptIn entries codes squares places chunk =
-    (k : ℕ) → IsInChunk codes chunk k → IsNear entries (color_of (slice_index codes k)) (kept_at squares places k)
+    (k : ℕ) → IsInChunk codes chunk k
+    → IsNear entries (color_of (slice_index codes k)) (kept_at squares places k)
 
 -- the numbers outside of a chunk stay
 abbrev pub AreElsewhere : ℕ → List ℕ → List ℕ → Type 0

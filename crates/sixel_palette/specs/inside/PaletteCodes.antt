@@ -1,6 +1,7 @@
--- Colors as numbers of 24 bits, and what the palette's working keeps for each color. It follows from the order of
--- colors: red is the highest byte, blue the lowest.
-use Rattle.std.specs.Prelude.{◌≡◌, ℕ, ◌/◌, ◌%◌, ◌<◌, List, [], ◌∷◌, length, All, Contains, slice_index}
+-- Colors as numbers of 24 bits, and what the palette's working keeps for each color. It follows
+-- from the order of colors: red is the highest byte, blue the lowest.
+use Rattle.std.specs.Prelude.{◌≡◌, ℕ, ◌/◌, ◌%◌, ◌<◌, List, [], ◌∷◌, length, All, Contains}
+use Rattle.std.specs.Prelude.{slice_index}
 use Rattle.sixel_palette.specs.Palette.{rank, color_at, IsOpaque}
 
 -- the color of a code
@@ -19,4 +20,5 @@ HasPixel pixels count code =
 -- the codes are those of the opaque pixels among the first ones
 pub record AreCodes (pixels : List ℕ) (count : ℕ) (codes : List ℕ) : Type 0 where
   pub all : All (HasPixel pixels count) codes
-  pub complete : (pixel : ℕ) → pixel < count → IsOpaque pixels pixel → Contains codes (rank (color_at pixels pixel))
+  pub complete : (pixel : ℕ) → pixel < count → IsOpaque pixels pixel
+      → Contains codes (rank (color_at pixels pixel))

@@ -23,7 +23,10 @@ returns-clause-chosen c = record {
 pub returns-clause-indices : goal.returns-clause-indices
 returns-clause-indices c =
     let kept = kept_from_near _ _ _ c.in_ok-spread.ensures.near c.in_ok-spread.ensures.nears_len in
-    c.in_ok-indices.ensures c.in_ok-spread.spread.colors.items kept.0 (rw c.places.ensures kept.1) (chosen_near _ _ _ (returns-clause-chosen c) (λ k. omega (arith, c.type_inv.pixels k)) c.requires.some)
+    c.in_ok-indices.ensures c.in_ok-spread.spread.colors.items kept.0 (rw c.places.ensures kept.1)
+    (chosen_near _ _ _ (returns-clause-chosen c)
+    (λ k. omega (arith, c.type_inv.pixels k))
+    c.requires.some)
 
 pub witnesses-requires-clause-within : goal.witnesses-requires-clause-within
 witnesses-requires-clause-within c = c.in_ok-spread.ensures.within

@@ -23,8 +23,11 @@ loop-entry-preserved c =
     let h = c.loop-entry.invariant in
     let new = c.take-farthest.new.self in
     let some : 0 < length codes = omega arith in
-    let pushed : c.push.new.self.items ≡ c.loop-entry.colors.items ++ color ∷ [] = rw (← c.color_of-color.ensures) c.in_ok-push.ensures.items in
-    let kept = rw c.color_of-color.ensures at (c.take-farthest.ensures.kept c.loop-entry.colors.items h.size h.kept) in
+    let pushed : c.push.new.self.items ≡ c.loop-entry.colors.items ++ color ∷ [] =
+    rw (← c.color_of-color.ensures) c.in_ok-push.ensures.items in
+    let kept =
+    rw c.color_of-color.ensures at
+    (c.take-farthest.ensures.kept c.loop-entry.colors.items h.size h.kept) in
     let whole = c.take-farthest.ensures.whole in
     let first = c.take-farthest.ensures.farthest in
     rw pushed (record {
@@ -33,15 +36,19 @@ loop-entry-preserved c =
       whole = whole;
       kept = kept;
       within = λ _. omega (arith, whole.squares, first.within);
-      farthest = λ _. farthest_from_place (c.loop-entry.colors.items ++ color ∷ []) codes new.squares.items new.places.items c.take-farthest.result c.requires.ascending whole.squares kept first;
+      farthest = λ _.
+          farthest_from_place (c.loop-entry.colors.items ++ color ∷ []) codes new.squares.items
+          new.places.items c.take-farthest.result c.requires.ascending whole.squares kept first;
     })
 
 pub returns-clause-near : goal.returns-clause-near
 returns-clause-near c =
-    c.into_nears.ensures.near c.loop-entry.colors.items c.args.codes.now c.loop-entry.invariant.whole c.loop-entry.invariant.kept
+    c.into_nears.ensures.near c.loop-entry.colors.items c.args.codes.now
+    c.loop-entry.invariant.whole c.loop-entry.invariant.kept
 
 pub color_of-color-requires : goal.color_of-color-requires
-color_of-color-requires c = c.requires.small c.loop-entry.farthest 0 (c.loop-entry.invariant.within (omega arith))
+color_of-color-requires c =
+    c.requires.small c.loop-entry.farthest 0 (c.loop-entry.invariant.within (omega arith))
 
 pub take-farthest-requires-clause-small : goal.take-farthest-requires-clause-small
 take-farthest-requires-clause-small c = c.requires.small

@@ -11,5 +11,6 @@ invariant-loop-entry l = record {
   whole : IsWhole l.codes l.kept;
   kept : IsKept l.colors.items l.codes l.kept;
   within : 0 < length l.codes → l.farthest < length l.codes;
-  farthest : 0 < length l.codes → IsFarthest (IsListed l.codes) l.colors.items (color_of (get_or l.codes l.farthest 0));
+  farthest : 0 < length l.codes
+      → IsFarthest (IsListed l.codes) l.colors.items (color_of (get_or l.codes l.farthest 0));
 }

@@ -10,4 +10,11 @@ pub loop-place-preserved : goal.loop-place-preserved
 loop-place-preserved c =
     let entries = c.args.entries.now in
     let place = c.loop-place.place in
-    rw (take_more entries place [] (omega arith)) (omega (arith, nearest-push (take place entries) (get_or entries place []) c.args.color, c.loop-place.invariant, c.distance.ensures.value, c.min-least.ensures))
+    rw (take_more entries place [] (omega arith))
+    (omega (
+      arith,
+      nearest-push (take place entries) (get_or entries place []) c.args.color,
+      c.loop-place.invariant,
+      c.distance.ensures.value,
+      c.min-least.ensures,
+    ))

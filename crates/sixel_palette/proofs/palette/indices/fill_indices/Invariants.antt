@@ -6,12 +6,15 @@ use Rattle.sixel_palette.proofs.palette.indices.fill_indices.Given as goal
 abbrev pub invariant-loop-four : goal.invariant-loop-four
 invariant-loop-four l = record {
   size : length l.indices ≡ length l.pixels / 4;
-  each : (entries : List (List ℕ)) → TellsNearest l.pixels entries l.look_up → AreIndicesTo l.pixels entries (4 * l.four) l.indices;
-  last : (entries : List (List ℕ)) → TellsNearest l.pixels entries l.look_up → IsIndexOf entries l.last l.index;
+  each : (entries : List (List ℕ)) → TellsNearest l.pixels entries l.look_up
+      → AreIndicesTo l.pixels entries (4 * l.four) l.indices;
+  last : (entries : List (List ℕ)) → TellsNearest l.pixels entries l.look_up
+      → IsIndexOf entries l.last l.index;
 }
 
 abbrev pub invariant-loop-pixel : goal.invariant-loop-pixel
 invariant-loop-pixel l = record {
   size : length l.indices ≡ length l.pixels / 4;
-  each : (entries : List (List ℕ)) → TellsNearest l.pixels entries l.look_up → AreIndicesTo l.pixels entries l.pixel l.indices;
+  each : (entries : List (List ℕ)) → TellsNearest l.pixels entries l.look_up
+      → AreIndicesTo l.pixels entries l.pixel l.indices;
 }

@@ -8,4 +8,8 @@ returns-clause-least c x side =
     let value = c.args.value in
     let gap = abs_diff c.from-own.result c.min-near.result in
     let more = abs_diff value x in
-    omega (arith, c.wrapped_gap.ensures.value, square-le gap more (more - gap) (omega (arith, side.low, side.high)))
+    omega (
+      arith,
+      c.wrapped_gap.ensures.value,
+      square-le gap more (more - gap) (omega (arith, side.low, side.high)),
+    )

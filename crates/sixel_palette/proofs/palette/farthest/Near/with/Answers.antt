@@ -5,7 +5,8 @@ use Rattle.sixel_palette.proofs.palette.farthest.Near.with.Goals as goal
 
 pub returns-then-squared-self : goal.returns-then-squared-self
 returns-then-squared-self c entries p color at same h =
-    near_taken entries p color c.args.squared c.args.entry c.args.self c.if-squared-self.true at same h
+    near_taken entries p color c.args.squared c.args.entry c.args.self c.if-squared-self.true at
+    same h
 
 pub returns-else-squared-self : goal.returns-else-squared-self
 returns-else-squared-self c entries p color at same h =
