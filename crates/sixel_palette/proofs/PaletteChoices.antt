@@ -54,33 +54,33 @@ order_alike : (M N : List ℕ → Type 0) → ((c : List ℕ) → M c → N c) �
 order_alike M N to from entries order = λ i d l.
     farthest_alike M N to from (take i entries) (get_or entries i d) (order i d l)
 
--- a shown color has three channels
+-- the color of an opaque pixel has three channels
 pub three_from_shown : (pixels c : List ℕ) → IsShown pixels c → length c ≡ 3
 three_from_shown pixels c h = rw (← h.3) refl
 
--- a shown color is a color
+-- the color of an opaque pixel has channels that are bytes
 pub IsColor-shown : (pixels c : List ℕ) → ((k : ℕ) → get_or pixels k 0 < 256) → IsShown pixels c
     → IsColor c
 IsColor-shown pixels c bytes h = rw (← h.3) (IsColor-color_at pixels h.0 bytes)
 
 module _ (pixels : List ℕ) (room : ℕ) (choice : PaletteChoice)
     (h : IsChosen pixels room choice) where
-  -- a shown color is among some
+  -- where a pixel is opaque there is a code
   some_from_shown : (c : List ℕ) → IsShown pixels c → 0 < length h.codes
   some_from_shown c m = let l = (h.shown c m).1 in omega arith
 
-  -- the entries are farthest first over the shown colors
+  -- the entries are farthest first over the colors of opaque pixels
   pub chosen_order : IsFarthestFirst (IsShown pixels) choice.colors.items
   chosen_order =
       order_alike (IsListed h.codes) (IsShown pixels) h.listed h.shown choice.colors.items h.order
 
-  -- the next color is the farthest of the shown ones
+  -- the next color is the farthest of these
   chosen_farthest : 0 < length h.codes → IsFarthest (IsShown pixels) choice.colors.items h.far
   chosen_farthest l =
       farthest_alike (IsListed h.codes) (IsShown pixels) h.listed h.shown choice.colors.items h.far
       (h.farthest l)
 
-  -- as many colors are shown as there are codes
+  -- there are as many of these colors as codes
   pub chosen_size : HasSize (IsShown pixels) (length h.codes)
   chosen_size = size_from_codes (IsShown pixels) h.codes h.up h.shown h.listed
 
@@ -121,7 +121,7 @@ module _ (pixels : List ℕ) (room : ℕ) (choice : PaletteChoice)
       (λ l. rw (h.witnesses_none l) (λ i j d m n. absurd (omega arith)))
       (cases_lt (length choice.colors.items) (length h.codes))
 
-  -- they are shown
+  -- they are colors of opaque pixels
   pub chosen_occur : All (IsShown pixels) choice.witnesses.items
   chosen_occur =
       ⊎_elim (λ l.
@@ -139,7 +139,7 @@ module _ (pixels : List ℕ) (room : ℕ) (choice : PaletteChoice)
       rw (h.error_some some) (bound_from_order (IsShown pixels) choice.colors.items h.far
       chosen_order (chosen_farthest some))
 
-  -- where there is room for all shown colors each is an entry
+  -- where there is room for all of these colors each is an entry
   pub chosen_complete : (n : ℕ) → HasSize (IsShown pixels) n → n ≤ room → (c : List ℕ)
       → IsShown pixels c → Contains choice.colors.items c
   chosen_complete n s l c m =
@@ -148,7 +148,7 @@ module _ (pixels : List ℕ) (room : ℕ) (choice : PaletteChoice)
       complete_from_size (IsShown pixels) (three_from_shown pixels) choice.colors.items h.far n
       chosen_order (chosen_farthest (some_from_shown c m)) s (omega arith) c m
 
-  -- a shown color is nearer to some entry than what stands for none
+  -- each of these colors has a nearest entry
   pub chosen_near : ((k : ℕ) → get_or pixels k 0 < 256) → 0 < room → (c : List ℕ) → IsShown pixels c
       → nearest choice.colors.items c < 195076
   chosen_near bytes r c m =
@@ -163,7 +163,7 @@ module _ (pixels : List ℕ) (room : ℕ) (choice : PaletteChoice)
             (IsColor-shown pixels c bytes m),
       )
 
-  -- where no color is shown there is no entry
+  -- where no pixel is opaque there is no entry
   pub chosen_empty : ((c : List ℕ) → ¬ IsShown pixels c) → choice.colors.items ≡ []
   chosen_empty none =
       nil_from_length choice.colors.items (⊎_elim

@@ -14,7 +14,7 @@ pub record IsColor (c : List ℕ) : Type 0 where
   pub three : length c ≡ 3
   pub bytes : (k : ℕ) → k < 3 → get_or c k 0 < 256
 
--- colors with one place in the order are equal
+-- colors of one rank are equal
 pub same_from_rank : (a b : List ℕ) → IsColor a → IsColor b → rank a ≡ rank b → a ≡ b
 unfolding rank
 same_from_rank a b p q e =
@@ -27,7 +27,7 @@ same_from_rank a b p q e =
     below_three (λ k. get_or a k 0 ≡ get_or b k 0)
     (omega arith) (omega arith) (omega arith) k (omega (arith, p.three)))
 
--- the place of a code's color is the code
+-- the rank of a code's color is the code
 pub rank-color_of : (code : ℕ) → rank (color_of code) ≡ code
 unfolding rank color_of
 rank-color_of code = omega arith
@@ -42,13 +42,13 @@ IsColor-color_of code l = record {
       (omega arith) (omega arith) (omega arith);
 }
 
--- the place of a color has 24 bits
+-- the rank of a color has 24 bits
 pub rank-lt : (c : List ℕ) → IsColor c → rank c < 16777216
 unfolding rank
 rank-lt c h =
     omega (arith, h.bytes 0 (omega arith), h.bytes 1 (omega arith), h.bytes 2 (omega arith))
 
--- a color is that of its place
+-- a color is that of its rank
 pub color_of-rank : (c : List ℕ) → IsColor c → color_of (rank c) ≡ c
 color_of-rank c h =
     same_from_rank (color_of (rank c)) c (IsColor-color_of (rank c) (rank-lt c h)) h
@@ -62,7 +62,7 @@ square_gap-le a b k p q =
     let gap = abs_diff (get_or a k 0) (get_or b k 0) in
     square-le gap 255 (255 - gap) (omega arith)
 
--- colors are nearer than what stands for no entry
+-- the distance of two colors is below that of no entry
 pub distance-lt : (a b : List ℕ) → IsColor a → IsColor b → distance a b < 195076
 unfolding distance
 distance-lt a b p q =

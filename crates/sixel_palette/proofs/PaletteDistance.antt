@@ -63,7 +63,7 @@ gap-zero x y h =
     (λ l. absurd (omega (arith, square-zero (abs_diff x y) (abs_diff x y - 1) (omega arith))))
     (λ l. omega arith) (cases_lt 0 (abs_diff x y))
 
--- a fact for three places
+-- a fact for three indices
 pub below_three : (P : ℕ → Type 0) → P 0 → P 1 → P 2 → (k : ℕ) → k < 3 → P k
 below_three P a b c zero l = a
 below_three P a b c (suc zero) l = b

@@ -26,7 +26,7 @@ set_cases P xs x n k e l before here =
     (λ (h : n ≤ k). let at : k ≡ n = omega arith in rw (at, get_or-set_same xs n x 0 e) here)
     (cases_lt k n)
 
--- a fact of each of four places
+-- a fact of each of four indices
 pub four_cases : (P : ℕ → Type 0) → P 0 → P 1 → P 2 → P 3 → (k : ℕ) → k < 4 → P k
 four_cases P a b c d zero l = a
 four_cases P a b c d (suc zero) l = b
@@ -34,7 +34,7 @@ four_cases P a b c d (suc (suc zero)) l = c
 four_cases P a b c d (suc (suc (suc zero))) l = d
 four_cases P a b c d (suc (suc (suc (suc k)))) l = absurd (omega arith)
 
--- rising numbers do not fall from an earlier place to a later one
+-- rising numbers do not fall from an earlier position to a later one
 pub increasing-le : (xs : List ℕ) → IsStrictlyIncreasing xs → (i j : ℕ) → i ≤ j → j < length xs
     → get_or xs i 0 ≤ get_or xs j 0
 increasing-le xs up i j l m =
@@ -58,7 +58,7 @@ increasing-push xs x up below = λ k l.
     ) (below k 0 (omega (arith, long))))
     (cases_lt (k + 1) (length xs))
 
--- a rising number is at least its place
+-- a rising number is at least its position
 increasing-from : (xs : List ℕ) → IsStrictlyIncreasing xs → (k : ℕ) → k < length xs
     → k ≤ get_or xs k 0
 increasing-from xs up zero l = omega arith
@@ -79,7 +79,7 @@ increasing-few xs n up below =
     (λ (none : length xs ≤ 0). omega arith)
     (cases_lt 0 (length xs))
 
--- a number of a part stands that far on in the whole
+-- a number of a part is that far on in the whole
 get_or_part : (xs : List ℕ) (a n k : ℕ) → k < n
     → get_or (take n (drop a xs)) k 0 ≡ get_or xs (a + k) 0
 get_or_part xs a n k l = get_or-take n (drop a xs) k 0 l ∙ get_or-drop a xs k 0
@@ -88,7 +88,7 @@ get_or_part xs a n k l = get_or-take n (drop a xs) k 0 l ∙ get_or-drop a xs k 
 pub length-part : (xs : List ℕ) (a n : ℕ) → a + n ≤ length xs → length (take n (drop a xs)) ≡ n
 length-part xs a n l = omega (arith, length-take n (drop a xs), length-drop a xs)
 
--- a number of the whole stands that far back in a part round it
+-- a number of the whole is that far back in a part round it
 pub part_at : (xs : List ℕ) (a n k : ℕ) → a ≤ k → k < a + n
     → get_or (take n (drop a xs)) (k - a) 0 ≡ get_or xs k 0
 part_at xs a n k l m =

@@ -23,7 +23,7 @@ nearest-le [] c i d l = absurd (omega arith)
 nearest-le (p ∷ ps) c zero d l = omega arith
 nearest-le (p ∷ ps) c (suc i) d l = omega (arith, nearest-le ps c i d (omega arith))
 
--- it is at most the number that stands for no entry
+-- it is at most that of no entry
 nearest-cap : (ps : List (List ℕ)) (c : List ℕ) → nearest ps c ≤ 195076
 unfolding nearest
 nearest-cap [] c = omega arith

@@ -1,4 +1,4 @@
--- How many members a set has, and when a palette holds them all.
+-- How many members a set has, and when all of them are entries.
 use Rattle.std.proofs.Common.{◌≡◌, ℕ, ◌*◌, ◌<◌, ◌≤◌, List, length, get_or, ap, ⊎_elim, arith}
 use Rattle.std.specs.List.{All, AllPairs, Contains}
 use Rattle.std.proofs.lemmas.Bool.{cases_lt}
@@ -10,7 +10,7 @@ use Rattle.sixel_palette.proofs.PaletteApart.{far_from_others}
 use Rattle.sixel_palette.proofs.PaletteColors.{Contains-nearest}
 use Rattle.sixel_palette.proofs.PaletteOrder.{members_from_order, bound_from_order}
 
--- a color that a list holds is not far from all of it
+-- a color of a list is not far from all of the list
 pub near_from_contains : (colors : List (List ℕ)) (c : List ℕ) (least : ℕ) → Contains colors c
     → All (λ p. least ≤ 4 * distance c p) colors → least ≡ 0
 near_from_contains colors c least h far =
@@ -30,7 +30,7 @@ apart_from_ascending colors three up = λ i j d l m.
     let less = up i j d l m in absurd (omega arith))
     (cases_lt 0 (distance a b))
 
--- a list that holds all members of a set is no shorter than the list of them
+-- a list of all members of a set is no shorter than the list of them
 pub size-le : (M : List ℕ → Type 0) → ((c : List ℕ) → M c → length c ≡ 3)
     → (members others : List (List ℕ)) → AreMembers M members
     → ((c : List ℕ) → M c → Contains others c) → length members ≤ length others
@@ -59,7 +59,7 @@ nearest-complete M entries c n order far size l =
     let w = bound_from_order M entries c order far size.0 (omega (arith, size.2)) in
     near_from_contains size.0 w.0 (nearest entries c) (size.1.complete w.0 w.1) w.2
 
--- with an entry for each member the entries hold each
+-- with as many entries as members each member is an entry
 pub complete_from_size : (M : List ℕ → Type 0) → ((c : List ℕ) → M c → length c ≡ 3)
     → (entries : List (List ℕ)) (far : List ℕ) (n : ℕ) → IsFarthestFirst M entries
     → IsFarthest M entries far → HasSize M n → n ≤ length entries → (c : List ℕ) → M c

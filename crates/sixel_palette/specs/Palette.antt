@@ -1,11 +1,11 @@
--- Which colors an image shows, how far two colors lie apart, which list of colors is the palette of
--- an image and which witnesses go with it. The rule is farthest-first choice, known from
--- clustering; the order of ties is ours.
+-- The colors of an image's opaque pixels, their distances, the palette of an image and its
+-- witnesses. The palette is a farthest-first traversal (Gonzalez), a 2-approximation of the
+-- k-center problem. The order of ties is this library's.
 use Rattle.std.specs.Prelude.{◌≡◌, ◌⊎◌, ℕ, ◌+◌, ◌*◌, ◌/◌, ◌<◌, ◌≤◌, min, max, List, [], ◌∷◌, ◌++◌}
 use Rattle.std.specs.Prelude.{length, take, All, AllPairs, Contains, slice_index, slice_index_or}
 use Rattle.std.specs.Int.{abs_diff}
 
--- a color is a list of three channels: red, green, blue. This is its place in the order by red,
+-- a color is a list of three channels: red, green, blue. This is its rank in the order by red,
 -- then green, then blue, for channels that are bytes
 unfoldable pub rank : List ℕ → ℕ
 rank c = 65536 * slice_index c 0 + 256 * slice_index c 1 + slice_index c 2
@@ -32,7 +32,7 @@ color_at pixels pixel =
     slice_index pixels (4 * pixel) ∷ slice_index pixels (4 * pixel + 1)
     ∷ slice_index pixels (4 * pixel + 2) ∷ []
 
--- the pixel is shown: its alpha is at least 128
+-- the pixel is opaque: its alpha is at least 128
 abbrev pub IsOpaque : List ℕ → ℕ → Type 0
 IsOpaque pixels pixel = 128 ≤ slice_index pixels (4 * pixel + 3)
 
@@ -41,7 +41,7 @@ abbrev pub IsShown : List ℕ → List ℕ → Type 0
 IsShown pixels c =
     (pixel : ℕ) × (pixel < length pixels / 4) × IsOpaque pixels pixel × (color_at pixels pixel ≡ c)
 
--- the list holds each member of a set once, in order
+-- the list has each member of a set once, in order
 pub record AreMembers (Member : List ℕ → Type 0) (colors : List (List ℕ)) : Type 0 where
   pub all : All Member colors
   pub complete : (c : List ℕ) → Member c → Contains colors c
@@ -75,7 +75,7 @@ pub record IsPalette (pixels : List ℕ) (max_colors : ℕ) (entries : List (Lis
   pub size : (n : ℕ) × HasSize (IsShown pixels) n
       × (length entries ≡ min (palette_room max_colors) n)
 
--- the place is that of the entry nearest to the color, the first of those
+-- the palette index of the entry nearest to the color, the first of those
 pub record IsNearest (entries : List (List ℕ)) (c : List ℕ) (i : ℕ) : Type 0 where
   pub entry : i < length entries
   pub least : (j : ℕ) → j < length entries
@@ -83,7 +83,7 @@ pub record IsNearest (entries : List (List ℕ)) (c : List ℕ) (i : ℕ) : Type
   pub first : (j : ℕ) → j < i
       → distance (slice_index_or entries i []) c < distance (slice_index_or entries j []) c
 
--- one place a pixel: that of the nearest entry for an opaque pixel, 0 for a hidden one
+-- one palette index a pixel: that of the nearest entry for an opaque pixel, 0 for a transparent one
 pub record AreIndices (pixels : List ℕ) (entries : List (List ℕ)) (indices : List ℕ) : Type 0 where
   pub one_each : length indices ≡ length pixels / 4
   pub opaque : (pixel : ℕ) → pixel < length pixels / 4 → IsOpaque pixels pixel

@@ -1,6 +1,6 @@
--- That colors lie apart, and what this proves of all palettes of a size. The rule is that of the
--- triangle: of two colors that share an entry the squared distance is at most twice the sum of
--- their squared distances to it.
+-- Colors that lie apart, and the bound that they prove for all palettes of a size. It follows from
+-- the triangle rule: the squared distance of two colors that share an entry is at most twice the
+-- sum of their squared distances to it.
 use Rattle.std.specs.Prelude.{ℕ, ◌*◌, ◌≤◌, List, length, All, AllPairs}
 use Rattle.sixel_palette.specs.Palette.{distance}
 

@@ -1,6 +1,5 @@
--- What is known of a palette once it is chosen, in terms of the distinct codes and of the color
--- that would be the next entry. This is the working of the palette alone; the rules of palettes
--- follow from it.
+-- A palette that was chosen, in terms of the distinct codes and of the color that would be the next
+-- entry. The rules of palettes follow from it.
 use Rattle.std.specs.Prelude.{◌≡◌, ℕ, ◌<◌, ◌≤◌, min, List, [], ◌∷◌, ◌++◌, length}
 use Rattle.std.specs.List.Sorted.{IsStrictlyIncreasing}
 use Rattle.sixel_palette.specs.declared.palette.PaletteChoice.{PaletteChoice}

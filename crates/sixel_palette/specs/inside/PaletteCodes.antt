@@ -1,5 +1,4 @@
--- Colors as numbers of 24 bits, and what the palette's working keeps for each color. It follows
--- from the order of colors: red is the highest byte, blue the lowest.
+-- Colors as codes of 24 bits: red is the highest byte, blue the lowest.
 use Rattle.std.specs.Prelude.{◌≡◌, ℕ, ◌/◌, ◌%◌, ◌<◌, List, [], ◌∷◌, length, All, Contains}
 use Rattle.std.specs.Prelude.{slice_index}
 use Rattle.sixel_palette.specs.Palette.{rank, color_at, IsOpaque}

@@ -6,7 +6,7 @@ use Rattle.sixel_palette.proofs.PaletteChoices as chosen
 use Rattle.sixel_palette.proofs.PaletteOrder.{members_from_order}
 use Rattle.sixel_palette.proofs.palette.choose_palette.Goals as goal
 
--- the room is that of the palette
+-- the palette has this room
 the_choice : (c : goal.In_ok-palette_of)
     → IsChosen c.args.pixels.now (palette_room c.args.max_colors) c.in_ok-palette_of.field-0
 the_choice c =

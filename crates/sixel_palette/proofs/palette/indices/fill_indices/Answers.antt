@@ -1,6 +1,6 @@
 use Rattle.std.proofs.Common.{◌≡◌, ℕ, ◌+◌, ◌*◌, ◌<◌, ◌≤◌, get_or, arith}
 use Rattle.std.proofs.lemmas.List.{get_or-replicate}
-use Rattle.sixel_palette.proofs.PaletteSpread.{index_from_word}
+use Rattle.sixel_palette.proofs.PaletteFarthest.{index_from_word}
 use Rattle.sixel_palette.proofs.palette.indices.fill_indices.Goals as goal
 use Rattle.sixel_palette.proofs.palette.indices.fill_indices.Goals.{then-are_four_of}
 use Rattle.sixel_palette.proofs.palette.indices.fill_indices.Goals.{else-are_four_of}

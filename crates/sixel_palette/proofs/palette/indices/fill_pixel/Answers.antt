@@ -1,5 +1,5 @@
 use Rattle.std.proofs.Common.{ℕ, ◌<◌, get_or, arith}
-use Rattle.sixel_palette.proofs.PaletteSpread.{Contains-word, word_below, index_from_word}
+use Rattle.sixel_palette.proofs.PaletteFarthest.{Contains-word, word_below, index_from_word}
 use Rattle.sixel_palette.proofs.palette.indices.fill_pixel.Goals as goal
 
 pub index_of-requires-clause-listed : goal.index_of-requires-clause-listed
