@@ -1,4 +1,5 @@
 -- Cells: their bounding boxes, and the farthest color of all.
+use Rattle.sixel_palette.specs.Palette.{no_entry}
 use Rattle.std.proofs.Common.{◌≡◌, ◌⊎◌, inr, ℕ, ◌+◌, ◌-◌, ◌*◌, ◌/◌, ◌<◌, ◌≤◌, min, max}
 use Rattle.std.proofs.Common.{List, [], ◌∷◌, ◌++◌, length, get_or, take, drop}
 use Rattle.std.proofs.Common.{⊎_elim, arith}
@@ -8,7 +9,7 @@ use Rattle.std.proofs.lemmas.List.{get_or_push}
 use Rattle.std.specs.List.{All}
 use Rattle.sixel_palette.specs.declared.palette.cells.Interval.{Interval}
 use Rattle.sixel_palette.specs.declared.palette.cells.Cell.{Cell}
-use Rattle.sixel_palette.specs.inside.PaletteCodes.{color_of}
+use Rattle.sixel_palette.specs.inside.PaletteCodes.{color_of, AreColorCodes}
 use Rattle.sixel_palette.specs.inside.PaletteCells.{channel, IsInInterval, IsInBox, IsInCell}
 use Rattle.sixel_palette.specs.inside.PaletteCells.{IsGreatestIn, IsCell, AreCells}
 use Rattle.sixel_palette.specs.inside.PaletteCells.{AreAll, IsFirstGreatest}
@@ -52,7 +53,7 @@ interval_of_part codes start n unit interval within all k l m =
 
 -- the intervals of its codes make a box round the colors of a cell
 pub box_from_intervals : (codes : List ℕ) (cell n : ℕ) (red green blue : Interval) (greatest : ℕ)
-    → All (λ code. code < 16777216) codes → 64 * cell + n ≡ min (length codes) (64 * cell + 64)
+    → AreColorCodes codes → 64 * cell + n ≡ min (length codes) (64 * cell + 64)
     → ((k : ℕ) → k < length (take n (drop (64 * cell) codes))
     → IsInInterval red (channel 65536 (get_or (take n (drop (64 * cell) codes)) k 0)))
     → ((k : ℕ) → k < length (take n (drop (64 * cell) codes))
@@ -83,7 +84,7 @@ box_from_intervals codes cell n red green blue greatest small end r g b k i =
 
 -- with no entry each color has the same distance
 pub greatest_none : (codes squares : List ℕ) (cell : ℕ) → 64 * cell < length codes
-    → AreAll 195076 (length codes) squares → IsGreatestIn codes squares cell 195076
+    → AreAll no_entry (length codes) squares → IsGreatestIn codes squares cell no_entry
 greatest_none codes squares cell some far = record {
   upper = λ k i. omega (arith, far k i.within);
   reached = (

@@ -10,7 +10,7 @@ use Rattle.std.proofs.lemmas.List.Kept.{AllPairs-from_increasing}
 use Rattle.std.proofs.lemmas.List.Elements.{All-push, All-nil}
 use Rattle.sixel_palette.specs.declared.palette.PaletteChoice.{PaletteChoice}
 use Rattle.sixel_palette.specs.Palette.{nearest, IsShown, HasSize, IsFarthest, IsFarthestFirst}
-use Rattle.sixel_palette.specs.Palette.{IsError, AreWitnesses}
+use Rattle.sixel_palette.specs.Palette.{IsError, AreWitnesses, no_entry}
 use Rattle.sixel_palette.specs.PaletteBound.{AreApart, NoListIsBetter}
 use Rattle.sixel_palette.specs.inside.PaletteCodes.{color_of, IsListed}
 use Rattle.sixel_palette.specs.inside.PaletteChosen.{IsChosen}
@@ -150,7 +150,7 @@ module _ (pixels : List ℕ) (room : ℕ) (choice : PaletteChoice)
 
   -- each of these colors has a nearest entry
   pub chosen_near : ((k : ℕ) → get_or pixels k 0 < 256) → 0 < room → (c : List ℕ) → IsShown pixels c
-      → nearest choice.colors.items c < 195076
+      → nearest choice.colors.items c < no_entry
   chosen_near bytes r c m =
       let some = some_from_shown c m in
       let size = h.size in

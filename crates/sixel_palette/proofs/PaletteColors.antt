@@ -5,8 +5,8 @@ use Rattle.std.specs.List.{All, Contains}
 use Rattle.std.proofs.lemmas.Bool.{cases_lt}
 use Rattle.std.proofs.lemmas.Grind.{same_number_lists}
 use Rattle.std.specs.Int.{abs_diff}
-use Rattle.sixel_palette.specs.Palette.{distance, square_gap, nearest, rank}
-use Rattle.sixel_palette.specs.inside.PaletteCodes.{color_of}
+use Rattle.sixel_palette.specs.Palette.{distance, square_gap, nearest, rank, no_entry}
+use Rattle.sixel_palette.specs.inside.PaletteCodes.{color_of, code_count}
 use Rattle.sixel_palette.proofs.PaletteDistance.{same_from_distance, below_three, square-le}
 
 -- three channels, each a byte
@@ -33,7 +33,7 @@ unfolding rank color_of
 rank-color_of code = omega arith
 
 -- a code has a color
-IsColor-color_of : (code : ℕ) → code < 16777216 → IsColor (color_of code)
+IsColor-color_of : (code : ℕ) → code < code_count → IsColor (color_of code)
 unfolding color_of
 IsColor-color_of code l = record {
   three = refl;
@@ -43,7 +43,7 @@ IsColor-color_of code l = record {
 }
 
 -- the rank of a color has 24 bits
-pub rank-lt : (c : List ℕ) → IsColor c → rank c < 16777216
+pub rank-lt : (c : List ℕ) → IsColor c → rank c < code_count
 unfolding rank
 rank-lt c h =
     omega (arith, h.bytes 0 (omega arith), h.bytes 1 (omega arith), h.bytes 2 (omega arith))
@@ -63,7 +63,7 @@ square_gap-le a b k p q =
     square-le gap 255 (255 - gap) (omega arith)
 
 -- the distance of two colors is below that of no entry
-pub distance-lt : (a b : List ℕ) → IsColor a → IsColor b → distance a b < 195076
+pub distance-lt : (a b : List ℕ) → IsColor a → IsColor b → distance a b < no_entry
 unfolding distance
 distance-lt a b p q =
     omega (

@@ -8,7 +8,7 @@ use Rattle.std.proofs.lemmas.Bool.{cases_lt}
 use Rattle.std.proofs.lemmas.List.{get_or_default}
 use Rattle.sixel_palette.specs.declared.palette.nearest_entry.NearestEntry.{NearestEntry}
 use Rattle.sixel_palette.specs.Palette.{nearest, rank, color_at, IsOpaque, IsShown, IsFarthest}
-use Rattle.sixel_palette.specs.Palette.{IsNearest}
+use Rattle.sixel_palette.specs.Palette.{IsNearest, no_entry}
 use Rattle.sixel_palette.specs.inside.PaletteCodes.{color_of, IsListed}
 use Rattle.sixel_palette.specs.inside.PaletteNearest.{IsNearestEntry, AreNearest, IsIndexOf}
 use Rattle.sixel_palette.specs.inside.PaletteNearest.{IsIndex}
@@ -79,7 +79,7 @@ farthest_from_position entries codes squares color_indices position up same kept
 
 -- a distance below that of no entry is that of the nearest entry
 pub nearest_from_entry : (entries : List (List ℕ)) (c : List ℕ) (near : NearestEntry)
-    → nearest entries c < 195076 → IsNearestEntry entries c near → IsNearest entries c near.index
+    → nearest entries c < no_entry → IsNearestEntry entries c near → IsNearest entries c near.index
 nearest_from_entry entries c near l h = record {
   entry = h.within l;
   least = λ j m. rw (h.least l) (nearest-le entries c j [] m);
@@ -113,8 +113,8 @@ color_of_word pixels pixel word bytes code =
 pub word_below : (pixels : List ℕ) (entries : List (List ℕ)) (pixel word : ℕ)
     → ((k : ℕ) → get_or pixels k 0 < 256) → word / 256 ≡ rank (color_at pixels pixel)
     → pixel < length pixels / 4 → IsOpaque pixels pixel
-    → ((c : List ℕ) → IsShown pixels c → nearest entries c < 195076)
-    → nearest entries (color_of (word / 256)) < 195076
+    → ((c : List ℕ) → IsShown pixels c → nearest entries c < no_entry)
+    → nearest entries (color_of (word / 256)) < no_entry
 word_below pixels entries pixel word bytes code l opaque below =
     rw (color_of_word pixels pixel word bytes code)
     (below (color_at pixels pixel) (pixel, l, opaque, refl))

@@ -1,10 +1,10 @@
 -- How the distance to the nearest entry changes with the entries.
 use Rattle.std.proofs.Common.{◌≡◌, ℕ, zero, suc, ◌<◌, ◌≤◌, min, List, [], ◌∷◌, ◌++◌, length, get_or}
 use Rattle.std.proofs.Common.{take, refl, arith}
-use Rattle.sixel_palette.specs.Palette.{distance, nearest}
+use Rattle.sixel_palette.specs.Palette.{distance, nearest, no_entry}
 
 -- with no entry it is above every distance of byte colors
-pub nearest-nil : (c : List ℕ) → nearest [] c ≡ 195076
+pub nearest-nil : (c : List ℕ) → nearest [] c ≡ no_entry
 unfolding nearest
 nearest-nil c = refl
 
@@ -24,7 +24,7 @@ nearest-le (p ∷ ps) c zero d l = omega arith
 nearest-le (p ∷ ps) c (suc i) d l = omega (arith, nearest-le ps c i d (omega arith))
 
 -- it is at most that of no entry
-nearest-cap : (ps : List (List ℕ)) (c : List ℕ) → nearest ps c ≤ 195076
+nearest-cap : (ps : List (List ℕ)) (c : List ℕ) → nearest ps c ≤ no_entry
 unfolding nearest
 nearest-cap [] c = omega arith
 nearest-cap (p ∷ ps) c = omega (arith, nearest-cap ps c)

@@ -3,7 +3,7 @@ use Rattle.std.proofs.Common.{◌≡◌, ℕ, ◌<◌, ◌≤◌, List, [], ◌�
 use Rattle.std.proofs.Common.{arith}
 use Rattle.std.proofs.lemmas.List.{get_or_append_left, get_or_at, length_push}
 use Rattle.sixel_palette.specs.declared.palette.nearest_entry.NearestEntry.{NearestEntry}
-use Rattle.sixel_palette.specs.Palette.{distance, nearest}
+use Rattle.sixel_palette.specs.Palette.{distance, nearest, no_entry}
 use Rattle.sixel_palette.specs.inside.PaletteCodes.{color_of}
 use Rattle.sixel_palette.specs.inside.PaletteNearest.{IsNearestEntry, AreNearest}
 use Rattle.sixel_palette.proofs.PaletteNearest.{nearest-nil, nearest-push, nearest-le}
@@ -46,7 +46,7 @@ near_kept entries p c near more h =
     }
 
 -- with no entry
-near_none : (c : List ℕ) → IsNearestEntry [] c (record { squared = 195076; index = 0 })
+near_none : (c : List ℕ) → IsNearestEntry [] c (record { squared = no_entry; index = 0 })
 near_none c =
     let none = nearest-nil c in
     record {
@@ -58,7 +58,7 @@ near_none c =
 
 -- with no entry, for each color
 pub nearest_none : (codes squares indices : List ℕ)
-    → ((k : ℕ) → k < length codes → get_or squares k 0 ≡ 195076)
+    → ((k : ℕ) → k < length codes → get_or squares k 0 ≡ no_entry)
     → ((k : ℕ) → k < length codes → get_or indices k 0 ≡ 0) → AreNearest [] codes squares indices
 nearest_none codes squares indices far first k l =
     rw (far k l, first k l) (near_none (color_of (get_or codes k 0)))

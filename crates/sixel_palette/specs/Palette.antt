@@ -20,10 +20,14 @@ square_gap a b channel =
 unfoldable pub distance : List ℕ → List ℕ → ℕ
 distance a b = square_gap a b 0 + square_gap a b 1 + square_gap a b 2
 
--- the squared distance of a color to the nearest entry; with no entry a number above the distance
--- of any two colors whose channels are bytes
+-- the squared distance while there is no entry: one more than the greatest of two colors whose
+-- channels are bytes, which is three times the square of 255
+abbrev pub no_entry : ℕ
+no_entry = 195076
+
+-- the squared distance of a color to the nearest entry
 unfoldable pub nearest : List (List ℕ) → List ℕ → ℕ
-nearest [] c = 195076
+nearest [] c = no_entry
 nearest (p ∷ ps) c = min (distance p c) (nearest ps c)
 
 -- the color of a pixel, four bytes a pixel

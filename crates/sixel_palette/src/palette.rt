@@ -8,7 +8,7 @@ ghost use Rattle.std.specs.List.Sorted.{IsStrictlyIncreasing};
 ghost use Rattle.sixel_palette.specs.Palette.{IsShown, HasSize, IsPalette, palette_room};
 ghost use Rattle.sixel_palette.specs.Palette.{IsNearest, AreIndices, IsError, AreWitnesses};
 ghost use Rattle.sixel_palette.specs.PaletteBound.{AreApart, NoListIsBetter};
-ghost use Rattle.sixel_palette.specs.inside.PaletteCodes.{IsListed};
+ghost use Rattle.sixel_palette.specs.inside.PaletteCodes.{IsListed, AreColorCodes};
 ghost use Rattle.sixel_palette.specs.inside.PaletteChosen.{IsChosen};
 
 mod cells;
@@ -133,7 +133,7 @@ fn palette_of_codes(
     requires some { 0 < room }
     requires room { room ≤ 256 }
     requires ascending { IsStrictlyIncreasing codes.now }
-    requires small { All (λ code. code < 16777216) codes.now }
+    requires small { AreColorCodes codes.now }
     requires shown { (c : List ℕ) → IsShown pixels.now c → IsListed codes.now c }
     requires listed { (c : List ℕ) → IsListed codes.now c → IsShown pixels.now c }
     ensures chosen { IfOk result (IsChosen pixels.now room) }

@@ -3,6 +3,14 @@ use Rattle.std.specs.Prelude.{◌≡◌, ℕ, ◌/◌, ◌%◌, ◌<◌, List, [
 use Rattle.std.specs.Prelude.{slice_index}
 use Rattle.sixel_palette.specs.Palette.{rank, color_at, IsOpaque}
 
+-- how many codes there are
+abbrev pub code_count : ℕ
+code_count = 16777216
+
+-- each number is a code
+abbrev pub AreColorCodes : List ℕ → Type 0
+AreColorCodes codes = All (λ code. code < code_count) codes
+
 -- the color of a code
 unfoldable pub color_of : ℕ → List ℕ
 color_of code = code / 65536 ∷ code / 256 % 256 ∷ code % 256 ∷ []

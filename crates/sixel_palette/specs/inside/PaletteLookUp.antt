@@ -3,7 +3,7 @@
 use Rattle.std.specs.Prelude.{◌≡◌, ℕ, ◌<◌, List, length}
 use Rattle.std.specs.List.Sorted.{IsStrictlyIncreasing}
 use Rattle.sixel_palette.specs.declared.palette.indices.LookUp.{LookUp}
-use Rattle.sixel_palette.specs.Palette.{nearest, IsShown}
+use Rattle.sixel_palette.specs.Palette.{nearest, IsShown, no_entry}
 use Rattle.sixel_palette.specs.inside.PaletteCodes.{IsListed}
 use Rattle.sixel_palette.specs.inside.PaletteRanks.{IsRankBitmap}
 use Rattle.sixel_palette.specs.inside.PaletteNearest.{AreNearest}
@@ -24,4 +24,4 @@ pub record FindsNearest (pixels : List ℕ) (entries : List (List ℕ)) (look_up
     : Type 0 where
   pub squares : List ℕ
   pub kept : AreNearest entries look_up.codes.now squares look_up.color_indices.now
-  pub below : (c : List ℕ) → IsShown pixels c → nearest entries c < 195076
+  pub below : (c : List ℕ) → IsShown pixels c → nearest entries c < no_entry

@@ -3,17 +3,17 @@
 use Rattle.std.specs.Prelude.{◌≡◌, ℕ, ◌+◌, ◌*◌, ◌/◌, ◌%◌, ◌<◌, ◌≤◌, List, [], length}
 use Rattle.std.specs.Prelude.{slice_index, slice_index_or}
 use Rattle.sixel_palette.specs.declared.palette.nearest_entry.NearestEntry.{NearestEntry}
-use Rattle.sixel_palette.specs.Palette.{distance, nearest, color_at, IsOpaque, IsNearest}
+use Rattle.sixel_palette.specs.Palette.{distance, nearest, color_at, IsOpaque, IsNearest, no_entry}
 use Rattle.sixel_palette.specs.inside.PaletteCodes.{color_of}
 
 -- this is the nearest entry of the color, if there is an entry: the first of the nearest
 pub record IsNearestEntry (entries : List (List ℕ)) (c : List ℕ) (near : NearestEntry)
     : Type 0 where
   pub gap : near.squared ≡ nearest entries c
-  pub within : nearest entries c < 195076 → near.index < length entries
-  pub least : nearest entries c < 195076
+  pub within : nearest entries c < no_entry → near.index < length entries
+  pub least : nearest entries c < no_entry
       → distance (slice_index_or entries near.index []) c ≡ nearest entries c
-  pub first : nearest entries c < 195076 → (j : ℕ) → j < near.index
+  pub first : nearest entries c < no_entry → (j : ℕ) → j < near.index
       → nearest entries c < distance (slice_index_or entries j []) c
 
 -- the nearest entry in two lists of the color at a position

@@ -8,11 +8,12 @@
 ghost use Rattle.std.specs.Prelude.{◌≡◌, ◌<◌, ◌≤◌, ◌*◌, ℕ, List, [], ◌∷◌, ◌++◌, length};
 ghost use Rattle.std.specs.Prelude.{All, IfOk, IsTrue, slice_index};
 ghost use Rattle.std.specs.Int.{abs_diff};
-ghost use Rattle.sixel_palette.specs.Palette.{distance};
+ghost use Rattle.sixel_palette.specs.Palette.{distance, no_entry};
 ghost use Rattle.sixel_palette.specs.inside.PaletteNearest.{AreNearest};
 ghost use Rattle.sixel_palette.specs.inside.PaletteCells.{IsInInterval, IsInBox, IsCell, AreCells};
 ghost use Rattle.sixel_palette.specs.inside.PaletteCells.{AreNearestIn, IsSameOutside, AreAll};
 ghost use Rattle.sixel_palette.specs.inside.PaletteCells.{IsGreatestIn, IsFirstGreatest, channel};
+ghost use Rattle.sixel_palette.specs.inside.PaletteCodes.{AreColorCodes};
 
 use crate::palette::distance::{distance_to, wrapped_gap};
 use crate::palette::nearest_entry::{Entry, NO_ENTRY, NearestEntry};
@@ -74,8 +75,8 @@ impl Interval {
 
 /// The cells of some colors while there is no entry.
 pub fn cells_of(alloc: Global, codes: &[u32]) -> Result<Vec<Cell>, AllocError>
-    requires small { All (λ code. code < 16777216) codes.now }
-    ensures { IfOk result (λ cells. (squares : List ℕ) → AreAll 195076 (length codes.now) squares
+    requires small { AreColorCodes codes.now }
+    ensures { IfOk result (λ cells. (squares : List ℕ) → AreAll no_entry (length codes.now) squares
         → AreCells codes.now squares cells.items) }
 {
     let count = codes.len().div_ceil(CELL);
@@ -89,8 +90,8 @@ pub fn cells_of(alloc: Global, codes: &[u32]) -> Result<Vec<Cell>, AllocError>
 /// One of the cells of some colors while there is no entry.
 fn cell_of(codes: &[u32], cell: usize) -> Cell
     requires some { 64 * cell < length codes.now }
-    requires small { All (λ code. code < 16777216) codes.now }
-    ensures { (squares : List ℕ) → AreAll 195076 (length codes.now) squares
+    requires small { AreColorCodes codes.now }
+    ensures { (squares : List ℕ) → AreAll no_entry (length codes.now) squares
         → IsCell codes.now squares cell result }
 {
     let start = CELL * cell;
@@ -132,7 +133,7 @@ pub fn relax_cells(
     cells: &mut [Cell],
     entry: Entry,
 )
-    requires small { All (λ code. code < 16777216) codes.now }
+    requires small { AreColorCodes codes.now }
     requires squares { length squares.old ≡ length codes.now }
     requires indices { length indices.old ≡ length codes.now }
     requires cells { AreCells codes.now squares.old cells.old }
@@ -160,7 +161,7 @@ fn relax_cell(
     entry: Entry,
 ) -> u32
     requires some { 64 * cell < length codes.now }
-    requires small { All (λ code. code < 16777216) codes.now }
+    requires small { AreColorCodes codes.now }
     requires squares { length squares.old ≡ length codes.now }
     requires indices { length indices.old ≡ length codes.now }
     ensures near { (entries : List (List ℕ)) → length entries ≡ entry.index

@@ -2,14 +2,14 @@
 
 ghost use Rattle.std.specs.Prelude.{◌≡◌, ◌*◌, ◌<◌, ◌≤◌, ◌↔◌, ℕ, List, All, IsTrue};
 ghost use Rattle.std.specs.Int.{abs_diff};
-ghost use Rattle.sixel_palette.specs.Palette.{distance};
-ghost use Rattle.sixel_palette.specs.inside.PaletteCodes.{color_of};
+ghost use Rattle.sixel_palette.specs.Palette.{distance, no_entry};
+ghost use Rattle.sixel_palette.specs.inside.PaletteCodes.{color_of, code_count};
 
 /// The squared distance of two colors.
 #[tactic(auto, unfolding(crate::specs::Palette::distance, crate::specs::Palette::square_gap))]
 pub fn distance(a: [u8; 3], b: [u8; 3]) -> u32
     ensures value { result ≡ distance a b }
-    ensures small { result < 195076 }
+    ensures small { result < no_entry }
 {
     square_gap(a[0], b[0]) + square_gap(a[1], b[1]) + square_gap(a[2], b[2])
 }
@@ -38,9 +38,9 @@ pub fn is_apart_from(color: [u8; 3], others: &[[u8; 3]], least: u32) -> bool
 /// The squared distance of a code's color to another one, without a branch.
 #[inline(always)]
 pub fn distance_to(code: u32, color: [u8; 3]) -> u32
-    requires { code < 16777216 }
+    requires { code < code_count }
     ensures value { result ≡ distance color (color_of code) }
-    ensures small { result < 195076 }
+    ensures small { result < no_entry }
 {
     let red = wrapped_gap(u32::from(color[0]), code / 65536);
     let green = wrapped_gap(u32::from(color[1]), code / 256 % 256);

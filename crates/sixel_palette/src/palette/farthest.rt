@@ -8,7 +8,7 @@ ghost use Rattle.std.specs.Prelude.{◌≡◌, ◌<◌, ◌≤◌, min, ℕ, Lis
 ghost use Rattle.std.specs.Prelude.{All, IfOk, slice_index};
 ghost use Rattle.std.specs.List.Sorted.{IsStrictlyIncreasing};
 ghost use Rattle.sixel_palette.specs.Palette.{nearest, IsFarthest, IsFarthestFirst};
-ghost use Rattle.sixel_palette.specs.inside.PaletteCodes.{color_of, IsListed};
+ghost use Rattle.sixel_palette.specs.inside.PaletteCodes.{color_of, IsListed, AreColorCodes};
 ghost use Rattle.sixel_palette.specs.inside.PaletteNearest.{AreNearest};
 ghost use Rattle.sixel_palette.specs.inside.PaletteCells.{IsFirstGreatest};
 ghost use Rattle.sixel_palette.specs.inside.PaletteTraversal.{IsTraversal, HasRelaxed};
@@ -32,7 +32,7 @@ pub struct Selection {
 /// Selects entries farthest first, at most `room` of the colors.
 pub fn choose(alloc: Global, codes: &[u32], room: usize) -> Result<Selection, AllocError>
     requires ascending { IsStrictlyIncreasing codes.now }
-    requires small { All (λ code. code < 16777216) codes.now }
+    requires small { AreColorCodes codes.now }
     requires room { room ≤ 256 }
     ensures order { IfOk result (λ s. IsFarthestFirst (IsListed codes.now) s.colors.items) }
     ensures size { IfOk result (λ s. length s.colors.items ≡ min room (length codes.now)) }
@@ -66,7 +66,7 @@ pub fn choose(alloc: Global, codes: &[u32], room: usize) -> Result<Selection, Al
 impl Selection {
     /// The greatest squared distance to a nearest entry, 0 if there is no color.
     pub fn error(&self, codes: &[u32]) -> u32
-        requires small { All (λ code. code < 16777216) codes.now }
+        requires small { AreColorCodes codes.now }
         requires within { 0 < length codes.now → self.now.farthest < length codes.now }
         ensures none { length codes.now ≡ 0 → result ≡ 0 }
         ensures farthest { 0 < length codes.now → result
@@ -80,7 +80,7 @@ impl Selection {
 
     /// The entries and the farthest color, or none if all colors are entries.
     pub fn witnesses(&self, alloc: Global, codes: &[u32]) -> Result<Vec<[u8; 3]>, AllocError>
-        requires small { All (λ code. code < 16777216) codes.now }
+        requires small { AreColorCodes codes.now }
         requires within { 0 < length codes.now → self.now.farthest < length codes.now }
         ensures none { IfOk result (λ w.
             length codes.now ≤ length self.now.colors.items → w.items ≡ []) }
@@ -112,7 +112,7 @@ pub struct Traversal {
 impl Traversal {
     /// A traversal without an entry.
     fn new(alloc: Global, codes: &[u32]) -> Result<Traversal, AllocError>
-        requires small { All (λ code. code < 16777216) codes.now }
+        requires small { AreColorCodes codes.now }
         ensures whole { IfOk result (IsTraversal codes.now) }
         ensures relaxed { IfOk result (HasRelaxed [] codes.now) }
     {
@@ -129,7 +129,7 @@ impl Traversal {
     /// Relaxes the distances by one more entry, and returns the farthest position.
     fn relax(&mut self, codes: &[u32], entry: Entry) -> usize
         requires some { 0 < length codes.now }
-        requires small { All (λ code. code < 16777216) codes.now }
+        requires small { AreColorCodes codes.now }
         requires whole { IsTraversal codes.now self.old }
         ensures whole { IsTraversal codes.now self.new }
         ensures relaxed { (entries : List (List ℕ)) → length entries ≡ entry.index

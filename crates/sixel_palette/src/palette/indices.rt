@@ -3,8 +3,8 @@
 ghost use Rattle.std.specs.Prelude.{◌≡◌, ℕ, ◌+◌, ◌*◌, ◌/◌, ◌%◌, ◌<◌, ◌≤◌, List, length};
 ghost use Rattle.std.specs.Prelude.{slice_index, All, Contains, IfOk, IsTrue};
 ghost use Rattle.std.specs.List.Sorted.{IsStrictlyIncreasing};
-ghost use Rattle.sixel_palette.specs.Palette.{nearest, IsShown, AreIndices};
-ghost use Rattle.sixel_palette.specs.inside.PaletteCodes.{color_of, IsListed};
+ghost use Rattle.sixel_palette.specs.Palette.{nearest, IsShown, AreIndices, no_entry};
+ghost use Rattle.sixel_palette.specs.inside.PaletteCodes.{color_of, IsListed, AreColorCodes};
 ghost use Rattle.sixel_palette.specs.inside.PaletteFlags.{IsPixelWord, AreFourWords};
 ghost use Rattle.sixel_palette.specs.inside.PaletteNearest.{AreNearest, IsIndexOf};
 ghost use Rattle.sixel_palette.specs.inside.PaletteNearest.{IsIndex, AreIndicesTo};
@@ -23,11 +23,11 @@ pub fn indices_of(
 ) -> Result<Vec<u8>, AllocError>
     requires same { length codes.now ≡ length color_indices.now }
     requires ascending { IsStrictlyIncreasing codes.now }
-    requires small { All (λ code. code < 16777216) codes.now }
+    requires small { AreColorCodes codes.now }
     requires listed { (c : List ℕ) → IsShown pixels.now c → IsListed codes.now c }
     ensures { IfOk result (λ indices. (entries : List (List ℕ)) (squares : List ℕ)
         → AreNearest entries codes.now squares color_indices.now
-        → ((c : List ℕ) → IsShown pixels.now c → nearest entries c < 195076)
+        → ((c : List ℕ) → IsShown pixels.now c → nearest entries c < no_entry)
         → AreIndices pixels.now entries indices.items) }
 {
     // The indices outlive the table, so they are allocated before it.
@@ -59,7 +59,7 @@ impl LookUp<'_> {
         requires listed { Contains self.now.codes.now (word / 256) }
         ensures { (entries : List (List ℕ)) (squares : List ℕ)
             → AreNearest entries self.now.codes.now squares self.now.color_indices.now
-            → nearest entries (color_of (word / 256)) < 195076
+            → nearest entries (color_of (word / 256)) < no_entry
             → IsIndexOf entries word result }
     {
         self.color_indices[self.ranks.position_of(self.codes, word / 256)]
@@ -72,7 +72,7 @@ impl LookUp<'_> {
         requires listed { 128 ≤ word % 256 → Contains self.now.codes.now (word / 256) }
         ensures { (entries : List (List ℕ)) (squares : List ℕ)
             → AreNearest entries self.now.codes.now squares self.now.color_indices.now
-            → (128 ≤ word % 256 → nearest entries (color_of (word / 256)) < 195076)
+            → (128 ≤ word % 256 → nearest entries (color_of (word / 256)) < no_entry)
             → IsIndexOf entries word result }
     {
         if word % 256 < 128 {
@@ -90,7 +90,7 @@ impl LookUp<'_> {
         ensures { (entries : List (List ℕ)) (squares : List ℕ) (k : ℕ)
             → AreNearest entries self.now.codes.now squares self.now.color_indices.now → k < 4
             → (128 ≤ slice_index words k % 256
-            → nearest entries (color_of (slice_index words k / 256)) < 195076)
+            → nearest entries (color_of (slice_index words k / 256)) < no_entry)
             → IsIndexOf entries (slice_index words k) (slice_index result k) }
     {
         if are_opaque(words) {

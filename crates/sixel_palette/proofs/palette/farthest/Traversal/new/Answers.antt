@@ -1,3 +1,4 @@
+use Rattle.sixel_palette.specs.Palette.{no_entry}
 use Rattle.std.proofs.Common.{length, arith}
 use Rattle.sixel_palette.proofs.PaletteNearestEntry.{nearest_none}
 use Rattle.sixel_palette.proofs.PaletteLists.{all_replicated}
@@ -7,7 +8,7 @@ pub returns-clause-whole : goal.returns-clause-whole
 returns-clause-whole c =
     let squares = c.in_ok-squares in
     let far =
-    all_replicated squares.squares.items (length c.args.codes.now) 195076
+    all_replicated squares.squares.items (length c.args.codes.now) no_entry
     (squares.ensures.items_if_clones_equal (λ y e. e)) in
     record {
       squares = omega (arith, squares.ensures.len);
@@ -21,7 +22,7 @@ returns-clause-relaxed c =
     let squares = c.in_ok-squares in
     let indices = c.in_ok-indices in
     nearest_none codes squares.squares.items indices.indices.items
-    (all_replicated squares.squares.items (length codes) 195076
+    (all_replicated squares.squares.items (length codes) no_entry
     (squares.ensures.items_if_clones_equal (λ y e. e)))
     (all_replicated indices.indices.items (length codes) 0
     (indices.ensures.items_if_clones_equal (λ y e. e)))

@@ -1,5 +1,5 @@
 use Rattle.std.proofs.Common.{ℕ, ◌/◌, ◌%◌, ◌<◌, ◌≤◌, List, [], ◌∷◌, get_or, arith}
-use Rattle.sixel_palette.specs.Palette.{nearest}
+use Rattle.sixel_palette.specs.Palette.{nearest, no_entry}
 use Rattle.sixel_palette.specs.inside.PaletteCodes.{color_of}
 use Rattle.sixel_palette.specs.inside.PaletteNearest.{IsIndexOf}
 use Rattle.sixel_palette.proofs.PaletteLists.{four_cases}
@@ -8,7 +8,7 @@ use Rattle.sixel_palette.proofs.palette.indices.LookUp.indices_of_four.Goals as 
 -- the index at a position is that of the word there
 abbrev IsFoundAt : List (List ℕ) → List ℕ → List ℕ → ℕ → Type 0
 IsFoundAt entries words indices k =
-    (128 ≤ get_or words k 0 % 256 → nearest entries (color_of (get_or words k 0 / 256)) < 195076)
+    (128 ≤ get_or words k 0 % 256 → nearest entries (color_of (get_or words k 0 / 256)) < no_entry)
     → IsIndexOf entries (get_or words k 0) (get_or indices k 0)
 
 pub returns-then-are_opaque : goal.returns-then-are_opaque
