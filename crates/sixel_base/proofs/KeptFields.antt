@@ -1,13 +1,18 @@
 -- What the parameters of a text become as the text goes on by a byte.
-use Rattle.std.proofs.Common.{◌≡◌, ◌≢◌, ℕ, ◌+◌, ◌-◌, ◌<◌, ◌≤◌, min, max, List, [], ◌∷◌, ◌++◌, length, get_or, set, sym, ap, ◌∙◌, ⊎_elim, arith}
+use Rattle.std.proofs.Common.{◌≡◌, ◌≢◌, ℕ, ◌+◌, ◌-◌, ◌<◌, ◌≤◌, min, max, List, [], ◌∷◌, ◌++◌}
+use Rattle.std.proofs.Common.{length, get_or, set, sym, ap, ◌∙◌, ⊎_elim, arith}
 use Rattle.std.proofs.lemmas.Bool.{cases_eq}
 use Rattle.std.proofs.lemmas.List.{get_or-set_same, get_or-set_other}
 use Rattle.sixel_base.specs.Fields.{fields, field}
 use Rattle.sixel_base.specs.inside.Parameters.{Parameters, Keeps}
-use Rattle.sixel_base.proofs.Pieces.{raised, length-on_last, get_or-on_last_same, get_or-on_last_other, fields-push_digit, length-fields-push_separator, field-push_separator}
+use Rattle.sixel_base.proofs.Pieces.{raised, length-on_last, get_or-on_last_same}
+use Rattle.sixel_base.proofs.Pieces.{get_or-on_last_other, fields-push_digit}
+use Rattle.sixel_base.proofs.Pieces.{length-fields-push_separator, field-push_separator}
 
 -- a semicolon counts a field more, and changes no value
-pub Keeps-push_separator : (old new : Parameters) → new.values ≡ old.values → new.count ≡ min (max old.count 1 + 1) 6 → (text : List ℕ) → Keeps old text → Keeps new (text ++ 59 ∷ [])
+pub Keeps-push_separator : (old new : Parameters) → new.values ≡ old.values
+    → new.count ≡ min (max old.count 1 + 1) 6 → (text : List ℕ) → Keeps old text
+    → Keeps new (text ++ 59 ∷ [])
 Keeps-push_separator old new values count text keeps = record {
   counted = omega (arith, keeps.counted, length-fields-push_separator text);
   valued = λ k below.
@@ -22,37 +27,49 @@ module _ (text : List ℕ) (byte : ℕ) (low : 48 ≤ byte) (high : byte ≤ 57)
       ap length (fields-push_digit text byte low high) ∙ length-on_last (raised byte) (fields text)
 
   -- the last field goes on by the digit
-  field-push_digit_same : (k : ℕ) → k + 1 ≡ max 1 (length (fields text)) → field (text ++ byte ∷ []) k ≡ raised byte (field text k)
+  field-push_digit_same : (k : ℕ) → k + 1 ≡ max 1 (length (fields text))
+      → field (text ++ byte ∷ []) k ≡ raised byte (field text k)
   field-push_digit_same k at =
       ap (λ ns. get_or ns k 0) (fields-push_digit text byte low high)
       ∙ get_or-on_last_same (raised byte) (fields text) k at
 
   -- the other fields stay
-  field-push_digit_other : (k : ℕ) → k + 1 ≢ max 1 (length (fields text)) → field (text ++ byte ∷ []) k ≡ field text k
+  field-push_digit_other : (k : ℕ) → k + 1 ≢ max 1 (length (fields text))
+      → field (text ++ byte ∷ []) k ≡ field text k
   field-push_digit_other k other =
       ap (λ ns. get_or ns k 0) (fields-push_digit text byte low high)
       ∙ get_or-on_last_other (raised byte) (fields text) k other
 
   -- a digit of a field that is kept
-  pub Keeps-push_digit_kept : (old new : Parameters) (last value : ℕ) → last ≡ old.count - 1 → last < 5 → length old.values ≡ 5 → new.values ≡ set old.values last value → value ≡ raised byte (get_or old.values last 0) → new.count ≡ max old.count 1 → Keeps old text → Keeps new (text ++ byte ∷ [])
+  pub Keeps-push_digit_kept : (old new : Parameters) (last value : ℕ) → last ≡ old.count - 1
+      → last < 5 → length old.values ≡ 5 → new.values ≡ set old.values last value
+      → value ≡ raised byte (get_or old.values last 0) → new.count ≡ max old.count 1
+      → Keeps old text → Keeps new (text ++ byte ∷ [])
   Keeps-push_digit_kept old new last value at below size values raises count keeps = record {
     counted = omega (arith, keeps.counted, count-push_digit);
-    valued = λ k small. ap (λ vs. get_or vs k 0) values ∙ ⊎_elim (same k) (other k small) (cases_eq k last);
+    valued = λ k small.
+        ap (λ vs. get_or vs k 0) values ∙ ⊎_elim (same k) (other k small) (cases_eq k last);
   }
     where
-      same : (k : ℕ) → k ≡ last → get_or (set old.values last value) k 0 ≡ field (text ++ byte ∷ []) k
+      same : (k : ℕ) → k ≡ last
+          → get_or (set old.values last value) k 0 ≡ field (text ++ byte ∷ []) k
       same k is =
           let here : last < length old.values = omega arith in
           let counted = keeps.counted in
-          rw is (rw get_or-set_same (raises ∙ (ap (raised byte) (keeps.valued last below) ∙ sym (field-push_digit_same last (omega arith)))))
+          rw is (rw get_or-set_same (raises
+          ∙ (ap (raised byte) (keeps.valued last below)
+          ∙ sym (field-push_digit_same last (omega arith)))))
 
-      other : (k : ℕ) → k < 5 → k ≢ last → get_or (set old.values last value) k 0 ≡ field (text ++ byte ∷ []) k
+      other : (k : ℕ) → k < 5 → k ≢ last
+          → get_or (set old.values last value) k 0 ≡ field (text ++ byte ∷ []) k
       other k small not_last =
           let counted = keeps.counted in
           rw get_or-set_other (keeps.valued k small ∙ sym (field-push_digit_other k (omega arith)))
 
   -- a digit of a field that is not kept
-  pub Keeps-push_digit_dropped : (old new : Parameters) → 5 ≤ old.count - 1 → new.values ≡ old.values → new.count ≡ max old.count 1 → Keeps old text → Keeps new (text ++ byte ∷ [])
+  pub Keeps-push_digit_dropped : (old new : Parameters) → 5 ≤ old.count - 1
+      → new.values ≡ old.values → new.count ≡ max old.count 1 → Keeps old text
+      → Keeps new (text ++ byte ∷ [])
   Keeps-push_digit_dropped old new past values count keeps = record {
     counted = omega (arith, keeps.counted, count-push_digit);
     valued = λ k small.

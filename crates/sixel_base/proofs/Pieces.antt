@@ -1,5 +1,7 @@
 -- How the fields of a text change as the text goes on by a digit or a semicolon.
-use Rattle.std.proofs.Common.{◌≡◌, ◌≢◌, ℕ, zero, suc, ◌+◌, ◌-◌, ◌*◌, ◌<◌, ◌≤◌, min, max, Bool, true, false, cond, ◌==◌, List, [], ◌∷◌, ◌++◌, map, length, get_or, refl, sym, ap, ◌∙◌, arith, rules, tests, length-append}
+use Rattle.std.proofs.Common.{◌≡◌, ◌≢◌, ℕ, zero, suc, ◌+◌, ◌-◌, ◌*◌, ◌<◌, ◌≤◌, min, max, Bool, true}
+use Rattle.std.proofs.Common.{false, cond, ◌==◌, List, [], ◌∷◌, ◌++◌, map, length, get_or, refl}
+use Rattle.std.proofs.Common.{sym, ap, ◌∙◌, arith, rules, tests, length-append}
 use Rattle.std.proofs.lemmas.List.{map-append, length-map}
 use Rattle.std.specs.List.{slice_split, onto_first}
 use Rattle.std.specs.Char.{digit_value}
@@ -24,36 +26,44 @@ abbrev pub raised : ℕ → ℕ → ℕ
 raised byte n = min (n * 10 + (byte - 48)) 2147483647
 
 -- the first and the last piece go on apart from each other
-onto_last-onto_first : (x y : ℕ) (ps : List (List ℕ)) → onto_last x (onto_first y ps) ≡ onto_first y (onto_last x ps)
+onto_last-onto_first : (x y : ℕ) (ps : List (List ℕ))
+    → onto_last x (onto_first y ps) ≡ onto_first y (onto_last x ps)
 onto_last-onto_first x y [] = refl
 onto_last-onto_first x y (p ∷ []) = refl
 onto_last-onto_first x y (p ∷ q ∷ ps) = refl
 
 -- before another piece, the last piece is that of the rest
-onto_last-cons : (x : ℕ) (p : List ℕ) (ps : List (List ℕ)) → 0 < length ps → onto_last x (p ∷ ps) ≡ p ∷ onto_last x ps
+onto_last-cons : (x : ℕ) (p : List ℕ) (ps : List (List ℕ)) → 0 < length ps
+    → onto_last x (p ∷ ps) ≡ p ∷ onto_last x ps
 onto_last-cons x p [] some = absurd (omega arith)
 onto_last-cons x p (q ∷ ps) some = refl
 
 -- one element in front of a text whose last piece goes on
-split_step : (b : Bool) (x y : ℕ) (ps : List (List ℕ)) → 0 < length ps → cond b ([] ∷ onto_last x ps) (onto_first y (onto_last x ps)) ≡ onto_last x (cond b ([] ∷ ps) (onto_first y ps))
+split_step : (b : Bool) (x y : ℕ) (ps : List (List ℕ)) → 0 < length ps
+    → cond b ([] ∷ onto_last x ps) (onto_first y (onto_last x ps))
+    ≡ onto_last x (cond b ([] ∷ ps) (onto_first y ps))
 split_step true x y ps some = sym (onto_last-cons x [] ps some)
 split_step false x y ps some = sym (onto_last-onto_first x y ps)
 
 -- an element that does not separate goes onto the last piece
-slice_split-push_no : (p : ℕ → Bool) (xs : List ℕ) (x : ℕ) → p x ≡ false → slice_split p (xs ++ x ∷ []) ≡ onto_last x (slice_split p xs)
+slice_split-push_no : (p : ℕ → Bool) (xs : List ℕ) (x : ℕ) → p x ≡ false
+    → slice_split p (xs ++ x ∷ []) ≡ onto_last x (slice_split p xs)
 slice_split-push_no p [] x fails = rw fails refl
 slice_split-push_no p (y ∷ ys) x fails =
     ap (λ ps. cond (p y) ([] ∷ ps) (onto_first y ps)) (slice_split-push_no p ys x fails)
     ∙ split_step (p y) x y (slice_split p ys) (omega (arith, length-slice_split p ys))
 
 -- one element in front of a text that ends in an empty piece
-split_next : (b : Bool) (y : ℕ) (ps : List (List ℕ)) → 0 < length ps → cond b ([] ∷ (ps ++ [] ∷ [])) (onto_first y (ps ++ [] ∷ [])) ≡ cond b ([] ∷ ps) (onto_first y ps) ++ [] ∷ []
+split_next : (b : Bool) (y : ℕ) (ps : List (List ℕ)) → 0 < length ps
+    → cond b ([] ∷ (ps ++ [] ∷ [])) (onto_first y (ps ++ [] ∷ []))
+    ≡ cond b ([] ∷ ps) (onto_first y ps) ++ [] ∷ []
 split_next true y ps some = refl
 split_next false y [] some = absurd (omega arith)
 split_next false y (p ∷ ps) some = refl
 
 -- an element that separates begins a piece
-slice_split-push_yes : (p : ℕ → Bool) (xs : List ℕ) (x : ℕ) → p x ≡ true → slice_split p (xs ++ x ∷ []) ≡ slice_split p xs ++ [] ∷ []
+slice_split-push_yes : (p : ℕ → Bool) (xs : List ℕ) (x : ℕ) → p x ≡ true
+    → slice_split p (xs ++ x ∷ []) ≡ slice_split p xs ++ [] ∷ []
 slice_split-push_yes p [] x passes = rw passes refl
 slice_split-push_yes p (y ∷ ys) x passes =
     ap (λ ps. cond (p y) ([] ∷ ps) (onto_first y ps)) (slice_split-push_yes p ys x passes)
@@ -64,17 +74,20 @@ digit_value-byte : (byte : ℕ) → 48 ≤ byte → byte ≤ 57 → digit_value 
 digit_value-byte byte low high = search (rules, tests)
 
 -- the value of a piece that goes on by a digit
-parameter-push : (piece : List ℕ) (byte : ℕ) → 48 ≤ byte → byte ≤ 57 → parameter (piece ++ byte ∷ []) ≡ raised byte (parameter piece)
+parameter-push : (piece : List ℕ) (byte : ℕ) → 48 ≤ byte → byte ≤ 57
+    → parameter (piece ++ byte ∷ []) ≡ raised byte (parameter piece)
 parameter-push piece byte low high =
     let more = digits_value_push 10 piece byte in
     let digit = digit_value-byte byte low high in
     omega arith
 
 -- the values of the pieces, of which the last goes on by an element
-map-onto_last : (g : List ℕ → ℕ) (f : ℕ → ℕ) (x : ℕ) → ((p : List ℕ) → g (p ++ x ∷ []) ≡ f (g p)) → (ps : List (List ℕ)) → 0 < length ps → map g (onto_last x ps) ≡ on_last f (map g ps)
+map-onto_last : (g : List ℕ → ℕ) (f : ℕ → ℕ) (x : ℕ) → ((p : List ℕ) → g (p ++ x ∷ []) ≡ f (g p))
+    → (ps : List (List ℕ)) → 0 < length ps → map g (onto_last x ps) ≡ on_last f (map g ps)
 map-onto_last g f x step [] some = absurd (omega arith)
 map-onto_last g f x step (p ∷ []) some = ap (λ n. n ∷ []) (step p)
-map-onto_last g f x step (p ∷ q ∷ ps) some = ap (λ ns. g p ∷ ns) (map-onto_last g f x step (q ∷ ps) (omega arith))
+map-onto_last g f x step (p ∷ q ∷ ps) some =
+    ap (λ ns. g p ∷ ns) (map-onto_last g f x step (q ∷ ps) (omega arith))
 
 pub length-on_last : (f : ℕ → ℕ) (ns : List ℕ) → length (on_last f ns) ≡ max 1 (length ns)
 length-on_last f [] = refl
@@ -82,7 +95,8 @@ length-on_last f (n ∷ []) = refl
 length-on_last f (n ∷ m ∷ ns) = let rest = length-on_last f (m ∷ ns) in omega arith
 
 -- the last number is changed
-pub get_or-on_last_same : (f : ℕ → ℕ) (ns : List ℕ) (k : ℕ) → k + 1 ≡ max 1 (length ns) → get_or (on_last f ns) k 0 ≡ f (get_or ns k 0)
+pub get_or-on_last_same : (f : ℕ → ℕ) (ns : List ℕ) (k : ℕ) → k + 1 ≡ max 1 (length ns)
+    → get_or (on_last f ns) k 0 ≡ f (get_or ns k 0)
 get_or-on_last_same f [] zero at = refl
 get_or-on_last_same f [] (suc k) at = absurd (omega arith)
 get_or-on_last_same f (n ∷ []) zero at = refl
@@ -91,7 +105,8 @@ get_or-on_last_same f (n ∷ m ∷ ns) zero at = absurd (omega arith)
 get_or-on_last_same f (n ∷ m ∷ ns) (suc k) at = get_or-on_last_same f (m ∷ ns) k (omega arith)
 
 -- the others stay
-pub get_or-on_last_other : (f : ℕ → ℕ) (ns : List ℕ) (k : ℕ) → k + 1 ≢ max 1 (length ns) → get_or (on_last f ns) k 0 ≡ get_or ns k 0
+pub get_or-on_last_other : (f : ℕ → ℕ) (ns : List ℕ) (k : ℕ) → k + 1 ≢ max 1 (length ns)
+    → get_or (on_last f ns) k 0 ≡ get_or ns k 0
 get_or-on_last_other f [] zero other = absurd (omega arith)
 get_or-on_last_other f [] (suc k) other = refl
 get_or-on_last_other f (n ∷ []) zero other = absurd (omega arith)
@@ -104,15 +119,20 @@ digit-no_separator : (byte : ℕ) → byte ≤ 57 → byte == 59 ≡ false
 digit-no_separator byte high = search (rules, tests)
 
 -- the fields of a text that goes on by a digit
-pub fields-push_digit : (text : List ℕ) (byte : ℕ) → 48 ≤ byte → byte ≤ 57 → fields (text ++ byte ∷ []) ≡ on_last (raised byte) (fields text)
-fields-push_digit [] byte low high = rw (digit-no_separator byte high) (ap (λ n. n ∷ []) (parameter-push [] byte low high))
+pub fields-push_digit : (text : List ℕ) (byte : ℕ) → 48 ≤ byte → byte ≤ 57
+    → fields (text ++ byte ∷ []) ≡ on_last (raised byte) (fields text)
+fields-push_digit [] byte low high =
+    rw (digit-no_separator byte high) (ap (λ n. n ∷ []) (parameter-push [] byte low high))
 fields-push_digit (x ∷ xs) byte low high =
     let separates : ℕ → Bool = λ b. b == 59 in
     ap (map parameter) (slice_split-push_no separates (x ∷ xs) byte (digit-no_separator byte high))
-    ∙ map-onto_last parameter (raised byte) byte (λ p. parameter-push p byte low high) (slice_split separates (x ∷ xs)) (omega (arith, length-slice_split separates (x ∷ xs)))
+    ∙ map-onto_last parameter (raised byte) byte
+    (λ p. parameter-push p byte low high)
+    (slice_split separates (x ∷ xs)) (omega (arith, length-slice_split separates (x ∷ xs)))
 
 -- the fields of a text that goes on by a semicolon
-fields-push_separator : (x : ℕ) (xs : List ℕ) → fields ((x ∷ xs) ++ 59 ∷ []) ≡ fields (x ∷ xs) ++ 0 ∷ []
+fields-push_separator : (x : ℕ) (xs : List ℕ)
+    → fields ((x ∷ xs) ++ 59 ∷ []) ≡ fields (x ∷ xs) ++ 0 ∷ []
 fields-push_separator x xs =
     let separates : ℕ → Bool = λ b. b == 59 in
     ap (map parameter) (slice_split-push_yes separates (x ∷ xs) 59 refl)
@@ -122,10 +142,15 @@ fields-push_separator x xs =
 length-fields-some : (x : ℕ) (xs : List ℕ) → 0 < length (fields (x ∷ xs))
 length-fields-some x xs =
     let separates : ℕ → Bool = λ b. b == 59 in
-    omega (arith, length-slice_split separates (x ∷ xs), length-map (slice_split separates (x ∷ xs)) parameter)
+    omega (
+      arith,
+      length-slice_split separates (x ∷ xs),
+      length-map (slice_split separates (x ∷ xs)) parameter,
+    )
 
 -- a semicolon begins a field, and the first one follows an empty field
-pub length-fields-push_separator : (text : List ℕ) → length (fields (text ++ 59 ∷ [])) ≡ max 1 (length (fields text)) + 1
+pub length-fields-push_separator : (text : List ℕ)
+    → length (fields (text ++ 59 ∷ [])) ≡ max 1 (length (fields text)) + 1
 length-fields-push_separator [] = refl
 length-fields-push_separator (x ∷ xs) =
     ap length (fields-push_separator x xs)

@@ -1,13 +1,19 @@
--- Each list of bytes that carry meaning has one history: reading gives one, and reading the spelling of any gives it back.
-use Rattle.std.proofs.Common.{◌≡◌, ℕ, ◌+◌, ◌<◌, Bool, true, false, not, cond, List, [], ◌∷◌, ◌++◌, refl, ap, sym, ◌∙◌, arith, append_assoc, fold}
+-- Each list of bytes that carry meaning has one history: reading gives one, and reading the
+-- spelling of any gives it back.
+use Rattle.std.proofs.Common.{◌≡◌, ℕ, ◌+◌, ◌<◌, Bool, true, false, not, cond, List, [], ◌∷◌, ◌++◌}
+use Rattle.std.proofs.Common.{refl, ap, sym, ◌∙◌, arith, append_assoc, fold}
 use Rattle.std.specs.Prelude.{IsTrue, ◌||◌}
 use Rattle.std.specs.List.{list_all}
 use Rattle.std.proofs.lemmas.List.{append-nil}
 use Rattle.std.proofs.lemmas.List.Sums.{fold-append}
 use Rattle.std.proofs.lemmas.Bool.Decides.{nat_tests}
 use Rattle.std.proofs.lemmas.Grind.{common_steps}
-use Rattle.sixel_base.specs.Bytes.{is_ignored, is_terminator, is_digit, is_parameter, is_skipped, front}
-use Rattle.sixel_base.specs.History.{Token, Sixel, Repeat, Raster, Color, Return, Newline, Skip, History, start, text, spelling, spellings, IsToken, takes, goes_on, AreTokens, IsHistory, begun, with_byte, longer, read, history_of}
+use Rattle.sixel_base.specs.Bytes.{is_ignored, is_terminator, is_digit, is_parameter, is_skipped}
+use Rattle.sixel_base.specs.Bytes.{front}
+use Rattle.sixel_base.specs.History.{Token, Sixel, Repeat, Raster, Color, Return, Newline, Skip}
+use Rattle.sixel_base.specs.History.{History, start, text, spelling, spellings, IsToken, takes}
+use Rattle.sixel_base.specs.History.{goes_on, AreTokens, IsHistory, begun, with_byte, longer, read}
+use Rattle.sixel_base.specs.History.{history_of}
 
 -- a byte that carries meaning: neither an ignored control nor a terminator
 abbrev pub carries : ℕ → Bool
@@ -24,7 +30,8 @@ pub IsToken-begun : (byte : ℕ) → carries byte ≡ true → IsToken (begun by
 IsToken-begun byte h = grind (arith, nat_tests)
 
 -- a token that takes a byte is spelled with that byte at the end
-pub spelling-with_byte : (token : Token) (byte : ℕ) → takes token byte ≡ true → spelling (with_byte token byte) ≡ spelling token ++ byte ∷ []
+pub spelling-with_byte : (token : Token) (byte : ℕ) → takes token byte ≡ true
+    → spelling (with_byte token byte) ≡ spelling token ++ byte ∷ []
 spelling-with_byte (Sixel _) byte h = absurd cc
 spelling-with_byte (Repeat t) byte h = refl
 spelling-with_byte (Raster t) byte h = refl
@@ -33,18 +40,25 @@ spelling-with_byte Return byte h = absurd cc
 spelling-with_byte Newline byte h = absurd cc
 spelling-with_byte (Skip _) byte h = absurd cc
 
-spellings-longer : (h : History) (byte : ℕ) → goes_on h byte ≡ true → spellings (longer h byte) ≡ spellings h ++ byte ∷ []
+spellings-longer : (h : History) (byte : ℕ) → goes_on h byte ≡ true
+    → spellings (longer h byte) ≡ spellings h ++ byte ∷ []
 spellings-longer [] byte is = absurd cc
 spellings-longer (token ∷ older) byte is =
-    ap (λ w. spellings older ++ w) (spelling-with_byte token byte is) ∙ sym (append_assoc (spellings older) (spelling token) (byte ∷ []))
+    ap (λ w. spellings older ++ w) (spelling-with_byte token byte is)
+    ∙ sym (append_assoc (spellings older) (spelling token) (byte ∷ []))
 
 spellings-begun : (h : History) (byte : ℕ) → spellings (begun byte ∷ h) ≡ spellings h ++ byte ∷ []
-spellings-begun h byte = ap (λ w. spellings h ++ w) (ap (λ b. b ∷ text (begun byte)) (start-begun byte) ∙ ap (λ t. byte ∷ t) (text-begun byte))
+spellings-begun h byte =
+    ap (λ w. spellings h ++ w)
+    (ap (λ b. b ∷ text (begun byte)) (start-begun byte) ∙ ap (λ t. byte ∷ t) (text-begun byte))
 
 -- reading a byte adds it to what is spelled
 pub spellings-read : (h : History) (byte : ℕ) → spellings (read h byte) ≡ spellings h ++ byte ∷ []
 spellings-read h byte =
-    (elim (goes_on h byte) as (λ g. goes_on h byte ≡ g → spellings (cond g (longer h byte) (begun byte ∷ h)) ≡ spellings h ++ byte ∷ []) [
+    (elim (goes_on h byte) as
+    (λ g.
+    goes_on h byte ≡ g
+    → spellings (cond g (longer h byte) (begun byte ∷ h)) ≡ spellings h ++ byte ∷ []) [
       | true ↦ λ is. spellings-longer h byte is
       | false ↦ λ is. spellings-begun h byte
     ]) refl
@@ -56,15 +70,19 @@ read_ends h byte is = ap (λ g. cond g (longer h byte) (begun byte ∷ h)) is
 pub read_goes_on : (h : History) (byte : ℕ) → goes_on h byte ≡ true → read h byte ≡ longer h byte
 read_goes_on h byte is = ap (λ g. cond g (longer h byte) (begun byte ∷ h)) is
 
-pub spellings-fold : (h : History) (bytes : List ℕ) → spellings (fold read h bytes) ≡ spellings h ++ bytes
+pub spellings-fold : (h : History) (bytes : List ℕ)
+    → spellings (fold read h bytes) ≡ spellings h ++ bytes
 spellings-fold h [] = sym (append-nil (spellings h))
 spellings-fold h (byte ∷ bytes) =
-    spellings-fold (read h byte) bytes ∙ (ap (λ w. w ++ bytes) (spellings-read h byte) ∙ append_assoc (spellings h) (byte ∷ []) bytes)
+    spellings-fold (read h byte) bytes
+    ∙ (ap (λ w. w ++ bytes) (spellings-read h byte) ∙ append_assoc (spellings h) (byte ∷ []) bytes)
 
-list_all-push : (p : ℕ → Bool) (xs : List ℕ) (x : ℕ) → IsTrue (list_all p xs) → p x ≡ true → IsTrue (list_all p (xs ++ x ∷ []))
+list_all-push : (p : ℕ → Bool) (xs : List ℕ) (x : ℕ) → IsTrue (list_all p xs) → p x ≡ true
+    → IsTrue (list_all p (xs ++ x ∷ []))
 list_all-push p xs x all last = grind (arith, common_steps)
 
-IsToken-with_byte : (token : Token) (byte : ℕ) → takes token byte ≡ true → IsToken token → IsToken (with_byte token byte)
+IsToken-with_byte : (token : Token) (byte : ℕ) → takes token byte ≡ true → IsToken token
+    → IsToken (with_byte token byte)
 IsToken-with_byte (Sixel _) byte h is = absurd cc
 IsToken-with_byte (Repeat t) byte h is = list_all-push is_digit t byte is h
 IsToken-with_byte (Raster t) byte h is = list_all-push is_parameter t byte is h
@@ -83,23 +101,35 @@ start-with_byte Return byte = refl
 start-with_byte Newline byte = refl
 start-with_byte (Skip _) byte = refl
 
-AreTokens-longer : (h : History) (byte : ℕ) → goes_on h byte ≡ true → AreTokens h → AreTokens (longer h byte)
+AreTokens-longer : (h : History) (byte : ℕ) → goes_on h byte ≡ true → AreTokens h
+    → AreTokens (longer h byte)
 AreTokens-longer [] byte is are = absurd cc
-AreTokens-longer (token ∷ older) byte is are =
-    (IsToken-with_byte token byte is are.0, ap (goes_on older) (start-with_byte token byte) ∙ are.1, are.2)
+AreTokens-longer (token ∷ older) byte is are = (
+  IsToken-with_byte token byte is are.0,
+  ap (goes_on older) (start-with_byte token byte) ∙ are.1,
+  are.2,
+)
 
-AreTokens-begun : (h : History) (byte : ℕ) → goes_on h byte ≡ false → carries byte ≡ true → AreTokens h → AreTokens (begun byte ∷ h)
-AreTokens-begun h byte is may are = (IsToken-begun byte may, ap (goes_on h) (start-begun byte) ∙ is, are)
+AreTokens-begun : (h : History) (byte : ℕ) → goes_on h byte ≡ false → carries byte ≡ true
+    → AreTokens h → AreTokens (begun byte ∷ h)
+AreTokens-begun h byte is may are = (
+  IsToken-begun byte may,
+  ap (goes_on h) (start-begun byte) ∙ is,
+  are,
+)
 
 -- reading a byte that carries meaning keeps the tokens in order
-pub AreTokens-read : (h : History) (byte : ℕ) → carries byte ≡ true → AreTokens h → AreTokens (read h byte)
+pub AreTokens-read : (h : History) (byte : ℕ) → carries byte ≡ true → AreTokens h
+    → AreTokens (read h byte)
 AreTokens-read h byte may are =
-    (elim (goes_on h byte) as (λ g. goes_on h byte ≡ g → AreTokens (cond g (longer h byte) (begun byte ∷ h))) [
+    (elim (goes_on h byte) as
+    (λ g. goes_on h byte ≡ g → AreTokens (cond g (longer h byte) (begun byte ∷ h))) [
       | true ↦ λ is. AreTokens-longer h byte is are
       | false ↦ λ is. AreTokens-begun h byte is may are
     ]) refl
 
-pub AreTokens-fold : (h : History) (bytes : List ℕ) → IsTrue (list_all carries bytes) → AreTokens h → AreTokens (fold read h bytes)
+pub AreTokens-fold : (h : History) (bytes : List ℕ) → IsTrue (list_all carries bytes) → AreTokens h
+    → AreTokens (fold read h bytes)
 AreTokens-fold h [] may are = are
 AreTokens-fold h (byte ∷ bytes) may are =
     let first : carries byte ≡ true = grind (arith, common_steps) in
@@ -113,7 +143,10 @@ carries-front (byte ∷ bytes) = grind (arith, common_steps, carries-front bytes
 
 -- each payload has a history
 pub some_history : (bytes : List ℕ) → IsHistory (front bytes) (history_of (front bytes))
-some_history bytes = (spellings-fold [] (front bytes), AreTokens-fold [] (front bytes) (carries-front bytes) tt)
+some_history bytes = (
+  spellings-fold [] (front bytes),
+  AreTokens-fold [] (front bytes) (carries-front bytes) tt,
+)
 
 -- ---- the history that spells the bytes is the one that reading gives
 
@@ -139,29 +172,36 @@ begun-start Return is = refl
 begun-start Newline is = refl
 begun-start (Skip byte) is = begun-skip byte is
 
-fold-repeat : (older : History) (s t : List ℕ) → IsTrue (list_all is_digit t) → fold read (Repeat s ∷ older) t ≡ Repeat (s ++ t) ∷ older
+fold-repeat : (older : History) (s t : List ℕ) → IsTrue (list_all is_digit t)
+    → fold read (Repeat s ∷ older) t ≡ Repeat (s ++ t) ∷ older
 fold-repeat older s [] all = ap (λ w. Repeat w ∷ older) (sym (append-nil s))
 fold-repeat older s (byte ∷ t) all =
     let first : is_digit byte ≡ true = grind (arith, common_steps) in
     let rest : IsTrue (list_all is_digit t) = grind (arith, common_steps) in
-    rw first (fold-repeat older (s ++ byte ∷ []) t rest ∙ ap (λ w. Repeat w ∷ older) (append_assoc s (byte ∷ []) t))
+    rw first (fold-repeat older (s ++ byte ∷ []) t rest
+    ∙ ap (λ w. Repeat w ∷ older) (append_assoc s (byte ∷ []) t))
 
-fold-raster : (older : History) (s t : List ℕ) → IsTrue (list_all is_parameter t) → fold read (Raster s ∷ older) t ≡ Raster (s ++ t) ∷ older
+fold-raster : (older : History) (s t : List ℕ) → IsTrue (list_all is_parameter t)
+    → fold read (Raster s ∷ older) t ≡ Raster (s ++ t) ∷ older
 fold-raster older s [] all = ap (λ w. Raster w ∷ older) (sym (append-nil s))
 fold-raster older s (byte ∷ t) all =
     let first : is_parameter byte ≡ true = grind (arith, common_steps) in
     let rest : IsTrue (list_all is_parameter t) = grind (arith, common_steps) in
-    rw first (fold-raster older (s ++ byte ∷ []) t rest ∙ ap (λ w. Raster w ∷ older) (append_assoc s (byte ∷ []) t))
+    rw first (fold-raster older (s ++ byte ∷ []) t rest
+    ∙ ap (λ w. Raster w ∷ older) (append_assoc s (byte ∷ []) t))
 
-fold-color : (older : History) (s t : List ℕ) → IsTrue (list_all is_parameter t) → fold read (Color s ∷ older) t ≡ Color (s ++ t) ∷ older
+fold-color : (older : History) (s t : List ℕ) → IsTrue (list_all is_parameter t)
+    → fold read (Color s ∷ older) t ≡ Color (s ++ t) ∷ older
 fold-color older s [] all = ap (λ w. Color w ∷ older) (sym (append-nil s))
 fold-color older s (byte ∷ t) all =
     let first : is_parameter byte ≡ true = grind (arith, common_steps) in
     let rest : IsTrue (list_all is_parameter t) = grind (arith, common_steps) in
-    rw first (fold-color older (s ++ byte ∷ []) t rest ∙ ap (λ w. Color w ∷ older) (append_assoc s (byte ∷ []) t))
+    rw first (fold-color older (s ++ byte ∷ []) t rest
+    ∙ ap (λ w. Color w ∷ older) (append_assoc s (byte ∷ []) t))
 
 -- the text of a token completes it
-fold-text : (older : History) (token : Token) → IsToken token → fold read (bare token ∷ older) (text token) ≡ token ∷ older
+fold-text : (older : History) (token : Token) → IsToken token
+    → fold read (bare token ∷ older) (text token) ≡ token ∷ older
 fold-text older (Sixel bits) is = refl
 fold-text older (Repeat t) is = fold-repeat older [] t is
 fold-text older (Raster t) is = fold-raster older [] t is
@@ -171,16 +211,19 @@ fold-text older Newline is = refl
 fold-text older (Skip byte) is = refl
 
 -- reading the spelling of a token adds it
-pub fold-spelling : (older : History) (token : Token) → IsToken token → goes_on older (start token) ≡ false → fold read older (spelling token) ≡ token ∷ older
+pub fold-spelling : (older : History) (token : Token) → IsToken token
+    → goes_on older (start token) ≡ false → fold read older (spelling token) ≡ token ∷ older
 fold-spelling older token is ends =
     ap (λ (w : History). fold read w (text token)) (read_ends older (start token) ends)
-    ∙ (ap (λ (w : Token). fold read (w ∷ older) (text token)) (begun-start token is) ∙ fold-text older token is)
+    ∙ (ap (λ (w : Token). fold read (w ∷ older) (text token)) (begun-start token is)
+    ∙ fold-text older token is)
 
 history_of-spellings : (h : History) → AreTokens h → history_of (spellings h) ≡ h
 history_of-spellings [] are = refl
 history_of-spellings (token ∷ older) are =
     fold-append read [] (spellings older) (spelling token)
-    ∙ (ap (λ w. fold read w (spelling token)) (history_of-spellings older are.2) ∙ fold-spelling older token are.0 are.1)
+    ∙ (ap (λ w. fold read w (spelling token)) (history_of-spellings older are.2)
+    ∙ fold-spelling older token are.0 are.1)
 
 -- a history is the one that reading its bytes gives
 pub history_unique : (bytes : List ℕ) (h : History) → IsHistory bytes h → h ≡ history_of bytes

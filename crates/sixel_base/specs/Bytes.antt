@@ -1,14 +1,18 @@
--- The classes of a payload's bytes, which part of the bytes is the payload's own, and what of it carries meaning: the bytes before
--- the first terminator, without the ignored controls. From DEC's account of sixel data and its C0 and C1 controls.
-use Rattle.std.specs.Prelude.{ℕ, ◌==◌, nat_lt, nat_le, Bool, ◌&&◌, ◌||◌, not, if◌then◌else◌, List, [], ◌∷◌, length, Option, Some, None, is_some}
+-- The classes of a payload's bytes, which part of the bytes is the payload's own, and what of it
+-- carries meaning: the bytes before the first terminator, without the ignored controls. From DEC's
+-- account of sixel data and its C0 and C1 controls.
+use Rattle.std.specs.Prelude.{ℕ, ◌==◌, nat_lt, nat_le, Bool, ◌&&◌, ◌||◌, not, if◌then◌else◌, List}
+use Rattle.std.specs.Prelude.{[], ◌∷◌, length, Option, Some, None, is_some}
 
 -- C0 controls and DEL, which are as if they were not there, but for CAN (18), SUB (1a) and ESC (1b)
 abbrev pub is_ignored : ℕ → Bool
-is_ignored byte = nat_lt byte 0x18 || byte == 0x19 || nat_le 0x1c byte && nat_lt byte 0x20 || byte == 0x7f
+is_ignored byte =
+    nat_lt byte 0x18 || byte == 0x19 || nat_le 0x1c byte && nat_lt byte 0x20 || byte == 0x7f
 
 -- CAN, SUB, ESC and the C1 controls, which end a payload
 abbrev pub is_terminator : ℕ → Bool
-is_terminator byte = byte == 0x18 || byte == 0x1a || byte == 0x1b || nat_le 0x80 byte && nat_lt byte 0xa0
+is_terminator byte =
+    byte == 0x18 || byte == 0x1a || byte == 0x1b || nat_le 0x80 byte && nat_lt byte 0xa0
 
 -- `?` to `~`: six pixels, the byte less 63
 abbrev pub is_sixel : ℕ → Bool

@@ -1,7 +1,9 @@
--- Colors as three bytes, and how a color introducer defines one: percentages of red, green and blue, or hue, lightness and
--- saturation as DEC's terminals place them (blue at 0 degrees), here as exact fractions, rounded half up. And the table of 256
--- registers that a terminal starts with: DEC's sixteen, then a color cube in steps of 20 percent, and greys from black to white.
-use Rattle.std.specs.Prelude.{ℕ, ◌+◌, ◌-◌, ◌*◌, ◌/◌, ◌%◌, min, nat_lt, ◌==◌, if◌then◌else◌, List, [], ◌∷◌, map, slice_index_or}
+-- Colors as three bytes, and how a color introducer defines one: percentages of red, green and
+-- blue, or hue, lightness and saturation as DEC's terminals place them (blue at 0 degrees), here as
+-- exact fractions, rounded half up. And the table of 256 registers that a terminal starts with:
+-- DEC's sixteen, then a color cube in steps of 20 percent, and greys from black to white.
+use Rattle.std.specs.Prelude.{ℕ, ◌+◌, ◌-◌, ◌*◌, ◌/◌, ◌%◌, min, nat_lt, ◌==◌, if◌then◌else◌, List}
+use Rattle.std.specs.Prelude.{[], ◌∷◌, map, slice_index_or}
 use Rattle.std.specs.List.{range_with_len}
 
 -- a percentage as a byte
@@ -12,7 +14,8 @@ byte_of percent = (min percent 100 * 255 + 50) / 100
 abbrev pub rgb : ℕ → ℕ → ℕ → List ℕ
 rgb red green blue = byte_of red ∷ byte_of green ∷ byte_of blue ∷ []
 
--- Lightness and saturation in percent give the two ends between which each channel lies, in ten-thousandths.
+-- Lightness and saturation in percent give the two ends between which each channel lies, in
+-- ten-thousandths.
 abbrev pub high_end : ℕ → ℕ → ℕ
 high_end lightness saturation =
     if nat_lt lightness 50 then lightness * (100 + saturation)
@@ -32,9 +35,11 @@ channel_at low high angle =
 -- a channel as a byte, at an angle
 abbrev pub channel : ℕ → ℕ → ℕ → ℕ
 channel lightness saturation angle =
-    (255 * channel_at (low_end lightness saturation) (high_end lightness saturation) (angle % 360) + 300000) / 600000
+    (255 * channel_at (low_end lightness saturation) (high_end lightness saturation) (angle % 360)
+    + 300000) / 600000
 
--- A hue of 0 degrees is blue, which stands at 240 on the common circle: red lies 120 before, green at the hue, blue 120 behind.
+-- A hue of 0 degrees is blue, which stands at 240 on the common circle: red lies 120 before, green
+-- at the hue, blue 120 behind.
 abbrev pub hls_circle : ℕ → ℕ → ℕ → List ℕ
 hls_circle hue lightness saturation =
     channel lightness saturation (hue + 120)

@@ -1,13 +1,17 @@
--- What bytes mean that are fed to a control string session: DCS as one byte or as ESC and `P`, a header, and after its `q` a payload that
--- ends at the string terminator, as one byte or as ESC and `\`, or is cut short: by CAN or SUB, by another byte after ESC, or by another C1
--- control, which is left to the caller. From DEC's device control strings.
-use Rattle.std.specs.Prelude.{ℕ, ◌≡◌, ◌+◌, ◌-◌, ◌==◌, Bool, true, false, ◌||◌, if◌then◌else◌, List, [], ◌∷◌, length, Option, Some, None}
+-- What bytes mean that are fed to a control string session: DCS as one byte or as ESC and `P`, a
+-- header, and after its `q` a payload that ends at the string terminator, as one byte or as ESC and
+-- `\`, or is cut short: by CAN or SUB, by another byte after ESC, or by another C1 control, which
+-- is left to the caller. From DEC's device control strings.
+use Rattle.std.specs.Prelude.{ℕ, ◌≡◌, ◌+◌, ◌-◌, ◌==◌, Bool, true, false, ◌||◌, if◌then◌else◌, List}
+use Rattle.std.specs.Prelude.{[], ◌∷◌, length, Option, Some, None}
 use Rattle.sixel_base.specs.Fault.{Fault, NoIntroducer, Incomplete}
 use Rattle.sixel_base.specs.Bytes.{is_terminator, count, first_terminator}
 use Rattle.sixel_base.specs.Settings.{Settings}
-use Rattle.sixel_base.specs.Payload.{Image, fed_fault, settled, growths, payload_image, payload_registers}
+use Rattle.sixel_base.specs.Payload.{Image, fed_fault, settled, growths, payload_image}
+use Rattle.sixel_base.specs.Payload.{payload_registers}
 use Rattle.sixel_base.specs.declared.status.SixelDcsFeedStatus.{SixelDcsFeedStatus}
-use Rattle.sixel_base.specs.declared.status.SixelDcsFeedStatus.TheVariants.{NeedMoreData, Complete, Cancelled, Interrupted}
+use Rattle.sixel_base.specs.declared.status.SixelDcsFeedStatus.TheVariants.{NeedMoreData, Complete}
+use Rattle.sixel_base.specs.declared.status.SixelDcsFeedStatus.TheVariants.{Cancelled, Interrupted}
 use Rattle.sixel_base.specs.Reach.{reached_area, size}
 use Rattle.sixel_base.specs.Decoder.{origin_of}
 use Rattle.sixel_base.specs.declared.state.DecoderState.{DecoderState}
@@ -25,7 +29,8 @@ escaped (byte ∷ bytes) = if byte == 80 then Entered bytes else Absent
 
 abbrev pub introduced : List ℕ → Introduced
 introduced [] = Waiting
-introduced (byte ∷ bytes) = if byte == 0x90 then Entered bytes else if byte == 27 then escaped bytes else Absent
+introduced (byte ∷ bytes) =
+    if byte == 0x90 then Entered bytes else if byte == 27 then escaped bytes else Absent
 
 -- where a control string stands: before its payload, refused, or in a payload of these bytes
 pub data Stage : Type 0 where
@@ -51,7 +56,8 @@ abbrev pub after_terminator : List ℕ → List ℕ
 after_terminator [] = []
 after_terminator (byte ∷ bytes) = if is_terminator byte then bytes else after_terminator bytes
 
--- ESC ends a payload at once, and the string with the `\` after it; any other byte interrupts the string, and is not its own.
+-- ESC ends a payload at once, and the string with the `\` after it; any other byte interrupts the
+-- string, and is not its own.
 abbrev pub escape_status : List ℕ → SixelDcsFeedStatus
 escape_status [] = NeedMoreData
 escape_status (byte ∷ rest) = if byte == 92 then Complete else Interrupted 27
@@ -89,7 +95,8 @@ payload_status payload = payload_status_by (first_terminator payload) (after_ter
 
 -- how many bytes after the `q` are its own
 abbrev pub payload_count : List ℕ → ℕ
-payload_count payload = count payload + payload_count_by (first_terminator payload) (after_terminator payload)
+payload_count payload =
+    count payload + payload_count_by (first_terminator payload) (after_terminator payload)
 
 abbrev pub stage_status : Stage → SixelDcsFeedStatus
 stage_status Heading = NeedMoreData
@@ -99,7 +106,8 @@ stage_status (Reading settings payload) = payload_status payload
 abbrev pub stage_count : List ℕ → Stage → ℕ
 stage_count bytes Heading = length bytes
 stage_count bytes (Failing fault) = 0
-stage_count bytes (Reading settings payload) = (length bytes - length payload) + payload_count payload
+stage_count bytes (Reading settings payload) =
+    (length bytes - length payload) + payload_count payload
 
 abbrev pub stage_fault : ℕ → Stage → Option Fault
 stage_fault limit Heading = None
@@ -116,7 +124,8 @@ dcs_count bytes = stage_count bytes (stage bytes)
 abbrev pub dcs_fault : ℕ → List ℕ → Option Fault
 dcs_fault limit bytes = stage_fault limit (stage bytes)
 
--- bytes that mean the same string as these: as many are its own, it stands the same, and the same is wrong with it
+-- bytes that mean the same string as these: as many are its own, it stands the same, and the same
+-- is wrong with it
 pub record IsSameString (limit : ℕ) (bytes other : List ℕ) : Type 0 where
   pub count : dcs_count other ≡ dcs_count bytes
   pub status : dcs_status other ≡ dcs_status bytes
@@ -183,10 +192,12 @@ end_fault status = if has_ended status then None else Some Incomplete
 abbrev pub IsStringImage : DecoderState → Stage → Image → Type 0
 IsStringImage decoder Heading image = ⊥
 IsStringImage decoder (Failing fault) image = ⊥
-IsStringImage decoder (Reading settings payload) image = image ≡ payload_image (origin_of decoder settings) payload
+IsStringImage decoder (Reading settings payload) image =
+    image ≡ payload_image (origin_of decoder settings) payload
 
 -- and the registers after it
 abbrev pub AreStringRegisters : DecoderState → Stage → List (List ℕ) → Type 0
 AreStringRegisters decoder Heading after = ⊥
 AreStringRegisters decoder (Failing fault) after = ⊥
-AreStringRegisters decoder (Reading settings payload) after = after ≡ payload_registers (origin_of decoder settings) payload
+AreStringRegisters decoder (Reading settings payload) after =
+    after ≡ payload_registers (origin_of decoder settings) payload

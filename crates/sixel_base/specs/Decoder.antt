@@ -1,5 +1,6 @@
--- What a decoder keeps from one image to the next: its 256 color registers, which the data define, and what its host has set: whether
--- images are cropped to their raster attributes, and how many pixels one may reach. The last two are this library's own.
+-- What a decoder keeps from one image to the next: its 256 color registers, which the data define,
+-- and what its host has set: whether images are cropped to their raster attributes, and how many
+-- pixels one may reach. The last two are this library's own.
 use Rattle.std.specs.Prelude.{ℕ, ◌≡◌, min, max, false}
 use Rattle.sixel_base.specs.Settings.{Settings}
 use Rattle.sixel_base.specs.Color.{default_registers}
@@ -7,13 +8,15 @@ use Rattle.sixel_base.specs.Stroke.{Origin}
 use Rattle.sixel_base.specs.Payload.{area_limit}
 use Rattle.sixel_base.specs.declared.state.DecoderState.{DecoderState}
 
--- the limit that a host gets who asks for so many pixels: at least one, at most the limit of a new decoder
+-- the limit that a host gets who asks for so many pixels: at least one, at most the limit of a new
+-- decoder
 abbrev pub limit_of : ℕ → ℕ
 limit_of pixels = max 1 (min pixels area_limit)
 
 -- a decoder of which no call was made
 abbrev pub new_decoder : DecoderState
-new_decoder = record { registers = default_registers; raster_crop = false; pixel_limit = area_limit }
+new_decoder = record
+    { registers = default_registers; raster_crop = false; pixel_limit = area_limit }
 
 -- what a picture with these settings begins from
 abbrev pub origin_of : DecoderState → Settings → Origin
@@ -26,4 +29,5 @@ origin_of decoder settings = record {
 
 -- what the host has set is the same
 abbrev pub IsSetAs : DecoderState → DecoderState → Type 0
-IsSetAs before after = (after.raster_crop ≡ before.raster_crop) × (after.pixel_limit ≡ before.pixel_limit)
+IsSetAs before after =
+    (after.raster_crop ≡ before.raster_crop) × (after.pixel_limit ≡ before.pixel_limit)

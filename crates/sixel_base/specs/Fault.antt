@@ -1,8 +1,11 @@
--- Why data are refused, apart from any code: the seven texts of invalid data, a missing introducer, and a size
--- that no number holds. The causes are those of the documentation of icy_sixel.
+-- Why data are refused, apart from any code: the seven texts of invalid data, a missing introducer,
+-- and a size that no number holds. The causes are those of the documentation of icy_sixel.
 use Rattle.std.specs.Prelude.{◌≡◌, List, ℕ, codes, Bool, IsTrue, Option, Some, None, IsSomeAnd}
 use Rattle.sixel_base.specs.declared.error.SixelError.{SixelError}
-use Rattle.sixel_base.specs.declared.error.SixelError.TheVariants.{InvalidDimensions, BufferSizeMismatch, InvalidData, NoSixelData, IntegerOverflow, OutOfMemory}
+use Rattle.sixel_base.specs.declared.error.SixelError.TheVariants.{InvalidDimensions}
+use Rattle.sixel_base.specs.declared.error.SixelError.TheVariants.{BufferSizeMismatch, InvalidData}
+use Rattle.sixel_base.specs.declared.error.SixelError.TheVariants.{NoSixelData, IntegerOverflow}
+use Rattle.sixel_base.specs.declared.error.SixelError.TheVariants.{OutOfMemory}
 
 pub data Fault : Type 0 where
   Malformed : Fault
@@ -36,7 +39,8 @@ IsFault NoSixelData fault = fault ≡ NoIntroducer
 IsFault IntegerOverflow fault = fault ≡ Overflow
 IsFault OutOfMemory fault = ⊥
 
--- What may be answered where this fault was found: the fault, or want of memory where that may come.
+-- What may be answered where this fault was found: the fault, or want of memory where that may
+-- come.
 abbrev pub Faults : SixelError → Bool → Option Fault → Type 0
 Faults OutOfMemory may_want found = IsTrue may_want
 Faults error may_want found = IsSomeAnd found (IsFault error)

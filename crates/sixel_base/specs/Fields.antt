@@ -1,5 +1,6 @@
--- The numeric parameters of a command: its text split at each semicolon, an empty piece being 0 and any other the lesser
--- of its decimal value and 2147483647. This is the parameter string of DEC's control functions with a ceiling of our own.
+-- The numeric parameters of a command: its text split at each semicolon, an empty piece being 0 and
+-- any other the lesser of its decimal value and 2147483647. This is the parameter string of DEC's
+-- control functions with a ceiling of our own.
 use Rattle.std.specs.Prelude.{ℕ, ◌==◌, min, List, [], ◌∷◌, map, slice_index}
 use Rattle.std.specs.List.{slice_split}
 use Rattle.std.specs.Str.Parse.{digits_value}

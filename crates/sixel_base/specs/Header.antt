@@ -1,6 +1,8 @@
--- The header of a control string: what stands between its introducer and its `q`. Digits, semicolons and ignored controls are read as
--- up to three parameters: P1, P2 and P3 of DEC's sixel control string, each at most 65535 here.
-use Rattle.std.specs.Prelude.{ℕ, ◌==◌, nat_lt, min, Bool, ◌||◌, if◌then◌else◌, List, [], ◌∷◌, length, Option, Some, None}
+-- The header of a control string: what stands between its introducer and its `q`. Digits,
+-- semicolons and ignored controls are read as up to three parameters: P1, P2 and P3 of DEC's sixel
+-- control string, each at most 65535 here.
+use Rattle.std.specs.Prelude.{ℕ, ◌==◌, nat_lt, min, Bool, ◌||◌, if◌then◌else◌, List, [], ◌∷◌}
+use Rattle.std.specs.Prelude.{length, Option, Some, None}
 use Rattle.sixel_base.specs.Fault.{Fault, Malformed, BadHeader}
 use Rattle.sixel_base.specs.Bytes.{is_parameter, is_ignored, is_terminator, carrying}
 use Rattle.sixel_base.specs.Fields.{fields, field}
@@ -26,7 +28,8 @@ header_text bytes = carrying (header_front bytes)
 
 -- a parameter, where there is one
 abbrev pub header_field : List ℕ → ℕ → Option ℕ
-header_field text k = if nat_lt k (length (fields text)) then Some (min (field text k) 65535) else None
+header_field text k =
+    if nat_lt k (length (fields text)) then Some (min (field text k) 65535) else None
 
 abbrev pub settings_of : List ℕ → Settings
 settings_of text = record {
@@ -37,7 +40,8 @@ settings_of text = record {
 
 -- what the byte after a header means: its `q`, or a fault
 abbrev pub command_fault : ℕ → Option Fault
-command_fault byte = if byte == 113 then None else if is_terminator byte then Some Malformed else Some BadHeader
+command_fault byte =
+    if byte == 113 then None else if is_terminator byte then Some Malformed else Some BadHeader
 
 -- where a header stands: it may go on, its `q` came and these bytes follow, or it has a fault
 pub data Headed : Type 0 where
@@ -47,7 +51,9 @@ pub data Headed : Type 0 where
 
 abbrev pub headed_by : List ℕ → Headed
 headed_by [] = Open
-headed_by (byte ∷ payload) = if byte == 113 then Begun payload else if is_terminator byte then Faulty Malformed else Faulty BadHeader
+headed_by (byte ∷ payload) =
+    if byte == 113 then Begun payload else if is_terminator byte then Faulty Malformed
+    else Faulty BadHeader
 
 abbrev pub headed : List ℕ → Headed
 headed bytes = headed_by (header_rest bytes)

@@ -1,7 +1,9 @@
--- The grammar of a payload: its tokens, how each is spelled, and which lists of tokens spell a list of bytes. A history is the tokens
--- newest first, so that "the last one before" is a recursion. The commands are those of DEC's sixel data: repeat introducer, raster
--- attributes, color introducer, graphics carriage return and graphics new line.
-use Rattle.std.specs.Prelude.{ℕ, ◌+◌, ◌-◌, ◌<◌, ◌==◌, ◌≡◌, Bool, false, if◌then◌else◌, List, [], ◌∷◌, ◌++◌, IsTrue, fold}
+-- The grammar of a payload: its tokens, how each is spelled, and which lists of tokens spell a list
+-- of bytes. A history is the tokens newest first, so that "the last one before" is a recursion. The
+-- commands are those of DEC's sixel data: repeat introducer, raster attributes, color introducer,
+-- graphics carriage return and graphics new line.
+use Rattle.std.specs.Prelude.{ℕ, ◌+◌, ◌-◌, ◌<◌, ◌==◌, ◌≡◌, Bool, false, if◌then◌else◌, List, []}
+use Rattle.std.specs.Prelude.{◌∷◌, ◌++◌, IsTrue, fold}
 use Rattle.std.specs.List.{list_all}
 use Rattle.sixel_base.specs.Bytes.{is_sixel, is_digit, is_parameter, is_skipped}
 

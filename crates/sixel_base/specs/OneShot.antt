@@ -1,9 +1,12 @@
--- What bytes mean that hold a control string anywhere, or are a bare payload: the first introducer, DCS as one byte or as ESC and `P`,
--- begins a header, and its payload is read up to the first terminator or the end. Without an introducer all bytes are a payload.
-use Rattle.std.specs.Prelude.{ℕ, ◌≡◌, ◌==◌, Bool, false, ◌&&◌, if◌then◌else◌, List, [], ◌∷◌, Option, Some, None}
+-- What bytes mean that hold a control string anywhere, or are a bare payload: the first introducer,
+-- DCS as one byte or as ESC and `P`, begins a header, and its payload is read up to the first
+-- terminator or the end. Without an introducer all bytes are a payload.
+use Rattle.std.specs.Prelude.{ℕ, ◌≡◌, ◌==◌, Bool, false, ◌&&◌, if◌then◌else◌, List, [], ◌∷◌, Option}
+use Rattle.std.specs.Prelude.{Some, None}
 use Rattle.sixel_base.specs.Fault.{Fault, MissingCommand}
 use Rattle.sixel_base.specs.Settings.{Settings}
-use Rattle.sixel_base.specs.Payload.{Image, payload_fault, payload_image, payload_registers, payload_wants}
+use Rattle.sixel_base.specs.Payload.{Image, payload_fault, payload_image, payload_registers}
+use Rattle.sixel_base.specs.Payload.{payload_wants}
 use Rattle.sixel_base.specs.Decoder.{origin_of}
 use Rattle.sixel_base.specs.declared.state.DecoderState.{DecoderState}
 use Rattle.sixel_base.specs.Header.{Headed, Open, Begun, Faulty, headed, header_text, settings_of}
@@ -59,15 +62,18 @@ found_wants limit (NoPayload fault) = false
 
 -- a decoder draws this image, where there is a payload
 abbrev pub IsFoundImage : DecoderState → Found → Image → Type 0
-IsFoundImage decoder (Payload settings payload) image = image ≡ payload_image (origin_of decoder settings) payload
+IsFoundImage decoder (Payload settings payload) image =
+    image ≡ payload_image (origin_of decoder settings) payload
 IsFoundImage decoder (NoPayload fault) image = ⊥
 
 -- and its registers after it are these
 abbrev pub AreFoundRegisters : DecoderState → Found → List (List ℕ) → Type 0
-AreFoundRegisters decoder (Payload settings payload) after = after ≡ payload_registers (origin_of decoder settings) payload
+AreFoundRegisters decoder (Payload settings payload) after =
+    after ≡ payload_registers (origin_of decoder settings) payload
 AreFoundRegisters decoder (NoPayload fault) after = ⊥
 
 -- decoding the payload finds no fault, gives this image and leaves these registers
 abbrev pub IsDecodedAs : DecoderState → Found → Image → List (List ℕ) → Type 0
 IsDecodedAs decoder payload image after =
-    (found_fault decoder.pixel_limit payload ≡ None) × IsFoundImage decoder payload image × AreFoundRegisters decoder payload after
+    (found_fault decoder.pixel_limit payload ≡ None) × IsFoundImage decoder payload image
+    × AreFoundRegisters decoder payload after

@@ -1,6 +1,8 @@
--- What a payload means: the first fault of its tokens, or its image and the registers that it leaves. While bytes still come, a command
--- that could go on is open and counts for nothing yet. The limits are this library's own.
-use Rattle.std.specs.Prelude.{ℕ, Bool, ◌+◌, ◌*◌, nat_lt, ◌&&◌, ◌||◌, if◌then◌else◌, List, [], ◌∷◌, Option, Some, None, is_none}
+-- What a payload means: the first fault of its tokens, or its image and the registers that it
+-- leaves. While bytes still come, a command that could go on is open and counts for nothing yet.
+-- The limits are this library's own.
+use Rattle.std.specs.Prelude.{ℕ, Bool, ◌+◌, ◌*◌, nat_lt, ◌&&◌, ◌||◌, if◌then◌else◌, List, [], ◌∷◌}
+use Rattle.std.specs.Prelude.{Option, Some, None, is_none}
 use Rattle.std.specs.Option.{option_or}
 use Rattle.sixel_base.specs.declared.settings.BackgroundMode.{BackgroundMode}
 use Rattle.sixel_base.specs.declared.settings.PixelAspectRatio.{PixelAspectRatio}
@@ -9,7 +11,8 @@ use Rattle.sixel_base.specs.Fault.{Fault, Malformed, TooLarge, Overflow}
 use Rattle.sixel_base.specs.Fields.{field}
 use Rattle.sixel_base.specs.Picture.{picture}
 use Rattle.sixel_base.specs.Bytes.{front, is_terminated}
-use Rattle.sixel_base.specs.History.{Token, Sixel, Repeat, Raster, Color, Return, Newline, Skip, History, history_of}
+use Rattle.sixel_base.specs.History.{Token, Sixel, Repeat, Raster, Color, Return, Newline, Skip}
+use Rattle.sixel_base.specs.History.{History, history_of}
 use Rattle.sixel_base.specs.Place.{span, across, down, width, height, raster_height}
 use Rattle.sixel_base.specs.Stroke.{Origin, pixel, ratio, registers}
 
@@ -19,22 +22,27 @@ area_limit = 67108864
 
 -- a picture whose area is above the limit
 abbrev pub area_fault : ℕ → History → Option Fault
-area_fault limit history = if nat_lt limit (width history * height history) then Some TooLarge else None
+area_fault limit history =
+    if nat_lt limit (width history * height history) then Some TooLarge else None
 
 -- A side above a million comes before the area that it makes.
 abbrev pub extent_fault : ℕ → ℕ → ℕ → History → Option Fault
 extent_fault limit right lower history =
-    if nat_lt 1000000 right || nat_lt 1000000 lower then Some Malformed else area_fault limit history
+    if nat_lt 1000000 right || nat_lt 1000000 lower then Some Malformed
+    else area_fault limit history
 
--- what is wrong with a token, after these: a repeat above 65535; raster attributes or a sixel that reach too far; more new lines
--- than a row number holds
+-- what is wrong with a token, after these: a repeat above 65535; raster attributes or a sixel that
+-- reach too far; more new lines than a row number holds
 abbrev pub fault_of : ℕ → Token → History → Option Fault
-fault_of limit (Sixel bits) older = extent_fault limit (across older + span older) (down older + 6) (Sixel bits ∷ older)
+fault_of limit (Sixel bits) older =
+    extent_fault limit (across older + span older) (down older + 6) (Sixel bits ∷ older)
 fault_of limit (Repeat text) older = if nat_lt 65535 (field text 0) then Some Malformed else None
-fault_of limit (Raster text) older = extent_fault limit (field text 2) (field text 3) (Raster text ∷ older)
+fault_of limit (Raster text) older =
+    extent_fault limit (field text 2) (field text 3) (Raster text ∷ older)
 fault_of limit (Color text) older = None
 fault_of limit Return older = None
-fault_of limit Newline older = if nat_lt 0xffff_ffff_ffff_ffff (down older + 6) then Some Overflow else None
+fault_of limit Newline older =
+    if nat_lt 0xffff_ffff_ffff_ffff (down older + 6) then Some Overflow else None
 fault_of limit (Skip byte) older = None
 
 -- the fault of the first token that has one
@@ -51,7 +59,8 @@ closed history = history
 
 -- the tokens that no further byte can change
 abbrev pub settled : List ℕ → History
-settled bytes = if is_terminated bytes then history_of (front bytes) else closed (history_of (front bytes))
+settled bytes =
+    if is_terminated bytes then history_of (front bytes) else closed (history_of (front bytes))
 
 -- what is wrong with bytes that have been fed
 abbrev pub fed_fault : ℕ → List ℕ → Option Fault
@@ -69,10 +78,12 @@ pub record Image : Type 0 where
   pub aspect_ratio : PixelAspectRatio
   pub background_mode : BackgroundMode
 
--- how high an image is: with crop as high as its last raster attributes say that name a height, else as its extent
+-- how high an image is: with crop as high as its last raster attributes say that name a height,
+-- else as its extent
 abbrev pub image_height : Bool → History → ℕ
 image_height raster_crop history =
-    if raster_crop && nat_lt 0 (raster_height history) then raster_height history else height history
+    if raster_crop && nat_lt 0 (raster_height history) then raster_height history
+    else height history
 
 -- the image of a history
 abbrev pub image_of : Origin → History → Image
@@ -96,13 +107,16 @@ payload_area bytes = width (history_of (front bytes)) * height (history_of (fron
 abbrev pub payload_registers : Origin → List ℕ → List (List ℕ)
 payload_registers origin bytes = registers origin.registers (history_of (front bytes))
 
--- how many sixels and raster attributes there are, for which alone a decoder may want memory before an image ends
+-- how many sixels and raster attributes there are, for which alone a decoder may want memory before
+-- an image ends
 abbrev pub growths : History → ℕ
 growths [] = 0
 growths (Sixel _ ∷ older) = growths older + 1
 growths (Raster _ ∷ older) = growths older + 1
 growths (_ ∷ older) = growths older
 
--- whether decoding a payload may be refused for want of memory: where it has an image, or a closed command may have wanted some
+-- whether decoding a payload may be refused for want of memory: where it has an image, or a closed
+-- command may have wanted some
 abbrev pub payload_wants : ℕ → List ℕ → Bool
-payload_wants limit bytes = is_none (payload_fault limit bytes) || nat_lt 0 (growths (settled bytes))
+payload_wants limit bytes =
+    is_none (payload_fault limit bytes) || nat_lt 0 (growths (settled bytes))

@@ -1,6 +1,8 @@
--- What a picture is: a pixel for each column and row, and the bytes of a whole picture, row by row from the top,
--- each row from the left, red, green, blue and alpha a pixel. A sixel is a column of six pixels, its least bit the top one.
-use Rattle.std.specs.Prelude.{ℕ, zero, suc, ◌+◌, ◌-◌, ◌/◌, ◌%◌, ◌^◌, ◌==◌, nat_lt, nat_le, Bool, ◌&&◌, List, [], ◌++◌}
+-- What a picture is: a pixel for each column and row, and the bytes of a whole picture, row by row
+-- from the top, each row from the left, red, green, blue and alpha a pixel. A sixel is a column of
+-- six pixels, its least bit the top one.
+use Rattle.std.specs.Prelude.{ℕ, zero, suc, ◌+◌, ◌-◌, ◌/◌, ◌%◌, ◌^◌, ◌==◌, nat_lt, nat_le, Bool}
+use Rattle.std.specs.Prelude.{◌&&◌, List, [], ◌++◌}
 
 -- f 0, f 1, .. up to before n, joined
 unfoldable pub joined : {A : Type 0} → (ℕ → List A) → ℕ → List A
@@ -26,4 +28,5 @@ is_struck top bits row = nat_le top row && nat_lt row (top + 6) && is_set bits (
 
 -- whether a sixel drawn over the columns from .. up to before to covers the pixel
 abbrev pub covers : ℕ → ℕ → ℕ → ℕ → ℕ → ℕ → Bool
-covers from to top bits column row = nat_le from column && nat_lt column to && is_struck top bits row
+covers from to top bits column row =
+    nat_le from column && nat_lt column to && is_struck top bits row

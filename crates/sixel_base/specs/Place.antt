@@ -1,10 +1,12 @@
--- Where a sixel stands and how far a picture reaches. Each word looks back from the newest token: the span that a repeat introducer
--- gives to the next sixel, the columns since the last return or new line, the new lines, the edges and the sizes of raster attributes.
+-- Where a sixel stands and how far a picture reaches. Each word looks back from the newest token:
+-- the span that a repeat introducer gives to the next sixel, the columns since the last return or
+-- new line, the new lines, the edges and the sizes of raster attributes.
 use Rattle.std.specs.Prelude.{ℕ, ◌+◌, max, nat_lt, if◌then◌else◌, [], ◌∷◌}
 use Rattle.sixel_base.specs.Fields.{field}
 use Rattle.sixel_base.specs.History.{Sixel, Repeat, Raster, Return, Newline, History}
 
--- over how many columns the next sixel is drawn: the last repeat since the previous sixel, where 0 means 1
+-- over how many columns the next sixel is drawn: the last repeat since the previous sixel, where 0
+-- means 1
 abbrev pub span : History → ℕ
 span [] = 1
 span (Repeat text ∷ older) = max 1 (field text 0)
@@ -42,5 +44,6 @@ height (_ ∷ older) = height older
 -- the last height that is not zero of those that raster attributes name, 0 where there is none
 abbrev pub raster_height : History → ℕ
 raster_height [] = 0
-raster_height (Raster text ∷ older) = if nat_lt 0 (field text 3) then field text 3 else raster_height older
+raster_height (Raster text ∷ older) =
+    if nat_lt 0 (field text 3) then field text 3 else raster_height older
 raster_height (_ ∷ older) = raster_height older

@@ -1,10 +1,12 @@
--- The parameters P1 to P3 of a SIXEL control string: which background and which shape of a pixel they ask for. The tables are
--- those of DEC's terminals, where a P1 that DEC leaves open and a missing one mean square pixels.
+-- The parameters P1 to P3 of a SIXEL control string: which background and which shape of a pixel
+-- they ask for. The tables are those of DEC's terminals, where a P1 that DEC leaves open and a
+-- missing one mean square pixels.
 use Rattle.std.specs.Prelude.{ℕ, ◌==◌, ◌||◌, if◌then◌else◌, Option, Some, None}
 use Rattle.sixel_base.specs.declared.settings.BackgroundMode.{BackgroundMode}
 use Rattle.sixel_base.specs.declared.settings.BackgroundMode.TheVariants.{Opaque, Transparent}
 use Rattle.sixel_base.specs.declared.settings.PixelAspectRatio.{PixelAspectRatio}
-use Rattle.sixel_base.specs.declared.settings.PixelAspectRatio.TheVariants.{Ratio5To1, Ratio3To1, Ratio2To1, Square}
+use Rattle.sixel_base.specs.declared.settings.PixelAspectRatio.TheVariants.{Ratio5To1, Ratio3To1}
+use Rattle.sixel_base.specs.declared.settings.PixelAspectRatio.TheVariants.{Ratio2To1, Square}
 
 -- the parameters that were given: P1, P2 and P3
 pub record Settings : Type 0 where

@@ -1,9 +1,13 @@
--- Which sizes an image may have: none is zero, its bytes can be counted, and where it is to be encoded it stays within the limits with
--- its height rounded up to whole bands of six rows, so that it can be decoded again. The limits are this library's own.
-use Rattle.std.specs.Prelude.{ℕ, ◌+◌, ◌*◌, ◌/◌, ◌==◌, nat_lt, ◌||◌, if◌then◌else◌, Option, Some, None, Result, Ok, Err}
+-- Which sizes an image may have: none is zero, its bytes can be counted, and where it is to be
+-- encoded it stays within the limits with its height rounded up to whole bands of six rows, so that
+-- it can be decoded again. The limits are this library's own.
+use Rattle.std.specs.Prelude.{ℕ, ◌+◌, ◌*◌, ◌/◌, ◌==◌, nat_lt, ◌||◌, if◌then◌else◌, Option, Some}
+use Rattle.std.specs.Prelude.{None, Result, Ok, Err}
 use Rattle.std.specs.Option.{option_or}
 use Rattle.sixel_base.specs.declared.error.SixelError.{SixelError}
-use Rattle.sixel_base.specs.declared.error.SixelError.TheVariants.{InvalidDimensions, BufferSizeMismatch, IntegerOverflow}
+use Rattle.sixel_base.specs.declared.error.SixelError.TheVariants.{InvalidDimensions}
+use Rattle.sixel_base.specs.declared.error.SixelError.TheVariants.{BufferSizeMismatch}
+use Rattle.sixel_base.specs.declared.error.SixelError.TheVariants.{IntegerOverflow}
 
 -- how many bytes the pixels take, four a pixel
 abbrev pub pixel_bytes : ℕ → ℕ → ℕ
@@ -23,7 +27,8 @@ size_fault width height =
 -- a side or an area above the limits
 abbrev pub limit_fault : ℕ → ℕ → Option SixelError
 limit_fault width height =
-    if nat_lt 1000000 width || nat_lt 1000000 (banded height) || nat_lt 67108864 (width * banded height)
+    if nat_lt 1000000 width || nat_lt 1000000 (banded height)
+    || nat_lt 67108864 (width * banded height)
     then Some (InvalidDimensions width height)
     else None
 
@@ -34,7 +39,8 @@ encode_fault width height = option_or (size_fault width height) (limit_fault wid
 -- pixels that are not as many bytes as the sizes ask for
 abbrev pub buffer_fault : ℕ → ℕ → ℕ → Option SixelError
 buffer_fault width height bytes =
-    if bytes == pixel_bytes width height then None else Some (BufferSizeMismatch (pixel_bytes width height) bytes)
+    if bytes == pixel_bytes width height then None
+    else Some (BufferSizeMismatch (pixel_bytes width height) bytes)
 
 -- the answer of a test that finds this fault
 abbrev pub verdict : Option SixelError → Result (Unit {0}) SixelError

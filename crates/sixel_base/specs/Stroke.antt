@@ -1,10 +1,13 @@
--- What color a pixel has: that which was selected when the last sixel that covers it was read, else the background. A register has
--- its last definition, else the color that it had when the picture began.
-use Rattle.std.specs.Prelude.{ℕ, ◌+◌, ◌*◌, ◌==◌, nat_le, min, max, Bool, ◌&&◌, ◌||◌, if◌then◌else◌, List, [], ◌∷◌, ◌++◌, length, slice_set, slice_index_or}
+-- What color a pixel has: that which was selected when the last sixel that covers it was read, else
+-- the background. A register has its last definition, else the color that it had when the picture
+-- began.
+use Rattle.std.specs.Prelude.{ℕ, ◌+◌, ◌*◌, ◌==◌, nat_le, min, max, Bool, ◌&&◌, ◌||◌, if◌then◌else◌}
+use Rattle.std.specs.Prelude.{List, [], ◌∷◌, ◌++◌, length, slice_set, slice_index_or}
 use Rattle.sixel_base.specs.declared.settings.BackgroundMode.{BackgroundMode}
 use Rattle.sixel_base.specs.declared.settings.BackgroundMode.TheVariants.{Opaque, Transparent}
 use Rattle.sixel_base.specs.declared.settings.PixelAspectRatio.{PixelAspectRatio}
-use Rattle.sixel_base.specs.declared.settings.PixelAspectRatio.TheVariants.{Ratio5To1, Ratio3To1, Ratio2To1, Square}
+use Rattle.sixel_base.specs.declared.settings.PixelAspectRatio.TheVariants.{Ratio5To1, Ratio3To1}
+use Rattle.sixel_base.specs.declared.settings.PixelAspectRatio.TheVariants.{Ratio2To1, Square}
 use Rattle.sixel_base.specs.Settings.{Settings, mode_of}
 use Rattle.sixel_base.specs.Fields.{fields, field}
 use Rattle.sixel_base.specs.Color.{rgb, hls}
@@ -16,7 +19,8 @@ use Rattle.sixel_base.specs.Place.{span, across, down}
 abbrev pub named_by : List ℕ → ℕ
 named_by text = min (field text 0) 255
 
--- whether it also defines that register: five fields, the second 1 for hue or 2 for red, green and blue
+-- whether it also defines that register: five fields, the second 1 for hue or 2 for red, green and
+-- blue
 abbrev pub is_definition : List ℕ → Bool
 is_definition text = nat_le 5 (length (fields text)) && (field text 1 == 1 || field text 1 == 2)
 
@@ -44,8 +48,8 @@ registers start (_ ∷ older) = registers start older
 abbrev pub color : List (List ℕ) → History → List ℕ
 color start history = slice_index_or (registers start history) (selected history) []
 
--- what a picture begins from: the registers, the settings, whether it is cropped to its raster attributes, and the greatest area of its
--- extent in pixels
+-- what a picture begins from: the registers, the settings, whether it is cropped to its raster
+-- attributes, and the greatest area of its extent in pixels
 pub record Origin : Type 0 where
   pub registers : List (List ℕ)
   pub settings : Settings
@@ -78,10 +82,12 @@ ratio_from other vertical horizontal =
     else if vertical == 5 * horizontal then Ratio5To1
     else other
 
--- the shape of a pixel: by the last raster attributes of two fields or more, where 0 means 1, else by the settings
+-- the shape of a pixel: by the last raster attributes of two fields or more, where 0 means 1, else
+-- by the settings
 abbrev pub ratio : PixelAspectRatio → History → PixelAspectRatio
 ratio other [] = other
 ratio other (Raster text ∷ older) =
-    if nat_le 2 (length (fields text)) then ratio_from other (max 1 (field text 0)) (max 1 (field text 1))
+    if nat_le 2 (length (fields text))
+    then ratio_from other (max 1 (field text 0)) (max 1 (field text 1))
     else ratio other older
 ratio other (_ ∷ older) = ratio other older

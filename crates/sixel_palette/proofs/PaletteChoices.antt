@@ -1,5 +1,7 @@
--- From the listed codes and the entries chosen among them to the palette of the image and its certificate.
-use Rattle.std.proofs.Common.{◌≡◌, ℕ, ◌<◌, ◌≤◌, List, [], length, get_or, take, map, refl, sym, inl, inr, ◌∙◌, ⊎_elim, arith}
+-- From the listed codes and the entries chosen among them to the palette of the image and its
+-- certificate.
+use Rattle.std.proofs.Common.{◌≡◌, ℕ, ◌<◌, ◌≤◌, List, [], length, get_or, take, map, refl, sym, inl}
+use Rattle.std.proofs.Common.{inr, ◌∙◌, ⊎_elim, arith}
 use Rattle.std.specs.List.{All, Contains}
 use Rattle.std.specs.List.Sorted.{IsStrictlyIncreasing}
 use Rattle.std.proofs.lemmas.Bool.{cases_lt}
@@ -7,110 +9,163 @@ use Rattle.std.proofs.lemmas.List.{get_or-map, length-map, nil_from_length}
 use Rattle.std.proofs.lemmas.List.Kept.{AllPairs-from_increasing}
 use Rattle.std.proofs.lemmas.List.Elements.{All-push, All-nil}
 use Rattle.sixel_palette.specs.declared.palette.PaletteChoice.{PaletteChoice}
-use Rattle.sixel_palette.specs.Palette.{nearest, IsShown, HasSize, IsFarthest, IsFarthestFirst, IsError, AreWitnesses}
+use Rattle.sixel_palette.specs.Palette.{nearest, IsShown, HasSize, IsFarthest, IsFarthestFirst}
+use Rattle.sixel_palette.specs.Palette.{IsError, AreWitnesses, no_entry}
 use Rattle.sixel_palette.specs.PaletteBound.{AreApart, NoListIsBetter}
 use Rattle.sixel_palette.specs.inside.PaletteCodes.{color_of, IsListed}
 use Rattle.sixel_palette.specs.inside.PaletteChosen.{IsChosen}
 use Rattle.sixel_palette.proofs.PaletteColors.{IsColor, rank-color_of, distance-lt}
 use Rattle.sixel_palette.proofs.PaletteNearest.{nearest-le}
 use Rattle.sixel_palette.proofs.PaletteShown.{IsColor-color_at}
-use Rattle.sixel_palette.proofs.PaletteOrder.{farthest_alike, members_from_order, apart_from_order, bound_from_order}
+use Rattle.sixel_palette.proofs.PaletteOrder.{farthest_alike, members_from_order, apart_from_order}
+use Rattle.sixel_palette.proofs.PaletteOrder.{bound_from_order}
 use Rattle.sixel_palette.proofs.PaletteSize.{one_size, complete_from_size}
 
 -- the colors of rising codes are the members of the set that they list
-size_from_codes : (M : List ℕ → Type 0) (codes : List ℕ) → IsStrictlyIncreasing codes → ((c : List ℕ) → M c → IsListed codes c) → ((c : List ℕ) → IsListed codes c → M c) → HasSize M (length codes)
+size_from_codes : (M : List ℕ → Type 0) (codes : List ℕ) → IsStrictlyIncreasing codes
+    → ((c : List ℕ) → M c → IsListed codes c) → ((c : List ℕ) → IsListed codes c → M c)
+    → HasSize M (length codes)
 size_from_codes M codes up to from =
-    let color = λ (k : ℕ) (d : List ℕ) (l : k < length codes). get_or-map color_of codes k 0 d l in (
+    let color = λ (k : ℕ) (d : List ℕ) (l : k < length codes).
+    get_or-map color_of codes k 0 d l in (
       map color_of codes,
       record {
-        all = λ k d l. let m : k < length codes = omega (arith, length-map codes color_of) in rw (color k d m) (from _ (k, m, refl));
-        complete = λ c m. let h = to c m in (h.0, omega (arith, length-map codes color_of, h.1), color h.0 c h.1 ∙ h.2);
-        ascending = λ i j d l m. let n : j < length codes = omega (arith, length-map codes color_of) in rw (color i d (omega arith), color j d n, rank-color_of (get_or codes i 0), rank-color_of (get_or codes j 0)) (AllPairs-from_increasing codes up i j 0 l n);
+        all = λ k d l.
+            let m : k < length codes = omega (arith, length-map codes color_of) in
+            rw (color k d m) (from _ (k, m, refl));
+        complete = λ c m.
+            let h = to c m in
+            (h.0, omega (arith, length-map codes color_of, h.1), color h.0 c h.1 ∙ h.2);
+        ascending = λ i j d l m.
+            let n : j < length codes = omega (arith, length-map codes color_of) in
+            rw (
+              color i d (omega arith),
+              color j d n,
+              rank-color_of (get_or codes i 0),
+              rank-color_of (get_or codes j 0),
+            ) (AllPairs-from_increasing codes up i j 0 l n);
       },
       length-map codes color_of,
     )
 
 -- a list that is farthest first over a set is so over the same set
-order_alike : (M N : List ℕ → Type 0) → ((c : List ℕ) → M c → N c) → ((c : List ℕ) → N c → M c) → (entries : List (List ℕ)) → IsFarthestFirst M entries → IsFarthestFirst N entries
-order_alike M N to from entries order = λ i d l. farthest_alike M N to from (take i entries) (get_or entries i d) (order i d l)
+order_alike : (M N : List ℕ → Type 0) → ((c : List ℕ) → M c → N c) → ((c : List ℕ) → N c → M c)
+    → (entries : List (List ℕ)) → IsFarthestFirst M entries → IsFarthestFirst N entries
+order_alike M N to from entries order = λ i d l.
+    farthest_alike M N to from (take i entries) (get_or entries i d) (order i d l)
 
--- a shown color has three channels
+-- the color of an opaque pixel has three channels
 pub three_from_shown : (pixels c : List ℕ) → IsShown pixels c → length c ≡ 3
 three_from_shown pixels c h = rw (← h.3) refl
 
--- a shown color is a color
-pub IsColor-shown : (pixels c : List ℕ) → ((k : ℕ) → get_or pixels k 0 < 256) → IsShown pixels c → IsColor c
+-- the color of an opaque pixel has channels that are bytes
+pub IsColor-shown : (pixels c : List ℕ) → ((k : ℕ) → get_or pixels k 0 < 256) → IsShown pixels c
+    → IsColor c
 IsColor-shown pixels c bytes h = rw (← h.3) (IsColor-color_at pixels h.0 bytes)
 
-module _ (pixels : List ℕ) (room : ℕ) (choice : PaletteChoice) (h : IsChosen pixels room choice) where
-  -- a shown color is among some
+module _ (pixels : List ℕ) (room : ℕ) (choice : PaletteChoice)
+    (h : IsChosen pixels room choice) where
+  -- where a pixel is opaque there is a code
   some_from_shown : (c : List ℕ) → IsShown pixels c → 0 < length h.codes
   some_from_shown c m = let l = (h.shown c m).1 in omega arith
 
-  -- the entries are farthest first over the shown colors
+  -- the entries are farthest first over the colors of opaque pixels
   pub chosen_order : IsFarthestFirst (IsShown pixels) choice.colors.items
-  chosen_order = order_alike (IsListed h.codes) (IsShown pixels) h.listed h.shown choice.colors.items h.order
+  chosen_order =
+      order_alike (IsListed h.codes) (IsShown pixels) h.listed h.shown choice.colors.items h.order
 
-  -- the next color is the farthest of the shown ones
+  -- the next color is the farthest of these
   chosen_farthest : 0 < length h.codes → IsFarthest (IsShown pixels) choice.colors.items h.far
-  chosen_farthest l = farthest_alike (IsListed h.codes) (IsShown pixels) h.listed h.shown choice.colors.items h.far (h.farthest l)
+  chosen_farthest l =
+      farthest_alike (IsListed h.codes) (IsShown pixels) h.listed h.shown choice.colors.items h.far
+      (h.farthest l)
 
-  -- as many colors are shown as there are codes
+  -- there are as many of these colors as codes
   pub chosen_size : HasSize (IsShown pixels) (length h.codes)
   chosen_size = size_from_codes (IsShown pixels) h.codes h.up h.shown h.listed
 
   -- so it is the only size
   only_size : (n : ℕ) → HasSize (IsShown pixels) n → n ≡ length h.codes
   only_size n s =
-      one_size (IsShown pixels) (IsShown pixels) (λ c m. m) (λ c m. m) (three_from_shown pixels) n (length h.codes) s chosen_size
+      one_size (IsShown pixels) (IsShown pixels) (λ c m. m) (λ c m. m) (three_from_shown pixels) n
+      (length h.codes) s chosen_size
 
   -- the error is the greatest distance to the nearest entry
   pub chosen_error : IsError (IsShown pixels) choice.colors.items choice.error
   chosen_error = record {
-    bound = λ c m. let some = some_from_shown c m in rw (h.error_some some) ((chosen_farthest some).farthest c m);
-    reached = ⊎_elim (λ some. inr (h.far, (chosen_farthest some).member, sym (h.error_some some))) (λ none. inl (h.error_none (omega arith))) (cases_lt 0 (length h.codes));
+    bound = λ c m.
+        let some = some_from_shown c m in
+        rw (h.error_some some) ((chosen_farthest some).farthest c m);
+    reached =
+        ⊎_elim (λ some. inr (h.far, (chosen_farthest some).member, sym (h.error_some some)))
+        (λ none. inl (h.error_none (omega arith)))
+        (cases_lt 0 (length h.codes));
   }
 
   -- the witnesses are the entries and the next color
   pub chosen_witnesses : AreWitnesses (IsShown pixels) choice.colors.items choice.witnesses.items
   chosen_witnesses = record {
-    some = λ n s l. let e = only_size n s in (h.far, chosen_farthest (omega arith), h.witnesses_some (omega arith));
+    some = λ n s l.
+        let e = only_size n s in
+        (h.far, chosen_farthest (omega arith), h.witnesses_some (omega arith));
     none = λ n s l. let e = only_size n s in h.witnesses_none (omega arith);
   }
 
   -- they lie apart
   pub chosen_apart : AreApart choice.witnesses.items choice.error
   chosen_apart =
-      ⊎_elim (λ l. rw (h.witnesses_some l, h.error_some (omega arith)) (apart_from_order (IsShown pixels) choice.colors.items h.far chosen_order (chosen_farthest (omega arith)))) (λ l. rw (h.witnesses_none l) (λ i j d m n. absurd (omega arith))) (cases_lt (length choice.colors.items) (length h.codes))
+      ⊎_elim (λ l.
+      rw (h.witnesses_some l, h.error_some (omega arith))
+      (apart_from_order (IsShown pixels) choice.colors.items h.far chosen_order
+      (chosen_farthest (omega arith))))
+      (λ l. rw (h.witnesses_none l) (λ i j d m n. absurd (omega arith)))
+      (cases_lt (length choice.colors.items) (length h.codes))
 
-  -- they are shown
+  -- they are colors of opaque pixels
   pub chosen_occur : All (IsShown pixels) choice.witnesses.items
   chosen_occur =
-      ⊎_elim (λ l. rw (h.witnesses_some l) (All-push (IsShown pixels) choice.colors.items h.far (members_from_order (IsShown pixels) choice.colors.items chosen_order) (chosen_farthest (omega arith)).member)) (λ l. rw (h.witnesses_none l) (All-nil (IsShown pixels))) (cases_lt (length choice.colors.items) (length h.codes))
+      ⊎_elim (λ l.
+      rw (h.witnesses_some l) (All-push (IsShown pixels) choice.colors.items h.far
+      (members_from_order (IsShown pixels) choice.colors.items chosen_order)
+      (chosen_farthest (omega arith)).member))
+      (λ l. rw (h.witnesses_none l) (All-nil (IsShown pixels)))
+      (cases_lt (length choice.colors.items) (length h.codes))
 
   -- no list of as many colors is better than a fourth of the error
-  pub chosen_bound : (c : List ℕ) → IsShown pixels c → NoListIsBetter (IsShown pixels) (length choice.colors.items) choice.error
+  pub chosen_bound : (c : List ℕ) → IsShown pixels c
+      → NoListIsBetter (IsShown pixels) (length choice.colors.items) choice.error
   chosen_bound c m =
       let some = some_from_shown c m in
-      rw (h.error_some some) (bound_from_order (IsShown pixels) choice.colors.items h.far chosen_order (chosen_farthest some))
+      rw (h.error_some some) (bound_from_order (IsShown pixels) choice.colors.items h.far
+      chosen_order (chosen_farthest some))
 
-  -- where there is room for all shown colors each is an entry
-  pub chosen_complete : (n : ℕ) → HasSize (IsShown pixels) n → n ≤ room → (c : List ℕ) → IsShown pixels c → Contains choice.colors.items c
+  -- where there is room for all of these colors each is an entry
+  pub chosen_complete : (n : ℕ) → HasSize (IsShown pixels) n → n ≤ room → (c : List ℕ)
+      → IsShown pixels c → Contains choice.colors.items c
   chosen_complete n s l c m =
       let e = only_size n s in
       let size = h.size in
-      complete_from_size (IsShown pixels) (three_from_shown pixels) choice.colors.items h.far n chosen_order (chosen_farthest (some_from_shown c m)) s (omega arith) c m
+      complete_from_size (IsShown pixels) (three_from_shown pixels) choice.colors.items h.far n
+      chosen_order (chosen_farthest (some_from_shown c m)) s (omega arith) c m
 
-  -- a shown color is nearer to some entry than what stands for none
-  pub chosen_near : ((k : ℕ) → get_or pixels k 0 < 256) → 0 < room → (c : List ℕ) → IsShown pixels c → nearest choice.colors.items c < 195076
+  -- each of these colors has a nearest entry
+  pub chosen_near : ((k : ℕ) → get_or pixels k 0 < 256) → 0 < room → (c : List ℕ) → IsShown pixels c
+      → nearest choice.colors.items c < no_entry
   chosen_near bytes r c m =
       let some = some_from_shown c m in
       let size = h.size in
       let l : 0 < length choice.colors.items = omega arith in
       let first = members_from_order (IsShown pixels) choice.colors.items chosen_order 0 [] l in
-      omega (arith, nearest-le choice.colors.items c 0 [] l, distance-lt (get_or choice.colors.items 0 []) c (IsColor-shown pixels _ bytes first) (IsColor-shown pixels c bytes m))
+      omega (
+        arith,
+        nearest-le choice.colors.items c 0 [] l,
+        distance-lt (get_or choice.colors.items 0 []) c (IsColor-shown pixels _ bytes first)
+            (IsColor-shown pixels c bytes m),
+      )
 
-  -- where no color is shown there is no entry
+  -- where no pixel is opaque there is no entry
   pub chosen_empty : ((c : List ℕ) → ¬ IsShown pixels c) → choice.colors.items ≡ []
   chosen_empty none =
-      nil_from_length choice.colors.items (⊎_elim (λ l. absurd (none _ (h.listed (color_of (get_or h.codes 0 0)) (0, l, refl)))) (λ l. omega (arith, h.size)) (cases_lt 0 (length h.codes)))
+      nil_from_length choice.colors.items (⊎_elim
+      (λ l. absurd (none _ (h.listed (color_of (get_or h.codes 0 0)) (0, l, refl))))
+      (λ l. omega (arith, h.size)) (cases_lt 0 (length h.codes)))

@@ -14,23 +14,35 @@ byte-get_or p bytes k =
     ⊎_elim (λ l. bytes k 0 l) (λ l. rw (get_or_past p k 0 l) (omega arith)) (cases_lt k (length p))
 
 -- images that show the same colors have palettes of one length
-length-palette : (p q : List ℕ) (max_colors : ℕ) (xs ys : List (List ℕ)) → ((c : List ℕ) → IsShown p c → IsShown q c) → ((c : List ℕ) → IsShown q c → IsShown p c) → IsPalette p max_colors xs → IsPalette q max_colors ys → length xs ≡ length ys
+length-palette : (p q : List ℕ) (max_colors : ℕ) (xs ys : List (List ℕ))
+    → ((c : List ℕ) → IsShown p c → IsShown q c) → ((c : List ℕ) → IsShown q c → IsShown p c)
+    → IsPalette p max_colors xs → IsPalette q max_colors ys → length xs ≡ length ys
 length-palette p q max_colors xs ys to from f g =
-    let same = one_size (IsShown p) (IsShown q) to from (three_from_shown p) f.size.0 g.size.0 f.size.1 g.size.1 in
+    let same =
+    one_size (IsShown p) (IsShown q) to from (three_from_shown p) f.size.0 g.size.0 f.size.1
+    g.size.1 in
     omega (arith, f.size.2, g.size.2)
 
 -- they have one palette
-pub palette_same : (p q : List ℕ) (max_colors : ℕ) (xs ys : List (List ℕ)) → All (λ b. b < 256) p → ((c : List ℕ) → IsShown p c → IsShown q c) → ((c : List ℕ) → IsShown q c → IsShown p c) → IsPalette p max_colors xs → IsPalette q max_colors ys → xs ≡ ys
+pub palette_same : (p q : List ℕ) (max_colors : ℕ) (xs ys : List (List ℕ)) → All (λ b. b < 256) p
+    → ((c : List ℕ) → IsShown p c → IsShown q c) → ((c : List ℕ) → IsShown q c → IsShown p c)
+    → IsPalette p max_colors xs → IsPalette q max_colors ys → xs ≡ ys
 palette_same p q max_colors xs ys bytes to from f g =
     let size = length-palette p q max_colors xs ys to from f g in
-    let fronts = order-take (IsShown p) (IsShown q) to from (λ c m. IsColor-shown p c (byte-get_or p bytes) m) xs ys f.order g.order (length xs) (omega arith) (omega arith) in
+    let fronts =
+    order-take (IsShown p) (IsShown q) to from
+    (λ c m. IsColor-shown p c (byte-get_or p bytes) m)
+    xs ys f.order g.order (length xs) (omega arith) (omega arith) in
     sym (take_all (length xs) xs (omega arith)) ∙ fronts ∙ take_all (length xs) ys (omega arith)
 
 -- a color has one nearest entry
-pub index_same : (entries : List (List ℕ)) (c : List ℕ) (i j : ℕ) → IsNearest entries c i → IsNearest entries c j → i ≡ j
+pub index_same : (entries : List (List ℕ)) (c : List ℕ) (i j : ℕ) → IsNearest entries c i
+    → IsNearest entries c j → i ≡ j
 index_same entries c i j f g =
-    ⊎_elim (λ e. e) (⊎_elim (λ l. absurd (omega (arith, g.first i l, f.least j g.entry))) (λ l. absurd (omega (arith, f.first j l, g.least i f.entry)))) (cases_order i j)
+    ⊎_elim (λ e. e) (⊎_elim (λ l. absurd (omega (arith, g.first i l, f.least j g.entry)))
+    (λ l. absurd (omega (arith, f.first j l, g.least i f.entry)))) (cases_order i j)
 
 -- an image shows one number of colors
 pub size_same : (p : List ℕ) (m n : ℕ) → HasSize (IsShown p) m → HasSize (IsShown p) n → m ≡ n
-size_same p m n f g = one_size (IsShown p) (IsShown p) (λ c h. h) (λ c h. h) (three_from_shown p) m n f g
+size_same p m n f g =
+    one_size (IsShown p) (IsShown p) (λ c h. h) (λ c h. h) (three_from_shown p) m n f g

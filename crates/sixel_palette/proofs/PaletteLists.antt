@@ -1,22 +1,32 @@
 -- Lists of numbers: one more at the end, one set, a part, and numbers that rise.
-use Rattle.std.proofs.Common.{◌≡◌, ◌≢◌, ℕ, zero, suc, ◌+◌, ◌-◌, ◌<◌, ◌≤◌, List, [], ◌∷◌, ◌++◌, length, get_or, take, drop, set, replicate, ap, ◌∙◌, ⊎_elim, arith}
+use Rattle.std.proofs.Common.{◌≡◌, ◌≢◌, ℕ, zero, suc, ◌+◌, ◌-◌, ◌<◌, ◌≤◌, List, [], ◌∷◌, ◌++◌}
+use Rattle.std.proofs.Common.{length, get_or, take, drop, set, replicate, ap, ◌∙◌, ⊎_elim, arith}
 use Rattle.std.specs.List.{All}
 use Rattle.std.specs.List.Sorted.{IsStrictlyIncreasing}
 use Rattle.std.proofs.lemmas.Bool.{cases_lt}
-use Rattle.std.proofs.lemmas.List.{get_or_append_left, get_or_push, get_or-take, get_or-drop, get_or-replicate, get_or-set_same, get_or-set_other, length_push, length-take, length-drop}
+use Rattle.std.proofs.lemmas.List.{get_or_append_left, get_or_push, get_or-take, get_or-drop}
+use Rattle.std.proofs.lemmas.List.{get_or-replicate, get_or-set_same, get_or-set_other, length_push}
+use Rattle.std.proofs.lemmas.List.{length-take, length-drop}
 use Rattle.std.proofs.lemmas.List.Kept.{AllPairs-from_increasing}
 
 -- a fact of the numbers so far and of one more
-pub push_cases : (P : ℕ → ℕ → Type 0) (xs : List ℕ) (x n k : ℕ) → length xs ≡ n → k < n + 1 → (k < n → P k (get_or xs k 0)) → P n x → P k (get_or (xs ++ x ∷ []) k 0)
+pub push_cases : (P : ℕ → ℕ → Type 0) (xs : List ℕ) (x n k : ℕ) → length xs ≡ n → k < n + 1
+    → (k < n → P k (get_or xs k 0)) → P n x → P k (get_or (xs ++ x ∷ []) k 0)
 push_cases P xs x n k e l before here =
-    ⊎_elim (λ h. rw (get_or_append_left xs (x ∷ []) 0 k (omega arith)) (before h)) (λ h. let at : k ≡ n = omega arith in rw (at, get_or_push xs x 0 n e) here) (cases_lt k n)
+    ⊎_elim (λ h. rw (get_or_append_left xs (x ∷ []) 0 k (omega arith)) (before h))
+    (λ h. let at : k ≡ n = omega arith in rw (at, get_or_push xs x 0 n e) here)
+    (cases_lt k n)
 
 -- a fact of the first numbers, and of one that is set after them
-pub set_cases : (P : ℕ → ℕ → Type 0) (xs : List ℕ) (x n k : ℕ) → n < length xs → k < n + 1 → (k < n → P k (get_or xs k 0)) → P n x → P k (get_or (set xs n x) k 0)
+pub set_cases : (P : ℕ → ℕ → Type 0) (xs : List ℕ) (x n k : ℕ) → n < length xs → k < n + 1
+    → (k < n → P k (get_or xs k 0)) → P n x → P k (get_or (set xs n x) k 0)
 set_cases P xs x n k e l before here =
-    ⊎_elim (λ (h : k < n). let apart : k ≢ n = omega arith in rw (get_or-set_other xs n k x 0 apart) (before h)) (λ (h : n ≤ k). let at : k ≡ n = omega arith in rw (at, get_or-set_same xs n x 0 e) here) (cases_lt k n)
+    ⊎_elim (λ (h : k < n).
+    let apart : k ≢ n = omega arith in rw (get_or-set_other xs n k x 0 apart) (before h))
+    (λ (h : n ≤ k). let at : k ≡ n = omega arith in rw (at, get_or-set_same xs n x 0 e) here)
+    (cases_lt k n)
 
--- a fact of each of four places
+-- a fact of each of four indices
 pub four_cases : (P : ℕ → Type 0) → P 0 → P 1 → P 2 → P 3 → (k : ℕ) → k < 4 → P k
 four_cases P a b c d zero l = a
 four_cases P a b c d (suc zero) l = b
@@ -24,41 +34,67 @@ four_cases P a b c d (suc (suc zero)) l = c
 four_cases P a b c d (suc (suc (suc zero))) l = d
 four_cases P a b c d (suc (suc (suc (suc k)))) l = absurd (omega arith)
 
--- rising numbers do not fall from an earlier place to a later one
-pub increasing-le : (xs : List ℕ) → IsStrictlyIncreasing xs → (i j : ℕ) → i ≤ j → j < length xs → get_or xs i 0 ≤ get_or xs j 0
+-- rising numbers do not fall from an earlier position to a later one
+pub increasing-le : (xs : List ℕ) → IsStrictlyIncreasing xs → (i j : ℕ) → i ≤ j → j < length xs
+    → get_or xs i 0 ≤ get_or xs j 0
 increasing-le xs up i j l m =
-    ⊎_elim (λ (h : i < j). omega (arith, AllPairs-from_increasing xs up i j 0 h m)) (λ (h : j ≤ i). let e : i ≡ j = omega arith in rw e (omega arith)) (cases_lt i j)
+    ⊎_elim (λ (h : i < j). omega (arith, AllPairs-from_increasing xs up i j 0 h m))
+    (λ (h : j ≤ i). let e : i ≡ j = omega arith in rw e (omega arith))
+    (cases_lt i j)
 
 -- rising numbers and a greater one rise
-pub increasing-push : (xs : List ℕ) (x : ℕ) → IsStrictlyIncreasing xs → All (λ y. y < x) xs → IsStrictlyIncreasing (xs ++ x ∷ [])
+pub increasing-push : (xs : List ℕ) (x : ℕ) → IsStrictlyIncreasing xs → All (λ y. y < x) xs
+    → IsStrictlyIncreasing (xs ++ x ∷ [])
 increasing-push xs x up below = λ k l.
     let long = length_push xs x in
-    ⊎_elim (λ (m : k + 1 < length xs). rw (get_or_append_left xs (x ∷ []) 0 k (omega arith), get_or_append_left xs (x ∷ []) 0 (k + 1) m) (up k m)) (λ (m : length xs ≤ k + 1). rw (get_or_append_left xs (x ∷ []) 0 k (omega (arith, long)), get_or_push xs x 0 (k + 1) (omega (arith, long))) (below k 0 (omega (arith, long)))) (cases_lt (k + 1) (length xs))
+    ⊎_elim (λ (m : k + 1 < length xs).
+    rw
+    (get_or_append_left xs (x ∷ []) 0 k (omega arith), get_or_append_left xs (x ∷ []) 0 (k + 1) m)
+    (up k m))
+    (λ (m : length xs ≤ k + 1).
+    rw (
+      get_or_append_left xs (x ∷ []) 0 k (omega (arith, long)),
+      get_or_push xs x 0 (k + 1) (omega (arith, long)),
+    ) (below k 0 (omega (arith, long))))
+    (cases_lt (k + 1) (length xs))
 
--- a rising number is at least its place
-increasing-from : (xs : List ℕ) → IsStrictlyIncreasing xs → (k : ℕ) → k < length xs → k ≤ get_or xs k 0
+-- a rising number is at least its position
+increasing-from : (xs : List ℕ) → IsStrictlyIncreasing xs → (k : ℕ) → k < length xs
+    → k ≤ get_or xs k 0
 increasing-from xs up zero l = omega arith
 increasing-from xs up (suc k) l =
     let next : k + 1 ≡ suc k = omega arith in
     omega (arith, increasing-from xs up k (omega arith), rw next at (up k (omega arith)))
 
 -- rising numbers below a limit are at most as many
-pub increasing-few : (xs : List ℕ) (n : ℕ) → IsStrictlyIncreasing xs → All (λ x. x < n) xs → length xs ≤ n
+pub increasing-few : (xs : List ℕ) (n : ℕ) → IsStrictlyIncreasing xs → All (λ x. x < n) xs
+    → length xs ≤ n
 increasing-few xs n up below =
-    ⊎_elim (λ (some : 0 < length xs). omega (arith, increasing-from xs up (length xs - 1) (omega arith), below (length xs - 1) 0 (omega arith))) (λ (none : length xs ≤ 0). omega arith) (cases_lt 0 (length xs))
+    ⊎_elim (λ (some : 0 < length xs).
+    omega (
+      arith,
+      increasing-from xs up (length xs - 1) (omega arith),
+      below (length xs - 1) 0 (omega arith),
+    ))
+    (λ (none : length xs ≤ 0). omega arith)
+    (cases_lt 0 (length xs))
 
--- a number of a part stands that far on in the whole
-get_or_part : (xs : List ℕ) (a n k : ℕ) → k < n → get_or (take n (drop a xs)) k 0 ≡ get_or xs (a + k) 0
+-- a number of a part is that far on in the whole
+get_or_part : (xs : List ℕ) (a n k : ℕ) → k < n
+    → get_or (take n (drop a xs)) k 0 ≡ get_or xs (a + k) 0
 get_or_part xs a n k l = get_or-take n (drop a xs) k 0 l ∙ get_or-drop a xs k 0
 
 -- a part has as many numbers as were asked for
 pub length-part : (xs : List ℕ) (a n : ℕ) → a + n ≤ length xs → length (take n (drop a xs)) ≡ n
 length-part xs a n l = omega (arith, length-take n (drop a xs), length-drop a xs)
 
--- a number of the whole stands that far back in a part round it
-pub part_at : (xs : List ℕ) (a n k : ℕ) → a ≤ k → k < a + n → get_or (take n (drop a xs)) (k - a) 0 ≡ get_or xs k 0
-part_at xs a n k l m = get_or_part xs a n (k - a) (omega arith) ∙ ap (λ j. get_or xs j 0) (omega arith)
+-- a number of the whole is that far back in a part round it
+pub part_at : (xs : List ℕ) (a n k : ℕ) → a ≤ k → k < a + n
+    → get_or (take n (drop a xs)) (k - a) 0 ≡ get_or xs k 0
+part_at xs a n k l m =
+    get_or_part xs a n (k - a) (omega arith) ∙ ap (λ j. get_or xs j 0) (omega arith)
 
 -- numbers that are all one
-pub all_replicated : (xs : List ℕ) (n x : ℕ) → xs ≡ replicate n x → (k : ℕ) → k < n → get_or xs k 0 ≡ x
+pub all_replicated : (xs : List ℕ) (n x : ℕ) → xs ≡ replicate n x → (k : ℕ) → k < n
+    → get_or xs k 0 ≡ x
 all_replicated xs n x e k l = rw e (get_or-replicate n k x 0 l)

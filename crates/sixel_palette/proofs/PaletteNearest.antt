@@ -1,27 +1,30 @@
 -- How the distance to the nearest entry changes with the entries.
-use Rattle.std.proofs.Common.{◌≡◌, ℕ, zero, suc, ◌<◌, ◌≤◌, min, List, [], ◌∷◌, ◌++◌, length, get_or, take, refl, arith}
-use Rattle.sixel_palette.specs.Palette.{distance, nearest}
+use Rattle.std.proofs.Common.{◌≡◌, ℕ, zero, suc, ◌<◌, ◌≤◌, min, List, [], ◌∷◌, ◌++◌, length, get_or}
+use Rattle.std.proofs.Common.{take, refl, arith}
+use Rattle.sixel_palette.specs.Palette.{distance, nearest, no_entry}
 
 -- with no entry it is above every distance of byte colors
-pub nearest-nil : (c : List ℕ) → nearest [] c ≡ 195076
+pub nearest-nil : (c : List ℕ) → nearest [] c ≡ no_entry
 unfolding nearest
 nearest-nil c = refl
 
 -- one more entry
-pub nearest-push : (ps : List (List ℕ)) (q c : List ℕ) → nearest (ps ++ q ∷ []) c ≡ min (nearest ps c) (distance q c)
+pub nearest-push : (ps : List (List ℕ)) (q c : List ℕ)
+    → nearest (ps ++ q ∷ []) c ≡ min (nearest ps c) (distance q c)
 unfolding nearest
 nearest-push [] q c = omega arith
 nearest-push (p ∷ ps) q c = omega (arith, nearest-push ps q c)
 
 -- no entry is nearer
-pub nearest-le : (ps : List (List ℕ)) (c : List ℕ) (i : ℕ) (d : List ℕ) → i < length ps → nearest ps c ≤ distance (get_or ps i d) c
+pub nearest-le : (ps : List (List ℕ)) (c : List ℕ) (i : ℕ) (d : List ℕ) → i < length ps
+    → nearest ps c ≤ distance (get_or ps i d) c
 unfolding nearest
 nearest-le [] c i d l = absurd (omega arith)
 nearest-le (p ∷ ps) c zero d l = omega arith
 nearest-le (p ∷ ps) c (suc i) d l = omega (arith, nearest-le ps c i d (omega arith))
 
--- it is at most the number that stands for no entry
-nearest-cap : (ps : List (List ℕ)) (c : List ℕ) → nearest ps c ≤ 195076
+-- it is at most that of no entry
+nearest-cap : (ps : List (List ℕ)) (c : List ℕ) → nearest ps c ≤ no_entry
 unfolding nearest
 nearest-cap [] c = omega arith
 nearest-cap (p ∷ ps) c = omega (arith, nearest-cap ps c)

@@ -1,46 +1,70 @@
--- How many members a set has, and when a palette holds them all.
+-- How many members a set has, and when all of them are entries.
 use Rattle.std.proofs.Common.{◌≡◌, ℕ, ◌*◌, ◌<◌, ◌≤◌, List, length, get_or, ap, ⊎_elim, arith}
 use Rattle.std.specs.List.{All, AllPairs, Contains}
 use Rattle.std.proofs.lemmas.Bool.{cases_lt}
-use Rattle.sixel_palette.specs.Palette.{distance, nearest, rank, AreMembers, HasSize, IsFarthest, IsFarthestFirst}
+use Rattle.sixel_palette.specs.Palette.{distance, nearest, rank, AreMembers, HasSize, IsFarthest}
+use Rattle.sixel_palette.specs.Palette.{IsFarthestFirst}
 use Rattle.sixel_palette.specs.PaletteBound.{AreApart}
 use Rattle.sixel_palette.proofs.PaletteDistance.{distance_self, same_from_distance}
 use Rattle.sixel_palette.proofs.PaletteApart.{far_from_others}
 use Rattle.sixel_palette.proofs.PaletteColors.{Contains-nearest}
 use Rattle.sixel_palette.proofs.PaletteOrder.{members_from_order, bound_from_order}
 
--- a color that a list holds is not far from all of it
-pub near_from_contains : (colors : List (List ℕ)) (c : List ℕ) (least : ℕ) → Contains colors c → All (λ p. least ≤ 4 * distance c p) colors → least ≡ 0
+-- a color of a list is not far from all of the list
+pub near_from_contains : (colors : List (List ℕ)) (c : List ℕ) (least : ℕ) → Contains colors c
+    → All (λ p. least ≤ 4 * distance c p) colors → least ≡ 0
 near_from_contains colors c least h far =
     let here = rw (h.2, distance_self c) at (far h.0 c h.1) in
     omega arith
 
 -- different colors lie apart
-apart_from_ascending : (colors : List (List ℕ)) → All (λ c. length c ≡ 3) colors → AllPairs (λ a b. rank a < rank b) colors → AreApart colors 1
+apart_from_ascending : (colors : List (List ℕ)) → All (λ c. length c ≡ 3) colors
+    → AllPairs (λ a b. rank a < rank b) colors → AreApart colors 1
 apart_from_ascending colors three up = λ i j d l m.
     let a = get_or colors i d in
     let b = get_or colors j d in
-    ⊎_elim (λ h. h) (λ h. let same = ap rank (same_from_distance a b (three i d (omega arith)) (three j d m) (omega arith)) in let less = up i j d l m in absurd (omega arith)) (cases_lt 0 (distance a b))
+    ⊎_elim (λ h. h)
+    (λ h.
+    let same =
+    ap rank (same_from_distance a b (three i d (omega arith)) (three j d m) (omega arith)) in
+    let less = up i j d l m in absurd (omega arith))
+    (cases_lt 0 (distance a b))
 
--- a list that holds all members of a set is no shorter than the list of them
-pub size-le : (M : List ℕ → Type 0) → ((c : List ℕ) → M c → length c ≡ 3) → (members others : List (List ℕ)) → AreMembers M members → ((c : List ℕ) → M c → Contains others c) → length members ≤ length others
+-- a list of all members of a set is no shorter than the list of them
+pub size-le : (M : List ℕ → Type 0) → ((c : List ℕ) → M c → length c ≡ 3)
+    → (members others : List (List ℕ)) → AreMembers M members
+    → ((c : List ℕ) → M c → Contains others c) → length members ≤ length others
 size-le M three members others h holds =
-    ⊎_elim (λ l. let w = far_from_others M 1 others members (apart_from_ascending members (λ k d m. three _ (h.all k d m)) h.ascending) h.all l in absurd (omega (arith, near_from_contains others w.0 1 (holds w.0 w.1) w.2))) (λ l. l) (cases_lt (length others) (length members))
+    ⊎_elim (λ l.
+    let w =
+    far_from_others M 1 others members
+    (apart_from_ascending members (λ k d m. three _ (h.all k d m)) h.ascending) h.all l in
+    absurd (omega (arith, near_from_contains others w.0 1 (holds w.0 w.1) w.2)))
+    (λ l. l) (cases_lt (length others) (length members))
 
 -- sets with the same members have one size
-pub one_size : (M N : List ℕ → Type 0) → ((c : List ℕ) → M c → N c) → ((c : List ℕ) → N c → M c) → ((c : List ℕ) → M c → length c ≡ 3) → (m n : ℕ) → HasSize M m → HasSize N n → m ≡ n
+pub one_size : (M N : List ℕ → Type 0) → ((c : List ℕ) → M c → N c) → ((c : List ℕ) → N c → M c)
+    → ((c : List ℕ) → M c → length c ≡ 3) → (m n : ℕ) → HasSize M m → HasSize N n → m ≡ n
 one_size M N to from three m n g h =
     let up = size-le M three g.0 h.0 g.1 (λ c i. h.1.complete c (to c i)) in
-    let down = size-le N (λ c i. three c (from c i)) h.0 g.0 h.1 (λ c i. g.1.complete c (from c i)) in
+    let down =
+    size-le N (λ c i. three c (from c i)) h.0 g.0 h.1 (λ c i. g.1.complete c (from c i)) in
     omega (arith, g.2, h.2)
 
 -- with an entry for each member the next color is at no distance
-nearest-complete : (M : List ℕ → Type 0) (entries : List (List ℕ)) (c : List ℕ) (n : ℕ) → IsFarthestFirst M entries → IsFarthest M entries c → HasSize M n → n ≤ length entries → nearest entries c ≡ 0
+nearest-complete : (M : List ℕ → Type 0) (entries : List (List ℕ)) (c : List ℕ) (n : ℕ)
+    → IsFarthestFirst M entries → IsFarthest M entries c → HasSize M n → n ≤ length entries
+    → nearest entries c ≡ 0
 nearest-complete M entries c n order far size l =
     let w = bound_from_order M entries c order far size.0 (omega (arith, size.2)) in
     near_from_contains size.0 w.0 (nearest entries c) (size.1.complete w.0 w.1) w.2
 
--- with an entry for each member the entries hold each
-pub complete_from_size : (M : List ℕ → Type 0) → ((c : List ℕ) → M c → length c ≡ 3) → (entries : List (List ℕ)) (far : List ℕ) (n : ℕ) → IsFarthestFirst M entries → IsFarthest M entries far → HasSize M n → n ≤ length entries → (c : List ℕ) → M c → Contains entries c
+-- with as many entries as members each member is an entry
+pub complete_from_size : (M : List ℕ → Type 0) → ((c : List ℕ) → M c → length c ≡ 3)
+    → (entries : List (List ℕ)) (far : List ℕ) (n : ℕ) → IsFarthestFirst M entries
+    → IsFarthest M entries far → HasSize M n → n ≤ length entries → (c : List ℕ) → M c
+    → Contains entries c
 complete_from_size M three entries far n order f size l c m =
-    Contains-nearest entries c (λ k d h. three _ (members_from_order M entries order k d h)) (three c m) (omega (arith, f.farthest c m, nearest-complete M entries far n order f size l))
+    Contains-nearest entries c
+    (λ k d h. three _ (members_from_order M entries order k d h))
+    (three c m) (omega (arith, f.farthest c m, nearest-complete M entries far n order f size l))

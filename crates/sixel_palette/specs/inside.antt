@@ -1,8 +1,8 @@
 pub mod PaletteCodes
-pub mod PaletteNear
-pub mod PaletteChunks
+pub mod PaletteNearest
+pub mod PaletteCells
 pub mod PaletteFlags
-pub mod PaletteStarts
+pub mod PaletteRanks
 pub mod PaletteLookUp
 pub mod PaletteChosen
-pub mod PaletteKept
+pub mod PaletteTraversal

@@ -1,4 +1,6 @@
-//! The palette of an image, with a certificate that no palette of its size is much better.
+//! The palette of an image, and a certificate that no palette is much better.
+//!
+//! It is chosen by a farthest-first traversal, a 2-approximation of the k-center problem.
 
 ghost use Rattle.std.specs.Prelude.{◌≡◌, ◌≢◌, ◌-◌, ◌%◌, ◌<◌, ◌≤◌, ◌↔◌, ℕ, List, [], length};
 ghost use Rattle.std.specs.Prelude.{All, Contains, IsTrue, OnOk, IfOk, IfErr};
@@ -6,70 +8,74 @@ ghost use Rattle.std.specs.List.Sorted.{IsStrictlyIncreasing};
 ghost use Rattle.sixel_palette.specs.Palette.{IsShown, HasSize, IsPalette, palette_room};
 ghost use Rattle.sixel_palette.specs.Palette.{IsNearest, AreIndices, IsError, AreWitnesses};
 ghost use Rattle.sixel_palette.specs.PaletteBound.{AreApart, NoListIsBetter};
-ghost use Rattle.sixel_palette.specs.inside.PaletteCodes.{IsListed};
+ghost use Rattle.sixel_palette.specs.inside.PaletteCodes.{IsListed, AreColorCodes};
 ghost use Rattle.sixel_palette.specs.inside.PaletteChosen.{IsChosen};
 
-mod chunks;
+mod cells;
 mod colors;
+mod distance;
 mod farthest;
 mod flags;
 mod indices;
-mod nears;
-mod spans;
+mod nearest_entry;
+mod rank_bitmap;
 
-use crate::palette::colors::{is_apart_from, shown_codes};
+use crate::palette::colors::shown_codes;
+use crate::palette::distance::is_apart_from;
 use crate::palette::farthest::choose;
 use crate::palette::indices::indices_of;
 use sixel_base::{Result, SixelError};
 use std::alloc::{AllocError, Global};
 
-/// A palette, the entry of each pixel, and a certificate of how good the palette is.
+/// A palette, each pixel's palette index, and a certificate of the palette's error.
 #[derive(Debug, Drop)]
 pub struct PaletteChoice {
     /// The entries: red, green, blue.
     pub colors: Vec<[u8; 3]>,
-    /// One place among the entries a pixel, 0 for a hidden pixel.
+    /// The palette index of each pixel, 0 for a transparent pixel.
     pub indices: Vec<u8>,
-    /// The greatest squared distance of a shown color to its nearest entry.
+    /// The greatest squared distance of an opaque pixel's color to its nearest entry.
     pub error: u32,
-    /// One shown color more than there are entries, every two at least `error` apart; none where
-    /// the entries hold all shown colors.
+    /// One color more than there are entries, every two at least `error` apart.
+    ///
+    /// They are colors of opaque pixels. There are none if all such colors are entries.
     pub witnesses: Vec<[u8; 3]>,
 }
 
-/// Chooses the palette of an image of four bytes a pixel: red, green, blue, alpha.
+/// Chooses the palette of an image of RGBA pixels, four bytes each.
 ///
 /// ```rust
 /// let choice = choose_palette(alloc, pixels, 16)?;
 /// let is_certified = witnesses_hold(&choice.witnesses, choice.error);
 /// ```
 ///
-/// Only pixels whose alpha is at least 128 are shown and count; the others get index 0. The
-/// palette has room for `max_colors` entries, at least 2 and at most 256, and holds all shown
-/// colors if there is room for them. Otherwise it is chosen farthest first: the least shown color,
-/// by red, then green, then blue, and then again and again the shown color that is farthest from
-/// its nearest entry so far, the least of those. An opaque pixel's index is that of its nearest
-/// entry, the first of those. Distances are sums of squared differences of the channels.
+/// Only opaque pixels count, those whose alpha is at least 128; the others get index 0. The
+/// palette has room for `max_colors` entries, at least 2 and at most 256, and contains all colors
+/// of opaque pixels if there is room for them. Otherwise it is chosen farthest first. The first
+/// entry is the least color, by red, then green, then blue. Each further entry is the color that is
+/// farthest from its nearest entry so far, the least of those. An opaque pixel's index is that of
+/// its nearest entry, the first of those. A distance is the sum of the squared differences of the
+/// channels.
 ///
-/// No palette of as many colors, whatever they are, has an error below a fourth of this one's:
-/// the witnesses show it, since two of them share an entry of any such palette.
+/// No palette of as many colors, whatever they are, has an error below a fourth of this one's.
+/// The witnesses prove it, because two of them share an entry of any such palette.
 ///
 /// # Errors
 ///
-/// `BufferSizeMismatch` if the length is no multiple of four, before any memory is asked for; it
-/// expects the length rounded down. Otherwise only `OutOfMemory`.
+/// `BufferSizeMismatch` if the length is not a multiple of four, before anything is allocated.
+/// It expects the length rounded down. Otherwise only `OutOfMemory`.
 pub fn choose_palette(alloc: Global, pixels: &[u8], max_colors: u16) -> Result<PaletteChoice>
     ensures mismatch { let len = length pixels.now in
         len % 4 ≢ 0 → result ≡ Err (SixelError.BufferSizeMismatch (len - len % 4) len) }
     ensures memory { length pixels.now % 4 ≡ 0 → IfErr result (λ e. e ≡ SixelError.OutOfMemory) }
 
-    // The palette, the pixels' places in it, and its error.
+    // The palette, the pixels' palette indices, and its error.
     ensures bytes { OnOk result (All (λ byte. byte < 256) pixels.now) }
     ensures palette { IfOk result (λ p. IsPalette pixels.now max_colors p.colors.items) }
     ensures indices { IfOk result (λ p. AreIndices pixels.now p.colors.items p.indices.items) }
     ensures error { IfOk result (λ p. IsError (IsShown pixels.now) p.colors.items p.error) }
 
-    // Where there is room for all shown colors, the entries are these.
+    // Where there is room for the colors of all opaque pixels, the entries are these.
     ensures occur { IfOk result (λ p. All (IsShown pixels.now) p.colors.items) }
     ensures complete { IfOk result (λ p. (n : ℕ) → HasSize (IsShown pixels.now) n
         → n ≤ palette_room max_colors
@@ -117,7 +123,7 @@ fn palette_of(
     palette_of_codes(alloc, pixels, &codes, room)
 }
 
-/// The same, from the codes of the colors that the pixels show, each once, in order.
+/// The palette from the codes of the opaque pixels' colors, each once, in order.
 fn palette_of_codes(
     alloc: Global,
     pixels: &[u8],
@@ -127,42 +133,43 @@ fn palette_of_codes(
     requires some { 0 < room }
     requires room { room ≤ 256 }
     requires ascending { IsStrictlyIncreasing codes.now }
-    requires small { All (λ code. code < 16777216) codes.now }
+    requires small { AreColorCodes codes.now }
     requires shown { (c : List ℕ) → IsShown pixels.now c → IsListed codes.now c }
     requires listed { (c : List ℕ) → IsListed codes.now c → IsShown pixels.now c }
     ensures chosen { IfOk result (IsChosen pixels.now room) }
     ensures indices { IfOk result (λ p. AreIndices pixels.now p.colors.items p.indices.items) }
 {
-    let spread = choose(alloc, codes, room)?;
-    let indices = indices_of(alloc, pixels, codes, spread.nears.places())?;
-    let witnesses = spread.witnesses(alloc, codes)?;
+    let selection = choose(alloc, codes, room)?;
+    let indices = indices_of(alloc, pixels, codes, &selection.indices)?;
+    let witnesses = selection.witnesses(alloc, codes)?;
     Ok(PaletteChoice {
-        error: spread.error(codes),
-        colors: spread.colors,
+        error: selection.error(codes),
+        colors: selection.colors,
         indices,
         witnesses,
     })
 }
 
-/// Whether every two places of the list hold colors at a squared distance of at least `error`.
+/// Returns whether every two witnesses have a squared distance of at least `error`.
 ///
 /// If so, whatever list of fewer colors one takes, some witness has to each of them a squared
-/// distance whose fourfold is at least `error`. It takes no memory.
+/// distance whose fourfold is at least `error`. It does not allocate.
 pub fn witnesses_hold(witnesses: &[[u8; 3]], error: u32) -> bool
     ensures apart { IsTrue result ↔ AreApart witnesses.now error }
     ensures bound { IsTrue result → (n : ℕ) → n < length witnesses.now
         → NoListIsBetter (Contains witnesses.now) n error }
 {
-    for (place, color) in witnesses.iter().enumerate() {
-        if !is_apart_from(*color, &witnesses[..place], error) {
+    for (position, color) in witnesses.iter().enumerate() {
+        if !is_apart_from(*color, &witnesses[..position], error) {
             return false;
         }
     }
     true
 }
 
-/// A law, without work: images that show the same colors have the same palette, and a color has
-/// one nearest entry.
+/// A law, without work: images of the same opaque colors have the same palette.
+///
+/// A color has one nearest entry, and a set of colors one size.
 pub fn one_palette()
     ensures palette { (p q : List ℕ) (max_colors : ℕ) (xs ys : List (List ℕ)) → All (λ b. b < 256) p
         → ((c : List ℕ) → IsShown p c → IsShown q c) → ((c : List ℕ) → IsShown q c → IsShown p c)

@@ -1,9 +1,11 @@
--- The parameters of one command while its text is read: how many fields there are so far, and the values of the first five.
--- The fields of a text are those of specs/Fields.antt, and no command of the format uses more than five.
+-- The parameters of one command while its text is read: how many fields there are so far, and the
+-- values of the first five. The fields of a text are those of specs/Fields.antt, and no command of
+-- the format uses more than five.
 use Rattle.std.specs.Prelude.{◌≡◌, ℕ, ◌<◌, ◌≤◌, ◌⊎◌, min, List, [], ◌∷◌, length, slice_index, take}
 use Rattle.sixel_base.specs.Fields.{fields, field}
 
--- the values of the first five fields, and how many fields there are, where six stands for any more than five
+-- the values of the first five fields, and how many fields there are, where six stands for any more
+-- than five
 pub record Parameters : Type 0 where
   pub values : List ℕ
   pub count : ℕ

@@ -1,7 +1,15 @@
--- Colors as numbers of 24 bits, and what the palette's working keeps for each color. It follows from the order of
--- colors: red is the highest byte, blue the lowest.
-use Rattle.std.specs.Prelude.{◌≡◌, ℕ, ◌/◌, ◌%◌, ◌<◌, List, [], ◌∷◌, length, All, Contains, slice_index}
+-- Colors as codes of 24 bits: red is the highest byte, blue the lowest.
+use Rattle.std.specs.Prelude.{◌≡◌, ℕ, ◌/◌, ◌%◌, ◌<◌, List, [], ◌∷◌, length, All, Contains}
+use Rattle.std.specs.Prelude.{slice_index}
 use Rattle.sixel_palette.specs.Palette.{rank, color_at, IsOpaque}
+
+-- how many codes there are
+abbrev pub code_count : ℕ
+code_count = 16777216
+
+-- each number is a code
+abbrev pub AreColorCodes : List ℕ → Type 0
+AreColorCodes codes = All (λ code. code < code_count) codes
 
 -- the color of a code
 unfoldable pub color_of : ℕ → List ℕ
@@ -19,4 +27,5 @@ HasPixel pixels count code =
 -- the codes are those of the opaque pixels among the first ones
 pub record AreCodes (pixels : List ℕ) (count : ℕ) (codes : List ℕ) : Type 0 where
   pub all : All (HasPixel pixels count) codes
-  pub complete : (pixel : ℕ) → pixel < count → IsOpaque pixels pixel → Contains codes (rank (color_at pixels pixel))
+  pub complete : (pixel : ℕ) → pixel < count → IsOpaque pixels pixel
+      → Contains codes (rank (color_at pixels pixel))

@@ -1,76 +1,104 @@
-//! The place of each pixel's nearest entry, found by its color among the distinct colors.
+//! The palette index of each pixel: that of its color's nearest entry.
 
-ghost use Rattle.std.specs.Prelude.{◌≡◌, ℕ, ◌+◌, ◌*◌, ◌/◌, ◌%◌, ◌<◌, ◌≤◌, List, length, slice_index};
-ghost use Rattle.std.specs.Prelude.{All, Contains, IfOk, IsTrue};
+ghost use Rattle.std.specs.Prelude.{◌≡◌, ℕ, ◌+◌, ◌*◌, ◌/◌, ◌%◌, ◌<◌, ◌≤◌, List, length};
+ghost use Rattle.std.specs.Prelude.{slice_index, All, Contains, IfOk, IsTrue};
 ghost use Rattle.std.specs.List.Sorted.{IsStrictlyIncreasing};
-ghost use Rattle.sixel_palette.specs.Palette.{nearest, IsShown, AreIndices};
-ghost use Rattle.sixel_palette.specs.inside.PaletteCodes.{color_of, IsListed};
+ghost use Rattle.sixel_palette.specs.Palette.{nearest, IsShown, AreIndices, no_entry};
+ghost use Rattle.sixel_palette.specs.inside.PaletteCodes.{color_of, IsListed, AreColorCodes};
 ghost use Rattle.sixel_palette.specs.inside.PaletteFlags.{IsPixelWord, AreFourWords};
-ghost use Rattle.sixel_palette.specs.inside.PaletteNear.{AreKept, IsIndexOf, IsIndex, AreIndicesTo};
-ghost use Rattle.sixel_palette.specs.inside.PaletteLookUp.{IsLookUp, HasShown, TellsNearest};
+ghost use Rattle.sixel_palette.specs.inside.PaletteNearest.{AreNearest, IsIndexOf};
+ghost use Rattle.sixel_palette.specs.inside.PaletteNearest.{IsIndex, AreIndicesTo};
+ghost use Rattle.sixel_palette.specs.inside.PaletteLookUp.{IsLookUp, HasColorsOf, FindsNearest};
 
 use crate::palette::colors::{are_four_of, pixel_word};
-use crate::palette::spans::{Starts, place_of, starts_of};
+use crate::palette::rank_bitmap::RankBitmap;
 use std::alloc::{AllocError, Global};
 
-/// What a pixel's index is looked up in: the codes of the distinct colors, in order, the same as
-/// bits, and for each the place of its nearest entry.
+/// The palette index of each pixel, from those of the colors in use.
+pub fn indices_of(
+    alloc: Global,
+    pixels: &[u8],
+    codes: &[u32],
+    color_indices: &[u8],
+) -> Result<Vec<u8>, AllocError>
+    requires same { length codes.now ≡ length color_indices.now }
+    requires ascending { IsStrictlyIncreasing codes.now }
+    requires small { AreColorCodes codes.now }
+    requires listed { (c : List ℕ) → IsShown pixels.now c → IsListed codes.now c }
+    ensures { IfOk result (λ indices. (entries : List (List ℕ)) (squares : List ℕ)
+        → AreNearest entries codes.now squares color_indices.now
+        → ((c : List ℕ) → IsShown pixels.now c → nearest entries c < no_entry)
+        → AreIndices pixels.now entries indices.items) }
+{
+    // The indices outlive the table, so they are allocated before it.
+    let mut indices = vec![in alloc; 0; pixels.len() / 4]?;
+    let ranks = RankBitmap::new(alloc, codes)?;
+    let look_up = LookUp {
+        codes,
+        ranks: &ranks,
+        color_indices,
+    };
+    fill_indices(&mut indices, pixels, &look_up);
+    Ok(indices)
+}
+
+/// A table of the colors in use: codes in order, ranks and palette indices.
 #[derive(Clone, Copy)]
 struct LookUp<'a> {
     codes: &'a [u32],
-    starts: &'a Starts,
-    places: &'a [u8],
+    ranks: &'a RankBitmap,
+    color_indices: &'a [u8],
 }
 
 impl LookUp<'_> {
-    /// The place of the nearest entry for an opaque pixel of this word.
+    /// The palette index for an opaque pixel of this word.
     #[inline(always)]
-    fn shown_index_of(&self, word: u32) -> u8
+    fn opaque_index_of(&self, word: u32) -> u8
         requires whole { IsLookUp self.now }
         requires opaque { 128 ≤ word % 256 }
         requires listed { Contains self.now.codes.now (word / 256) }
         ensures { (entries : List (List ℕ)) (squares : List ℕ)
-            → AreKept entries self.now.codes.now squares self.now.places.now
-            → nearest entries (color_of (word / 256)) < 195076
+            → AreNearest entries self.now.codes.now squares self.now.color_indices.now
+            → nearest entries (color_of (word / 256)) < no_entry
             → IsIndexOf entries word result }
     {
-        self.places[place_of(self.codes, self.starts, word / 256)]
+        self.color_indices[self.ranks.position_of(self.codes, word / 256)]
     }
 
-    /// The place of the nearest entry for a pixel of this word, 0 if it is hidden.
+    /// The palette index for a pixel of this word, 0 if it is transparent.
     #[inline(always)]
     fn index_of(&self, word: u32) -> u8
         requires whole { IsLookUp self.now }
         requires listed { 128 ≤ word % 256 → Contains self.now.codes.now (word / 256) }
         ensures { (entries : List (List ℕ)) (squares : List ℕ)
-            → AreKept entries self.now.codes.now squares self.now.places.now
-            → (128 ≤ word % 256 → nearest entries (color_of (word / 256)) < 195076)
+            → AreNearest entries self.now.codes.now squares self.now.color_indices.now
+            → (128 ≤ word % 256 → nearest entries (color_of (word / 256)) < no_entry)
             → IsIndexOf entries word result }
     {
         if word % 256 < 128 {
             return 0;
         }
-        self.shown_index_of(word)
+        self.opaque_index_of(word)
     }
 
-    /// The same for four pixels of these words. Mostly all four are opaque, and one test tells it.
+    /// The palette indices for four pixels of these words, which are mostly all opaque.
     #[inline(always)]
     fn indices_of_four(&self, words: [u32; 4]) -> [u8; 4]
         requires whole { IsLookUp self.now }
         requires listed { (k : ℕ) → k < 4 → 128 ≤ slice_index words k % 256
             → Contains self.now.codes.now (slice_index words k / 256) }
         ensures { (entries : List (List ℕ)) (squares : List ℕ) (k : ℕ)
-            → AreKept entries self.now.codes.now squares self.now.places.now → k < 4
+            → AreNearest entries self.now.codes.now squares self.now.color_indices.now → k < 4
             → (128 ≤ slice_index words k % 256
-            → nearest entries (color_of (slice_index words k / 256)) < 195076)
+            → nearest entries (color_of (slice_index words k / 256)) < no_entry)
             → IsIndexOf entries (slice_index words k) (slice_index result k) }
     {
         if are_opaque(words) {
             [
-                self.shown_index_of(words[0]),
-                self.shown_index_of(words[1]),
-                self.shown_index_of(words[2]),
-                self.shown_index_of(words[3]),
+                self.opaque_index_of(words[0]),
+                self.opaque_index_of(words[1]),
+                self.opaque_index_of(words[2]),
+                self.opaque_index_of(words[3]),
             ]
         } else {
             [
@@ -83,7 +111,7 @@ impl LookUp<'_> {
     }
 }
 
-/// Whether four pixels of these words are all opaque.
+/// Returns whether four pixels of these words are all opaque.
 #[inline(always)]
 fn are_opaque(words: [u32; 4]) -> bool
     ensures { IsTrue result → (k : ℕ) → k < 4 → 128 ≤ slice_index words k % 256 }
@@ -95,100 +123,15 @@ fn are_opaque(words: [u32; 4]) -> bool
     first & second & third & fourth
 }
 
-/// The words of four pixels, from this one on.
-#[inline(always)]
-fn four_words(pixels: &[u8], pixel: usize) -> [u32; 4]
-    requires { pixel + 4 ≤ length pixels.now / 4 }
-    ensures { AreFourWords pixels.now pixel result }
-{
-    [
-        pixel_word(pixels, pixel),
-        pixel_word(pixels, pixel + 1),
-        pixel_word(pixels, pixel + 2),
-        pixel_word(pixels, pixel + 3),
-    ]
-}
-
-/// Fills in a pixel's index, after those of the pixels before it.
-#[inline(always)]
-fn fill_one(indices: &mut [u8], pixels: &[u8], pixel: usize, index: u8)
-    requires size { length indices.old ≡ length pixels.now / 4 }
-    requires within { pixel < length pixels.now / 4 }
-    ensures size { length indices.new ≡ length pixels.now / 4 }
-    ensures indices { (entries : List (List ℕ)) → IsIndex pixels.now entries pixel index
-        → AreIndicesTo pixels.now entries pixel indices.old
-        → AreIndicesTo pixels.now entries (pixel + 1) indices.new }
-{
-    indices[pixel] = index;
-}
-
-/// Fills in the indices of four pixels, after those of the pixels before them.
-#[inline(always)]
-fn fill_four_with(indices: &mut [u8], pixels: &[u8], pixel: usize, four: [u8; 4])
-    requires size { length indices.old ≡ length pixels.now / 4 }
-    requires within { pixel + 4 ≤ length pixels.now / 4 }
-    ensures size { length indices.new ≡ length pixels.now / 4 }
-    ensures indices { (entries : List (List ℕ))
-        → ((k : ℕ) → k < 4 → IsIndex pixels.now entries (pixel + k) (slice_index four k))
-        → AreIndicesTo pixels.now entries pixel indices.old
-        → AreIndicesTo pixels.now entries (pixel + 4) indices.new }
-{
-    fill_one(indices, pixels, pixel, four[0]);
-    fill_one(indices, pixels, pixel + 1, four[1]);
-    fill_one(indices, pixels, pixel + 2, four[2]);
-    fill_one(indices, pixels, pixel + 3, four[3]);
-}
-
-/// Fills in the place of the nearest entry for a pixel of this word, after those of the pixels
-/// before it.
-#[inline(always)]
-fn fill_pixel(indices: &mut [u8], pixels: &[u8], pixel: usize, word: u32, look_up: &LookUp<'_>)
-    requires size { length indices.old ≡ length pixels.now / 4 }
-    requires within { pixel < length pixels.now / 4 }
-    requires word { IsPixelWord pixels.now pixel word }
-    requires shown { HasShown pixels.now look_up.now }
-    ensures size { length indices.new ≡ length pixels.now / 4 }
-    ensures indices { (entries : List (List ℕ)) → TellsNearest pixels.now entries look_up.now
-        → AreIndicesTo pixels.now entries pixel indices.old
-        → AreIndicesTo pixels.now entries (pixel + 1) indices.new }
-{
-    fill_one(indices, pixels, pixel, look_up.index_of(word));
-}
-
-/// Fills in the places of the nearest entries for four pixels of these words, after those of the
-/// pixels before them, and answers the last of them.
-#[inline(never)]
-fn fill_four(
-    indices: &mut [u8],
-    pixels: &[u8],
-    pixel: usize,
-    words: [u32; 4],
-    look_up: &LookUp<'_>,
-) -> u8
-    requires size { length indices.old ≡ length pixels.now / 4 }
-    requires within { pixel + 4 ≤ length pixels.now / 4 }
-    requires words { AreFourWords pixels.now pixel words }
-    requires shown { HasShown pixels.now look_up.now }
-    ensures size { length indices.new ≡ length pixels.now / 4 }
-    ensures last { (entries : List (List ℕ)) → TellsNearest pixels.now entries look_up.now
-        → IsIndexOf entries (slice_index words 3) result }
-    ensures indices { (entries : List (List ℕ)) → TellsNearest pixels.now entries look_up.now
-        → AreIndicesTo pixels.now entries pixel indices.old
-        → AreIndicesTo pixels.now entries (pixel + 4) indices.new }
-{
-    let four = look_up.indices_of_four(words);
-    fill_four_with(indices, pixels, pixel, four);
-    four[3]
-}
-
-/// Fills in the place of each pixel's nearest entry. Four pixels that are all as the one before
-/// them have the same.
+/// Stores the palette index of each pixel.
+///
+/// Four pixels that are equal to the one before them get its index without a search.
 #[inline(never)]
 fn fill_indices(indices: &mut [u8], pixels: &[u8], look_up: &LookUp<'_>)
     requires size { length indices.old ≡ length pixels.now / 4 }
-    requires shown { HasShown pixels.now look_up.now }
+    requires shown { HasColorsOf pixels.now look_up.now }
     ensures size { length indices.new ≡ length pixels.now / 4 }
-    ensures indices { (entries : List (List ℕ)) → TellsNearest pixels.now entries look_up.now
+    ensures indices { (entries : List (List ℕ)) → FindsNearest pixels.now entries look_up.now
         → AreIndicesTo pixels.now entries (length pixels.now / 4) indices.new }
 {
     let count = indices.len();
@@ -209,30 +152,86 @@ fn fill_indices(indices: &mut [u8], pixels: &[u8], look_up: &LookUp<'_>)
     }
 }
 
-/// The place of each pixel's nearest entry.
-pub fn indices_of(
-    alloc: Global,
-    pixels: &[u8],
-    codes: &[u32],
-    places: &[u8],
-) -> Result<Vec<u8>, AllocError>
-    requires same { length codes.now ≡ length places.now }
-    requires ascending { IsStrictlyIncreasing codes.now }
-    requires small { All (λ code. code < 16777216) codes.now }
-    requires listed { (c : List ℕ) → IsShown pixels.now c → IsListed codes.now c }
-    ensures { IfOk result (λ indices. (entries : List (List ℕ)) (squares : List ℕ)
-        → AreKept entries codes.now squares places.now
-        → ((c : List ℕ) → IsShown pixels.now c → nearest entries c < 195076)
-        → AreIndices pixels.now entries indices.items) }
+/// The words of four pixels, from this one on.
+#[inline(always)]
+fn four_words(pixels: &[u8], pixel: usize) -> [u32; 4]
+    requires { pixel + 4 ≤ length pixels.now / 4 }
+    ensures { AreFourWords pixels.now pixel result }
 {
-    // They outlive what they are looked up in, so they come first and leave its room whole.
-    let mut indices = vec![in alloc; 0; pixels.len() / 4]?;
-    let starts = starts_of(alloc, codes)?;
-    let look_up = LookUp {
-        codes,
-        starts: &starts,
-        places,
-    };
-    fill_indices(&mut indices, pixels, &look_up);
-    Ok(indices)
+    [
+        pixel_word(pixels, pixel),
+        pixel_word(pixels, pixel + 1),
+        pixel_word(pixels, pixel + 2),
+        pixel_word(pixels, pixel + 3),
+    ]
+}
+
+/// Looks up and stores the palette indices of four pixels, and returns the last.
+#[inline(never)]
+fn fill_four(
+    indices: &mut [u8],
+    pixels: &[u8],
+    pixel: usize,
+    words: [u32; 4],
+    look_up: &LookUp<'_>,
+) -> u8
+    requires size { length indices.old ≡ length pixels.now / 4 }
+    requires within { pixel + 4 ≤ length pixels.now / 4 }
+    requires words { AreFourWords pixels.now pixel words }
+    requires shown { HasColorsOf pixels.now look_up.now }
+    ensures size { length indices.new ≡ length pixels.now / 4 }
+    ensures last { (entries : List (List ℕ)) → FindsNearest pixels.now entries look_up.now
+        → IsIndexOf entries (slice_index words 3) result }
+    ensures indices { (entries : List (List ℕ)) → FindsNearest pixels.now entries look_up.now
+        → AreIndicesTo pixels.now entries pixel indices.old
+        → AreIndicesTo pixels.now entries (pixel + 4) indices.new }
+{
+    let four = look_up.indices_of_four(words);
+    fill_four_with(indices, pixels, pixel, four);
+    four[3]
+}
+
+/// Looks up and stores the palette index for a pixel of this word.
+#[inline(always)]
+fn fill_pixel(indices: &mut [u8], pixels: &[u8], pixel: usize, word: u32, look_up: &LookUp<'_>)
+    requires size { length indices.old ≡ length pixels.now / 4 }
+    requires within { pixel < length pixels.now / 4 }
+    requires word { IsPixelWord pixels.now pixel word }
+    requires shown { HasColorsOf pixels.now look_up.now }
+    ensures size { length indices.new ≡ length pixels.now / 4 }
+    ensures indices { (entries : List (List ℕ)) → FindsNearest pixels.now entries look_up.now
+        → AreIndicesTo pixels.now entries pixel indices.old
+        → AreIndicesTo pixels.now entries (pixel + 1) indices.new }
+{
+    fill_one(indices, pixels, pixel, look_up.index_of(word));
+}
+
+/// Stores the palette indices of four pixels, after those of earlier pixels.
+#[inline(always)]
+fn fill_four_with(indices: &mut [u8], pixels: &[u8], pixel: usize, four: [u8; 4])
+    requires size { length indices.old ≡ length pixels.now / 4 }
+    requires within { pixel + 4 ≤ length pixels.now / 4 }
+    ensures size { length indices.new ≡ length pixels.now / 4 }
+    ensures indices { (entries : List (List ℕ))
+        → ((k : ℕ) → k < 4 → IsIndex pixels.now entries (pixel + k) (slice_index four k))
+        → AreIndicesTo pixels.now entries pixel indices.old
+        → AreIndicesTo pixels.now entries (pixel + 4) indices.new }
+{
+    fill_one(indices, pixels, pixel, four[0]);
+    fill_one(indices, pixels, pixel + 1, four[1]);
+    fill_one(indices, pixels, pixel + 2, four[2]);
+    fill_one(indices, pixels, pixel + 3, four[3]);
+}
+
+/// Stores a pixel's palette index, after those of the pixels before it.
+#[inline(always)]
+fn fill_one(indices: &mut [u8], pixels: &[u8], pixel: usize, index: u8)
+    requires size { length indices.old ≡ length pixels.now / 4 }
+    requires within { pixel < length pixels.now / 4 }
+    ensures size { length indices.new ≡ length pixels.now / 4 }
+    ensures indices { (entries : List (List ℕ)) → IsIndex pixels.now entries pixel index
+        → AreIndicesTo pixels.now entries pixel indices.old
+        → AreIndicesTo pixels.now entries (pixel + 1) indices.new }
+{
+    indices[pixel] = index;
 }

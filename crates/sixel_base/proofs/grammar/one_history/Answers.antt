@@ -6,4 +6,5 @@ pub returns-clause-some : goal.returns-clause-some
 returns-clause-some c = some_history
 
 pub returns-clause-only : goal.returns-clause-only
-returns-clause-only c = λ bytes g h is also. history_unique bytes g is ∙ sym (history_unique bytes h also)
+returns-clause-only c = λ bytes g h is also.
+    history_unique bytes g is ∙ sym (history_unique bytes h also)

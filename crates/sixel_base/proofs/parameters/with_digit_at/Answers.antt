@@ -1,4 +1,5 @@
-use Rattle.std.proofs.Common.{ℕ, ◌≡◌, ◌+◌, ◌-◌, ◌*◌, min, [], ◌∷◌, take, get_or, refl, sym, subst, inl, inr, arith}
+use Rattle.std.proofs.Common.{ℕ, ◌≡◌, ◌+◌, ◌-◌, ◌*◌, min, [], ◌∷◌, take, get_or, refl, sym, subst}
+use Rattle.std.proofs.Common.{inl, inr, arith}
 use Rattle.std.proofs.lemmas.Bool.{cases_lt}
 use Rattle.std.proofs.lemmas.List.{take_more}
 use Rattle.sixel_base.specs.inside.Parameters.{Parameters, AreRead, IsDigit, Keeps}
@@ -20,13 +21,23 @@ returns-then-digit-lt10-clause-read c = λ read.
     let next = 10 * value + c.from-digit.result in
     let old : Parameters = record { values = value ∷ 0 ∷ 0 ∷ 0 ∷ 0 ∷ []; count = min at 1 } in
     let new : Parameters = record { values = next ∷ 0 ∷ 0 ∷ 0 ∷ 0 ∷ []; count = min (at + 1) 1 } in
-    let worth : next ≡ min (value * 10 + (byte - 48)) 2147483647 = omega (arith, c.from-digit.ensures, c.if-digit-lt10.true, c.type_inv.bytes at, c.requires.room, is.0, is.1) in (
+    let worth : next ≡ min (value * 10 + (byte - 48)) 2147483647 =
+    omega (
+      arith,
+      c.from-digit.ensures,
+      c.if-digit-lt10.true,
+      c.type_inv.bytes at,
+      c.requires.room,
+      is.0,
+      is.1,
+    ) in (
       omega (arith, inside),
       λ k lt. elim (cases_lt k at) [
         | inl below ↦ before.1 k below
         | inr above ↦ subst (λ (j : ℕ). IsDigit (get_or bytes j 0)) (omega (arith, lt, above)) is
       ],
       subst (Keeps new) (sym (take_more bytes at 0 inside))
-          (Keeps-push_digit_kept (take at bytes) byte is.0 is.1 old new 0 next (omega arith) (omega arith) refl refl
+          (Keeps-push_digit_kept (take at bytes) byte is.0 is.1 old new 0 next (omega arith)
+          (omega arith) refl refl
           worth (omega arith) before.2),
     )

@@ -6,15 +6,20 @@ use Rattle.sixel_palette.proofs.PaletteChoices as chosen
 use Rattle.sixel_palette.proofs.PaletteOrder.{members_from_order}
 use Rattle.sixel_palette.proofs.palette.choose_palette.Goals as goal
 
--- the room is that of the palette
-the_choice : (c : goal.In_ok-palette_of) → IsChosen c.args.pixels.now (palette_room c.args.max_colors) c.in_ok-palette_of.field-0
+-- the palette has this room
+the_choice : (c : goal.In_ok-palette_of)
+    → IsChosen c.args.pixels.now (palette_room c.args.max_colors) c.in_ok-palette_of.field-0
 the_choice c =
     rw c.room_for.ensures at c.in_ok-palette_of.ensures.chosen
 
 pub returns-clause-palette : goal.returns-clause-palette
 returns-clause-palette c = record {
   order = chosen.chosen_order _ _ _ (the_choice c);
-  size = (length (the_choice c).codes, chosen.chosen_size _ _ _ (the_choice c), (the_choice c).size);
+  size = (
+    length (the_choice c).codes,
+    chosen.chosen_size _ _ _ (the_choice c),
+    (the_choice c).size,
+  );
 }
 
 pub returns-clause-error : goal.returns-clause-error
@@ -43,7 +48,8 @@ pub returns-clause-empty : goal.returns-clause-empty
 returns-clause-empty c = chosen.chosen_empty _ _ _ (the_choice c)
 
 pub returns-clause-bytes : goal.returns-clause-bytes
-returns-clause-bytes c = λ k d l. omega (arith, get_or_default c.args.pixels.now k d 0 l, c.type_inv.pixels k)
+returns-clause-bytes c = λ k d l.
+    omega (arith, get_or_default c.args.pixels.now k d 0 l, c.type_inv.pixels k)
 
 pub returns-then-beyond-ne0-clause-mismatch : goal.returns-then-beyond-ne0-clause-mismatch
 returns-then-beyond-ne0-clause-mismatch c = grind arith

@@ -6,16 +6,23 @@ use Rattle.sixel_palette.proofs.PaletteApart.{apart_more, apart_before, bound_fr
 use Rattle.sixel_palette.proofs.palette.witnesses_hold.Goals as goal
 
 pub returns-then-not-is_apart_from-clause-apart : goal.returns-then-not-is_apart_from-clause-apart
-returns-then-not-is_apart_from-clause-apart c =
-    (λ no. absurd (false≢true no), λ apart. c.if-not-is_apart_from.ensures.1 (apart_before c.args.witnesses.now c.args.error c.loop-place.place c.loop-place-test.true apart))
+returns-then-not-is_apart_from-clause-apart c = (
+  λ no. absurd (false≢true no),
+  λ apart.
+      c.if-not-is_apart_from.ensures.1 (apart_before c.args.witnesses.now c.args.error
+      c.loop-position.position c.loop-position-test.true apart),
+)
 
-pub loop-place-preserved : goal.loop-place-preserved
-loop-place-preserved c =
-    apart_more c.args.witnesses.now c.args.error c.loop-place.place c.loop-place-test.true c.loop-place.invariant (c.if-not-is_apart_from.ensures.0 refl)
+pub loop-position-preserved : goal.loop-position-preserved
+loop-position-preserved c =
+    apart_more c.args.witnesses.now c.args.error c.loop-position.position c.loop-position-test.true
+    c.loop-position.invariant (c.if-not-is_apart_from.ensures.0 refl)
 
 -- after the loop all lie apart
-all_apart : (c : goal.After-loop-place) → AreApart c.args.witnesses.now c.args.error
-all_apart c = rw (take_all c.loop-place.place c.args.witnesses.now c.loop-place-test.false) at c.loop-place.invariant
+all_apart : (c : goal.After-loop-position) → AreApart c.args.witnesses.now c.args.error
+all_apart c =
+    rw (take_all c.loop-position.position c.args.witnesses.now c.loop-position-test.false) at
+    c.loop-position.invariant
 
 pub returns-clause-apart : goal.returns-clause-apart
 returns-clause-apart c = (λ _. all_apart c, λ _. refl)

@@ -1,4 +1,5 @@
-use Rattle.std.proofs.Common.{ℕ, ◌+◌, ◌*◌, min, [], ◌∷◌, take, get_or, refl, sym, subst, inl, inr, arith}
+use Rattle.std.proofs.Common.{ℕ, ◌+◌, ◌*◌, min, [], ◌∷◌, take, get_or, refl, sym, subst, inl, inr}
+use Rattle.std.proofs.Common.{arith}
 use Rattle.std.proofs.lemmas.Bool.{cases_lt}
 use Rattle.std.proofs.lemmas.List.{take_more}
 use Rattle.sixel_base.specs.inside.Parameters.{Parameters, IsDigit, Keeps}
@@ -12,10 +13,12 @@ digits-preserved c =
     let value = c.digits.value in
     let before = c.digits.invariant.0 in
     let byte = get_or bytes len 0 in
-    let is : IsDigit byte = grind (arith, c.if-is_ascii_digit.true, c.is_ascii_digit.ensures.value) in
+    let is : IsDigit byte =
+    grind (arith, c.if-is_ascii_digit.true, c.is_ascii_digit.ensures.value) in
     let next = 10 * value + c.from.result in
     let old : Parameters = record { values = value ∷ 0 ∷ 0 ∷ 0 ∷ 0 ∷ []; count = min len 1 } in
-    let new : Parameters = record { values = next ∷ 0 ∷ 0 ∷ 0 ∷ 0 ∷ []; count = min (len + 1) 1 } in (
+    let new : Parameters = record
+    { values = next ∷ 0 ∷ 0 ∷ 0 ∷ 0 ∷ []; count = min (len + 1) 1 } in (
       (
         omega (arith, c.digits-test.true),
         λ k lt. elim (cases_lt k len) [
@@ -23,8 +26,10 @@ digits-preserved c =
           | inr above ↦ subst (λ (j : ℕ). IsDigit (get_or bytes j 0)) (omega (arith, lt, above)) is
         ],
         subst (Keeps new) (sym (take_more bytes len 0 c.digits-test.true))
-            (Keeps-push_digit_kept (take len bytes) byte is.0 is.1 old new 0 next (omega arith) (omega arith) refl refl
-            (omega (arith, c.if-value-lt-ENOUGH.true, c.from.ensures, is.0, is.1)) (omega arith) before.2),
+            (Keeps-push_digit_kept (take len bytes) byte is.0 is.1 old new 0 next (omega arith)
+            (omega arith) refl refl
+            (omega (arith, c.if-value-lt-ENOUGH.true, c.from.ensures, is.0, is.1)) (omega arith)
+            before.2),
       ),
       omega (arith, c.if-value-lt-ENOUGH.true, c.from.ensures, is.0, is.1),
     )

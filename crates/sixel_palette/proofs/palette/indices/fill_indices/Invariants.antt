@@ -1,17 +1,20 @@
 use Rattle.std.proofs.Common.{◌≡◌, ℕ, ◌*◌, ◌/◌, List, length}
-use Rattle.sixel_palette.specs.inside.PaletteNear.{IsIndexOf, AreIndicesTo}
-use Rattle.sixel_palette.specs.inside.PaletteLookUp.{TellsNearest}
+use Rattle.sixel_palette.specs.inside.PaletteNearest.{IsIndexOf, AreIndicesTo}
+use Rattle.sixel_palette.specs.inside.PaletteLookUp.{FindsNearest}
 use Rattle.sixel_palette.proofs.palette.indices.fill_indices.Given as goal
 
 abbrev pub invariant-loop-four : goal.invariant-loop-four
 invariant-loop-four l = record {
   size : length l.indices ≡ length l.pixels / 4;
-  each : (entries : List (List ℕ)) → TellsNearest l.pixels entries l.look_up → AreIndicesTo l.pixels entries (4 * l.four) l.indices;
-  last : (entries : List (List ℕ)) → TellsNearest l.pixels entries l.look_up → IsIndexOf entries l.last l.index;
+  each : (entries : List (List ℕ)) → FindsNearest l.pixels entries l.look_up
+      → AreIndicesTo l.pixels entries (4 * l.four) l.indices;
+  last : (entries : List (List ℕ)) → FindsNearest l.pixels entries l.look_up
+      → IsIndexOf entries l.last l.index;
 }
 
 abbrev pub invariant-loop-pixel : goal.invariant-loop-pixel
 invariant-loop-pixel l = record {
   size : length l.indices ≡ length l.pixels / 4;
-  each : (entries : List (List ℕ)) → TellsNearest l.pixels entries l.look_up → AreIndicesTo l.pixels entries l.pixel l.indices;
+  each : (entries : List (List ℕ)) → FindsNearest l.pixels entries l.look_up
+      → AreIndicesTo l.pixels entries l.pixel l.indices;
 }

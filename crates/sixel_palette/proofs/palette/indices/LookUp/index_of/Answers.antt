@@ -3,7 +3,7 @@ use Rattle.sixel_palette.proofs.palette.indices.LookUp.index_of.Goals as goal
 
 pub returns : goal.returns
 returns c = λ entries squares near below.
-    c.shown_index_of.ensures entries squares near (below (omega (arith, c.if-word-lt128.false)))
+    c.opaque_index_of.ensures entries squares near (below (omega (arith, c.if-word-lt128.false)))
 
 pub returns-then-word-lt128 : goal.returns-then-word-lt128
 returns-then-word-lt128 c = omega arith

@@ -1,23 +1,30 @@
 use Rattle.std.proofs.Common.{ℕ, ◌/◌, ◌%◌, ◌<◌, ◌≤◌, List, [], ◌∷◌, get_or, arith}
-use Rattle.sixel_palette.specs.Palette.{nearest}
+use Rattle.sixel_palette.specs.Palette.{nearest, no_entry}
 use Rattle.sixel_palette.specs.inside.PaletteCodes.{color_of}
-use Rattle.sixel_palette.specs.inside.PaletteNear.{IsIndexOf}
+use Rattle.sixel_palette.specs.inside.PaletteNearest.{IsIndexOf}
 use Rattle.sixel_palette.proofs.PaletteLists.{four_cases}
 use Rattle.sixel_palette.proofs.palette.indices.LookUp.indices_of_four.Goals as goal
 
--- the index at a place is that of the word there
+-- the index at a position is that of the word there
 abbrev IsFoundAt : List (List ℕ) → List ℕ → List ℕ → ℕ → Type 0
 IsFoundAt entries words indices k =
-    (128 ≤ get_or words k 0 % 256 → nearest entries (color_of (get_or words k 0 / 256)) < 195076) → IsIndexOf entries (get_or words k 0) (get_or indices k 0)
+    (128 ≤ get_or words k 0 % 256 → nearest entries (color_of (get_or words k 0 / 256)) < no_entry)
+    → IsIndexOf entries (get_or words k 0) (get_or indices k 0)
 
 pub returns-then-are_opaque : goal.returns-then-are_opaque
 returns-then-are_opaque c = λ entries squares k near l.
     let opaque = c.are_opaque.ensures c.if-are_opaque.true in
-    let first = c.shown_index_of in
-    let second = c.shown_index_of-then-are_opaque in
-    let third = c.shown_index_of-then-are_opaque-2 in
-    let fourth = c.shown_index_of-then-are_opaque-3 in
-    four_cases (IsFoundAt entries c.args.words (first.result ∷ second.result ∷ third.result ∷ fourth.result ∷ [])) (λ below. first.ensures entries squares near (below (opaque 0 (omega arith)))) (λ below. second.ensures entries squares near (below (opaque 1 (omega arith)))) (λ below. third.ensures entries squares near (below (opaque 2 (omega arith)))) (λ below. fourth.ensures entries squares near (below (opaque 3 (omega arith)))) k l
+    let first = c.opaque_index_of in
+    let second = c.opaque_index_of-then-are_opaque in
+    let third = c.opaque_index_of-then-are_opaque-2 in
+    let fourth = c.opaque_index_of-then-are_opaque-3 in
+    four_cases (IsFoundAt entries c.args.words
+    (first.result ∷ second.result ∷ third.result ∷ fourth.result ∷ []))
+    (λ below. first.ensures entries squares near (below (opaque 0 (omega arith))))
+    (λ below. second.ensures entries squares near (below (opaque 1 (omega arith))))
+    (λ below. third.ensures entries squares near (below (opaque 2 (omega arith))))
+    (λ below. fourth.ensures entries squares near (below (opaque 3 (omega arith))))
+    k l
 
 pub returns-else-are_opaque : goal.returns-else-are_opaque
 returns-else-are_opaque c = λ entries squares k near l.
@@ -25,36 +32,47 @@ returns-else-are_opaque c = λ entries squares k near l.
     let second = c.index_of-else-are_opaque in
     let third = c.index_of-else-are_opaque-2 in
     let fourth = c.index_of-else-are_opaque-3 in
-    four_cases (IsFoundAt entries c.args.words (first.result ∷ second.result ∷ third.result ∷ fourth.result ∷ [])) (first.ensures entries squares near) (second.ensures entries squares near) (third.ensures entries squares near) (fourth.ensures entries squares near) k l
+    four_cases (IsFoundAt entries c.args.words
+    (first.result ∷ second.result ∷ third.result ∷ fourth.result ∷ []))
+    (first.ensures entries squares near) (second.ensures entries squares near)
+    (third.ensures entries squares near) (fourth.ensures entries squares near) k l
 
-pub shown_index_of-requires : goal.shown_index_of-requires
-shown_index_of-requires c =
+pub opaque_index_of-requires : goal.opaque_index_of-requires
+opaque_index_of-requires c =
     let opaque = c.are_opaque.ensures c.if-are_opaque.true 0 (omega arith) in
-    record { whole = c.requires.whole; opaque = opaque; listed = c.requires.listed 0 (omega arith) opaque }
+    record
+    { whole = c.requires.whole; opaque = opaque; listed = c.requires.listed 0 (omega arith) opaque }
 
-pub shown_index_of-requires-then-are_opaque : goal.shown_index_of-requires-then-are_opaque
-shown_index_of-requires-then-are_opaque c =
+pub opaque_index_of-requires-then-are_opaque : goal.opaque_index_of-requires-then-are_opaque
+opaque_index_of-requires-then-are_opaque c =
     let opaque = c.are_opaque.ensures c.if-are_opaque.true 1 (omega arith) in
-    record { whole = c.requires.whole; opaque = opaque; listed = c.requires.listed 1 (omega arith) opaque }
+    record
+    { whole = c.requires.whole; opaque = opaque; listed = c.requires.listed 1 (omega arith) opaque }
 
-pub shown_index_of-requires-then-are_opaque-2 : goal.shown_index_of-requires-then-are_opaque-2
-shown_index_of-requires-then-are_opaque-2 c =
+pub opaque_index_of-requires-then-are_opaque-2 : goal.opaque_index_of-requires-then-are_opaque-2
+opaque_index_of-requires-then-are_opaque-2 c =
     let opaque = c.are_opaque.ensures c.if-are_opaque.true 2 (omega arith) in
-    record { whole = c.requires.whole; opaque = opaque; listed = c.requires.listed 2 (omega arith) opaque }
+    record
+    { whole = c.requires.whole; opaque = opaque; listed = c.requires.listed 2 (omega arith) opaque }
 
-pub shown_index_of-requires-then-are_opaque-3 : goal.shown_index_of-requires-then-are_opaque-3
-shown_index_of-requires-then-are_opaque-3 c =
+pub opaque_index_of-requires-then-are_opaque-3 : goal.opaque_index_of-requires-then-are_opaque-3
+opaque_index_of-requires-then-are_opaque-3 c =
     let opaque = c.are_opaque.ensures c.if-are_opaque.true 3 (omega arith) in
-    record { whole = c.requires.whole; opaque = opaque; listed = c.requires.listed 3 (omega arith) opaque }
+    record
+    { whole = c.requires.whole; opaque = opaque; listed = c.requires.listed 3 (omega arith) opaque }
 
 pub index_of-requires : goal.index_of-requires
-index_of-requires c = record { whole = c.requires.whole; listed = c.requires.listed 0 (omega arith) }
+index_of-requires c = record
+    { whole = c.requires.whole; listed = c.requires.listed 0 (omega arith) }
 
 pub index_of-requires-else-are_opaque : goal.index_of-requires-else-are_opaque
-index_of-requires-else-are_opaque c = record { whole = c.requires.whole; listed = c.requires.listed 1 (omega arith) }
+index_of-requires-else-are_opaque c = record
+    { whole = c.requires.whole; listed = c.requires.listed 1 (omega arith) }
 
 pub index_of-requires-else-are_opaque-2 : goal.index_of-requires-else-are_opaque-2
-index_of-requires-else-are_opaque-2 c = record { whole = c.requires.whole; listed = c.requires.listed 2 (omega arith) }
+index_of-requires-else-are_opaque-2 c = record
+    { whole = c.requires.whole; listed = c.requires.listed 2 (omega arith) }
 
 pub index_of-requires-else-are_opaque-3 : goal.index_of-requires-else-are_opaque-3
-index_of-requires-else-are_opaque-3 c = record { whole = c.requires.whole; listed = c.requires.listed 3 (omega arith) }
+index_of-requires-else-are_opaque-3 c = record
+    { whole = c.requires.whole; listed = c.requires.listed 3 (omega arith) }

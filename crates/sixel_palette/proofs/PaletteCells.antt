@@ -1,0 +1,161 @@
+-- Cells: their bounding boxes, and the farthest color of all.
+use Rattle.sixel_palette.specs.Palette.{no_entry}
+use Rattle.std.proofs.Common.{◌≡◌, ◌⊎◌, inr, ℕ, ◌+◌, ◌-◌, ◌*◌, ◌/◌, ◌<◌, ◌≤◌, min, max}
+use Rattle.std.proofs.Common.{List, [], ◌∷◌, ◌++◌, length, get_or, take, drop}
+use Rattle.std.proofs.Common.{⊎_elim, arith}
+use Rattle.std.proofs.lemmas.Bool.{cases_lt}
+use Rattle.std.proofs.lemmas.List.{get_or_append_left}
+use Rattle.std.proofs.lemmas.List.{get_or_push}
+use Rattle.std.specs.List.{All}
+use Rattle.sixel_palette.specs.declared.palette.cells.Interval.{Interval}
+use Rattle.sixel_palette.specs.declared.palette.cells.Cell.{Cell}
+use Rattle.sixel_palette.specs.inside.PaletteCodes.{color_of, AreColorCodes}
+use Rattle.sixel_palette.specs.inside.PaletteCells.{channel, IsInInterval, IsInBox, IsInCell}
+use Rattle.sixel_palette.specs.inside.PaletteCells.{IsGreatestIn, IsCell, AreCells}
+use Rattle.sixel_palette.specs.inside.PaletteCells.{AreAll, IsFirstGreatest}
+use Rattle.sixel_palette.proofs.PaletteLists.{part_at, length-part}
+
+-- an empty cell
+abbrev pub none : Cell
+none = record {
+  red = record { low = 0; high = 0 };
+  green = record { low = 0; high = 0 };
+  blue = record { low = 0; high = 0 };
+  greatest = 0;
+}
+
+-- no cell has a greater number, and those before this one have lesser ones
+pub record IsFirstCell (cells : List Cell) (greatest best : ℕ) : Type 0 where
+  pub upper : (j : ℕ) → j < length cells → (get_or cells j none).greatest ≤ greatest
+  pub first : (j : ℕ) → j < best → (get_or cells j none).greatest < greatest
+
+-- one more cell
+pub cells_more : (codes squares : List ℕ) (cells : List Cell) (n : ℕ) (cell : Cell)
+    → length cells ≡ n
+    → ((j : ℕ) (d : Cell) → j < n → IsCell codes squares j (get_or cells j d))
+    → IsCell codes squares n cell → (j : ℕ) (d : Cell) → j < n + 1
+    → IsCell codes squares j (get_or (cells ++ cell ∷ []) j d)
+cells_more codes squares cells n cell same before here = λ j d l.
+    ⊎_elim (λ b. rw (get_or_append_left cells (cell ∷ []) d j (omega arith)) (before j d b))
+    (λ b. let e : j ≡ n = omega arith in rw (e, get_or_push cells cell d n same) here)
+    (cases_lt j n)
+
+-- a code of a part is one of the whole
+interval_of_part : (codes : List ℕ) (start n unit : ℕ) (interval : Interval)
+    → start + n ≤ length codes
+    → ((k : ℕ) → k < length (take n (drop start codes))
+    → IsInInterval interval (channel unit (get_or (take n (drop start codes)) k 0))) → (k : ℕ)
+    → start ≤ k
+    → k < start + n → IsInInterval interval (channel unit (get_or codes k 0))
+interval_of_part codes start n unit interval within all k l m =
+    rw (part_at codes start n k l m) at
+    (all (k - start) (omega (arith, length-part codes start n within)))
+
+-- the intervals of its codes make a box round the colors of a cell
+pub box_from_intervals : (codes : List ℕ) (cell n : ℕ) (red green blue : Interval) (greatest : ℕ)
+    → AreColorCodes codes → 64 * cell + n ≡ min (length codes) (64 * cell + 64)
+    → ((k : ℕ) → k < length (take n (drop (64 * cell) codes))
+    → IsInInterval red (channel 65536 (get_or (take n (drop (64 * cell) codes)) k 0)))
+    → ((k : ℕ) → k < length (take n (drop (64 * cell) codes))
+    → IsInInterval green (channel 256 (get_or (take n (drop (64 * cell) codes)) k 0)))
+    → ((k : ℕ) → k < length (take n (drop (64 * cell) codes))
+    → IsInInterval blue (channel 1 (get_or (take n (drop (64 * cell) codes)) k 0))) → (k : ℕ)
+    → IsInCell codes cell k
+    → IsInBox (record { red = red; green = green; blue = blue; greatest = greatest })
+    (color_of (get_or codes k 0))
+unfolding color_of
+box_from_intervals codes cell n red green blue greatest small end r g b k i =
+    let code = small k 0 i.within in
+    let in_red =
+    interval_of_part codes (64 * cell) n 65536 red (omega arith) r k i.from
+    (omega (arith, i.to, i.within)) in
+    let in_green =
+    interval_of_part codes (64 * cell) n 256 green (omega arith) g k i.from
+    (omega (arith, i.to, i.within)) in
+    let in_blue =
+    interval_of_part codes (64 * cell) n 1 blue (omega arith) b k i.from
+    (omega (arith, i.to, i.within)) in
+    record {
+      red = record
+          { low = omega (arith, in_red.low, code); high = omega (arith, in_red.high, code) };
+      green = record { low = omega (arith, in_green.low); high = omega (arith, in_green.high) };
+      blue = record { low = omega (arith, in_blue.low); high = omega (arith, in_blue.high) };
+    }
+
+-- with no entry each color has the same distance
+pub greatest_none : (codes squares : List ℕ) (cell : ℕ) → 64 * cell < length codes
+    → AreAll no_entry (length codes) squares → IsGreatestIn codes squares cell no_entry
+greatest_none codes squares cell some far = record {
+  upper = λ k i. omega (arith, far k i.within);
+  reached = (
+    64 * cell,
+    record { from = omega arith; to = omega arith; within = some },
+    far (64 * cell) some,
+  );
+}
+
+-- the greatest of one more cell
+pub greatest_cell : (cells : List Cell) (n greatest : ℕ) → n < length cells
+    → ((j : ℕ) → j < n → (get_or cells j none).greatest ≤ greatest)
+    → (greatest ≡ 0)
+    ⊎ ((j : ℕ) × (j < length cells) × ((get_or cells j none).greatest ≡ greatest))
+    → ((j : ℕ) → j < n + 1
+    → (get_or cells j none).greatest ≤ max (get_or cells n none).greatest greatest)
+    × ((max (get_or cells n none).greatest greatest ≡ 0)
+    ⊎ ((j : ℕ) × (j < length cells)
+    × ((get_or cells j none).greatest ≡ max (get_or cells n none).greatest greatest)))
+greatest_cell cells n greatest l upper reached = (
+  λ j m.
+      ⊎_elim (λ b. omega (arith, upper j b))
+      (λ (b : n ≤ j). let e : j ≡ n = omega arith in rw e (omega arith))
+      (cases_lt j n),
+  ⊎_elim (λ b. ⊎_elim (λ z. absurd (omega arith)) (λ r. inr (r.0, r.1, omega (arith, r.2))) reached)
+      (λ b. inr (n, l, omega arith)) (cases_lt (get_or cells n none).greatest greatest),
+)
+
+-- no number is above the greatest of the cells'
+below_best : (codes squares : List ℕ) (cells : List Cell) (greatest best k : ℕ)
+    → AreCells codes squares cells → IsFirstCell cells greatest best → k < length codes
+    → get_or squares k 0 ≤ greatest
+below_best codes squares cells greatest best k h first l =
+    let j = k / 64 in
+    let within : j < length cells = omega (arith, h.all) in
+    omega (
+      arith,
+      (h.each j none within).greatest.upper k
+          (record { from = omega arith; to = omega arith; within = l }),
+      first.upper j within,
+    )
+
+-- before the first cell with the greatest each number is below it
+before_best : (codes squares : List ℕ) (cells : List Cell) (greatest best k : ℕ)
+    → AreCells codes squares cells → IsFirstCell cells greatest best → k < length codes
+    → k < 64 * best → get_or squares k 0 < greatest
+before_best codes squares cells greatest best k h first l m =
+    let j = k / 64 in
+    let within : j < length cells = omega (arith, h.all) in
+    omega (
+      arith,
+      (h.each j none within).greatest.upper k
+          (record { from = omega arith; to = omega arith; within = l }),
+      first.first j (omega arith),
+    )
+
+-- the first position in that cell with the greatest number is the first of all
+pub first_greatest : (codes squares : List ℕ) (cells : List Cell) (greatest best farthest : ℕ)
+    → length squares ≡ length codes → AreCells codes squares cells
+    → IsFirstCell cells greatest best → farthest < length codes
+    → ((k : ℕ) → 64 * best ≤ k → k < farthest → get_or squares k 0 < greatest)
+    → greatest ≤ get_or squares farthest 0 → IsFirstGreatest squares farthest
+first_greatest codes squares cells greatest best farthest same h first within before reached =
+    record {
+      within = omega arith;
+      greatest = λ k l.
+          omega (arith, below_best codes squares cells greatest best k h first (omega arith));
+      first = λ k l.
+          ⊎_elim
+          (λ b.
+          omega (arith, before_best codes squares cells greatest best k h first (omega arith) b))
+          (λ b. omega (arith, before k b l))
+          (cases_lt k (64 * best));
+    }

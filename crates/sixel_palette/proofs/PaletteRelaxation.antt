@@ -1,0 +1,197 @@
+-- Relaxing distances by one more entry: in a cell, in all cells, and in a cell that is too far.
+use Rattle.std.proofs.Common.{◌≡◌, ◌≢◌, ◌⊎◌, inl, inr, ℕ, ◌+◌, ◌*◌, ◌<◌, ◌≤◌, min, max}
+use Rattle.std.proofs.Common.{List, [], ◌∷◌, ◌++◌, length, get_or, set, refl, ◌∙◌}
+use Rattle.std.proofs.Common.{⊎_elim, arith}
+use Rattle.std.proofs.lemmas.Bool.{cases_lt}
+use Rattle.std.proofs.lemmas.List.{get_or-set_same, get_or-set_other}
+use Rattle.std.proofs.lemmas.List.{length-set}
+use Rattle.sixel_palette.specs.declared.palette.cells.Cell.{Cell}
+use Rattle.sixel_palette.specs.declared.palette.nearest_entry.NearestEntry.{NearestEntry}
+use Rattle.sixel_palette.specs.Palette.{distance}
+use Rattle.sixel_palette.specs.inside.PaletteCodes.{color_of}
+use Rattle.sixel_palette.specs.inside.PaletteNearest.{IsNearestEntry, AreNearest, nearest_at}
+use Rattle.sixel_palette.specs.inside.PaletteCells.{IsInBox, IsInCell}
+use Rattle.sixel_palette.specs.inside.PaletteCells.{IsGreatestIn, IsCell, AreCells, AreNearestIn}
+use Rattle.sixel_palette.specs.inside.PaletteCells.{IsSameOutside}
+use Rattle.sixel_palette.proofs.PaletteNearestEntry.{near_kept}
+
+-- the distances of the colors at these positions are relaxed by the entries
+abbrev pub AreRelaxedIn : List (List ℕ) → List ℕ → List ℕ → List ℕ → ℕ → ℕ → Type 0
+AreRelaxedIn entries codes squares indices from to =
+    (k : ℕ) → from ≤ k → k < to → k < length codes
+    → IsNearestEntry entries (color_of (get_or codes k 0)) (nearest_at squares indices k)
+
+-- the numbers before and after these positions are the old ones
+pub record AreOld (old new : List ℕ) (from to : ℕ) : Type 0 where
+  pub before : (k : ℕ) → k < from → get_or new k 0 ≡ get_or old k 0
+  pub after : (k : ℕ) → to ≤ k → get_or new k 0 ≡ get_or old k 0
+
+-- the number is the greatest at these positions, 0 if there are none
+pub record IsGreatestOf (squares : List ℕ) (from to greatest : ℕ) : Type 0 where
+  pub upper : (k : ℕ) → from ≤ k → k < to → get_or squares k 0 ≤ greatest
+  pub reached : (to ≤ from × greatest ≡ 0)
+      ⊎ ((k : ℕ) × (from ≤ k) × (k < to) × (get_or squares k 0 ≡ greatest))
+
+-- a write keeps the numbers before it
+get_or-set_before : (xs : List ℕ) (at x k : ℕ) → k < at → get_or (set xs at x) k 0 ≡ get_or xs k 0
+get_or-set_before xs at x k l = let other : k ≢ at = omega arith in rw get_or-set_other refl
+
+-- a write keeps the numbers after it
+get_or-set_after : (xs : List ℕ) (at x k : ℕ) → at < k → get_or (set xs at x) k 0 ≡ get_or xs k 0
+get_or-set_after xs at x k l = let other : k ≢ at = omega arith in rw get_or-set_other refl
+
+-- nothing is written yet
+pub old_none : (xs : List ℕ) (from : ℕ) → AreOld xs xs from from
+old_none xs from = record { before = λ k l. refl; after = λ k l. refl }
+
+-- one more position is written
+pub old_more : (old new : List ℕ) (from at x : ℕ) → from ≤ at → AreOld old new from at
+    → AreOld old (set new at x) from (at + 1)
+old_more old new from at x l h = record {
+  before = λ k m. get_or-set_before new at x k (omega arith) ∙ h.before k m;
+  after = λ k m. get_or-set_after new at x k (omega arith) ∙ h.after k (omega arith);
+}
+
+-- the distance of one more color is relaxed
+pub relaxed_more :
+    (entries : List (List ℕ)) (codes squares indices : List ℕ) (from at : ℕ) (near : NearestEntry)
+    → at < length squares → at < length indices → AreRelaxedIn entries codes squares indices from at
+    → IsNearestEntry entries (color_of (get_or codes at 0)) near
+    → AreRelaxedIn entries codes (set squares at near.squared) (set indices at near.index) from
+    (at + 1)
+relaxed_more entries codes squares indices from at near l m before here = λ k f t c.
+    ⊎_elim (λ b.
+    rw (get_or-set_before squares at near.squared k b, get_or-set_before indices at near.index k b)
+    (before k f b c))
+    (λ b.
+    let e : k ≡ at = omega arith in
+    rw (e, get_or-set_same squares at near.squared 0 l, get_or-set_same indices at near.index 0 m)
+    here)
+    (cases_lt k at)
+
+-- the greatest of one more
+pub greatest_more : (squares : List ℕ) (from at greatest x : ℕ) → from ≤ at → at < length squares
+    → IsGreatestOf squares from at greatest
+    → IsGreatestOf (set squares at x) from (at + 1) (max x greatest)
+greatest_more squares from at greatest x f l h =
+    let here = get_or-set_same squares at x 0 l in
+    record {
+      upper = λ k m t.
+          ⊎_elim (λ b. omega (arith, get_or-set_before squares at x k b, h.upper k m b))
+          (λ (b : at ≤ k). let e : k ≡ at = omega arith in rw e (omega (arith, here)))
+          (cases_lt k at);
+      reached =
+          inr (⊎_elim (λ b.
+          ⊎_elim (λ n. (at, f, omega arith, omega (arith, here, n.1)))
+          (λ r. (
+            r.0,
+            r.1,
+            omega (arith, r.2),
+            omega (arith, get_or-set_before squares at x r.0 r.2, r.3),
+          ))
+          h.reached)
+          (λ b. (at, f, omega arith, omega (arith, here)))
+          (cases_lt x greatest));
+    }
+
+-- the greatest at a cell's positions is that of the cell
+pub greatest_in : (codes squares : List ℕ) (cell end greatest : ℕ)
+    → end ≡ min (length codes) (64 * cell + 64) → 64 * cell < length codes
+    → IsGreatestOf squares (64 * cell) end greatest → IsGreatestIn codes squares cell greatest
+greatest_in codes squares cell end greatest e some h = record {
+  upper = λ k i. h.upper k i.from (omega (arith, i.to, i.within));
+  reached =
+      ⊎_elim (λ n. absurd (omega (arith, n.0)))
+      (λ r. (r.0, record { from = r.1; to = omega (arith, r.2); within = omega (arith, r.2) }, r.3))
+      h.reached;
+}
+
+-- a cell whose numbers stay the same stays the same
+cell_same : (codes squares new : List ℕ) (j : ℕ) (cell : Cell) → IsCell codes squares j cell
+    → ((k : ℕ) → IsInCell codes j k → get_or new k 0 ≡ get_or squares k 0)
+    → IsCell codes new j cell
+cell_same codes squares new j cell h same = record {
+  box = h.box;
+  greatest = record {
+    upper = λ k i. omega (arith, same k i, h.greatest.upper k i);
+    reached = let r = h.greatest.reached in (r.0, r.1, omega (arith, same r.0 r.1, r.2));
+  };
+}
+
+-- the distances of one cell are relaxed
+pub cells_relaxed :
+    (codes squares new : List ℕ) (cells : List Cell) (position greatest : ℕ) (cell : Cell)
+    → position < length cells → AreCells codes squares cells → IsSameOutside position squares new
+    → IsCell codes squares position cell → IsGreatestIn codes new position greatest
+    → AreCells codes new (set cells position
+    (record { red = cell.red; green = cell.green; blue = cell.blue; greatest = greatest }))
+cells_relaxed codes squares new cells position greatest cell l h others here relaxed =
+    let made : Cell = record
+    { red = cell.red; green = cell.green; blue = cell.blue; greatest = greatest } in
+    record {
+      all = omega (arith, h.all, length-set cells position made);
+      each = λ j d m.
+          let within : j < length cells = omega (arith, length-set cells position made) in
+          ⊎_elim (λ b.
+          let other : j ≢ position = omega arith in
+          rw (get_or-set_other cells position j made d other)
+          (cell_same codes squares new j (get_or cells j d) (h.each j d within)
+          (λ k i. others k (inl (omega (arith, i.to))))))
+          (λ b.
+          ⊎_elim (λ a.
+          let other : j ≢ position = omega arith in
+          rw (get_or-set_other cells position j made d other)
+          (cell_same codes squares new j (get_or cells j d) (h.each j d within)
+          (λ k i. others k (inr (omega (arith, i.from))))))
+          (λ a.
+          let e : j ≡ position = omega arith in
+          rw (e, get_or-set_same cells position made d l)
+          (record {
+            box = λ k i.
+                let box = here.box k i in
+                record { red = box.red; green = box.green; blue = box.blue };
+            greatest = relaxed;
+          }))
+          (cases_lt position j))
+          (cases_lt j position);
+    }
+
+-- the colors so far and those of one more cell
+pub relaxed_cell : (entries : List (List ℕ)) (codes squares new indices moved : List ℕ)
+    (position : ℕ)
+    → AreRelaxedIn entries codes squares indices 0 (64 * position)
+    → IsSameOutside position squares new
+    → IsSameOutside position indices moved → AreNearestIn entries codes new moved position
+    → AreRelaxedIn entries codes new moved 0 (64 * (position + 1))
+relaxed_cell entries codes squares new indices moved position before others also here =
+    λ k f t within.
+    ⊎_elim (λ b. rw (others k (inl b), also k (inl b)) (before k f b within))
+    (λ b. here k (record { from = b; to = omega arith; within = within }))
+    (cases_lt k (64 * position))
+
+-- the numbers after one more cell are the old ones
+pub old_cell : (old new next : List ℕ) (position : ℕ) → AreOld old new 0 (64 * position)
+    → IsSameOutside position new next → AreOld old next 0 (64 * (position + 1))
+old_cell old new next position h others = record {
+  before = λ k l. absurd (omega arith);
+  after = λ k l. others k (inr (omega arith)) ∙ h.after k (omega arith);
+}
+
+-- the nearest entries of a cell that was not written to
+pub nearest_still : (entries : List (List ℕ)) (codes old squares first indices : List ℕ)
+    (position : ℕ)
+    → AreOld old squares 0 (64 * position) → AreOld first indices 0 (64 * position)
+    → AreNearest entries codes old first → AreNearestIn entries codes squares indices position
+nearest_still entries codes old squares first indices position h g kept k i =
+    rw (h.after k i.from, g.after k i.from) (kept k i.within)
+
+-- a cell whose box is far enough: the new entry is no nearer
+pub nearest_far :
+    (entries : List (List ℕ)) (color codes squares indices : List ℕ) (position : ℕ) (cell : Cell)
+    → IsCell codes squares position cell
+    → ((c : List ℕ) → IsInBox cell c → cell.greatest ≤ distance color c)
+    → AreNearestIn entries codes squares indices position
+    → AreNearestIn (entries ++ color ∷ []) codes squares indices position
+nearest_far entries color codes squares indices position cell h box kept k i =
+    near_kept entries color (color_of (get_or codes k 0)) (nearest_at squares indices k)
+    (omega (arith, h.greatest.upper k i, box (color_of (get_or codes k 0)) (h.box k i))) (kept k i)

@@ -1,0 +1,16 @@
+use Rattle.std.proofs.Common.{◌≡◌, ◌/◌, get_or, ap, arith}
+use Rattle.sixel_palette.specs.inside.PaletteCodes.{color_of}
+use Rattle.sixel_palette.proofs.PaletteFarthest.{nearest_from_entry}
+use Rattle.sixel_palette.proofs.palette.indices.LookUp.opaque_index_of.Goals as goal
+
+pub returns : goal.returns
+returns c = λ entries squares near below.
+    let code = c.args.word / 256 in
+    let same : color_of (get_or c.args.self.now.codes.now c.position_of.result 0) ≡ color_of code =
+    ap color_of c.position_of.ensures.position in
+    record {
+      opaque = λ o.
+          nearest_from_entry entries (color_of code) _ below
+          (rw same at (near c.position_of.result c.position_of.ensures.within));
+      hidden = λ l. absurd (omega (arith, l, c.requires.opaque));
+    }

@@ -1,0 +1,61 @@
+//! Squared distances of colors: sums of the squared differences of their channels.
+
+ghost use Rattle.std.specs.Prelude.{◌≡◌, ◌*◌, ◌<◌, ◌≤◌, ◌↔◌, ℕ, List, All, IsTrue};
+ghost use Rattle.std.specs.Int.{abs_diff};
+ghost use Rattle.sixel_palette.specs.Palette.{distance, no_entry};
+ghost use Rattle.sixel_palette.specs.inside.PaletteCodes.{color_of, code_count};
+
+/// The squared distance of two colors.
+#[tactic(auto, unfolding(crate::specs::Palette::distance, crate::specs::Palette::square_gap))]
+pub fn distance(a: [u8; 3], b: [u8; 3]) -> u32
+    ensures value { result ≡ distance a b }
+    ensures small { result < no_entry }
+{
+    square_gap(a[0], b[0]) + square_gap(a[1], b[1]) + square_gap(a[2], b[2])
+}
+
+/// The square of the difference of two channels.
+fn square_gap(a: u8, b: u8) -> u32
+    ensures value { result ≡ abs_diff a b * abs_diff a b }
+    ensures small { result ≤ 65025 }
+{
+    let gap = u32::from(a.abs_diff(b));
+    gap * gap
+}
+
+/// Returns whether a color has at least this squared distance to each other one.
+pub fn is_apart_from(color: [u8; 3], others: &[[u8; 3]], least: u32) -> bool
+    ensures { IsTrue result ↔ All (λ p. least ≤ distance p color) others.now }
+{
+    for position in 0..others.len() {
+        if distance(others[position], color) < least {
+            return false;
+        }
+    }
+    true
+}
+
+/// The squared distance of a code's color to another one, without a branch.
+#[inline(always)]
+pub fn distance_to(code: u32, color: [u8; 3]) -> u32
+    requires { code < code_count }
+    ensures value { result ≡ distance color (color_of code) }
+    ensures small { result < no_entry }
+{
+    let red = wrapped_gap(u32::from(color[0]), code / 65536);
+    let green = wrapped_gap(u32::from(color[1]), code / 256 % 256);
+    let blue = wrapped_gap(u32::from(color[2]), code % 256);
+    red + green + blue
+}
+
+/// The square of the difference of two channels, by arithmetic that wraps.
+#[inline(always)]
+pub fn wrapped_gap(a: u32, b: u32) -> u32
+    requires first { a < 256 }
+    requires second { b < 256 }
+    ensures value { result ≡ abs_diff a b * abs_diff a b }
+    ensures small { result ≤ 65025 }
+{
+    let gap = a.wrapping_sub(b);
+    gap.wrapping_mul(gap)
+}
