@@ -7,6 +7,7 @@ use Rattle.std.specs.List.{slice_split, onto_first}
 use Rattle.std.specs.Char.{digit_value}
 use Rattle.std.proofs.lemmas.List.Splits.{length-slice_split}
 use Rattle.std.proofs.lemmas.Int.Digits.{digits_value_push}
+use Rattle.sixel_base.specs.Limits.{parameter_limit}
 use Rattle.sixel_base.specs.Fields.{fields, field, parameter}
 
 -- the pieces, of which the last goes on by an element
@@ -23,7 +24,7 @@ on_last f (n ∷ m ∷ ns) = n ∷ on_last f (m ∷ ns)
 
 -- a value and a digit more
 abbrev pub raised : ℕ → ℕ → ℕ
-raised byte n = min (n * 10 + (byte - 48)) 2147483647
+raised byte n = min (n * 10 + (byte - 48)) parameter_limit
 
 -- the first and the last piece go on apart from each other
 onto_last-onto_first : (x y : ℕ) (ps : List (List ℕ))

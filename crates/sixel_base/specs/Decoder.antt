@@ -5,7 +5,7 @@ use Rattle.std.specs.Prelude.{ℕ, ◌≡◌, min, max, false}
 use Rattle.sixel_base.specs.Settings.{Settings}
 use Rattle.sixel_base.specs.Color.{default_registers}
 use Rattle.sixel_base.specs.Stroke.{Origin}
-use Rattle.sixel_base.specs.Payload.{area_limit}
+use Rattle.sixel_base.specs.Limits.{area_limit}
 use Rattle.sixel_base.specs.declared.state.DecoderState.{DecoderState}
 
 -- the limit that a host gets who asks for so many pixels: at least one, at most the limit of a new
@@ -15,8 +15,11 @@ limit_of pixels = max 1 (min pixels area_limit)
 
 -- a decoder of which no call was made
 abbrev pub new_decoder : DecoderState
-new_decoder = record
-    { registers = default_registers; raster_crop = false; pixel_limit = area_limit }
+new_decoder = record {
+  registers = default_registers;
+  raster_crop = false;
+  pixel_limit = area_limit;
+}
 
 -- what a picture with these settings begins from
 abbrev pub origin_of : DecoderState → Settings → Origin

@@ -1,8 +1,9 @@
 -- The header of a control string: what stands between its introducer and its `q`. Digits,
 -- semicolons and ignored controls are read as up to three parameters: P1, P2 and P3 of DEC's sixel
--- control string, each at most 65535 here.
+-- control string, each at most `header_limit` here.
 use Rattle.std.specs.Prelude.{ℕ, ◌==◌, nat_lt, min, Bool, ◌||◌, if◌then◌else◌, List, [], ◌∷◌}
 use Rattle.std.specs.Prelude.{length, Option, Some, None}
+use Rattle.sixel_base.specs.Limits.{header_limit}
 use Rattle.sixel_base.specs.Fault.{Fault, Malformed, BadHeader}
 use Rattle.sixel_base.specs.Bytes.{is_parameter, is_ignored, is_terminator, carrying}
 use Rattle.sixel_base.specs.Fields.{fields, field}
@@ -29,7 +30,7 @@ header_text bytes = carrying (header_front bytes)
 -- a parameter, where there is one
 abbrev pub header_field : List ℕ → ℕ → Option ℕ
 header_field text k =
-    if nat_lt k (length (fields text)) then Some (min (field text k) 65535) else None
+    if nat_lt k (length (fields text)) then Some (min (field text k) header_limit) else None
 
 abbrev pub settings_of : List ℕ → Settings
 settings_of text = record {

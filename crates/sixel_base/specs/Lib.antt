@@ -1,3 +1,4 @@
+pub mod Limits
 pub mod Fault
 pub mod Size
 pub mod Settings

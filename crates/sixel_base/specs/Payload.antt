@@ -4,6 +4,8 @@
 use Rattle.std.specs.Prelude.{ℕ, Bool, ◌+◌, ◌*◌, nat_lt, ◌&&◌, ◌||◌, if◌then◌else◌, List, [], ◌∷◌}
 use Rattle.std.specs.Prelude.{Option, Some, None, is_none}
 use Rattle.std.specs.Option.{option_or}
+use Rattle.sixel_base.specs.Limits.{side_limit, repeat_limit}
+pub use Rattle.sixel_base.specs.Limits.{area_limit}
 use Rattle.sixel_base.specs.declared.settings.BackgroundMode.{BackgroundMode}
 use Rattle.sixel_base.specs.declared.settings.PixelAspectRatio.{PixelAspectRatio}
 use Rattle.sixel_base.specs.Settings.{mode_of, ratio_of}
@@ -16,27 +18,24 @@ use Rattle.sixel_base.specs.History.{History, history_of}
 use Rattle.sixel_base.specs.Place.{span, across, down, width, height, raster_height}
 use Rattle.sixel_base.specs.Stroke.{Origin, pixel, ratio, registers}
 
--- the greatest area of a picture, in pixels: a host may choose a lower one
-abbrev pub area_limit : ℕ
-area_limit = 67108864
-
 -- a picture whose area is above the limit
 abbrev pub area_fault : ℕ → History → Option Fault
 area_fault limit history =
     if nat_lt limit (width history * height history) then Some TooLarge else None
 
--- A side above a million comes before the area that it makes.
+-- A side above the limit comes before the area that it makes.
 abbrev pub extent_fault : ℕ → ℕ → ℕ → History → Option Fault
 extent_fault limit right lower history =
-    if nat_lt 1000000 right || nat_lt 1000000 lower then Some Malformed
+    if nat_lt side_limit right || nat_lt side_limit lower then Some Malformed
     else area_fault limit history
 
--- what is wrong with a token, after these: a repeat above 65535; raster attributes or a sixel that
--- reach too far; more new lines than a row number holds
+-- what is wrong with a token, after these: a repeat above the limit; raster attributes or a sixel
+-- that reach too far; more new lines than a row number holds
 abbrev pub fault_of : ℕ → Token → History → Option Fault
 fault_of limit (Sixel bits) older =
     extent_fault limit (across older + span older) (down older + 6) (Sixel bits ∷ older)
-fault_of limit (Repeat text) older = if nat_lt 65535 (field text 0) then Some Malformed else None
+fault_of limit (Repeat text) older =
+    if nat_lt repeat_limit (field text 0) then Some Malformed else None
 fault_of limit (Raster text) older =
     extent_fault limit (field text 2) (field text 3) (Raster text ∷ older)
 fault_of limit (Color text) older = None

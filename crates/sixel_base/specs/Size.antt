@@ -4,6 +4,7 @@
 use Rattle.std.specs.Prelude.{ℕ, ◌+◌, ◌*◌, ◌/◌, ◌==◌, nat_lt, ◌||◌, if◌then◌else◌, Option, Some}
 use Rattle.std.specs.Prelude.{None, Result, Ok, Err}
 use Rattle.std.specs.Option.{option_or}
+use Rattle.sixel_base.specs.Limits.{side_limit, area_limit}
 use Rattle.sixel_base.specs.declared.error.SixelError.{SixelError}
 use Rattle.sixel_base.specs.declared.error.SixelError.TheVariants.{InvalidDimensions}
 use Rattle.sixel_base.specs.declared.error.SixelError.TheVariants.{BufferSizeMismatch}
@@ -27,8 +28,8 @@ size_fault width height =
 -- a side or an area above the limits
 abbrev pub limit_fault : ℕ → ℕ → Option SixelError
 limit_fault width height =
-    if nat_lt 1000000 width || nat_lt 1000000 (banded height)
-    || nat_lt 67108864 (width * banded height)
+    if nat_lt side_limit width || nat_lt side_limit (banded height)
+    || nat_lt area_limit (width * banded height)
     then Some (InvalidDimensions width height)
     else None
 

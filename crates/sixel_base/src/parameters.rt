@@ -2,6 +2,7 @@
 
 ghost use Rattle.std.specs.Prelude.{◌≡◌, ℕ, ◌+◌, ◌*◌, ◌<◌, ◌≤◌, min};
 ghost use Rattle.std.specs.Prelude.{List, [], ◌∷◌, ◌++◌, length, slice_index, take};
+ghost use Rattle.sixel_base.specs.Limits.{parameter_limit};
 ghost use Rattle.sixel_base.specs.inside.Parameters.{AreRead, IsDigit, IsParameterByte, Keeps};
 
 use std::marker::Model;
@@ -12,16 +13,16 @@ pub const KEPT_FIELDS: usize = 5;
 /// The byte between two fields.
 pub const SEPARATOR: u8 = b';';
 
-// The greatest value of a field, which stands for any greater one.
+/// The greatest value of a field, which stands for any greater one.
 const MAX_VALUE: u64 = 2_147_483_647;
 
-// A value to which any digit can be added, and that no command needs more of.
+/// A value that any digit can be added to; no command needs more.
 const ENOUGH: u32 = 100_000_000;
 
 /// The fields of a text of digits and semicolons, of which the first five are kept.
 ///
 /// The text is split at each semicolon. An empty piece is 0, and any other piece the lesser of its
-/// decimal value and 2147483647. A text of no bytes has no field.
+/// decimal value and `MAX_VALUE`. A text of no bytes has no field.
 #[derive(Clone, Copy)]
 pub struct Parameters {
     values: [u32; KEPT_FIELDS],
@@ -156,7 +157,7 @@ impl Parameters {
 // The value of a field that goes on with this digit.
 fn with_digit(value: u32, digit: u8) -> u32
     requires { digit < 10 }
-    ensures { result ≡ min (value * 10 + digit) 2147483647 }
+    ensures { result ≡ min (value * 10 + digit) parameter_limit }
 {
     (u64::from(value) * 10 + u64::from(digit)).min(MAX_VALUE) as u32
 }

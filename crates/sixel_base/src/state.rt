@@ -1,6 +1,7 @@
 //! What a decoder keeps from one image to the next.
 
 ghost use Rattle.std.specs.Prelude.{◌≡◌, ◌≤◌};
+ghost use Rattle.sixel_base.specs.Limits.{area_limit};
 ghost use Rattle.sixel_base.specs.Decoder.{limit_of, new_decoder};
 
 use crate::limits::MAX_AREA;
@@ -15,6 +16,7 @@ pub struct PixelLimit {
 
 impl Model for PixelLimit {
     ghost use Rattle.std.specs.Prelude.{ℕ, ◌≤◌};
+    ghost use Rattle.sixel_base.specs.Limits.{area_limit};
 
     ghost Value = { ℕ };
 
@@ -22,7 +24,7 @@ impl Model for PixelLimit {
 
     ghost inverse = { λ pixels. record { pixels = pixels } };
 
-    ghost invariant = { λ limit. (1 ≤ limit.pixels) × (limit.pixels ≤ 67108864) };
+    ghost invariant = { λ limit. (1 ≤ limit.pixels) × (limit.pixels ≤ area_limit) };
 }
 
 impl PixelLimit {
@@ -39,7 +41,7 @@ impl PixelLimit {
     pub fn pixels(self) -> usize
         ensures value { result ≡ self }
         ensures some { 1 ≤ self }
-        ensures within { self ≤ 67108864 }
+        ensures within { self ≤ area_limit }
     {
         self.pixels
     }

@@ -1,6 +1,7 @@
 //! The text of an image whose colors are chosen.
 
 ghost use Rattle.std.specs.Prelude.{◌≡◌, ◌+◌, ◌*◌, ◌<◌, ◌≤◌, ◌++◌, ℕ, IfOk, OnOk, string_bytes, length};
+ghost use Rattle.sixel_base.specs.Limits.{side_limit};
 ghost use Rattle.sixel_base.specs.Picture.{joined};
 ghost use Rattle.sixel_encoder.specs.Text.{percent, color_definition, parameters_text, raster_text};
 ghost use Rattle.sixel_encoder.specs.Text.{palette_text, entry_text, band_text, bands_text, text_of};
@@ -51,7 +52,7 @@ const ROOM: usize = 2 * 1024 * 1024;
 
 /// How many entries have their rows at once: as many as there is room for, and at least one.
 fn entries_at_once(width: usize, entries: usize) -> usize
-    requires { width ≤ 1000000 }
+    requires { width ≤ side_limit }
     ensures some { 0 < result }
     ensures few { 0 < entries → result ≤ entries }
     ensures room { result * (width + 1) ≤ 2097152 }

@@ -76,8 +76,10 @@ box_from_intervals codes cell n red green blue greatest small end r g b k i =
     interval_of_part codes (64 * cell) n 1 blue (omega arith) b k i.from
     (omega (arith, i.to, i.within)) in
     record {
-      red = record
-          { low = omega (arith, in_red.low, code); high = omega (arith, in_red.high, code) };
+      red = record {
+        low = omega (arith, in_red.low, code);
+        high = omega (arith, in_red.high, code);
+      };
       green = record { low = omega (arith, in_green.low); high = omega (arith, in_green.high) };
       blue = record { low = omega (arith, in_blue.low); high = omega (arith, in_blue.high) };
     }

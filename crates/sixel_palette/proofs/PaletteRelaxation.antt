@@ -126,8 +126,12 @@ pub cells_relaxed :
     → AreCells codes new (set cells position
     (record { red = cell.red; green = cell.green; blue = cell.blue; greatest = greatest }))
 cells_relaxed codes squares new cells position greatest cell l h others here relaxed =
-    let made : Cell = record
-    { red = cell.red; green = cell.green; blue = cell.blue; greatest = greatest } in
+    let made : Cell = record {
+      red = cell.red;
+      green = cell.green;
+      blue = cell.blue;
+      greatest = greatest;
+    } in
     record {
       all = omega (arith, h.all, length-set cells position made);
       each = λ j d m.

@@ -2,6 +2,7 @@
 -- A pixel whose alpha is at least 128 is shown, and has that entry; any other is hidden and has none.
 use Rattle.std.specs.Prelude.{◌≡◌, ℕ, ◌+◌, ◌*◌, ◌<◌, ◌≤◌, nat_le, if◌then◌else◌, List, length, map, slice_index, Option, Some, None}
 use Rattle.std.specs.List.{range_with_len}
+use Rattle.sixel_base.specs.Limits.{side_limit}
 use Rattle.sixel_encoder.specs.declared.text.IndexedImage.{IndexedImage}
 use Rattle.sixel_encoder.specs.Text.{Drawing}
 
@@ -27,8 +28,8 @@ drawing_of image = record {
 
 -- The sizes are within the encoder's limits, the lists are as long as the sizes ask for, and a shown pixel has an entry of the palette.
 pub record IsIndexed (image : IndexedImage) : Type 0 where
-  pub wide : image.width ≤ 1000000
-  pub high : image.height ≤ 1000000
+  pub wide : image.width ≤ side_limit
+  pub high : image.height ≤ side_limit
   pub colors : length image.colors.now ≤ 256
   pub pixels : length image.pixels.now ≡ 4 * (image.width * image.height)
   pub indices : length image.indices.now ≡ image.width * image.height

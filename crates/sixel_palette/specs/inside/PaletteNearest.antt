@@ -18,8 +18,10 @@ pub record IsNearestEntry (entries : List (List ℕ)) (c : List ℕ) (near : Nea
 
 -- the nearest entry in two lists of the color at a position
 abbrev pub nearest_at : List ℕ → List ℕ → ℕ → NearestEntry
-nearest_at squares indices k = record
-    { squared = slice_index squares k; index = slice_index indices k }
+nearest_at squares indices k = record {
+  squared = slice_index squares k;
+  index = slice_index indices k;
+}
 
 -- the two lists are those of the nearest entries of the colors of a list of codes
 abbrev pub AreNearest : List (List ℕ) → List ℕ → List ℕ → List ℕ → Type 0

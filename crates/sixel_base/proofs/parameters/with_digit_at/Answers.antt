@@ -2,6 +2,7 @@ use Rattle.std.proofs.Common.{ℕ, ◌≡◌, ◌+◌, ◌-◌, ◌*◌, min, []
 use Rattle.std.proofs.Common.{inl, inr, arith}
 use Rattle.std.proofs.lemmas.Bool.{cases_lt}
 use Rattle.std.proofs.lemmas.List.{take_more}
+use Rattle.sixel_base.specs.Limits.{parameter_limit}
 use Rattle.sixel_base.specs.inside.Parameters.{Parameters, AreRead, IsDigit, Keeps}
 use Rattle.sixel_base.proofs.KeptFields.{Keeps-push_digit_kept}
 use Rattle.sixel_base.proofs.parameters.with_digit_at.Goals as goal
@@ -21,7 +22,7 @@ returns-then-digit-lt10-clause-read c = λ read.
     let next = 10 * value + c.from-digit.result in
     let old : Parameters = record { values = value ∷ 0 ∷ 0 ∷ 0 ∷ 0 ∷ []; count = min at 1 } in
     let new : Parameters = record { values = next ∷ 0 ∷ 0 ∷ 0 ∷ 0 ∷ []; count = min (at + 1) 1 } in
-    let worth : next ≡ min (value * 10 + (byte - 48)) 2147483647 =
+    let worth : next ≡ min (value * 10 + (byte - 48)) parameter_limit =
     omega (
       arith,
       c.from-digit.ensures,

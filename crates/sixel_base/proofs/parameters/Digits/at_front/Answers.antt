@@ -17,8 +17,10 @@ digits-preserved c =
     grind (arith, c.if-is_ascii_digit.true, c.is_ascii_digit.ensures.value) in
     let next = 10 * value + c.from.result in
     let old : Parameters = record { values = value ∷ 0 ∷ 0 ∷ 0 ∷ 0 ∷ []; count = min len 1 } in
-    let new : Parameters = record
-    { values = next ∷ 0 ∷ 0 ∷ 0 ∷ 0 ∷ []; count = min (len + 1) 1 } in (
+    let new : Parameters = record {
+      values = next ∷ 0 ∷ 0 ∷ 0 ∷ 0 ∷ [];
+      count = min (len + 1) 1;
+    } in (
       (
         omega (arith, c.digits-test.true),
         λ k lt. elim (cases_lt k len) [

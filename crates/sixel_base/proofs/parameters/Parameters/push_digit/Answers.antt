@@ -10,8 +10,10 @@ returns c =
     let inside = c.self.inside in
     let joined = c.if-last-lt-KEPT_FIELDS in
     let old : Parameters = record { values = inside.values; count = inside.count } in
-    let new : Parameters = record
-    { values = joined.self-inside.values; count = c.max-self-inside.result } in
+    let new : Parameters = record {
+      values = joined.self-inside.values;
+      count = c.max-self-inside.result;
+    } in
     λ text keeps.
     let keeps_old = rw (← c.self.view_is) at keeps in
     elim joined.branch [

@@ -40,39 +40,59 @@ returns-else-are_opaque c = λ entries squares k near l.
 pub opaque_index_of-requires : goal.opaque_index_of-requires
 opaque_index_of-requires c =
     let opaque = c.are_opaque.ensures c.if-are_opaque.true 0 (omega arith) in
-    record
-    { whole = c.requires.whole; opaque = opaque; listed = c.requires.listed 0 (omega arith) opaque }
+    record {
+      whole = c.requires.whole;
+      opaque = opaque;
+      listed = c.requires.listed 0 (omega arith) opaque;
+    }
 
 pub opaque_index_of-requires-then-are_opaque : goal.opaque_index_of-requires-then-are_opaque
 opaque_index_of-requires-then-are_opaque c =
     let opaque = c.are_opaque.ensures c.if-are_opaque.true 1 (omega arith) in
-    record
-    { whole = c.requires.whole; opaque = opaque; listed = c.requires.listed 1 (omega arith) opaque }
+    record {
+      whole = c.requires.whole;
+      opaque = opaque;
+      listed = c.requires.listed 1 (omega arith) opaque;
+    }
 
 pub opaque_index_of-requires-then-are_opaque-2 : goal.opaque_index_of-requires-then-are_opaque-2
 opaque_index_of-requires-then-are_opaque-2 c =
     let opaque = c.are_opaque.ensures c.if-are_opaque.true 2 (omega arith) in
-    record
-    { whole = c.requires.whole; opaque = opaque; listed = c.requires.listed 2 (omega arith) opaque }
+    record {
+      whole = c.requires.whole;
+      opaque = opaque;
+      listed = c.requires.listed 2 (omega arith) opaque;
+    }
 
 pub opaque_index_of-requires-then-are_opaque-3 : goal.opaque_index_of-requires-then-are_opaque-3
 opaque_index_of-requires-then-are_opaque-3 c =
     let opaque = c.are_opaque.ensures c.if-are_opaque.true 3 (omega arith) in
-    record
-    { whole = c.requires.whole; opaque = opaque; listed = c.requires.listed 3 (omega arith) opaque }
+    record {
+      whole = c.requires.whole;
+      opaque = opaque;
+      listed = c.requires.listed 3 (omega arith) opaque;
+    }
 
 pub index_of-requires : goal.index_of-requires
-index_of-requires c = record
-    { whole = c.requires.whole; listed = c.requires.listed 0 (omega arith) }
+index_of-requires c = record {
+  whole = c.requires.whole;
+  listed = c.requires.listed 0 (omega arith);
+}
 
 pub index_of-requires-else-are_opaque : goal.index_of-requires-else-are_opaque
-index_of-requires-else-are_opaque c = record
-    { whole = c.requires.whole; listed = c.requires.listed 1 (omega arith) }
+index_of-requires-else-are_opaque c = record {
+  whole = c.requires.whole;
+  listed = c.requires.listed 1 (omega arith);
+}
 
 pub index_of-requires-else-are_opaque-2 : goal.index_of-requires-else-are_opaque-2
-index_of-requires-else-are_opaque-2 c = record
-    { whole = c.requires.whole; listed = c.requires.listed 2 (omega arith) }
+index_of-requires-else-are_opaque-2 c = record {
+  whole = c.requires.whole;
+  listed = c.requires.listed 2 (omega arith);
+}
 
 pub index_of-requires-else-are_opaque-3 : goal.index_of-requires-else-are_opaque-3
-index_of-requires-else-are_opaque-3 c = record
-    { whole = c.requires.whole; listed = c.requires.listed 3 (omega arith) }
+index_of-requires-else-are_opaque-3 c = record {
+  whole = c.requires.whole;
+  listed = c.requires.listed 3 (omega arith);
+}

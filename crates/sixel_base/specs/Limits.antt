@@ -1,0 +1,22 @@
+-- The limits of the format, as this library sets them.
+use Rattle.std.specs.Prelude.{ℕ}
+
+-- the greatest width, height, edge of a sixel and raster size, in pixels
+abbrev pub side_limit : ℕ
+side_limit = 1000000
+
+-- the greatest area of an image, in pixels: a host may choose a lower one
+abbrev pub area_limit : ℕ
+area_limit = 67108864
+
+-- the greatest count of a repeat introducer
+abbrev pub repeat_limit : ℕ
+repeat_limit = 65535
+
+-- the greatest value of a command's parameter, which greater ones are read as
+abbrev pub parameter_limit : ℕ
+parameter_limit = 2147483647
+
+-- the greatest value of a header's parameter, which greater ones are read as
+abbrev pub header_limit : ℕ
+header_limit = 65535
