@@ -1,5 +1,7 @@
--- A line's dots in the rows of some entries: what a pixel adds there, and a step past those that add none.
-use Rattle.std.proofs.Common.{◌≡◌, ◌≢◌, ℕ, ◌+◌, ◌-◌, ◌*◌, ◌<◌, ◌≤◌, nat_lt, cond, List, get_or, ap, sym, ◌∙◌, inl, inr, arith, Some}
+-- A line's dots in the rows of some entries: what a pixel adds there, and a step past those that
+-- add none.
+use Rattle.std.proofs.Common.{◌≡◌, ◌≢◌, ℕ, ◌+◌, ◌-◌, ◌*◌, ◌<◌, ◌≤◌, nat_lt, cond, List, get_or, ap}
+use Rattle.std.proofs.Common.{sym, ◌∙◌, inl, inr, arith, Some}
 use Rattle.std.proofs.lemmas.Bool.{cases_eq, cases_lt}
 use Rattle.std.proofs.lemmas.Bool.Decides.{nat_tests}
 use Rattle.sixel_encoder.specs.inside.Indexed.{entry_of}
@@ -7,31 +9,44 @@ use Rattle.sixel_encoder.specs.inside.Grid.{dot_at, pixel_bit}
 use Rattle.sixel_encoder.proofs.Drawn.{entry_of-shown, entry_of-hidden}
 
 -- a pixel of another entry adds nothing
-pub pixel_bit-other : (pixels indices : List ℕ) (weight entry pixel : ℕ) → get_or indices pixel 0 ≢ entry → pixel_bit weight entry (entry_of pixels indices pixel) ≡ 0
+pub pixel_bit-other : (pixels indices : List ℕ) (weight entry pixel : ℕ)
+    → get_or indices pixel 0 ≢ entry → pixel_bit weight entry (entry_of pixels indices pixel) ≡ 0
 pixel_bit-other pixels indices weight entry pixel other =
     elim (cases_lt (get_or pixels (4 * pixel + 3) 0) 128) [
       | inl hidden ↦ ap (pixel_bit weight entry) (entry_of-hidden pixels indices pixel hidden)
       | inr shown ↦
-          let none : pixel_bit weight entry (Some (get_or indices pixel 0)) ≡ 0 = grind (arith, nat_tests) in
+          let none : pixel_bit weight entry (Some (get_or indices pixel 0)) ≡ 0 =
+          grind (arith, nat_tests) in
           ap (pixel_bit weight entry) (entry_of-shown pixels indices pixel shown) ∙ none
     ]
 
 -- a hidden pixel adds nothing
-pub pixel_bit-hidden : (pixels indices : List ℕ) (weight entry pixel : ℕ) → get_or pixels (4 * pixel + 3) 0 < 128 → pixel_bit weight entry (entry_of pixels indices pixel) ≡ 0
-pixel_bit-hidden pixels indices weight entry pixel hidden = ap (pixel_bit weight entry) (entry_of-hidden pixels indices pixel hidden)
+pub pixel_bit-hidden : (pixels indices : List ℕ) (weight entry pixel : ℕ)
+    → get_or pixels (4 * pixel + 3) 0 < 128
+    → pixel_bit weight entry (entry_of pixels indices pixel) ≡ 0
+pixel_bit-hidden pixels indices weight entry pixel hidden =
+    ap (pixel_bit weight entry) (entry_of-hidden pixels indices pixel hidden)
 
 -- a shown pixel adds a dot to the row of its entry
-pub pixel_bit-dot : (pixels indices : List ℕ) (weight first entry column pixel e : ℕ) → 128 ≤ get_or pixels (4 * pixel + 3) 0 → entry ≡ get_or indices pixel 0 → first ≤ entry → dot_at weight (entry - first) column e column ≡ pixel_bit weight (first + e) (entry_of pixels indices pixel)
+pub pixel_bit-dot : (pixels indices : List ℕ) (weight first entry column pixel e : ℕ)
+    → 128 ≤ get_or pixels (4 * pixel + 3) 0 → entry ≡ get_or indices pixel 0 → first ≤ entry
+    → dot_at weight (entry - first) column e column
+    ≡ pixel_bit weight (first + e) (entry_of pixels indices pixel)
 pixel_bit-dot pixels indices weight first entry column pixel e shown is from =
-    let some : dot_at weight (entry - first) column e column ≡ pixel_bit weight (first + e) (Some entry) = grind (arith, nat_tests) in
-    some ∙ ap (λ k. pixel_bit weight (first + e) (Some k)) is ∙ ap (pixel_bit weight (first + e)) (sym (entry_of-shown pixels indices pixel shown))
+    let some : dot_at weight (entry - first) column e column
+    ≡ pixel_bit weight (first + e) (Some entry) = grind (arith, nat_tests) in
+    some ∙ ap (λ k. pixel_bit weight (first + e) (Some k)) is
+    ∙ ap (pixel_bit weight (first + e)) (sym (entry_of-shown pixels indices pixel shown))
 
 -- and to no other column
 pub dot_at-other : (weight entry column e x : ℕ) → x ≢ column → dot_at weight entry column e x ≡ 0
 dot_at-other weight entry column e x apart = grind (arith, nat_tests)
 
 -- a column more, and those after it that add nothing
-pub column-more : (bit : ℕ → ℕ) (start was now column n x : ℕ) → was ≡ start + cond (nat_lt x column) (bit x) 0 → (x ≢ column → now ≡ was) → (x ≡ column → now ≡ was + bit column) → (column < x → x < column + (1 + n) → bit x ≡ 0) → now ≡ start + cond (nat_lt x (column + (1 + n))) (bit x) 0
+pub column-more : (bit : ℕ → ℕ) (start was now column n x : ℕ)
+    → was ≡ start + cond (nat_lt x column) (bit x) 0 → (x ≢ column → now ≡ was)
+    → (x ≡ column → now ≡ was + bit column) → (column < x → x < column + (1 + n) → bit x ≡ 0)
+    → now ≡ start + cond (nat_lt x (column + (1 + n))) (bit x) 0
 column-more bit start was now column n x before apart here after =
     elim (cases_eq x column) [
       | inl same ↦ let one = here same in let e = ap bit same in grind (arith, nat_tests)

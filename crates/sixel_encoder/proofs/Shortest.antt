@@ -1,14 +1,20 @@
 -- No list of pieces that spells a row takes fewer bytes than the row's own pieces.
-use Rattle.std.proofs.Common.{◌≡◌, ◌≢◌, ℕ, zero, suc, ◌+◌, ◌*◌, ◌<◌, ◌≤◌, true, false, cond, List, [], ◌∷◌, ◌++◌, length, replicate, refl, ap, sym, ◌∙◌, arith, inl, inr, length-append, append_assoc, ◌/◌, ◌%◌}
+use Rattle.std.proofs.Common.{◌≡◌, ◌≢◌, ℕ, zero, suc, ◌+◌, ◌*◌, ◌<◌, ◌≤◌, true, false, cond, List}
+use Rattle.std.proofs.Common.{[], ◌∷◌, ◌++◌, length, replicate, refl, ap, sym, ◌∙◌, arith, inl, inr}
+use Rattle.std.proofs.Common.{length-append, append_assoc, ◌/◌, ◌%◌}
 use Rattle.std.specs.Prelude.{flat_map, All, decimal, nat_lt}
 use Rattle.std.proofs.Math.Nat.{div-add-mod, mul_comm}
 use Rattle.std.proofs.lemmas.Bool.{cases_eq}
 use Rattle.std.proofs.lemmas.Bool.Decides.{nat_tests}
 use Rattle.std.proofs.lemmas.List.{append-nil, replicate-append-replicate, replicate_more}
 use Rattle.std.proofs.lemmas.List.Concat.{flat_map-append}
-use Rattle.std.proofs.lemmas.List.Elements.{All-head, All-tail, All-cons, All-nil, All-append, All-replicate, All-same}
-use Rattle.sixel_encoder.specs.Pieces.{Piece, One, Many, longest, sixels, spelling, written, cost, IsPiece, Spells, IsShortest, rest_pieces, run_pieces, pieces_after, row_pieces}
-use Rattle.sixel_encoder.proofs.RunCost.{run_cost, run_cut, run_least, run_cost0, run_cost1, cost-append, cost-run}
+use Rattle.std.proofs.lemmas.List.Elements.{All-head, All-tail, All-cons, All-nil, All-append}
+use Rattle.std.proofs.lemmas.List.Elements.{All-replicate, All-same}
+use Rattle.sixel_encoder.specs.Pieces.{Piece, One, Many, longest, sixels, spelling, written, cost}
+use Rattle.sixel_encoder.specs.Pieces.{IsPiece, Spells, IsShortest, rest_pieces, run_pieces}
+use Rattle.sixel_encoder.specs.Pieces.{pieces_after, row_pieces}
+use Rattle.sixel_encoder.proofs.RunCost.{run_cost, run_cut, run_least, run_cost0, run_cost1}
+use Rattle.sixel_encoder.proofs.RunCost.{cost-append, cost-run}
 
 -- the bytes of the pieces of so many equal sixels and a row
 abbrev pub left : ℕ → ℕ → List ℕ → ℕ
@@ -18,16 +24,20 @@ left-nil : (n b : ℕ) → left n b [] ≡ run_cost n
 left-nil n b = cost-run n b
 
 -- a row that goes on with the same sixel
-pub pieces_after-same : (n b c : ℕ) (row : List ℕ) → c ≡ b → pieces_after n b (c ∷ row) ≡ pieces_after (n + 1) b row
+pub pieces_after-same : (n b c : ℕ) (row : List ℕ) → c ≡ b
+    → pieces_after n b (c ∷ row) ≡ pieces_after (n + 1) b row
 pieces_after-same n b c row e = grind (arith, nat_tests)
 
 -- a row that goes on with another sixel
-pub pieces_after-other : (n b c : ℕ) (row : List ℕ) → c ≢ b → pieces_after n b (c ∷ row) ≡ run_pieces n b ++ pieces_after 1 c row
+pub pieces_after-other : (n b c : ℕ) (row : List ℕ) → c ≢ b
+    → pieces_after n b (c ∷ row) ≡ run_pieces n b ++ pieces_after 1 c row
 pieces_after-other n b c row e = grind (arith, nat_tests)
 
 left-other : (n b c : ℕ) (row : List ℕ) → c ≢ b → left n b (c ∷ row) ≡ run_cost n + left 1 c row
 left-other n b c row e =
-    ap cost (pieces_after-other n b c row e) ∙ (cost-append (run_pieces n b) (pieces_after 1 c row) ∙ ap (λ x. x + left 1 c row) (cost-run n b))
+    ap cost (pieces_after-other n b c row e)
+    ∙ (cost-append (run_pieces n b) (pieces_after 1 c row)
+    ∙ ap (λ x. x + left 1 c row) (cost-run n b))
 
 left-same : (n b c : ℕ) (row : List ℕ) → c ≡ b → left n b (c ∷ row) ≡ left (n + 1) b row
 left-same n b c row e = ap cost (pieces_after-same n b c row e)
@@ -39,7 +49,13 @@ left_cut m n b (c ∷ row) =
     elim (cases_eq c b) [
       | inl e ↦
           let shift : m + n + 1 ≡ m + (n + 1) = omega arith in
-          omega (arith, left-same (m + n) b c row e, left-same n b c row e, ap (λ x. left x b row) shift, left_cut m (n + 1) b row)
+          omega (
+            arith,
+            left-same (m + n) b c row e,
+            left-same n b c row e,
+            ap (λ x. left x b row) shift,
+            left_cut m (n + 1) b row,
+          )
       | inr e ↦ omega (arith, left-other (m + n) b c row e, left-other n b c row e, run_cut m n)
     ]
 
@@ -60,28 +76,45 @@ left_run : (k n b : ℕ) (row : List ℕ) → left n b (replicate k b ++ row) �
 left_run zero n b row = ap (λ x. left x b row) (omega arith)
 left_run (suc k) n b row =
     let shift : n + 1 + k ≡ n + suc k = omega arith in
-    left-same n b b (replicate k b ++ row) refl ∙ (left_run k (n + 1) b row ∙ ap (λ x. left x b row) shift)
+    left-same n b b (replicate k b ++ row) refl
+    ∙ (left_run k (n + 1) b row ∙ ap (λ x. left x b row) shift)
 
 left_many : (n b : ℕ) (row : List ℕ) → left 0 0 (replicate n b ++ row) ≤ run_cost n + left 0 0 row
 left_many n b row =
     let zeros : 0 + n ≡ n + 0 = omega arith in
-    omega (arith, left_any 0 b (replicate n b ++ row), left_run n 0 b row, ap (λ x. left x b row) zeros, left_cut n 0 b row, left_any b 0 row)
+    omega (
+      arith,
+      left_any 0 b (replicate n b ++ row),
+      left_run n 0 b row,
+      ap (λ x. left x b row) zeros,
+      left_cut n 0 b row,
+      left_any b 0 row,
+    )
 
 -- the first piece of a spelling takes no fewer bytes than it saves
-left_piece : (piece : Piece) (row : List ℕ) → IsPiece piece → left 0 0 (sixels piece ++ row) ≤ length (spelling piece) + left 0 0 row
+left_piece : (piece : Piece) (row : List ℕ) → IsPiece piece
+    → left 0 0 (sixels piece ++ row) ≤ length (spelling piece) + left 0 0 row
 unfolding sixels
 left_piece (One b) row is = omega (arith, left_many 1 b row, run_cost1)
 left_piece (Many n b) row is =
-    omega (arith, left_many n b row, run_least n is.0 is.1, length-append (decimal n) ((63 + b) ∷ []))
+    omega
+    (arith, left_many n b row, run_least n is.0 is.1, length-append (decimal n) ((63 + b) ∷ []))
 
-left_pieces : (pieces : List Piece) → All IsPiece pieces → left 0 0 (flat_map sixels pieces) ≤ cost pieces
+left_pieces : (pieces : List Piece) → All IsPiece pieces
+    → left 0 0 (flat_map sixels pieces) ≤ cost pieces
 left_pieces [] all = omega (arith, left-nil 0 0, run_cost0)
 left_pieces (piece ∷ pieces) all =
-    omega (arith, left_piece piece (flat_map sixels pieces) (All-head IsPiece piece pieces all), left_pieces pieces (All-tail IsPiece piece pieces all), length-append (spelling piece) (written pieces))
+    omega (
+      arith,
+      left_piece piece (flat_map sixels pieces) (All-head IsPiece piece pieces all),
+      left_pieces pieces (All-tail IsPiece piece pieces all),
+      length-append (spelling piece) (written pieces),
+    )
 
 -- the pieces of a row are a shortest spelling of it
 pub shortest : (row : List ℕ) → IsShortest (row_pieces row) row
-shortest row = λ others spells. omega (arith, left_pieces others spells.each, ap (λ (r : List ℕ). left 0 0 r) spells.joined)
+shortest row = λ others spells.
+    omega (arith, left_pieces others spells.each, ap (λ (r : List ℕ). left 0 0 r) spells.joined)
 
 -- ---- and they spell it
 
@@ -91,7 +124,8 @@ unfolding sixels
 sixels-replicate zero k b = let product : 0 ≡ 0 * k = omega arith in ap (λ x. replicate x b) product
 sixels-replicate (suc n) k b =
     let product : k + n * k ≡ suc n * k = omega arith in
-    ap (λ r. replicate k b ++ r) (sixels-replicate n k b) ∙ (replicate-append-replicate k (n * k) b ∙ ap (λ x. replicate x b) product)
+    ap (λ r. replicate k b ++ r) (sixels-replicate n k b)
+    ∙ (replicate-append-replicate k (n * k) b ∙ ap (λ x. replicate x b) product)
 
 sixels-singly : (n b : ℕ) → flat_map sixels (replicate n (One b)) ≡ replicate n b
 unfolding sixels
@@ -101,15 +135,18 @@ sixels-singly (suc n) b = ap (λ r. b ∷ r) (sixels-singly n b)
 sixels-rest : (n b : ℕ) → flat_map sixels (rest_pieces n b) ≡ replicate n b
 unfolding sixels
 sixels-rest n b =
-    (elim (nat_lt 3 n) as (λ t. flat_map sixels (cond t (Many n b ∷ []) (replicate n (One b))) ≡ replicate n b) [
+    (elim (nat_lt 3 n) as
+    (λ t. flat_map sixels (cond t (Many n b ∷ []) (replicate n (One b))) ≡ replicate n b) [
       | true ↦ append-nil (replicate n b)
       | false ↦ sixels-singly n b
     ])
 
 -- the pieces of a run spell it, whatever the greatest count
-sixels-cut : (n k b : ℕ) → 0 < k → flat_map sixels (replicate (n / k) (Many k b) ++ rest_pieces (n % k) b) ≡ replicate n b
+sixels-cut : (n k b : ℕ) → 0 < k
+    → flat_map sixels (replicate (n / k) (Many k b) ++ rest_pieces (n % k) b) ≡ replicate n b
 sixels-cut n k b h =
-    let whole : (n / k) * k + n % k ≡ n = ap (λ x. x + n % k) (mul_comm (n / k) k) ∙ div-add-mod n k in
+    let whole : (n / k) * k + n % k ≡ n =
+    ap (λ x. x + n % k) (mul_comm (n / k) k) ∙ div-add-mod n k in
     flat_map-append sixels (replicate (n / k) (Many k b)) (rest_pieces (n % k) b)
     ∙ (ap (λ r. r ++ flat_map sixels (rest_pieces (n % k) b)) (sixels-replicate (n / k) k b)
     ∙ (ap (λ r. replicate ((n / k) * k) b ++ r) (sixels-rest (n % k) b)
@@ -118,23 +155,30 @@ sixels-cut n k b h =
 sixels-run : (n b : ℕ) → flat_map sixels (run_pieces n b) ≡ replicate n b
 sixels-run n b = sixels-cut n longest b (omega arith)
 
-sixels-after : (n b : ℕ) (row : List ℕ) → flat_map sixels (pieces_after n b row) ≡ replicate n b ++ row
+sixels-after : (n b : ℕ) (row : List ℕ)
+    → flat_map sixels (pieces_after n b row) ≡ replicate n b ++ row
 sixels-after n b [] = sixels-run n b ∙ sym (append-nil (replicate n b))
 sixels-after n b (c ∷ row) =
     elim (cases_eq c b) [
       | inl e ↦
           ap (λ p. flat_map sixels p) (pieces_after-same n b c row e)
-          ∙ (sixels-after (n + 1) b row ∙ (ap (λ r. r ++ row) (sym (replicate_more n b)) ∙ (append_assoc (replicate n b) (b ∷ []) row ∙ ap (λ x. replicate n b ++ (x ∷ row)) (sym e))))
+          ∙ (sixels-after (n + 1) b row
+          ∙ (ap (λ r. r ++ row) (sym (replicate_more n b))
+          ∙ (append_assoc (replicate n b) (b ∷ []) row
+          ∙ ap (λ x. replicate n b ++ (x ∷ row)) (sym e))))
       | inr e ↦
           ap (λ p. flat_map sixels p) (pieces_after-other n b c row e)
           ∙ (flat_map-append sixels (run_pieces n b) (pieces_after 1 c row)
-          ∙ (ap (λ r. r ++ flat_map sixels (pieces_after 1 c row)) (sixels-run n b) ∙ ap (λ r. replicate n b ++ r) (sixels-after 1 c row)))
+          ∙ (ap (λ r. r ++ flat_map sixels (pieces_after 1 c row)) (sixels-run n b)
+          ∙ ap (λ r. replicate n b ++ r) (sixels-after 1 c row)))
     ]
 
 All-rest_pieces : (n b : ℕ) → n < longest → All IsPiece (rest_pieces n b)
 All-rest_pieces n b h =
-    (elim (nat_lt 3 n) as (λ t. nat_lt 3 n ≡ t → All IsPiece (cond t (Many n b ∷ []) (replicate n (One b)))) [
-      | true ↦ λ is. All-cons IsPiece (Many n b) [] (grind (arith, nat_tests), omega arith) (All-nil IsPiece)
+    (elim (nat_lt 3 n) as
+    (λ t. nat_lt 3 n ≡ t → All IsPiece (cond t (Many n b ∷ []) (replicate n (One b)))) [
+      | true ↦ λ is.
+          All-cons IsPiece (Many n b) [] (grind (arith, nat_tests), omega arith) (All-nil IsPiece)
       | false ↦ λ is. All-replicate IsPiece n (One b) tt
     ]) refl
 
@@ -149,7 +193,9 @@ All-after n b [] = All-run n b
 All-after n b (c ∷ row) =
     elim (cases_eq c b) [
       | inl e ↦ All-same IsPiece _ _ (pieces_after-same n b c row e) (All-after (n + 1) b row)
-      | inr e ↦ All-same IsPiece _ _ (pieces_after-other n b c row e) (All-append IsPiece (run_pieces n b) (pieces_after 1 c row) (All-run n b) (All-after 1 c row))
+      | inr e ↦ All-same IsPiece _ _ (pieces_after-other n b c row e)
+          (All-append IsPiece (run_pieces n b) (pieces_after 1 c row) (All-run n b)
+          (All-after 1 c row))
     ]
 
 -- the pieces of a row spell it

@@ -1,6 +1,8 @@
--- How a row of sixels is written: in pieces, each one sixel or a repeat introducer with a count and a sixel. By DEC's sixel data; that a
--- count is at most 65535, and which of the shortest spellings is written, are this library's own rules.
-use Rattle.std.specs.Prelude.{◌≡◌, ℕ, ◌+◌, ◌/◌, ◌%◌, ◌≤◌, ◌==◌, nat_lt, if◌then◌else◌, List, [], ◌∷◌, ◌++◌, length, replicate, flat_map, All, decimal}
+-- How a row of sixels is written: in pieces, each one sixel or a repeat introducer with a count and
+-- a sixel. By DEC's sixel data; that a count is at most 65535, and which of the shortest spellings
+-- is written, are this library's own rules.
+use Rattle.std.specs.Prelude.{◌≡◌, ℕ, ◌+◌, ◌/◌, ◌%◌, ◌≤◌, ◌==◌, nat_lt, if◌then◌else◌, List, []}
+use Rattle.std.specs.Prelude.{◌∷◌, ◌++◌, length, replicate, flat_map, All, decimal}
 
 -- one sixel by its six bits, or a count of equal sixels
 pub data Piece : Type 0 where
@@ -49,7 +51,8 @@ rest_pieces count bits = if nat_lt 3 count then Many count bits ∷ [] else repl
 
 -- equal sixels, cut from the left into pieces of the greatest count and a rest
 abbrev pub run_pieces : ℕ → ℕ → List Piece
-run_pieces count bits = replicate (count / longest) (Many longest bits) ++ rest_pieces (count % longest) bits
+run_pieces count bits =
+    replicate (count / longest) (Many longest bits) ++ rest_pieces (count % longest) bits
 
 -- the pieces of so many equal sixels and the row after them
 abbrev pub pieces_after : ℕ → ℕ → List ℕ → List Piece

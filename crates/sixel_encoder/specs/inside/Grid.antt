@@ -1,6 +1,9 @@
--- What the encoder keeps of one band: the sixels of some entries from a first one on, entry after entry, and which of them have a dot. This is
--- the working of the encoder alone; what it writes is defined by the text of a drawing.
-use Rattle.std.specs.Prelude.{◌≡◌, ℕ, ◌+◌, ◌*◌, ◌<◌, ◌≤◌, ◌==◌, Bool, true, false, ◌&&◌, if◌then◌else◌, List, [], length, map, slice_index, slice_index_or, Option}
+-- What the encoder keeps of one band: the sixels of some entries from a first one on, entry after
+-- entry, and which of them have a dot. This is the working of the encoder alone; what it writes is
+-- defined by the text of a drawing.
+use Rattle.std.specs.Prelude.{◌≡◌, ℕ, ◌+◌, ◌*◌, ◌<◌, ◌≤◌, ◌==◌, Bool, true, false, ◌&&◌}
+use Rattle.std.specs.Prelude.{if◌then◌else◌, List, [], length, map, slice_index, slice_index_or}
+use Rattle.std.specs.Prelude.{Option}
 use Rattle.std.specs.List.{range_with_len}
 use Rattle.sixel_encoder.specs.Text.{is_entry, has_dot, row_text}
 
@@ -15,7 +18,8 @@ grid_row rows width entry = map (cell rows width entry) (range_with_len 0 width)
 -- the text of an entry's row, if it has a dot
 abbrev pub grid_text : List ℕ → ℕ → ℕ → ℕ → List ℕ
 grid_text rows width first entry =
-    if has_dot (grid_row rows width entry) then row_text (first + entry) (grid_row rows width entry) else []
+    if has_dot (grid_row rows width entry) then row_text (first + entry) (grid_row rows width entry)
+    else []
 
 -- a number where the entry and the column are these, else nothing
 abbrev pub dot_at : ℕ → ℕ → ℕ → ℕ → ℕ → ℕ
@@ -25,7 +29,8 @@ dot_at weight entry column e x = if e == entry && x == column then weight else 0
 abbrev pub pixel_bit : ℕ → ℕ → Option ℕ → ℕ
 pixel_bit weight e place = if is_entry e place then weight else 0
 
--- So many entries from the first one on are a part of all entries: the first is one of them, and with as many as there are it is 0.
+-- So many entries from the first one on are a part of all entries: the first is one of them, and
+-- with as many as there are it is 0.
 pub record IsPart (first count entries : ℕ) : Type 0 where
   pub some : first < entries
   pub few : count ≤ entries
@@ -37,14 +42,18 @@ AreRows rows used width = length rows ≡ length used * width
 
 -- each sixel is below the limit
 abbrev pub AreBelow : List ℕ → ℕ → ℕ → ℕ → Type 0
-AreBelow rows width count limit = (entry column : ℕ) → entry < count → column < width → cell rows width entry column < limit
+AreBelow rows width count limit =
+    (entry column : ℕ) → entry < count → column < width → cell rows width entry column < limit
 
 -- an entry is marked exactly if its row has a dot
 pub record AreMarks (rows : List ℕ) (used : List Bool) (width : ℕ) : Type 0 where
-  pub dotted : (entry : ℕ) → entry < length used → slice_index_or used entry false ≡ true → (column : ℕ) × (column < width) × (0 < cell rows width entry column)
-  pub marked : (entry column : ℕ) → entry < length used → column < width → 0 < cell rows width entry column → slice_index_or used entry false ≡ true
+  pub dotted : (entry : ℕ) → entry < length used → slice_index_or used entry false ≡ true
+      → (column : ℕ) × (column < width) × (0 < cell rows width entry column)
+  pub marked : (entry column : ℕ) → entry < length used → column < width
+      → 0 < cell rows width entry column → slice_index_or used entry false ≡ true
 
 -- no entry before this one has a dot or a mark
 pub record AreClear (rows : List ℕ) (used : List Bool) (width entries : ℕ) : Type 0 where
-  pub blank : (entry column : ℕ) → entry < entries → column < width → cell rows width entry column ≡ 0
+  pub blank : (entry column : ℕ) → entry < entries → column < width
+      → cell rows width entry column ≡ 0
   pub unused : (entry : ℕ) → entry < entries → slice_index_or used entry false ≡ false

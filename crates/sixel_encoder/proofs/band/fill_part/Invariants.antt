@@ -7,6 +7,9 @@ use Rattle.sixel_encoder.proofs.band.fill_part.Given as goal
 abbrev pub invariant-loop-bit : goal.invariant-loop-bit
 invariant-loop-bit l = record {
   weight : l.weight ≡ 2 ^ l.bit;
-  cells : (e x : ℕ) → e < length l.used → x < l.image.width → cell l.rows l.image.width e x ≡ mask (λ b. is_entry (l.first + e) (entry_at (drawing_of l.image) x (6 * l.band + b))) l.bit;
+  cells : (e x : ℕ) → e < length l.used → x < l.image.width
+      → cell l.rows l.image.width e x
+      ≡ mask (λ b. is_entry (l.first + e) (entry_at (drawing_of l.image) x (6 * l.band + b)))
+      l.bit;
   marks : AreMarks l.rows l.used l.image.width;
 }

@@ -4,4 +4,5 @@ use Rattle.sixel_encoder.proofs.band.push_rows.Given as goal
 
 abbrev pub invariant-loop-entry : goal.invariant-loop-entry
 invariant-loop-entry l =
-    Progress (string_bytes l.initial.text) (string_bytes l.text) l.initial.rows l.rows l.initial.used l.used l.width l.first l.entry
+    Progress (string_bytes l.initial.text) (string_bytes l.text) l.initial.rows l.rows
+    l.initial.used l.used l.width l.first l.entry

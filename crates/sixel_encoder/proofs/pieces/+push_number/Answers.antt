@@ -9,4 +9,7 @@ returns-then-number-lt10 t c = rw (decimal_digit c.args.number (omega arith)) (s
 pub returns : goal.returns
 returns t c =
     let n = c.args.number in
-    rw (decimal_step n (omega arith) (omega arith), ← append_assoc (string_bytes c.args.text.now) (decimal (n / 10)) ((48 + n % 10) ∷ [])) (search rules)
+    rw (
+      decimal_step n (omega arith) (omega arith),
+      ← append_assoc (string_bytes c.args.text.now) (decimal (n / 10)) ((48 + n % 10) ∷ []),
+    ) (search rules)

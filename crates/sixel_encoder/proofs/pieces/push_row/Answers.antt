@@ -23,5 +23,8 @@ sixels-preserved-then-same-gt0 c =
       sixel = c.sixels.invariant.sixel;
       few = omega (arith, c.sixels.invariant.few);
       within = run.within;
-      text = ap (λ p. string_bytes c.sixels.text ++ written p) (sym (pieces_skip c.equal_from-same.result c.args.row.now c.sixels.at c.sixels.count c.sixels.bits run.within run.same)) ∙ c.sixels.invariant.text;
+      text =
+          ap (λ p. string_bytes c.sixels.text ++ written p)
+          (sym (pieces_skip c.equal_from-same.result c.args.row.now c.sixels.at c.sixels.count
+          c.sixels.bits run.within run.same)) ∙ c.sixels.invariant.text;
     }

@@ -7,7 +7,8 @@ invariant-sixels l = record {
   sixel : l.bits < 64;
   few : l.count ≤ l.at;
   within : l.at ≤ length l.row;
-  text : string_bytes l.text ++ written (pieces_after l.count l.bits (drop l.at l.row)) ≡ string_bytes l.initial.text ++ written (row_pieces l.row);
+  text : string_bytes l.text ++ written (pieces_after l.count l.bits (drop l.at l.row))
+      ≡ string_bytes l.initial.text ++ written (row_pieces l.row);
 }
 
 abbrev pub decreases-sixels : goal.decreases-sixels

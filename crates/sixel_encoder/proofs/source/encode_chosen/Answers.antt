@@ -18,6 +18,9 @@ returns c =
       pixels = source.pixels;
       indices = c.args.indices;
     } in
-    IfOk-weaker c.image_text.result (λ (text : String Global). string_bytes text ≡ text_of (drawing_of image)) _
-    (λ text is max_colors palette. (drawing_of image, IsDrawing-chosen image max_colors palette c.requires.indices, is))
+    IfOk-weaker c.image_text.result
+    (λ (text : String Global). string_bytes text ≡ text_of (drawing_of image))
+    _
+    (λ text is max_colors palette.
+    (drawing_of image, IsDrawing-chosen image max_colors palette c.requires.indices, is))
     c.image_text.ensures

@@ -16,8 +16,15 @@ loop-band-preserved c =
     let image = c.args.image.now in
     let after = c.in_ok-push_whole_band.ensures in
     record {
-      text = appended-more (band_text (drawing_of image)) c.loop-band.band (string_bytes c.args.text.now) (string_bytes c.loop-band.text) (string_bytes c.push_whole_band.new.text) (band_text (drawing_of image) c.loop-band.band) c.loop-band.invariant.text after.text refl;
-      clear = subst (λ (n : ℕ). AreClear c.push_whole_band.new.rows c.push_whole_band.new.used image.width n) (sym c.push_whole_band.auto.used) after.clear;
+      text =
+          appended-more (band_text (drawing_of image)) c.loop-band.band
+          (string_bytes c.args.text.now) (string_bytes c.loop-band.text)
+          (string_bytes c.push_whole_band.new.text) (band_text (drawing_of image) c.loop-band.band)
+          c.loop-band.invariant.text after.text refl;
+      clear =
+          subst
+          (λ (n : ℕ). AreClear c.push_whole_band.new.rows c.push_whole_band.new.used image.width n)
+          (sym c.push_whole_band.auto.used) after.clear;
     }
 
 pub returns : goal.returns

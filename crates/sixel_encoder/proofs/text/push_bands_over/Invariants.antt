@@ -7,6 +7,7 @@ use Rattle.sixel_encoder.proofs.text.push_bands_over.Given as goal
 
 abbrev pub invariant-loop-band : goal.invariant-loop-band
 invariant-loop-band l = record {
-  text : string_bytes l.text ≡ string_bytes l.initial.text ++ joined (band_text (drawing_of l.image)) l.band;
+  text : string_bytes l.text
+      ≡ string_bytes l.initial.text ++ joined (band_text (drawing_of l.image)) l.band;
   clear : AreClear l.rows l.used l.image.width (length l.used);
 }

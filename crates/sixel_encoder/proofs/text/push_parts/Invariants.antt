@@ -7,6 +7,8 @@ use Rattle.sixel_encoder.proofs.text.push_parts.Given as goal
 
 abbrev pub invariant-loop-part : goal.invariant-loop-part
 invariant-loop-part l = record {
-  text : string_bytes l.text ≡ string_bytes l.initial.text ++ joined (entry_text (drawing_of l.image) l.band) (l.part * length l.used);
+  text : string_bytes l.text
+      ≡ string_bytes l.initial.text
+      ++ joined (entry_text (drawing_of l.image) l.band) (l.part * length l.used);
   clear : AreClear l.rows l.used l.image.width (length l.used);
 }

@@ -1,4 +1,5 @@
-use Rattle.std.proofs.Common.{◌≡◌, [], ◌∷◌, ◌++◌, length, string_bytes, append_assoc, ap, ◌∙◌, arith}
+use Rattle.std.proofs.Common.{◌≡◌, [], ◌∷◌, ◌++◌, length, string_bytes, append_assoc, ap, ◌∙◌}
+use Rattle.std.proofs.Common.{arith}
 use Rattle.std.specs.Prelude.{encode_utf8}
 use Rattle.sixel_base.specs.Picture.{joined}
 use Rattle.sixel_encoder.specs.Text.{entry_text, band_text}
@@ -14,5 +15,8 @@ returns-clause-text c =
     let rows = joined (entry_text (drawing_of image) c.args.band) (length image.colors.now) in
     let dash : encode_utf8 45 ≡ 45 ∷ [] = c.push.ensures.ascii (omega arith) in
     let whole : before ++ encode_utf8 45 ≡ start ++ band_text (drawing_of image) c.args.band =
-    ap (λ d. before ++ d) dash ∙ (ap (λ b. b ++ 45 ∷ []) c.in_ok-push_parts.ensures.text ∙ append_assoc start rows (45 ∷ [])) in
-    OnOk-pushed c.push.result before (string_bytes c.push.new.self) (encode_utf8 45) (start ++ band_text (drawing_of image) c.args.band) c.push.ensures.bytes whole
+    ap (λ d. before ++ d) dash
+    ∙ (ap (λ b. b ++ 45 ∷ []) c.in_ok-push_parts.ensures.text
+    ∙ append_assoc start rows (45 ∷ [])) in
+    OnOk-pushed c.push.result before (string_bytes c.push.new.self) (encode_utf8 45)
+    (start ++ band_text (drawing_of image) c.args.band) c.push.ensures.bytes whole
