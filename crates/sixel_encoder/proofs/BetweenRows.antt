@@ -12,16 +12,16 @@ use Rattle.sixel_base.specs.Picture.{is_struck}
 use Rattle.sixel_base.specs.Stroke.{Origin, registers, pixel, ratio}
 use Rattle.sixel_base.specs.Payload.{area_limit}
 use Rattle.sixel_base.specs.declared.settings.PixelAspectRatio.{PixelAspectRatio}
-use Rattle.sixel_encoder.specs.Pieces.{row_pieces}
+use Rattle.sixel_encoder.specs.RunTokens.{row_tokens}
 use Rattle.sixel_encoder.specs.Text.{Drawing, sixel_of, row_of, has_dot, bands}
 use Rattle.sixel_encoder.specs.Trip.{IsWritable}
-use Rattle.sixel_encoder.proofs.Shortest.{spells}
+use Rattle.sixel_encoder.proofs.ShortestRows.{spells}
 use Rattle.sixel_encoder.proofs.Steps.{after, steps_keep}
 use Rattle.sixel_encoder.proofs.Tokens.{with_row, with_entry, with_band}
 use Rattle.sixel_encoder.proofs.TextHistory.{AreSound-row, row_of-small}
 use Rattle.sixel_encoder.proofs.RowPixels.{is_struck-zero}
 use Rattle.sixel_encoder.proofs.RowSteps.{Rowed, Rowed-row}
-use Rattle.sixel_encoder.proofs.Extent.{IsRoom, Fits, Fits-row, Fits-newline}
+use Rattle.sixel_encoder.proofs.Extent.{IsWithinLimits, Fits, Fits-row, Fits-newline}
 
 -- between two rows of a text: at the left of a band, with this palette, within the drawing's sizes
 pub record Stands (drawing : Drawing) (start : List (List ℕ)) (palette : List (List ℕ)) (top : ℕ)
@@ -34,9 +34,9 @@ pub record Stands (drawing : Drawing) (start : List (List ℕ)) (palette : List 
   pub fits : Fits area_limit drawing.width (6 * bands drawing.height) history
 
 -- a drawing's sizes are within the limits
-pub IsRoom-drawing : (drawing : Drawing) → IsWritable drawing
-    → IsRoom area_limit drawing.width (6 * bands drawing.height)
-IsRoom-drawing drawing is = record { wide = is.wide; high = is.high; area = is.area }
+pub IsWithinLimits-drawing : (drawing : Drawing) → IsWritable drawing
+    → IsWithinLimits area_limit drawing.width (6 * bands drawing.height)
+IsWithinLimits-drawing drawing is = record { wide = is.wide; high = is.high; area = is.area }
 
 -- a row has a sixel for each column
 pub length-row_of : (drawing : Drawing) (band entry : ℕ)
@@ -49,10 +49,10 @@ pub Rowed-entry :
     (drawing : Drawing) (start palette : List (List ℕ)) (top band entry : ℕ) (h : History)
     → entry < 256 → Stands drawing start palette top h
     → Rowed entry (row_of drawing band entry) h
-    (with_row entry (row_pieces (row_of drawing band entry)) h)
+    (with_row entry (row_tokens (row_of drawing band entry)) h)
 Rowed-entry drawing start palette top band entry h small stands =
     let row = row_of drawing band entry in
-    Rowed-row entry row (row_pieces row) h small
+    Rowed-row entry row (row_tokens row) h small
     (AreSound-row row (row_of-small drawing band entry)) (spells row).joined stands.single
     stands.left
 
@@ -60,7 +60,7 @@ Rowed-entry drawing start palette top band entry h small stands =
 Stands-row : (drawing : Drawing) (start palette : List (List ℕ)) (top band entry : ℕ) (h : History)
     → IsWritable drawing → entry < 256 → top + 6 ≤ 6 * bands drawing.height
     → Stands drawing start palette top h
-    → Stands drawing start palette top (with_row entry (row_pieces (row_of drawing band entry)) h)
+    → Stands drawing start palette top (with_row entry (row_tokens (row_of drawing band entry)) h)
 Stands-row drawing start palette top band entry h is small lower stands =
     let row = row_of drawing band entry in
     let rowed = Rowed-entry drawing start palette top band entry h small stands in
@@ -71,8 +71,8 @@ Stands-row drawing start palette top band entry h is small lower stands =
       defined = rowed.kept start ∙ stands.defined;
       shape = λ other. rowed.shape other ∙ stands.shape other;
       fits =
-          Fits-row area_limit drawing.width (6 * bands drawing.height) entry (row_pieces row) h
-          (IsRoom-drawing drawing is) (AreSound-row row (row_of-small drawing band entry))
+          Fits-row area_limit drawing.width (6 * bands drawing.height) entry (row_tokens row) h
+          (IsWithinLimits-drawing drawing is) (AreSound-row row (row_of-small drawing band entry))
           stands.single
           (omega
           (arith, stands.left, ap length (spells row).joined, length-row_of drawing band entry))
@@ -89,7 +89,7 @@ Stands-entry drawing start palette top band entry h is small lower stands =
     (elim (has_dot (row_of drawing band entry)) as
     (λ b.
     Stands drawing start palette top
-    (cond b (with_row entry (row_pieces (row_of drawing band entry)) h) h)) [
+    (cond b (with_row entry (row_tokens (row_of drawing band entry)) h) h)) [
       | true ↦ Stands-row drawing start palette top band entry h is small lower stands
       | false ↦ stands
     ])
@@ -116,7 +116,7 @@ pixel-entry drawing start palette top band entry h origin column line small stan
     (elim (has_dot row) as
     (λ b.
     has_dot row ≡ b
-    → pixel origin (cond b (with_row entry (row_pieces row) h) h) column line
+    → pixel origin (cond b (with_row entry (row_tokens row) h) h) column line
     ≡ cond (is_struck top (slice_index row column) line) color (pixel origin h column line)) [
       | true ↦ λ is.
           (Rowed-entry drawing start palette top band entry h small stands).shown origin column line

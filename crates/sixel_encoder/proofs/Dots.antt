@@ -10,7 +10,7 @@ use Rattle.std.proofs.lemmas.List.FromFn.{get_or-map-range_with_len}
 use Rattle.sixel_base.specs.Picture.{joined}
 use Rattle.sixel_encoder.specs.Text.{Drawing, has_dot, row_text, sixel_of, row_of, entry_text}
 use Rattle.sixel_encoder.specs.inside.Grid.{cell, grid_row, grid_text}
-use Rattle.sixel_encoder.proofs.Joined.{joined-none, joined-more, joined-same}
+use Rattle.sixel_encoder.proofs.JoinedLists.{joined-none, joined-more, joined-same}
 use Rattle.sixel_encoder.proofs.RowParts.{All-grid_row}
 
 is_dot-positive : (bits : ℕ) → 0 < bits → not (bits == 0) ≡ true
@@ -49,10 +49,10 @@ grid_text-none rows width from entry h =
     ap (λ b. cond b (row_text (from + entry) (grid_row rows width entry)) []) h
 
 -- a loop that appends what it joins: one list more
-pub appended-more : (f : ℕ → List ℕ) (n : ℕ) (start now new piece : List ℕ)
-    → now ≡ start ++ joined f n → new ≡ now ++ piece → piece ≡ f n → new ≡ start ++ joined f (n + 1)
-appended-more f n start now new piece was is same =
-    is ∙ (ap (λ s. s ++ piece) was ∙ (ap (λ p. (start ++ joined f n) ++ p) same
+pub appended-more : (f : ℕ → List ℕ) (n : ℕ) (start now new part : List ℕ)
+    → now ≡ start ++ joined f n → new ≡ now ++ part → part ≡ f n → new ≡ start ++ joined f (n + 1)
+appended-more f n start now new part was is same =
+    is ∙ (ap (λ s. s ++ part) was ∙ (ap (λ p. (start ++ joined f n) ++ p) same
     ∙ (append_assoc start (joined f n) (f n) ∙ ap (λ s. start ++ s) (sym (joined-more f n)))))
 
 -- and an empty list more

@@ -8,14 +8,14 @@ use Rattle.sixel_base.specs.History.{Sixel, Repeat, Color, History}
 use Rattle.sixel_base.specs.Place.{height, raster_height}
 use Rattle.sixel_base.specs.Payload.{image_height}
 use Rattle.sixel_base.specs.Stroke.{registers}
-use Rattle.sixel_encoder.specs.Pieces.{Piece, One, Many, row_pieces}
+use Rattle.sixel_encoder.specs.RunTokens.{RunToken, One, Many, row_tokens}
 use Rattle.sixel_encoder.specs.Text.{Drawing, row_of, has_dot, bands}
 use Rattle.sixel_encoder.specs.Trip.{IsWritable, is_used, bands_up_to, trip_height}
-use Rattle.sixel_encoder.proofs.Shortest.{spells}
+use Rattle.sixel_encoder.proofs.ShortestRows.{spells}
 use Rattle.sixel_encoder.proofs.Digits.{numbers}
 use Rattle.sixel_encoder.proofs.Steps.{steps_keep, steps_same}
-use Rattle.sixel_encoder.proofs.Tokens.{with_pieces, with_row, with_entry, with_band, with_palette}
-use Rattle.sixel_encoder.proofs.Tokens.{tokens}
+use Rattle.sixel_encoder.proofs.Tokens.{with_run_tokens, with_row, with_entry, with_band}
+use Rattle.sixel_encoder.proofs.Tokens.{with_palette, tokens}
 use Rattle.sixel_encoder.proofs.TextHistory.{AreSound-row, row_of-small}
 use Rattle.sixel_encoder.proofs.Extent.{height-row}
 use Rattle.sixel_encoder.proofs.BetweenRows.{Stands, Stands-entry, Stands-band, length-row_of}
@@ -31,10 +31,10 @@ height-entry drawing start palette band entry h is stands =
     let row = row_of drawing band entry in
     (elim (has_dot row) as
     (λ b.
-    height (cond b (with_row entry (row_pieces row) h) h)
+    height (cond b (with_row entry (row_tokens row) h) h)
     ≡ cond b (max (height h) (6 * band + 6)) (height h)) [
       | true ↦
-          height-row entry (row_pieces row) h (AreSound-row row (row_of-small drawing band entry))
+          height-row entry (row_tokens row) h (AreSound-row row (row_of-small drawing band entry))
           stands.single
           (omega
           (arith, ap length (spells row).joined, length-row_of drawing band entry, is.some_width))
@@ -197,13 +197,13 @@ height-tokens drawing is =
 
 -- ---- the height that raster attributes name
 
--- no piece names a height
-raster_height-pieces : (pieces : List Piece) (h : History)
-    → raster_height (with_pieces pieces h) ≡ raster_height h
-raster_height-pieces [] h = refl
-raster_height-pieces (One bits ∷ pieces) h = raster_height-pieces pieces (Sixel bits ∷ h)
-raster_height-pieces (Many count bits ∷ pieces) h =
-    raster_height-pieces pieces (Sixel bits ∷ Repeat (decimal count) ∷ h)
+-- no run-length token names a height
+raster_height-run_tokens : (tokens : List RunToken) (h : History)
+    → raster_height (with_run_tokens tokens h) ≡ raster_height h
+raster_height-run_tokens [] h = refl
+raster_height-run_tokens (One bits ∷ tokens) h = raster_height-run_tokens tokens (Sixel bits ∷ h)
+raster_height-run_tokens (Many count bits ∷ tokens) h =
+    raster_height-run_tokens tokens (Sixel bits ∷ Repeat (decimal count) ∷ h)
 
 -- nor does an entry
 raster_height-entry : (drawing : Drawing) (band entry : ℕ) (h : History)
@@ -211,8 +211,8 @@ raster_height-entry : (drawing : Drawing) (band entry : ℕ) (h : History)
 raster_height-entry drawing band entry h =
     let row = row_of drawing band entry in
     (elim (has_dot row) as
-    (λ b. raster_height (cond b (with_row entry (row_pieces row) h) h) ≡ raster_height h) [
-      | true ↦ raster_height-pieces (row_pieces row) (Color (numbers entry []) ∷ h)
+    (λ b. raster_height (cond b (with_row entry (row_tokens row) h) h) ≡ raster_height h) [
+      | true ↦ raster_height-run_tokens (row_tokens row) (Color (numbers entry []) ∷ h)
       | false ↦ refl
     ])
 

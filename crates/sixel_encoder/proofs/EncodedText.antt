@@ -12,7 +12,7 @@ use Rattle.sixel_base.specs.declared.state.DecoderState.{DecoderState}
 use Rattle.sixel_base.specs.Payload.{Image}
 use Rattle.sixel_encoder.specs.Text.{Drawing, row_of, text_of}
 use Rattle.sixel_encoder.specs.Encoding.{image_fault, AreShortest, IsDrawing, IsText}
-use Rattle.sixel_encoder.proofs.Shortest.{spells, shortest}
+use Rattle.sixel_encoder.proofs.ShortestRows.{spells, shortest}
 use Rattle.sixel_encoder.specs.Trip.{CanRead, trip, IsTrip, IsReadAs, IsOneString}
 use Rattle.sixel_encoder.proofs.TripLimits.{CanRead-new}
 use Rattle.sixel_encoder.proofs.SecondTrip.{image-read_back, image-one_string, text-again}

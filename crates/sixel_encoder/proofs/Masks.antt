@@ -13,7 +13,7 @@ use Rattle.sixel_encoder.specs.declared.text.IndexedImage.{IndexedImage}
 use Rattle.sixel_encoder.specs.Text.{entry_at, is_entry, mask, sixel_of}
 use Rattle.sixel_encoder.specs.inside.Indexed.{entry_of, entries_of, drawing_of, IsIndexed}
 use Rattle.sixel_encoder.specs.inside.Grid.{pixel_bit}
-use Rattle.sixel_encoder.proofs.Drawn.{entry_of-shown, entry_of-hidden}
+use Rattle.sixel_encoder.proofs.IndexedDrawing.{entry_of-opaque, entry_of-transparent}
 
 pub mask-none : (test : ℕ → Bool) → mask test 0 ≡ 0
 unfolding mask
@@ -117,12 +117,12 @@ entry_of-past : (image : IndexedImage) (e pixel : ℕ) → IsIndexed image
     → is_entry e (entry_of image.pixels.now image.indices.now pixel) ≡ false
 entry_of-past image e pixel is inside past =
     elim (cases_lt (get_or image.pixels.now (4 * pixel + 3) 0) 128) [
-      | inl hidden ↦
-          ap (is_entry e) (entry_of-hidden image.pixels.now image.indices.now pixel hidden)
+      | inl transparent ↦ ap (is_entry e)
+          (entry_of-transparent image.pixels.now image.indices.now pixel transparent)
       | inr opaque ↦
-          let entry = is.shown pixel inside opaque in
+          let entry = is.opaque pixel inside opaque in
           let other : (get_or image.indices.now pixel 0 == e) ≡ false = grind (arith, nat_tests) in
-          ap (is_entry e) (entry_of-shown image.pixels.now image.indices.now pixel opaque) ∙ other
+          ap (is_entry e) (entry_of-opaque image.pixels.now image.indices.now pixel opaque) ∙ other
     ]
 
 hits-past : (image : IndexedImage) (band e x bit : ℕ) → IsIndexed image → x < image.width

@@ -10,7 +10,7 @@ use Rattle.sixel_encoder.specs.declared.text.IndexedImage.{IndexedImage}
 use Rattle.sixel_encoder.specs.Text.{has_dot, row_text, sixel_of, row_of, entry_text}
 use Rattle.sixel_encoder.specs.inside.Indexed.{IsIndexed, drawing_of}
 use Rattle.sixel_encoder.proofs.Dots.{is_dot-zero}
-use Rattle.sixel_encoder.proofs.Joined.{joined-add, joined-past}
+use Rattle.sixel_encoder.proofs.JoinedLists.{joined-add, joined-past}
 use Rattle.sixel_encoder.proofs.Masks.{sixel-past}
 
 entry_text-past : (image : IndexedImage) (band entry : ℕ) → IsIndexed image

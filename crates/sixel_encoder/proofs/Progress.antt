@@ -32,14 +32,14 @@ progress-used start now new first rows after marks used width from n was are siz
     others =
     let row = grid_row-same rows first width n (λ x lx. was.rest n x (omega arith) l lx) in
     let dot = are.dotted n (omega arith) (sym (was.unread n (omega arith)) ∙ is) in
-    let piece : row_text (from + n) (grid_row rows width n) ≡ grid_text first width from n =
+    let part : row_text (from + n) (grid_row rows width n) ≡ grid_text first width from n =
     ap (row_text (from + n)) row
     ∙ sym (grid_text-some first width from n (has_dot-some first width n dot.0 dot.1 dot.2)) in
     let count : length (set used n false) ≡ length used = length-set used n false in
     record {
       text =
           appended-more (grid_text first width from) n start now new
-          (row_text (from + n) (grid_row rows width n)) was.text text piece;
+          (row_text (from + n) (grid_row rows width n)) was.text text part;
       clear = record {
         blank = λ e x le lx. elim (cases_eq e n) [
           | inl same ↦ ap (λ k. cell after width k x) same ∙ blank x lx

@@ -45,6 +45,11 @@ grid_row-same rows others width entry h =
     (length-map-range_with_len (cell rows width entry) 0 width)
     (λ x l. get_or-map-range_with_len (cell rows width entry) 0 width x x 0 l (omega arith) ∙ h x l)
 
+-- a write to a part keeps the length
+pub length-put : (rows ys : List ℕ) (a k : ℕ) → a + k ≤ length rows → length ys ≡ k
+    → length (put_mid a k rows ys) ≡ length rows
+length-put rows ys a k h e = grind (arith, places)
+
 put-before : (xs ys : List ℕ) (a k n : ℕ) → a ≤ length xs → n < a
     → get_or (put_mid a k xs ys) n 0 ≡ get_or xs n 0
 put-before xs ys a k n h l = grind (arith, places)

@@ -1,4 +1,4 @@
--- What the pieces of a row do to the place, the colors and the pixels.
+-- What the run-length tokens of a row do to the place, the colors and the pixels.
 use Rattle.std.proofs.Common.{◌≡◌, ℕ, ◌+◌, ◌<◌, ◌≤◌, false, cond, List, [], ◌∷◌, ◌++◌, length}
 use Rattle.std.proofs.Common.{replicate, get_or, refl, ap, sym, subst, ◌∙◌, arith, length-append}
 use Rattle.std.specs.Prelude.{◌==◌, nat_le, ◌&&◌, ◌||◌, decimal, flat_map, slice_index}
@@ -12,9 +12,9 @@ use Rattle.sixel_base.specs.Picture.{is_struck, covers}
 use Rattle.sixel_base.specs.Stroke.{Origin, selected, registers, color, pixel, ratio, named_by}
 use Rattle.sixel_base.specs.Stroke.{is_definition}
 use Rattle.sixel_base.specs.declared.settings.PixelAspectRatio.{PixelAspectRatio}
-use Rattle.sixel_encoder.specs.Pieces.{Piece, One, Many, sixels}
+use Rattle.sixel_encoder.specs.RunTokens.{RunToken, One, Many, sixels}
 use Rattle.sixel_encoder.proofs.Digits.{numbers, fields-numbers}
-use Rattle.sixel_encoder.proofs.Tokens.{with_piece, with_pieces, with_row}
+use Rattle.sixel_encoder.proofs.Tokens.{with_run_token, with_run_tokens, with_row}
 use Rattle.sixel_encoder.proofs.TextHistory.{IsSound, AreSound}
 use Rattle.sixel_encoder.proofs.RowPixels.{is_lit, lit_run, lit_append, is_lit-none, is_lit-at}
 
@@ -84,12 +84,12 @@ Moved-many count bits h low high =
           ∙ lit_run count bits (across h) (down h) column line);
     }
 
--- a piece
-pub Moved-piece : (piece : Piece) (h : History) → IsSound piece → span h ≡ 1
-    → Moved (sixels piece) h (with_piece piece h)
+-- a run-length token
+pub Moved-run_token : (token : RunToken) (h : History) → IsSound token → span h ≡ 1
+    → Moved (sixels token) h (with_run_token token h)
 unfolding sixels
-Moved-piece (One bits) h is one = Moved-one bits h one
-Moved-piece (Many count bits) h is one = Moved-many count bits h is.1 is.2
+Moved-run_token (One bits) h is one = Moved-one bits h one
+Moved-run_token (Many count bits) h is one = Moved-many count bits h is.1 is.2
 
 -- a row and another behind it
 Moved-more : (a b : List ℕ) (old mid new : History) → Moved a old mid → Moved b mid new
@@ -130,15 +130,15 @@ Moved-more a b old mid new first then = record {
       (pixel origin old column line)))));
 }
 
--- pieces draw their sixels, one behind the other
-pub Moved-pieces : (pieces : List Piece) (h : History) → AreSound pieces → span h ≡ 1
-    → Moved (flat_map sixels pieces) h (with_pieces pieces h)
-Moved-pieces [] h are one = Moved-none h one
-Moved-pieces (piece ∷ pieces) h are one =
-    let first = Moved-piece piece h are.0 one in
-    Moved-more (sixels piece) (flat_map sixels pieces) h (with_piece piece h)
-    (with_pieces pieces (with_piece piece h)) first
-    (Moved-pieces pieces (with_piece piece h) are.1 first.single)
+-- run-length tokens draw their sixels, one behind the other
+pub Moved-run_tokens : (tokens : List RunToken) (h : History) → AreSound tokens → span h ≡ 1
+    → Moved (flat_map sixels tokens) h (with_run_tokens tokens h)
+Moved-run_tokens [] h are one = Moved-none h one
+Moved-run_tokens (token ∷ tokens) h are one =
+    let first = Moved-run_token token h are.0 one in
+    Moved-more (sixels token) (flat_map sixels tokens) h (with_run_token token h)
+    (with_run_tokens tokens (with_run_token token h)) first
+    (Moved-run_tokens tokens (with_run_token token h) are.1 first.single)
 
 -- ---- a whole row, from the left
 
@@ -173,15 +173,15 @@ keeps_registers : (entry : ℕ) (h : History) (start : List (List ℕ)) → entr
     → registers start (Color (numbers entry []) ∷ h) ≡ registers start h
 keeps_registers entry h start small = rw (defines_none entry small) refl
 
--- an entry, its pieces and a return are a row
-pub Rowed-row : (entry : ℕ) (row : List ℕ) (pieces : List Piece) (h : History) → entry < 256
-    → AreSound pieces → flat_map sixels pieces ≡ row → span h ≡ 1 → across h ≡ 0
-    → Rowed entry row h (with_row entry pieces h)
-Rowed-row entry row pieces h small are spelled one left =
+-- an entry, its run-length tokens and a return are a row
+pub Rowed-row : (entry : ℕ) (row : List ℕ) (tokens : List RunToken) (h : History) → entry < 256
+    → AreSound tokens → flat_map sixels tokens ≡ row → span h ≡ 1 → across h ≡ 0
+    → Rowed entry row h (with_row entry tokens h)
+Rowed-row entry row tokens h small are spelled one left =
     let named : History = Color (numbers entry []) ∷ h in
-    let moved : Moved row named (with_pieces pieces named) =
-    subst (λ (r : List ℕ). Moved r named (with_pieces pieces named))
-    spelled (Moved-pieces pieces named are one) in
+    let moved : Moved row named (with_run_tokens tokens named) =
+    subst (λ (r : List ℕ). Moved r named (with_run_tokens tokens named))
+    spelled (Moved-run_tokens tokens named are one) in
     record {
       single = moved.single;
       left = refl;

@@ -8,8 +8,8 @@ use Rattle.std.proofs.lemmas.Bool.Decides.{nat_tests}
 use Rattle.std.proofs.lemmas.Fmt.{decimal_digit, decimal_step}
 use Rattle.std.proofs.lemmas.List.{append-nil}
 use Rattle.std.proofs.lemmas.List.Concat.{flat_map-append}
-use Rattle.sixel_encoder.specs.Pieces.{Piece, One, Many, longest, spelling, written, cost}
-use Rattle.sixel_encoder.specs.Pieces.{rest_pieces, run_pieces}
+use Rattle.sixel_encoder.specs.RunTokens.{RunToken, One, Many, longest, spelling, written, cost}
+use Rattle.sixel_encoder.specs.RunTokens.{rest_tokens, run_tokens}
 
 -- a number from ten on has one digit more than its tenth
 length-decimal_step : (n : ℕ) → 10 ≤ n → n < 2 ^ 64
@@ -259,7 +259,7 @@ run_cut m n =
     omega
     (arith, e, cut-at (m / 65535) (n / 65535) (m % 65535) (n % 65535) (omega arith) (omega arith))
 
--- a run costs at most what one piece for it would
+-- a run costs at most what one token for it would
 pub run_least : (n : ℕ) → 1 ≤ n → n ≤ 65535 → run_cost n ≤ 2 + length (decimal n)
 run_least n low high =
     elim (cases_lt n 65535) [
@@ -281,24 +281,24 @@ run_cost0 = refl
 pub run_cost1 : run_cost 1 ≡ 1
 run_cost1 = refl
 
--- ---- the bytes of the pieces themselves
+-- ---- the bytes of the tokens themselves
 
-pub cost-append : (a b : List Piece) → cost (a ++ b) ≡ cost a + cost b
+pub cost-append : (a b : List RunToken) → cost (a ++ b) ≡ cost a + cost b
 cost-append a b = ap length (flat_map-append spelling a b) ∙ length-append (written a) (written b)
 
-cost-replicate : (n : ℕ) (piece : Piece) → cost (replicate n piece) ≡ n * length (spelling piece)
-cost-replicate zero piece = omega arith
-cost-replicate (suc n) piece =
-    let e : cost (replicate (suc n) piece) ≡ length (spelling piece) + cost (replicate n piece) =
-    length-append (spelling piece) (written (replicate n piece)) in
-    let product : suc n * length (spelling piece)
-    ≡ length (spelling piece) + n * length (spelling piece) = omega arith in
-    e ∙ (ap (λ x. length (spelling piece) + x) (cost-replicate n piece) ∙ sym product)
+cost-replicate : (n : ℕ) (token : RunToken) → cost (replicate n token) ≡ n * length (spelling token)
+cost-replicate zero token = omega arith
+cost-replicate (suc n) token =
+    let e : cost (replicate (suc n) token) ≡ length (spelling token) + cost (replicate n token) =
+    length-append (spelling token) (written (replicate n token)) in
+    let product : suc n * length (spelling token)
+    ≡ length (spelling token) + n * length (spelling token) = omega arith in
+    e ∙ (ap (λ x. length (spelling token) + x) (cost-replicate n token) ∙ sym product)
 
 length-many : (n bits : ℕ) → length (spelling (Many n bits)) ≡ 2 + length (decimal n)
 length-many n bits = omega (arith, length-append (decimal n) ((63 + bits) ∷ []))
 
-cost-rest : (n bits : ℕ) → cost (rest_pieces n bits) ≡ rest_cost n
+cost-rest : (n bits : ℕ) → cost (rest_tokens n bits) ≡ rest_cost n
 cost-rest n bits =
     (elim (nat_lt 3 n) as
     (λ b.
@@ -307,8 +307,8 @@ cost-rest n bits =
       | false ↦ cost-replicate n (One bits) ∙ omega arith
     ])
 
--- the pieces of a run have its bytes
-pub cost-run : (n bits : ℕ) → cost (run_pieces n bits) ≡ run_cost n
+-- the tokens of a run have its bytes
+pub cost-run : (n bits : ℕ) → cost (run_tokens n bits) ≡ run_cost n
 cost-run n bits =
     let seven : length (spelling (Many longest bits)) ≡ 7 =
     omega (arith, length-many longest bits, length-decimal5 longest (omega arith) (omega arith)) in
@@ -316,7 +316,7 @@ cost-run n bits =
     cost-replicate (n / longest) (Many longest bits) ∙ ap (λ x. (n / longest) * x) seven in
     omega (
       arith,
-      cost-append (replicate (n / longest) (Many longest bits)) (rest_pieces (n % longest) bits),
+      cost-append (replicate (n / longest) (Many longest bits)) (rest_tokens (n % longest) bits),
       runs,
       cost-rest (n % longest) bits,
     )

@@ -28,7 +28,7 @@ use Rattle.sixel_encoder.specs.Trip.{IsWritable, CanRead, rounded, blank, trip_p
 use Rattle.sixel_encoder.specs.Trip.{trip, IsTrip, IsReadAs, IsOneString, is_used, bands_up_to}
 use Rattle.sixel_encoder.specs.Encoding.{image_fault, IsDrawing, IsText}
 use Rattle.sixel_encoder.proofs.RoundTrip.{picture-same, image-same}
-use Rattle.sixel_encoder.proofs.Rounding.{rounded-rounded}
+use Rattle.sixel_encoder.proofs.Percentages.{rounded-rounded}
 use Rattle.sixel_encoder.proofs.UsedBands.{window-some, window-any}
 use Rattle.sixel_encoder.proofs.DrawnHeight.{bands_up_to-none, bands_up_to-more, bands_up_to-le}
 use Rattle.sixel_encoder.proofs.TripLimits.{IsWritable-drawn, area-drawn, CanRead-drawn}

@@ -19,30 +19,31 @@ use Rattle.sixel_base.specs.declared.settings.PixelAspectRatio.{PixelAspectRatio
 use Rattle.sixel_base.specs.declared.settings.PixelAspectRatio.TheVariants.{Ratio5To1, Ratio3To1}
 use Rattle.sixel_base.specs.declared.settings.PixelAspectRatio.TheVariants.{Ratio2To1, Square}
 use Rattle.sixel_base.proofs.Reading.{carries, history_unique}
-use Rattle.sixel_encoder.specs.Pieces.{Piece, One, Many, sixels, IsPiece, row_pieces}
+use Rattle.sixel_encoder.specs.RunTokens.{RunToken, One, Many, sixels, IsRunToken, row_tokens}
 use Rattle.sixel_encoder.specs.Text.{Drawing, row_of, sixel_of, has_dot, percent, bands, is_entry}
 use Rattle.sixel_encoder.specs.Text.{entry_at, parameters_text, raster_text, palette_text}
 use Rattle.sixel_encoder.specs.Text.{bands_text, text_of}
 use Rattle.sixel_base.specs.Dcs.{after_terminator}
 use Rattle.sixel_encoder.specs.Trip.{payload_text, IsColor, IsWritable}
-use Rattle.sixel_encoder.proofs.Shortest.{spells}
+use Rattle.sixel_encoder.proofs.ShortestRows.{spells}
 use Rattle.sixel_encoder.proofs.Digits.{numbers, AreFields, all_digits-decimal}
 use Rattle.sixel_encoder.proofs.Digits.{all_parameters-numbers}
 use Rattle.sixel_encoder.proofs.SixBits.{mask-small}
 use Rattle.sixel_encoder.proofs.Steps.{after, steps_keep}
-use Rattle.sixel_encoder.proofs.Tokens.{token-more, AreTokens-sixel, with_piece, with_pieces}
-use Rattle.sixel_encoder.proofs.Tokens.{with_row, with_entry, with_band, with_definition}
-use Rattle.sixel_encoder.proofs.Tokens.{with_palette, percentages, sizes, tokens, spellings-tokens}
+use Rattle.sixel_encoder.proofs.Tokens.{token-more, AreTokens-sixel, with_run_token}
+use Rattle.sixel_encoder.proofs.Tokens.{with_run_tokens, with_row, with_entry, with_band}
+use Rattle.sixel_encoder.proofs.Tokens.{with_definition, with_palette, percentages, sizes, tokens}
+use Rattle.sixel_encoder.proofs.Tokens.{spellings-tokens}
 
--- a piece of six bits whose count can be written
-abbrev pub IsSound : Piece → Type 0
+-- a run-length token of six bits whose count can be written
+abbrev pub IsSound : RunToken → Type 0
 IsSound (One bits) = bits < 64
 IsSound (Many count bits) = (bits < 64) × (1 ≤ count) × (count ≤ 65535)
 
--- each of the pieces is so
-abbrev pub AreSound : List Piece → Type 0
+-- each of the run-length tokens is so
+abbrev pub AreSound : List RunToken → Type 0
 AreSound [] = Unit {0}
-AreSound (piece ∷ pieces) = IsSound piece × AreSound pieces
+AreSound (token ∷ tokens) = IsSound token × AreSound tokens
 
 -- what holds of two lists joined holds of the second
 All-right : (P : ℕ → Type 0) (xs ys : List ℕ) → All P (xs ++ ys) → All P ys
@@ -56,28 +57,28 @@ All-repeated : (P : ℕ → Type 0) (n b : ℕ) (row : List ℕ) → 1 ≤ n →
 All-repeated P zero b row some all = absurd (omega arith)
 All-repeated P (suc n) b row some all = All-head P b (replicate n b ++ row) all
 
--- a piece whose sixels have six bits each
-sound-piece : (piece : Piece) (row : List ℕ) → IsPiece piece
-    → All (λ b. b < 64) (sixels piece ++ row) → IsSound piece
+-- a run-length token whose sixels have six bits each
+sound-run_token : (token : RunToken) (row : List ℕ) → IsRunToken token
+    → All (λ b. b < 64) (sixels token ++ row) → IsSound token
 unfolding sixels
-sound-piece (One b) row is all = All-head (λ b. b < 64) b row all
-sound-piece (Many n b) row is all = (All-repeated (λ b. b < 64) n b row is.0 all, is.0, is.1)
+sound-run_token (One b) row is all = All-head (λ b. b < 64) b row all
+sound-run_token (Many n b) row is all = (All-repeated (λ b. b < 64) n b row is.0 all, is.0, is.1)
 
--- pieces whose sixels have six bits each
-AreSound-spelled : (pieces : List Piece) → All IsPiece pieces
-    → All (λ b. b < 64) (flat_map sixels pieces) → AreSound pieces
+-- run-length tokens whose sixels have six bits each
+AreSound-spelled : (tokens : List RunToken) → All IsRunToken tokens
+    → All (λ b. b < 64) (flat_map sixels tokens) → AreSound tokens
 AreSound-spelled [] are all = tt
-AreSound-spelled (piece ∷ pieces) are all = (
-  sound-piece piece (flat_map sixels pieces) (All-head IsPiece piece pieces are) all,
-  AreSound-spelled pieces (All-tail IsPiece piece pieces are)
-      (All-right (λ b. b < 64) (sixels piece) (flat_map sixels pieces) all),
+AreSound-spelled (token ∷ tokens) are all = (
+  sound-run_token token (flat_map sixels tokens) (All-head IsRunToken token tokens are) all,
+  AreSound-spelled tokens (All-tail IsRunToken token tokens are)
+      (All-right (λ b. b < 64) (sixels token) (flat_map sixels tokens) all),
 )
 
--- the pieces of a row of six bits each
-pub AreSound-row : (row : List ℕ) → All (λ b. b < 64) row → AreSound (row_pieces row)
+-- the run-length tokens of a row of six bits each
+pub AreSound-row : (row : List ℕ) → All (λ b. b < 64) row → AreSound (row_tokens row)
 AreSound-row row all =
-    AreSound-spelled (row_pieces row) (spells row).each
-    (All-same (λ b. b < 64) (flat_map sixels (row_pieces row)) row (spells row).joined all)
+    AreSound-spelled (row_tokens row) (spells row).each
+    (All-same (λ b. b < 64) (flat_map sixels (row_tokens row)) row (spells row).joined all)
 
 -- a row of an entry has six bits in each column
 pub row_of-small : (drawing : Drawing) (band entry : ℕ)
@@ -91,38 +92,38 @@ row_of-small drawing band entry =
 
 -- ---- each token may stand where it stands
 
--- a piece may follow any token
-AreTokens-piece : (piece : Piece) (h : History) → IsSound piece → AreTokens h
-    → AreTokens (with_piece piece h)
-AreTokens-piece (One bits) h is are = AreTokens-sixel bits h is are
-AreTokens-piece (Many count bits) h is are =
+-- a run-length token may follow any token
+AreTokens-run_token : (token : RunToken) (h : History) → IsSound token → AreTokens h
+    → AreTokens (with_run_token token h)
+AreTokens-run_token (One bits) h is are = AreTokens-sixel bits h is are
+AreTokens-run_token (Many count bits) h is are =
     AreTokens-sixel bits (Repeat (decimal count) ∷ h) is.0
     (token-more (Repeat (decimal count)) h (all_digits-decimal count (omega arith)) refl are)
 
--- so may pieces
-AreTokens-pieces : (pieces : List Piece) (h : History) → AreSound pieces → AreTokens h
-    → AreTokens (with_pieces pieces h)
-AreTokens-pieces [] h is are = are
-AreTokens-pieces (piece ∷ pieces) h is are =
-    AreTokens-pieces pieces (with_piece piece h) is.1 (AreTokens-piece piece h is.0 are)
+-- so may run-length tokens
+AreTokens-run_tokens : (tokens : List RunToken) (h : History) → AreSound tokens → AreTokens h
+    → AreTokens (with_run_tokens tokens h)
+AreTokens-run_tokens [] h is are = are
+AreTokens-run_tokens (token ∷ tokens) h is are =
+    AreTokens-run_tokens tokens (with_run_token token h) is.1 (AreTokens-run_token token h is.0 are)
 
 -- so may a row
-AreTokens-row : (entry : ℕ) (pieces : List Piece) (h : History) → entry < 256 → AreSound pieces
-    → AreTokens h → AreTokens (with_row entry pieces h)
-AreTokens-row entry pieces h small is are =
+AreTokens-row : (entry : ℕ) (tokens : List RunToken) (h : History) → entry < 256 → AreSound tokens
+    → AreTokens h → AreTokens (with_row entry tokens h)
+AreTokens-row entry tokens h small is are =
     let named =
     token-more (Color (numbers entry [])) h (all_parameters-numbers entry [] (omega arith) tt) refl
     are in
-    token-more Return (with_pieces pieces (Color (numbers entry []) ∷ h)) tt refl
-    (AreTokens-pieces pieces (Color (numbers entry []) ∷ h) is named)
+    token-more Return (with_run_tokens tokens (Color (numbers entry []) ∷ h)) tt refl
+    (AreTokens-run_tokens tokens (Color (numbers entry []) ∷ h) is named)
 
 -- an entry's row, or nothing
 AreTokens-entry : (drawing : Drawing) (band entry : ℕ) (h : History) → entry < 256 → AreTokens h
     → AreTokens (with_entry drawing band entry h)
 AreTokens-entry drawing band entry h small are =
     let row = row_of drawing band entry in
-    (elim (has_dot row) as (λ b. AreTokens (cond b (with_row entry (row_pieces row) h) h)) [
-      | true ↦ AreTokens-row entry (row_pieces row) h small
+    (elim (has_dot row) as (λ b. AreTokens (cond b (with_row entry (row_tokens row) h) h)) [
+      | true ↦ AreTokens-row entry (row_tokens row) h small
           (AreSound-row row (row_of-small drawing band entry)) are
       | false ↦ are
     ])

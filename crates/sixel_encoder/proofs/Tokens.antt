@@ -9,8 +9,8 @@ use Rattle.sixel_base.specs.Bytes.{is_parameter}
 use Rattle.sixel_base.specs.History.{Token, Sixel, Repeat, Raster, Color, Return, Newline, Skip}
 use Rattle.sixel_base.specs.History.{History, start, spellings, IsToken, goes_on, AreTokens}
 use Rattle.sixel_base.specs.Picture.{joined}
-use Rattle.sixel_encoder.specs.Pieces.{Piece, One, Many, spelling as piece_spelling, written}
-use Rattle.sixel_encoder.specs.Pieces.{row_pieces}
+use Rattle.sixel_encoder.specs.RunTokens.{RunToken, One, Many, spelling as run_token_spelling}
+use Rattle.sixel_encoder.specs.RunTokens.{written, row_tokens}
 use Rattle.sixel_encoder.specs.Text.{Drawing, row_of, has_dot, percent, raster_text}
 use Rattle.sixel_encoder.specs.Text.{color_definition, definition_text, row_text, entry_text}
 use Rattle.sixel_encoder.specs.Text.{band_text, palette_text, bands_text, bands}
@@ -44,25 +44,25 @@ AreTokens-sixel bits h small are =
 
 -- ---- the tokens
 
--- a piece is a sixel, perhaps repeated
-abbrev pub with_piece : Piece → History → History
-with_piece (One bits) h = Sixel bits ∷ h
-with_piece (Many count bits) h = Sixel bits ∷ Repeat (decimal count) ∷ h
+-- a run-length token is a sixel, perhaps repeated
+abbrev pub with_run_token : RunToken → History → History
+with_run_token (One bits) h = Sixel bits ∷ h
+with_run_token (Many count bits) h = Sixel bits ∷ Repeat (decimal count) ∷ h
 
--- the pieces, one after the other
-abbrev pub with_pieces : List Piece → History → History
-with_pieces [] h = h
-with_pieces (piece ∷ pieces) h = with_pieces pieces (with_piece piece h)
+-- the run-length tokens, one after the other
+abbrev pub with_run_tokens : List RunToken → History → History
+with_run_tokens [] h = h
+with_run_tokens (token ∷ tokens) h = with_run_tokens tokens (with_run_token token h)
 
--- a row selects its entry, draws its pieces and returns
-abbrev pub with_row : ℕ → List Piece → History → History
-with_row entry pieces h = Return ∷ with_pieces pieces (Color (numbers entry []) ∷ h)
+-- a row selects its entry, draws its run-length tokens and returns
+abbrev pub with_row : ℕ → List RunToken → History → History
+with_row entry tokens h = Return ∷ with_run_tokens tokens (Color (numbers entry []) ∷ h)
 
 -- an entry has a row where it has a dot
 abbrev pub with_entry : Drawing → ℕ → ℕ → History → History
 with_entry drawing band entry h =
     cond (has_dot (row_of drawing band entry))
-    (with_row entry (row_pieces (row_of drawing band entry)) h) h
+    (with_row entry (row_tokens (row_of drawing band entry)) h) h
 
 -- a band has the rows of its entries
 abbrev pub with_band : Drawing → ℕ → History → History
@@ -95,21 +95,21 @@ tokens drawing = after (with_band drawing) (bands drawing.height) (with_palette 
 
 -- ---- they spell the text
 
--- a piece appends its bytes
-spellings-piece : (piece : Piece) (h : History)
-    → spellings (with_piece piece h) ≡ spellings h ++ piece_spelling piece
-spellings-piece (One bits) h = refl
-spellings-piece (Many count bits) h =
+-- a run-length token appends its bytes
+spellings-run_token : (token : RunToken) (h : History)
+    → spellings (with_run_token token h) ≡ spellings h ++ run_token_spelling token
+spellings-run_token (One bits) h = refl
+spellings-run_token (Many count bits) h =
     append_assoc (spellings h) (33 ∷ decimal count) ((63 + bits) ∷ [])
 
--- pieces append theirs
-spellings-pieces : (pieces : List Piece) (h : History)
-    → spellings (with_pieces pieces h) ≡ spellings h ++ written pieces
-spellings-pieces [] h = sym (append-nil (spellings h))
-spellings-pieces (piece ∷ pieces) h =
-    spellings-pieces pieces (with_piece piece h)
-    ∙ (ap (λ s. s ++ written pieces) (spellings-piece piece h)
-    ∙ append_assoc (spellings h) (piece_spelling piece) (written pieces))
+-- run-length tokens append theirs
+spellings-run_tokens : (tokens : List RunToken) (h : History)
+    → spellings (with_run_tokens tokens h) ≡ spellings h ++ written tokens
+spellings-run_tokens [] h = sym (append-nil (spellings h))
+spellings-run_tokens (token ∷ tokens) h =
+    spellings-run_tokens tokens (with_run_token token h)
+    ∙ (ap (λ s. s ++ written tokens) (spellings-run_token token h)
+    ∙ append_assoc (spellings h) (run_token_spelling token) (written tokens))
 
 -- a row's bytes in one order of joining
 row-joined : (s d w : List ℕ) → s ++ (35 ∷ d) ++ w ++ (36 ∷ []) ≡ s ++ ((35 ∷ d) ++ w ++ (36 ∷ []))
@@ -117,10 +117,10 @@ row-joined s d w = simp append_assoc
 
 -- a row appends its text
 spellings-row : (entry : ℕ) (row : List ℕ) (h : History)
-    → spellings (with_row entry (row_pieces row) h) ≡ spellings h ++ row_text entry row
+    → spellings (with_row entry (row_tokens row) h) ≡ spellings h ++ row_text entry row
 spellings-row entry row h =
-    ap (λ s. s ++ (36 ∷ [])) (spellings-pieces (row_pieces row) (Color (decimal entry) ∷ h))
-    ∙ row-joined (spellings h) (decimal entry) (written (row_pieces row))
+    ap (λ s. s ++ (36 ∷ [])) (spellings-run_tokens (row_tokens row) (Color (decimal entry) ∷ h))
+    ∙ row-joined (spellings h) (decimal entry) (written (row_tokens row))
 
 -- an entry appends its text
 spellings-entry : (drawing : Drawing) (band entry : ℕ) (h : History)
@@ -129,7 +129,7 @@ spellings-entry drawing band entry h =
     let row = row_of drawing band entry in
     (elim (has_dot row) as
     (λ b.
-    spellings (cond b (with_row entry (row_pieces row) h) h)
+    spellings (cond b (with_row entry (row_tokens row) h) h)
     ≡ spellings h ++ cond b (row_text entry row) []) [
       | true ↦ spellings-row entry row h
       | false ↦ sym (append-nil (spellings h))

@@ -21,7 +21,7 @@ use Rattle.sixel_encoder.specs.Trip.{IsColor, IsWritable, CanRead, rounded, blan
 use Rattle.sixel_encoder.specs.Trip.{trip_height, trip, is_used, bands_up_to}
 use Rattle.sixel_encoder.specs.Encoding.{IsDrawing, image_fault}
 use Rattle.sixel_encoder.proofs.Sizes.{within-sound, sound-within}
-use Rattle.sixel_encoder.proofs.Rounding.{rounded_byte}
+use Rattle.sixel_encoder.proofs.Percentages.{rounded_byte}
 use Rattle.sixel_encoder.proofs.DrawnHeight.{bands_up_to-le}
 use Rattle.sixel_encoder.proofs.TripPixels.{entry_in, byte-trip, length-trip}
 

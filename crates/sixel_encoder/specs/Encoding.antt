@@ -14,7 +14,7 @@ use Rattle.sixel_palette.specs.Palette.{color_at, IsOpaque, IsPalette, IsNearest
 use Rattle.sixel_base.specs.Payload.{Image}
 use Rattle.sixel_base.specs.Size.{encode_fault, buffer_fault}
 use Rattle.sixel_encoder.specs.declared.source.Source.{Source}
-use Rattle.sixel_encoder.specs.Pieces.{Spells, IsShortest, row_pieces}
+use Rattle.sixel_encoder.specs.RunTokens.{Spells, IsShortest, row_tokens}
 use Rattle.sixel_encoder.specs.Text.{Drawing, row_of, text_of}
 
 -- an image of square pixels on a transparent background
@@ -64,12 +64,12 @@ abbrev pub IsText : Image → ℕ → List ℕ → Type 0
 IsText image max_colors bytes =
     (drawing : Drawing) × IsDrawing image max_colors drawing × (bytes ≡ text_of drawing)
 
--- each row of an entry in a band is spelled by its pieces, in the fewest bytes
+-- each row of an entry in a band is spelled by its tokens, in the fewest bytes
 abbrev pub AreShortest : Drawing → Type 0
 AreShortest drawing =
     (band entry : ℕ)
-    → Spells (row_pieces (row_of drawing band entry)) (row_of drawing band entry)
-    × IsShortest (row_pieces (row_of drawing band entry)) (row_of drawing band entry)
+    → Spells (row_tokens (row_of drawing band entry)) (row_of drawing band entry)
+    × IsShortest (row_tokens (row_of drawing band entry)) (row_of drawing band entry)
 
 -- an image without what is hidden: each pixel's color if it is shown
 pub record ShownImage : Type 0 where

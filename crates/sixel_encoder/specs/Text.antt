@@ -9,7 +9,7 @@ use Rattle.sixel_base.specs.declared.settings.BackgroundMode.{BackgroundMode}
 use Rattle.sixel_base.specs.declared.settings.PixelAspectRatio.{PixelAspectRatio}
 use Rattle.sixel_base.specs.Settings.{p1_of, p2_of, pad_of}
 use Rattle.sixel_base.specs.Picture.{joined}
-use Rattle.sixel_encoder.specs.Pieces.{written, row_pieces}
+use Rattle.sixel_encoder.specs.RunTokens.{written, row_tokens}
 
 -- sizes, shape and background of an image, the colors of its palette in order, and the entry of
 -- each pixel, row by row, or nothing
@@ -82,7 +82,7 @@ definition_text drawing entry = color_definition entry (slice_index_or drawing.c
 
 -- a row of an entry: the entry, its sixels, and back to the left
 abbrev pub row_text : ℕ → List ℕ → List ℕ
-row_text entry row = codes "#" ++ decimal entry ++ written (row_pieces row) ++ codes "$"
+row_text entry row = codes "#" ++ decimal entry ++ written (row_tokens row) ++ codes "$"
 
 -- the row of an entry in a band, where the entry is used there
 abbrev pub entry_text : Drawing → ℕ → ℕ → List ℕ

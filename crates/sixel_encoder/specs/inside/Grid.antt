@@ -1,10 +1,12 @@
--- What the encoder keeps of one band: the sixels of some entries from a first one on, entry after
--- entry, and which of them have a dot. This is the working of the encoder alone; what it writes is
--- defined by the text of a drawing.
+-- The rows of sixels of one band: those of some entries from a first one on, entry after entry, and
+-- which of them have a set pixel. This is internal to the encoder; its output is defined by the
+-- text of a drawing.
 use Rattle.std.specs.Prelude.{◌≡◌, ℕ, ◌+◌, ◌*◌, ◌<◌, ◌≤◌, ◌==◌, Bool, true, false, ◌&&◌}
 use Rattle.std.specs.Prelude.{if◌then◌else◌, List, [], length, map, slice_index, slice_index_or}
 use Rattle.std.specs.Prelude.{Option}
 use Rattle.std.specs.List.{range_with_len}
+use Rattle.sixel_encoder.specs.declared.band.BandRows.{BandRows}
+use Rattle.sixel_encoder.specs.declared.text.IndexedImage.{IndexedImage}
 use Rattle.sixel_encoder.specs.Text.{is_entry, has_dot, row_text}
 
 -- the sixel of an entry in a column
@@ -57,3 +59,20 @@ pub record AreClear (rows : List ℕ) (used : List Bool) (width entries : ℕ) :
   pub blank : (entry column : ℕ) → entry < entries → column < width
       → cell rows width entry column ≡ 0
   pub unused : (entry : ℕ) → entry < entries → slice_index_or used entry false ≡ false
+
+-- The rows are empty. They are as wide as the image, those of at least one entry and of no more
+-- than there are, and take at most 2 MiB with their marks.
+pub record AreEmptyRows (image : IndexedImage) (band : BandRows) : Type 0 where
+  pub wide : band.width ≡ image.width
+  pub some : 0 < length band.used.items
+  pub few : 0 < length image.colors.now → length band.used.items ≤ length image.colors.now
+  pub size : length band.rows.items + length band.used.items ≤ 2097152
+  pub places : AreRows band.rows.items band.used.items image.width
+  pub clear : AreClear band.rows.items band.used.items image.width (length band.used.items)
+
+-- the rows have the same sizes, and are those of the same entries
+pub record IsSameShape (old new : BandRows) : Type 0 where
+  pub wide : new.width ≡ old.width
+  pub from : new.first ≡ old.first
+  pub sixels : length new.rows.items ≡ length old.rows.items
+  pub marks : length new.used.items ≡ length old.used.items
