@@ -1,5 +1,7 @@
--- What the text of an image that was encoded is: in the fewest bytes, blind to what is hidden, and read back as its trip.
-use Rattle.std.proofs.Common.{◌≡◌, ℕ, ◌*◌, ◌<◌, ◌≤◌, List, Option, Some, None, Result, Ok, Err, refl, sym, ap, ◌∙◌}
+-- What the text of an image that was encoded is: in the fewest bytes, blind to what is hidden, and
+-- read back as its trip.
+use Rattle.std.proofs.Common.{◌≡◌, ℕ, ◌*◌, ◌<◌, ◌≤◌, List, Option, Some, None, Result, Ok, Err}
+use Rattle.std.proofs.Common.{refl, sym, ap, ◌∙◌}
 use Rattle.std.specs.Prelude.{All, IfErr, IfOk, OnOk, MatchOption}
 use Rattle.sixel_base.specs.declared.error.SixelError.{SixelError}
 use Rattle.sixel_base.specs.declared.error.SixelError.TheVariants.{OutOfMemory}
@@ -10,29 +12,41 @@ use Rattle.sixel_base.specs.declared.state.DecoderState.{DecoderState}
 use Rattle.sixel_base.specs.Payload.{Image}
 use Rattle.sixel_encoder.specs.Text.{Drawing, row_of, text_of}
 use Rattle.sixel_encoder.specs.Encoding.{image_fault, AreShortest, IsDrawing, IsText}
-use Rattle.sixel_encoder.proofs.Shortest.{spells, shortest}
+use Rattle.sixel_encoder.proofs.ShortestRows.{spells, shortest}
 use Rattle.sixel_encoder.specs.Trip.{CanRead, trip, IsTrip, IsReadAs, IsOneString}
 use Rattle.sixel_encoder.proofs.TripLimits.{CanRead-new}
 use Rattle.sixel_encoder.proofs.SecondTrip.{image-read_back, image-one_string, text-again}
 
 -- an image that was encoded has no fault
-accepted : {S : Type 0} (result : Result S SixelError) (text : S) (fault : Option SixelError) → result ≡ Ok text
+accepted : {S : Type 0} (result : Result S SixelError) (text : S) (fault : Option SixelError)
+    → result ≡ Ok text
     → MatchOption fault (IfErr result (λ e. e ≡ OutOfMemory)) (λ f. result ≡ Err f) → fault ≡ None
 accepted result text None ok is = refl
 accepted result text (Some f) ok is = absurd cc
 
 -- it is the text of a drawing whose rows are all in the fewest bytes
-pub shortest-written : {S : Type 0} (bytes : S → List ℕ) (result : Result S SixelError) (image : Image) (k : ℕ)
+pub shortest-written : {S : Type 0} (bytes : S → List ℕ) (result : Result S SixelError)
+    (image : Image) (k : ℕ)
     → IfOk result (λ text. IsText image k (bytes text))
-    → IfOk result (λ text. (drawing : Drawing) × IsDrawing image k drawing × (bytes text ≡ text_of drawing) × AreShortest drawing)
-shortest-written bytes (Ok text) image k is =
-    (is.0, is.1, is.2, λ band entry. (spells (row_of is.0 band entry), shortest (row_of is.0 band entry)))
+    → IfOk result
+    (λ text.
+    (drawing : Drawing) × IsDrawing image k drawing × (bytes text ≡ text_of drawing)
+    × AreShortest drawing)
+shortest-written bytes (Ok text) image k is = (
+  is.0,
+  is.1,
+  is.2,
+  λ band entry. (spells (row_of is.0 band entry), shortest (row_of is.0 band entry)),
+)
 shortest-written bytes (Err e) image k is = tt
 
 -- where the drawings are one, so are the texts
-pub hidden-written : {S : Type 0} (bytes : S → List ℕ) (result : Result S SixelError) (image other : Image) (k : ℕ) (others : List ℕ)
-    → ((drawing another : Drawing) → All (λ byte. byte < 256) image.pixels → IsDrawing image k drawing → IsDrawing other k another → drawing ≡ another)
-    → OnOk result (All (λ byte. byte < 256) image.pixels) → IfOk result (λ text. IsText image k (bytes text)) → IsText other k others
+pub hidden-written : {S : Type 0} (bytes : S → List ℕ) (result : Result S SixelError)
+    (image other : Image) (k : ℕ) (others : List ℕ)
+    → ((drawing another : Drawing) → All (λ byte. byte < 256) image.pixels
+    → IsDrawing image k drawing → IsDrawing other k another → drawing ≡ another)
+    → OnOk result (All (λ byte. byte < 256) image.pixels)
+    → IfOk result (λ text. IsText image k (bytes text)) → IsText other k others
     → IfOk result (λ text. bytes text ≡ others)
 hidden-written bytes (Ok text) image other k others one fits is also =
     is.2 ∙ (ap text_of (one is.0 also.0 fits is.1 also.1) ∙ sym also.2)
@@ -40,26 +54,44 @@ hidden-written bytes (Err e) image other k others one fits is also = tt
 
 -- so a new decoder can read it
 pub readable-written : {S : Type 0} (result : Result S SixelError) (image : Image)
-    → MatchOption (image_fault image) (IfErr result (λ e. e ≡ OutOfMemory)) (λ f. result ≡ Err f) → OnOk result (CanRead new_decoder image.width image.height)
-readable-written (Ok text) image refused = CanRead-new image (accepted (Ok text) text (image_fault image) refl refused)
+    → MatchOption (image_fault image) (IfErr result (λ e. e ≡ OutOfMemory)) (λ f. result ≡ Err f)
+    → OnOk result (CanRead new_decoder image.width image.height)
+readable-written (Ok text) image refused =
+    CanRead-new image (accepted (Ok text) text (image_fault image) refl refused)
 readable-written (Err e) image refused = tt
 
-pub one_string-written : {S : Type 0} (bytes : S → List ℕ) (result : Result S SixelError) (limit : ℕ) (image : Image) (k : ℕ)
+pub one_string-written : {S : Type 0} (bytes : S → List ℕ) (result : Result S SixelError)
+    (limit : ℕ) (image : Image) (k : ℕ)
     → MatchOption (image_fault image) (IfErr result (λ e. e ≡ OutOfMemory)) (λ f. result ≡ Err f)
-    → OnOk result (All (λ byte. byte < 256) image.pixels) → IfOk result (λ text. IsText image k (bytes text))
-    → image.width * banded image.height ≤ limit → IfOk result (λ text. IsOneString limit (bytes text))
-one_string-written bytes (Ok text) limit image k refused fits is room = image-one_string limit image k (bytes text) (accepted (Ok text) text (image_fault image) refl refused) fits room is
+    → OnOk result (All (λ byte. byte < 256) image.pixels)
+    → IfOk result (λ text. IsText image k (bytes text))
+    → image.width * banded image.height ≤ limit
+    → IfOk result (λ text. IsOneString limit (bytes text))
+one_string-written bytes (Ok text) limit image k refused fits is room =
+    image-one_string limit image k (bytes text)
+    (accepted (Ok text) text (image_fault image) refl refused) fits room is
 one_string-written bytes (Err e) limit image k refused fits is room = tt
 
-pub read_back-written : {S : Type 0} (bytes : S → List ℕ) (result : Result S SixelError) (decoder : DecoderState) (image : Image) (k : ℕ)
+pub read_back-written : {S : Type 0} (bytes : S → List ℕ) (result : Result S SixelError)
+    (decoder : DecoderState) (image : Image) (k : ℕ)
     → MatchOption (image_fault image) (IfErr result (λ e. e ≡ OutOfMemory)) (λ f. result ≡ Err f)
-    → OnOk result (All (λ byte. byte < 256) image.pixels) → IfOk result (λ text. IsText image k (bytes text)) → CanRead decoder image.width image.height
-    → IfOk result (λ text. (drawing : Drawing) × IsDrawing image k drawing × IsReadAs decoder (bytes text) (trip decoder.raster_crop drawing))
-read_back-written bytes (Ok text) decoder image k refused fits is reads = image-read_back decoder image k (bytes text) (accepted (Ok text) text (image_fault image) refl refused) fits reads is
+    → OnOk result (All (λ byte. byte < 256) image.pixels)
+    → IfOk result (λ text. IsText image k (bytes text)) → CanRead decoder image.width image.height
+    → IfOk result
+    (λ text.
+    (drawing : Drawing) × IsDrawing image k drawing
+    × IsReadAs decoder (bytes text) (trip decoder.raster_crop drawing))
+read_back-written bytes (Ok text) decoder image k refused fits is reads =
+    image-read_back decoder image k (bytes text)
+    (accepted (Ok text) text (image_fault image) refl refused) fits reads is
 read_back-written bytes (Err e) decoder image k refused fits is reads = tt
 
-pub again-written : {S : Type 0} (bytes : S → List ℕ) (result : Result S SixelError) (decoder : DecoderState) (image : Image) (k : ℕ)
-    → IfOk result (λ text. IsText image k (bytes text)) → CanRead decoder image.width image.height → IsTrip decoder.raster_crop image k
-    → image.background_mode ≡ Transparent → IfOk result (λ text. IsReadAs decoder (bytes text) image)
-again-written bytes (Ok text) decoder image k is reads of clear = text-again decoder image k (bytes text) of clear reads is
+pub again-written : {S : Type 0} (bytes : S → List ℕ) (result : Result S SixelError)
+    (decoder : DecoderState) (image : Image) (k : ℕ)
+    → IfOk result (λ text. IsText image k (bytes text)) → CanRead decoder image.width image.height
+    → IsTrip decoder.raster_crop image k
+    → image.background_mode ≡ Transparent
+    → IfOk result (λ text. IsReadAs decoder (bytes text) image)
+again-written bytes (Ok text) decoder image k is reads of clear =
+    text-again decoder image k (bytes text) of clear reads is
 again-written bytes (Err e) decoder image k is reads of clear = tt

@@ -1,23 +1,25 @@
 -- How far the rows of a text reach: within the width, within the bands, and so without a fault.
-use Rattle.std.proofs.Common.{◌≡◌, ℕ, ◌+◌, ◌*◌, ◌<◌, ◌≤◌, max, List, [], ◌∷◌, length, refl, ap, ◌∙◌, arith, length-append}
+use Rattle.std.proofs.Common.{◌≡◌, ℕ, ◌+◌, ◌*◌, ◌<◌, ◌≤◌, max, List, [], ◌∷◌, length, refl, ap, ◌∙◌}
+use Rattle.std.proofs.Common.{arith, length-append}
 use Rattle.std.specs.Prelude.{decimal, flat_map, Option, Some, None}
 use Rattle.std.specs.Option.{option_or}
 use Rattle.std.proofs.lemmas.Bool.Decides.{nat_tests}
 use Rattle.std.proofs.lemmas.Nat.{mul-le}
 use Rattle.std.proofs.lemmas.List.{length-replicate}
-use Rattle.sixel_base.specs.History.{Token, Sixel, Repeat, Raster, Color, Return, Newline, Skip, History}
+use Rattle.sixel_base.specs.History.{Token, Sixel, Repeat, Raster, Color, Return, Newline, Skip}
+use Rattle.sixel_base.specs.History.{History}
 use Rattle.sixel_base.specs.Fault.{Fault}
 use Rattle.sixel_base.specs.Fields.{field}
 use Rattle.sixel_base.specs.Place.{span, across, down, width, height}
 use Rattle.sixel_base.specs.Payload.{extent_fault, fault_of, first_fault}
-use Rattle.sixel_encoder.specs.Pieces.{Piece, One, Many, sixels}
+use Rattle.sixel_encoder.specs.RunTokens.{RunToken, One, Many, sixels}
 use Rattle.sixel_encoder.proofs.Digits.{numbers}
-use Rattle.sixel_encoder.proofs.Tokens.{with_piece, with_pieces, with_row}
+use Rattle.sixel_encoder.proofs.Tokens.{with_run_token, with_run_tokens, with_row}
 use Rattle.sixel_encoder.proofs.TextHistory.{IsSound, AreSound}
-use Rattle.sixel_encoder.proofs.RowSteps.{Moved-piece, field-decimal}
+use Rattle.sixel_encoder.proofs.RowSteps.{Moved-run_token, field-decimal}
 
 -- a size that is within the limits
-pub record IsRoom (limit w h : ℕ) : Type 0 where
+pub record IsWithinLimits (limit w h : ℕ) : Type 0 where
   pub wide : w ≤ 1000000
   pub high : h ≤ 1000000
   pub area : w * h ≤ limit
@@ -29,73 +31,114 @@ pub record Fits (limit w h : ℕ) (history : History) : Type 0 where
   pub sound : first_fault limit history ≡ None
 
 -- a reach within the limits is no fault
-pub extent_fault-none : (limit right lower : ℕ) (history : History) → right ≤ 1000000 → lower ≤ 1000000 → width history * height history ≤ limit → extent_fault limit right lower history ≡ None
+pub extent_fault-none : (limit right lower : ℕ) (history : History) → right ≤ 1000000
+    → lower ≤ 1000000 → width history * height history ≤ limit
+    → extent_fault limit right lower history ≡ None
 extent_fault-none limit right lower history hr hl ha = grind (arith, nat_tests)
 
 -- within a width and a height the area is within the limit
-area-within : (limit w h : ℕ) (history : History) → IsRoom limit w h → width history ≡ w → height history ≤ h → width history * height history ≤ limit
-area-within limit w h history room wide high = omega (arith, room.area, mul-le (width history) (height history) w h (omega arith) high)
+area-within : (limit w h : ℕ) (history : History) → IsWithinLimits limit w h → width history ≡ w
+    → height history ≤ h → width history * height history ≤ limit
+area-within limit w h history small wide high =
+    omega (arith, small.area, mul-le (width history) (height history) w h (omega arith) high)
 
 -- a token without a fault adds none
-first_fault-more : (limit : ℕ) (token : Token) (older : History) → first_fault limit older ≡ None → fault_of limit token older ≡ None → first_fault limit (token ∷ older) ≡ None
-first_fault-more limit token older before now = ap (λ f. option_or f (fault_of limit token older)) before ∙ now
+first_fault-more : (limit : ℕ) (token : Token) (older : History) → first_fault limit older ≡ None
+    → fault_of limit token older ≡ None → first_fault limit (token ∷ older) ≡ None
+first_fault-more limit token older before now =
+    ap (λ f. option_or f (fault_of limit token older)) before ∙ now
 
 -- a sixel within the sizes
-pub Fits-sixel : (limit w h bits : ℕ) (history : History) → IsRoom limit w h → across history + span history ≤ w → down history + 6 ≤ h → Fits limit w h history → Fits limit w h (Sixel bits ∷ history)
-Fits-sixel limit w h bits history room right lower fits =
+pub Fits-sixel : (limit w h bits : ℕ) (history : History) → IsWithinLimits limit w h
+    → across history + span history ≤ w → down history + 6 ≤ h → Fits limit w h history
+    → Fits limit w h (Sixel bits ∷ history)
+Fits-sixel limit w h bits history small right lower fits =
     let wide : width (Sixel bits ∷ history) ≡ w = omega (arith, fits.wide) in
     let high : height (Sixel bits ∷ history) ≤ h = omega (arith, fits.high) in
     record {
       wide = wide;
       high = high;
       sound = first_fault-more limit (Sixel bits) history fits.sound
-          (extent_fault-none limit (across history + span history) (down history + 6) (Sixel bits ∷ history) (omega (arith, room.wide)) (omega (arith, room.high)) (area-within limit w h (Sixel bits ∷ history) room wide high));
+          (extent_fault-none limit (across history + span history) (down history + 6)
+          (Sixel bits ∷ history) (omega (arith, small.wide)) (omega (arith, small.high))
+          (area-within limit w h (Sixel bits ∷ history) small wide high));
     }
 
 -- a repeat that can be written is no fault
-repeat-sound : (limit count : ℕ) (history : History) → count ≤ 65535 → fault_of limit (Repeat (decimal count)) history ≡ None
+repeat-sound : (limit count : ℕ) (history : History) → count ≤ 65535
+    → fault_of limit (Repeat (decimal count)) history ≡ None
 repeat-sound limit count history high =
     let named = field-decimal count high in
     grind (arith, nat_tests)
 
 -- a repeat changes no size
-Fits-repeat : (limit w h count : ℕ) (history : History) → count ≤ 65535 → Fits limit w h history → Fits limit w h (Repeat (decimal count) ∷ history)
+Fits-repeat : (limit w h count : ℕ) (history : History) → count ≤ 65535 → Fits limit w h history
+    → Fits limit w h (Repeat (decimal count) ∷ history)
 Fits-repeat limit w h count history high fits = record {
   wide = fits.wide;
   high = fits.high;
-  sound = first_fault-more limit (Repeat (decimal count)) history fits.sound (repeat-sound limit count history high);
+  sound =
+      first_fault-more limit (Repeat (decimal count)) history fits.sound
+      (repeat-sound limit count history high);
 }
 
--- a piece within the sizes
-Fits-piece : (limit w h : ℕ) (piece : Piece) (history : History) → IsRoom limit w h → IsSound piece → span history ≡ 1 → across history + length (sixels piece) ≤ w → down history + 6 ≤ h → Fits limit w h history → Fits limit w h (with_piece piece history)
+-- a run-length token within the sizes
+Fits-run_token : (limit w h : ℕ) (token : RunToken) (history : History) → IsWithinLimits limit w h
+    → IsSound token → span history ≡ 1 → across history + length (sixels token) ≤ w
+    → down history + 6 ≤ h → Fits limit w h history → Fits limit w h (with_run_token token history)
 unfolding sixels
-Fits-piece limit w h (One bits) history room is one right lower fits = Fits-sixel limit w h bits history room (omega arith) lower fits
-Fits-piece limit w h (Many count bits) history room is one right lower fits =
-    let wide : span (Repeat (decimal count) ∷ history) ≡ count = omega (arith, field-decimal count is.2) in
-    Fits-sixel limit w h bits (Repeat (decimal count) ∷ history) room (omega (arith, length-replicate count bits)) lower (Fits-repeat limit w h count history is.2 fits)
+Fits-run_token limit w h (One bits) history small is one right lower fits =
+    Fits-sixel limit w h bits history small (omega arith) lower fits
+Fits-run_token limit w h (Many count bits) history small is one right lower fits =
+    let wide : span (Repeat (decimal count) ∷ history) ≡ count =
+    omega (arith, field-decimal count is.2) in
+    Fits-sixel limit w h bits (Repeat (decimal count) ∷ history) small
+    (omega (arith, length-replicate count bits)) lower
+    (Fits-repeat limit w h count history is.2 fits)
 
--- pieces within the sizes
-pub Fits-pieces : (limit w h : ℕ) (pieces : List Piece) (history : History) → IsRoom limit w h → AreSound pieces → span history ≡ 1 → across history + length (flat_map sixels pieces) ≤ w → down history + 6 ≤ h → Fits limit w h history → Fits limit w h (with_pieces pieces history)
-Fits-pieces limit w h [] history room are one right lower fits = fits
-Fits-pieces limit w h (piece ∷ pieces) history room are one right lower fits =
-    let moved = Moved-piece piece history are.0 one in
-    let both = length-append (sixels piece) (flat_map sixels pieces) in
-    Fits-pieces limit w h pieces (with_piece piece history) room are.1 moved.single (omega (arith, moved.place, both)) (omega (arith, moved.level))
-    (Fits-piece limit w h piece history room are.0 one (omega (arith, both)) lower fits)
+-- run-length tokens within the sizes
+pub Fits-run_tokens : (limit w h : ℕ) (tokens : List RunToken) (history : History)
+    → IsWithinLimits limit w h → AreSound tokens → span history ≡ 1
+    → across history + length (flat_map sixels tokens) ≤ w → down history + 6 ≤ h
+    → Fits limit w h history → Fits limit w h (with_run_tokens tokens history)
+Fits-run_tokens limit w h [] history small are one right lower fits = fits
+Fits-run_tokens limit w h (token ∷ tokens) history small are one right lower fits =
+    let moved = Moved-run_token token history are.0 one in
+    let both = length-append (sixels token) (flat_map sixels tokens) in
+    Fits-run_tokens limit w h tokens (with_run_token token history) small are.1 moved.single
+    (omega (arith, moved.place, both)) (omega (arith, moved.level))
+    (Fits-run_token limit w h token history small are.0 one (omega (arith, both)) lower fits)
 
 -- a row stays within the width and the bands
-pub Fits-row : (limit w h entry : ℕ) (pieces : List Piece) (history : History) → IsRoom limit w h → AreSound pieces → span history ≡ 1 → across history + length (flat_map sixels pieces) ≤ w → down history + 6 ≤ h → Fits limit w h history → Fits limit w h (with_row entry pieces history)
-Fits-row limit w h entry pieces history room are one right lower fits =
-    let named : Fits limit w h (Color (numbers entry []) ∷ history) = record { wide = fits.wide; high = fits.high; sound = first_fault-more limit (Color (numbers entry [])) history fits.sound refl } in
-    let drawn = Fits-pieces limit w h pieces (Color (numbers entry []) ∷ history) room are one right lower named in
-    record { wide = drawn.wide; high = drawn.high; sound = first_fault-more limit Return (with_pieces pieces (Color (numbers entry []) ∷ history)) drawn.sound refl }
+pub Fits-row : (limit w h entry : ℕ) (tokens : List RunToken) (history : History)
+    → IsWithinLimits limit w h → AreSound tokens → span history ≡ 1
+    → across history + length (flat_map sixels tokens) ≤ w → down history + 6 ≤ h
+    → Fits limit w h history → Fits limit w h (with_row entry tokens history)
+Fits-row limit w h entry tokens history small are one right lower fits =
+    let named : Fits limit w h (Color (numbers entry []) ∷ history) = record {
+      wide = fits.wide;
+      high = fits.high;
+      sound = first_fault-more limit (Color (numbers entry [])) history fits.sound refl;
+    } in
+    let drawn =
+    Fits-run_tokens limit w h tokens (Color (numbers entry []) ∷ history) small are one right lower
+    named in
+    record {
+      wide = drawn.wide;
+      high = drawn.high;
+      sound =
+          first_fault-more limit Return
+          (with_run_tokens tokens (Color (numbers entry []) ∷ history)) drawn.sound refl;
+    }
 
 -- a new line within the limits is no fault
-newline-sound : (limit : ℕ) (history : History) → down history + 6 ≤ 1000000 → fault_of limit Newline history ≡ None
+newline-sound : (limit : ℕ) (history : History) → down history + 6 ≤ 1000000
+    → fault_of limit Newline history ≡ None
 newline-sound limit history h = grind (arith, nat_tests)
 
 -- a new line changes no size
-pub Fits-newline : (limit w h : ℕ) (history : History) → down history + 6 ≤ 1000000 → Fits limit w h history → Fits limit w h (Newline ∷ history)
+pub Fits-newline : (limit w h : ℕ) (history : History) → down history + 6 ≤ 1000000
+    → Fits limit w h history → Fits limit w h (Newline ∷ history)
 Fits-newline limit w h history lower fits = record {
   wide = fits.wide;
   high = fits.high;
@@ -103,8 +146,13 @@ Fits-newline limit w h history lower fits = record {
 }
 
 -- nor does a color introducer
-pub Fits-color : (limit w h : ℕ) (t : List ℕ) (history : History) → Fits limit w h history → Fits limit w h (Color t ∷ history)
-Fits-color limit w h t history fits = record { wide = fits.wide; high = fits.high; sound = first_fault-more limit (Color t) history fits.sound refl }
+pub Fits-color : (limit w h : ℕ) (t : List ℕ) (history : History) → Fits limit w h history
+    → Fits limit w h (Color t ∷ history)
+Fits-color limit w h t history fits = record {
+  wide = fits.wide;
+  high = fits.high;
+  sound = first_fault-more limit (Color t) history fits.sound refl;
+}
 
 -- ---- another limit
 
@@ -114,54 +162,83 @@ both-none None b is = (refl, is)
 both-none (Some f) b is = absurd cc
 
 -- an extent that is no fault is none within another limit that it fits
-extent_fault-other : (limit other right lower : ℕ) (history : History) → extent_fault limit right lower history ≡ None → width history * height history ≤ other → extent_fault other right lower history ≡ None
-extent_fault-other limit other right lower history is room = grind (arith, nat_tests)
+extent_fault-other : (limit other right lower : ℕ) (history : History)
+    → extent_fault limit right lower history ≡ None → width history * height history ≤ other
+    → extent_fault other right lower history ≡ None
+extent_fault-other limit other right lower history is small = grind (arith, nat_tests)
 
 -- nor is any token
-fault_of-other : (limit other : ℕ) (token : Token) (older : History) → fault_of limit token older ≡ None → width (token ∷ older) * height (token ∷ older) ≤ other → fault_of other token older ≡ None
-fault_of-other limit other (Sixel bits) older is room = extent_fault-other limit other (across older + span older) (down older + 6) (Sixel bits ∷ older) is room
-fault_of-other limit other (Repeat t) older is room = is
-fault_of-other limit other (Raster t) older is room = extent_fault-other limit other (field t 2) (field t 3) (Raster t ∷ older) is room
-fault_of-other limit other (Color t) older is room = refl
-fault_of-other limit other Return older is room = refl
-fault_of-other limit other Newline older is room = is
-fault_of-other limit other (Skip byte) older is room = refl
+fault_of-other : (limit other : ℕ) (token : Token) (older : History)
+    → fault_of limit token older ≡ None → width (token ∷ older) * height (token ∷ older) ≤ other
+    → fault_of other token older ≡ None
+fault_of-other limit other (Sixel bits) older is small =
+    extent_fault-other limit other (across older + span older) (down older + 6) (Sixel bits ∷ older)
+    is small
+fault_of-other limit other (Repeat t) older is small = is
+fault_of-other limit other (Raster t) older is small =
+    extent_fault-other limit other (field t 2) (field t 3) (Raster t ∷ older) is small
+fault_of-other limit other (Color t) older is small = refl
+fault_of-other limit other Return older is small = refl
+fault_of-other limit other Newline older is small = is
+fault_of-other limit other (Skip byte) older is small = refl
 
 -- a token makes no picture smaller
-area-older : (token : Token) (older : History) → width older * height older ≤ width (token ∷ older) * height (token ∷ older)
-area-older (Sixel bits) older = mul-le (width older) (height older) (width (Sixel bits ∷ older)) (height (Sixel bits ∷ older)) (omega arith) (omega arith)
+area-older : (token : Token) (older : History)
+    → width older * height older ≤ width (token ∷ older) * height (token ∷ older)
+area-older (Sixel bits) older =
+    mul-le (width older) (height older) (width (Sixel bits ∷ older)) (height (Sixel bits ∷ older))
+    (omega arith) (omega arith)
 area-older (Repeat t) older = omega arith
-area-older (Raster t) older = mul-le (width older) (height older) (width (Raster t ∷ older)) (height (Raster t ∷ older)) (omega arith) (omega arith)
+area-older (Raster t) older =
+    mul-le (width older) (height older) (width (Raster t ∷ older)) (height (Raster t ∷ older))
+    (omega arith) (omega arith)
 area-older (Color t) older = omega arith
 area-older Return older = omega arith
 area-older Newline older = omega arith
 area-older (Skip byte) older = omega arith
 
 -- tokens without a fault have none within another limit that their picture fits
-pub first_fault-other : (limit other : ℕ) (history : History) → first_fault limit history ≡ None → width history * height history ≤ other → first_fault other history ≡ None
-first_fault-other limit other [] is room = refl
-first_fault-other limit other (token ∷ older) is room =
+pub first_fault-other : (limit other : ℕ) (history : History) → first_fault limit history ≡ None
+    → width history * height history ≤ other → first_fault other history ≡ None
+first_fault-other limit other [] is small = refl
+first_fault-other limit other (token ∷ older) is small =
     let both = both-none (first_fault limit older) (fault_of limit token older) is in
-    first_fault-more other token older (first_fault-other limit other older both.0 (omega (arith, area-older token older, room))) (fault_of-other limit other token older both.1 room)
+    first_fault-more other token older
+    (first_fault-other limit other older both.0 (omega (arith, area-older token older, small)))
+    (fault_of-other limit other token older both.1 small)
 
 -- ---- how high a row makes the picture
 
--- a piece reaches to the end of its band
-height-piece : (piece : Piece) (history : History) → height (with_piece piece history) ≡ max (height history) (down history + 6)
-height-piece (One bits) history = refl
-height-piece (Many count bits) history = refl
+-- a run-length token reaches to the end of its band
+height-run_token : (token : RunToken) (history : History)
+    → height (with_run_token token history) ≡ max (height history) (down history + 6)
+height-run_token (One bits) history = refl
+height-run_token (Many count bits) history = refl
 
--- where the picture is as high already, pieces keep its height
-height-kept : (pieces : List Piece) (history : History) → AreSound pieces → span history ≡ 1 → down history + 6 ≤ height history → height (with_pieces pieces history) ≡ height history
+-- where the picture is as high already, run-length tokens keep its height
+height-kept : (tokens : List RunToken) (history : History) → AreSound tokens → span history ≡ 1
+    → down history + 6 ≤ height history → height (with_run_tokens tokens history) ≡ height history
 height-kept [] history are one h = refl
-height-kept (piece ∷ pieces) history are one h =
-    let moved = Moved-piece piece history are.0 one in
-    omega (arith, height-kept pieces (with_piece piece history) are.1 moved.single (omega (arith, moved.level, height-piece piece history)), height-piece piece history)
+height-kept (token ∷ tokens) history are one h =
+    let moved = Moved-run_token token history are.0 one in
+    omega (
+      arith,
+      height-kept tokens (with_run_token token history) are.1 moved.single
+          (omega (arith, moved.level, height-run_token token history)),
+      height-run_token token history,
+    )
 
 -- a row with a sixel reaches to the end of its band
-pub height-row : (entry : ℕ) (pieces : List Piece) (history : History) → AreSound pieces → span history ≡ 1 → 0 < length (flat_map sixels pieces) → height (with_row entry pieces history) ≡ max (height history) (down history + 6)
+pub height-row : (entry : ℕ) (tokens : List RunToken) (history : History) → AreSound tokens
+    → span history ≡ 1 → 0 < length (flat_map sixels tokens)
+    → height (with_row entry tokens history) ≡ max (height history) (down history + 6)
 height-row entry [] history are one some = absurd (omega arith)
-height-row entry (piece ∷ pieces) history are one some =
+height-row entry (token ∷ tokens) history are one some =
     let named : History = Color (numbers entry []) ∷ history in
-    let moved = Moved-piece piece named are.0 one in
-    omega (arith, height-kept pieces (with_piece piece named) are.1 moved.single (omega (arith, moved.level, height-piece piece named)), height-piece piece named)
+    let moved = Moved-run_token token named are.0 one in
+    omega (
+      arith,
+      height-kept tokens (with_run_token token named) are.1 moved.single
+          (omega (arith, moved.level, height-run_token token named)),
+      height-run_token token named,
+    )

@@ -1,16 +1,21 @@
 -- How many bytes so many equal sixels take, and that cutting them in two saves none.
-use Rattle.std.proofs.Common.{◌≡◌, ℕ, ◌+◌, ◌-◌, ◌*◌, ◌/◌, ◌%◌, ◌^◌, ◌<◌, ◌≤◌, nat_lt, true, false, cond, List, [], ◌∷◌, ◌++◌, length, replicate, refl, ap, sym, ◌∙◌, arith, length-append, subst, zero, suc, inl, inr}
+use Rattle.std.proofs.Common.{◌≡◌, ℕ, ◌+◌, ◌-◌, ◌*◌, ◌/◌, ◌%◌, ◌^◌, ◌<◌, ◌≤◌, nat_lt, true, false}
+use Rattle.std.proofs.Common.{cond, List, [], ◌∷◌, ◌++◌, length, replicate, refl, ap, sym, ◌∙◌}
+use Rattle.std.proofs.Common.{arith, length-append, subst, zero, suc, inl, inr}
 use Rattle.std.specs.Prelude.{if◌then◌else◌, decimal}
 use Rattle.std.proofs.lemmas.Bool.{cases_lt}
 use Rattle.std.proofs.lemmas.Bool.Decides.{nat_tests}
 use Rattle.std.proofs.lemmas.Fmt.{decimal_digit, decimal_step}
 use Rattle.std.proofs.lemmas.List.{append-nil}
 use Rattle.std.proofs.lemmas.List.Concat.{flat_map-append}
-use Rattle.sixel_encoder.specs.Pieces.{Piece, One, Many, longest, spelling, written, cost, rest_pieces, run_pieces}
+use Rattle.sixel_encoder.specs.RunTokens.{RunToken, One, Many, longest, spelling, written, cost}
+use Rattle.sixel_encoder.specs.RunTokens.{rest_tokens, run_tokens}
 
 -- a number from ten on has one digit more than its tenth
-length-decimal_step : (n : ℕ) → 10 ≤ n → n < 2 ^ 64 → length (decimal n) ≡ length (decimal (n / 10)) + 1
-length-decimal_step n low high = ap length (decimal_step n low high) ∙ length-append (decimal (n / 10)) ((48 + n % 10) ∷ [])
+length-decimal_step : (n : ℕ) → 10 ≤ n → n < 2 ^ 64
+    → length (decimal n) ≡ length (decimal (n / 10)) + 1
+length-decimal_step n low high =
+    ap length (decimal_step n low high) ∙ length-append (decimal (n / 10)) ((48 + n % 10) ∷ [])
 
 -- how many digits a number has, for numbers of at most k digits
 length-decimal1 : (n : ℕ) → n < 10 → length (decimal n) ≡ 1
@@ -22,15 +27,27 @@ length-decimal2 n low high =
 
 length-decimal3 : (n : ℕ) → 100 ≤ n → n < 1000 → length (decimal n) ≡ 3
 length-decimal3 n low high =
-    omega (arith, length-decimal_step n (omega arith) (omega arith), length-decimal2 (n / 10) (omega arith) (omega arith))
+    omega (
+      arith,
+      length-decimal_step n (omega arith) (omega arith),
+      length-decimal2 (n / 10) (omega arith) (omega arith),
+    )
 
 length-decimal4 : (n : ℕ) → 1000 ≤ n → n < 10000 → length (decimal n) ≡ 4
 length-decimal4 n low high =
-    omega (arith, length-decimal_step n (omega arith) (omega arith), length-decimal3 (n / 10) (omega arith) (omega arith))
+    omega (
+      arith,
+      length-decimal_step n (omega arith) (omega arith),
+      length-decimal3 (n / 10) (omega arith) (omega arith),
+    )
 
 length-decimal5 : (n : ℕ) → 10000 ≤ n → n < 100000 → length (decimal n) ≡ 5
 length-decimal5 n low high =
-    omega (arith, length-decimal_step n (omega arith) (omega arith), length-decimal4 (n / 10) (omega arith) (omega arith))
+    omega (
+      arith,
+      length-decimal_step n (omega arith) (omega arith),
+      length-decimal4 (n / 10) (omega arith) (omega arith),
+    )
 
 -- the bytes of fewer equal sixels than the greatest count
 abbrev pub rest_cost : ℕ → ℕ
@@ -87,14 +104,57 @@ record Bounds (n c : ℕ) : Type 0 where
 
 bounds : (n : ℕ) → n < 100000 → Bounds n (rest_cost n)
 bounds n h =
-    let b : (c : ℕ) → rest_cost n ≡ c → Bounds n c → Bounds n (rest_cost n) = λ c e k. subst (λ (x : ℕ). Bounds n x) (sym e) k in
+    let b : (c : ℕ) → rest_cost n ≡ c → Bounds n c → Bounds n (rest_cost n) = λ c e k.
+    subst (λ (x : ℕ). Bounds n x) (sym e) k in
     elim (tier n h) [
-      | tier0 u e ↦ b n e (record { most = omega arith; most1 = λ _. omega arith; most2 = λ _. omega arith; most3 = λ _. omega arith; most4 = λ _. omega arith; most5 = omega arith })
-      | tier1 l u e ↦ b 3 e (record { most = omega arith; most1 = λ _. omega arith; most2 = λ _. omega arith; most3 = λ _. omega arith; most4 = λ _. omega arith; most5 = omega arith })
-      | tier2 l u e ↦ b 4 e (record { most = omega arith; most1 = λ v. absurd (omega arith); most2 = λ _. omega arith; most3 = λ _. omega arith; most4 = λ _. omega arith; most5 = omega arith })
-      | tier3 l u e ↦ b 5 e (record { most = omega arith; most1 = λ v. absurd (omega arith); most2 = λ v. absurd (omega arith); most3 = λ _. omega arith; most4 = λ _. omega arith; most5 = omega arith })
-      | tier4 l u e ↦ b 6 e (record { most = omega arith; most1 = λ v. absurd (omega arith); most2 = λ v. absurd (omega arith); most3 = λ v. absurd (omega arith); most4 = λ _. omega arith; most5 = omega arith })
-      | tier5 l u e ↦ b 7 e (record { most = omega arith; most1 = λ v. absurd (omega arith); most2 = λ v. absurd (omega arith); most3 = λ v. absurd (omega arith); most4 = λ v. absurd (omega arith); most5 = omega arith })
+      | tier0 u e ↦ b n e (record {
+        most = omega arith;
+        most1 = λ _. omega arith;
+        most2 = λ _. omega arith;
+        most3 = λ _. omega arith;
+        most4 = λ _. omega arith;
+        most5 = omega arith;
+      })
+      | tier1 l u e ↦ b 3 e (record {
+        most = omega arith;
+        most1 = λ _. omega arith;
+        most2 = λ _. omega arith;
+        most3 = λ _. omega arith;
+        most4 = λ _. omega arith;
+        most5 = omega arith;
+      })
+      | tier2 l u e ↦ b 4 e (record {
+        most = omega arith;
+        most1 = λ v. absurd (omega arith);
+        most2 = λ _. omega arith;
+        most3 = λ _. omega arith;
+        most4 = λ _. omega arith;
+        most5 = omega arith;
+      })
+      | tier3 l u e ↦ b 5 e (record {
+        most = omega arith;
+        most1 = λ v. absurd (omega arith);
+        most2 = λ v. absurd (omega arith);
+        most3 = λ _. omega arith;
+        most4 = λ _. omega arith;
+        most5 = omega arith;
+      })
+      | tier4 l u e ↦ b 6 e (record {
+        most = omega arith;
+        most1 = λ v. absurd (omega arith);
+        most2 = λ v. absurd (omega arith);
+        most3 = λ v. absurd (omega arith);
+        most4 = λ _. omega arith;
+        most5 = omega arith;
+      })
+      | tier5 l u e ↦ b 7 e (record {
+        most = omega arith;
+        most1 = λ v. absurd (omega arith);
+        most2 = λ v. absurd (omega arith);
+        most3 = λ v. absurd (omega arith);
+        most4 = λ v. absurd (omega arith);
+        most5 = omega arith;
+      })
     ]
 
 rest_cost-mono : (k n : ℕ) → k ≤ n → n < 100000 → rest_cost k ≤ rest_cost n
@@ -112,7 +172,8 @@ rest_cost-mono k n le h =
 rest_cost-positive : (n : ℕ) → 0 < n → 0 < rest_cost n
 rest_cost-positive n h = grind (arith, nat_tests)
 
-add-positive : (m n : ℕ) → 0 < n → n ≤ m → m + n < 65535 → rest_cost (m + n) ≤ rest_cost m + rest_cost n
+add-positive : (m n : ℕ) → 0 < n → n ≤ m → m + n < 65535
+    → rest_cost (m + n) ≤ rest_cost m + rest_cost n
 add-positive m n h le small =
     let p : 0 < rest_cost n = rest_cost-positive n h in
     let b = bounds (m + n) (omega arith) in
@@ -145,14 +206,17 @@ rest_cost-add m n small =
       | inr le ↦ add-below m n le small
     ]
 
-over-below : (m n k : ℕ) → n ≤ m → m < 65535 → m + n ≡ 65535 + k → 7 + rest_cost k ≤ rest_cost m + rest_cost n
+over-below : (m n k : ℕ) → n ≤ m → m < 65535 → m + n ≡ 65535 + k
+    → 7 + rest_cost k ≤ rest_cost m + rest_cost n
 over-below m n k le small e =
     let s : rest_cost k ≤ rest_cost n = rest_cost-mono k n (omega arith) (omega arith) in
-    let five : 7 ≤ rest_cost m = omega (arith, rest_cost-many m (omega arith), length-decimal5 m (omega arith) (omega arith)) in
+    let five : 7 ≤ rest_cost m =
+    omega (arith, rest_cost-many m (omega arith), length-decimal5 m (omega arith) (omega arith)) in
     omega arith
 
 -- two rests that make a whole run cost at least that run and what is left
-rest_cost-over : (m n k : ℕ) → m < 65535 → n < 65535 → m + n ≡ 65535 + k → 7 + rest_cost k ≤ rest_cost m + rest_cost n
+rest_cost-over : (m n k : ℕ) → m < 65535 → n < 65535 → m + n ≡ 65535 + k
+    → 7 + rest_cost k ≤ rest_cost m + rest_cost n
 rest_cost-over m n k hm hn e =
     elim (cases_lt m n) [
       | inl lt ↦ omega (arith, over-below n m k (omega arith) hn (omega arith))
@@ -165,7 +229,8 @@ run_cost-is q r h =
     let m : (65535 * q + r) % 65535 ≡ r = omega arith in
     ap (λ x. 7 * x + rest_cost ((65535 * q + r) % 65535)) d ∙ ap (λ x. 7 * q + rest_cost x) m
 
-cut-at : (p q r s : ℕ) → r < 65535 → s < 65535 → run_cost (65535 * p + r + (65535 * q + s)) ≤ (7 * p + rest_cost r) + (7 * q + rest_cost s)
+cut-at : (p q r s : ℕ) → r < 65535 → s < 65535
+    → run_cost (65535 * p + r + (65535 * q + s)) ≤ (7 * p + rest_cost r) + (7 * q + rest_cost s)
 cut-at p q r s hr hs =
     elim (cases_lt (r + s) 65535) [
       | inl lt ↦
@@ -173,8 +238,14 @@ cut-at p q r s hr hs =
           omega (arith, ap run_cost e, run_cost-is (p + q) (r + s) lt, rest_cost-add r s lt)
       | inr ge ↦
           let k : r + s ≡ 65535 + (r + s - 65535) = omega arith in
-          let e : 65535 * p + r + (65535 * q + s) ≡ 65535 * (p + q + 1) + (r + s - 65535) = omega arith in
-          omega (arith, ap run_cost e, run_cost-is (p + q + 1) (r + s - 65535) (omega arith), rest_cost-over r s (r + s - 65535) hr hs k)
+          let e : 65535 * p + r + (65535 * q + s) ≡ 65535 * (p + q + 1) + (r + s - 65535) =
+          omega arith in
+          omega (
+            arith,
+            ap run_cost e,
+            run_cost-is (p + q + 1) (r + s - 65535) (omega arith),
+            rest_cost-over r s (r + s - 65535) hr hs k,
+          )
     ]
 
 -- cutting a run in two saves no byte
@@ -182,10 +253,13 @@ pub run_cut : (m n : ℕ) → run_cost (m + n) ≤ run_cost m + run_cost n
 run_cut m n =
     let em : m ≡ 65535 * (m / 65535) + m % 65535 = omega arith in
     let en : n ≡ 65535 * (n / 65535) + n % 65535 = omega arith in
-    let e : run_cost (m + n) ≡ run_cost (65535 * (m / 65535) + m % 65535 + (65535 * (n / 65535) + n % 65535)) = ap run_cost (omega arith) in
-    omega (arith, e, cut-at (m / 65535) (n / 65535) (m % 65535) (n % 65535) (omega arith) (omega arith))
+    let e : run_cost (m + n)
+    ≡ run_cost (65535 * (m / 65535) + m % 65535 + (65535 * (n / 65535) + n % 65535)) =
+    ap run_cost (omega arith) in
+    omega
+    (arith, e, cut-at (m / 65535) (n / 65535) (m % 65535) (n % 65535) (omega arith) (omega arith))
 
--- a run costs at most what one piece for it would
+-- a run costs at most what one token for it would
 pub run_least : (n : ℕ) → 1 ≤ n → n ≤ 65535 → run_cost n ≤ 2 + length (decimal n)
 run_least n low high =
     elim (cases_lt n 65535) [
@@ -207,32 +281,42 @@ run_cost0 = refl
 pub run_cost1 : run_cost 1 ≡ 1
 run_cost1 = refl
 
--- ---- the bytes of the pieces themselves
+-- ---- the bytes of the tokens themselves
 
-pub cost-append : (a b : List Piece) → cost (a ++ b) ≡ cost a + cost b
+pub cost-append : (a b : List RunToken) → cost (a ++ b) ≡ cost a + cost b
 cost-append a b = ap length (flat_map-append spelling a b) ∙ length-append (written a) (written b)
 
-cost-replicate : (n : ℕ) (piece : Piece) → cost (replicate n piece) ≡ n * length (spelling piece)
-cost-replicate zero piece = omega arith
-cost-replicate (suc n) piece =
-    let e : cost (replicate (suc n) piece) ≡ length (spelling piece) + cost (replicate n piece) = length-append (spelling piece) (written (replicate n piece)) in
-    let product : suc n * length (spelling piece) ≡ length (spelling piece) + n * length (spelling piece) = omega arith in
-    e ∙ (ap (λ x. length (spelling piece) + x) (cost-replicate n piece) ∙ sym product)
+cost-replicate : (n : ℕ) (token : RunToken) → cost (replicate n token) ≡ n * length (spelling token)
+cost-replicate zero token = omega arith
+cost-replicate (suc n) token =
+    let e : cost (replicate (suc n) token) ≡ length (spelling token) + cost (replicate n token) =
+    length-append (spelling token) (written (replicate n token)) in
+    let product : suc n * length (spelling token)
+    ≡ length (spelling token) + n * length (spelling token) = omega arith in
+    e ∙ (ap (λ x. length (spelling token) + x) (cost-replicate n token) ∙ sym product)
 
 length-many : (n bits : ℕ) → length (spelling (Many n bits)) ≡ 2 + length (decimal n)
 length-many n bits = omega (arith, length-append (decimal n) ((63 + bits) ∷ []))
 
-cost-rest : (n bits : ℕ) → cost (rest_pieces n bits) ≡ rest_cost n
+cost-rest : (n bits : ℕ) → cost (rest_tokens n bits) ≡ rest_cost n
 cost-rest n bits =
-    (elim (nat_lt 3 n) as (λ b. cost (cond b (Many n bits ∷ []) (replicate n (One bits))) ≡ cond b (2 + length (decimal n)) n) [
+    (elim (nat_lt 3 n) as
+    (λ b.
+    cost (cond b (Many n bits ∷ []) (replicate n (One bits))) ≡ cond b (2 + length (decimal n)) n) [
       | true ↦ ap length (append-nil (spelling (Many n bits))) ∙ length-many n bits
       | false ↦ cost-replicate n (One bits) ∙ omega arith
     ])
 
--- the pieces of a run have its bytes
-pub cost-run : (n bits : ℕ) → cost (run_pieces n bits) ≡ run_cost n
+-- the tokens of a run have its bytes
+pub cost-run : (n bits : ℕ) → cost (run_tokens n bits) ≡ run_cost n
 cost-run n bits =
-    let seven : length (spelling (Many longest bits)) ≡ 7 = omega (arith, length-many longest bits, length-decimal5 longest (omega arith) (omega arith)) in
+    let seven : length (spelling (Many longest bits)) ≡ 7 =
+    omega (arith, length-many longest bits, length-decimal5 longest (omega arith) (omega arith)) in
     let runs : cost (replicate (n / longest) (Many longest bits)) ≡ (n / longest) * 7 =
     cost-replicate (n / longest) (Many longest bits) ∙ ap (λ x. (n / longest) * x) seven in
-    omega (arith, cost-append (replicate (n / longest) (Many longest bits)) (rest_pieces (n % longest) bits), runs, cost-rest (n % longest) bits)
+    omega (
+      arith,
+      cost-append (replicate (n / longest) (Many longest bits)) (rest_tokens (n % longest) bits),
+      runs,
+      cost-rest (n % longest) bits,
+    )

@@ -1,5 +1,6 @@
 -- Images that show the same have one drawing.
-use Rattle.std.proofs.Common.{◌≡◌, ℕ, ◌+◌, ◌*◌, ◌/◌, ◌<◌, nat_le, true, false, cond, List, length, get_or, subst, ap, sym, ◌∙◌, inl, inr, arith, Some, None}
+use Rattle.std.proofs.Common.{◌≡◌, ℕ, ◌+◌, ◌*◌, ◌/◌, ◌<◌, nat_le, true, false, cond, List, length}
+use Rattle.std.proofs.Common.{get_or, subst, ap, sym, ◌∙◌, inl, inr, arith, Some, None}
 use Rattle.std.proofs.lemmas.Bool.{cases_lt}
 use Rattle.std.proofs.lemmas.Bool.Decides.{nat_tests}
 use Rattle.std.proofs.lemmas.List.{ext_get_or}
@@ -10,75 +11,114 @@ use Rattle.sixel_encoder.specs.Text.{Drawing}
 use Rattle.sixel_encoder.specs.Encoding.{IsDrawing, ShownImage, shown_color, shown_image}
 
 -- as many pixels
-shown-count : (image other : Image) → shown_image image ≡ shown_image other → length image.pixels / 4 ≡ length other.pixels / 4
-shown-count image other e =
+count-same : (image other : Image) → shown_image image ≡ shown_image other
+    → length image.pixels / 4 ≡ length other.pixels / 4
+count-same image other e =
     sym (length-map-range_with_len (shown_color image.pixels) 0 (length image.pixels / 4))
-    ∙ (ap (λ (s : ShownImage). length s.colors) e ∙ length-map-range_with_len (shown_color other.pixels) 0 (length other.pixels / 4))
+    ∙ (ap (λ (s : ShownImage). length s.colors) e
+    ∙ length-map-range_with_len (shown_color other.pixels) 0 (length other.pixels / 4))
 
 -- and the same of each
-shown-pixel : (image other : Image) (pixel : ℕ) → shown_image image ≡ shown_image other → pixel < length image.pixels / 4 → shown_color image.pixels pixel ≡ shown_color other.pixels pixel
-shown-pixel image other pixel e l =
-    sym (get_or-map-range_with_len (shown_color image.pixels) 0 (length image.pixels / 4) pixel pixel None l (omega arith))
+color-same : (image other : Image) (pixel : ℕ) → shown_image image ≡ shown_image other
+    → pixel < length image.pixels / 4
+    → shown_color image.pixels pixel ≡ shown_color other.pixels pixel
+color-same image other pixel e l =
+    sym (get_or-map-range_with_len (shown_color image.pixels) 0 (length image.pixels / 4) pixel
+    pixel None l (omega arith))
     ∙ (ap (λ (s : ShownImage). get_or s.colors pixel None) e
-    ∙ get_or-map-range_with_len (shown_color other.pixels) 0 (length other.pixels / 4) pixel pixel None (omega (arith, shown-count image other e)) (omega arith))
+    ∙ get_or-map-range_with_len (shown_color other.pixels) 0 (length other.pixels / 4) pixel pixel
+    None (omega (arith, count-same image other e)) (omega arith))
 
-shown_color-opaque : (pixels : List ℕ) (pixel : ℕ) → IsOpaque pixels pixel → shown_color pixels pixel ≡ Some (color_at pixels pixel)
+shown_color-opaque : (pixels : List ℕ) (pixel : ℕ) → IsOpaque pixels pixel
+    → shown_color pixels pixel ≡ Some (color_at pixels pixel)
 shown_color-opaque pixels pixel h =
     let is : nat_le 128 (get_or pixels (4 * pixel + 3) 0) ≡ true = grind (arith, nat_tests) in
     ap (λ b. cond b (Some (color_at pixels pixel)) None) is
 
-shown_color-hidden : (pixels : List ℕ) (pixel : ℕ) → get_or pixels (4 * pixel + 3) 0 < 128 → shown_color pixels pixel ≡ None
-shown_color-hidden pixels pixel h =
+shown_color-transparent : (pixels : List ℕ) (pixel : ℕ) → get_or pixels (4 * pixel + 3) 0 < 128
+    → shown_color pixels pixel ≡ None
+shown_color-transparent pixels pixel h =
     let is : nat_le 128 (get_or pixels (4 * pixel + 3) 0) ≡ false = grind (arith, nat_tests) in
     ap (λ b. cond b (Some (color_at pixels pixel)) None) is
 
 -- a pixel that is shown in one is shown in the other, in its color
-opaque-other : (image other : Image) (pixel : ℕ) → shown_image image ≡ shown_image other → pixel < length image.pixels / 4 → IsOpaque image.pixels pixel → IsOpaque other.pixels pixel × (color_at other.pixels pixel ≡ color_at image.pixels pixel)
+opaque-other : (image other : Image) (pixel : ℕ) → shown_image image ≡ shown_image other
+    → pixel < length image.pixels / 4 → IsOpaque image.pixels pixel
+    → IsOpaque other.pixels pixel × (color_at other.pixels pixel ≡ color_at image.pixels pixel)
 opaque-other image other pixel e l is =
     let here = shown_color-opaque image.pixels pixel is in
-    let same = shown-pixel image other pixel e l in
+    let same = color-same image other pixel e l in
     elim (cases_lt (get_or other.pixels (4 * pixel + 3) 0) 128) [
-      | inl hidden ↦ let there = shown_color-hidden other.pixels pixel hidden in absurd cc
+      | inl transparent ↦
+          let there = shown_color-transparent other.pixels pixel transparent in absurd cc
       | inr opaque ↦ let there = shown_color-opaque other.pixels pixel opaque in (opaque, cc)
     ]
 
-hidden-other : (image other : Image) (pixel : ℕ) → shown_image image ≡ shown_image other → pixel < length image.pixels / 4 → get_or image.pixels (4 * pixel + 3) 0 < 128 → get_or other.pixels (4 * pixel + 3) 0 < 128
-hidden-other image other pixel e l is =
-    let here = shown_color-hidden image.pixels pixel is in
-    let same = shown-pixel image other pixel e l in
+transparent-other : (image other : Image) (pixel : ℕ) → shown_image image ≡ shown_image other
+    → pixel < length image.pixels / 4 → get_or image.pixels (4 * pixel + 3) 0 < 128
+    → get_or other.pixels (4 * pixel + 3) 0 < 128
+transparent-other image other pixel e l is =
+    let here = shown_color-transparent image.pixels pixel is in
+    let same = color-same image other pixel e l in
     elim (cases_lt (get_or other.pixels (4 * pixel + 3) 0) 128) [
-      | inl hidden ↦ hidden
+      | inl transparent ↦ transparent
       | inr opaque ↦ let there = shown_color-opaque other.pixels pixel opaque in absurd cc
     ]
 
 -- they show the same colors
-pub IsShown-other : (image other : Image) → shown_image image ≡ shown_image other → (c : List ℕ) → IsShown image.pixels c → IsShown other.pixels c
+pub IsShown-other : (image other : Image) → shown_image image ≡ shown_image other → (c : List ℕ)
+    → IsShown image.pixels c → IsShown other.pixels c
 IsShown-other image other e c shown =
     let there = opaque-other image other shown.0 e shown.1 shown.2 in
-    (shown.0, omega (arith, shown.1, shown-count image other e), there.0, there.1 ∙ shown.3)
+    (shown.0, omega (arith, shown.1, count-same image other e), there.0, there.1 ∙ shown.3)
 
 -- their pixels have the same entries, if a color has one nearest entry
-entry-same : (image other : Image) (max_colors : ℕ) (drawing another : Drawing) (pixel : ℕ) → ((entries : List (List ℕ)) (c : List ℕ) (i j : ℕ) → IsNearest entries c i → IsNearest entries c j → i ≡ j) → shown_image image ≡ shown_image other → IsDrawing image max_colors drawing → IsDrawing other max_colors another → drawing.colors ≡ another.colors → pixel < length image.pixels / 4 → get_or drawing.entries pixel None ≡ get_or another.entries pixel None
+entry-same : (image other : Image) (max_colors : ℕ) (drawing another : Drawing) (pixel : ℕ)
+    → ((entries : List (List ℕ)) (c : List ℕ) (i j : ℕ) → IsNearest entries c i
+    → IsNearest entries c j → i ≡ j) → shown_image image ≡ shown_image other
+    → IsDrawing image max_colors drawing → IsDrawing other max_colors another
+    → drawing.colors ≡ another.colors → pixel < length image.pixels / 4
+    → get_or drawing.entries pixel None ≡ get_or another.entries pixel None
 entry-same image other max_colors drawing another pixel one e is also palette l =
-    let count = shown-count image other e in
+    let count = count-same image other e in
     elim (cases_lt (get_or image.pixels (4 * pixel + 3) 0) 128) [
-      | inl hidden ↦
-          is.hidden pixel l hidden ∙ sym (also.hidden pixel (omega (arith, count)) (hidden-other image other pixel e l hidden))
+      | inl transparent ↦
+          is.hidden pixel l transparent
+          ∙ sym (also.hidden pixel (omega (arith, count))
+          (transparent-other image other pixel e l transparent))
       | inr opaque ↦
           let there = opaque-other image other pixel e l opaque in
           let first = is.shown pixel l opaque in
           let second = also.shown pixel (omega (arith, count)) there.0 in
-          let moved = subst (λ (p : List (List ℕ)). IsNearest p (color_at other.pixels pixel) second.0) (sym palette) second.2 in
+          let moved =
+          subst (λ (p : List (List ℕ)). IsNearest p (color_at other.pixels pixel) second.0)
+          (sym palette) second.2 in
           let near = subst (λ (c : List ℕ). IsNearest drawing.colors c second.0) there.1 moved in
-          first.1 ∙ (ap (λ (i : ℕ). Some i) (one drawing.colors (color_at image.pixels pixel) first.0 second.0 first.2 near) ∙ sym second.1)
+          first.1
+          ∙ (ap (λ (i : ℕ). Some i)
+          (one drawing.colors (color_at image.pixels pixel) first.0 second.0 first.2 near)
+          ∙ sym second.1)
     ]
 
-drawing-fields : (a b : Drawing) → a.width ≡ b.width → a.height ≡ b.height → a.aspect_ratio ≡ b.aspect_ratio → a.background_mode ≡ b.background_mode → a.colors ≡ b.colors → a.entries ≡ b.entries → a ≡ b
-drawing-fields a b w h r m c e = λ i. record { width = w i; height = h i; aspect_ratio = r i; background_mode = m i; colors = c i; entries = e i }
+drawing-fields : (a b : Drawing) → a.width ≡ b.width → a.height ≡ b.height
+    → a.aspect_ratio ≡ b.aspect_ratio → a.background_mode ≡ b.background_mode → a.colors ≡ b.colors
+    → a.entries ≡ b.entries → a ≡ b
+drawing-fields a b w h r m c e = λ i. record {
+  width = w i;
+  height = h i;
+  aspect_ratio = r i;
+  background_mode = m i;
+  colors = c i;
+  entries = e i;
+}
 
-pub drawing_same : (image other : Image) (max_colors : ℕ) (drawing another : Drawing) → ((entries : List (List ℕ)) (c : List ℕ) (i j : ℕ) → IsNearest entries c i → IsNearest entries c j → i ≡ j) → shown_image image ≡ shown_image other → IsDrawing image max_colors drawing → IsDrawing other max_colors another → drawing.colors ≡ another.colors → drawing ≡ another
+pub drawing_same : (image other : Image) (max_colors : ℕ) (drawing another : Drawing)
+    → ((entries : List (List ℕ)) (c : List ℕ) (i j : ℕ) → IsNearest entries c i
+    → IsNearest entries c j → i ≡ j) → shown_image image ≡ shown_image other
+    → IsDrawing image max_colors drawing → IsDrawing other max_colors another
+    → drawing.colors ≡ another.colors → drawing ≡ another
 drawing_same image other max_colors drawing another one e is also palette =
-    let count = shown-count image other e in
+    let count = count-same image other e in
     drawing-fields drawing another
     (is.width ∙ (ap (λ (s : ShownImage). s.width) e ∙ sym also.width))
     (is.height ∙ (ap (λ (s : ShownImage). s.height) e ∙ sym also.height))
@@ -86,4 +126,5 @@ drawing_same image other max_colors drawing another one e is also palette =
     (is.background_mode ∙ (ap (λ (s : ShownImage). s.background_mode) e ∙ sym also.background_mode))
     palette
     (ext_get_or None drawing.entries another.entries (is.size ∙ (count ∙ sym also.size)) (λ pixel l.
-    entry-same image other max_colors drawing another pixel one e is also palette (omega (arith, is.size))))
+    entry-same image other max_colors drawing another pixel one e is also palette
+    (omega (arith, is.size))))

@@ -1,5 +1,7 @@
--- The second trip: what a transparent image has become by a trip it stays, if it may use as many colors again.
-use Rattle.std.proofs.Common.{◌≡◌, ℕ, zero, suc, ◌+◌, ◌*◌, ◌<◌, ◌≤◌, Bool, true, false, List, [], ◌∷◌, ◌++◌, map, length, refl, ap, sym, subst, ◌∙◌, arith, inl, inr}
+-- The second trip: what a transparent image has become by a trip it stays, if it may use as many
+-- colors again.
+use Rattle.std.proofs.Common.{◌≡◌, ℕ, zero, suc, ◌+◌, ◌*◌, ◌<◌, ◌≤◌, Bool, true, false, List, []}
+use Rattle.std.proofs.Common.{◌∷◌, ◌++◌, map, length, refl, ap, sym, subst, ◌∙◌, arith, inl, inr}
 use Rattle.std.specs.Prelude.{Option, Some, None, slice_index_or, All, Contains}
 use Rattle.std.proofs.lemmas.Bool.{cases_Bool, cond-true, cond-false}
 use Rattle.std.proofs.lemmas.Nat.{mul-add-lt}
@@ -7,7 +9,8 @@ use Rattle.std.proofs.lemmas.List.{get_or_default, length-map, length_push}
 use Rattle.std.proofs.lemmas.List.Quantifiers.{all_pairs_push}
 use Rattle.std.proofs.lemmas.List.Elements.{All-push}
 use Rattle.sixel_base.specs.declared.settings.BackgroundMode.TheVariants.{Transparent}
-use Rattle.sixel_palette.specs.Palette.{distance, nearest, IsShown, IsOpaque, IsNearest, HasSize, IsFarthestFirst, color_at}
+use Rattle.sixel_palette.specs.Palette.{distance, nearest, IsShown, IsOpaque, IsNearest, HasSize}
+use Rattle.sixel_palette.specs.Palette.{IsFarthestFirst, color_at}
 use Rattle.sixel_palette.specs.PaletteBound.{AreApart}
 use Rattle.sixel_base.specs.Picture.{picture}
 use Rattle.sixel_base.specs.Size.{banded}
@@ -21,34 +24,49 @@ use Rattle.sixel_palette.proofs.PaletteOrder.{entry-apart, members_from_order}
 use Rattle.sixel_palette.proofs.PaletteSize.{near_from_contains, size-le}
 use Rattle.sixel_palette.proofs.PaletteChoices.{three_from_shown}
 use Rattle.sixel_encoder.specs.Text.{Drawing, entry_at, bands}
-use Rattle.sixel_encoder.specs.Trip.{IsWritable, CanRead, rounded, blank, trip_pixel, trip_height, trip, IsTrip, IsReadAs, IsOneString, is_used, bands_up_to}
+use Rattle.sixel_encoder.specs.Trip.{IsWritable, CanRead, rounded, blank, trip_pixel, trip_height}
+use Rattle.sixel_encoder.specs.Trip.{trip, IsTrip, IsReadAs, IsOneString, is_used, bands_up_to}
 use Rattle.sixel_encoder.specs.Encoding.{image_fault, IsDrawing, IsText}
 use Rattle.sixel_encoder.proofs.RoundTrip.{picture-same, image-same}
-use Rattle.sixel_encoder.proofs.Rounding.{rounded-rounded}
+use Rattle.sixel_encoder.proofs.Percentages.{rounded-rounded}
 use Rattle.sixel_encoder.proofs.UsedBands.{window-some, window-any}
 use Rattle.sixel_encoder.proofs.DrawnHeight.{bands_up_to-none, bands_up_to-more, bands_up_to-le}
-use Rattle.sixel_encoder.proofs.TripLimits.{IsWritable-drawn, area-drawn, CanRead-drawn, image_fault-trip, bytes-trip, bands-trip}
+use Rattle.sixel_encoder.proofs.TripLimits.{IsWritable-drawn, area-drawn, CanRead-drawn}
+use Rattle.sixel_encoder.proofs.TripLimits.{image_fault-trip, bytes-trip, bands-trip}
 use Rattle.sixel_encoder.proofs.DcsText.{text-trip, IsOneString-text}
-use Rattle.sixel_encoder.proofs.TripPixels.{entry_in, known_in, rounded_entry, length-trip, alpha-some, color-some, alpha-none, shown-among}
+use Rattle.sixel_encoder.proofs.TripPixels.{entry_in, known_in, rounded_entry, length-trip}
+use Rattle.sixel_encoder.proofs.TripPixels.{alpha-some, color-some, alpha-none, shown-among}
 
 -- ---- palettes with room for all colors
 
 -- farthest first, with an entry for each member the entries hold each
-complete_from_order : (M : List ℕ → Type 0) → ((c : List ℕ) → M c → length c ≡ 3) → (entries : List (List ℕ)) (n : ℕ) → IsFarthestFirst M entries → HasSize M n → n ≤ length entries → (c : List ℕ) → M c → Contains entries c
+complete_from_order : (M : List ℕ → Type 0) → ((c : List ℕ) → M c → length c ≡ 3)
+    → (entries : List (List ℕ)) (n : ℕ) → IsFarthestFirst M entries → HasSize M n
+    → n ≤ length entries → (c : List ℕ) → M c → Contains entries c
 complete_from_order M three entries n order size room c m =
     let least : ℕ = nearest entries c in
     let apart : AreApart (entries ++ c ∷ []) least =
-    all_pairs_push (λ a b. least ≤ distance a b) entries c (entry-apart M entries c order m) (λ k d l. nearest-le entries c k d l) in
-    let far = far_from_others M least size.0 (entries ++ c ∷ []) apart (All-push M entries c (members_from_order M entries order) m) (omega (arith, length_push entries c, size.2)) in
-    Contains-nearest entries c (λ k d h. three _ (members_from_order M entries order k d h)) (three c m)
+    all_pairs_push (λ a b. least ≤ distance a b) entries c (entry-apart M entries c order m)
+    (λ k d l. nearest-le entries c k d l) in
+    let far =
+    far_from_others M least size.0 (entries ++ c ∷ []) apart
+    (All-push M entries c (members_from_order M entries order) m)
+    (omega (arith, length_push entries c, size.2)) in
+    Contains-nearest entries c
+    (λ k d h. three _ (members_from_order M entries order k d h))
+    (three c m)
     (near_from_contains size.0 far.0 least (size.1.complete far.0 far.1) far.2)
 
 -- the nearest entry to a color among the entries is the color
-nearest-held : (entries : List (List ℕ)) (c : List ℕ) (i : ℕ) → All (λ p. length p ≡ 3) entries → length c ≡ 3 → Contains entries c → IsNearest entries c i → slice_index_or entries i [] ≡ c
+nearest-held : (entries : List (List ℕ)) (c : List ℕ) (i : ℕ) → All (λ p. length p ≡ 3) entries
+    → length c ≡ 3 → Contains entries c → IsNearest entries c i → slice_index_or entries i [] ≡ c
 nearest-held entries c i three long held near =
-    let place : slice_index_or entries held.0 [] ≡ c = get_or_default entries held.0 [] c held.1 ∙ held.2 in
-    let none : distance (slice_index_or entries held.0 []) c ≡ 0 = ap (λ p. distance p c) place ∙ distance_self c in
-    same_from_distance (slice_index_or entries i []) c (three i [] near.entry) long (omega (arith, near.least held.0 held.1))
+    let place : slice_index_or entries held.0 [] ≡ c =
+    get_or_default entries held.0 [] c held.1 ∙ held.2 in
+    let none : distance (slice_index_or entries held.0 []) c ≡ 0 =
+    ap (λ p. distance p c) place ∙ distance_self c in
+    same_from_distance (slice_index_or entries i []) c (three i [] near.entry) long
+    (omega (arith, near.least held.0 held.1))
 
 -- ---- an image and its trip, each drawn with as many colors
 
@@ -60,30 +78,48 @@ record Again (crop : Bool) (max_colors : ℕ) (image : Image) (first second : Dr
   drawn : IsDrawing (trip crop first) max_colors second
 
 -- the trip shows no more colors than the first palette has
-size-shown : (crop : Bool) (max_colors n : ℕ) (image : Image) (first second : Drawing) → Again crop max_colors image first second → HasSize (IsShown (trip crop first).pixels) n → n ≤ length first.colors
+size-shown : (crop : Bool) (max_colors n : ℕ) (image : Image) (first second : Drawing)
+    → Again crop max_colors image first second → HasSize (IsShown (trip crop first).pixels) n
+    → n ≤ length first.colors
 size-shown crop max_colors n image first second again size =
     omega (
       arith,
       size.2,
       length-map first.colors (map rounded),
-      size-le (IsShown (trip crop first).pixels) (three_from_shown (trip crop first).pixels) size.0 (map (map rounded) first.colors) size.1 (λ c m. shown-among crop first c again.is again.mode m),
+      size-le (IsShown (trip crop first).pixels) (three_from_shown (trip crop first).pixels) size.0
+          (map (map rounded) first.colors) size.1
+          (λ c m. shown-among crop first c again.is again.mode m),
     )
 
 -- so the second palette holds them all
-held : (crop : Bool) (max_colors : ℕ) (image : Image) (first second : Drawing) (c : List ℕ) → Again crop max_colors image first second → IsShown (trip crop first).pixels c → Contains second.colors c
+held : (crop : Bool) (max_colors : ℕ) (image : Image) (first second : Drawing) (c : List ℕ)
+    → Again crop max_colors image first second → IsShown (trip crop first).pixels c
+    → Contains second.colors c
 held crop max_colors image first second c again m =
     let size = again.drawn.palette.size in
     let before = again.from.palette.size in
-    complete_from_order (IsShown (trip crop first).pixels) (three_from_shown (trip crop first).pixels) second.colors size.0 again.drawn.palette.order size.1
-    (omega (arith, size.2, before.2, size-shown crop max_colors size.0 image first second again size.1)) c m
+    complete_from_order (IsShown (trip crop first).pixels)
+    (three_from_shown (trip crop first).pixels) second.colors size.0 again.drawn.palette.order
+    size.1
+    (omega
+    (arith, size.2, before.2, size-shown crop max_colors size.0 image first second again size.1)) c
+    m
 
 -- the entries have three channels each
-all_three : (crop : Bool) (max_colors : ℕ) (image : Image) (first second : Drawing) → Again crop max_colors image first second → All (λ p. length p ≡ 3) second.colors
+all_three : (crop : Bool) (max_colors : ℕ) (image : Image) (first second : Drawing)
+    → Again crop max_colors image first second → All (λ p. length p ≡ 3) second.colors
 all_three crop max_colors image first second again = λ k d l.
-    three_from_shown (trip crop first).pixels _ (members_from_order (IsShown (trip crop first).pixels) second.colors again.drawn.palette.order k d l)
+    three_from_shown (trip crop first).pixels _
+    (members_from_order (IsShown (trip crop first).pixels) second.colors again.drawn.palette.order k
+    d l)
 
 -- a pixel with an entry has one again, of its rounded color
-again-some : (crop : Bool) (max_colors : ℕ) (image : Image) (first second : Drawing) (place entry : ℕ) → Again crop max_colors image first second → place < first.width * trip_height crop first → entry_in first place ≡ Some entry → (i : ℕ) × (entry_in second place ≡ Some i) × (i < length second.colors) × (slice_index_or second.colors i [] ≡ rounded_entry first entry)
+again-some :
+    (crop : Bool) (max_colors : ℕ) (image : Image) (first second : Drawing) (place entry : ℕ)
+    → Again crop max_colors image first second → place < first.width * trip_height crop first
+    → entry_in first place ≡ Some entry
+    → (i : ℕ) × (entry_in second place ≡ Some i) × (i < length second.colors)
+    × (slice_index_or second.colors i [] ≡ rounded_entry first entry)
 again-some crop max_colors image first second place entry again l e =
     let alpha = alpha-some crop first place entry again.is l e in
     let opaque : IsOpaque (trip crop first).pixels place = omega arith in
@@ -95,11 +131,14 @@ again-some crop max_colors image first second place entry again l e =
       found.0,
       found.1,
       found.2.entry,
-      nearest-held second.colors c found.0 (all_three crop max_colors image first second again) refl (held crop max_colors image first second c again shown) found.2 ∙ color,
+      nearest-held second.colors c found.0 (all_three crop max_colors image first second again) refl
+          (held crop max_colors image first second c again shown) found.2 ∙ color,
     )
 
 -- a pixel with none has none again
-again-none : (crop : Bool) (max_colors : ℕ) (image : Image) (first second : Drawing) (place : ℕ) → Again crop max_colors image first second → place < first.width * trip_height crop first → entry_in first place ≡ None → entry_in second place ≡ None
+again-none : (crop : Bool) (max_colors : ℕ) (image : Image) (first second : Drawing) (place : ℕ)
+    → Again crop max_colors image first second → place < first.width * trip_height crop first
+    → entry_in first place ≡ None → entry_in second place ≡ None
 again-none crop max_colors image first second place again l e =
     let alpha = alpha-none crop first place again.is again.mode l e in
     let all = length-trip crop first again.is in
@@ -108,13 +147,18 @@ again-none crop max_colors image first second place again l e =
 -- a color that was rounded stays
 rounded-all : (c : List ℕ) → map rounded (map rounded c) ≡ map rounded c
 rounded-all [] = refl
-rounded-all (n ∷ c) = ap (λ m. m ∷ map rounded (map rounded c)) (rounded-rounded n) ∙ ap (λ ms. rounded n ∷ ms) (rounded-all c)
+rounded-all (n ∷ c) =
+    ap (λ m. m ∷ map rounded (map rounded c)) (rounded-rounded n)
+    ∙ ap (λ ms. rounded n ∷ ms) (rounded-all c)
 
 -- each pixel is the same again
-pixel-again : (crop : Bool) (max_colors : ℕ) (image : Image) (first second : Drawing) (place : ℕ) → Again crop max_colors image first second → place < first.width * trip_height crop first → trip_pixel second (entry_in second place) ≡ trip_pixel first (entry_in first place)
+pixel-again : (crop : Bool) (max_colors : ℕ) (image : Image) (first second : Drawing) (place : ℕ)
+    → Again crop max_colors image first second → place < first.width * trip_height crop first
+    → trip_pixel second (entry_in second place) ≡ trip_pixel first (entry_in first place)
 pixel-again crop max_colors image first second place again l = go (entry_in first place) refl
   where
-    go : (v : Option ℕ) → entry_in first place ≡ v → trip_pixel second (entry_in second place) ≡ trip_pixel first (entry_in first place)
+    go : (v : Option ℕ) → entry_in first place ≡ v
+        → trip_pixel second (entry_in second place) ≡ trip_pixel first (entry_in first place)
     go None e =
         ap (trip_pixel second) (again-none crop max_colors image first second place again l e)
         ∙ (ap blank again.drawn.background_mode ∙ ap (trip_pixel first) (sym e))
@@ -122,29 +166,47 @@ pixel-again crop max_colors image first second place again l = go (entry_in firs
         let found = again-some crop max_colors image first second place entry again l e in
         ap (trip_pixel second) found.1
         ∙ (ap (λ c. map rounded c ++ 255 ∷ []) found.3
-        ∙ (ap (λ c. c ++ 255 ∷ []) (rounded-all (slice_index_or first.colors entry [])) ∙ ap (trip_pixel first) (sym e)))
+        ∙ (ap (λ c. c ++ 255 ∷ []) (rounded-all (slice_index_or first.colors entry []))
+        ∙ ap (trip_pixel first) (sym e)))
 
 -- ---- the height
 
 -- a band with a place that has an entry again was used
-used-from_again : (crop : Bool) (max_colors : ℕ) (image : Image) (first second : Drawing) (band i entry : ℕ) → Again crop max_colors image first second → i < 6 * first.width → 6 * band * first.width + i < first.width * trip_height crop first → entry_in second (6 * band * first.width + i) ≡ Some entry → is_used first band ≡ true
-used-from_again crop max_colors image first second band i entry again low inside e = go (entry_in first (6 * band * first.width + i)) refl
+used-from_again :
+    (crop : Bool) (max_colors : ℕ) (image : Image) (first second : Drawing) (band i entry : ℕ)
+    → Again crop max_colors image first second → i < 6 * first.width
+    → 6 * band * first.width + i < first.width * trip_height crop first
+    → entry_in second (6 * band * first.width + i) ≡ Some entry → is_used first band ≡ true
+used-from_again crop max_colors image first second band i entry again low inside e =
+    go (entry_in first (6 * band * first.width + i)) refl
   where
-    go : (v : Option ℕ) → entry_in first (6 * band * first.width + i) ≡ v → is_used first band ≡ true
-    go None f = let none = again-none crop max_colors image first second (6 * band * first.width + i) again inside f in absurd cc
-    go (Some old) f = window-any first.entries (6 * band * first.width) (6 * first.width) i old low (known_in first (6 * band * first.width + i) old again.is f).0 f
+    go : (v : Option ℕ) → entry_in first (6 * band * first.width + i) ≡ v
+        → is_used first band ≡ true
+    go None f =
+        let none =
+        again-none crop max_colors image first second (6 * band * first.width + i) again inside f in
+        absurd cc
+    go (Some old) f =
+        window-any first.entries (6 * band * first.width) (6 * first.width) i old low
+        (known_in first (6 * band * first.width + i) old again.is f).0 f
 
 -- a band that is used again was used
-used-again : (crop : Bool) (max_colors : ℕ) (image : Image) (first second : Drawing) (band : ℕ) → Again crop max_colors image first second → is_used second band ≡ true → is_used first band ≡ true
+used-again : (crop : Bool) (max_colors : ℕ) (image : Image) (first second : Drawing) (band : ℕ)
+    → Again crop max_colors image first second → is_used second band ≡ true
+    → is_used first band ≡ true
 used-again crop max_colors image first second band again used =
     let wide : second.width ≡ first.width = again.drawn.width in
     let found = window-some second.entries (6 * band * second.width) (6 * second.width) used in
-    let same : 6 * band * second.width + found.0 ≡ 6 * band * first.width + found.0 = ap (λ w. 6 * band * w + found.0) wide in
-    used-from_again crop max_colors image first second band found.0 found.3.0 again (omega (arith, found.1, wide)) (omega (arith, found.2, again.drawn.size, same, length-trip crop first again.is))
+    let same : 6 * band * second.width + found.0 ≡ 6 * band * first.width + found.0 =
+    ap (λ w. 6 * band * w + found.0) wide in
+    used-from_again crop max_colors image first second band found.0 found.3.0 again
+    (omega (arith, found.1, wide))
+    (omega (arith, found.2, again.drawn.size, same, length-trip crop first again.is))
     (ap (entry_in second) (sym same) ∙ found.3.1)
 
 -- fewer used bands end no later
-bands_up_to-less : (test other : ℕ → Bool) (n : ℕ) → ((k : ℕ) → test k ≡ true → other k ≡ true) → bands_up_to test n ≤ bands_up_to other n
+bands_up_to-less : (test other : ℕ → Bool) (n : ℕ) → ((k : ℕ) → test k ≡ true → other k ≡ true)
+    → bands_up_to test n ≤ bands_up_to other n
 bands_up_to-less test other zero less = omega (arith, bands_up_to-none test, bands_up_to-none other)
 bands_up_to-less test other (suc n) less =
     let here = bands_up_to-more test n in
@@ -154,30 +216,62 @@ bands_up_to-less test other (suc n) less =
     let next : suc n ≡ n + 1 = omega arith in
     elim (cases_Bool (test n)) [
       | inl yes_here ↦
-          omega (arith, ap (bands_up_to test) next, ap (bands_up_to other) next, here, there, cond-true (test n) (n + 1) (bands_up_to test n) yes_here, cond-true (other n) (n + 1) (bands_up_to other n) (less n yes_here))
+          omega (
+            arith,
+            ap (bands_up_to test) next,
+            ap (bands_up_to other) next,
+            here,
+            there,
+            cond-true (test n) (n + 1) (bands_up_to test n) yes_here,
+            cond-true (other n) (n + 1) (bands_up_to other n) (less n yes_here),
+          )
       | inr not_here ↦
           elim (cases_Bool (other n)) [
             | inl yes_there ↦
-                omega (arith, ap (bands_up_to test) next, ap (bands_up_to other) next, here, there, before, below, cond-false (test n) (n + 1) (bands_up_to test n) not_here, cond-true (other n) (n + 1) (bands_up_to other n) yes_there)
+                omega (
+                  arith,
+                  ap (bands_up_to test) next,
+                  ap (bands_up_to other) next,
+                  here,
+                  there,
+                  before,
+                  below,
+                  cond-false (test n) (n + 1) (bands_up_to test n) not_here,
+                  cond-true (other n) (n + 1) (bands_up_to other n) yes_there,
+                )
             | inr not_there ↦
-                omega (arith, ap (bands_up_to test) next, ap (bands_up_to other) next, here, there, before, cond-false (test n) (n + 1) (bands_up_to test n) not_here, cond-false (other n) (n + 1) (bands_up_to other n) not_there)
+                omega (
+                  arith,
+                  ap (bands_up_to test) next,
+                  ap (bands_up_to other) next,
+                  here,
+                  there,
+                  before,
+                  cond-false (test n) (n + 1) (bands_up_to test n) not_here,
+                  cond-false (other n) (n + 1) (bands_up_to other n) not_there,
+                )
           ]
     ]
 
 -- the height is the same again
-height-again : (crop : Bool) (max_colors : ℕ) (image : Image) (first second : Drawing) → Again crop max_colors image first second → trip_height crop second ≡ trip_height crop first
+height-again : (crop : Bool) (max_colors : ℕ) (image : Image) (first second : Drawing)
+    → Again crop max_colors image first second → trip_height crop second ≡ trip_height crop first
 height-again true max_colors image first second again = again.drawn.height
 height-again false max_colors image first second again =
     let tall : second.height ≡ trip_height false first = again.drawn.height in
     let count : bands second.height ≡ bands first.height = ap bands tall ∙ bands-trip false first in
     let same = ap (bands_up_to (is_used second)) count in
-    let less = bands_up_to-less (is_used second) (is_used first) (bands first.height) (λ k yes_k. used-again false max_colors image first second k again yes_k) in
+    let less =
+    bands_up_to-less (is_used second) (is_used first) (bands first.height)
+    (λ k yes_k. used-again false max_colors image first second k again yes_k) in
     omega arith
 
 -- ---- the image
 
 -- the pixels are the same again
-pixels-again : (crop : Bool) (max_colors : ℕ) (image : Image) (first second : Drawing) → Again crop max_colors image first second → (trip crop second).pixels ≡ (trip crop first).pixels
+pixels-again : (crop : Bool) (max_colors : ℕ) (image : Image) (first second : Drawing)
+    → Again crop max_colors image first second
+    → (trip crop second).pixels ≡ (trip crop first).pixels
 pixels-again crop max_colors image first second again =
     let p : ℕ → ℕ → List ℕ = λ column row. trip_pixel second (entry_at second column row) in
     let q : ℕ → ℕ → List ℕ = λ column row. trip_pixel first (entry_at first column row) in
@@ -186,10 +280,13 @@ pixels-again crop max_colors image first second again =
     ∙ picture-same p q first.width (trip_height crop first)
     (λ column line lc ll.
     ap (λ w. trip_pixel second (entry_in second (line * w + column))) again.drawn.width
-    ∙ pixel-again crop max_colors image first second (line * first.width + column) again (mul-add-lt line first.width column (trip_height crop first) ll lc)))
+    ∙ pixel-again crop max_colors image first second (line * first.width + column) again
+    (mul-add-lt line first.width column (trip_height crop first) ll lc)))
 
 -- a second trip changes nothing
-pub trip-again : (crop : Bool) (image : Image) (max_colors : ℕ) (drawing : Drawing) → IsTrip crop image max_colors → image.background_mode ≡ Transparent → IsDrawing image max_colors drawing → trip crop drawing ≡ image
+pub trip-again : (crop : Bool) (image : Image) (max_colors : ℕ) (drawing : Drawing)
+    → IsTrip crop image max_colors → image.background_mode ≡ Transparent
+    → IsDrawing image max_colors drawing → trip crop drawing ≡ image
 trip-again crop image max_colors drawing was mode drawn =
     let first : Drawing = was.1 in
     let same : image ≡ trip crop first = was.5 in
@@ -199,31 +296,51 @@ trip-again crop image max_colors drawing was mode drawn =
       mode = sym (ap (λ (i : Image). i.background_mode) same) ∙ mode;
       drawn = subst (λ (i : Image). IsDrawing i max_colors drawing) same drawn;
     } in
-    image-same (trip crop drawing) (trip crop first) (pixels-again crop max_colors was.0 first drawing again) again.drawn.width (height-again crop max_colors was.0 first drawing again) again.drawn.aspect_ratio again.drawn.background_mode
+    image-same (trip crop drawing) (trip crop first)
+    (pixels-again crop max_colors was.0 first drawing again) again.drawn.width
+    (height-again crop max_colors was.0 first drawing again) again.drawn.aspect_ratio
+    again.drawn.background_mode
     ∙ sym same
 
 -- ---- the text of an image
 
 -- it is read back as the trip of the image's drawing
-pub image-read_back : (decoder : DecoderState) (image : Image) (max_colors : ℕ) (text : List ℕ) → image_fault image ≡ None → All (λ byte. byte < 256) image.pixels → CanRead decoder image.width image.height → IsText image max_colors text → (drawing : Drawing) × IsDrawing image max_colors drawing × IsReadAs decoder text (trip decoder.raster_crop drawing)
+pub image-read_back : (decoder : DecoderState) (image : Image) (max_colors : ℕ) (text : List ℕ)
+    → image_fault image ≡ None → All (λ byte. byte < 256) image.pixels
+    → CanRead decoder image.width image.height → IsText image max_colors text
+    → (drawing : Drawing) × IsDrawing image max_colors drawing
+    × IsReadAs decoder text (trip decoder.raster_crop drawing)
 image-read_back decoder image max_colors text sound bytes reads is = (
   is.0,
   is.1,
   subst (λ (t : List ℕ). IsReadAs decoder t (trip decoder.raster_crop is.0)) (sym is.2)
-      (text-trip decoder is.0 (IsWritable-drawn image max_colors is.0 is.1 sound bytes) (CanRead-drawn decoder image max_colors is.0 is.1 reads)),
+      (text-trip decoder is.0 (IsWritable-drawn image max_colors is.0 is.1 sound bytes)
+      (CanRead-drawn decoder image max_colors is.0 is.1 reads)),
 )
 
 -- it is one control string
-pub image-one_string : (limit : ℕ) (image : Image) (max_colors : ℕ) (text : List ℕ) → image_fault image ≡ None → All (λ byte. byte < 256) image.pixels → image.width * banded image.height ≤ limit → IsText image max_colors text → IsOneString limit text
+pub image-one_string : (limit : ℕ) (image : Image) (max_colors : ℕ) (text : List ℕ)
+    → image_fault image ≡ None → All (λ byte. byte < 256) image.pixels
+    → image.width * banded image.height ≤ limit → IsText image max_colors text
+    → IsOneString limit text
 image-one_string limit image max_colors text sound bytes room is =
-    subst (IsOneString limit) (sym is.2) (IsOneString-text limit is.0 (IsWritable-drawn image max_colors is.0 is.1 sound bytes) (omega (arith, room, area-drawn image max_colors is.0 is.1)))
+    subst (IsOneString limit) (sym is.2) (IsOneString-text limit is.0
+    (IsWritable-drawn image max_colors is.0 is.1 sound bytes)
+    (omega (arith, room, area-drawn image max_colors is.0 is.1)))
 
 -- a transparent trip is read back as it is
-pub text-again : (decoder : DecoderState) (image : Image) (max_colors : ℕ) (text : List ℕ) → IsTrip decoder.raster_crop image max_colors → image.background_mode ≡ Transparent → CanRead decoder image.width image.height → IsText image max_colors text → IsReadAs decoder text image
+pub text-again : (decoder : DecoderState) (image : Image) (max_colors : ℕ) (text : List ℕ)
+    → IsTrip decoder.raster_crop image max_colors → image.background_mode ≡ Transparent
+    → CanRead decoder image.width image.height → IsText image max_colors text
+    → IsReadAs decoder text image
 text-again decoder image max_colors text was mode reads is =
     let crop : Bool = decoder.raster_crop in
     let first = IsWritable-drawn was.0 max_colors was.1 was.4 was.2 was.3 in
-    let sound : image_fault image ≡ None = ap image_fault was.5 ∙ image_fault-trip crop was.1 first in
-    let bytes : All (λ byte. byte < 256) image.pixels = subst (λ (i : Image). All (λ byte. byte < 256) i.pixels) (sym was.5) (bytes-trip crop was.1 first) in
+    let sound : image_fault image ≡ None =
+    ap image_fault was.5 ∙ image_fault-trip crop was.1 first in
+    let bytes : All (λ byte. byte < 256) image.pixels =
+    subst (λ (i : Image). All (λ byte. byte < 256) i.pixels)
+    (sym was.5) (bytes-trip crop was.1 first) in
     let read = image-read_back decoder image max_colors text sound bytes reads is in
-    subst (λ (i : Image). IsReadAs decoder text i) (trip-again crop image max_colors read.0 was mode read.1) read.2
+    subst (λ (i : Image). IsReadAs decoder text i)
+    (trip-again crop image max_colors read.0 was mode read.1) read.2

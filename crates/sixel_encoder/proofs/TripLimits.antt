@@ -1,6 +1,10 @@
--- What is drawn of an image within the limits can be written, and a trip leads to an image within the limits.
-use Rattle.std.proofs.Common.{◌≡◌, ℕ, Bool, true, false, zero, suc, ◌+◌, ◌*◌, ◌<◌, ◌≤◌, max, List, [], ◌∷◌, ◌++◌, map, length, get_or, refl, ap, sym, subst, ◌∙◌, arith, inl, inr}
-use Rattle.std.specs.Prelude.{◌/◌, ◌%◌, Option, Some, None, IfSome, slice_index, slice_index_or, All}
+-- What is drawn of an image within the limits can be written, and a trip leads to an image within
+-- the limits.
+use Rattle.std.proofs.Common.{◌≡◌, ℕ, Bool, true, false, zero, suc, ◌+◌, ◌*◌, ◌<◌, ◌≤◌, max, List}
+use Rattle.std.proofs.Common.{[], ◌∷◌, ◌++◌, map, length, get_or, refl, ap, sym, subst, ◌∙◌, arith}
+use Rattle.std.proofs.Common.{inl, inr}
+use Rattle.std.specs.Prelude.{◌/◌, ◌%◌, Option, Some, None, IfSome, slice_index, slice_index_or}
+use Rattle.std.specs.Prelude.{All}
 use Rattle.std.proofs.lemmas.Bool.{cases_lt}
 use Rattle.std.proofs.lemmas.List.{get_or_default, get_or_past}
 use Rattle.std.proofs.lemmas.List.Elements.{All-from_get_or}
@@ -13,10 +17,11 @@ use Rattle.sixel_base.specs.declared.state.DecoderState.{DecoderState}
 use Rattle.sixel_base.specs.Payload.{Image}
 use Rattle.sixel_palette.proofs.PaletteOrder.{members_from_order}
 use Rattle.sixel_encoder.specs.Text.{Drawing, bands}
-use Rattle.sixel_encoder.specs.Trip.{IsColor, IsWritable, CanRead, rounded, blank, trip_pixel, trip_height, trip, is_used, bands_up_to}
+use Rattle.sixel_encoder.specs.Trip.{IsColor, IsWritable, CanRead, rounded, blank, trip_pixel}
+use Rattle.sixel_encoder.specs.Trip.{trip_height, trip, is_used, bands_up_to}
 use Rattle.sixel_encoder.specs.Encoding.{IsDrawing, image_fault}
 use Rattle.sixel_encoder.proofs.Sizes.{within-sound, sound-within}
-use Rattle.sixel_encoder.proofs.Rounding.{rounded_byte}
+use Rattle.sixel_encoder.proofs.Percentages.{rounded_byte}
 use Rattle.sixel_encoder.proofs.DrawnHeight.{bands_up_to-le}
 use Rattle.sixel_encoder.proofs.TripPixels.{entry_in, byte-trip, length-trip}
 
@@ -45,60 +50,89 @@ IsColor-shown pixels c bytes shown =
     three-below (suc (suc (suc k))) d l = absurd (omega arith)
 
 -- an entry that is drawn is one of the palette
-drawn-known : (image : Image) (max_colors : ℕ) (drawing : Drawing) (place : ℕ) → IsDrawing image max_colors drawing → place < length image.pixels / 4 → IfSome (entry_in drawing place) (λ entry. entry < length drawing.colors)
+drawn-known : (image : Image) (max_colors : ℕ) (drawing : Drawing) (place : ℕ)
+    → IsDrawing image max_colors drawing → place < length image.pixels / 4
+    → IfSome (entry_in drawing place) (λ entry. entry < length drawing.colors)
 drawn-known image max_colors drawing place drawn l =
     elim (cases_lt (slice_index image.pixels (4 * place + 3)) 128) [
-      | inl dark ↦ subst (λ (o : Option ℕ). IfSome o (λ entry. entry < length drawing.colors)) (sym (drawn.hidden place l dark)) tt
+      | inl dark ↦ subst (λ (o : Option ℕ). IfSome o (λ entry. entry < length drawing.colors))
+          (sym (drawn.hidden place l dark)) tt
       | inr light ↦
           let found = drawn.shown place l light in
-          subst (λ (o : Option ℕ). IfSome o (λ entry. entry < length drawing.colors)) (sym found.1) found.2.entry
+          subst (λ (o : Option ℕ). IfSome o (λ entry. entry < length drawing.colors))
+          (sym found.1) found.2.entry
     ]
 
 -- it can be written
-pub IsWritable-drawn : (image : Image) (max_colors : ℕ) (drawing : Drawing) → IsDrawing image max_colors drawing → image_fault image ≡ None → All (λ b. b < 256) image.pixels → IsWritable drawing
+pub IsWritable-drawn : (image : Image) (max_colors : ℕ) (drawing : Drawing)
+    → IsDrawing image max_colors drawing → image_fault image ≡ None
+    → All (λ b. b < 256) image.pixels → IsWritable drawing
 IsWritable-drawn image max_colors drawing drawn sound bytes =
     let is = within-sound image sound in
-    let rows : 6 * bands drawing.height ≡ 6 * bands image.height = ap (λ h. 6 * bands h) drawn.height in
-    let places : length drawing.entries ≡ image.width * image.height = omega (arith, drawn.size, is.sized) in
+    let rows : 6 * bands drawing.height ≡ 6 * bands image.height =
+    ap (λ h. 6 * bands h) drawn.height in
+    let places : length drawing.entries ≡ image.width * image.height =
+    omega (arith, drawn.size, is.sized) in
     record {
       some_width = omega (arith, drawn.width, is.some_width);
       some_height = omega (arith, drawn.height, is.some_height);
       wide = omega (arith, drawn.width, is.wide);
       high = omega (arith, rows, is.high);
-      area = omega (arith, is.area, ap (λ w. w * (6 * bands drawing.height)) drawn.width ∙ ap (λ h. image.width * h) rows);
-      pixels = places ∙ sym (ap (λ w. w * drawing.height) drawn.width ∙ ap (λ h. image.width * h) drawn.height);
+      area =
+          omega (
+            arith,
+            is.area,
+            ap (λ w. w * (6 * bands drawing.height)) drawn.width ∙ ap (λ h. image.width * h) rows,
+          );
+      pixels =
+          places
+          ∙ sym
+          (ap (λ w. w * drawing.height) drawn.width ∙ ap (λ h. image.width * h) drawn.height);
       few = omega (arith, drawn.palette.size.2);
-      colors = λ k d l. IsColor-shown image.pixels _ bytes (members_from_order (IsShown image.pixels) drawing.colors drawn.palette.order k d l);
+      colors = λ k d l.
+          IsColor-shown image.pixels _ bytes
+          (members_from_order (IsShown image.pixels) drawing.colors drawn.palette.order k d l);
       known = λ k d l.
-          subst (λ (o : Option ℕ). IfSome o (λ entry. entry < length drawing.colors)) (get_or_default drawing.entries k None d l)
+          subst (λ (o : Option ℕ). IfSome o (λ entry. entry < length drawing.colors))
+          (get_or_default drawing.entries k None d l)
           (drawn-known image max_colors drawing k drawn (omega (arith, drawn.size)));
     }
 
 -- it takes as much room in whole bands as its image
-pub area-drawn : (image : Image) (max_colors : ℕ) (drawing : Drawing) → IsDrawing image max_colors drawing → drawing.width * banded drawing.height ≡ image.width * banded image.height
-area-drawn image max_colors drawing drawn = ap (λ w. w * banded drawing.height) drawn.width ∙ ap (λ h. image.width * banded h) drawn.height
+pub area-drawn : (image : Image) (max_colors : ℕ) (drawing : Drawing)
+    → IsDrawing image max_colors drawing
+    → drawing.width * banded drawing.height ≡ image.width * banded image.height
+area-drawn image max_colors drawing drawn =
+    ap (λ w. w * banded drawing.height) drawn.width ∙ ap (λ h. image.width * banded h) drawn.height
 
 -- so what can read a text of the image's size can read the drawing's
-pub CanRead-drawn : (decoder : DecoderState) (image : Image) (max_colors : ℕ) (drawing : Drawing) → IsDrawing image max_colors drawing → CanRead decoder image.width image.height → CanRead decoder drawing.width drawing.height
+pub CanRead-drawn : (decoder : DecoderState) (image : Image) (max_colors : ℕ) (drawing : Drawing)
+    → IsDrawing image max_colors drawing → CanRead decoder image.width image.height
+    → CanRead decoder drawing.width drawing.height
 CanRead-drawn decoder image max_colors drawing drawn reads = record {
   registers = reads.registers;
   room = omega (arith, reads.room, area-drawn image max_colors drawing drawn);
 }
 
 -- as a new decoder can
-pub CanRead-new : (image : Image) → image_fault image ≡ None → CanRead new_decoder image.width image.height
+pub CanRead-new : (image : Image) → image_fault image ≡ None
+    → CanRead new_decoder image.width image.height
 CanRead-new image sound = record { registers = refl; room = (within-sound image sound).area }
 
 -- ---- the image of a trip
 
 -- filling up the last band makes no new one
-bands-filled : (height used : ℕ) → used ≤ bands height → bands (max height (6 * used)) ≡ bands height
+bands-filled : (height used : ℕ) → used ≤ bands height
+    → bands (max height (6 * used)) ≡ bands height
 bands-filled height used l = omega arith
 
 -- a drawing that is read again has as many bands
-pub bands-trip : (crop : Bool) (drawing : Drawing) → bands (trip_height crop drawing) ≡ bands drawing.height
+pub bands-trip : (crop : Bool) (drawing : Drawing)
+    → bands (trip_height crop drawing) ≡ bands drawing.height
 bands-trip true drawing = refl
-bands-trip false drawing = bands-filled drawing.height (bands_up_to (is_used drawing) (bands drawing.height)) (bands_up_to-le (is_used drawing) (bands drawing.height))
+bands-trip false drawing =
+    bands-filled drawing.height (bands_up_to (is_used drawing) (bands drawing.height))
+    (bands_up_to-le (is_used drawing) (bands drawing.height))
 
 -- nor does it become lower
 trip_height-most : (crop : Bool) (drawing : Drawing) → drawing.height ≤ trip_height crop drawing
@@ -126,12 +160,14 @@ byte-rounded (n ∷ c) zero = rounded_byte n
 byte-rounded (n ∷ c) (suc i) = byte-rounded c i
 
 -- each pixel of a trip has bytes
-byte-trip_pixel : (drawing : Drawing) (place : Option ℕ) (i : ℕ) → i < 4 → get_or (trip_pixel drawing place) i 0 < 256
+byte-trip_pixel : (drawing : Drawing) (place : Option ℕ) (i : ℕ) → i < 4
+    → get_or (trip_pixel drawing place) i 0 < 256
 byte-trip_pixel drawing None i l = byte-blank drawing.background_mode i l
 byte-trip_pixel drawing (Some entry) i l = byte-rounded (slice_index_or drawing.colors entry []) i
 
 -- the bytes of a trip are bytes
-pub bytes-trip : (crop : Bool) (drawing : Drawing) → IsWritable drawing → All (λ b. b < 256) (trip crop drawing).pixels
+pub bytes-trip : (crop : Bool) (drawing : Drawing) → IsWritable drawing
+    → All (λ b. b < 256) (trip crop drawing).pixels
 bytes-trip crop drawing is =
     All-from_get_or (λ b. b < 256) (trip crop drawing).pixels 0
     (λ k l.
@@ -139,12 +175,15 @@ bytes-trip crop drawing is =
     let split : 4 * (k / 4) + k % 4 ≡ k = omega arith in
     let byte = byte-trip crop drawing (k / 4) (k % 4) is (omega arith) (omega arith) in
     let small = byte-trip_pixel drawing (entry_in drawing (k / 4)) (k % 4) (omega arith) in
-    subst (λ (n : ℕ). slice_index (trip crop drawing).pixels n < 256) split (omega (arith, byte, small)))
+    subst (λ (n : ℕ). slice_index (trip crop drawing).pixels n < 256)
+    split (omega (arith, byte, small)))
 
 -- a trip stays within the limits
-pub image_fault-trip : (crop : Bool) (drawing : Drawing) → IsWritable drawing → image_fault (trip crop drawing) ≡ None
+pub image_fault-trip : (crop : Bool) (drawing : Drawing) → IsWritable drawing
+    → image_fault (trip crop drawing) ≡ None
 image_fault-trip crop drawing is =
-    let rows : 6 * bands (trip_height crop drawing) ≡ 6 * bands drawing.height = ap (λ b. 6 * b) (bands-trip crop drawing) in
+    let rows : 6 * bands (trip_height crop drawing) ≡ 6 * bands drawing.height =
+    ap (λ b. 6 * b) (bands-trip crop drawing) in
     sound-within (trip crop drawing) record {
       some_width = is.some_width;
       some_height = omega (arith, is.some_height, trip_height-most crop drawing);

@@ -1,11 +1,14 @@
 -- Which bands of a drawing are used: those with a dot of some entry.
-use Rattle.std.proofs.Common.{◌≡◌, ℕ, zero, suc, ◌+◌, ◌*◌, ◌^◌, ◌<◌, Bool, true, false, cond, not, List, length, take, drop, get_or, refl, ap, sym, subst, ◌∙◌, arith, inl, inr}
+use Rattle.std.proofs.Common.{◌≡◌, ℕ, zero, suc, ◌+◌, ◌*◌, ◌^◌, ◌<◌, Bool, true, false, cond, not}
+use Rattle.std.proofs.Common.{List, length, take, drop, get_or, refl, ap, sym, subst, ◌∙◌, arith}
+use Rattle.std.proofs.Common.{inl, inr}
 use Rattle.std.specs.Prelude.{◌==◌, ◌/◌, ◌%◌, Option, Some, None, is_some, IfSome, slice_index}
 use Rattle.std.specs.List.{list_any}
 use Rattle.std.proofs.lemmas.Bool.{cases_lt, both_ways, ne_eqb}
 use Rattle.std.proofs.lemmas.Bool.Decides.{nat_tests}
 use Rattle.std.proofs.lemmas.Nat.{mul-add-lt, div-add-mod', div_below, mod_below}
-use Rattle.std.proofs.lemmas.List.{get_or-take, get_or-drop, get_or_past, get_or_default, length-take, length-drop}
+use Rattle.std.proofs.lemmas.List.{get_or-take, get_or-drop, get_or_past, get_or_default}
+use Rattle.std.proofs.lemmas.List.{length-take, length-drop}
 use Rattle.std.proofs.lemmas.List.Elements.{All-from_get_or}
 use Rattle.std.proofs.lemmas.List.Folds.{list_any_at, list_any_none, Any-from_list_any}
 use Rattle.std.proofs.lemmas.List.FromFn.{get_or-map-range_with_len}
@@ -19,22 +22,28 @@ use Rattle.sixel_encoder.proofs.TextPixels.{IsInBand, struck-inside}
 -- ---- where a part of a list has a value
 
 -- one value in a part of the list
-pub window-any : (xs : List (Option ℕ)) (from n i entry : ℕ) → i < n → from + i < length xs → get_or xs (from + i) None ≡ Some entry → list_any is_some (take n (drop from xs)) ≡ true
+pub window-any : (xs : List (Option ℕ)) (from n i entry : ℕ) → i < n → from + i < length xs
+    → get_or xs (from + i) None ≡ Some entry → list_any is_some (take n (drop from xs)) ≡ true
 window-any xs from n i entry l inside e =
-    list_any_at is_some (take n (drop from xs)) i None (omega (arith, length-take n (drop from xs), length-drop from xs))
+    list_any_at is_some (take n (drop from xs)) i None
+    (omega (arith, length-take n (drop from xs), length-drop from xs))
     (ap is_some (get_or-take n (drop from xs) i None l ∙ (get_or-drop from xs i None ∙ e)))
 
 -- no value in a part of the list
-window-none : (xs : List (Option ℕ)) (from n i : ℕ) → list_any is_some (take n (drop from xs)) ≡ false → i < n → get_or xs (from + i) None ≡ None
+window-none : (xs : List (Option ℕ)) (from n i : ℕ)
+    → list_any is_some (take n (drop from xs)) ≡ false → i < n → get_or xs (from + i) None ≡ None
 window-none xs from n i none l =
     elim (cases_lt (from + i) (length xs)) [
       | inr past ↦ get_or_past xs (from + i) None past
       | inl inside ↦ go (get_or xs (from + i) None) refl inside
     ]
   where
-    go : (place : Option ℕ) → get_or xs (from + i) None ≡ place → from + i < length xs → get_or xs (from + i) None ≡ None
+    go : (place : Option ℕ) → get_or xs (from + i) None ≡ place → from + i < length xs
+        → get_or xs (from + i) None ≡ None
     go None e inside = e
-    go (Some entry) e inside = absurd (both_ways (list_any is_some (take n (drop from xs))) none (window-any xs from n i entry l inside e))
+    go (Some entry) e inside =
+        absurd (both_ways (list_any is_some (take n (drop from xs))) none
+        (window-any xs from n i entry l inside e))
 
 -- a value that is there
 some_value : (place : Option ℕ) → is_some place ≡ true → (entry : ℕ) × (place ≡ Some entry)
@@ -42,7 +51,10 @@ some_value None is = absurd cc
 some_value (Some entry) is = (entry, refl)
 
 -- some value in a part of the list
-pub window-some : (xs : List (Option ℕ)) (from n : ℕ) → list_any is_some (take n (drop from xs)) ≡ true → (i : ℕ) × (i < n) × (from + i < length xs) × ((entry : ℕ) × (get_or xs (from + i) None ≡ Some entry))
+pub window-some : (xs : List (Option ℕ)) (from n : ℕ)
+    → list_any is_some (take n (drop from xs)) ≡ true
+    → (i : ℕ) × (i < n) × (from + i < length xs)
+    × ((entry : ℕ) × (get_or xs (from + i) None ≡ Some entry))
 window-some xs from n some =
     let found = Any-from_list_any is_some (take n (drop from xs)) some in
     let count = length-take n (drop from xs) in
@@ -56,21 +68,25 @@ window-some xs from n some =
       (
         value.0,
         sym (get_or-take n (drop from xs) found.0 None low ∙ get_or-drop from xs found.0 None)
-            ∙ (get_or_default (take n (drop from xs)) found.0 None found.1 inside ∙ (found.3 ∙ value.1)),
+            ∙ (get_or_default (take n (drop from xs)) found.0 None found.1 inside
+            ∙ (found.3 ∙ value.1)),
       ),
     )
 
 -- ---- bands with no entry, and bands with one
 
 -- the places of a band's bit, from the band's first place
-place-in_band : (band bit width column : ℕ) → (6 * band + bit) * width + column ≡ 6 * band * width + (bit * width + column)
+place-in_band : (band bit width column : ℕ)
+    → (6 * band + bit) * width + column ≡ 6 * band * width + (bit * width + column)
 place-in_band band bit width column = omega arith
 
 -- in a band that is not used no pixel has an entry
-unused-places : (drawing : Drawing) (band bit column : ℕ) → is_used drawing band ≡ false → bit < 6 → column < drawing.width → entry_at drawing column (6 * band + bit) ≡ None
+unused-places : (drawing : Drawing) (band bit column : ℕ) → is_used drawing band ≡ false → bit < 6
+    → column < drawing.width → entry_at drawing column (6 * band + bit) ≡ None
 unused-places drawing band bit column none lb lc =
     ap (λ place. get_or drawing.entries place None) (place-in_band band bit drawing.width column)
-    ∙ window-none drawing.entries (6 * band * drawing.width) (6 * drawing.width) (bit * drawing.width + column) none (omega (arith, mul-add-lt bit drawing.width column 6 lb lc))
+    ∙ window-none drawing.entries (6 * band * drawing.width) (6 * drawing.width)
+    (bit * drawing.width + column) none (omega (arith, mul-add-lt bit drawing.width column 6 lb lc))
 
 -- six answers of no make 0
 mask-nothing : (test : ℕ → Bool) (n : ℕ) → ((k : ℕ) → k < n → test k ≡ false) → mask test n ≡ 0
@@ -81,31 +97,50 @@ mask-nothing test (suc n) none =
     ∙ ap (λ t. 0 + cond t (2 ^ n) 0) (none n (omega arith))
 
 -- so no entry has a dot there
-pub unused-dots : (drawing : Drawing) (band entry : ℕ) → is_used drawing band ≡ false → has_dot (row_of drawing band entry) ≡ false
+pub unused-dots : (drawing : Drawing) (band entry : ℕ) → is_used drawing band ≡ false
+    → has_dot (row_of drawing band entry) ≡ false
 unused-dots drawing band entry none =
     list_any_none (λ bits. not (bits == 0)) (row_of drawing band entry)
     (All-from_get_or (λ bits. not (bits == 0) ≡ false) (row_of drawing band entry) 0
     (λ column l.
     let lc : column < drawing.width = omega (arith, length-row_of drawing band entry) in
     ap (λ bits. not (bits == 0))
-    (get_or-map-range_with_len (sixel_of drawing band entry) 0 drawing.width column column 0 lc (omega arith)
-    ∙ mask-nothing (λ bit. is_entry entry (entry_at drawing column (6 * band + bit))) 6 (λ bit lb. ap (is_entry entry) (unused-places drawing band bit column none lb lc)))))
+    (get_or-map-range_with_len (sixel_of drawing band entry) 0 drawing.width column column 0 lc
+    (omega arith)
+    ∙ mask-nothing
+    (λ bit. is_entry entry (entry_at drawing column (6 * band + bit)))
+    6
+    (λ bit lb. ap (is_entry entry) (unused-places drawing band bit column none lb lc)))))
 
 -- an entry is itself
 itself : (entry : ℕ) → entry == entry ≡ true
 itself entry = grind (arith, nat_tests)
 
 -- a sixel that sets a pixel is a dot of its row
-dot_from_pixel : (drawing : Drawing) (band entry column bit : ℕ) → column < drawing.width → bit < 6 → entry_at drawing column (6 * band + bit) ≡ Some entry → has_dot (row_of drawing band entry) ≡ true
+dot_from_pixel : (drawing : Drawing) (band entry column bit : ℕ) → column < drawing.width → bit < 6
+    → entry_at drawing column (6 * band + bit) ≡ Some entry
+    → has_dot (row_of drawing band entry) ≡ true
 dot_from_pixel drawing band entry column bit lc lb here =
-    let inside : IsInBand band (6 * band + bit) = record { since = omega arith; before = omega arith } in
+    let inside : IsInBand band (6 * band + bit) = record {
+      since = omega arith;
+      before = omega arith;
+    } in
     let bits : ℕ = slice_index (row_of drawing band entry) column in
-    let struck : is_struck (6 * band) bits (6 * band + bit) ≡ true = struck-inside drawing band entry column (6 * band + bit) lc inside ∙ (ap (is_entry entry) here ∙ itself entry) in
-    let some : bits == 0 ≡ false = ne_eqb bits 0 (λ e. both_ways (is_struck (6 * band) bits (6 * band + bit)) (ap (λ b. is_struck (6 * band) b (6 * band + bit)) e ∙ is_struck-zero (6 * band) (6 * band + bit)) struck) in
-    list_any_at (λ b. not (b == 0)) (row_of drawing band entry) column 0 (omega (arith, length-row_of drawing band entry)) (ap not some)
+    let struck : is_struck (6 * band) bits (6 * band + bit) ≡ true =
+    struck-inside drawing band entry column (6 * band + bit) lc inside
+    ∙ (ap (is_entry entry) here ∙ itself entry) in
+    let some : bits == 0 ≡ false =
+    ne_eqb bits 0
+    (λ e.
+    both_ways (is_struck (6 * band) bits (6 * band + bit))
+    (ap (λ b. is_struck (6 * band) b (6 * band + bit)) e
+    ∙ is_struck-zero (6 * band) (6 * band + bit)) struck) in
+    list_any_at (λ b. not (b == 0)) (row_of drawing band entry) column 0
+    (omega (arith, length-row_of drawing band entry)) (ap not some)
 
 -- a dot of an entry of the drawing in a band that is used
-pub used-dot : (drawing : Drawing) (band : ℕ) → IsWritable drawing → is_used drawing band ≡ true → (entry : ℕ) × (entry < length drawing.colors) × (has_dot (row_of drawing band entry) ≡ true)
+pub used-dot : (drawing : Drawing) (band : ℕ) → IsWritable drawing → is_used drawing band ≡ true
+    → (entry : ℕ) × (entry < length drawing.colors) × (has_dot (row_of drawing band entry) ≡ true)
 used-dot drawing band is used =
     let found = window-some drawing.entries (6 * band * drawing.width) (6 * drawing.width) used in
     let i : ℕ = found.0 in
@@ -114,8 +149,16 @@ used-dot drawing band is used =
     let w : 0 < drawing.width = omega (arith, is.some_width) in
     let column : i % drawing.width < drawing.width = mod_below i drawing.width w in
     let bit : i / drawing.width < 6 = div_below i drawing.width 6 w found.1 in
-    let place : (6 * band + i / drawing.width) * drawing.width + i % drawing.width ≡ 6 * band * drawing.width + i =
-    place-in_band band (i / drawing.width) drawing.width (i % drawing.width) ∙ ap (λ n. 6 * band * drawing.width + n) (div-add-mod' i drawing.width) in
-    let here : entry_at drawing (i % drawing.width) (6 * band + i / drawing.width) ≡ Some entry = ap (λ n. get_or drawing.entries n None) place ∙ at in
-    let known : entry < length drawing.colors = subst (λ (v : Option ℕ). IfSome v (λ e. e < length drawing.colors)) at (is.known (6 * band * drawing.width + i) None found.2) in
-    (entry, known, dot_from_pixel drawing band entry (i % drawing.width) (i / drawing.width) column bit here)
+    let place : (6 * band + i / drawing.width) * drawing.width + i % drawing.width
+    ≡ 6 * band * drawing.width + i =
+    place-in_band band (i / drawing.width) drawing.width (i % drawing.width)
+    ∙ ap (λ n. 6 * band * drawing.width + n) (div-add-mod' i drawing.width) in
+    let here : entry_at drawing (i % drawing.width) (6 * band + i / drawing.width) ≡ Some entry =
+    ap (λ n. get_or drawing.entries n None) place ∙ at in
+    let known : entry < length drawing.colors =
+    subst (λ (v : Option ℕ). IfSome v (λ e. e < length drawing.colors))
+    at (is.known (6 * band * drawing.width + i) None found.2) in (
+      entry,
+      known,
+      dot_from_pixel drawing band entry (i % drawing.width) (i / drawing.width) column bit here,
+    )

@@ -1,4 +1,4 @@
-pub mod Pieces
+pub mod RunTokens
 pub mod Text
 pub mod inside
 pub mod Encoding

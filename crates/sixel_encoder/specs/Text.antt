@@ -1,14 +1,18 @@
--- The SIXEL text of a drawing: an image whose pixels are entries of a palette or nothing. By DEC's device control string of sixel data:
--- raster attributes, color introducers in percent of red, green and blue, then bands of six rows, one row of sixels an entry that is used.
-use Rattle.std.specs.Prelude.{ℕ, zero, suc, ◌+◌, ◌*◌, ◌/◌, ◌^◌, ◌==◌, Bool, false, not, if◌then◌else◌, List, [], ◌∷◌, ◌++◌, length, map, slice_index, slice_index_or, Option, Some, None, codes, decimal}
+-- The SIXEL text of a drawing: an image whose pixels are entries of a palette or nothing. By DEC's
+-- device control string of sixel data: raster attributes, color introducers in percent of red,
+-- green and blue, then bands of six rows, one row of sixels an entry that is used.
+use Rattle.std.specs.Prelude.{ℕ, zero, suc, ◌+◌, ◌*◌, ◌/◌, ◌^◌, ◌==◌, Bool, false, not}
+use Rattle.std.specs.Prelude.{if◌then◌else◌, List, [], ◌∷◌, ◌++◌, length, map, slice_index}
+use Rattle.std.specs.Prelude.{slice_index_or, Option, Some, None, codes, decimal}
 use Rattle.std.specs.List.{range_with_len, list_any}
 use Rattle.sixel_base.specs.declared.settings.BackgroundMode.{BackgroundMode}
 use Rattle.sixel_base.specs.declared.settings.PixelAspectRatio.{PixelAspectRatio}
 use Rattle.sixel_base.specs.Settings.{p1_of, p2_of, pad_of}
 use Rattle.sixel_base.specs.Picture.{joined}
-use Rattle.sixel_encoder.specs.Pieces.{written, row_pieces}
+use Rattle.sixel_encoder.specs.RunTokens.{written, row_tokens}
 
--- sizes, shape and background of an image, the colors of its palette in order, and the entry of each pixel, row by row, or nothing
+-- sizes, shape and background of an image, the colors of its palette in order, and the entry of
+-- each pixel, row by row, or nothing
 pub record Drawing : Type 0 where
   pub width : ℕ
   pub height : ℕ
@@ -33,7 +37,8 @@ mask test (suc n) = mask test n + (if test n then 2 ^ n else 0)
 
 -- the sixel of a band's column for an entry: a bit for each of six rows, the least for the top one
 abbrev pub sixel_of : Drawing → ℕ → ℕ → ℕ → ℕ
-sixel_of drawing band entry column = mask (λ bit. is_entry entry (entry_at drawing column (6 * band + bit))) 6
+sixel_of drawing band entry column =
+    mask (λ bit. is_entry entry (entry_at drawing column (6 * band + bit))) 6
 
 -- the sixels of a band for an entry
 abbrev pub row_of : Drawing → ℕ → ℕ → List ℕ
@@ -54,18 +59,22 @@ percent channel = (channel * 100 + 127) / 255
 -- the introducer and the parameters, the third of which is always 0
 abbrev pub parameters_text : Drawing → List ℕ
 parameters_text drawing =
-    27 ∷ codes "P" ++ decimal (p1_of drawing.aspect_ratio) ++ codes ";" ++ decimal (p2_of drawing.background_mode) ++ codes ";0q"
+    27 ∷ codes "P" ++ decimal (p1_of drawing.aspect_ratio) ++ codes ";"
+    ++ decimal (p2_of drawing.background_mode) ++ codes ";0q"
 
 -- the raster attributes: how high and wide a pixel is, then the sizes
 abbrev pub raster_text : Drawing → List ℕ
 raster_text drawing =
-    codes "\"" ++ decimal (pad_of drawing.aspect_ratio) ++ codes ";1;" ++ decimal drawing.width ++ codes ";" ++ decimal drawing.height
+    codes "\"" ++ decimal (pad_of drawing.aspect_ratio) ++ codes ";1;" ++ decimal drawing.width
+    ++ codes ";" ++ decimal drawing.height
 
 -- the definition of an entry as a color, in percent
 abbrev pub color_definition : ℕ → List ℕ → List ℕ
 color_definition entry color =
-    codes "#" ++ decimal entry ++ codes ";2;" ++ decimal (percent (slice_index color 0)) ++ codes ";"
-    ++ decimal (percent (slice_index color 1)) ++ codes ";" ++ decimal (percent (slice_index color 2))
+    codes "#" ++ decimal entry ++ codes ";2;" ++ decimal (percent (slice_index color 0))
+    ++ codes ";"
+    ++ decimal (percent (slice_index color 1)) ++ codes ";"
+    ++ decimal (percent (slice_index color 2))
 
 -- the definition of a palette entry
 abbrev pub definition_text : Drawing → ℕ → List ℕ
@@ -73,7 +82,7 @@ definition_text drawing entry = color_definition entry (slice_index_or drawing.c
 
 -- a row of an entry: the entry, its sixels, and back to the left
 abbrev pub row_text : ℕ → List ℕ → List ℕ
-row_text entry row = codes "#" ++ decimal entry ++ written (row_pieces row) ++ codes "$"
+row_text entry row = codes "#" ++ decimal entry ++ written (row_tokens row) ++ codes "$"
 
 -- the row of an entry in a band, where the entry is used there
 abbrev pub entry_text : Drawing → ℕ → ℕ → List ℕ
@@ -94,4 +103,6 @@ bands_text drawing = joined (band_text drawing) (bands drawing.height)
 
 -- the whole text, ended by the string terminator
 abbrev pub text_of : Drawing → List ℕ
-text_of drawing = parameters_text drawing ++ raster_text drawing ++ palette_text drawing ++ bands_text drawing ++ 27 ∷ codes "\\"
+text_of drawing =
+    parameters_text drawing ++ raster_text drawing ++ palette_text drawing ++ bands_text drawing
+    ++ 27 ∷ codes "\\"

@@ -1,82 +1,203 @@
-//! The rows of one band: six lines of an image, a row of sixels for each palette entry, or for a
-//! part of the entries.
+//! The rows of sixels of one band, for all palette entries or for a part of them.
 
-ghost use Rattle.std.specs.Prelude.{◌≡◌, ◌≢◌, ℕ, ◌+◌, ◌*◌, ◌^◌, ◌<◌, ◌≤◌, ◌++◌, All, OnOk, string_bytes};
+ghost use Rattle.std.specs.Prelude.{◌≡◌, ◌≢◌, ℕ, ◌+◌, ◌*◌, ◌^◌, ◌<◌, ◌≤◌, ◌++◌, IfOk, OnOk, string_bytes};
 ghost use Rattle.std.specs.Prelude.{true, false, length, slice_index};
 ghost use Rattle.sixel_base.specs.Picture.{joined};
-ghost use Rattle.sixel_encoder.specs.Text.{sixel_of, row_text, entry_text};
+ghost use Rattle.sixel_encoder.specs.Text.{sixel_of, row_text, band_text};
 ghost use Rattle.sixel_encoder.specs.inside.Indexed.{IsIndexed, drawing_of, entry_of};
-ghost use Rattle.sixel_encoder.specs.inside.Grid.{cell, dot_at, pixel_bit, grid_row, grid_text, AreRows};
+ghost use Rattle.sixel_encoder.specs.inside.Grid.{cell, pixel_bit, grid_row, grid_text, AreRows};
 ghost use Rattle.sixel_encoder.specs.inside.Grid.{AreBelow, AreMarks, AreClear, IsPart};
+ghost use Rattle.sixel_encoder.specs.inside.Grid.{AreEmptyRows, IsSameShape};
 
+use crate::decimal::push_number;
 use crate::entries::others_from;
-use crate::pieces::{push_number, push_row};
+use crate::run_tokens::push_row;
 use crate::text::IndexedImage;
-use std::alloc::AllocError;
+use std::alloc::{AllocError, Global};
 
-/// Sets a dot of this weight in an entry's row.
-fn add_dot(
-    rows: &mut [u8],
-    used: &mut [bool],
+/// How many bytes the rows and their marks may take.
+const CAPACITY: usize = 2 * 1024 * 1024;
+
+/// The rows of sixels of a band, for some palette entries.
+#[derive(Drop)]
+pub struct BandRows {
+    /// The sixels, row after row.
+    rows: Vec<u8>,
+    /// Whether a row has a set pixel, for each row.
+    used: Vec<bool>,
+    /// How many sixels a row has.
     width: usize,
-    entry: usize,
-    column: usize,
-    weight: u8,
-)
-    requires rows { AreRows rows.old used.old width }
-    requires entry { entry < length used.old }
-    requires column { column < width }
-    requires weight { 0 < weight }
-    requires room { cell rows.old width entry column + weight < 256 }
-    requires marks { AreMarks rows.old used.old width }
-    ensures cells { (e x : ℕ) → e < length used.old → x < width
-        → cell rows.new width e x ≡ cell rows.old width e x + dot_at weight entry column e x }
-    ensures marks { AreMarks rows.new used.new width }
-{
-    rows[entry * width + column] += weight;
-    used[entry] = true;
+    /// The entry of the first row.
+    first: usize,
 }
 
-/// Whether a pixel is shown, and not hidden.
-#[inline(always)]
-fn is_shown(pixels: &[u8], pixel: usize) -> bool
-    requires { 4 * pixel + 3 < length pixels.now }
-    ensures shown { result ≡ true → 128 ≤ slice_index pixels.now (4 * pixel + 3) }
-    ensures hidden { result ≡ false → slice_index pixels.now (4 * pixel + 3) < 128 }
-{
-    pixels[4 * pixel + 3] >= 128
+impl BandRows {
+    /// Returns empty rows: for all entries, or for as many as fit into the capacity.
+    pub fn new(alloc: Global, image: &IndexedImage<'_>) -> Result<BandRows, AllocError>
+        requires { IsIndexed image.now }
+        ensures { IfOk result (AreEmptyRows image.now) }
+    {
+        let count = entries_at_once(image.width, image.colors.len());
+        let rows = vec![in alloc; 0; count * image.width]?;
+        let used = vec![in alloc; false; count]?;
+        Ok(BandRows {
+            rows,
+            used,
+            width: image.width,
+            first: 0,
+        })
+    }
+
+    /// Appends a band, in one pass over its pixels for each part of the entries.
+    ///
+    /// The rows are empty before and after it.
+    pub fn push_band(
+        &mut self,
+        text: &mut String,
+        image: &IndexedImage<'_>,
+        band: usize,
+    ) -> Result<(), AllocError>
+        requires image { IsIndexed image.now }
+        requires band { 6 * band < image.now.height }
+        requires empty { AreEmptyRows image.now self.old }
+        ensures text { OnOk result (string_bytes text.new
+            ≡ string_bytes text.old ++ band_text (drawing_of image.now) band) }
+        ensures empty { OnOk result (AreEmptyRows image.now self.new) }
+    {
+        for part in 0..parts(image.colors.len(), self.used.len()) {
+            self.first = part * self.used.len();
+            self.fill(image, band);
+            self.push_rows(text)?;
+        }
+        text.push('-')
+    }
+
+    /// Sets the pixels of a band in empty rows.
+    #[inline(never)]
+    fn fill(&mut self, image: &IndexedImage<'_>, band: usize)
+        requires image { IsIndexed image.now }
+        requires band { 6 * band < image.now.height }
+        requires empty { AreEmptyRows image.now self.old }
+        requires part { IsPart self.old.first (length self.old.used.items)
+            (length image.now.colors.now) }
+        ensures shape { IsSameShape self.old self.new }
+        ensures cells { (e x : ℕ) → e < length self.old.used.items → x < image.now.width
+            → cell self.new.rows.items image.now.width e x
+            ≡ sixel_of (drawing_of image.now) band (self.old.first + e) x }
+        ensures marks { AreMarks self.new.rows.items self.new.used.items image.now.width }
+    {
+        let is_whole = self.used.len() == image.colors.len();
+        let mut weight = 1;
+        for bit in 0..6 {
+            let row = 6 * band + bit;
+            if row < image.height {
+                let start = row * image.width;
+                let line = Line { start, weight };
+                if is_whole {
+                    add_whole_line(&mut self.rows, &mut self.used, image, line);
+                } else {
+                    add_part_of_line(&mut self.rows, &mut self.used, image, self.first, line);
+                }
+            }
+            weight *= 2;
+        }
+    }
+
+    /// Appends the rows that have a set pixel, and empties them.
+    fn push_rows(&mut self, text: &mut String) -> Result<(), AllocError>
+        requires rows { AreRows self.old.rows.items self.old.used.items self.old.width }
+        requires numbers { self.old.first + length self.old.used.items ≤ 512 }
+        requires below { AreBelow self.old.rows.items self.old.width
+            (length self.old.used.items) 64 }
+        requires marks { AreMarks self.old.rows.items self.old.used.items self.old.width }
+        ensures text { OnOk result (string_bytes text.new ≡ string_bytes text.old
+            ++ joined (grid_text self.old.rows.items self.old.width self.old.first)
+            (length self.old.used.items)) }
+        ensures shape { IsSameShape self.old self.new }
+        ensures clear { OnOk result (AreClear self.new.rows.items self.new.used.items
+            self.old.width (length self.old.used.items)) }
+    {
+        for row in 0..self.used.len() {
+            if self.used[row] {
+                self.push_entry(text, row)?;
+                self.used[row] = false;
+            }
+        }
+        Ok(())
+    }
+
+    /// Appends an entry and its row, and empties the row.
+    fn push_entry(&mut self, text: &mut String, row: usize) -> Result<(), AllocError>
+        requires number { self.old.first + row < 512 }
+        requires within { row * self.old.width + self.old.width ≤ length self.old.rows.items }
+        requires below { (x : ℕ) → x < self.old.width
+            → cell self.old.rows.items self.old.width row x < 64 }
+        ensures text { OnOk result (string_bytes text.new ≡ string_bytes text.old
+            ++ row_text (self.old.first + row)
+            (grid_row self.old.rows.items self.old.width row)) }
+        ensures shape { IsSameShape self.old self.new }
+        ensures used { self.new.used.items ≡ self.old.used.items }
+        ensures blank { OnOk result ((x : ℕ) → x < self.old.width
+            → cell self.new.rows.items self.old.width row x ≡ 0) }
+        ensures others { OnOk result ((e x : ℕ) → e ≢ row → x < self.old.width
+            → cell self.new.rows.items self.old.width e x
+            ≡ cell self.old.rows.items self.old.width e x) }
+    {
+        let entry = self.first + row;
+        let start = row * self.width;
+        let sixels = &mut self.rows[start..start + self.width];
+        text.push('#')?;
+        push_number(text, entry)?;
+        push_row(text, sixels)?;
+        text.push('$')?;
+        sixels.fill(0);
+        Ok(())
+    }
 }
 
-/// Whether an entry has one of so many rows, which are those of the entries from the first one on.
-#[inline(always)]
-fn has_row(entry: usize, first: usize, count: usize) -> bool
-    requires { first + count < 2 ^ 64 }
-    ensures inside { result ≡ true → (first ≤ entry) × (entry < first + count) }
-    ensures outside { result ≡ false → (k : ℕ) → k < count → entry ≢ first + k }
-{
-    first <= entry && entry < first + count
-}
-
-/// Sets a dot of this weight for each shown pixel of the line that starts at this pixel, in rows
-/// of all entries.
-fn add_whole_line(
-    rows: &mut [u8],
-    used: &mut [bool],
-    image: &IndexedImage<'_>,
+/// A line of a band: its first pixel, and the weight of its bit in a sixel.
+#[derive(Clone, Copy)]
+struct Line {
     start: usize,
     weight: u8,
-)
+}
+
+/// Returns how many entries have rows at once: as many as fit, at least one.
+fn entries_at_once(width: usize, entries: usize) -> usize
+    requires { width ≤ 1000000 }
+    ensures some { 0 < result }
+    ensures few { 0 < entries → result ≤ entries }
+    ensures capacity { result * (width + 1) ≤ 2097152 }
+    ensures most { (count : ℕ) → count ≤ entries → count * (width + 1) ≤ 2097152
+        → count ≤ result }
+{
+    (CAPACITY / (width + 1)).min(entries).max(1)
+}
+
+/// Returns in how many parts so many entries come, at most `at_once` in each.
+fn parts(entries: usize, at_once: usize) -> usize
+    requires { 0 < at_once }
+    ensures all { entries ≤ result * at_once }
+    ensures none_past { (part : ℕ) → part < result → part * at_once < entries }
+{
+    entries.div_ceil(at_once)
+}
+
+/// Sets the opaque pixels of a line, in rows of all entries.
+#[inline(always)]
+fn add_whole_line(rows: &mut [u8], used: &mut [bool], image: &IndexedImage<'_>, line: Line)
     requires image { IsIndexed image.now }
     requires entries { length used.old ≡ length image.now.colors.now }
     requires rows { AreRows rows.old used.old image.now.width }
-    requires line { start + image.now.width ≤ image.now.width * image.now.height }
-    requires weight { 0 < weight }
-    requires room { (e x : ℕ) → e < length used.old → x < image.now.width
-        → cell rows.old image.now.width e x + weight < 256 }
+    requires line { line.start + image.now.width ≤ image.now.width * image.now.height }
+    requires weight { 0 < line.weight }
+    requires fits { (e x : ℕ) → e < length used.old → x < image.now.width
+        → cell rows.old image.now.width e x + line.weight < 256 }
     requires marks { AreMarks rows.old used.old image.now.width }
     ensures cells { (e x : ℕ) → e < length used.old → x < image.now.width
         → cell rows.new image.now.width e x ≡ cell rows.old image.now.width e x
-        + pixel_bit weight e (entry_of image.now.pixels.now image.now.indices.now (start + x)) }
+        + pixel_bit line.weight e
+        (entry_of image.now.pixels.now image.now.indices.now (line.start + x)) }
     ensures marks { AreMarks rows.new used.new image.now.width }
 {
     let IndexedImage {
@@ -86,195 +207,68 @@ fn add_whole_line(
         ..
     } = *image;
     for column in 0..width {
-        let pixel = start + column;
-        if is_shown(pixels, pixel) {
-            let entry = usize::from(indices[pixel]);
-            add_dot(rows, used, width, entry, column, weight);
+        let pixel = line.start + column;
+        if is_opaque(pixels, pixel) {
+            let row = usize::from(indices[pixel]);
+            rows[row * width + column] += line.weight;
+            used[row] = true;
         }
     }
 }
 
-/// Sets a dot of this weight for each pixel of the line that starts at this pixel which is shown
-/// and has one of the entries with a row.
+/// Sets the opaque pixels of a line, in rows of a part of the entries.
 #[inline(never)]
 fn add_part_of_line(
     rows: &mut [u8],
     used: &mut [bool],
     image: &IndexedImage<'_>,
     first: usize,
-    start: usize,
-    weight: u8,
+    line: Line,
 )
     requires image { IsIndexed image.now }
     requires first { first < 256 }
     requires count { length used.old < 256 }
     requires rows { AreRows rows.old used.old image.now.width }
-    requires line { start + image.now.width ≤ image.now.width * image.now.height }
-    requires weight { 0 < weight }
-    requires room { (e x : ℕ) → e < length used.old → x < image.now.width
-        → cell rows.old image.now.width e x + weight < 256 }
+    requires line { line.start + image.now.width ≤ image.now.width * image.now.height }
+    requires weight { 0 < line.weight }
+    requires fits { (e x : ℕ) → e < length used.old → x < image.now.width
+        → cell rows.old image.now.width e x + line.weight < 256 }
     requires marks { AreMarks rows.old used.old image.now.width }
     ensures cells { (e x : ℕ) → e < length used.old → x < image.now.width
         → cell rows.new image.now.width e x ≡ cell rows.old image.now.width e x
-        + pixel_bit weight (first + e)
-        (entry_of image.now.pixels.now image.now.indices.now (start + x)) }
+        + pixel_bit line.weight (first + e)
+        (entry_of image.now.pixels.now image.now.indices.now (line.start + x)) }
     ensures marks { AreMarks rows.new used.new image.now.width }
 {
     let mut column = 0;
     'columns: while column < image.width {
-        let pixel = start + column;
+        let pixel = line.start + column;
         let entry = usize::from(image.indices[pixel]);
-        if has_row(entry, first, used.len()) && is_shown(image.pixels, pixel) {
-            add_dot(rows, used, image.width, entry - first, column, weight);
+        if has_row(entry, first, used.len()) && is_opaque(image.pixels, pixel) {
+            let row = entry - first;
+            rows[row * image.width + column] += line.weight;
+            used[row] = true;
         }
         column += 1 + others_from(image.indices, pixel + 1, first, used.len());
     }
 }
 
-/// Sets a dot of this weight for each shown pixel of the line that starts at this pixel, where its
-/// entry has a row.
-fn add_line(
-    rows: &mut [u8],
-    used: &mut [bool],
-    image: &IndexedImage<'_>,
-    first: usize,
-    start: usize,
-    weight: u8,
-)
-    requires image { IsIndexed image.now }
-    requires part { IsPart first (length used.old) (length image.now.colors.now) }
-    requires rows { AreRows rows.old used.old image.now.width }
-    requires line { start + image.now.width ≤ image.now.width * image.now.height }
-    requires weight { 0 < weight }
-    requires room { (e x : ℕ) → e < length used.old → x < image.now.width
-        → cell rows.old image.now.width e x + weight < 256 }
-    requires marks { AreMarks rows.old used.old image.now.width }
-    ensures cells { (e x : ℕ) → e < length used.old → x < image.now.width
-        → cell rows.new image.now.width e x ≡ cell rows.old image.now.width e x
-        + pixel_bit weight (first + e)
-        (entry_of image.now.pixels.now image.now.indices.now (start + x)) }
-    ensures marks { AreMarks rows.new used.new image.now.width }
+/// Returns whether an entry is one of `count` entries from `first` on.
+#[inline(always)]
+fn has_row(entry: usize, first: usize, count: usize) -> bool
+    requires { first + count < 2 ^ 64 }
+    ensures inside { result ≡ true → (first ≤ entry) × (entry < first + count) }
+    ensures outside { result ≡ false → (k : ℕ) → k < count → entry ≢ first + k }
 {
-    if used.len() == image.colors.len() {
-        add_whole_line(rows, used, image, start, weight);
-    } else {
-        add_part_of_line(rows, used, image, first, start, weight);
-    }
+    first <= entry && entry < first + count
 }
 
-/// Sets the dots of a band in rows that have none, which are those of some entries from the first
-/// one on.
-#[inline(never)]
-fn fill_part(
-    rows: &mut [u8],
-    used: &mut [bool],
-    image: &IndexedImage<'_>,
-    first: usize,
-    band: usize,
-)
-    requires image { IsIndexed image.now }
-    requires part { IsPart first (length used.old) (length image.now.colors.now) }
-    requires rows { AreRows rows.old used.old image.now.width }
-    requires band { 6 * band < image.now.height }
-    requires clear { AreClear rows.old used.old image.now.width (length used.old) }
-    ensures cells { (e x : ℕ) → e < length used.old → x < image.now.width
-        → cell rows.new image.now.width e x ≡ sixel_of (drawing_of image.now) band (first + e) x }
-    ensures marks { AreMarks rows.new used.new image.now.width }
+/// Returns whether a pixel is opaque: an alpha of at least 128.
+#[inline(always)]
+fn is_opaque(pixels: &[u8], pixel: usize) -> bool
+    requires { 4 * pixel + 3 < length pixels.now }
+    ensures opaque { result ≡ true → 128 ≤ slice_index pixels.now (4 * pixel + 3) }
+    ensures transparent { result ≡ false → slice_index pixels.now (4 * pixel + 3) < 128 }
 {
-    let mut weight = 1;
-    for bit in 0..6 {
-        let row = 6 * band + bit;
-        if row < image.height {
-            add_line(rows, used, image, first, row * image.width, weight);
-        }
-        weight *= 2;
-    }
-}
-
-/// Appends an entry's row, and clears it. The rows are those of some entries from the first one on.
-fn push_entry(
-    text: &mut String,
-    rows: &mut [u8],
-    width: usize,
-    first: usize,
-    entry: usize,
-) -> Result<(), AllocError>
-    requires number { first + entry < 512 }
-    requires room { entry * width + width ≤ length rows.old }
-    requires below { (x : ℕ) → x < width → cell rows.old width entry x < 64 }
-    ensures text { OnOk result
-        (string_bytes text.new ≡ string_bytes text.old
-        ++ row_text (first + entry) (grid_row rows.old width entry)) }
-    ensures blank { OnOk result ((x : ℕ) → x < width → cell rows.new width entry x ≡ 0) }
-    ensures others { OnOk result ((e x : ℕ) → e ≢ entry → x < width
-        → cell rows.new width e x ≡ cell rows.old width e x) }
-{
-    let start = entry * width;
-    let row = &mut rows[start..start + width];
-    push_entry_row(text, first + entry, row)?;
-    row.fill(0);
-    Ok(())
-}
-
-/// Appends an entry and its row.
-fn push_entry_row(text: &mut String, entry: usize, row: &[u8]) -> Result<(), AllocError>
-    requires { All (λ bits. bits < 64) row.now }
-    ensures { OnOk result
-        (string_bytes text.new ≡ string_bytes text.old ++ row_text entry row.now) }
-{
-    text.push('#')?;
-    push_number(text, entry)?;
-    push_row(text, row)?;
-    text.push('$')
-}
-
-/// Appends the rows that have a dot, and clears them. They are those of some entries from the
-/// first one on.
-fn push_rows(
-    text: &mut String,
-    rows: &mut [u8],
-    used: &mut [bool],
-    width: usize,
-    first: usize,
-) -> Result<(), AllocError>
-    requires rows { AreRows rows.old used.old width }
-    requires numbers { first + length used.old ≤ 512 }
-    requires below { AreBelow rows.old width (length used.old) 64 }
-    requires marks { AreMarks rows.old used.old width }
-    ensures text { OnOk result
-        (string_bytes text.new ≡ string_bytes text.old
-        ++ joined (grid_text rows.old width first) (length used.old)) }
-    ensures clear { OnOk result (AreClear rows.new used.new width (length used.old)) }
-{
-    for entry in 0..used.len() {
-        if used[entry] {
-            push_entry(text, rows, width, first, entry)?;
-            used[entry] = false;
-        }
-    }
-    Ok(())
-}
-
-/// Appends the rows of a band for some entries from the first one on, over rows that have no dot,
-/// and leaves them so.
-pub fn push_part(
-    text: &mut String,
-    image: &IndexedImage<'_>,
-    band: usize,
-    first: usize,
-    rows: &mut [u8],
-    used: &mut [bool],
-) -> Result<(), AllocError>
-    requires image { IsIndexed image.now }
-    requires band { 6 * band < image.now.height }
-    requires part { IsPart first (length used.old) (length image.now.colors.now) }
-    requires rows { AreRows rows.old used.old image.now.width }
-    requires clear { AreClear rows.old used.old image.now.width (length used.old) }
-    ensures text { OnOk result
-        (string_bytes text.new ≡ string_bytes text.old
-        ++ joined (λ e. entry_text (drawing_of image.now) band (first + e)) (length used.old)) }
-    ensures clear { OnOk result (AreClear rows.new used.new image.now.width (length used.old)) }
-{
-    fill_part(rows, used, image, first, band);
-    push_rows(text, rows, used, image.width, first)
+    pixels[4 * pixel + 3] >= 128
 }

@@ -1,14 +1,15 @@
-//! Pixels that have none of some entries, passed over thirty-two at a time.
+//! Pixels whose entries have no row, skipped 32 at a time.
 
 ghost use Rattle.std.specs.Prelude.{◌≢◌, ℕ, ◌+◌, ◌<◌, ◌≤◌, length, slice_index};
 
 use std::simd::prelude::*;
 
-/// How many entries are compared at once.
+/// How many entries one comparison covers.
 const LANES: usize = 32;
 
-/// How many pixels from a place on have none of so many entries from the first one on, up to
-/// thirty-two; 0 where fewer pixels are left.
+/// Returns how many pixels from `at` on have an entry without a row, up to 32.
+///
+/// The rows are those of `count` entries from `first` on. 0 if fewer than 32 pixels are left.
 #[inline(always)]
 pub fn others_from(indices: &[u8], at: usize, first: usize, count: usize) -> usize
     requires at { at ≤ length indices.now }

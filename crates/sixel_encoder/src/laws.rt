@@ -1,4 +1,4 @@
-//! Laws of the text and its meaning, stated by functions with empty bodies.
+//! Laws of the SIXEL output and its meaning, stated by functions with empty bodies.
 
 ghost use Rattle.std.specs.Prelude.{◌≡◌, ℕ, ◌≤◌, ◌<◌, ◌*◌, Bool, List, ◌∷◌, ◌++◌, length, codes};
 ghost use Rattle.std.specs.Prelude.{Some, None};
@@ -17,8 +17,9 @@ ghost use Rattle.sixel_base.specs.OneShot.{Payload, found};
 ghost use Rattle.sixel_encoder.specs.Trip.{IsWritable, payload_text, drawing_settings};
 ghost use Rattle.sixel_encoder.specs.Trip.{rounded, trip, CanRead, IsTrip, IsReadAs, IsOneString};
 
-/// A text is its parameters, a payload and the string terminator. Every byte of the payload is its
-/// own and carries meaning.
+/// States that an output is its parameters, a payload and the string terminator.
+///
+/// Decoding the payload consumes every byte of it.
 pub fn whole_payload()
     ensures text { (drawing : Drawing)
         → text_of drawing ≡ parameters_text drawing ++ (payload_text drawing ++ 27 ∷ codes "\\") }
@@ -32,7 +33,7 @@ pub fn whole_payload()
         → first_terminator (payload_text drawing ++ 27 ∷ rest) ≡ Some 27 }
 {}
 
-/// A payload is read back without a fault, as the drawing's trip.
+/// States that decoding a payload succeeds and returns the drawing's trip.
 pub fn round_trip()
     ensures sound { (limit : ℕ) (drawing : Drawing) (rest : List ℕ) → IsWritable drawing
         → drawing.width * banded drawing.height ≤ limit
@@ -44,8 +45,9 @@ pub fn round_trip()
         ≡ trip decoder.raster_crop drawing }
 {}
 
-/// A text is one control string with the drawing's settings, to its last byte. A decoder that can
-/// read it does so as the drawing's trip.
+/// States that an output is one DCS sequence with the drawing's settings.
+///
+/// The sequence ends with the last byte. A decoder that can read it returns the drawing's trip.
 pub fn one_control_string()
     ensures found { (drawing : Drawing) → found (text_of drawing)
         ≡ Payload (drawing_settings drawing) (payload_text drawing ++ 27 ∷ codes "\\") }
@@ -58,14 +60,18 @@ pub fn one_control_string()
         → IsReadAs decoder (text_of drawing) (trip decoder.raster_crop drawing) }
 {}
 
-/// A percentage that has been a byte is the same, so that a byte is rounded only once.
+/// States that a percentage survives the conversion to a byte.
+///
+/// So a second round trip does not round a channel again.
 pub fn rounding()
     ensures percentages { (p : ℕ) → p ≤ 100 → percent (byte_of p) ≡ p }
     ensures bytes { (channel : ℕ) → rounded (rounded channel) ≡ rounded channel }
 {}
 
-/// The text of an image is one control string, and is read back as the trip of its drawing by
-/// each decoder that can read it, as a new one can. The trip is again an image that can be encoded.
+/// States that the output of an image means the trip of its drawing.
+///
+/// The output is one DCS sequence. Each decoder that can read it, as a new one can, returns that trip. The trip is again an image
+/// that can be encoded.
 pub fn image_trip()
     ensures writable { (image : Image) (max_colors : ℕ) (drawing : Drawing)
         → image_fault image ≡ None → All (λ byte. byte < 256) image.pixels
@@ -87,8 +93,9 @@ pub fn image_trip()
         → All (λ byte. byte < 256) (trip raster_crop drawing).pixels }
 {}
 
-/// A transparent image that is itself the trip of an image is read back as it is: a second trip
-/// with as many colors changes nothing.
+/// States that a second trip of a transparent image changes nothing.
+///
+/// The second trip has as many colors as the first.
 pub fn second_trip()
     ensures trip { (raster_crop : Bool) (image : Image) (max_colors : ℕ) (drawing : Drawing)
         → IsTrip raster_crop image max_colors → image.background_mode ≡ Transparent

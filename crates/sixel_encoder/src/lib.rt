@@ -1,9 +1,8 @@
-//! The SIXEL text of an image.
+//! The SIXEL output of an image.
 //!
-//! The colors are those of a palette of the image's own, farthest first, without dithering. Each
-//! band of six rows is written once for each palette entry that it uses, every row in the fewest
-//! bytes that it can be written in. Callers have these names from `icy_sixel`, whose images encode
-//! by them.
+//! Each image gets a palette of its own, chosen farthest first, without dithering. Each band of six
+//! rows is written once for each palette entry that it uses. Every row takes the fewest bytes that
+//! it can be written in. `icy_sixel` re-exports the public names.
 #![tactic(auto)]
 
 ghost use Rattle.std.specs.Prelude.{◌≡◌, ℕ, ◌<◌, All, IfErr, IfOk, MatchOption, string_bytes};
@@ -13,9 +12,10 @@ ghost use Rattle.sixel_encoder.specs.Encoding.{image_fault, IsDrawing, IsText, s
 ghost use Rattle.sixel_encoder.specs.Encoding.{square_value};
 
 mod band;
+mod decimal;
 mod entries;
 pub mod laws;
-mod pieces;
+mod run_tokens;
 mod runs;
 mod source;
 mod text;
@@ -29,31 +29,38 @@ use std::alloc::Global;
 /// How an image is encoded.
 #[derive(Debug, Clone, Copy, PartialEq, Eq)]
 pub struct EncodeOptions {
-    /// The most entries that the palette may have; a number below 2 is taken for 2, and one above
-    /// 256 for 256.
+    /// The most entries that the palette may have, clamped to 2 to 256.
     pub max_colors: u16,
 }
 
 impl Default for EncodeOptions {
     ghost is_default = { λ options. options.max_colors ≡ 256 };
 
-    /// A palette of up to 256 entries.
+    /// Returns the options for a palette of up to 256 entries.
     fn default() -> Self {
         Self { max_colors: 256 }
     }
 }
 
-/// The SIXEL text of an image of square pixels on a transparent background, four bytes a pixel
-/// (red, green, blue, alpha), row by row from the top, `4 * width * height` bytes in all. A pixel
-/// whose alpha is below 128 is hidden.
+/// Returns the SIXEL output of square pixels on a transparent background.
+///
+/// A pixel takes four bytes (red, green, blue, alpha), row by row from the top:
+/// `4 * width * height` bytes in all. A pixel whose alpha is below 128 is transparent.
 ///
 /// ```text
 /// let text = sixel_encode(alloc, &pixels, width, height, &EncodeOptions::default())?;
 /// ```
 ///
-/// Refused are, in this order: a zero size (`InvalidDimensions`), bytes above `usize::MAX`
-/// (`IntegerOverflow`), sizes above the limits (`InvalidDimensions`), and another number of bytes
-/// (`BufferSizeMismatch`).
+/// # Errors
+///
+/// The first of these that applies:
+///
+/// - `InvalidDimensions`: a size is zero
+/// - `IntegerOverflow`: the bytes exceed `usize::MAX`
+/// - `InvalidDimensions`: a size exceeds the limits
+/// - `BufferSizeMismatch`: the pixels are another number of bytes
+///
+/// Otherwise only `OutOfMemory`.
 pub fn sixel_encode(
     alloc: Global,
     pixels: &[u8],
@@ -76,7 +83,7 @@ pub fn sixel_encode(
     encode_source(alloc, &source, options.max_colors)
 }
 
-/// As [`sixel_encode`] with the default options.
+/// Returns what [`sixel_encode`] returns with the default options.
 pub fn sixel_encode_default(
     alloc: Global,
     pixels: &[u8],
@@ -91,7 +98,7 @@ pub fn sixel_encode_default(
     sixel_encode(alloc, pixels, width, height, &EncodeOptions::default())
 }
 
-/// A law, without work: images that show the same have one drawing, and so one text.
+/// States that images that look the same have the same output. It does nothing.
 pub fn one_drawing()
     ensures { (image other : Image) (max_colors : ℕ) (drawing another : Drawing)
         → All (λ b. b < 256) image.pixels

@@ -1,15 +1,16 @@
-//! Equal sixels next to each other in a row, counted sixteen at a time.
+//! Runs of equal sixels in a row, counted sixteen at a time.
 
 ghost use Rattle.std.specs.Prelude.{◌≡◌, ◌≢◌, ◌+◌, ◌<◌, ◌≤◌, length, slice_index};
 ghost use Rattle.sixel_encoder.specs.inside.Runs.{IsRun};
 
 use std::simd::prelude::*;
 
-/// How many sixels are compared at once.
+/// How many sixels one comparison covers.
 const LANES: usize = 16;
 
-/// How many of some sixels from a place on are equal to this one, before any that is not; not 0
-/// if the first one is.
+/// Returns how many sixels from `at` on equal `bits`, up to sixteen.
+///
+/// At least 1 if the first one does; 1 at most if fewer than sixteen are left.
 #[inline(always)]
 pub fn equal_from(row: &[u8], at: usize, bits: u8) -> usize
     requires { at < length row.now }
@@ -22,7 +23,7 @@ pub fn equal_from(row: &[u8], at: usize, bits: u8) -> usize
     equal_lanes(row, at, bits)
 }
 
-/// How many of sixteen sixels are equal to this one, before the first that is not.
+/// Returns how many of sixteen sixels equal `bits` before the first that differs.
 #[inline(always)]
 fn equal_lanes(row: &[u8], at: usize, bits: u8) -> usize
     requires { at + 16 ≤ length row.now }

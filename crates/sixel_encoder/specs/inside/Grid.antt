@@ -1,7 +1,12 @@
--- What the encoder keeps of one band: the sixels of some entries from a first one on, entry after entry, and which of them have a dot. This is
--- the working of the encoder alone; what it writes is defined by the text of a drawing.
-use Rattle.std.specs.Prelude.{◌≡◌, ℕ, ◌+◌, ◌*◌, ◌<◌, ◌≤◌, ◌==◌, Bool, true, false, ◌&&◌, if◌then◌else◌, List, [], length, map, slice_index, slice_index_or, Option}
+-- The rows of sixels of one band: those of some entries from a first one on, entry after entry, and
+-- which of them have a set pixel. This is internal to the encoder; its output is defined by the
+-- text of a drawing.
+use Rattle.std.specs.Prelude.{◌≡◌, ℕ, ◌+◌, ◌*◌, ◌<◌, ◌≤◌, ◌==◌, Bool, true, false, ◌&&◌}
+use Rattle.std.specs.Prelude.{if◌then◌else◌, List, [], length, map, slice_index, slice_index_or}
+use Rattle.std.specs.Prelude.{Option}
 use Rattle.std.specs.List.{range_with_len}
+use Rattle.sixel_encoder.specs.declared.band.BandRows.{BandRows}
+use Rattle.sixel_encoder.specs.declared.text.IndexedImage.{IndexedImage}
 use Rattle.sixel_encoder.specs.Text.{is_entry, has_dot, row_text}
 
 -- the sixel of an entry in a column
@@ -15,7 +20,8 @@ grid_row rows width entry = map (cell rows width entry) (range_with_len 0 width)
 -- the text of an entry's row, if it has a dot
 abbrev pub grid_text : List ℕ → ℕ → ℕ → ℕ → List ℕ
 grid_text rows width first entry =
-    if has_dot (grid_row rows width entry) then row_text (first + entry) (grid_row rows width entry) else []
+    if has_dot (grid_row rows width entry) then row_text (first + entry) (grid_row rows width entry)
+    else []
 
 -- a number where the entry and the column are these, else nothing
 abbrev pub dot_at : ℕ → ℕ → ℕ → ℕ → ℕ → ℕ
@@ -25,7 +31,8 @@ dot_at weight entry column e x = if e == entry && x == column then weight else 0
 abbrev pub pixel_bit : ℕ → ℕ → Option ℕ → ℕ
 pixel_bit weight e place = if is_entry e place then weight else 0
 
--- So many entries from the first one on are a part of all entries: the first is one of them, and with as many as there are it is 0.
+-- So many entries from the first one on are a part of all entries: the first is one of them, and
+-- with as many as there are it is 0.
 pub record IsPart (first count entries : ℕ) : Type 0 where
   pub some : first < entries
   pub few : count ≤ entries
@@ -37,14 +44,35 @@ AreRows rows used width = length rows ≡ length used * width
 
 -- each sixel is below the limit
 abbrev pub AreBelow : List ℕ → ℕ → ℕ → ℕ → Type 0
-AreBelow rows width count limit = (entry column : ℕ) → entry < count → column < width → cell rows width entry column < limit
+AreBelow rows width count limit =
+    (entry column : ℕ) → entry < count → column < width → cell rows width entry column < limit
 
 -- an entry is marked exactly if its row has a dot
 pub record AreMarks (rows : List ℕ) (used : List Bool) (width : ℕ) : Type 0 where
-  pub dotted : (entry : ℕ) → entry < length used → slice_index_or used entry false ≡ true → (column : ℕ) × (column < width) × (0 < cell rows width entry column)
-  pub marked : (entry column : ℕ) → entry < length used → column < width → 0 < cell rows width entry column → slice_index_or used entry false ≡ true
+  pub dotted : (entry : ℕ) → entry < length used → slice_index_or used entry false ≡ true
+      → (column : ℕ) × (column < width) × (0 < cell rows width entry column)
+  pub marked : (entry column : ℕ) → entry < length used → column < width
+      → 0 < cell rows width entry column → slice_index_or used entry false ≡ true
 
 -- no entry before this one has a dot or a mark
 pub record AreClear (rows : List ℕ) (used : List Bool) (width entries : ℕ) : Type 0 where
-  pub blank : (entry column : ℕ) → entry < entries → column < width → cell rows width entry column ≡ 0
+  pub blank : (entry column : ℕ) → entry < entries → column < width
+      → cell rows width entry column ≡ 0
   pub unused : (entry : ℕ) → entry < entries → slice_index_or used entry false ≡ false
+
+-- The rows are empty. They are as wide as the image, those of at least one entry and of no more
+-- than there are, and take at most 2 MiB with their marks.
+pub record AreEmptyRows (image : IndexedImage) (band : BandRows) : Type 0 where
+  pub wide : band.width ≡ image.width
+  pub some : 0 < length band.used.items
+  pub few : 0 < length image.colors.now → length band.used.items ≤ length image.colors.now
+  pub size : length band.rows.items + length band.used.items ≤ 2097152
+  pub places : AreRows band.rows.items band.used.items image.width
+  pub clear : AreClear band.rows.items band.used.items image.width (length band.used.items)
+
+-- the rows have the same sizes, and are those of the same entries
+pub record IsSameShape (old new : BandRows) : Type 0 where
+  pub wide : new.width ≡ old.width
+  pub from : new.first ≡ old.first
+  pub sixels : length new.rows.items ≡ length old.rows.items
+  pub marks : length new.used.items ≡ length old.used.items

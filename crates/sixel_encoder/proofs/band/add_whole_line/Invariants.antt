@@ -6,6 +6,9 @@ use Rattle.sixel_encoder.proofs.band.add_whole_line.Given as goal
 
 abbrev pub invariant-loop-column : goal.invariant-loop-column
 invariant-loop-column l = record {
-  cells : (e x : ℕ) → e < length l.used → x < l.image.width → cell l.rows l.image.width e x ≡ cell l.initial.rows l.image.width e x + (if nat_lt x l.column then pixel_bit l.weight e (entry_of l.image.pixels.now l.image.indices.now (l.start + x)) else 0);
+  cells : (e x : ℕ) → e < length l.used → x < l.image.width
+      → cell l.rows l.image.width e x ≡ cell l.initial.rows l.image.width e x
+      + (if nat_lt x l.column then pixel_bit l.line.weight e
+      (entry_of l.image.pixels.now l.image.indices.now (l.line.start + x)) else 0);
   marks : AreMarks l.rows l.used l.image.width;
 }

@@ -4,12 +4,20 @@ use Rattle.sixel_encoder.proofs.entries.others_from.Goals as goal
 
 pub returns-then-some-eq0-clause-others : goal.returns-then-some-eq0-clause-others
 returns-then-some-eq0-clause-others c =
-    none_of_all c.args.indices.now c.args.at c.args.first c.args.count _ (omega arith) c.requires.first c.requires.count (mask_is c.args.indices.now c.args.at c.args.first c.args.count (omega arith)) c.if-some-eq0.true
+    none_of_all c.args.indices.now c.args.at c.args.first c.args.count _ (omega arith)
+    c.requires.first c.requires.count
+    (mask_is c.args.indices.now c.args.at c.args.first c.args.count (omega arith))
+    c.if-some-eq0.true
 
 pub returns-else-some-eq0-clause-few : goal.returns-else-some-eq0-clause-few
 returns-else-some-eq0-clause-few c =
-    at_most_all c.args.indices.now c.args.at c.args.first c.args.count _ (omega arith) (mask_is c.args.indices.now c.args.at c.args.first c.args.count (omega arith)) c.if-some-eq0.false
+    at_most_all c.args.indices.now c.args.at c.args.first c.args.count _ (omega arith)
+    (mask_is c.args.indices.now c.args.at c.args.first c.args.count (omega arith))
+    c.if-some-eq0.false
 
 pub returns-else-some-eq0-clause-others : goal.returns-else-some-eq0-clause-others
 returns-else-some-eq0-clause-others c =
-    none_before c.args.indices.now c.args.at c.args.first c.args.count _ (omega arith) c.requires.first c.requires.count (mask_is c.args.indices.now c.args.at c.args.first c.args.count (omega arith)) c.if-some-eq0.false
+    none_before c.args.indices.now c.args.at c.args.first c.args.count _ (omega arith)
+    c.requires.first c.requires.count
+    (mask_is c.args.indices.now c.args.at c.args.first c.args.count (omega arith))
+    c.if-some-eq0.false

@@ -1,5 +1,26 @@
-use Rattle.std.proofs.Common.{arith}
+use Rattle.std.proofs.Common.{string_bytes, refl, arith}
+use Rattle.sixel_encoder.specs.Text.{band_text}
+use Rattle.sixel_encoder.specs.inside.Indexed.{drawing_of}
+use Rattle.sixel_encoder.proofs.Dots.{appended-start, appended-more}
 use Rattle.sixel_encoder.proofs.text.push_bands.Goals as goal
 
-pub push_bands_over-requires-clause-room : goal.push_bands_over-requires-clause-room
-push_bands_over-requires-clause-room c = grind arith
+pub loop-band-init : goal.loop-band-init
+loop-band-init c = record {
+  text = appended-start (band_text (drawing_of c.args.image.now)) (string_bytes c.args.text.now);
+  empty = c.in_ok-rows.ensures;
+}
+
+pub loop-band-preserved : goal.loop-band-preserved
+loop-band-preserved c =
+    let image = c.args.image.now in
+    let told = c.in_ok-push_band.ensures in
+    record {
+      text = appended-more (band_text (drawing_of image)) c.loop-band.band
+          (string_bytes c.args.text.now) (string_bytes c.loop-band.text)
+          (string_bytes c.push_band.new.text) (band_text (drawing_of image) c.loop-band.band)
+          c.loop-band.invariant.text told.text refl;
+      empty = told.empty;
+    }
+
+pub returns : goal.returns
+returns c = grind arith

@@ -5,4 +5,6 @@ use Rattle.sixel_encoder.specs.inside.Indexed.{drawing_of}
 use Rattle.sixel_encoder.proofs.text.push_palette.Given as goal
 
 abbrev pub invariant-loop-entry : goal.invariant-loop-entry
-invariant-loop-entry l = string_bytes l.text ≡ string_bytes l.initial.text ++ joined (definition_text (drawing_of l.image)) l.entry
+invariant-loop-entry l =
+    string_bytes l.text
+    ≡ string_bytes l.initial.text ++ joined (definition_text (drawing_of l.image)) l.entry

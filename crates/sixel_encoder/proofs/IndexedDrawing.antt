@@ -1,0 +1,80 @@
+-- The drawing of an image whose colors are chosen, and that an image has one drawing.
+use Rattle.std.proofs.Common.{◌≡◌, ℕ, ◌+◌, ◌*◌, ◌<◌, ◌≤◌, nat_le, true, false, cond, List, length}
+use Rattle.std.proofs.Common.{get_or, refl, ap, ◌∙◌, arith, Some, None}
+use Rattle.std.proofs.lemmas.Bool.Decides.{nat_tests}
+use Rattle.std.proofs.lemmas.List.FromFn.{length-map-range_with_len, get_or-map-range_with_len}
+use Rattle.sixel_palette.specs.Palette.{IsPalette, AreIndices}
+use Rattle.sixel_base.specs.Payload.{Image}
+use Rattle.sixel_encoder.specs.declared.text.IndexedImage.{IndexedImage}
+use Rattle.sixel_encoder.specs.inside.Indexed.{entry_of, entries_of, drawing_of, IsIndexed}
+use Rattle.sixel_encoder.specs.Encoding.{IsDrawing, image_fault}
+use Rattle.sixel_encoder.proofs.Sizes.{within-sound}
+
+-- an image apart from its palette
+abbrev pub image_of : IndexedImage → Image
+image_of image = record {
+  pixels = image.pixels.now;
+  width = image.width;
+  height = image.height;
+  aspect_ratio = image.aspect_ratio;
+  background_mode = image.background_mode;
+}
+
+pub entry_of-opaque : (pixels indices : List ℕ) (pixel : ℕ) → 128 ≤ get_or pixels (4 * pixel + 3) 0
+    → entry_of pixels indices pixel ≡ Some (get_or indices pixel 0)
+entry_of-opaque pixels indices pixel h =
+    let is : nat_le 128 (get_or pixels (4 * pixel + 3) 0) ≡ true = grind (arith, nat_tests) in
+    ap (λ b. cond b (Some (get_or indices pixel 0)) None) is
+
+pub entry_of-transparent : (pixels indices : List ℕ) (pixel : ℕ)
+    → get_or pixels (4 * pixel + 3) 0 < 128 → entry_of pixels indices pixel ≡ None
+entry_of-transparent pixels indices pixel h =
+    let is : nat_le 128 (get_or pixels (4 * pixel + 3) 0) ≡ false = grind (arith, nat_tests) in
+    ap (λ b. cond b (Some (get_or indices pixel 0)) None) is
+
+get_or-entries : (pixels indices : List ℕ) (pixel : ℕ) → pixel < length indices
+    → get_or (entries_of pixels indices) pixel None ≡ entry_of pixels indices pixel
+get_or-entries pixels indices pixel h =
+    get_or-map-range_with_len (entry_of pixels indices) 0 (length indices) pixel pixel None h
+    (omega arith)
+
+-- an image with no fault, few colors and an index a pixel
+pub IsIndexed-chosen : (image : IndexedImage) → image_fault (image_of image) ≡ None
+    → length image.colors.now ≤ 256
+    → AreIndices image.pixels.now image.colors.now image.indices.now → IsIndexed image
+IsIndexed-chosen image sound few are =
+    let within = within-sound (image_of image) sound in
+    record {
+      wide = within.wide;
+      high = omega (arith, within.high);
+      colors = few;
+      pixels = within.sized;
+      indices = omega (arith, are.one_each, within.sized);
+      opaque = λ pixel l is. (are.opaque pixel (omega (arith, within.sized, l)) is).entry;
+    }
+
+-- a chosen palette and its indices make the drawing
+pub IsDrawing-chosen : (image : IndexedImage) (max_colors : ℕ)
+    → IsPalette image.pixels.now max_colors image.colors.now
+    → AreIndices image.pixels.now image.colors.now image.indices.now
+    → IsDrawing (image_of image) max_colors (drawing_of image)
+IsDrawing-chosen image max_colors palette are =
+    let pixels = image.pixels.now in
+    let indices = image.indices.now in
+    record {
+      width = refl;
+      height = refl;
+      aspect_ratio = refl;
+      background_mode = refl;
+      palette = palette;
+      size = length-map-range_with_len (entry_of pixels indices) 0 (length indices) ∙ are.one_each;
+      shown = λ pixel l is.
+          let e = get_or-entries pixels indices pixel (omega (arith, are.one_each)) in (
+            get_or indices pixel 0,
+            e ∙ entry_of-opaque pixels indices pixel is,
+            are.opaque pixel l is,
+          );
+      hidden = λ pixel l is.
+          let e = get_or-entries pixels indices pixel (omega (arith, are.one_each)) in
+          e ∙ entry_of-transparent pixels indices pixel is;
+    }

@@ -1,0 +1,48 @@
+-- What is joined of a function's lists: one list more, some more, empty ones, and that it depends
+-- on no list past the end.
+use Rattle.std.proofs.Common.{◌≡◌, ℕ, zero, suc, ◌+◌, ◌<◌, ◌≤◌, List, [], ◌++◌, append_assoc, refl}
+use Rattle.std.proofs.Common.{ap, sym, ◌∙◌, inl, inr, arith}
+use Rattle.std.proofs.lemmas.Bool.{cases_lt}
+use Rattle.std.proofs.lemmas.List.{append-nil}
+use Rattle.sixel_base.specs.Picture.{joined}
+
+pub joined-none : {A : Type 0} (f : ℕ → List A) → joined f 0 ≡ []
+unfolding joined
+joined-none f = refl
+
+pub joined-more : {A : Type 0} (f : ℕ → List A) (n : ℕ) → joined f (n + 1) ≡ joined f n ++ f n
+unfolding joined
+joined-more f n = let e : n + 1 ≡ suc n = omega arith in ap (λ x. joined f x) e
+
+pub joined-same : {A : Type 0} (f g : ℕ → List A) (n : ℕ) → ((k : ℕ) → k < n → f k ≡ g k)
+    → joined f n ≡ joined g n
+unfolding joined
+joined-same f g zero h = refl
+joined-same f g (suc n) h =
+    ap (λ r. r ++ f n) (joined-same f g n (λ k l. h k (omega arith)))
+    ∙ ap (λ r. joined g n ++ r) (h n (omega arith))
+
+-- the first n lists, and then m more
+pub joined-add : {A : Type 0} (f : ℕ → List A) (n m : ℕ)
+    → joined f (n + m) ≡ joined f n ++ joined (λ k. f (n + k)) m
+unfolding joined
+joined-add f n zero =
+    let e : n + zero ≡ n = omega arith in
+    ap (λ x. joined f x) e ∙ sym (append-nil (joined f n))
+joined-add f n (suc m) =
+    let e : n + suc m ≡ suc (n + m) = omega arith in
+    ap (λ x. joined f x) e
+    ∙ (ap (λ xs. xs ++ f (n + m)) (joined-add f n m)
+    ∙ append_assoc (joined f n) (joined (λ k. f (n + k)) m) (f (n + m)))
+
+-- empty lists add nothing
+pub joined-past : {A : Type 0} (f : ℕ → List A) (n m : ℕ) → n ≤ m → ((k : ℕ) → n ≤ k → f k ≡ [])
+    → joined f m ≡ joined f n
+unfolding joined
+joined-past f n zero l none = let e : n ≡ zero = omega arith in ap (λ x. joined f x) (sym e)
+joined-past f n (suc m) l none =
+    elim (cases_lt m n) [
+      | inl below ↦ let e : suc m ≡ n = omega arith in ap (λ x. joined f x) e
+      | inr above ↦ ap (λ xs. joined f m ++ xs) (none m above)
+          ∙ (append-nil (joined f m) ∙ joined-past f n m above none)
+    ]

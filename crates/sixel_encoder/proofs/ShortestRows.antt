@@ -1,0 +1,204 @@
+-- No list of tokens that spells a row takes fewer bytes than the row's own tokens.
+use Rattle.std.proofs.Common.{◌≡◌, ◌≢◌, ℕ, zero, suc, ◌+◌, ◌*◌, ◌<◌, ◌≤◌, true, false, cond, List}
+use Rattle.std.proofs.Common.{[], ◌∷◌, ◌++◌, length, replicate, refl, ap, sym, ◌∙◌, arith, inl, inr}
+use Rattle.std.proofs.Common.{length-append, append_assoc, ◌/◌, ◌%◌}
+use Rattle.std.specs.Prelude.{flat_map, All, decimal, nat_lt}
+use Rattle.std.proofs.Math.Nat.{div-add-mod, mul_comm}
+use Rattle.std.proofs.lemmas.Bool.{cases_eq}
+use Rattle.std.proofs.lemmas.Bool.Decides.{nat_tests}
+use Rattle.std.proofs.lemmas.List.{append-nil, replicate-append-replicate, replicate_more}
+use Rattle.std.proofs.lemmas.List.Concat.{flat_map-append}
+use Rattle.std.proofs.lemmas.List.Elements.{All-head, All-tail, All-cons, All-nil, All-append}
+use Rattle.std.proofs.lemmas.List.Elements.{All-replicate, All-same}
+use Rattle.sixel_encoder.specs.RunTokens.{RunToken, One, Many, longest, sixels, spelling, written}
+use Rattle.sixel_encoder.specs.RunTokens.{cost, IsRunToken, Spells, IsShortest, rest_tokens}
+use Rattle.sixel_encoder.specs.RunTokens.{run_tokens, tokens_after, row_tokens}
+use Rattle.sixel_encoder.proofs.RunCost.{run_cost, run_cut, run_least, run_cost0, run_cost1}
+use Rattle.sixel_encoder.proofs.RunCost.{cost-append, cost-run}
+
+-- the bytes of the tokens of so many equal sixels and a row
+abbrev pub left : ℕ → ℕ → List ℕ → ℕ
+left n b row = cost (tokens_after n b row)
+
+left-nil : (n b : ℕ) → left n b [] ≡ run_cost n
+left-nil n b = cost-run n b
+
+-- a row that goes on with the same sixel
+pub tokens_after-same : (n b c : ℕ) (row : List ℕ) → c ≡ b
+    → tokens_after n b (c ∷ row) ≡ tokens_after (n + 1) b row
+tokens_after-same n b c row e = grind (arith, nat_tests)
+
+-- a row that goes on with another sixel
+pub tokens_after-other : (n b c : ℕ) (row : List ℕ) → c ≢ b
+    → tokens_after n b (c ∷ row) ≡ run_tokens n b ++ tokens_after 1 c row
+tokens_after-other n b c row e = grind (arith, nat_tests)
+
+left-other : (n b c : ℕ) (row : List ℕ) → c ≢ b → left n b (c ∷ row) ≡ run_cost n + left 1 c row
+left-other n b c row e =
+    ap cost (tokens_after-other n b c row e)
+    ∙ (cost-append (run_tokens n b) (tokens_after 1 c row)
+    ∙ ap (λ x. x + left 1 c row) (cost-run n b))
+
+left-same : (n b c : ℕ) (row : List ℕ) → c ≡ b → left n b (c ∷ row) ≡ left (n + 1) b row
+left-same n b c row e = ap cost (tokens_after-same n b c row e)
+
+-- writing a run in two parts saves no byte
+left_cut : (m n b : ℕ) (row : List ℕ) → left (m + n) b row ≤ run_cost m + left n b row
+left_cut m n b [] = omega (arith, left-nil (m + n) b, left-nil n b, run_cut m n)
+left_cut m n b (c ∷ row) =
+    elim (cases_eq c b) [
+      | inl e ↦
+          let shift : m + n + 1 ≡ m + (n + 1) = omega arith in
+          omega (
+            arith,
+            left-same (m + n) b c row e,
+            left-same n b c row e,
+            ap (λ x. left x b row) shift,
+            left_cut m (n + 1) b row,
+          )
+      | inr e ↦ omega (arith, left-other (m + n) b c row e, left-other n b c row e, run_cut m n)
+    ]
+
+-- with no sixel before it a row takes the same bytes, whatever that sixel is
+left_any : (b c : ℕ) (row : List ℕ) → left 0 b row ≡ left 0 c row
+left_any b c [] = omega (arith, left-nil 0 b, left-nil 0 c)
+left_any b c (x ∷ row) = first b ∙ sym (first c)
+  where
+    first : (d : ℕ) → left 0 d (x ∷ row) ≡ left 1 x row
+    first d =
+        elim (cases_eq x d) [
+          | inl e ↦ left-same 0 d x row e ∙ ap (λ y. left 1 y row) (sym e)
+          | inr e ↦ left-other 0 d x row e ∙ omega arith
+        ]
+
+-- equal sixels add to the run
+left_run : (k n b : ℕ) (row : List ℕ) → left n b (replicate k b ++ row) ≡ left (n + k) b row
+left_run zero n b row = ap (λ x. left x b row) (omega arith)
+left_run (suc k) n b row =
+    let shift : n + 1 + k ≡ n + suc k = omega arith in
+    left-same n b b (replicate k b ++ row) refl
+    ∙ (left_run k (n + 1) b row ∙ ap (λ x. left x b row) shift)
+
+left_many : (n b : ℕ) (row : List ℕ) → left 0 0 (replicate n b ++ row) ≤ run_cost n + left 0 0 row
+left_many n b row =
+    let zeros : 0 + n ≡ n + 0 = omega arith in
+    omega (
+      arith,
+      left_any 0 b (replicate n b ++ row),
+      left_run n 0 b row,
+      ap (λ x. left x b row) zeros,
+      left_cut n 0 b row,
+      left_any b 0 row,
+    )
+
+-- the first token of a spelling takes no fewer bytes than it saves
+left_token : (token : RunToken) (row : List ℕ) → IsRunToken token
+    → left 0 0 (sixels token ++ row) ≤ length (spelling token) + left 0 0 row
+unfolding sixels
+left_token (One b) row is = omega (arith, left_many 1 b row, run_cost1)
+left_token (Many n b) row is =
+    omega
+    (arith, left_many n b row, run_least n is.0 is.1, length-append (decimal n) ((63 + b) ∷ []))
+
+left_tokens : (tokens : List RunToken) → All IsRunToken tokens
+    → left 0 0 (flat_map sixels tokens) ≤ cost tokens
+left_tokens [] all = omega (arith, left-nil 0 0, run_cost0)
+left_tokens (token ∷ tokens) all =
+    omega (
+      arith,
+      left_token token (flat_map sixels tokens) (All-head IsRunToken token tokens all),
+      left_tokens tokens (All-tail IsRunToken token tokens all),
+      length-append (spelling token) (written tokens),
+    )
+
+-- the tokens of a row are a shortest spelling of it
+pub shortest : (row : List ℕ) → IsShortest (row_tokens row) row
+shortest row = λ others spells.
+    omega (arith, left_tokens others spells.each, ap (λ (r : List ℕ). left 0 0 r) spells.joined)
+
+-- ---- and they spell it
+
+-- equal tokens of a count make a run
+sixels-replicate : (n k b : ℕ) → flat_map sixels (replicate n (Many k b)) ≡ replicate (n * k) b
+unfolding sixels
+sixels-replicate zero k b = let product : 0 ≡ 0 * k = omega arith in ap (λ x. replicate x b) product
+sixels-replicate (suc n) k b =
+    let product : k + n * k ≡ suc n * k = omega arith in
+    ap (λ r. replicate k b ++ r) (sixels-replicate n k b)
+    ∙ (replicate-append-replicate k (n * k) b ∙ ap (λ x. replicate x b) product)
+
+sixels-singly : (n b : ℕ) → flat_map sixels (replicate n (One b)) ≡ replicate n b
+unfolding sixels
+sixels-singly zero b = refl
+sixels-singly (suc n) b = ap (λ r. b ∷ r) (sixels-singly n b)
+
+sixels-rest : (n b : ℕ) → flat_map sixels (rest_tokens n b) ≡ replicate n b
+unfolding sixels
+sixels-rest n b =
+    (elim (nat_lt 3 n) as
+    (λ t. flat_map sixels (cond t (Many n b ∷ []) (replicate n (One b))) ≡ replicate n b) [
+      | true ↦ append-nil (replicate n b)
+      | false ↦ sixels-singly n b
+    ])
+
+-- the tokens of a run spell it, whatever the greatest count
+sixels-cut : (n k b : ℕ) → 0 < k
+    → flat_map sixels (replicate (n / k) (Many k b) ++ rest_tokens (n % k) b) ≡ replicate n b
+sixels-cut n k b h =
+    let whole : (n / k) * k + n % k ≡ n =
+    ap (λ x. x + n % k) (mul_comm (n / k) k) ∙ div-add-mod n k in
+    flat_map-append sixels (replicate (n / k) (Many k b)) (rest_tokens (n % k) b)
+    ∙ (ap (λ r. r ++ flat_map sixels (rest_tokens (n % k) b)) (sixels-replicate (n / k) k b)
+    ∙ (ap (λ r. replicate ((n / k) * k) b ++ r) (sixels-rest (n % k) b)
+    ∙ (replicate-append-replicate ((n / k) * k) (n % k) b ∙ ap (λ x. replicate x b) whole)))
+
+sixels-run : (n b : ℕ) → flat_map sixels (run_tokens n b) ≡ replicate n b
+sixels-run n b = sixels-cut n longest b (omega arith)
+
+sixels-after : (n b : ℕ) (row : List ℕ)
+    → flat_map sixels (tokens_after n b row) ≡ replicate n b ++ row
+sixels-after n b [] = sixels-run n b ∙ sym (append-nil (replicate n b))
+sixels-after n b (c ∷ row) =
+    elim (cases_eq c b) [
+      | inl e ↦
+          ap (λ p. flat_map sixels p) (tokens_after-same n b c row e)
+          ∙ (sixels-after (n + 1) b row
+          ∙ (ap (λ r. r ++ row) (sym (replicate_more n b))
+          ∙ (append_assoc (replicate n b) (b ∷ []) row
+          ∙ ap (λ x. replicate n b ++ (x ∷ row)) (sym e))))
+      | inr e ↦
+          ap (λ p. flat_map sixels p) (tokens_after-other n b c row e)
+          ∙ (flat_map-append sixels (run_tokens n b) (tokens_after 1 c row)
+          ∙ (ap (λ r. r ++ flat_map sixels (tokens_after 1 c row)) (sixels-run n b)
+          ∙ ap (λ r. replicate n b ++ r) (sixels-after 1 c row)))
+    ]
+
+All-rest_tokens : (n b : ℕ) → n < longest → All IsRunToken (rest_tokens n b)
+All-rest_tokens n b h =
+    (elim (nat_lt 3 n) as
+    (λ t. nat_lt 3 n ≡ t → All IsRunToken (cond t (Many n b ∷ []) (replicate n (One b)))) [
+      | true ↦ λ is.
+          All-cons IsRunToken (Many n b) [] (grind (arith, nat_tests), omega arith)
+          (All-nil IsRunToken)
+      | false ↦ λ is. All-replicate IsRunToken n (One b) tt
+    ]) refl
+
+All-run : (n b : ℕ) → All IsRunToken (run_tokens n b)
+All-run n b =
+    All-append IsRunToken (replicate (n / longest) (Many longest b)) (rest_tokens (n % longest) b)
+    (All-replicate IsRunToken (n / longest) (Many longest b) (omega arith, omega arith))
+    (All-rest_tokens (n % longest) b (omega arith))
+
+All-after : (n b : ℕ) (row : List ℕ) → All IsRunToken (tokens_after n b row)
+All-after n b [] = All-run n b
+All-after n b (c ∷ row) =
+    elim (cases_eq c b) [
+      | inl e ↦ All-same IsRunToken _ _ (tokens_after-same n b c row e) (All-after (n + 1) b row)
+      | inr e ↦ All-same IsRunToken _ _ (tokens_after-other n b c row e)
+          (All-append IsRunToken (run_tokens n b) (tokens_after 1 c row) (All-run n b)
+          (All-after 1 c row))
+    ]
+
+-- the tokens of a row spell it
+pub spells : (row : List ℕ) → Spells (row_tokens row) row
+spells row = record { each = All-after 0 0 row; joined = sixels-after 0 0 row }

@@ -1,0 +1,176 @@
+use Rattle.std.proofs.Common.{◌≡◌, ℕ, ◌<◌, ◌≤◌, ◌+◌, ◌*◌, ◌^◌, List, length, refl, ◌∙◌, sym, ap}
+use Rattle.std.proofs.Common.{arith}
+use Rattle.std.proofs.lemmas.Grind.{pow_more}
+use Rattle.std.proofs.lemmas.List.{with_items_is}
+use Rattle.std.proofs.lemmas.Nat.{mul-le}
+use Rattle.sixel_encoder.specs.declared.band.BandRows.{BandRows}
+use Rattle.sixel_encoder.specs.declared.text.IndexedImage.{IndexedImage}
+use Rattle.sixel_encoder.specs.Text.{mask}
+use Rattle.sixel_encoder.specs.inside.Indexed.{entry_of, IsIndexed}
+use Rattle.sixel_encoder.specs.inside.Grid.{cell, pixel_bit}
+use Rattle.sixel_encoder.proofs.Cells.{AreMarks-clear, AreMarks-same}
+use Rattle.sixel_encoder.proofs.Masks.{hits, mask-none, mask-lt, weight-le, mask-line, mask-below}
+use Rattle.sixel_encoder.proofs.band.BandRows.fill.Goals as goal
+use Rattle.sixel_encoder.proofs.band.BandRows.fill.Goals.{then-row-image+then-is_whole}
+use Rattle.sixel_encoder.proofs.band.BandRows.fill.Goals.{then-row-image+else-is_whole}
+use Rattle.sixel_encoder.proofs.band.BandRows.fill.Goals.{else-row-image}
+
+-- a line ends within the image
+line-within : (row width height : ℕ) → row < height → row * width + width ≤ width * height
+line-within row width height l =
+    omega (arith, mul-le (row + 1) width height width (omega arith) (omega arith))
+
+pub loop-bit-init : goal.loop-bit-init
+loop-bit-init c =
+    let rows = c.args.self.now in
+    record {
+      weight = refl;
+      shape = record { wide = refl; from = refl; sixels = refl; marks = refl };
+      cells = λ e x le lx. c.requires.empty.clear.blank e x le lx
+          ∙ sym (mask-none (hits c.args.image.now c.args.band (rows.first + e) x));
+      marks = AreMarks-clear rows.rows.items rows.used.items c.args.image.now.width
+          c.requires.empty.clear;
+    }
+
+pub add_whole_line-requires-clause-line : goal.add_whole_line-requires-clause-line
+add_whole_line-requires-clause-line c =
+    line-within _ c.args.image.now.width c.args.image.now.height c.if-row-image.true
+
+pub add_part_of_line-requires-clause-line : goal.add_part_of_line-requires-clause-line
+add_part_of_line-requires-clause-line c =
+    line-within _ c.args.image.now.width c.args.image.now.height c.if-row-image.true
+
+pub add_whole_line-requires-clause-fits : goal.add_whole_line-requires-clause-fits
+add_whole_line-requires-clause-fits c = λ e x le lx.
+    let count : e < length c.loop-bit.self.used.items =
+    omega (arith, le, ap length c.deref_mut-then-is_whole.ensures.value) in
+    omega (
+      arith,
+      c.loop-bit.invariant.cells e x count lx,
+      ap (λ r. cell r c.args.image.now.width e x) c.deref_mut.ensures.value,
+      mask-lt (hits c.args.image.now c.args.band (c.args.self.now.first + e) x) c.loop-bit.bit,
+      weight-le c.loop-bit.bit c.loop-bit-test.true,
+    )
+
+pub add_part_of_line-requires-clause-fits : goal.add_part_of_line-requires-clause-fits
+add_part_of_line-requires-clause-fits c = λ e x le lx.
+    let count : e < length c.loop-bit.self.used.items =
+    omega (arith, le, ap length c.deref_mut-else-is_whole-2.ensures.value) in
+    omega (
+      arith,
+      c.loop-bit.invariant.cells e x count lx,
+      ap (λ r. cell r c.args.image.now.width e x) c.deref_mut-else-is_whole.ensures.value,
+      mask-lt (hits c.args.image.now c.args.band (c.args.self.now.first + e) x) c.loop-bit.bit,
+      weight-le c.loop-bit.bit c.loop-bit-test.true,
+    )
+
+-- a line more of the sixels of an entry in a column, where its pixels are added to what was there
+line-added : (image : IndexedImage) (band bit weight first entry e x : ℕ) (was before now : List ℕ)
+    → IsIndexed image → x < image.width → 6 * band + bit < image.height
+    → cell was image.width e x ≡ mask (hits image band (first + e) x) bit → weight ≡ 2 ^ bit
+    → before ≡ was → entry ≡ first + e
+    → cell now image.width e x ≡ cell before image.width e x + pixel_bit weight entry
+    (entry_of image.pixels.now image.indices.now ((6 * band + bit) * image.width + x))
+    → cell now image.width e x ≡ mask (hits image band (first + e) x) (bit + 1)
+line-added image band bit weight first entry e x was before now is lx inside had weighs same own
+    added =
+    let pixel = (6 * band + bit) * image.width + x in
+    let place = entry_of image.pixels.now image.indices.now pixel in
+    mask-line image band bit (first + e) x (cell was image.width e x) weight
+    (cell now image.width e x) is lx inside had weighs
+    (added ∙ ap (λ r. cell r image.width e x + pixel_bit weight entry place) same
+    ∙ ap (λ k. cell was image.width e x + pixel_bit weight k place) own)
+
+pub overflow_mul-weight : goal.overflow_mul-weight
+overflow_mul-weight c = omega (arith, weight-le c.loop-bit.bit c.loop-bit-test.true)
+
+pub loop-bit-preserved : goal.loop-bit-preserved
+loop-bit-preserved c =
+    let image = c.args.image.now in
+    let width = image.width in
+    let band = c.args.band in
+    let bit = c.loop-bit.bit in
+    let first = c.args.self.now.first in
+    let old = c.loop-bit.self in
+    let is = c.loop-bit.invariant in
+    let after = c.if-row-image.self in
+    elim c.if-row-image.branch [
+      | then-row-image+then-is_whole w ↦
+          let new = w.add_whole_line.new in
+          let rows_long = w.add_whole_line.auto.rows ∙ ap length w.deref_mut.ensures.value in
+          let used_long = w.add_whole_line.auto.used
+          ∙ ap length w.deref_mut-then-is_whole.ensures.value in
+          let rows : after.rows.items ≡ new.rows = ap (λ (s : BandRows). s.rows.items) w.self-is
+          ∙ with_items_is old.rows new.rows (omega (arith, rows_long, old.rows.ok.0)) in
+          let used : after.used.items ≡ new.used = ap (λ (s : BandRows). s.used.items) w.self-is
+          ∙ with_items_is old.used new.used (omega (arith, used_long, old.used.ok.0)) in
+          let zero : first ≡ 0 = c.requires.part.whole
+          (omega (arith, w.if-is_whole.true, c.len.ensures, c.args.self.now.used.ok.0)) in
+          record {
+            weight = omega (arith, pow_more 2 bit);
+            shape = record {
+              wide = ap (λ (s : BandRows). s.width) w.self-is ∙ is.shape.wide;
+              from = ap (λ (s : BandRows). s.first) w.self-is ∙ is.shape.from;
+              sixels = ap length rows ∙ rows_long ∙ is.shape.sixels;
+              marks = ap length used ∙ used_long ∙ is.shape.marks;
+            };
+            cells = λ e x le lx.
+                let count : e < length new.used = omega (arith, le, ap length used) in
+                line-added image band bit c.loop-bit.weight first e e x old.rows.items
+                w.deref_mut.result.now after.rows.items c.requires.image lx w.if-row-image.true
+                (is.cells e x (omega (arith, count, used_long)) lx) is.weight
+                w.deref_mut.ensures.value (omega (arith, zero))
+                (ap (λ r. cell r width e x) rows
+                ∙ w.add_whole_line.ensures.cells e x
+                (omega (arith, count, w.add_whole_line.auto.used)) lx);
+            marks = AreMarks-same rows used w.add_whole_line.ensures.marks;
+          }
+      | then-row-image+else-is_whole w ↦
+          let new = w.add_part_of_line.new in
+          let rows_long =
+          w.add_part_of_line.auto.rows ∙ ap length w.deref_mut-else-is_whole.ensures.value in
+          let used_long = w.add_part_of_line.auto.used
+          ∙ ap length w.deref_mut-else-is_whole-2.ensures.value in
+          let rows : after.rows.items ≡ new.rows = ap (λ (s : BandRows). s.rows.items) w.self-is
+          ∙ with_items_is old.rows new.rows (omega (arith, rows_long, old.rows.ok.0)) in
+          let used : after.used.items ≡ new.used = ap (λ (s : BandRows). s.used.items) w.self-is
+          ∙ with_items_is old.used new.used (omega (arith, used_long, old.used.ok.0)) in
+          record {
+            weight = omega (arith, pow_more 2 bit);
+            shape = record {
+              wide = ap (λ (s : BandRows). s.width) w.self-is ∙ is.shape.wide;
+              from = ap (λ (s : BandRows). s.first) w.self-is ∙ is.shape.from;
+              sixels = ap length rows ∙ rows_long ∙ is.shape.sixels;
+              marks = ap length used ∙ used_long ∙ is.shape.marks;
+            };
+            cells = λ e x le lx.
+                let count : e < length new.used = omega (arith, le, ap length used) in
+                line-added image band bit c.loop-bit.weight first (old.first + e) e x
+                old.rows.items w.deref_mut-else-is_whole.result.now after.rows.items
+                c.requires.image lx
+                w.if-row-image.true (is.cells e x (omega (arith, count, used_long)) lx) is.weight
+                w.deref_mut-else-is_whole.ensures.value (ap (λ f. f + e) is.shape.from)
+                (ap (λ r. cell r width e x) rows
+                ∙ w.add_part_of_line.ensures.cells e x
+                (omega (arith, count, w.add_part_of_line.auto.used)) lx);
+            marks = AreMarks-same rows used w.add_part_of_line.ensures.marks;
+          }
+      | else-row-image w ↦
+          let rows = ap (λ (s : BandRows). s.rows.items) w.self-is in
+          let used = ap (λ (s : BandRows). s.used.items) w.self-is in
+          record {
+            weight = omega (arith, pow_more 2 bit);
+            shape = record {
+              wide = ap (λ (s : BandRows). s.width) w.self-is ∙ is.shape.wide;
+              from = ap (λ (s : BandRows). s.first) w.self-is ∙ is.shape.from;
+              sixels = ap length rows ∙ is.shape.sixels;
+              marks = ap length used ∙ is.shape.marks;
+            };
+            cells = λ e x le lx.
+                mask-below image band bit (first + e) x (cell after.rows.items width e x)
+                c.requires.image w.if-row-image.false
+                (ap (λ r. cell r width e x) rows
+                ∙ is.cells e x (omega (arith, le, ap length used)) lx);
+            marks = AreMarks-same rows used is.marks;
+          }
+    ]

@@ -1,0 +1,104 @@
+use Rattle.std.proofs.Common.{◌≡◌, ℕ, [], ◌∷◌, ◌+◌, ◌*◌, ◌<◌, ◌≤◌, ◌++◌, length, string_bytes}
+use Rattle.std.proofs.Common.{append_assoc, ap, refl, sym, ◌∙◌, arith}
+use Rattle.std.specs.Prelude.{encode_utf8}
+use Rattle.sixel_base.specs.Picture.{joined}
+use Rattle.sixel_encoder.specs.Text.{entry_text, band_text, sixel_of}
+use Rattle.sixel_encoder.specs.inside.Indexed.{drawing_of}
+use Rattle.sixel_encoder.specs.inside.Grid.{cell}
+use Rattle.sixel_encoder.proofs.Dots.{appended-start, joined-part}
+use Rattle.sixel_encoder.proofs.Masks.{hits, mask-lt}
+use Rattle.sixel_encoder.proofs.Ok.{OnOk-pushed}
+use Rattle.sixel_encoder.proofs.Parts.{joined-all, appended-part}
+use Rattle.sixel_encoder.proofs.band.BandRows.push_band.Goals as goal
+
+pub loop-part-init : goal.loop-part-init
+loop-part-init c =
+    let none : 0 * length c.args.self.now.used.items ≡ 0 = omega arith in
+    record {
+      text = rw none (appended-start (entry_text (drawing_of c.args.image.now) c.args.band)
+          (string_bytes c.args.text.now));
+      count = refl;
+      empty = c.requires.empty;
+    }
+
+pub push_rows-requires-clause-below : goal.push_rows-requires-clause-below
+push_rows-requires-clause-below c = λ e x le lx.
+    let image = c.args.image.now in
+    let from = c.loop-part.part * c.len-in-loop-part.result in
+    let shape = c.fill.ensures.shape in
+    let wide : c.fill.new.self.width ≡ image.width =
+    shape.wide ∙ c.loop-part.invariant.empty.wide in
+    rw wide (omega (
+      arith,
+      c.fill.ensures.cells e x (omega (arith, le, shape.marks)) (rw wide at lx),
+      mask-lt (hits image c.args.band (from + e) x) 6,
+    ))
+
+pub loop-part-preserved : goal.loop-part-preserved
+loop-part-preserved c =
+    let image = c.args.image.now in
+    let drawing = drawing_of image in
+    let band = c.args.band in
+    let part = c.loop-part.part in
+    let is = c.loop-part.invariant in
+    let old = c.loop-part.self in
+    let filled = c.fill.new.self in
+    let new = c.push_rows.new.self in
+    let count = length old.used.items in
+    let told = c.in_ok-push_rows.ensures in
+    let shape = c.push_rows.ensures.shape in
+    let from_old = c.fill.ensures.shape in
+    let size : c.len-in-loop-part.result ≡ count =
+    omega (arith, c.len-in-loop-part.ensures, old.used.ok.0) in
+    let from : filled.first ≡ part * count = from_old.from ∙ ap (λ n. part * n) size in
+    let wide : filled.width ≡ image.width = from_old.wide ∙ is.empty.wide in
+    let marks : length new.used.items ≡ count = shape.marks ∙ from_old.marks in
+    let sixels : length new.rows.items ≡ length old.rows.items = shape.sixels ∙ from_old.sixels in
+    let cells : (e x : ℕ) → e < count → x < image.width
+    → cell filled.rows.items image.width e x ≡ sixel_of drawing band (part * count + e) x =
+    λ e x le lx.
+    c.fill.ensures.cells e x le lx ∙ ap (λ n. sixel_of drawing band (part * n + e) x) size in
+    let text = rw (wide, from, from_old.marks) at told.text in
+    record {
+      text = rw marks (appended-part (entry_text drawing band) part count
+          (string_bytes c.args.text.now) (string_bytes c.loop-part.text)
+          (string_bytes c.push_rows.new.text) is.text
+          (text ∙ ap (λ rows. string_bytes c.loop-part.text ++ rows)
+          (joined-part drawing band (part * count) count filled.rows.items cells)));
+      count = marks ∙ is.count;
+      empty = record {
+        wide = shape.wide ∙ wide;
+        some = omega (arith, is.empty.some, marks);
+        few = λ some. omega (arith, is.empty.few some, marks);
+        size = omega (arith, is.empty.size, marks, sixels);
+        places = sixels ∙ is.empty.places ∙ sym (ap (λ n. n * image.width) marks);
+        clear = rw (wide, from_old.marks, ← marks) at told.clear;
+      };
+    }
+
+pub returns-clause-text : goal.returns-clause-text
+returns-clause-text c =
+    let image = c.args.image.now in
+    let start = string_bytes c.args.text.now in
+    let before = string_bytes c.loop-part.text in
+    let f = entry_text (drawing_of image) c.args.band in
+    let part = c.loop-part.part in
+    let count = part * length c.loop-part.self.used.items in
+    let parts : part ≡ c.parts-part-end.result = omega arith in
+    let size : c.len.result ≡ length c.loop-part.self.used.items =
+    omega (arith, c.len.ensures, c.args.self.now.used.ok.0, c.loop-part.invariant.count) in
+    let all : length image.colors.now ≤ count =
+    omega (
+      arith,
+      c.parts-part-end.ensures.all,
+      ap (λ n. n * c.len.result) parts,
+      ap (λ n. part * n) size,
+    ) in
+    let rows : before ≡ start ++ joined f (length image.colors.now) = c.loop-part.invariant.text
+    ∙ ap (λ s. start ++ s) (joined-all image c.args.band count c.requires.image all) in
+    let dash : encode_utf8 45 ≡ 45 ∷ [] = c.push.ensures.ascii (omega arith) in
+    let whole : before ++ encode_utf8 45 ≡ start ++ band_text (drawing_of image) c.args.band =
+    ap (λ d. before ++ d) dash ∙ (ap (λ b. b ++ 45 ∷ []) rows
+    ∙ append_assoc start (joined f (length image.colors.now)) (45 ∷ [])) in
+    OnOk-pushed c.push.result before (string_bytes c.push.new.self) (encode_utf8 45)
+    (start ++ band_text (drawing_of image) c.args.band) c.push.ensures.bytes whole

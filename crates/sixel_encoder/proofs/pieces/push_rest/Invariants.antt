@@ -1,6 +1,0 @@
-use Rattle.std.proofs.Common.{◌≡◌, ◌++◌, string_bytes, replicate}
-use Rattle.sixel_encoder.specs.Pieces.{One, written}
-use Rattle.sixel_encoder.proofs.pieces.push_rest.Given as goal
-
-abbrev pub invariant-loop : goal.invariant-loop
-invariant-loop l = string_bytes l.text ≡ string_bytes l.initial.text ++ written (replicate l.counter (One l.bits))

@@ -1,0 +1,66 @@
+-- How a row of sixels is written: in tokens, each one sixel or a repeat introducer with a count and
+-- a sixel. By DEC's sixel data; that a count is at most 65535, and which of the shortest spellings
+-- is written, are this library's own rules.
+use Rattle.std.specs.Prelude.{◌≡◌, ℕ, ◌+◌, ◌/◌, ◌%◌, ◌≤◌, ◌==◌, nat_lt, if◌then◌else◌, List, []}
+use Rattle.std.specs.Prelude.{◌∷◌, ◌++◌, length, replicate, flat_map, All, decimal}
+
+-- one sixel by its six bits, or a count of equal sixels
+pub data RunToken : Type 0 where
+  One : ℕ → RunToken
+  Many : ℕ → ℕ → RunToken
+
+-- the greatest count
+abbrev pub longest : ℕ
+longest = 65535
+
+-- the sixels that a token stands for
+unfoldable pub sixels : RunToken → List ℕ
+sixels (One bits) = bits ∷ []
+sixels (Many count bits) = replicate count bits
+
+-- the bytes of a token: the sixel is 63 above its bits, the repeat introducer is `!`
+abbrev pub spelling : RunToken → List ℕ
+spelling (One bits) = (63 + bits) ∷ []
+spelling (Many count bits) = 33 ∷ decimal count ++ (63 + bits) ∷ []
+
+-- the bytes of a list of tokens
+abbrev pub written : List RunToken → List ℕ
+written tokens = flat_map spelling tokens
+
+-- how many bytes they are
+abbrev pub cost : List RunToken → ℕ
+cost tokens = length (written tokens)
+
+-- a count is from 1 to the greatest
+abbrev pub IsRunToken : RunToken → Type 0
+IsRunToken (One bits) = Unit {0}
+IsRunToken (Many count bits) = (1 ≤ count) × (count ≤ longest)
+
+-- the tokens, written out, are the row
+pub record Spells (tokens : List RunToken) (row : List ℕ) : Type 0 where
+  pub each : All IsRunToken tokens
+  pub joined : flat_map sixels tokens ≡ row
+
+-- no list of tokens that spells the row is shorter
+abbrev pub IsShortest : List RunToken → List ℕ → Type 0
+IsShortest tokens row = (others : List RunToken) → Spells others row → cost tokens ≤ cost others
+
+-- fewer equal sixels than the greatest count: singly up to three, else as one token
+abbrev pub rest_tokens : ℕ → ℕ → List RunToken
+rest_tokens count bits = if nat_lt 3 count then Many count bits ∷ [] else replicate count (One bits)
+
+-- equal sixels, cut from the left into tokens of the greatest count and a rest
+abbrev pub run_tokens : ℕ → ℕ → List RunToken
+run_tokens count bits =
+    replicate (count / longest) (Many longest bits) ++ rest_tokens (count % longest) bits
+
+-- the tokens of so many equal sixels and the row after them
+abbrev pub tokens_after : ℕ → ℕ → List ℕ → List RunToken
+tokens_after count bits [] = run_tokens count bits
+tokens_after count bits (next ∷ row) =
+    if next == bits then tokens_after (count + 1) bits row
+    else run_tokens count bits ++ tokens_after 1 next row
+
+-- the tokens of a row, run by run
+abbrev pub row_tokens : List ℕ → List RunToken
+row_tokens row = tokens_after 0 0 row
