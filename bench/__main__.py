@@ -27,22 +27,18 @@ RUNS = int(os.environ.get("RUNS", "5"))
 WIDE = "!65535~"
 HOSTILE = [f"{WIDE}$", f"{WIDE}$@$", f"#1{WIDE}$#2{WIDE}$", f"{7 * WIDE}$", "@", "-"]
 HOSTILE += ["#1;1;120;50;100"]
-CC = f"{os.environ.get('CC', 'cc')} -std=c11 -O2"
+CC = f"cd {ROOT}/bench && {os.environ.get('CC', 'cc')} -std=c11 -O2"
 CARGO = f"cd {ROOT}/rust/icy_sixel && ICYSIXEL_LIB_DIR={LIBRARY} cargo build --offline"
 # How each timer is built in the folder {room}, and run on a file.
+BUILDS = {
+    "C": f"{CC} -I{LIBRARY} speed.c -L{LIBRARY} -licysixel -o {{room}}/c",
+    "Rust": f"{CARGO} --release --example speed --target-dir {{room}}/target",
+    "libsixel": f"{CC} libsixel.c $(pkg-config --cflags --libs libsixel) -o {{room}}/peer",
+}
 TIMERS = {
-    "C": (
-        f"{CC} -I{LIBRARY} {ROOT}/bench/speed.c -L{LIBRARY} -licysixel -o {{room}}/c",
-        "{room}/c {file} 12 {colors}",
-    ),
-    "Rust": (
-        f"{CARGO} --release --example speed --target-dir {{room}}/target",
-        "{room}/target/release/examples/speed -t 0.2 -k {colors} {file}",
-    ),
-    "libsixel": (
-        f"{CC} {ROOT}/bench/libsixel.c $(pkg-config --cflags --libs libsixel) -o {{room}}/peer",
-        "{room}/peer {file} 12 {colors}",
-    ),
+    "C": "{room}/c {file} 12 {colors}",
+    "Rust": "{room}/target/release/examples/speed -t 0.2 -k {colors} {file}",
+    "libsixel": "{room}/peer {file} 12 {colors}",
 }
 
 
@@ -73,7 +69,7 @@ def in_process(room, command, file, colors, timers):
     """The least nanoseconds of each timer. They take turns, because a machine may slow down."""
     least = dict.fromkeys(TIMERS, math.inf)
     for timer in RUNS * timers:
-        words = TIMERS[timer][1].format(room=room, file=shlex.quote(file), colors=colors)
+        words = TIMERS[timer].format(room=room, file=shlex.quote(file), colors=colors)
         found = re.search(rb"^ *%s +(\S+)" % command.encode(), run(words)[0] or b"", re.M)
         least[timer] = min(least[timer], float(found[1]) if found else math.inf)
     return least.values()
@@ -123,8 +119,7 @@ def made(room):
 def main(files):
     with tempfile.TemporaryDirectory() as folder:
         room = Path(folder)
-        builds = {timer: run(build.format(room=room))[0] for timer, (build, _) in TIMERS.items()}
-        built = {timer: output is not None for timer, output in builds.items()}
+        built = {it: run(how.format(room=room))[0] is not None for it, how in BUILDS.items()}
         tools = {it: which(it) for it in ("hyperfine", "valgrind")}
         missing = [it for it, found in {**tools, **built}.items() if not found]
         if missing:

@@ -2,6 +2,7 @@
 import resource
 import shutil
 import subprocess
+import tempfile
 import unittest
 from pathlib import Path
 
@@ -30,6 +31,31 @@ def run(*command, stdin=b"", memory=None, **options):
     options = {"stdout": subprocess.PIPE, "stderr": subprocess.PIPE, "timeout": 60, **options}
     ended = subprocess.run(command, check=False, **options)
     return ended.returncode, ended.stdout, ended.stderr
+
+
+class ProgramTest(unittest.TestCase):
+    """Tests of the program of this name, by each of its builds."""
+
+    name = ""
+
+    def ends(self, arguments, stdin, expected, **options):
+        """Tests the status, output and error, on a pipe and on a file."""
+        for program in builds_of(self.name):
+            with tempfile.TemporaryFile() as file:
+                file.write(stdin)
+                for source in (stdin, file):
+                    with self.subTest(program=program.name, arguments=arguments, stdin=stdin[:80]):
+                        file.seek(0)
+                        ended = run(program, *arguments, stdin=source, **options)
+                        told = f"{ended[0]} {ended[1][:200]} {ended[2]}"
+                        self.assertTrue(ended == expected, told)
+
+    def fails(self, words, stdin, error):
+        """Tests the error for arguments and redirections of the shell."""
+        for program in builds_of(self.name):
+            with self.subTest(program=program.name, words=words):
+                ended = run("sh", "-c", f'exec "$0" {words}', program, stdin=stdin)
+                self.assertEqual(ended, (1, b"", error.encode() + b"\n"))
 
 
 def needs(*tools):

@@ -19,8 +19,6 @@ static void make_pixels(void)
     }
 }
 
-/* -- Calls that allocate -- */
-
 /* A call, or the calls of a session, and what is left to compare: bytes in `made`. */
 struct call {
     const char *name;
@@ -51,7 +49,7 @@ static uint32_t make_decode_payload(icysixel *h, struct bytes *made)
     return with_image(h, code, shape, made);
 }
 
-/* Feeds chunks of seven bytes. After an error each feed and finish fails, and no count is left. */
+/* Feeds chunks of seven bytes. */
 static uint32_t make_session(icysixel *h, struct bytes input, uint32_t failed, struct bytes *made)
 {
     icysixel_fed fed = {0};
@@ -59,14 +57,8 @@ static uint32_t make_session(icysixel *h, struct bytes input, uint32_t failed, s
     uint32_t code = ICYSIXEL_DONE;
     for (size_t at = 0; code == ICYSIXEL_DONE && at < input.length; at += 7)
         code = icysixel_feed(h, input.at + at, part(input, at, 7).length, &fed);
-    if (code == ICYSIXEL_DONE) {
-        code = icysixel_finish(h, &shape);
-    } else {
-        CHECK(icysixel_canvas_writes(h) == 0 && icysixel_canvas_paints(h) == 0);
-        CHECK(icysixel_feed(h, NULL, 0, &fed) == failed);
-        CHECK(icysixel_feed(h, (const uint8_t *)"~", 1, &fed) == failed);
-        CHECK(icysixel_finish(h, &shape) == failed);
-    }
+    if (code == ICYSIXEL_DONE) code = icysixel_finish(h, &shape);
+    else check_failed(h, failed);
     CHECK(icysixel_is_receiving(h) == 0);
     return with_image(h, code, shape, made);
 }
@@ -180,8 +172,6 @@ static void test_each_allocation(const struct call *call)
     free(expected.at);
 }
 
-/* -- Tags -- */
-
 /* Wide runs over drawn pixels set tags. If their allocation fails, the run is painted instead. */
 static void test_tags(void)
 {
@@ -213,8 +203,6 @@ static void test_tags(void)
     printf("tags: %zu allocations, %zu of them for tags\n", line_number - 2, painted);
     free(expected.pixels), free(wide.at);
 }
-
-/* -- Calls that do not allocate -- */
 
 /* Makes the calls on a decoder with an image and a text, while every allocation fails. */
 static void test_no_allocation(void)

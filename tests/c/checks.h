@@ -23,10 +23,7 @@ static inline void stop(const char *file, int line, const char *fact)
 }
 
 /* Bytes in a block of their own, or a part of one. */
-struct bytes {
-    uint8_t *at;
-    size_t length;
-};
+struct bytes { uint8_t *at; size_t length; };
 
 /* Up to `length` of the bytes from a place on. */
 static inline struct bytes part(struct bytes bytes, size_t from, size_t length)
@@ -66,6 +63,19 @@ static inline bool has_registers(icysixel *decoder, const struct registers *expe
 {
     struct registers found = registers_of(decoder);
     return memcmp(&found, expected, sizeof found) == 0;
+}
+
+/* After an error each feed and finish fails in the same way, and no count is left. */
+static inline void check_failed(icysixel *decoder, uint32_t failed)
+{
+    icysixel_fed fed;
+    icysixel_shape shape;
+    icysixel_size size;
+    CHECK(icysixel_feed(decoder, NULL, 0, &fed) == failed);
+    CHECK(icysixel_feed(decoder, (const uint8_t *)"~", 1, &fed) == failed);
+    CHECK(icysixel_canvas_writes(decoder) == 0 && icysixel_canvas_paints(decoder) == 0);
+    CHECK(icysixel_size_so_far(decoder, &size) == ICYSIXEL_NO_SIZE);
+    CHECK(icysixel_finish(decoder, &shape) == failed);
 }
 
 /* An image, or the code of the error in place of one. */

@@ -9,10 +9,7 @@
 #include <string.h>
 
 /* The result of an allocation. The pointer is never null. */
-typedef struct {
-    bool given;
-    uint8_t *at;
-} block;
+typedef struct { bool given; uint8_t *at; } block;
 
 static struct {
     size_t requests;   /* allocations since `failing` was set */

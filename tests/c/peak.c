@@ -71,13 +71,6 @@ static struct bytes make_pixels(size_t width, size_t height, uint32_t (*color)(s
     return pixels;
 }
 
-static uint32_t encode(icysixel *h, struct bytes pixels, icysixel_size size, uint16_t colors,
-                       size_t *length)
-{
-    return icysixel_encode(h, pixels.at, pixels.length, 0, size.width, size.height, 9, 1, colors,
-                           length);
-}
-
 /* The SIXEL text of pixels, or raster attributes of their size. */
 static struct bytes make_text(struct bytes pixels, icysixel_size size, bool is_raster)
 {
@@ -91,7 +84,8 @@ static struct bytes make_text(struct bytes pixels, icysixel_size size, bool is_r
         return text;
     }
     CHECK(icysixel_new(&h) == ICYSIXEL_DONE);
-    CHECK(encode(&h, pixels, size, 256, &text.length) == ICYSIXEL_DONE);
+    CHECK(icysixel_encode(&h, pixels.at, pixels.length, 0, size.width, size.height, 9, 1, 256,
+                          &text.length) == ICYSIXEL_DONE);
     text.at = malloc(text.length);
     CHECK(icysixel_take_text(&h, text.at, text.length, &wanted) == ICYSIXEL_DONE);
     icysixel_free(&h);
@@ -119,7 +113,8 @@ static size_t peak_of(int way, struct bytes text, struct bytes pixels, icysixel_
         CHECK(icysixel_finish(&h, &shape) == ICYSIXEL_DONE);
     } else {
         uint16_t colors = way == ENCODE_256 ? 256 : 16;
-        CHECK(encode(&h, pixels, size, colors, &length) == ICYSIXEL_DONE);
+        CHECK(icysixel_encode(&h, pixels.at, pixels.length, 0, size.width, size.height, 9, 1,
+                              colors, &length) == ICYSIXEL_DONE);
     }
     CHECK(shape.width == size.width && shape.height == size.height);
     icysixel_free(&h);

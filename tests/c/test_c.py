@@ -18,11 +18,7 @@ FILTER = ROOT / "crates/sixel_filter/out/sixel_filter"
 
 C11 = ["gcc", "-std=c11", "-Wall", "-Wextra", "-Werror", f"-I{HEADERS}"]
 SANITIZERS = ["-fsanitize=address,undefined", "-fno-sanitize-recover=all"]
-BUILDS = {
-    "sanitizers": [*SANITIZERS, ARCHIVES[0]],
-    "LLVM": [ARCHIVES[0]],
-    "Rattle": [ARCHIVES[1]],
-}
+BUILDS = {"sanitizers": [*SANITIZERS, ARCHIVES[0]], "LLVM": ARCHIVES[:1], "Rattle": ARCHIVES[1:]}
 MEMCHECK = ["valgrind", "-q", "--leak-check=full", "--show-leak-kinds=all", "--error-exitcode=9"]
 HELGRIND = ["valgrind", "-q", "--tool=helgrind", "--error-exitcode=9"]
 

@@ -10,8 +10,6 @@
 
 static bool is_brief;
 
-/* -- Data -- */
-
 /* Appends the same bytes `count` times. */
 static void append_repeated(struct bytes *bytes, const void *more, size_t length, size_t count)
 {
@@ -123,8 +121,6 @@ static void parse_settings(char *text, struct vector *vector)
     }
 }
 
-/* -- Results -- */
-
 /* Whether a code is that of the expected error. `detail` follows the text of some codes. */
 static bool is_error(uint32_t code, const char *error, const char *detail)
 {
@@ -177,8 +173,6 @@ static struct registers decode(const struct vector *vector)
     return after;
 }
 
-/* -- Sessions -- */
-
 /* Lengths of chunks: the first, and the others; those of 0 are uneven, by a seed. */
 struct cuts {
     size_t first, others;
@@ -205,19 +199,6 @@ static uint32_t feed(icysixel *decoder, const struct vector *vector, size_t from
     CHECK(fed.status == (to >= vector->ends_after ? vector->end.status : ICYSIXEL_MORE));
     CHECK(fed.byte == (to >= vector->ends_after ? vector->end.byte : 0));
     return ICYSIXEL_DONE;
-}
-
-/* After an error each feed and finish fails in the same way, and no count is left. */
-static void check_failed(icysixel *decoder, uint32_t failed)
-{
-    icysixel_fed fed;
-    icysixel_shape shape;
-    icysixel_size size;
-    CHECK(icysixel_feed(decoder, NULL, 0, &fed) == failed);
-    CHECK(icysixel_feed(decoder, (const uint8_t *)"~", 1, &fed) == failed);
-    CHECK(icysixel_canvas_writes(decoder) == 0 && icysixel_canvas_paints(decoder) == 0);
-    CHECK(icysixel_size_so_far(decoder, &size) == ICYSIXEL_NO_SIZE);
-    CHECK(icysixel_finish(decoder, &shape) == failed);
 }
 
 /* Decodes by a session, and checks the result and the registers. */
@@ -320,8 +301,6 @@ static void try_string(char **columns)
     free(vector.input.at), free(vector.expected.pixels.at);
 }
 
-/* -- Encoding -- */
-
 /* Encodes pixels with a stride, and checks the text or the error. */
 static void encode(const struct expected *image, uint16_t colors, size_t stride, char *column)
 {
@@ -367,8 +346,6 @@ static void try_text(char **columns)
     }
     free(image.pixels.at), free(spaced.pixels.at);
 }
-
-/* -- Files -- */
 
 enum { COLUMNS = 4 };
 

@@ -11,14 +11,8 @@ from build import ROOT, needs, run
 
 FRAME, DCS = "begin_frame(rt.alloc(), DcsSettings::default())", "begin_dcs(rt.alloc())"
 # The call that begins a session, and a use of the decoder before that session ends.
-USES = [
-    (FRAME, f"drop(decoder.{FRAME});"),
-    (FRAME, f"drop(decoder.{DCS});"),
-    (FRAME, "decoder.reset_palette();"),
-    (DCS, f"drop(decoder.{FRAME});"),
-    (DCS, f"drop(decoder.{DCS});"),
-    (DCS, "decoder.reset_palette();"),
-]
+LATER = [f"drop(decoder.{FRAME});", f"drop(decoder.{DCS});", "decoder.reset_palette();"]
+USES = [(call, use) for call in (FRAME, DCS) for use in LATER]
 HEAD = """//! Sessions.
 #![tactic(auto)]
 

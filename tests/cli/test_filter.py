@@ -2,9 +2,7 @@
 
 The expected bytes are computed by hand from docs/FORMAT.md.
 """
-import unittest
-
-from build import ROOT, builds_of, run
+from build import ROOT, ProgramTest, builds_of, run
 
 MALFORMED = b"[image refused: invalid SIXEL data: malformed SIXEL data]"
 INCOMPLETE = b"[image refused: invalid SIXEL data: incomplete SIXEL DCS sequence]"
@@ -41,8 +39,7 @@ STREAMS = [
     *(("size", it, it) for it in TEXTS),
     ("size", b"a\x1bPq~\x1b\\b", b"a[image 1x6]b"),
     ("size", b"a\x900;1q~~-~\x9cb", b"a[image 2x12]b"),
-    ("size", b"\x1bPq~\x18q", b"[image 1x6]q"),
-    ("size", b"\x1bPq~\x1aq", b"[image 1x6]q"),
+    *(("size", b"\x1bPq~%cq" % it, b"[image 1x6]q") for it in (0x18, 0x1a)),
     ("size", b"\x1bPq~\x1b[31m", b"[image 1x6]\x1b[31m"),
     ("size", b"\x1bPq~\x1bPq~~\x1b\\", b"[image 1x6][image 2x6]"),
     ("size", b"\x1bPq~\x90q~~\x9c\x90q~\x9c", b"[image 1x6][image 2x6][image 1x6]"),
@@ -54,31 +51,28 @@ STREAMS = [
     *(("refusals", REJECTED + b"#" + it, MALFORMED) for it in TERMINATORS),
     ("refusals", REJECTED + b"#~!65536~\x9c", MALFORMED),
     ("refusals", REJECTED + b"\x1b", MALFORMED),
-    ("refusals", b"\x1bPq~", INCOMPLETE),
-    ("refusals", b"\x1bPq~\x1b", INCOMPLETE),
+    *(("refusals", it, INCOMPLETE) for it in (b"\x1bPq~", b"\x1bPq~\x1b")),
     ("refusals", b"a\x1bPq~\x9cb", b"ab"),
     # What follows a rejected image.
-    ("size", REJECTED + b"\x1b[0m", MALFORMED + b"\x1b[0m"),
+    *(("size", REJECTED + it, MALFORMED + it) for it in (b"\x1b[0m", b"\x84a")),
     ("size", REJECTED + b"\x1b\x1bPq~\x9c", MALFORMED + b"\x1b[image 1x6]"),
     ("size", REJECTED + b"\x90q~\x9c", MALFORMED + b"[image 1x6]"),
-    ("size", REJECTED + b"\x84a", MALFORMED + b"\x84a"),
     # An image is encoded again.
     ("colors 2", RED_DOT, b'a\x1bP9;0;0q"1;1;1;6#0;2;0;0;0#1;2;100;0;0#0}$#1@$-\x1b\\b'),
 ]
 
 USAGE = ["", "1", "0 size", "x size", "1 Size", "1 size 2", "1 colors", "1 colors x"]
 USAGE += ["1 colors 65536", "1 refusals 1", "size 1"]
-FAILING = [(">/dev/full", b"output fault\n"), ("</", b"input fault\n")]
+FAILING = [(">/dev/full", "output fault"), ("</", "input fault")]
 
 
-class TestFilter(unittest.TestCase):
+class TestFilter(ProgramTest):
+    name = "sixel_filter"
+
     def writes(self, lengths, words, stream, output):
-        """Tests that each build writes this output for a stream, in chunks of these lengths."""
-        for program in builds_of("sixel_filter"):
-            for length in lengths:
-                with self.subTest(program=program.name, length=length, words=words, stream=stream):
-                    ended = run(program, str(length), *words.split(), stdin=stream)
-                    self.assertEqual(ended, (0, output, b""))
+        """Tests the output for a stream, in chunks of these lengths."""
+        for length in lengths:
+            self.ends([str(length), *words.split()], stream, (0, output, b""))
 
     def test_recorded_stream(self):
         for words, images in (("size", SIZES), ("refusals", 4 * (b"",)), ("colors 2", ENCODED)):
@@ -98,8 +92,4 @@ class TestFilter(unittest.TestCase):
 
     def test_failing_descriptors(self):
         for redirection, error in FAILING:
-            for program in builds_of("sixel_filter"):
-                with self.subTest(program=program.name, redirection=redirection):
-                    script = f'exec "$0" 1 size {redirection}'
-                    ended = run("sh", "-c", script, program, stdin=RECORDED)
-                    self.assertEqual(ended, (1, b"", error))
+            self.fails(f"1 size {redirection}", RECORDED, error)

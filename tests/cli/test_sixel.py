@@ -4,11 +4,10 @@ The expected bytes are computed by hand from docs/FORMAT.md.
 """
 import hashlib
 import os
-import tempfile
 import unittest
 from pathlib import Path
 
-from build import builds_of, run
+from build import ProgramTest, builds_of, run
 from vectors import bytes_of, image_of, vectors
 
 BLACK, RED, CLEAR = b"\0\0\0\xff", b"\xff\0\0\xff", bytes(4)
@@ -106,18 +105,8 @@ def outcome(result, output):
     return 0, output(result), b""
 
 
-class TestSixel(unittest.TestCase):
-    def ends(self, arguments, stdin, expected, **options):
-        """Tests the status, output and error of each build, on a pipe and on a file."""
-        for program in builds_of("sixel"):
-            with tempfile.TemporaryFile() as file:
-                file.write(stdin)
-                for source in (stdin, file):
-                    with self.subTest(program=program.name, arguments=arguments, stdin=stdin[:80]):
-                        file.seek(0)
-                        ended = run(program, *arguments, stdin=source, **options)
-                        told = f"{ended[0]} {ended[1][:200]} {ended[2]}"
-                        self.assertTrue(ended == expected, told)
+class TestSixel(ProgramTest):
+    name = "sixel"
 
     def test_arguments(self):
         for arguments, stdin, output in DONE:
@@ -134,10 +123,7 @@ class TestSixel(unittest.TestCase):
 
     def test_failing_descriptors_and_arguments(self):
         for words, error in FAILING:
-            for program in builds_of("sixel"):
-                with self.subTest(program=program.name, words=words):
-                    ended = run("sh", "-c", f'exec "$0" {words}', program, stdin=b"#1~")
-                    self.assertEqual(ended, (1, b"", error.encode() + b"\n"))
+            self.fails(words, b"#1~", error)
 
     def test_memory(self):
         for arguments, stdin, expected in MEMORY:
@@ -173,8 +159,8 @@ class TestSixel(unittest.TestCase):
     def test_text_vectors(self):
         """The program encodes square pixels and a transparent background."""
         for place, (colors, column, result) in vectors("texts.tsv"):
-            image = image_of(column)
-            if (image.p1, image.p2) == (9, 1):
+            width, height, p1, p2, pixels = image_of(column)
+            if (p1, p2) == (9, 1):
                 with self.subTest(place=place):
-                    arguments = ["encode", str(image.width), str(image.height), colors]
-                    self.ends(arguments, image.pixels, outcome(result, bytes_of))
+                    arguments = ["encode", str(width), str(height), colors]
+                    self.ends(arguments, pixels, outcome(result, bytes_of))
