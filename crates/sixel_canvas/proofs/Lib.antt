@@ -1,8 +1,13 @@
+pub mod BandRows
+pub mod BandStates
 pub mod Loans
 pub mod Mixing
 pub mod OneRow
+pub mod Pictures
 pub mod Pixels
 pub mod Results
+pub mod RowBytes
+pub mod Runs
 mod RowStates
 pub mod Spans
 pub mod Spread

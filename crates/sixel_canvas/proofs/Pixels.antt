@@ -40,7 +40,7 @@ joined-pixels (pixel ∷ pixels) d (suc n) le =
     joined-front (λ k. get_or (pixel ∷ pixels) k d) n ∙ ap (λ xs. pixel ++ xs) (joined-pixels pixels d n (omega arith))
 
 -- the bytes of a row of this width, with the background where the pixels end
-joined-row : (pixels : List (List ℕ)) (background : List ℕ) (held width : ℕ) → held ≡ min (length pixels) width → joined (λ column. get_or pixels column background) width ≡ flat_map (λ x. x) (take held pixels) ++ joined (λ _. background) (width - held)
+pub joined-row : (pixels : List (List ℕ)) (background : List ℕ) (held width : ℕ) → held ≡ min (length pixels) width → joined (λ column. get_or pixels column background) width ≡ flat_map (λ x. x) (take held pixels) ++ joined (λ _. background) (width - held)
 joined-row pixels background held width least =
     let pixel = λ (k : ℕ). get_or pixels k background in
     let rest = width - held in

@@ -1,9 +1,14 @@
 //! The canvas that a SIXEL decoder draws on: rows that are filled only as far as a stroke reaches.
 #![tactic(auto)]
 
+pub mod band;
+pub mod band_canvas;
 mod block;
 mod canvas;
+pub mod drawing;
+pub mod final_rows;
 mod line;
+mod pixel_row;
 mod row;
 mod span;
 mod tagged;

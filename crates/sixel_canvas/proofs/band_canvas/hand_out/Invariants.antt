@@ -1,0 +1,21 @@
+use Rattle.std.proofs.Common.{◌≡◌, ℕ, ◌+◌, ◌-◌, ◌*◌, ◌≤◌}
+use Rattle.std.specs.Prelude.{nat_lt, if◌then◌else◌}
+use Rattle.sixel_canvas.specs.inside.Band.{cell}
+use Rattle.sixel_canvas.specs.inside.FinalRows.{final}
+use Rattle.sixel_canvas.proofs.band_canvas.hand_out.Given as goal
+
+abbrev pub invariant-blank : goal.invariant-blank
+invariant-blank l =
+    (l.rows.rows ≡ l._row)
+    × (l.rows.width ≡ l.initial.rows.width)
+    × (4 * ((l.top + 6) * l.rows.width) ≤ l.rows.room)
+    × (l.rows.background ≡ l.fn.rows.background)
+    × ((column row : ℕ) → final l.rows column row ≡ final l.fn.rows column row)
+
+abbrev pub invariant-handed : goal.invariant-handed
+invariant-handed l =
+    (l.rows.rows ≡ l.top + l.k)
+    × (l.rows.width ≡ l.initial.rows.width)
+    × (4 * ((l.top + 6) * l.rows.width) ≤ l.rows.room)
+    × (l.rows.background ≡ l.fn.rows.background)
+    × ((column row : ℕ) → final l.rows column row ≡ (if nat_lt row l.top then final l.fn.rows column row else if nat_lt row (l.top + l.k) then cell l.band column (row - l.top) else l.fn.rows.background))

@@ -1,0 +1,11 @@
+use Rattle.std.proofs.Common.{◌≡◌, ℕ, ◌+◌, ◌*◌, ◌≤◌, ◌<◌, length}
+use Rattle.std.specs.Prelude.{max, nat_lt, if◌then◌else◌, vec_capacity}
+use Rattle.sixel_canvas.specs.inside.FinalRows.{pixel_at}
+use Rattle.sixel_canvas.proofs.final_rows.FinalRows.lay_out.Given as goal
+
+abbrev pub invariant-copied : goal.invariant-copied
+invariant-copied l =
+    let old = l.self-inside in
+    (length l.bytes.items ≡ 4 * (l.row * l.width))
+    × (4 * (max l.rows old.rows * l.width) ≤ vec_capacity l.bytes)
+    × ((column row : ℕ) → column < l.width → row < l.row → pixel_at l.bytes.items (row * l.width + column) ≡ (if nat_lt column old.width then pixel_at old.bytes.items (row * old.width + column) else old.background))

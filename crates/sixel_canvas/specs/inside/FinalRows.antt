@@ -1,0 +1,31 @@
+-- What the final rows of an image show: the pixel at each place, in bytes of four a pixel, row by row, and background where there is none.
+-- The layout is that of the image, as Picture of sixel_base has it.
+use Rattle.std.specs.Prelude.{◌≡◌, ℕ, ◌+◌, ◌*◌, ◌≤◌, List, length, take, drop, ◌&&◌, nat_lt, if◌then◌else◌}
+
+-- the background, the bytes of the rows, how many columns and rows they have, and for how many bytes there is memory
+pub record RowsState : Type 0 where
+  pub background : List ℕ
+  pub bytes : List ℕ
+  pub width : ℕ
+  pub rows : ℕ
+  pub room : ℕ
+
+-- the rows with these parts
+abbrev pub rows_state : List ℕ → List ℕ → ℕ → ℕ → ℕ → RowsState
+rows_state background bytes width rows room =
+    record { background = background; bytes = bytes; width = width; rows = rows; room = room }
+
+-- the bytes of the pixel at this index
+abbrev pub pixel_at : List ℕ → ℕ → List ℕ
+pixel_at bytes i = take 4 (drop (4 * i) bytes)
+
+-- the pixel at this place
+abbrev pub final : RowsState → ℕ → ℕ → List ℕ
+final rows column row =
+    if nat_lt column rows.width && nat_lt row rows.rows then pixel_at rows.bytes (row * rows.width + column) else rows.background
+
+-- what is true of the rows of every image
+pub record AreRows (rows : RowsState) : Type 0 where
+  pub fits : length rows.bytes ≡ 4 * (rows.rows * rows.width)
+  pub narrow : rows.width ≤ 2000000
+  pub few : rows.rows ≤ 1000006

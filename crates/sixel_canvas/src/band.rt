@@ -1,0 +1,251 @@
+//! Six rows of pixels in one block, in which an image's bands are drawn one after another.
+ghost use Rattle.std.specs.Prelude.{◌≡◌, ℕ, ◌+◌, ◌*◌, ◌≤◌, ◌<◌, List, length, max, min};
+ghost use Rattle.std.specs.Prelude.{false, nat_le, nat_lt, ◌&&◌, ◌==◌, slice_index_or, IfOk, OnErr, OnOk, if◌then◌else◌};
+ghost use Rattle.sixel_base.specs.Picture.{covers};
+ghost use Rattle.sixel_canvas.specs.inside.Band.{cell, stored, IsBand};
+ghost use Rattle.sixel_canvas.specs.inside.Drawn.{covers_block};
+
+use crate::pixel_row::{fill, mix};
+use std::alloc::{AllocError, Global};
+use std::marker::Model;
+
+/// The most columns that a band has memory for: those of an image, and seven blank ones.
+const MAX_CAP: usize = 1_000_008;
+
+/// Six rows of `cap` columns each, which are background from `reach` on.
+///
+/// A row never moves while a band is drawn in memory that is wide enough, and blank columns
+/// past a run's end are written as they are. So a block of eight sixels needs no branch.
+#[derive(Drop)]
+pub struct Band {
+    pixels: Vec<[u8; 4]>,
+    cap: usize,
+    reach: usize,
+    background: [u8; 4],
+}
+
+impl Model for Band {
+    ghost use Rattle.sixel_canvas.specs.inside.Band.{BandState, IsBand, band_state};
+
+    ghost Value = { BandState };
+
+    ghost view = { λ band. band_state band.background band.pixels.items band.cap band.reach };
+
+    ghost invariant = { λ band. IsBand
+        (band_state band.background band.pixels.items band.cap band.reach) };
+}
+
+impl Band {
+    /// Returns a band of background with memory for no column.
+    pub fn new(alloc: Global, background: [u8; 4]) -> Band
+        ensures shown { (column k : ℕ) → cell result column k ≡ background }
+        ensures background { result.background ≡ background }
+        ensures reach { result.reach ≡ 0 }
+        ensures cap { result.cap ≡ 0 }
+        ensures whole { IsBand result }
+    {
+        Band {
+            pixels: Vec::new(alloc),
+            cap: 0,
+            reach: 0,
+            background,
+        }
+    }
+
+    /// Returns how many columns there is memory for.
+    #[inline(always)]
+    pub fn cap(&self) -> usize
+        ensures value { result ≡ self.now.cap }
+        ensures few { result ≤ 1000008 }
+        ensures reached { self.now.reach ≤ result }
+    {
+        self.cap
+    }
+
+    /// Returns the column from which on all six rows are background.
+    #[inline(always)]
+    pub fn reach(&self) -> usize
+        ensures value { result ≡ self.now.reach }
+        ensures within { result ≤ self.now.cap }
+        ensures few { result ≤ 1000008 }
+        ensures clean { (column k : ℕ) → result ≤ column
+            → cell self.now column k ≡ self.now.background }
+    {
+        self.reach
+    }
+
+    /// Returns the color of columns that nothing was drawn on.
+    pub fn background(&self) -> [u8; 4]
+        ensures { result ≡ self.now.background }
+    {
+        self.background
+    }
+
+    /// Makes memory for so many columns, and at least doubles it where it is too small.
+    #[inline(never)]
+    pub fn widen(&mut self, columns: usize) -> Result<(), AllocError>
+        requires within { columns ≤ 1000008 }
+        ensures held { OnOk result (columns ≤ self.new.cap) }
+        ensures no_more { OnOk result (self.new.cap ≤ max columns (2 * self.old.cap)) }
+        ensures shown { OnOk result ((column k : ℕ) → cell self.new column k
+            ≡ cell self.old column k) }
+        ensures background { self.new.background ≡ self.old.background }
+        ensures reach { self.new.reach ≡ self.old.reach }
+        ensures refused { OnErr result (self.new ≡ self.old) }
+        ensures whole { IsBand self.new }
+    {
+        let cap = columns.max(MAX_CAP.min(2 * self.cap));
+        self.pixels = widened(
+            *self.pixels.allocator(),
+            &self.pixels,
+            self.cap,
+            cap,
+            self.background,
+        )?;
+        self.cap = cap;
+        Ok(())
+    }
+
+    /// Draws a sixel over the columns from `from` up to before `to`, for which there is memory.
+    #[inline(always)]
+    pub fn draw(&mut self, from: usize, to: usize, bits: u8, color: [u8; 4])
+        requires ordered { from ≤ to }
+        requires held { to ≤ self.old.cap }
+        ensures drawn { (column k : ℕ) → cell self.new column k
+            ≡ (if covers from to 0 bits column k then color else cell self.old column k) }
+        ensures background { self.new.background ≡ self.old.background }
+        ensures cap { self.new.cap ≡ self.old.cap }
+        ensures reach { self.new.reach ≡ max self.old.reach to }
+        ensures whole { IsBand self.new }
+    {
+        fill_rows(&mut self.pixels, self.cap, from, to, bits, color);
+        self.reach = self.reach.max(to);
+    }
+
+    /// Gives one color to the columns from `from` up to before `to` of row `k`, which were drawn on.
+    pub fn draw_row(&mut self, k: usize, from: usize, to: usize, color: [u8; 4])
+        requires six { k < 6 }
+        requires ordered { from ≤ to }
+        requires reached { to ≤ self.old.reach }
+        ensures drawn { (column j : ℕ) → cell self.new column j
+            ≡ (if nat_le from column && nat_lt column to && j == k then color
+            else cell self.old column j) }
+        ensures background { self.new.background ≡ self.old.background }
+        ensures cap { self.new.cap ≡ self.old.cap }
+        ensures reach { self.new.reach ≡ self.old.reach }
+        ensures whole { IsBand self.new }
+    {
+        let start = k * self.cap;
+        fill(&mut self.pixels, start + from, start + to, color);
+    }
+
+    /// Draws eight sixels of one column each, from `from` on: those past `to` are blank.
+    #[inline(always)]
+    pub fn block(&mut self, from: usize, to: usize, sixels: [u8; 8], color: [u8; 4])
+        requires held { from + 8 ≤ self.old.cap }
+        requires few { to ≤ from + 8 }
+        requires blank { (column k : ℕ) → to ≤ column
+            → covers_block from sixels 0 column k ≡ false }
+        ensures drawn { (column k : ℕ) → cell self.new column k
+            ≡ (if covers_block from sixels 0 column k then color else cell self.old column k) }
+        ensures background { self.new.background ≡ self.old.background }
+        ensures cap { self.new.cap ≡ self.old.cap }
+        ensures reach { self.new.reach ≡ max self.old.reach to }
+        ensures whole { IsBand self.new }
+    {
+        mix_rows(&mut self.pixels, self.cap, from, sixels, color);
+        self.reach = self.reach.max(to);
+    }
+
+    /// Returns the pixels of row `k` up to `reach`.
+    pub fn row(&self, k: usize) -> &[[u8; 4]]
+        requires { k < 6 }
+        ensures len { length result.now ≡ self.now.reach }
+        ensures pixels { (column : ℕ) → slice_index_or result.now column self.now.background
+            ≡ cell self.now column k }
+    {
+        let start = k * self.cap;
+        &self.pixels[start..start + self.reach]
+    }
+
+    /// Fills the band with background.
+    pub fn clear(&mut self)
+        ensures shown { (column k : ℕ) → cell self.new column k ≡ self.old.background }
+        ensures background { self.new.background ≡ self.old.background }
+        ensures cap { self.new.cap ≡ self.old.cap }
+        ensures reach { self.new.reach ≡ 0 }
+        ensures whole { IsBand self.new }
+    {
+        fill_rows(
+            &mut self.pixels,
+            self.cap,
+            0,
+            self.reach,
+            63,
+            self.background,
+        );
+        self.reach = 0;
+    }
+}
+
+/// Draws a sixel over the columns from `from` up to before `to` of six rows.
+fn fill_rows(pixels: &mut [[u8; 4]], cap: usize, from: usize, to: usize, bits: u8, color: [u8; 4])
+    requires ordered { from ≤ to }
+    requires within { to ≤ cap }
+    requires few { cap ≤ 1000008 }
+    requires fits { length pixels.old ≡ 6 * cap }
+    ensures len { length pixels.new ≡ length pixels.old }
+    ensures drawn { (d : List ℕ) (column k : ℕ) → column < cap → k < 6
+        → stored pixels.new cap d column k
+        ≡ (if covers from to 0 bits column k then color else stored pixels.old cap d column k) }
+{
+    'drawn: for bit in 0..6 {
+        if (bits >> bit) % 2 == 1 {
+            let start = bit * cap;
+            fill(pixels, start + from, start + to, color);
+        }
+    }
+}
+
+/// Draws eight sixels of one column each, from `from` on, in six rows.
+#[inline(always)]
+fn mix_rows(pixels: &mut [[u8; 4]], cap: usize, from: usize, sixels: [u8; 8], color: [u8; 4])
+    requires within { from + 8 ≤ cap }
+    requires few { cap ≤ 1000008 }
+    requires fits { length pixels.old ≡ 6 * cap }
+    ensures len { length pixels.new ≡ length pixels.old }
+    ensures drawn { (d : List ℕ) (column k : ℕ) → column < cap → k < 6
+        → stored pixels.new cap d column k
+        ≡ (if covers_block from sixels 0 column k then color
+        else stored pixels.old cap d column k) }
+{
+    'mixed: for bit in 0..6 {
+        mix(pixels, bit * cap + from, sixels, bit, color);
+    }
+}
+
+/// Returns six rows with more columns, background past those that they had.
+fn widened(
+    alloc: Global,
+    pixels: &[[u8; 4]],
+    cap: usize,
+    wide: usize,
+    background: [u8; 4],
+) -> Result<Vec<[u8; 4]>, AllocError>
+    requires more { cap ≤ wide }
+    requires few { wide ≤ 1000008 }
+    requires fits { length pixels.now ≡ 6 * cap }
+    ensures len { IfOk result (λ new. length new.items ≡ 6 * wide) }
+    ensures same { IfOk result (λ new. (column k : ℕ) → column < wide → k < 6
+        → stored new.items wide background column k
+        ≡ (if nat_lt column cap then stored pixels.now cap background column k
+        else background)) }
+{
+    let mut new = Vec::with_capacity(alloc, 6 * wide)?;
+    'copied: for row in 0..6 {
+        let start = row * cap;
+        new.extend_from_slice(&pixels[start..start + cap])?;
+        new.resize(row * wide + wide, background)?;
+    }
+    Ok(new)
+}

@@ -1,0 +1,202 @@
+//! A canvas of one band: the rows above it are final, and stored as those of the image.
+ghost use Rattle.std.specs.Prelude.{◌≡◌, ℕ, ◌+◌, ◌*◌, ◌^◌, ◌≤◌, ◌<◌, List, max, OnErr, OnOk};
+ghost use Rattle.std.specs.Prelude.{◌-◌, nat_lt, if◌then◌else◌};
+ghost use Rattle.sixel_canvas.specs.inside.Band.{cell};
+ghost use Rattle.sixel_canvas.specs.inside.BandCanvas.{band_canvas_shown, IsHeld};
+ghost use Rattle.sixel_canvas.specs.inside.Drawn.{right_edge};
+ghost use Rattle.sixel_canvas.specs.inside.FinalRows.{final};
+
+use crate::band::Band;
+use crate::drawing::Canvas;
+use crate::final_rows::FinalRows;
+use sixel_base::limits::MAX_SIDE;
+use std::alloc::{AllocError, Global};
+use std::marker::Model;
+
+/// A canvas that is drawn on in six rows that stay in the cache.
+///
+/// Once the band moves down, its six rows are appended to the final ones, if anything was drawn
+/// on them. Their memory is reserved before the band is drawn on, so that moving never fails.
+#[derive(Drop)]
+pub struct BandCanvas {
+    rows: FinalRows,
+    band: Band,
+    top: usize,
+    held: usize,
+    expected_width: usize,
+}
+
+impl Model for BandCanvas {
+    ghost use Rattle.sixel_canvas.specs.inside.BandCanvas.{BandCanvasState, IsBandCanvas};
+    ghost use Rattle.sixel_canvas.specs.inside.BandCanvas.{band_canvas_state};
+
+    ghost Value = { BandCanvasState };
+
+    ghost view = { λ canvas. band_canvas_state canvas.rows canvas.band canvas.top canvas.held };
+
+    ghost invariant = { λ canvas. IsBandCanvas
+        (band_canvas_state canvas.rows canvas.band canvas.top canvas.held) };
+}
+
+impl Canvas for BandCanvas {
+    ghost shown = { band_canvas_shown };
+
+    ghost top = { λ canvas. canvas.top };
+
+    ghost held = { λ canvas. canvas.held };
+
+    ghost paid = { λ canvas runs. canvas.band.cap ≤ 2 * right_edge runs + 16 };
+
+    fn new(alloc: Global, background: [u8; 4]) -> BandCanvas {
+        BandCanvas {
+            rows: FinalRows::new(alloc, background),
+            band: Band::new(alloc, background),
+            top: 0,
+            held: 0,
+            expected_width: 0,
+        }
+    }
+
+    #[inline(always)]
+    fn top(&self) -> usize {
+        self.top
+    }
+
+    #[inline(always)]
+    fn held(&self) -> usize {
+        self.held
+    }
+
+    fn expect_width(&mut self, width: usize) {
+        self.expected_width = self.expected_width.max(width);
+    }
+
+    #[inline(always)]
+    fn draw(&mut self, from: usize, to: usize, bits: u8, color: [u8; 4]) -> Result<(), AllocError> {
+        self.hold(to)?;
+        self.band.draw(from, to, bits, color);
+        Ok(())
+    }
+
+    #[inline(always)]
+    fn column(&mut self, at: usize, bits: u8, color: [u8; 4]) {
+        self.band.draw(at, at + 1, bits, color);
+    }
+
+    #[inline(always)]
+    fn block(
+        &mut self,
+        from: usize,
+        len: usize,
+        sixels: [u8; 8],
+        color: [u8; 4],
+    ) -> Result<(), AllocError> {
+        self.hold(from + len)?;
+        self.band.block(from, from + len, sixels, color);
+        Ok(())
+    }
+
+    fn new_line(&mut self) {
+        let top = self.top + 6;
+        self.finish_rows();
+        self.top = top;
+    }
+
+    fn take_picture(&mut self, width: usize, height: usize) -> Result<Vec<u8>, AllocError> {
+        self.finish_rows();
+        self.rows.take(width, height)
+    }
+}
+
+impl BandCanvas {
+    /// Makes memory for so many columns of the band, and for its rows among the final ones.
+    #[inline(always)]
+    fn hold(&mut self, columns: usize) -> Result<(), AllocError>
+        requires some { 0 < columns }
+        requires within { columns ≤ 1000000 }
+        requires above_bottom { self.old.top + 6 ≤ 1000000 }
+        ensures held { OnOk result (columns ≤ self.new.held) }
+        ensures shown { OnOk result ((column row : ℕ) → band_canvas_shown self.new column row
+            ≡ band_canvas_shown self.old column row) }
+        ensures top { OnOk result (self.new.top ≡ self.old.top) }
+        ensures cap { OnOk result (self.new.band.cap
+            ≤ max self.old.band.cap (2 * columns + 16)) }
+        ensures reach { OnOk result (self.new.band.reach ≡ self.old.band.reach) }
+    {
+        if columns <= self.held {
+            return Ok(());
+        }
+        self.widen(columns)
+    }
+
+    /// Makes memory where there is too little.
+    #[cold]
+    #[inline(never)]
+    fn widen(&mut self, columns: usize) -> Result<(), AllocError>
+        requires some { 0 < columns }
+        requires within { columns ≤ 1000000 }
+        requires above_bottom { self.old.top + 6 ≤ 1000000 }
+        ensures held { OnOk result (columns ≤ self.new.held) }
+        ensures shown { OnOk result ((column row : ℕ) → band_canvas_shown self.new column row
+            ≡ band_canvas_shown self.old column row) }
+        ensures top { OnOk result (self.new.top ≡ self.old.top) }
+        ensures cap { OnOk result (self.new.band.cap
+            ≤ max self.old.band.cap (2 * columns + 16)) }
+        ensures reach { OnOk result (self.new.band.reach ≡ self.old.band.reach) }
+    {
+        let least = columns
+            .max(self.held)
+            .max(self.expected_width.min(MAX_SIDE));
+        self.rows.reserve(least, self.top + 6)?;
+        if self.band.cap() < columns + 8 {
+            self.band.widen(columns + 8)?;
+        }
+        self.held = self.rows.width().min(self.band.cap() - 8);
+        Ok(())
+    }
+
+    /// Makes all that was drawn final, and moves the band below it.
+    fn finish_rows(&mut self)
+        ensures shown { (column row : ℕ) → final self.new.rows column row
+            ≡ band_canvas_shown self.old column row }
+        ensures empty { (column k : ℕ) → cell self.new.band column k ≡ self.new.rows.background }
+        ensures reach { self.new.band.reach ≡ 0 }
+        ensures cap { self.new.band.cap ≡ self.old.band.cap }
+        ensures top { self.new.top ≤ self.old.top + 6 }
+        ensures held { self.new.held ≡ 0 }
+    {
+        if self.band.reach() > 0 {
+            let width = self.expected_width;
+            hand_out(&mut self.rows, &mut self.band, self.top, width);
+            self.top += 6;
+        }
+        self.held = 0;
+    }
+}
+
+/// Appends the six rows of a band to the rows above it, with background between them.
+fn hand_out(rows: &mut FinalRows, band: &mut Band, top: usize, expected_width: usize)
+    requires above { rows.old.rows ≤ top }
+    requires bottom { top + 6 ≤ 1000000 }
+    requires background { rows.old.background ≡ band.old.background }
+    requires stored { band.old.reach ≤ rows.old.width }
+    requires room { 4 * ((top + 6) * rows.old.width) ≤ rows.old.room }
+    ensures shown { (column row : ℕ) → final rows.new column row ≡ (if nat_lt row top
+        then final rows.old column row else cell band.old column (row - top)) }
+    ensures rows { rows.new.rows ≡ top + 6 }
+    ensures rows_background { rows.new.background ≡ rows.old.background }
+    ensures cleared { (column k : ℕ) → cell band.new column k ≡ band.old.background }
+    ensures background { band.new.background ≡ band.old.background }
+    ensures reach { band.new.reach ≡ 0 }
+    ensures cap { band.new.cap ≡ band.old.cap }
+{
+    let width = expected_width.min(rows.width()).max(band.reach());
+    rows.fit(width);
+    'blank: for _row in rows.len()..top {
+        rows.append(&[]);
+    }
+    'handed: for k in 0..6 {
+        rows.append(band.row(k));
+    }
+    band.clear();
+}

@@ -1,0 +1,114 @@
+//! The trait of everything that a SIXEL decoder draws on.
+ghost use Rattle.std.specs.Prelude.{◌≡◌, ℕ, ◌+◌, ◌*◌, ◌^◌, ◌≤◌, ◌<◌, List, [], ◌∷◌, length, take};
+ghost use Rattle.std.specs.Prelude.{slice_index_or, IfOk, OnOk, if◌then◌else◌};
+ghost use Rattle.sixel_base.specs.Picture.{covers, picture};
+ghost use Rattle.sixel_canvas.specs.inside.Drawn.{Run, run, with_sixels, covers_block};
+
+use std::alloc::{AllocError, Global};
+
+/// A canvas: a pixel for every column and row, and a band of six rows that is drawn on.
+///
+/// The band begins at the top, and goes down six rows at each graphics new line. Rows above it
+/// are final. After an error nothing is known of the canvas but that it can be dropped.
+pub trait Canvas {
+    /// The pixel at a column and a row.
+    ghost shown: { Self → ℕ → ℕ → List ℕ };
+
+    /// The first row of the band.
+    ghost top: { Self → ℕ };
+
+    /// So many columns of the band are drawn on without an allocation.
+    ghost held: { Self → ℕ };
+
+    /// Its counts and its capacity are within its bounds for these runs, the newest first.
+    ghost paid: { Self → List Run → Type 0 };
+
+    /// Returns a canvas that shows the background everywhere. It does not allocate.
+    fn new(alloc: Global, background: [u8; 4]) -> Self
+        ensures shown { (column row : ℕ) → shown result column row ≡ background }
+        ensures top { top result ≡ 0 }
+        ensures paid { paid result [] };
+
+    /// Returns the first row of the band.
+    fn top(&self) -> usize
+        ensures { result ≡ top self.now };
+
+    /// Returns how many columns of the band are drawn on without an allocation.
+    fn held(&self) -> usize
+        ensures { result ≡ held self.now };
+
+    /// Names a width that the picture has at least, as raster attributes do. It does not allocate.
+    fn expect_width(&mut self, width: usize)
+        ensures shown { (column row : ℕ) → shown self.new column row ≡ shown self.old column row }
+        ensures top { top self.new ≡ top self.old }
+        ensures held { held self.new ≡ held self.old }
+        ensures paid { (runs : List Run) → paid self.old runs → paid self.new runs };
+
+    /// Draws a sixel over the columns from `from` up to before `to` of the band.
+    fn draw(&mut self, from: usize, to: usize, bits: u8, color: [u8; 4]) -> Result<(), AllocError>
+        requires ordered { from < to }
+        requires within { to ≤ 1000000 }
+        requires above_bottom { top self.old + 6 ≤ 1000000 }
+        requires six { bits < 64 }
+        ensures drawn { OnOk result ((column row : ℕ) → shown self.new column row
+            ≡ (if covers from to (top self.old) bits column row then color
+            else shown self.old column row)) }
+        ensures top { OnOk result (top self.new ≡ top self.old) }
+        ensures paid { OnOk result ((runs : List Run) → paid self.old runs
+            → paid self.new (run from to (top self.old) bits ∷ runs)) };
+
+    /// Draws a sixel of one column, for which there is memory.
+    fn column(&mut self, at: usize, bits: u8, color: [u8; 4])
+        requires held { at < held self.old }
+        requires within { at < 1000000 }
+        requires above_bottom { top self.old + 6 ≤ 1000000 }
+        requires six { bits < 64 }
+        ensures drawn { (column row : ℕ) → shown self.new column row
+            ≡ (if covers at (at + 1) (top self.old) bits column row then color
+            else shown self.old column row) }
+        ensures top { top self.new ≡ top self.old }
+        ensures paid { (runs : List Run) → paid self.old runs
+            → paid self.new (run at (at + 1) (top self.old) bits ∷ runs) };
+
+    /// Draws `len` sixels of one column each, from `from` on: the others of the eight are blank.
+    fn block(
+        &mut self,
+        from: usize,
+        len: usize,
+        sixels: [u8; 8],
+        color: [u8; 4],
+    ) -> Result<(), AllocError>
+        requires some { 0 < len }
+        requires few { len ≤ 8 }
+        requires within { from + len ≤ 1000000 }
+        requires above_bottom { top self.old + 6 ≤ 1000000 }
+        requires six { (j : ℕ) → slice_index_or sixels j 0 < 64 }
+        requires blank { (j : ℕ) → len ≤ j → slice_index_or sixels j 0 ≡ 0 }
+        ensures drawn { OnOk result ((column row : ℕ) → shown self.new column row
+            ≡ (if covers_block from sixels (top self.old) column row then color
+            else shown self.old column row)) }
+        ensures top { OnOk result (top self.new ≡ top self.old) }
+        ensures paid { OnOk result ((runs : List Run) → paid self.old runs
+            → paid self.new (with_sixels from (take len sixels) (top self.old) runs)) }
+    {
+        'drawn: for j in 0..len {
+            self.draw(from + j, from + j + 1, sixels[j], color)?;
+        }
+        Ok(())
+    }
+
+    /// Moves the band six rows down. It does not allocate.
+    fn new_line(&mut self)
+        requires { top self.old + 6 < 2 ^ 64 }
+        ensures shown { (column row : ℕ) → shown self.new column row ≡ shown self.old column row }
+        ensures top { top self.new ≡ top self.old + 6 }
+        ensures paid { (runs : List Run) → paid self.old runs → paid self.new runs };
+
+    /// Returns the bytes of the picture of this size, and leaves the canvas without it.
+    fn take_picture(&mut self, width: usize, height: usize) -> Result<Vec<u8>, AllocError>
+        requires narrow { width ≤ 1000000 }
+        requires few { height ≤ 1000000 }
+        requires small { width * height ≤ 67108864 }
+        ensures ok { IfOk result (λ bytes. bytes.items ≡ picture (shown self.old) width height) }
+        ensures len { IfOk result (λ bytes. length bytes.items ≡ 4 * (width * height)) };
+}

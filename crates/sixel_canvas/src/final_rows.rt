@@ -1,0 +1,215 @@
+//! The rows of an image that are final, in the bytes of the image.
+ghost use Rattle.std.specs.Prelude.{◌≡◌, ℕ, ◌+◌, ◌-◌, ◌*◌, ◌^◌, ◌≤◌, ◌<◌, ◌++◌, ◌==◌, List, length, max};
+ghost use Rattle.std.specs.Prelude.{nat_lt, ◌&&◌, slice_index_or, IfOk, IsOk, OnErr, OnOk, if◌then◌else◌};
+ghost use Rattle.std.specs.Prelude.{vec_len, vec_capacity};
+ghost use Rattle.sixel_base.specs.Picture.{joined, picture};
+ghost use Rattle.sixel_canvas.specs.inside.FinalRows.{final, pixel_at};
+
+use crate::line::add_pixels;
+use std::alloc::{AllocError, Global};
+use std::marker::Model;
+use std::mem;
+
+/// The widest rows: twice as wide as an image may be.
+const MAX_WIDTH: usize = 2_000_000;
+
+/// Rows of `width` pixels each, from the top of an image, in RGBA.
+///
+/// The memory of the rows becomes that of the image, so that no pixel is copied at the end.
+#[derive(Drop)]
+pub struct FinalRows {
+    bytes: Vec<u8>,
+    width: usize,
+    rows: usize,
+    background: [u8; 4],
+}
+
+impl Model for FinalRows {
+    ghost use Rattle.std.specs.Prelude.{vec_capacity};
+    ghost use Rattle.sixel_canvas.specs.inside.FinalRows.{RowsState, AreRows, rows_state};
+
+    ghost Value = { RowsState };
+
+    ghost view = { λ all. rows_state all.background all.bytes.items all.width all.rows
+        (vec_capacity all.bytes) };
+
+    ghost invariant = { λ all. AreRows
+        (rows_state all.background all.bytes.items all.width all.rows (vec_capacity all.bytes)) };
+}
+
+impl FinalRows {
+    /// Returns no row. It does not allocate.
+    pub fn new(alloc: Global, background: [u8; 4]) -> FinalRows
+        ensures shown { (column row : ℕ) → final result column row ≡ background }
+        ensures background { result.background ≡ background }
+        ensures width { result.width ≡ 0 }
+        ensures rows { result.rows ≡ 0 }
+    {
+        FinalRows {
+            bytes: Vec::new(alloc),
+            width: 0,
+            rows: 0,
+            background,
+        }
+    }
+
+    /// Returns how many columns each row has.
+    pub fn width(&self) -> usize
+        ensures { result ≡ self.now.width }
+    {
+        self.width
+    }
+
+    /// Returns how many rows there are.
+    pub fn len(&self) -> usize
+        ensures { result ≡ self.now.rows }
+    {
+        self.rows
+    }
+
+    /// Makes memory for so many rows of at least so many columns.
+    ///
+    /// Rows that are too narrow get twice their width, so that they seldom move.
+    pub fn reserve(&mut self, columns: usize, rows: usize) -> Result<(), AllocError>
+        requires narrow { columns ≤ 1000000 }
+        requires few { rows ≤ 1000006 }
+        ensures shown { OnOk result ((column row : ℕ) → final self.new column row
+            ≡ final self.old column row) }
+        ensures width { OnOk result (max columns self.old.width ≤ self.new.width) }
+        ensures room { OnOk result (4 * (rows * self.new.width) ≤ self.new.room) }
+        ensures rows { OnOk result (self.new.rows ≡ self.old.rows) }
+        ensures background { OnOk result (self.new.background ≡ self.old.background) }
+        ensures refused { OnErr result (self.new ≡ self.old) }
+    {
+        if columns > self.width {
+            let width = columns.max(2 * self.width).min(MAX_WIDTH);
+            return self.lay_out(width, rows);
+        }
+        let len = 4 * (rows * self.width);
+        self.bytes.reserve(len.saturating_sub(self.bytes.len()))
+    }
+
+    /// Makes the rows no wider than so many columns, where there is no row yet.
+    pub fn fit(&mut self, columns: usize)
+        requires { columns ≤ self.old.width }
+        ensures shown { (column row : ℕ) → final self.new column row ≡ final self.old column row }
+        ensures least { columns ≤ self.new.width }
+        ensures most { self.new.width ≤ self.old.width }
+        ensures rows { self.new.rows ≡ self.old.rows }
+        ensures room { self.new.room ≡ self.old.room }
+        ensures background { self.new.background ≡ self.old.background }
+    {
+        if self.rows == 0 {
+            self.width = columns;
+        }
+    }
+
+    /// Gives the rows another width, and makes memory for so many of them.
+    fn lay_out(&mut self, width: usize, rows: usize) -> Result<(), AllocError>
+        requires narrow { width ≤ 2000000 }
+        requires few { rows ≤ 1000006 }
+        ensures shown { OnOk result ((column row : ℕ) → column < width
+            → final self.new column row ≡ final self.old column row) }
+        ensures all { OnOk result (self.old.width ≤ width → (column row : ℕ)
+            → final self.new column row ≡ final self.old column row) }
+        ensures width { OnOk result (self.new.width ≡ width) }
+        ensures room { OnOk result (4 * (rows * self.new.width) ≤ self.new.room) }
+        ensures rows { OnOk result (self.new.rows ≡ self.old.rows) }
+        ensures background { OnOk result (self.new.background ≡ self.old.background) }
+        ensures refused { OnErr result (self.new ≡ self.old) }
+    {
+        let alloc = *self.bytes.allocator();
+        let mut bytes = Vec::with_capacity(alloc, 4 * (rows.max(self.rows) * width))?;
+        let kept = width.min(self.width);
+        'copied: for row in 0..self.rows {
+            let start = 4 * (row * self.width);
+            let old = &self.bytes[start..start + 4 * kept];
+            add_row(&mut bytes, old, width - kept, self.background)?;
+        }
+        self.bytes = bytes;
+        self.width = width;
+        Ok(())
+    }
+
+    /// Appends a row of these pixels, and background to their right. It does not allocate.
+    pub fn append(&mut self, pixels: &[[u8; 4]])
+        requires within { length pixels.now ≤ self.old.width }
+        requires few { self.old.rows < 1000006 }
+        requires room { 4 * ((self.old.rows + 1) * self.old.width) ≤ self.old.room }
+        ensures shown { (column row : ℕ) → final self.new column row
+            ≡ (if row == self.old.rows
+            then slice_index_or pixels.now column self.old.background
+            else final self.old column row) }
+        ensures width { self.new.width ≡ self.old.width }
+        ensures rows { self.new.rows ≡ self.old.rows + 1 }
+        ensures room { self.old.room ≤ self.new.room }
+        ensures background { self.new.background ≡ self.old.background }
+    {
+        let rest = self.width - pixels.len();
+        let _added = add_row(
+            &mut self.bytes,
+            pixels.as_flattened(),
+            rest,
+            self.background,
+        );
+        self.rows += 1;
+    }
+
+    /// Returns the bytes of the picture of this size, and keeps no row.
+    pub fn take(&mut self, width: usize, height: usize) -> Result<Vec<u8>, AllocError>
+        requires narrow { width ≤ 1000000 }
+        requires few { height ≤ 1000000 }
+        requires small { width * height ≤ 67108864 }
+        ensures ok { IfOk result (λ bytes. bytes.items ≡ picture (final self.old) width height) }
+        ensures len { IfOk result (λ bytes. length bytes.items ≡ 4 * (width * height)) }
+        ensures left { self.new.rows ≤ self.old.rows }
+        ensures background { self.new.background ≡ self.old.background }
+    {
+        self.match_width(width, height)?;
+        let alloc = *self.bytes.allocator();
+        let rows = mem::replace(&mut self.rows, 0);
+        let mut bytes = mem::replace(&mut self.bytes, Vec::new(alloc));
+        bytes.truncate(4 * (height * width));
+        add_pixels(
+            &mut bytes,
+            height.saturating_sub(rows) * width,
+            self.background,
+        )?;
+        Ok(bytes)
+    }
+
+    /// Gives the rows this width where they have another, and makes memory for so many of them.
+    fn match_width(&mut self, width: usize, rows: usize) -> Result<(), AllocError>
+        requires narrow { width ≤ 1000000 }
+        requires few { rows ≤ 1000000 }
+        ensures shown { OnOk result ((column row : ℕ) → column < width
+            → final self.new column row ≡ final self.old column row) }
+        ensures width { OnOk result (self.new.width ≡ width) }
+        ensures rows { OnOk result (self.new.rows ≡ self.old.rows) }
+        ensures background { OnOk result (self.new.background ≡ self.old.background) }
+        ensures refused { OnErr result (self.new ≡ self.old) }
+    {
+        if width == self.width {
+            return Ok(());
+        }
+        self.lay_out(width, rows)
+    }
+}
+
+/// Appends a row of these pixels and so many of the background.
+fn add_row(
+    bytes: &mut Vec<u8>,
+    pixels: &[u8],
+    rest: usize,
+    background: [u8; 4],
+) -> Result<(), AllocError>
+    requires { length bytes.old.items + length pixels.now + 4 * rest < 2 ^ 63 }
+    ensures ok { OnOk result (bytes.new.items
+        ≡ bytes.old.items ++ (pixels.now ++ joined (λ _. background) rest)) }
+    ensures within_capacity { length bytes.old.items + length pixels.now + 4 * rest
+        ≤ vec_capacity bytes.old → IsOk result }
+    ensures capacity { vec_capacity bytes.old ≤ vec_capacity bytes.new }
+{
+    bytes.extend_from_slice(pixels)?;
+    add_pixels(bytes, rest, background)
+}
