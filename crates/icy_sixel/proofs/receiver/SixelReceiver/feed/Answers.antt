@@ -19,7 +19,7 @@ use Rattle.icy_sixel.specs.declared.receiver.Open.{Open}
 use Rattle.sixel_decoder.proofs.Feeding.{payload_refused}
 use Rattle.sixel_decoder.proofs.Answering.{dcs_count-most, frame_over, string_over}
 use Rattle.sixel_decoder.proofs.Ended.{dcs_count_ended, status_ended, dcs_fault_ended}
-use Rattle.icy_sixel.proofs.Playing.{frame_refused, string_refused}
+use Rattle.icy_sixel.proofs.Chunks.{frame_refused, string_refused}
 use Rattle.icy_sixel.proofs.receiver.SixelReceiver.feed.Goals as goal
 use Rattle.icy_sixel.proofs.receiver.SixelReceiver.feed.Goals.{in-Nothing, in-Payload+in_ok-feed-in-Payload, in-ControlString+in_ok-feed-in-ControlString}
 
