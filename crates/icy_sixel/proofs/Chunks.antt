@@ -8,11 +8,10 @@ use Rattle.sixel_base.specs.declared.error.SixelError.{SixelError}
 use Rattle.sixel_base.specs.Fault.{Faults}
 use Rattle.sixel_base.specs.Bytes.{front, first_terminator}
 use Rattle.sixel_base.specs.History.{history_of}
-use Rattle.sixel_base.specs.Payload.{fed_fault, first_fault, settled}
-use Rattle.sixel_base.specs.Payload as payloads
+use Rattle.sixel_base.specs.Payload.{first_fault}
 use Rattle.sixel_base.specs.Settings.{Settings}
 use Rattle.sixel_base.specs.Status.{status_of}
-use Rattle.sixel_base.specs.Dcs.{dcs_status, dcs_fault, dcs_growths}
+use Rattle.sixel_base.specs.Dcs.{dcs_status}
 use Rattle.sixel_base.specs.Dcs as strings
 use Rattle.icy_sixel.specs.declared.script.Status.TheVariants.{Payload, Dcs}
 use Rattle.icy_sixel.specs.Receiver.{Form, Nothing, OfPayload, OfString, count, status, fault}
@@ -20,11 +19,10 @@ use Rattle.icy_sixel.specs.Receiver.{growths, is_over, end_fault, end_wants}
 use Rattle.icy_sixel.specs.inside.Session.{IsWhole, has_ended}
 use Rattle.sixel_decoder.proofs.Framing.{Faults-along}
 use Rattle.sixel_decoder.proofs.Appending.{first_terminator-ended}
-use Rattle.sixel_decoder.proofs.Ended.{front_ended, count_ended, settled_ended, fed_fault_stays}
-use Rattle.sixel_decoder.proofs.Ended.{growths_stay, status_ended, dcs_count_ended, dcs_fault_ended}
-use Rattle.sixel_decoder.proofs.Ended.{dcs_fault_stays, dcs_growths_stay}
+use Rattle.sixel_decoder.proofs.Ended.{front_ended, count_ended, settled_ended}
+use Rattle.sixel_decoder.proofs.Ended.{status_ended, dcs_count_ended, dcs_fault_ended}
 use Rattle.sixel_decoder.proofs.Terminating.{count-fits}
-use Rattle.sixel_decoder.proofs.Answering.{dcs_count-fits}
+use Rattle.sixel_decoder.proofs.Answering.{dcs_count-fits, frame_refused, string_refused}
 
 -- what was fed and what is left make up all bytes, also after one chunk more
 pub rejoined : (before chunk after left rest bytes : List ℕ) → after ≡ before ++ chunk
@@ -34,29 +32,6 @@ rejoined before chunk after left rest bytes fed split joined =
     ∙ (append_assoc before chunk left ∙ (ap (λ (w : List ℕ). before ++ w) split ∙ joined))
 
 -- ---- what a beginning is rejected for is what all bytes are rejected for
-
-pub frame_refused : (e : SixelError) (limit : ℕ) (fed left bytes : List ℕ) (n : ℕ)
-    → fed ++ left ≡ bytes
-    → Faults e (nat_lt n (payloads.growths (settled fed))) (fed_fault limit fed)
-    → Faults e (nat_lt 0 (payloads.growths (settled bytes))) (fed_fault limit bytes)
-frame_refused e limit fed left bytes n joined refused =
-    subst (λ (w : List ℕ). Faults e (nat_lt 0 (payloads.growths (settled w))) (fed_fault limit w))
-    joined
-    (Faults-along e _ (nat_lt 0 (payloads.growths (settled (fed ++ left)))) (fed_fault limit fed)
-    (fed_fault limit (fed ++ left))
-    (λ may. grind (arith, nat_tests, growths_stay fed left))
-    (fed_fault_stays limit fed left) refused)
-
-pub string_refused : (e : SixelError) (limit : ℕ) (fed left bytes : List ℕ) (n : ℕ)
-    → fed ++ left ≡ bytes
-    → Faults e (nat_lt n (dcs_growths fed)) (dcs_fault limit fed)
-    → Faults e (nat_lt 0 (dcs_growths bytes)) (dcs_fault limit bytes)
-string_refused e limit fed left bytes n joined refused =
-    subst (λ (w : List ℕ). Faults e (nat_lt 0 (dcs_growths w)) (dcs_fault limit w)) joined
-    (Faults-along e _ (nat_lt 0 (dcs_growths (fed ++ left))) (dcs_fault limit fed)
-    (dcs_fault limit (fed ++ left))
-    (λ may. grind (arith, nat_tests, dcs_growths_stay fed left))
-    (dcs_fault_stays limit fed left) refused)
 
 refused : (e : SixelError) (limit : ℕ) (form : Form) (fed left bytes : List ℕ) (n : ℕ)
     → fed ++ left ≡ bytes

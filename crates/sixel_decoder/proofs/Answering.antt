@@ -10,7 +10,8 @@ use Rattle.sixel_base.specs.declared.error.SixelError.TheVariants.{InvalidDimens
 use Rattle.sixel_base.specs.Fault.{Fault, Faults, IsFault, StreamFailed}
 use Rattle.sixel_base.specs.Bytes.{front, count, first_terminator}
 use Rattle.sixel_base.specs.History.{history_of}
-use Rattle.sixel_base.specs.Payload.{closed, first_fault, fed_fault, settled, growths, payload_fault, payload_image, payload_registers}
+use Rattle.sixel_base.specs.Payload.{closed, first_fault, fed_fault, settled, growths}
+use Rattle.sixel_base.specs.Payload.{payload_fault, payload_wants, payload_image, payload_registers}
 use Rattle.sixel_base.specs.Stroke.{Origin}
 use Rattle.sixel_base.specs.declared.state.DecoderState.{DecoderState}
 use Rattle.sixel_base.specs.declared.status.SixelFeedResult.{SixelFeedResult}
@@ -32,9 +33,15 @@ use Rattle.sixel_base.specs.OneShot.{Found, found, found_fault, IsFoundImage, Ar
 use Rattle.sixel_decoder.specs.Session.{Session}
 use Rattle.sixel_decoder.proofs.Appending.{shown_after, first_terminator-ended, before_terminator-whole}
 use Rattle.sixel_decoder.proofs.Continuing.{heading, reading_fits}
-use Rattle.sixel_decoder.proofs.Ended.{count_ended, settled_ended, status_ended, dcs_count_ended, dcs_fault_ended, dcs_growths_ended, found_fault_ended, found_image_ended, found_registers_ended}
+use Rattle.sixel_decoder.proofs.Ended.{count_ended, settled_ended, status_ended}
+use Rattle.sixel_decoder.proofs.Ended.{fed_fault_stays, growths_stay}
+use Rattle.sixel_decoder.proofs.Ended.{dcs_count_ended, dcs_fault_ended, dcs_growths_ended}
+use Rattle.sixel_decoder.proofs.Ended.{dcs_fault_stays, dcs_growths_stay}
+use Rattle.sixel_decoder.proofs.Ended.{found_fault_ended, found_image_ended, found_registers_ended}
 use Rattle.sixel_decoder.proofs.Ending.{drop-count, escape_waits, failing_stays}
+use Rattle.sixel_decoder.proofs.Feeding.{payload_refused}
 use Rattle.sixel_decoder.proofs.Finishing.{found_reading}
+use Rattle.sixel_decoder.proofs.Framing.{Faults-along}
 use Rattle.sixel_decoder.proofs.Terminating.{count-fits, count_open, count_at, status_at}
 
 -- nothing is refused where there is neither a fault nor a want of memory
@@ -78,6 +85,26 @@ frame_over limit (Err e) fed piece fed' t some joined sound counted stands refus
     let same : settled fed' ≡ settled fed = ap settled joined ∙ settled_ended fed piece t some in
     let fine : fed_fault limit fed' ≡ None = ap (first_fault limit) same ∙ sound in
     absurd (never_refused e _ (no_growth _ _ (ap growths same)) (subst (λ f. Faults e (nat_lt (growths (settled fed)) (growths (settled fed'))) f) fine refused))
+
+-- what a beginning is refused for is what all bytes are refused for
+pub frame_refused : (e : SixelError) (limit : ℕ) (fed left bytes : List ℕ) (n : ℕ)
+    → fed ++ left ≡ bytes → Faults e (nat_lt n (growths (settled fed))) (fed_fault limit fed)
+    → Faults e (nat_lt 0 (growths (settled bytes))) (fed_fault limit bytes)
+frame_refused e limit fed left bytes n joined refused =
+    let all : List ℕ = fed ++ left in
+    subst (λ (w : List ℕ). Faults e (nat_lt 0 (growths (settled w))) (fed_fault limit w)) joined
+    (Faults-along e _ (nat_lt 0 (growths (settled all))) (fed_fault limit fed) (fed_fault limit all)
+    (λ may. grind (arith, nat_tests, growths_stay fed left))
+    (fed_fault_stays limit fed left) refused)
+
+-- so decoding all bytes in one call is refused with the error of a feed
+pub frame_refused_with : (limit n : ℕ) (result : Result SixelFeedResult SixelError)
+    (fed left bytes : List ℕ) → fed ++ left ≡ bytes
+    → IfErr result (λ e. Faults e (nat_lt n (growths (settled fed))) (fed_fault limit fed))
+    → (e : SixelError) → result ≡ Err e
+    → Faults e (payload_wants limit bytes) (payload_fault limit bytes)
+frame_refused_with limit n result fed left bytes joined refused e is =
+    payload_refused e limit bytes (frame_refused e limit fed left bytes n joined (rw is at refused))
 
 -- ---- a control string
 
@@ -184,12 +211,41 @@ string_within (Ok r) fed piece fed' joined counted = omega (arith, counted, ap d
 string_within (Err e) fed piece fed' joined counted = tt
 
 -- what follows the end means nothing
-pub string_same : (limit : ℕ) (result : Result SixelDcsFeedResult SixelError) (fed more : List ℕ) → IfOk result (λ r. r.status ≡ dcs_status fed)
+pub same_string : (limit : ℕ) (fed more : List ℕ) → has_ended (dcs_status fed) ≡ true
+    → IsSameString limit fed (fed ++ more)
+same_string limit fed more over = record {
+  count = dcs_count_ended fed more over;
+  status = status_ended fed more over;
+  fault = dcs_fault_ended limit fed more over;
+}
+
+-- so a feed that reports the end is the last one with an effect
+pub string_same : (limit : ℕ) (result : Result SixelDcsFeedResult SixelError) (fed more : List ℕ)
+    → IfOk result (λ r. r.status ≡ dcs_status fed)
     → IfOk result (λ r. has_ended r.status ≡ true → IsSameString limit fed (fed ++ more))
 string_same limit (Ok r) fed more stands = λ ended.
-    let over : has_ended (dcs_status fed) ≡ true = ap has_ended (sym stands) ∙ ended in
-    record { count = dcs_count_ended fed more over; status = status_ended fed more over; fault = dcs_fault_ended limit fed more over }
+    same_string limit fed more (ap has_ended (sym stands) ∙ ended)
 string_same limit (Err e) fed more stands = tt
+
+-- what a beginning is refused for is what all bytes are refused for
+pub string_refused : (e : SixelError) (limit : ℕ) (fed left bytes : List ℕ) (n : ℕ)
+    → fed ++ left ≡ bytes → Faults e (nat_lt n (dcs_growths fed)) (dcs_fault limit fed)
+    → Faults e (nat_lt 0 (dcs_growths bytes)) (dcs_fault limit bytes)
+string_refused e limit fed left bytes n joined refused =
+    let all : List ℕ = fed ++ left in
+    subst (λ (w : List ℕ). Faults e (nat_lt 0 (dcs_growths w)) (dcs_fault limit w)) joined
+    (Faults-along e _ (nat_lt 0 (dcs_growths all)) (dcs_fault limit fed) (dcs_fault limit all)
+    (λ may. grind (arith, nat_tests, dcs_growths_stay fed left))
+    (dcs_fault_stays limit fed left) refused)
+
+-- so the error of a feed is that of all bytes
+pub string_refused_with : (limit n : ℕ) (result : Result SixelDcsFeedResult SixelError)
+    (fed left : List ℕ)
+    → IfErr result (λ e. Faults e (nat_lt n (dcs_growths fed)) (dcs_fault limit fed))
+    → (e : SixelError) → result ≡ Err e
+    → Faults e (nat_lt 0 (dcs_growths (fed ++ left))) (dcs_fault limit (fed ++ left))
+string_refused_with limit n result fed left refused e is =
+    string_refused e limit fed left (fed ++ left) n refl (rw is at refused)
 
 -- ---- what finishing a string in its payload answers
 
@@ -211,13 +267,14 @@ sound_by limit payload rest (Some t) is come sound =
     ap (λ (w : Option ℕ). first_fault limit (if is_some w then history_of (front payload) else closed (history_of (front payload)))) (sym is) ∙ sound
 
 -- then its image is refused for want of memory alone
-pub string_refused : (result : Result Picture SixelError) (intake : Session) (decoder : DecoderState) (ended : Option SixelDcsFeedStatus) (bytes : List ℕ)
+pub string_refused_at_end : (result : Result Picture SixelError) (intake : Session)
+    (decoder : DecoderState) (ended : Option SixelDcsFeedStatus) (bytes : List ℕ)
     → IsInPayload intake decoder ended bytes → has_come ended ≡ true
     → IfErr result (λ error. MatchBool intake.is_refused (IsFault error StreamFailed)
     (Faults error (is_none (payload_fault intake.origin.pixel_limit intake.bytes)) (payload_fault intake.origin.pixel_limit intake.bytes)))
     → IfErr result (λ error. Faults error (has_ended (dcs_status bytes)) (end_fault (dcs_status bytes)))
-string_refused (Ok picture) intake decoder ended bytes is come refused = tt
-string_refused (Err e) intake decoder ended bytes is come refused =
+string_refused_at_end (Ok picture) intake decoder ended bytes is come refused = tt
+string_refused_at_end (Err e) intake decoder ended bytes is come refused =
     let limit = intake.origin.pixel_limit in
     let over : has_ended (dcs_status bytes) ≡ true = string_ended intake decoder ended bytes is ∙ come in
     let fine : payload_fault limit intake.bytes ≡ None =

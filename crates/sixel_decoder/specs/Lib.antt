@@ -1,4 +1,6 @@
+pub mod DcsCalls
 pub mod Paints
+pub mod PayloadCalls
 pub mod PictureView
 pub mod Session
 pub mod inside

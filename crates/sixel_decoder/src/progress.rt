@@ -1,15 +1,11 @@
 //! What a control string session was fed, and how far its control string has come.
+//!
+//! The contracts of its calls are the records of `DcsCalls`.
 
-ghost use Rattle.std.specs.Prelude.{◌≡◌, ◌+◌, ◌*◌, ◌≤◌, ◌++◌, [], false, true, nat_lt, None};
-ghost use Rattle.std.specs.Prelude.{OnOk, OnErr, IfOk, IfErr, MatchBool, List, ℕ};
-ghost use Rattle.sixel_decoder.specs.Paints.{dcs_sixels, dcs_least_count};
-ghost use Rattle.sixel_base.specs.Dcs.{dcs_count, dcs_status, dcs_fault, dcs_growths};
-ghost use Rattle.sixel_base.specs.Dcs.{dcs_in_payload, dcs_size};
-ghost use Rattle.sixel_base.specs.Dcs.{dcs_reached_area, has_ended, has_come, end_fault, stage};
-ghost use Rattle.sixel_base.specs.Dcs.{IsStringImage, AreStringRegisters};
-ghost use Rattle.sixel_base.specs.Fault.{Faults, IsFault, DcsStreamFailed};
-ghost use Rattle.sixel_base.specs.OneShot.{found, found_fault, IsDecodedAs};
-ghost use Rattle.sixel_base.specs.OneShot.{IsFoundImage, AreFoundRegisters};
+ghost use Rattle.std.specs.Prelude.{◌≡◌, true, false};
+ghost use Rattle.sixel_base.specs.Dcs.{dcs_in_payload, has_come};
+ghost use Rattle.sixel_decoder.specs.DcsCalls.{begun, IsFed, IsFinished, IsSizeSoFar};
+ghost use Rattle.sixel_decoder.specs.DcsCalls.{IsWriteCount, IsPaintCount};
 ghost use Rattle.sixel_decoder.specs.PictureView.{picture_value};
 ghost use Rattle.sixel_decoder.specs.declared.dcs_stream.Phase.TheVariants.{Refused};
 
@@ -47,14 +43,7 @@ impl Model for Progress {
 impl Progress {
     /// The progress of a session that was fed nothing.
     pub fn new(alloc: Global, decoder: DecoderState) -> Progress
-        ensures { result ≡ record {
-          decoder = decoder;
-          bytes = [];
-          is_refused = false;
-          writes = 0;
-          room = 0;
-          paints = 0;
-        } }
+        ensures { result ≡ begun decoder }
     {
         Progress {
             phase: Phase::Start,
@@ -67,21 +56,7 @@ impl Progress {
 
     /// Reads a piece as far as the control string goes.
     pub fn feed(&mut self, piece: &[u8]) -> Result<SixelDcsFeedResult>
-        ensures decoder { self.new.decoder ≡ self.old.decoder }
-        ensures bytes { self.new.bytes ≡ self.old.bytes ++ piece.now }
-        ensures ok { OnOk result ((self.old.is_refused ≡ false) × (self.new.is_refused ≡ false)) }
-        ensures err { OnErr result (self.new.is_refused ≡ true) }
-        ensures faultless { OnOk result
-            (dcs_fault self.old.decoder.pixel_limit self.new.bytes ≡ None) }
-        ensures sound { self.old.is_refused ≡ false
-            → dcs_fault self.old.decoder.pixel_limit self.old.bytes ≡ None }
-        ensures consumed { IfOk result
-            (λ fed. dcs_count self.old.bytes + fed.consumed ≡ dcs_count self.new.bytes) }
-        ensures status { IfOk result (λ fed. fed.status ≡ dcs_status self.new.bytes) }
-        ensures error { IfErr result (λ error. MatchBool self.old.is_refused
-            (IsFault error DcsStreamFailed)
-            (Faults error (nat_lt (dcs_growths self.old.bytes) (dcs_growths self.new.bytes))
-            (dcs_fault self.old.decoder.pixel_limit self.new.bytes))) }
+        ensures { IsFed self.old self.new piece.now result }
     {
         self.log.extend(piece);
         match follow(
@@ -101,12 +76,7 @@ impl Progress {
 
     /// How many pixels were copied or filled so far, to grow the canvas of the payload.
     pub fn writes(&self) -> u64
-        ensures value { result ≡ self.now.writes }
-        ensures at_least { self.now.is_refused ≡ false
-            → dcs_reached_area self.now.bytes ≤ result }
-        ensures at_most { result ≤ 3 * dcs_reached_area self.now.bytes }
-        ensures room { self.now.room ≤ 2 * dcs_reached_area self.now.bytes }
-        ensures refused { self.now.is_refused ≡ true → result ≡ 0 }
+        ensures { IsWriteCount self.now result }
     {
         match &self.phase {
             Phase::Payload(intake) => intake.writes(),
@@ -116,12 +86,7 @@ impl Progress {
 
     /// How many pixels sixels of the payload have painted so far, at most.
     pub fn paints(&self) -> u64
-        ensures value { result ≡ self.now.paints }
-        ensures at_least { self.now.is_refused ≡ false
-            → dcs_least_count self.now.bytes ≤ result }
-        ensures at_most { result ≤ 3 * dcs_reached_area self.now.bytes
-            + 4602 * dcs_sixels self.now.bytes }
-        ensures refused { self.now.is_refused ≡ true → result ≡ 0 }
+        ensures { IsPaintCount self.now result }
     {
         let Phase::Payload(intake) = &self.phase else {
             return 0;
@@ -139,8 +104,7 @@ impl Progress {
 
     /// The width and the height of what was fed of the payload, unless it was refused.
     pub fn size_so_far(&self) -> Option<(usize, usize)>
-        ensures accepted { self.now.is_refused ≡ false → result ≡ dcs_size self.now.bytes }
-        ensures refused { self.now.is_refused ≡ true → result ≡ None }
+        ensures { IsSizeSoFar self.now result }
     {
         match &self.phase {
             Phase::Payload(intake) => intake.size_so_far(),
@@ -150,26 +114,7 @@ impl Progress {
 
     /// The picture of the payload, once the control string has ended.
     pub fn finish(self) -> Result<Picture>
-        ensures image { IfOk result
-            (λ picture. IsStringImage self.decoder (stage self.bytes) (picture_value picture)) }
-        ensures registers { IfOk result
-            (λ picture. AreStringRegisters self.decoder (stage self.bytes) picture.registers) }
-        ensures found_image { IfOk result
-            (λ picture. IsFoundImage self.decoder (found self.bytes) (picture_value picture)) }
-        ensures found_registers { IfOk result
-            (λ picture. AreFoundRegisters self.decoder (found self.bytes) picture.registers) }
-        ensures area { IfOk result (λ picture.
-            picture.width * picture.height ≤ self.decoder.pixel_limit) }
-        ensures faultless { OnOk result
-            (found_fault self.decoder.pixel_limit (found self.bytes) ≡ None) }
-        ensures as_decoded { (more : List ℕ) → IfOk result (λ picture. IsDecodedAs self.decoder
-            (found (self.bytes ++ more)) (picture_value picture) picture.registers) }
-        ensures accepted { OnOk result (self.is_refused ≡ false) }
-        ensures ended { OnOk result (has_ended (dcs_status self.bytes) ≡ true) }
-        ensures error { IfErr result (λ error. MatchBool self.is_refused
-            (IsFault error DcsStreamFailed)
-            (Faults error (has_ended (dcs_status self.bytes))
-            (end_fault (dcs_status self.bytes)))) }
+        ensures { IsFinished picture_value (λ picture. picture.registers) self result }
     {
         let Progress { phase, ended, .. } = self;
         match phase {

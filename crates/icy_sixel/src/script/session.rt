@@ -3,7 +3,7 @@
 ghost use Rattle.std.specs.Prelude.{◌≡◌, ◌++◌, [], true, false, nat_lt, None, length, ◌+◌, ◌<◌};
 ghost use Rattle.std.specs.Prelude.{OnOk, IfOk, IfErr, MatchResult, List, ℕ};
 ghost use Rattle.sixel_base.specs.Fault.{Faults};
-ghost use Rattle.icy_sixel.specs.Receiver.{Form, begun, count, fault, growths, is_open, status};
+ghost use Rattle.icy_sixel.specs.Receiver.{begun, count, fault, growths, is_open, status};
 ghost use Rattle.icy_sixel.specs.Script.{IsSessionOutcome};
 ghost use Rattle.icy_sixel.specs.inside.Session.{IsWhole, has_ended, meaning};
 

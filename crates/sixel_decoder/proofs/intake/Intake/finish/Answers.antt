@@ -1,26 +1,54 @@
-use Rattle.std.proofs.Common.{◌≡◌, Option, Some, Ok, Err, Result, subst}
-use Rattle.std.specs.Prelude.{IfOk, is_some}
+use Rattle.std.proofs.Common.{◌≡◌, Option, Some, Ok, Err, false, Result, subst, refl, rules}
+use Rattle.std.specs.Prelude.{is_some}
 use Rattle.sixel_base.specs.declared.error.SixelError.{SixelError}
 use Rattle.sixel_base.specs.Bytes.{front}
-use Rattle.sixel_base.specs.History.{History, history_of}
+use Rattle.sixel_base.specs.History.{history_of}
 use Rattle.sixel_base.specs.Stroke.{Origin}
-use Rattle.sixel_base.specs.Payload.{image_of}
+use Rattle.sixel_decoder.specs.PayloadCalls.{IsFinished}
 use Rattle.sixel_decoder.specs.PictureView.{picture_value}
+use Rattle.sixel_decoder.specs.Session.{Session}
 use Rattle.sixel_decoder.specs.inside.Painter.{Ends}
+use Rattle.sixel_decoder.specs.inside.Frame.{Decodes}
 use Rattle.sixel_decoder.specs.inside.Intake.{session_of, HasRead}
 use Rattle.sixel_decoder.specs.declared.frame.Frame.{Frame}
 use Rattle.sixel_decoder.specs.declared.painter.Picture.{Picture}
+use Rattle.sixel_decoder.proofs.Feeding.{payload_ends}
 use Rattle.sixel_decoder.proofs.intake.Intake.finish.Goals as goal
 
--- the image of a picture that ends a history
-image_of_ends : (result : Result Picture SixelError) (o : Origin) (h : History) → Ends result o h → IfOk result (λ picture. picture_value picture ≡ image_of o h)
-image_of_ends (Ok picture) o h is = is.1
-image_of_ends (Err e) o h is = tt
+-- how a session is finished whose frame ended its history
+finished_by : (result : Result Picture SixelError) (s : Session) → s.is_refused ≡ false
+    → Ends result s.origin (history_of (front s.bytes))
+    → IsFinished picture_value (λ picture. picture.registers) s result
+finished_by (Ok picture) s accepted ends = record {
+  image = ends.1;
+  faultless = ends.0;
+  registers = ends.2;
+  area = ends.3;
+  pixels = picture.whole;
+  accepted = accepted;
+  error = tt;
+  refused = λ e is. absurd cc;
+}
+finished_by (Err e) s accepted ends =
+    let decodes : Decodes (Err e) s.origin s.bytes = payload_ends (Err e) s.origin s.bytes ends in
+    record {
+      image = tt;
+      faultless = tt;
+      registers = tt;
+      area = tt;
+      pixels = tt;
+      accepted = tt;
+      error = rw accepted ends;
+      refused = λ error is sound. search (rules, decodes, is);
+    }
 
-pub returns-in-Some-clause-image : goal.returns-in-Some-clause-image
-returns-in-Some-clause-image c =
+pub returns-in-Some : goal.returns-in-Some
+returns-in-Some c =
     let inside = c.self.inside in
     let origin : Origin = (session_of inside).origin in
     let read : HasRead (Some c.in-Some.frame) origin inside.terminator inside.log.bytes =
-    subst (λ (w : Option Frame). HasRead w origin inside.terminator inside.log.bytes) c.in-Some.is c.self.invariant in
-    rw (← c.self.view_is) (image_of_ends c.finish.result origin (history_of (front inside.log.bytes)) (c.finish.ensures origin _ (is_some inside.terminator) read.1))
+    subst (λ (w : Option Frame). HasRead w origin inside.terminator inside.log.bytes)
+    c.in-Some.is c.self.invariant in
+    let ends = c.finish.ensures origin _ (is_some inside.terminator) read.1 in
+    rw (← c.self.view_is)
+    (finished_by c.finish.result (session_of inside) (rw c.in-Some.is refl) ends)

@@ -1,10 +1,13 @@
-use Rattle.std.proofs.Common.{◌≡◌, ◌++◌, false, refl}
-use Rattle.std.specs.Prelude.{nat_lt}
+use Rattle.std.proofs.Common.{◌≡◌, ℕ, List, ◌++◌, Result, Ok, Err, false, refl, rules}
+use Rattle.std.specs.Prelude.{Bool, nat_lt, None}
 use Rattle.std.proofs.lemmas.Bool.{false_from_ne_true}
+use Rattle.sixel_base.specs.declared.error.SixelError.{SixelError}
+use Rattle.sixel_base.specs.declared.status.SixelDcsFeedResult.{SixelDcsFeedResult}
 use Rattle.sixel_base.specs.Dcs.{dcs_fault, dcs_growths}
 use Rattle.sixel_base.specs.Fault.{Faults, IsFault, DcsStreamFailed}
 use Rattle.sixel_decoder.specs.inside.Following.{is_refused}
-use Rattle.sixel_decoder.proofs.Answering.{MatchBool-from_each, followed_sound}
+use Rattle.sixel_decoder.proofs.Answering.{MatchBool-from_each, followed_sound, string_over}
+use Rattle.sixel_decoder.proofs.Answering.{string_refused_with, string_same, string_within}
 use Rattle.sixel_decoder.proofs.progress.Progress.feed.Goals as goal
 
 -- a session that a feed did not refuse was accepted before it
@@ -16,59 +19,68 @@ invariant_of-self c =
     let inside = c.self.inside in
     rw c.extend.ensures (c.in-Ok.ensures.follows inside.log.bytes (accepted c) c.self.invariant).3
 
-pub returns-in-Ok-clause-decoder : goal.returns-in-Ok-clause-decoder
-returns-in-Ok-clause-decoder c = rw (← c.self.view_is) refl
-
-pub returns-in-Ok-clause-bytes : goal.returns-in-Ok-clause-bytes
-returns-in-Ok-clause-bytes c = rw (← c.self.view_is) c.extend.ensures
-
-pub returns-in-Ok-clause-ok : goal.returns-in-Ok-clause-ok
-returns-in-Ok-clause-ok c =
+pub returns-in-Ok : goal.returns-in-Ok
+returns-in-Ok c =
     let inside = c.self.inside in
-    rw (← c.self.view_is) (accepted c, (c.in-Ok.ensures.follows inside.log.bytes (accepted c) c.self.invariant).2)
+    let limit : ℕ = inside.decoder.pixel_limit in
+    let bytes : List ℕ = inside.log.bytes in
+    let piece : List ℕ = c.args.piece.now in
+    let now : List ℕ = bytes ++ piece in
+    let result : Result SixelDcsFeedResult SixelError = Ok c.in-Ok.fed in
+    let goes = c.in-Ok.ensures.follows bytes (accepted c) c.self.invariant in
+    let sound : is_refused inside.phase ≡ false → dcs_fault limit bytes ≡ None =
+    followed_sound inside.phase inside.decoder inside.ended bytes c.self.invariant in
+    record {
+      start = rw (← c.self.view_is) refl;
+      bytes = rw (← c.self.view_is) c.extend.ensures;
+      ok = rw (← c.self.view_is) (accepted c, goes.2);
+      err = search rules;
+      faultless = rw (← c.self.view_is, c.extend.ensures) goes.4;
+      sound = rw (← c.self.view_is) sound;
+      over = rw (← c.self.view_is) (λ was ended.
+          string_over limit result bytes piece now ended refl (sound was) goes.0 goes.1 tt);
+      over_for_good = rw (← c.self.view_is, c.extend.ensures) (λ more.
+          string_same limit result now more goes.1);
+      consumed = rw (← c.self.view_is, c.extend.ensures) goes.0;
+      within = string_within result bytes piece now refl goes.0;
+      status = rw c.extend.ensures goes.1;
+      error = search rules;
+      refused_for_good = λ e more is. absurd cc;
+    }
 
-pub returns-in-Ok-clause-faultless : goal.returns-in-Ok-clause-faultless
-returns-in-Ok-clause-faultless c =
+pub returns-in-Err : goal.returns-in-Err
+returns-in-Err c =
     let inside = c.self.inside in
-    rw (← c.self.view_is, c.extend.ensures) (c.in-Ok.ensures.follows inside.log.bytes (accepted c) c.self.invariant).4
-
-pub returns-in-Ok-clause-sound : goal.returns-in-Ok-clause-sound
-returns-in-Ok-clause-sound c =
-    let inside = c.self.inside in
-    rw (← c.self.view_is) (followed_sound inside.phase inside.decoder inside.ended inside.log.bytes c.self.invariant)
-
-pub returns-in-Ok-clause-consumed : goal.returns-in-Ok-clause-consumed
-returns-in-Ok-clause-consumed c =
-    let inside = c.self.inside in
-    rw (← c.self.view_is, c.extend.ensures) (c.in-Ok.ensures.follows inside.log.bytes (accepted c) c.self.invariant).0
-
-pub returns-in-Ok-clause-status : goal.returns-in-Ok-clause-status
-returns-in-Ok-clause-status c =
-    let inside = c.self.inside in
-    rw c.extend.ensures (c.in-Ok.ensures.follows inside.log.bytes (accepted c) c.self.invariant).1
-
-pub returns-in-Err-clause-decoder : goal.returns-in-Err-clause-decoder
-returns-in-Err-clause-decoder c = rw (← c.self.view_is) refl
-
-pub returns-in-Err-clause-bytes : goal.returns-in-Err-clause-bytes
-returns-in-Err-clause-bytes c = rw (← c.self.view_is) c.extend.ensures
-
-pub returns-in-Err-clause-sound : goal.returns-in-Err-clause-sound
-returns-in-Err-clause-sound c =
-    let inside = c.self.inside in
-    rw (← c.self.view_is) (followed_sound inside.phase inside.decoder inside.ended inside.log.bytes c.self.invariant)
-
-pub returns-in-Err-clause-error : goal.returns-in-Err-clause-error
-returns-in-Err-clause-error c =
-    let inside = c.self.inside in
-    let error = c.in-Err.error in
-    let bytes = inside.log.bytes in
-    let piece = c.args.piece.now in
-    let limit = inside.decoder.pixel_limit in
-    rw (← c.self.view_is, c.extend.ensures)
-    (MatchBool-from_each (is_refused inside.phase) (IsFault error DcsStreamFailed)
-    (Faults error (nat_lt (dcs_growths bytes) (dcs_growths (bytes ++ piece))) (dcs_fault limit (bytes ++ piece)))
-    c.in-Err.ensures.failed (λ fine. c.in-Err.ensures.follows bytes fine c.self.invariant))
+    let error : SixelError = c.in-Err.error in
+    let limit : ℕ = inside.decoder.pixel_limit in
+    let bytes : List ℕ = inside.log.bytes in
+    let piece : List ℕ = c.args.piece.now in
+    let now : List ℕ = bytes ++ piece in
+    let result : Result SixelDcsFeedResult SixelError = Err error in
+    let grows : Bool = nat_lt (dcs_growths bytes) (dcs_growths now) in
+    let told : is_refused inside.phase ≡ false → Faults error grows (dcs_fault limit now) =
+    λ fine. c.in-Err.ensures.follows bytes fine c.self.invariant in
+    let sound : is_refused inside.phase ≡ false → dcs_fault limit bytes ≡ None =
+    followed_sound inside.phase inside.decoder inside.ended bytes c.self.invariant in
+    record {
+      start = rw (← c.self.view_is) refl;
+      bytes = rw (← c.self.view_is) c.extend.ensures;
+      ok = search rules;
+      err = search rules;
+      faultless = search rules;
+      sound = rw (← c.self.view_is) sound;
+      over = rw (← c.self.view_is) (λ was ended.
+          string_over limit result bytes piece now ended refl (sound was) tt tt (told was));
+      over_for_good = search rules;
+      consumed = search rules;
+      within = search rules;
+      status = search rules;
+      error = rw (← c.self.view_is, c.extend.ensures)
+          (MatchBool-from_each (is_refused inside.phase) (IsFault error DcsStreamFailed)
+          (Faults error grows (dcs_fault limit now)) c.in-Err.ensures.failed told);
+      refused_for_good = rw (← c.self.view_is, c.extend.ensures) (λ e more is was.
+          string_refused_with limit _ result now more (told was) e is);
+    }
 
 pub invariant_of-self-in-Err : goal.invariant_of-self-in-Err
 invariant_of-self-in-Err c = rw c.refuse.ensures tt

@@ -1,0 +1,134 @@
+-- What the calls of a DCS session do, by the session before and after. Each field is one fact.
+-- What the bytes of a DCS sequence mean is in Dcs of sixel_base, which does not mention chunks.
+use Rattle.std.specs.Prelude.{ℕ, ◌≡◌, ◌+◌, ◌*◌, ◌≤◌, ◌++◌, List, [], length, true, false}
+use Rattle.std.specs.Prelude.{nat_lt, Option, None, Result, Ok, Err}
+use Rattle.std.specs.Prelude.{OnOk, OnErr, IfOk, IfErr, MatchBool}
+use Rattle.sixel_base.specs.declared.error.SixelError.{SixelError}
+use Rattle.sixel_base.specs.declared.state.DecoderState.{DecoderState}
+use Rattle.sixel_base.specs.declared.status.SixelDcsFeedResult.{SixelDcsFeedResult}
+use Rattle.sixel_base.specs.Dcs.{dcs_count, dcs_status, dcs_fault, dcs_growths}
+use Rattle.sixel_base.specs.Dcs.{dcs_reached_area, dcs_size, has_ended, end_fault, stage}
+use Rattle.sixel_base.specs.Dcs.{IsSameString, IsStringImage, AreStringRegisters}
+use Rattle.sixel_base.specs.Fault.{Faults, IsFault, DcsStreamFailed}
+use Rattle.sixel_base.specs.OneShot.{found, found_fault, IsFoundImage, AreFoundRegisters}
+use Rattle.sixel_base.specs.OneShot.{IsDecodedAs}
+use Rattle.sixel_base.specs.Payload.{Image}
+use Rattle.sixel_decoder.specs.Paints.{dcs_sixels, dcs_least_count}
+use Rattle.sixel_decoder.specs.Session.{DcsSession}
+
+-- a session that was fed nothing
+abbrev pub begun : DecoderState → DcsSession
+begun decoder = record {
+  decoder = decoder;
+  bytes = [];
+  is_refused = false;
+  writes = 0;
+  room = 0;
+  paints = 0;
+}
+
+-- The session reads the chunk as far as the DCS sequence goes, or rejects it.
+pub record IsFed (old new : DcsSession) (chunk : List ℕ)
+    (result : Result SixelDcsFeedResult SixelError) : Type 0 where
+  -- the decoder that the session began from stays
+  pub start : new.decoder ≡ old.decoder
+  -- the chunk follows the bytes so far
+  pub bytes : new.bytes ≡ old.bytes ++ chunk
+  -- a feed succeeds only if no earlier one failed, and leaves the session open
+  pub ok : OnOk result ((old.is_refused ≡ false) × (new.is_refused ≡ false))
+  -- an error rejects the session
+  pub err : OnErr result (new.is_refused ≡ true)
+  -- bytes that were accepted have no fault
+  pub faultless : OnOk result (dcs_fault old.decoder.pixel_limit new.bytes ≡ None)
+  -- the bytes of a session that was not rejected before have no fault either
+  pub sound : old.is_refused ≡ false → dcs_fault old.decoder.pixel_limit old.bytes ≡ None
+  -- after the end a feed consumes nothing and reports the same status
+  pub over : old.is_refused ≡ false → has_ended (dcs_status old.bytes) ≡ true
+      → result ≡ Ok (record { consumed = 0; status = dcs_status old.bytes })
+  -- no bytes that follow the end change what the sequence means
+  pub over_for_good : (more : List ℕ) → IfOk result (λ fed. has_ended fed.status ≡ true
+      → IsSameString old.decoder.pixel_limit new.bytes (new.bytes ++ more))
+  -- the bytes consumed are those of the sequence
+  pub consumed : IfOk result (λ fed. dcs_count old.bytes + fed.consumed ≡ dcs_count new.bytes)
+  -- they are at most the chunk
+  pub within : IfOk result (λ fed. fed.consumed ≤ length chunk)
+  -- the status is that of all bytes so far
+  pub status : IfOk result (λ fed. fed.status ≡ dcs_status new.bytes)
+  -- an error is the first fault of all bytes so far, or an allocation failed; after an error each
+  -- feed reports that the stream has failed
+  pub error : IfErr result (λ error. MatchBool old.is_refused
+      (IsFault error DcsStreamFailed)
+      (Faults error (nat_lt (dcs_growths old.bytes) (dcs_growths new.bytes))
+      (dcs_fault old.decoder.pixel_limit new.bytes)))
+  -- that stays so, whatever bytes follow
+  pub refused_for_good : (error : SixelError) (more : List ℕ) → result ≡ Err error
+      → old.is_refused ≡ false
+      → Faults error (nat_lt 0 (dcs_growths (new.bytes ++ more)))
+      (dcs_fault old.decoder.pixel_limit (new.bytes ++ more))
+
+-- The session ends with the image of its payload and the registers after it, or with an error.
+pub record IsFinished {A : Type 0} (image_of : A → Image) (registers_of : A → List (List ℕ))
+    (session : DcsSession) (result : Result A SixelError) : Type 0 where
+  -- the image is that of the payload
+  pub image : IfOk result (λ done.
+      IsStringImage session.decoder (stage session.bytes) (image_of done))
+  -- the registers are those that the payload leaves
+  pub registers : IfOk result (λ done.
+      AreStringRegisters session.decoder (stage session.bytes) (registers_of done))
+  -- decoding these bytes in one call returns the same image
+  pub found_image : IfOk result (λ done.
+      IsFoundImage session.decoder (found session.bytes) (image_of done))
+  -- it leaves the same registers
+  pub found_registers : IfOk result (λ done.
+      AreFoundRegisters session.decoder (found session.bytes) (registers_of done))
+  -- that stays so, whatever bytes follow
+  pub as_decoded : (more : List ℕ) → IfOk result (λ done. IsDecodedAs session.decoder
+      (found (session.bytes ++ more)) (image_of done) (registers_of done))
+  -- the area is within the limit
+  pub area : IfOk result (λ done.
+      (image_of done).width * (image_of done).height ≤ session.decoder.pixel_limit)
+  -- each pixel takes four bytes
+  pub pixels : IfOk result (λ done.
+      length (image_of done).pixels ≡ 4 * ((image_of done).width * (image_of done).height))
+  -- a sequence with an image has no fault
+  pub faultless : OnOk result (found_fault session.decoder.pixel_limit (found session.bytes) ≡ None)
+  -- a rejected session has no image
+  pub accepted : OnOk result (session.is_refused ≡ false)
+  -- a sequence has an image only once it has ended
+  pub ended : OnOk result (has_ended (dcs_status session.bytes) ≡ true)
+  -- an error is that the sequence goes on, or an allocation failed; a rejected session reports that
+  -- the stream has failed
+  pub error : IfErr result (λ error. MatchBool session.is_refused
+      (IsFault error DcsStreamFailed)
+      (Faults error (has_ended (dcs_status session.bytes)) (end_fault (dcs_status session.bytes))))
+
+-- This number of pixels was copied or filled to grow the canvas of the payload.
+pub record IsWriteCount (session : DcsSession) (writes : ℕ) : Type 0 where
+  -- the number that contracts see of the session
+  pub value : writes ≡ session.writes
+  -- at least once the painted area
+  pub at_least : session.is_refused ≡ false → dcs_reached_area session.bytes ≤ writes
+  -- at most three times the painted area
+  pub at_most : writes ≤ 3 * dcs_reached_area session.bytes
+  -- the rows have capacity for at most twice the painted area
+  pub room : session.room ≤ 2 * dcs_reached_area session.bytes
+  -- a rejected session has no canvas
+  pub refused : session.is_refused ≡ true → writes ≡ 0
+
+-- Sixels of the payload have set at most this number of pixels.
+pub record IsPaintCount (session : DcsSession) (paints : ℕ) : Type 0 where
+  -- the number that contracts see of the session
+  pub value : paints ≡ session.paints
+  -- at least what the closed sixels count
+  pub at_least : session.is_refused ≡ false → dcs_least_count session.bytes ≤ paints
+  -- at most three times the painted area, and a constant for each closed sixel
+  pub at_most : paints ≤ 3 * dcs_reached_area session.bytes + 4602 * dcs_sixels session.bytes
+  -- a rejected session has no canvas
+  pub refused : session.is_refused ≡ true → paints ≡ 0
+
+-- The image has this size so far.
+pub record IsSizeSoFar (session : DcsSession) (answer : Option (ℕ × ℕ)) : Type 0 where
+  -- width and height of the closed sixels and raster attributes, once the payload has begun
+  pub accepted : session.is_refused ≡ false → answer ≡ dcs_size session.bytes
+  -- a rejected session has none
+  pub refused : session.is_refused ≡ true → answer ≡ None

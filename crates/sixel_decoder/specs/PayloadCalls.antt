@@ -1,0 +1,135 @@
+-- What the calls of a payload session do, by the session before and after. Each field is one fact.
+-- What the bytes of a payload mean is in Payload of sixel_base, which does not mention chunks.
+use Rattle.std.specs.Prelude.{ℕ, ◌≡◌, ◌+◌, ◌*◌, ◌≤◌, ◌++◌, List, [], length, true, false}
+use Rattle.std.specs.Prelude.{nat_lt, Option, Some, None, is_none, Result, Ok, Err}
+use Rattle.std.specs.Prelude.{OnOk, OnErr, IfOk, IfErr, MatchBool}
+use Rattle.sixel_base.specs.declared.error.SixelError.{SixelError}
+use Rattle.sixel_base.specs.declared.status.SixelFeedResult.{SixelFeedResult}
+use Rattle.sixel_base.specs.declared.status.SixelFeedStatus.TheVariants.{Terminated}
+use Rattle.sixel_base.specs.Bytes.{count, first_terminator}
+use Rattle.sixel_base.specs.Fault.{Faults, IsFault, StreamFailed}
+use Rattle.sixel_base.specs.Payload.{Image, fed_fault, settled, growths}
+use Rattle.sixel_base.specs.Payload.{payload_fault, payload_wants, payload_image, payload_registers}
+use Rattle.sixel_base.specs.Reach.{reached_area, size}
+use Rattle.sixel_base.specs.Status.{status_of}
+use Rattle.sixel_base.specs.Stroke.{Origin}
+use Rattle.sixel_decoder.specs.Paints.{sixels, least_count}
+use Rattle.sixel_decoder.specs.Session.{Session}
+
+-- a session that was fed nothing
+abbrev pub begun : Origin → Session
+begun origin = record {
+  origin = origin;
+  bytes = [];
+  is_refused = false;
+  writes = 0;
+  room = 0;
+  paints = 0;
+}
+
+-- The session reads the chunk up to the first terminator of all bytes, or rejects it.
+pub record IsFed (old new : Session) (chunk : List ℕ)
+    (result : Result SixelFeedResult SixelError) : Type 0 where
+  -- the state that the session began from stays
+  pub origin : new.origin ≡ old.origin
+  -- the chunk follows the bytes so far
+  pub bytes : new.bytes ≡ old.bytes ++ chunk
+  -- a feed succeeds only if no earlier one failed, and leaves the session open
+  pub ok : OnOk result ((old.is_refused ≡ false) × (new.is_refused ≡ false))
+  -- an error rejects the session
+  pub err : OnErr result (new.is_refused ≡ true)
+  -- bytes that were accepted have no fault
+  pub faultless : OnOk result (fed_fault old.origin.pixel_limit new.bytes ≡ None)
+  -- the bytes of a session that was not rejected before have no fault either
+  pub sound : old.is_refused ≡ false → fed_fault old.origin.pixel_limit old.bytes ≡ None
+  -- after a terminator a feed consumes nothing and reports the terminator again
+  pub over : (terminator : ℕ) → old.is_refused ≡ false
+      → first_terminator old.bytes ≡ Some terminator
+      → result ≡ Ok (record { consumed = 0; status = Terminated terminator })
+  -- the bytes consumed are those of the payload
+  pub consumed : IfOk result (λ fed. count old.bytes + fed.consumed ≡ count new.bytes)
+  -- they are at most the chunk
+  pub within : IfOk result (λ fed. fed.consumed ≤ length chunk)
+  -- the status is that of all bytes so far
+  pub status : IfOk result (λ fed. fed.status ≡ status_of (first_terminator new.bytes))
+  -- an error is the first fault of all bytes so far, or an allocation failed; after an error each
+  -- feed reports that the stream has failed
+  pub error : IfErr result (λ error. MatchBool old.is_refused
+      (IsFault error StreamFailed)
+      (Faults error
+      (nat_lt (growths (settled old.bytes)) (growths (settled new.bytes)))
+      (fed_fault old.origin.pixel_limit new.bytes)))
+  -- decoding these bytes in one call fails with that error
+  pub refused : (error : SixelError) → result ≡ Err error → old.is_refused ≡ false
+      → Faults error
+      (payload_wants old.origin.pixel_limit new.bytes)
+      (payload_fault old.origin.pixel_limit new.bytes)
+  -- that stays so, whatever bytes follow
+  pub refused_for_good : (error : SixelError) (more : List ℕ) → result ≡ Err error
+      → old.is_refused ≡ false
+      → Faults error
+      (payload_wants old.origin.pixel_limit (new.bytes ++ more))
+      (payload_fault old.origin.pixel_limit (new.bytes ++ more))
+
+-- The session ends with the image of its bytes and the registers after it, or with an error.
+pub record IsFinished {A : Type 0} (image_of : A → Image) (registers_of : A → List (List ℕ))
+    (session : Session) (result : Result A SixelError) : Type 0 where
+  -- the image is that of the payload
+  pub image : IfOk result (λ done. image_of done ≡ payload_image session.origin session.bytes)
+  -- a payload with an image has no fault
+  pub faultless : OnOk result (payload_fault session.origin.pixel_limit session.bytes ≡ None)
+  -- the registers are those that the payload leaves
+  pub registers : IfOk result (λ done.
+      registers_of done ≡ payload_registers session.origin session.bytes)
+  -- the area is within the limit
+  pub area : IfOk result (λ done.
+      (image_of done).width * (image_of done).height ≤ session.origin.pixel_limit)
+  -- each pixel takes four bytes
+  pub pixels : IfOk result (λ done.
+      length (image_of done).pixels ≡ 4 * ((image_of done).width * (image_of done).height))
+  -- a rejected session has no image
+  pub accepted : OnOk result (session.is_refused ≡ false)
+  -- an error is the first fault of the payload, or an allocation failed; a rejected session reports
+  -- that the stream has failed
+  pub error : IfErr result (λ error. MatchBool session.is_refused
+      (IsFault error StreamFailed)
+      (Faults error
+      (is_none (payload_fault session.origin.pixel_limit session.bytes))
+      (payload_fault session.origin.pixel_limit session.bytes)))
+  -- decoding these bytes in one call fails with that error
+  pub refused : (error : SixelError) → result ≡ Err error → session.is_refused ≡ false
+      → Faults error
+      (payload_wants session.origin.pixel_limit session.bytes)
+      (payload_fault session.origin.pixel_limit session.bytes)
+
+-- This number of pixels was copied or filled to grow the canvas.
+pub record IsWriteCount (session : Session) (writes : ℕ) : Type 0 where
+  -- the number that contracts see of the session
+  pub value : writes ≡ session.writes
+  -- at least once the painted area
+  pub at_least : session.is_refused ≡ false → reached_area (settled session.bytes) ≤ writes
+  -- at most three times the painted area
+  pub at_most : writes ≤ 3 * reached_area (settled session.bytes)
+  -- the rows have capacity for at most twice the painted area
+  pub room : session.room ≤ 2 * reached_area (settled session.bytes)
+  -- a rejected session has no canvas
+  pub refused : session.is_refused ≡ true → writes ≡ 0
+
+-- Sixels have set at most this number of pixels.
+pub record IsPaintCount (session : Session) (paints : ℕ) : Type 0 where
+  -- the number that contracts see of the session
+  pub value : paints ≡ session.paints
+  -- at least what the closed sixels count
+  pub at_least : session.is_refused ≡ false → least_count (settled session.bytes) ≤ paints
+  -- at most three times the painted area, and a constant for each closed sixel
+  pub at_most : paints ≤ 3 * reached_area (settled session.bytes)
+      + 4602 * sixels (settled session.bytes)
+  -- a rejected session has no canvas
+  pub refused : session.is_refused ≡ true → paints ≡ 0
+
+-- The image has this size so far.
+pub record IsSizeSoFar (session : Session) (answer : Option (ℕ × ℕ)) : Type 0 where
+  -- width and height of the closed sixels and raster attributes
+  pub accepted : session.is_refused ≡ false → answer ≡ Some (size (settled session.bytes))
+  -- a rejected session has none
+  pub refused : session.is_refused ≡ true → answer ≡ None
