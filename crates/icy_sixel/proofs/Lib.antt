@@ -1,2 +1,3 @@
-pub mod Playing
+pub mod Chunks
+pub mod Outcomes
 pub mod Steps

@@ -13,6 +13,8 @@ pub use decoder::{
     SixelFeedResult, SixelFeedStatus, SixelStreamDecoder, sixel_decode, sixel_decode_from_dcs,
 };
 pub use encoder::{EncodeOptions, sixel_encode, sixel_encode_default};
+pub use receiver::{Received, SixelReceiver};
+pub use script::Status;
 pub use sixel_base::size::validate_encode_dimensions;
 pub use sixel_base::{Result, SixelError, limits};
 pub use sixel_image::{BackgroundMode, PixelAspectRatio, SixelImage};

@@ -2,13 +2,14 @@
 //!
 //! The contracts of its calls are the records of `ReceiverCalls`.
 
-ghost use Rattle.std.specs.Prelude.{◌≡◌, [], true, false, slice_index_or, slice_set};
-ghost use Rattle.sixel_base.specs.Color.{default_registers};
-ghost use Rattle.sixel_base.specs.Decoder.{limit_of, new_decoder};
+ghost use Rattle.std.specs.Prelude.{◌≡◌, true, false};
+ghost use Rattle.sixel_base.specs.Decoder.{new_decoder};
 ghost use Rattle.icy_sixel.specs.Receiver.{OfPayload, OfString, no_image, is_open, in_payload};
 ghost use Rattle.icy_sixel.specs.ReceiverCalls.{IsBegun, IsFed, IsFinished, IsAborted};
 ghost use Rattle.icy_sixel.specs.ReceiverCalls.{IsWriteCount, IsPaintCount, IsSizeSoFar};
 ghost use Rattle.icy_sixel.specs.inside.Receiving.{reception_of};
+
+mod settings;
 
 use crate::decoder::{DcsSettings, SixelDcsFeedResult, SixelDecoder, SixelFeedResult};
 use crate::script::Status;
@@ -235,59 +236,6 @@ impl SixelReceiver {
             Open::Payload(intake) => intake.size_so_far(),
             Open::ControlString(progress) => progress.size_so_far(),
         }
-    }
-
-    /// The color of a register of the decoder: red, green and blue, a byte each.
-    pub fn register(&self, register: u8) -> [u8; 3]
-        ensures { result ≡ slice_index_or self.now.decoder.registers register [] }
-    {
-        self.decoder.register(register)
-    }
-
-    /// Gives a register of the decoder this color: red, green and blue, a byte each.
-    ///
-    /// An image that is open goes on with the registers that it began from, and leaves its own when
-    /// it is finished.
-    pub fn set_register(&mut self, register: u8, color: [u8; 3])
-        ensures decoder { self.new.decoder ≡ record self.old.decoder {
-          registers = slice_set self.old.decoder.registers register color;
-        } }
-        ensures image { self.new.image ≡ self.old.image }
-    {
-        self.decoder.set_register(register, color);
-    }
-
-    /// Makes the decoder's registers those of a new one.
-    ///
-    /// An image that is open goes on with those that it began from, and leaves its own when it is
-    /// finished.
-    pub fn reset_palette(&mut self)
-        ensures decoder { self.new.decoder
-            ≡ record self.old.decoder { registers = default_registers } }
-        ensures image { self.new.image ≡ self.old.image }
-    {
-        self.decoder.reset_palette();
-    }
-
-    /// Sets whether the decoder crops images, as [`SixelDecoder::set_raster_crop`] does.
-    ///
-    /// An image that is open goes on as it began.
-    pub fn set_raster_crop(&mut self, on: bool)
-        ensures decoder { self.new.decoder ≡ record self.old.decoder { raster_crop = on } }
-        ensures image { self.new.image ≡ self.old.image }
-    {
-        self.decoder.set_raster_crop(on);
-    }
-
-    /// Sets how many pixels an image may have, as [`SixelDecoder::set_pixel_limit`] does.
-    ///
-    /// An image that is open goes on as it began.
-    pub fn set_pixel_limit(&mut self, pixels: usize)
-        ensures decoder { self.new.decoder
-            ≡ record self.old.decoder { pixel_limit = limit_of pixels } }
-        ensures image { self.new.image ≡ self.old.image }
-    {
-        self.decoder.set_pixel_limit(pixels);
     }
 }
 

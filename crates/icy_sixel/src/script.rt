@@ -1,7 +1,6 @@
-//! Lists of steps on one decoder: images as they come or at once, resets, crop and limits.
+//! Lists of steps on one decoder: images in chunks or in one call, resets, crop and limits.
 //!
-//! What a step comes to depends on its bytes, and not on how they are cut into pieces: the
-//! definitions know no piece.
+//! The outcome of a step depends on its bytes. The specification does not mention chunks.
 
 ghost use Rattle.std.specs.Prelude.{◌≡◌, ◌≤◌, [], length, vec_len, vec_capacity};
 ghost use Rattle.std.specs.Prelude.{OnErr, IfOk, IfErr, MatchResult};
@@ -10,92 +9,93 @@ ghost use Rattle.sixel_base.specs.Color.{default_registers};
 ghost use Rattle.sixel_base.specs.Decoder.{limit_of};
 ghost use Rattle.sixel_base.specs.OneShot.{found, Payload};
 ghost use Rattle.icy_sixel.specs.Script.{AreOutcomes, IsOutcome};
-ghost use Rattle.icy_sixel.specs.Script.{IsDecoding, IsSessionOutcome, frame_meaning};
+ghost use Rattle.icy_sixel.specs.Script.{IsDecoding, IsSessionOutcome, frame_meaning, string_meaning};
 
-mod playing;
+mod session;
 
 use crate::decoder::{DcsSettings, SixelDcsFeedStatus, SixelDecoder, SixelFeedStatus};
+use crate::receiver::SixelReceiver;
 use crate::sixel_image::SixelImage;
-use playing::{play_frame, play_string};
+use session::Session;
 use sixel_base::{Result, SixelError};
 use std::alloc::Global;
 
-/// How a session ends once its bytes are fed.
+/// How a session ends after its bytes are fed.
 #[derive(Clone, Copy, Debug, PartialEq, Eq)]
 pub enum End {
-    /// It is finished, and may give an image.
+    /// It is finished, and can return an image.
     Finish,
-    /// It is given up.
+    /// It is aborted.
     Abort,
 }
 
 /// One thing to do with a decoder.
 ///
-/// The bytes of a frame or a control string are fed in pieces of the lengths in `cuts`: a length may
-/// be 0, one past the end takes what is left, and what remains is the last piece. Once a status ends
-/// them, no piece more is fed. None of this has an effect on what the step comes to.
+/// The bytes of a payload or a DCS sequence are fed in chunks of the lengths in `cuts`. A length can
+/// be 0. A length past the end takes what is left, and what remains is the last chunk. After a status
+/// that ends the image no chunk is fed. The cuts have no effect on the outcome.
 #[derive(Clone, Copy)]
 pub enum Step<'a> {
-    /// The registers become those of a new decoder.
+    /// Resets the registers to those of a new decoder.
     Reset,
-    /// Images are cropped to their raster attributes from here on, or no longer, as by
+    /// Sets whether images are cropped to their raster attributes, as by
     /// [`SixelDecoder::set_raster_crop`].
     RasterCrop(bool),
-    /// Images may have so many pixels from here on, as by [`SixelDecoder::set_pixel_limit`].
+    /// Sets how many pixels an image may have, as by [`SixelDecoder::set_pixel_limit`].
     PixelLimit(usize),
-    /// A payload is fed in pieces.
+    /// Feeds a payload in chunks.
     Frame {
         settings: DcsSettings,
         bytes: &'a [u8],
         cuts: &'a [usize],
         ending: End,
     },
-    /// A control string is fed in pieces.
+    /// Feeds a DCS sequence in chunks.
     Dcs {
         bytes: &'a [u8],
         cuts: &'a [usize],
         ending: End,
     },
-    /// Bytes are decoded at once, as by [`SixelDecoder::decode`].
+    /// Decodes bytes in one call, as by [`SixelDecoder::decode`].
     Decode(&'a [u8]),
-    /// A payload is decoded at once, as by [`SixelDecoder::decode_from_dcs`].
+    /// Decodes a payload in one call, as by [`SixelDecoder::decode_from_dcs`].
     DecodeFromDcs(&'a [u8], DcsSettings),
 }
 
 /// The last status of a session.
 #[derive(Clone, Copy, Debug, PartialEq, Eq)]
 pub enum Status {
-    /// Of a payload.
+    /// The status of a payload.
     Payload(SixelFeedStatus),
-    /// Of a control string.
+    /// The status of a DCS sequence.
     Dcs(SixelDcsFeedStatus),
 }
 
-/// What a step came to.
+/// The outcome of a step.
 #[derive(Debug, Drop)]
 pub enum Outcome {
     /// The registers are those of a new decoder.
     Reset,
-    /// The crop or the limit is as the step asked, and no register changed.
+    /// The crop or the limit is set, and no register changed.
     Changed,
-    /// The step was refused, and changed no register.
+    /// The step failed, and changed no register.
     Failed(SixelError),
-    /// A session consumed so many bytes, stood so, and gave this image.
+    /// A session consumed so many bytes, had this status, and returned this image.
     Finished {
         consumed: usize,
         status: Status,
         image: SixelImage,
     },
-    /// A session consumed so many bytes, stood so, and was given up: no register changed.
+    /// A session consumed so many bytes, had this status, and was aborted. No register changed.
     Aborted {
         consumed: usize,
         status: Status,
     },
-    /// Bytes that were decoded at once gave this image.
+    /// Bytes that were decoded in one call have this image.
     Decoded(SixelImage),
 }
 
-/// Does the steps one after the other, and gives what each came to: one outcome a step.
+/// Runs the steps in order, and returns one outcome a step.
 ///
 /// ```rust
 /// let steps = [
@@ -114,9 +114,9 @@ pub enum Outcome {
 /// run(alloc, decoder, &steps)
 /// ```
 ///
-/// A step that is refused is an outcome like any other, and the next one goes on from the decoder
-/// as it is. The list of outcomes is reserved first, so that the only refusal,
-/// [`SixelError::OutOfMemory`], comes before the first step.
+/// A step that fails is an outcome too, and the next one starts from the decoder as it is. The only
+/// error is [`SixelError::OutOfMemory`]. It comes before the first step, because the list of outcomes
+/// is allocated first.
 pub fn run(alloc: Global, decoder: &mut SixelDecoder, steps: &[Step<'_>]) -> Result<Vec<Outcome>>
     ensures outcomes { IfOk result (λ outcomes.
         AreOutcomes decoder.old steps.now outcomes.items decoder.new) }
@@ -128,8 +128,9 @@ pub fn run(alloc: Global, decoder: &mut SixelDecoder, steps: &[Step<'_>]) -> Res
     Ok(outcomes)
 }
 
-/// Does the steps one after the other, and puts what each came to into room that is there: so it
-/// has no refusal of its own, and memory that is refused to a step is that step's outcome.
+/// Runs the steps in order, and stores the outcomes in capacity that is allocated already.
+///
+/// So it never fails: where an allocation of a step fails, that is the outcome of the step.
 fn take_steps(
     alloc: Global,
     decoder: &mut SixelDecoder,
@@ -147,7 +148,7 @@ fn take_steps(
     }
 }
 
-/// What a step comes to, and what becomes of the decoder.
+/// Runs one step.
 fn take_step(alloc: Global, decoder: &mut SixelDecoder, step: &Step<'_>) -> Outcome
     ensures { IsOutcome decoder.old step.now result decoder.new }
 {
@@ -160,18 +161,24 @@ fn take_step(alloc: Global, decoder: &mut SixelDecoder, step: &Step<'_>) -> Outc
             bytes,
             cuts,
             ending,
-        } => frame(alloc, decoder, *settings, bytes, cuts, *ending),
+        } => {
+            let session = Session::new(bytes, cuts, *ending);
+            play_payload(alloc, decoder, *settings, &session)
+        }
         Step::Dcs {
             bytes,
             cuts,
             ending,
-        } => play_string(alloc, decoder, bytes, cuts, *ending),
+        } => {
+            let session = Session::new(bytes, cuts, *ending);
+            play_dcs(alloc, decoder, &session)
+        }
         Step::Decode(bytes) => decode(alloc, decoder, bytes),
         Step::DecodeFromDcs(bytes, settings) => decode_payload(alloc, decoder, bytes, *settings),
     }
 }
 
-/// A step that puts the registers back.
+/// Resets the registers.
 fn reset(decoder: &mut SixelDecoder) -> Outcome
     ensures outcome { result ≡ Outcome.Reset }
     ensures decoder { decoder.new ≡ record decoder.old { registers = default_registers } }
@@ -180,7 +187,7 @@ fn reset(decoder: &mut SixelDecoder) -> Outcome
     Outcome::Reset
 }
 
-/// A step that sets whether images are cropped.
+/// Sets whether images are cropped.
 fn set_crop(decoder: &mut SixelDecoder, on: bool) -> Outcome
     ensures outcome { result ≡ Outcome.Changed }
     ensures decoder { decoder.new ≡ record decoder.old { raster_crop = on } }
@@ -189,7 +196,7 @@ fn set_crop(decoder: &mut SixelDecoder, on: bool) -> Outcome
     Outcome::Changed
 }
 
-/// A step that sets how many pixels an image may have.
+/// Sets how many pixels an image may have.
 fn set_limit(decoder: &mut SixelDecoder, pixels: usize) -> Outcome
     ensures outcome { result ≡ Outcome.Changed }
     ensures decoder { decoder.new ≡ record decoder.old { pixel_limit = limit_of pixels } }
@@ -198,29 +205,45 @@ fn set_limit(decoder: &mut SixelDecoder, pixels: usize) -> Outcome
     Outcome::Changed
 }
 
-/// A step that feeds a payload.
-fn frame(
+/// Plays the session of a payload.
+fn play_payload(
     alloc: Global,
     decoder: &mut SixelDecoder,
     settings: DcsSettings,
-    bytes: &[u8],
-    cuts: &[usize],
-    ending: End,
+    session: &Session<'_>,
 ) -> Outcome
     ensures { IsSessionOutcome decoder.old
-        (frame_meaning decoder.old.pixel_limit settings bytes.now) ending result decoder.new }
+        (frame_meaning decoder.old.pixel_limit settings session.now.bytes.now)
+        session.now.ending result decoder.new }
 {
-    play_frame(alloc, decoder, settings, bytes, cuts, ending)
+    let mut receiver = SixelReceiver::with_decoder(SixelDecoder {
+        state: decoder.state,
+    });
+    receiver.begin_frame(alloc, settings);
+    session.play(receiver, decoder)
 }
 
-/// A step that decodes the first control string in the bytes, or all of them.
+/// Plays the session of a DCS sequence.
+fn play_dcs(alloc: Global, decoder: &mut SixelDecoder, session: &Session<'_>) -> Outcome
+    ensures { IsSessionOutcome decoder.old
+        (string_meaning decoder.old.pixel_limit session.now.bytes.now)
+        session.now.ending result decoder.new }
+{
+    let mut receiver = SixelReceiver::with_decoder(SixelDecoder {
+        state: decoder.state,
+    });
+    receiver.begin_dcs(alloc);
+    session.play(receiver, decoder)
+}
+
+/// Decodes the first DCS sequence in the bytes, or all of them as a payload.
 fn decode(alloc: Global, decoder: &mut SixelDecoder, bytes: &[u8]) -> Outcome
     ensures { IsDecoding decoder.old (found bytes.now) result decoder.new }
 {
     decoded(decoder.decode(alloc, bytes))
 }
 
-/// A step that decodes a payload.
+/// Decodes a payload.
 fn decode_payload(
     alloc: Global,
     decoder: &mut SixelDecoder,
@@ -232,12 +255,12 @@ fn decode_payload(
     decoded(decoder.decode_from_dcs(alloc, bytes, settings))
 }
 
-/// The answer of decoding at once as an outcome.
-fn decoded(answer: Result<SixelImage>) -> Outcome
-    ensures { MatchResult answer (λ image. result ≡ Outcome.Decoded image)
+/// The outcome of decoding in one call: the image, or the error.
+fn decoded(image: Result<SixelImage>) -> Outcome
+    ensures { MatchResult image (λ image. result ≡ Outcome.Decoded image)
         (λ error. result ≡ Outcome.Failed error) }
 {
-    match answer {
+    match image {
         Ok(image) => Outcome::Decoded(image),
         Err(error) => Outcome::Failed(error),
     }

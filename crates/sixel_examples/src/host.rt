@@ -9,8 +9,7 @@ ghost use Rattle.sixel_base.specs.Payload.{payload_image, payload_registers};
 ghost use Rattle.icy_sixel.specs.ImageView.{image_value};
 ghost use Rattle.sixel_base.specs.OneShot.{found, found_fault, IsFoundImage, AreFoundRegisters};
 
-use icy_sixel::receiver::SixelReceiver;
-use icy_sixel::{DcsSettings, Result, SixelImage};
+use icy_sixel::{DcsSettings, Result, SixelImage, SixelReceiver};
 use std::alloc::Global;
 
 /// A terminal, as far as its images go.

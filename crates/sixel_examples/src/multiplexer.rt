@@ -1,8 +1,6 @@
 //! A multiplexer that has to know which bytes of a pane's output are an image's own.
 
-use icy_sixel::receiver::SixelReceiver;
-use icy_sixel::script::Status;
-use icy_sixel::{Result, SixelDcsFeedStatus, SixelImage};
+use icy_sixel::{Result, SixelDcsFeedStatus, SixelImage, SixelReceiver, Status};
 
 /// What a pane's bytes were, as far as they are an image's.
 #[derive(Drop)]

@@ -1,8 +1,6 @@
 //! A terminal that keeps its images in a struct, and gets bytes when they come.
 
-use icy_sixel::receiver::SixelReceiver;
-use icy_sixel::script::Status;
-use icy_sixel::{DcsSettings, Result, SixelFeedStatus, SixelImage};
+use icy_sixel::{DcsSettings, Result, SixelFeedStatus, SixelImage, SixelReceiver, Status};
 use std::alloc::Global;
 
 /// What a terminal keeps of its images.

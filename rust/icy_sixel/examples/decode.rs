@@ -3,9 +3,7 @@
 //! With a length, the control string is fed in pieces of so many bytes. A line `image WIDTH HEIGHT
 //! P1 P2`, the pixels and a line end are written, as by `sixel decode`.
 
-use icy_sixel::receiver::SixelReceiver;
-use icy_sixel::script::Status;
-use icy_sixel::{SixelDcsFeedStatus, SixelImage};
+use icy_sixel::{SixelDcsFeedStatus, SixelImage, SixelReceiver, Status};
 use std::env;
 use std::error::Error;
 use std::io::{self, Read, Write};

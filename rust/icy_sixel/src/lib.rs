@@ -22,5 +22,7 @@ pub use decoder::{
 pub use encoder::{EncodeOptions, sixel_encode, sixel_encode_default};
 pub use error::{Result, SixelError};
 pub use palette::{PaletteChoice, choose_palette, witnesses_hold};
+pub use receiver::{Received, SixelReceiver};
+pub use script::Status;
 pub use sixel_image::{BackgroundMode, PixelAspectRatio, SixelImage};
 pub use size::validate_encode_dimensions;

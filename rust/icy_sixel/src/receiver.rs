@@ -32,8 +32,7 @@ enum Open {
 /// to piece. An image changes the registers by a successful [`finish`](Self::finish) alone.
 ///
 /// ```
-/// use icy_sixel::receiver::SixelReceiver;
-/// use icy_sixel::script::Status;
+/// use icy_sixel::{SixelReceiver, Status};
 /// use icy_sixel::SixelDcsFeedStatus::{Complete, NeedMoreData};
 ///
 /// let mut receiver = SixelReceiver::new();

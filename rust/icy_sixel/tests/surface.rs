@@ -117,6 +117,10 @@ fn what_is_ours() {
     let _: fn(&[[u8; 3]], u32) -> bool = palette::witnesses_hold;
     let _: fn(&[[u8; 3]], u32) -> bool = icy_sixel::witnesses_hold;
     is_shared::<Choice>();
+    let _: fn() -> icy_sixel::SixelReceiver = receiver::SixelReceiver::new;
+    let _: fn(&mut receiver::SixelReceiver, &[u8]) -> Answer<icy_sixel::Received> =
+        receiver::SixelReceiver::feed;
+    is_value::<icy_sixel::Status>();
     let receiver = receiver::SixelReceiver::new();
     assert!(format!("{receiver:?}").starts_with("SixelReceiver"));
     let mut decoder = Decoder::new();

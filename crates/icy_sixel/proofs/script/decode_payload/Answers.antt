@@ -1,8 +1,9 @@
 use Rattle.sixel_base.specs.OneShot.{Payload}
-use Rattle.icy_sixel.proofs.Playing.{decodes}
+use Rattle.icy_sixel.proofs.Outcomes.{decodes}
 use Rattle.icy_sixel.proofs.script.decode_payload.Goals as goal
 
 pub returns : goal.returns
 returns c =
     let by = c.decode_from_dcs.ensures in
-    decodes c.decode_from_dcs.result _ _ _ (Payload c.args.settings c.args.bytes.now) c.decoded.ensures by.image by.registers by.faultless by.refused by.set by.kept
+    decodes c.decode_from_dcs.result _ _ _ (Payload c.args.settings c.args.bytes.now)
+    c.decoded.ensures by.image by.registers by.faultless by.refused by.set by.kept

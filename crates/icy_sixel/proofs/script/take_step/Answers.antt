@@ -7,13 +7,17 @@ pub returns-in-Decode : goal.returns-in-Decode
 returns-in-Decode c = rw c.in-Decode.is c.decode.ensures
 
 pub returns-in-Frame : goal.returns-in-Frame
-returns-in-Frame c = rw c.in-Frame.is c.frame.ensures
+returns-in-Frame c =
+    rw c.in-Frame.is
+    (rw (c.new-session.ensures.bytes, c.new-session.ensures.ending) at c.play_payload.ensures)
 
 pub returns-in-Reset : goal.returns-in-Reset
 returns-in-Reset c = rw c.in-Reset.is (c.reset.ensures.outcome, c.reset.ensures.decoder)
 
 pub returns-in-RasterCrop : goal.returns-in-RasterCrop
-returns-in-RasterCrop c = rw c.in-RasterCrop.is (c.set_crop.ensures.outcome, c.set_crop.ensures.decoder)
+returns-in-RasterCrop c =
+    rw c.in-RasterCrop.is (c.set_crop.ensures.outcome, c.set_crop.ensures.decoder)
 
 pub returns-in-PixelLimit : goal.returns-in-PixelLimit
-returns-in-PixelLimit c = rw c.in-PixelLimit.is (c.set_limit.ensures.outcome, c.set_limit.ensures.decoder)
+returns-in-PixelLimit c =
+    rw c.in-PixelLimit.is (c.set_limit.ensures.outcome, c.set_limit.ensures.decoder)

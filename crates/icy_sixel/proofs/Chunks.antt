@@ -1,0 +1,137 @@
+-- What is known of the bytes of an image once a beginning of them was fed.
+use Rattle.std.proofs.Common.{◌≡◌, ℕ, ◌≤◌, true, List, [], ◌++◌, refl, ap, sym, ◌∙◌, inl, inr}
+use Rattle.std.proofs.Common.{subst, arith, Option, Some, None}
+use Rattle.std.specs.Prelude.{nat_lt, is_none, is_some, length, Result, Ok, Err, IfErr}
+use Rattle.std.proofs.lemmas.List.{append-nil, append_assoc}
+use Rattle.std.proofs.lemmas.Bool.Decides.{nat_tests}
+use Rattle.sixel_base.specs.declared.error.SixelError.{SixelError}
+use Rattle.sixel_base.specs.Fault.{Faults}
+use Rattle.sixel_base.specs.Bytes.{front, first_terminator}
+use Rattle.sixel_base.specs.History.{history_of}
+use Rattle.sixel_base.specs.Payload.{first_fault}
+use Rattle.sixel_base.specs.Settings.{Settings}
+use Rattle.sixel_base.specs.Status.{status_of}
+use Rattle.sixel_base.specs.Dcs.{dcs_status}
+use Rattle.sixel_base.specs.Dcs as strings
+use Rattle.icy_sixel.specs.declared.script.Status.TheVariants.{Payload, Dcs}
+use Rattle.icy_sixel.specs.Receiver.{Form, Nothing, OfPayload, OfString, count, status, fault}
+use Rattle.icy_sixel.specs.Receiver.{growths, is_over, end_fault, end_wants}
+use Rattle.icy_sixel.specs.inside.Session.{IsWhole, has_ended}
+use Rattle.sixel_decoder.proofs.Framing.{Faults-along}
+use Rattle.sixel_decoder.proofs.Appending.{first_terminator-ended}
+use Rattle.sixel_decoder.proofs.Ended.{front_ended, count_ended, settled_ended}
+use Rattle.sixel_decoder.proofs.Ended.{status_ended, dcs_count_ended, dcs_fault_ended}
+use Rattle.sixel_decoder.proofs.Terminating.{count-fits}
+use Rattle.sixel_decoder.proofs.Answering.{dcs_count-fits, frame_refused, string_refused}
+
+-- what was fed and what is left make up all bytes, also after one chunk more
+pub rejoined : (before chunk after left rest bytes : List ℕ) → after ≡ before ++ chunk
+    → chunk ++ left ≡ rest → before ++ rest ≡ bytes → after ++ left ≡ bytes
+rejoined before chunk after left rest bytes fed split joined =
+    ap (λ (w : List ℕ). w ++ left) fed
+    ∙ (append_assoc before chunk left ∙ (ap (λ (w : List ℕ). before ++ w) split ∙ joined))
+
+-- ---- what a beginning is rejected for is what all bytes are rejected for
+
+refused : (e : SixelError) (limit : ℕ) (form : Form) (fed left bytes : List ℕ) (n : ℕ)
+    → fed ++ left ≡ bytes
+    → Faults e (nat_lt n (growths form fed)) (fault limit form fed)
+    → Faults e (nat_lt 0 (growths form bytes)) (fault limit form bytes)
+refused e limit Nothing fed left bytes n joined is =
+    Faults-along e (nat_lt n 0) (nat_lt 0 0) None None
+    (λ may. grind (arith, nat_tests))
+    (λ f same. same) is
+refused e limit (OfPayload settings) fed left bytes n joined is =
+    frame_refused e limit fed left bytes n joined is
+refused e limit OfString fed left bytes n joined is =
+    string_refused e limit fed left bytes n joined is
+
+pub refusal : (R : Type 0) (result : Result R SixelError) (limit : ℕ) (form : Form)
+    (fed left bytes : List ℕ) (n : ℕ) → fed ++ left ≡ bytes
+    → IfErr result (λ e. Faults e (nat_lt n (growths form fed)) (fault limit form fed))
+    → IfErr result (λ e. Faults e (nat_lt 0 (growths form bytes)) (fault limit form bytes))
+refusal R (Ok told) limit form fed left bytes n joined is = tt
+refusal R (Err e) limit form fed left bytes n joined is =
+    refused e limit form fed left bytes n joined is
+
+-- ---- what follows the end of an image means nothing
+
+-- these bytes mean the same image
+pub record IsSame (limit : ℕ) (form : Form) (fed bytes : List ℕ) : Type 0 where
+  pub counted : count form fed ≡ count form bytes
+  pub stands : status form fed ≡ status form bytes
+  pub faults : fault limit form fed ≡ fault limit form bytes
+  pub ends : end_fault limit form fed ≡ end_fault limit form bytes
+  pub wants : end_wants limit form fed ≡ end_wants limit form bytes
+
+terminator_of : (o : Option ℕ) → is_some o ≡ true → (t : ℕ) × (o ≡ Some t)
+terminator_of None is = absurd cc
+terminator_of (Some t) is = (t, refl)
+
+ended : (limit : ℕ) (form : Form) (fed left : List ℕ) → is_over form fed ≡ true
+    → IsSame limit form fed (fed ++ left)
+ended limit Nothing fed left over = absurd cc
+ended limit (OfPayload settings) fed left over =
+    let t = terminator_of (first_terminator fed) over in
+    let carried : front fed ≡ front (fed ++ left) = sym (front_ended fed left t.0 t.1) in
+    record {
+      counted = sym (count_ended fed left t.0 t.1);
+      stands =
+          ap (λ w. Payload (status_of w)) (t.1 ∙ sym (first_terminator-ended fed left t.0 t.1));
+      faults = ap (first_fault limit) (sym (settled_ended fed left t.0 t.1));
+      ends = ap (λ w. first_fault limit (history_of w)) carried;
+      wants = ap (λ w. is_none (first_fault limit (history_of w))) carried;
+    }
+ended limit OfString fed left over =
+    let stands : dcs_status fed ≡ dcs_status (fed ++ left) = sym (status_ended fed left over) in
+    record {
+      counted = sym (dcs_count_ended fed left over);
+      stands = ap Dcs stands;
+      faults = sym (dcs_fault_ended limit fed left over);
+      ends = ap strings.end_fault stands;
+      wants = ap strings.has_ended stands;
+    }
+
+-- where no byte is left all were fed
+all_fed : (fed left bytes : List ℕ) → fed ++ left ≡ bytes → left ≡ [] → fed ≡ bytes
+all_fed fed left bytes joined none = sym (append-nil fed) ∙ (ap (λ w. fed ++ w) (sym none) ∙ joined)
+
+pub same : (limit : ℕ) (form : Form) (fed bytes : List ℕ) → IsWhole form fed bytes
+    → IsSame limit form fed bytes
+same limit form fed bytes whole =
+    elim whole.over [
+      | inl none ↦
+          subst (IsSame limit form fed) (all_fed fed whole.left bytes whole.joined none)
+          (record { counted = refl; stands = refl; faults = refl; ends = refl; wants = refl })
+      | inr over ↦ subst (IsSame limit form fed) whole.joined (ended limit form fed whole.left over)
+    ]
+
+-- the bytes of a payload that sixels and commands come from
+pub front_whole : (settings : Settings) (fed bytes : List ℕ)
+    → IsWhole (OfPayload settings) fed bytes → front fed ≡ front bytes
+front_whole settings fed bytes whole =
+    elim whole.over [
+      | inl none ↦ ap front (all_fed fed whole.left bytes whole.joined none)
+      | inr over ↦
+          let t = terminator_of (first_terminator fed) over in
+          sym (front_ended fed whole.left t.0 t.1) ∙ ap front whole.joined
+    ]
+
+-- ---- statuses and counts
+
+ended_by : (o : Option ℕ) → has_ended (Payload (status_of o)) ≡ is_some o
+ended_by None = refl
+ended_by (Some t) = refl
+
+-- an image has ended as its status says
+pub has_ended-status : (form : Form) (bytes : List ℕ)
+    → has_ended (status form bytes) ≡ is_over form bytes
+has_ended-status Nothing bytes = refl
+has_ended-status (OfPayload settings) bytes = ended_by (first_terminator bytes)
+has_ended-status OfString bytes = refl
+
+-- an image has at most all bytes
+pub count_fits : (form : Form) (bytes : List ℕ) → count form bytes ≤ length bytes
+count_fits Nothing bytes = omega arith
+count_fits (OfPayload settings) bytes = count-fits bytes
+count_fits OfString bytes = dcs_count-fits bytes

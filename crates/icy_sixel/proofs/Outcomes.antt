@@ -1,0 +1,180 @@
+-- What a step comes to, by what the calls that it makes ensure.
+use Rattle.std.proofs.Common.{◌≡◌, ℕ, true, false, List, refl, ap, sym, ◌∙◌, subst}
+use Rattle.std.proofs.Common.{Option, Some, None}
+use Rattle.std.specs.Prelude.{Bool, IsTrue, nat_lt, ◌||◌, if◌then◌else◌, is_none, Result, Ok, Err}
+use Rattle.std.specs.Prelude.{MatchResult, IfOk, IfErr, OnOk, OnErr}
+use Rattle.std.specs.Option.{option_or}
+use Rattle.sixel_base.specs.declared.error.SixelError.{SixelError}
+use Rattle.sixel_base.specs.Fault.{Fault, Faults, Incomplete}
+use Rattle.sixel_base.specs.Decoder.{IsSetAs, origin_of}
+use Rattle.sixel_base.specs.declared.state.DecoderState.{DecoderState}
+use Rattle.sixel_base.specs.History.{history_of}
+use Rattle.sixel_base.specs.Payload.{Image, image_of, payload_fault}
+use Rattle.sixel_base.specs.Stroke.{registers}
+use Rattle.sixel_base.specs.Dcs.{dcs_status, dcs_fault, dcs_growths, has_ended}
+use Rattle.sixel_base.specs.Dcs as strings
+use Rattle.sixel_base.specs.OneShot.{Found, IsDecodedAs, found_fault, found_wants, IsFoundImage}
+use Rattle.sixel_base.specs.OneShot.{AreFoundRegisters}
+use Rattle.sixel_base.specs.OneShot as one_shot
+use Rattle.icy_sixel.specs.declared.script.End.{End}
+use Rattle.icy_sixel.specs.declared.script.End.TheVariants.{Finish, Abort}
+use Rattle.icy_sixel.specs.declared.script.Outcome.{Outcome}
+use Rattle.icy_sixel.specs.declared.script.Outcome.TheVariants.{Failed, Finished, Decoded}
+use Rattle.icy_sixel.specs.declared.script.Status.{Status}
+use Rattle.icy_sixel.specs.declared.sixel_image.SixelImage.{SixelImage}
+use Rattle.icy_sixel.specs.ImageView.{image_value}
+use Rattle.icy_sixel.specs.Receiver.{Form, Nothing, OfPayload, OfString, fault, growths, found}
+use Rattle.icy_sixel.specs.Receiver.{found_followed, end_fault, end_wants}
+use Rattle.icy_sixel.specs.Receiver as images
+use Rattle.icy_sixel.specs.Script.{IsDecoding, IsSessionOutcome}
+use Rattle.icy_sixel.specs.inside.Session.{IsWhole, meaning, whole_fault}
+use Rattle.sixel_decoder.proofs.Framing.{Faults-along}
+use Rattle.sixel_decoder.proofs.Feeding.{payload_refused, or_right}
+use Rattle.icy_sixel.proofs.Chunks.{same, front_whole}
+
+-- ---- a session that is rejected as it is fed
+
+-- it would be rejected as it is finished
+fed_fails : (e : SixelError) (limit : ℕ) (form : Form) (bytes : List ℕ)
+    → Faults e (nat_lt 0 (growths form bytes)) (fault limit form bytes)
+    → Faults e (is_none (whole_fault limit form bytes) || nat_lt 0 (growths form bytes))
+    (whole_fault limit form bytes)
+fed_fails e limit Nothing bytes refused =
+    Faults-along e (nat_lt 0 0) (nat_lt 0 0) None (whole_fault limit Nothing bytes) (λ may. may)
+    (λ f is. absurd cc) refused
+fed_fails e limit (OfPayload settings) bytes refused = payload_refused e limit bytes refused
+fed_fails e limit OfString bytes refused =
+    let grows : Bool = nat_lt 0 (dcs_growths bytes) in
+    let wrong : Option Fault = whole_fault limit OfString bytes in
+    Faults-along e grows (is_none wrong || grows) (dcs_fault limit bytes) wrong
+    (or_right (is_none wrong) grows)
+    (λ f is. ap (λ w. option_or w (strings.end_fault (dcs_status bytes))) is) refused
+
+pub fails : (e : SixelError) (before after : DecoderState) (form : Form) (bytes : List ℕ)
+    (ending : End)
+    → Faults e (nat_lt 0 (growths form bytes)) (fault before.pixel_limit form bytes)
+    → after ≡ before
+    → IsSessionOutcome before (meaning before.pixel_limit form bytes) ending (Failed e) after
+fails e before after form bytes Finish refused kept = (
+  fed_fails e before.pixel_limit form bytes refused,
+  kept,
+)
+fails e before after form bytes Abort refused kept = (refused, kept)
+
+-- ---- a session that is finished
+
+or_left : (a b : Bool) → IsTrue a → IsTrue (a || b)
+or_left true b is = refl
+or_left false b is = absurd cc
+
+-- an image is allocated where a sequence has ended
+ended_wants : (ended grows : Bool) → IsTrue ended
+    → IsTrue (is_none (if ended then None else Some Incomplete) || grows)
+ended_wants true grows is = refl
+ended_wants false grows is = absurd cc
+
+-- what is rejected as it is finished, though no feed was
+end_fails : (e : SixelError) (limit : ℕ) (form : Form) (bytes : List ℕ)
+    → fault limit form bytes ≡ None
+    → Faults e (end_wants limit form bytes) (end_fault limit form bytes)
+    → Faults e (is_none (whole_fault limit form bytes) || nat_lt 0 (growths form bytes))
+    (whole_fault limit form bytes)
+end_fails e limit Nothing bytes sound refused =
+    Faults-along e false (nat_lt 0 0) (end_fault limit Nothing bytes)
+    (whole_fault limit Nothing bytes) (λ may. absurd cc) (λ f is. is) refused
+end_fails e limit (OfPayload settings) bytes sound refused =
+    let wrong : Option Fault = payload_fault limit bytes in
+    let grows : Bool = nat_lt 0 (growths (OfPayload settings) bytes) in
+    Faults-along e (is_none wrong) (is_none wrong || grows) wrong wrong
+    (or_left (is_none wrong) grows) (λ f is. is) refused
+end_fails e limit OfString bytes sound refused =
+    let grows : Bool = nat_lt 0 (dcs_growths bytes) in
+    let wrong : Option Fault = strings.end_fault (dcs_status bytes) in
+    let may : Faults e (is_none wrong || grows) wrong =
+    Faults-along e (has_ended (dcs_status bytes)) (is_none wrong || grows) wrong wrong
+    (ended_wants (has_ended (dcs_status bytes)) grows) (λ f is. is) refused in
+    subst
+    (λ (w : Option Fault). Faults e (is_none (option_or w wrong) || grows) (option_or w wrong))
+    (sym sound) may
+
+-- what is finished is sound
+end_sound : (limit : ℕ) (form : Form) (bytes : List ℕ) → fault limit form bytes ≡ None
+    → end_fault limit form bytes ≡ None → whole_fault limit form bytes ≡ None
+end_sound limit Nothing bytes sound ends = ends
+end_sound limit (OfPayload settings) bytes sound ends = ends
+end_sound limit OfString bytes sound ends =
+    ap (λ w. option_or w (strings.end_fault (dcs_status bytes))) sound ∙ ends
+
+-- the image and the registers of what was fed are those of all bytes
+drawn_whole : (before : DecoderState) (form : Form) (fed bytes : List ℕ) (image : Image)
+    (after : List (List ℕ)) (whole : IsWhole form fed bytes)
+    → IsDecodedAs before (found_followed form fed whole.left) image after
+    → IsFoundImage before (found form bytes) image
+    × AreFoundRegisters before (found form bytes) after
+drawn_whole before Nothing fed bytes image after whole decoded = absurd decoded.1
+drawn_whole before (OfPayload settings) fed bytes image after whole decoded =
+    let carried = front_whole settings fed bytes whole in (
+      subst (λ w. image ≡ image_of (origin_of before settings) (history_of w)) carried decoded.1,
+      subst (λ w. after ≡ registers before.registers (history_of w)) carried decoded.2,
+    )
+drawn_whole before OfString fed bytes image after whole decoded =
+    let all =
+    subst (λ (w : List ℕ). IsDecodedAs before (one_shot.found w) image after)
+    whole.joined decoded in
+    (all.1, all.2)
+
+pub finishes : (answer : Result SixelImage SixelError) (outcome : Outcome)
+    (before after : DecoderState) (form : Form) (fed bytes : List ℕ) (consumed : ℕ)
+    (status : Status)
+    → MatchResult answer
+    (λ image. outcome ≡ Finished consumed status image)
+    (λ e. outcome ≡ Failed e)
+    → IsWhole form fed bytes → fault before.pixel_limit form bytes ≡ None
+    → consumed ≡ images.count form bytes → status ≡ images.status form bytes
+    → ((more : List ℕ)
+    → IfOk answer
+    (λ image.
+    IsDecodedAs before (found_followed form fed more) (image_value image) after.registers))
+    → OnOk answer (end_fault before.pixel_limit form fed ≡ None)
+    → IfErr answer
+    (λ e. Faults e (end_wants before.pixel_limit form fed) (end_fault before.pixel_limit form fed))
+    → IsSetAs before after → OnErr answer (after ≡ before)
+    → IsSessionOutcome before (meaning before.pixel_limit form bytes) Finish outcome after
+finishes (Ok image) outcome before after form fed bytes consumed status is whole sound counted
+    stands decoded ends refused set kept =
+    let limit : ℕ = before.pixel_limit in
+    let ended : end_fault limit form bytes ≡ None =
+    sym (same limit form fed bytes whole).ends ∙ ends in
+    let drawn =
+    drawn_whole before form fed bytes (image_value image) after.registers whole
+    (decoded whole.left) in
+    subst (λ (w : Outcome). IsSessionOutcome before (meaning limit form bytes) Finish w after)
+    (sym is)
+    (end_sound limit form bytes sound ended, counted, stands, drawn.0, drawn.1, set)
+finishes (Err e) outcome before after form fed bytes consumed status is whole sound counted stands
+    decoded ends refused set kept =
+    let limit : ℕ = before.pixel_limit in
+    let one = same limit form fed bytes whole in
+    let here : Faults e (end_wants limit form bytes) (end_fault limit form bytes) =
+    rw (sym one.wants, sym one.ends) refused in
+    subst (λ (w : Outcome). IsSessionOutcome before (meaning limit form bytes) Finish w after)
+    (sym is)
+    (end_fails e limit form bytes sound here, kept)
+
+-- ---- what is decoded at once
+
+pub decodes : (answer : Result SixelImage SixelError) (outcome : Outcome)
+    (before after : DecoderState) (payload : Found)
+    → MatchResult answer (λ image. outcome ≡ Decoded image) (λ e. outcome ≡ Failed e)
+    → IfOk answer (λ image. IsFoundImage before payload (image_value image))
+    → OnOk answer (AreFoundRegisters before payload after.registers)
+    → OnOk answer (found_fault before.pixel_limit payload ≡ None)
+    → IfErr answer
+    (λ e.
+    Faults e (found_wants before.pixel_limit payload) (found_fault before.pixel_limit payload))
+    → IsSetAs before after → OnErr answer (after ≡ before) → IsDecoding before payload outcome after
+decodes (Ok image) outcome before after payload is drawn defined faultless refused set kept =
+    subst (λ (o : Outcome). IsDecoding before payload o after)
+    (sym is) (faultless, drawn, defined, set)
+decodes (Err e) outcome before after payload is drawn defined faultless refused set kept =
+    subst (λ (o : Outcome). IsDecoding before payload o after) (sym is) (refused, kept)

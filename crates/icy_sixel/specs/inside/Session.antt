@@ -1,0 +1,43 @@
+-- What the session of a step was fed, and what the bytes of the step mean by the form of the image.
+-- Invariants of this library's own: what a step comes to is in Script.
+use Rattle.std.specs.Prelude.{ℕ, ◌≡◌, ◌++◌, ◌⊎◌, Bool, true, false, nat_lt, List, [], Option, Some}
+use Rattle.std.specs.Option.{option_or}
+use Rattle.sixel_base.specs.Fault.{Fault, StreamFailed}
+use Rattle.sixel_base.specs.Payload.{payload_fault}
+use Rattle.sixel_base.specs.Dcs.{dcs_status, dcs_fault, end_fault}
+use Rattle.sixel_base.specs.Dcs as strings
+use Rattle.sixel_base.specs.declared.status.SixelFeedStatus.TheVariants.{NeedMoreData, Terminated}
+use Rattle.icy_sixel.specs.declared.script.Status.{Status}
+use Rattle.icy_sixel.specs.declared.script.Status.TheVariants.{Payload, Dcs}
+use Rattle.icy_sixel.specs.Receiver.{Form, Nothing, OfPayload, OfString, is_over}
+use Rattle.icy_sixel.specs.Receiver as images
+use Rattle.icy_sixel.specs.Script.{Meaning}
+
+-- all bytes were fed, or those up to the end of the image
+pub record IsWhole (form : Form) (fed bytes : List ℕ) : Type 0 where
+  pub left : List ℕ
+  pub joined : fed ++ left ≡ bytes
+  pub over : (left ≡ []) ⊎ (is_over form fed ≡ true)
+
+-- whether an image of this status has ended
+abbrev pub has_ended : Status → Bool
+has_ended (Payload NeedMoreData) = false
+has_ended (Payload (Terminated byte)) = true
+has_ended (Dcs status) = strings.has_ended status
+
+-- what is wrong with bytes that are fed and finished
+abbrev pub whole_fault : ℕ → Form → List ℕ → Option Fault
+whole_fault limit Nothing bytes = Some StreamFailed
+whole_fault limit (OfPayload settings) bytes = payload_fault limit bytes
+whole_fault limit OfString bytes = option_or (dcs_fault limit bytes) (end_fault (dcs_status bytes))
+
+-- what bytes mean that are fed to an image of this form
+abbrev pub meaning : ℕ → Form → List ℕ → Meaning
+meaning limit form bytes = record {
+  consumed = images.count form bytes;
+  status = images.status form bytes;
+  fed_fault = images.fault limit form bytes;
+  end_fault = whole_fault limit form bytes;
+  grows = nat_lt 0 (images.growths form bytes);
+  drawn = images.found form bytes;
+}

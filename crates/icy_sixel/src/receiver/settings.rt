@@ -1,0 +1,62 @@
+//! What the host of a receiver sets: registers, crop and the limit of pixels.
+
+ghost use Rattle.std.specs.Prelude.{◌≡◌, [], slice_index_or, slice_set};
+ghost use Rattle.sixel_base.specs.Color.{default_registers};
+ghost use Rattle.sixel_base.specs.Decoder.{limit_of};
+
+use crate::receiver::SixelReceiver;
+
+impl SixelReceiver {
+    /// The color of a register of the decoder: red, green and blue, a byte each.
+    pub fn register(&self, register: u8) -> [u8; 3]
+        ensures { result ≡ slice_index_or self.now.decoder.registers register [] }
+    {
+        self.decoder.register(register)
+    }
+
+    /// Sets the color of a register of the decoder: red, green and blue, a byte each.
+    ///
+    /// An open image keeps the registers that it began from, and its `finish` stores its own.
+    pub fn set_register(&mut self, register: u8, color: [u8; 3])
+        ensures decoder { self.new.decoder ≡ record self.old.decoder {
+          registers = slice_set self.old.decoder.registers register color;
+        } }
+        ensures image { self.new.image ≡ self.old.image }
+    {
+        self.decoder.set_register(register, color);
+    }
+
+    /// Resets the decoder's registers to those of a new one.
+    ///
+    /// An open image keeps the registers that it began from, and its `finish` stores its own.
+    pub fn reset_palette(&mut self)
+        ensures decoder { self.new.decoder
+            ≡ record self.old.decoder { registers = default_registers } }
+        ensures image { self.new.image ≡ self.old.image }
+    {
+        self.decoder.reset_palette();
+    }
+
+    /// Sets whether the decoder crops images, as
+    /// [`SixelDecoder::set_raster_crop`](crate::SixelDecoder::set_raster_crop) does.
+    ///
+    /// An open image keeps the setting that it began with.
+    pub fn set_raster_crop(&mut self, on: bool)
+        ensures decoder { self.new.decoder ≡ record self.old.decoder { raster_crop = on } }
+        ensures image { self.new.image ≡ self.old.image }
+    {
+        self.decoder.set_raster_crop(on);
+    }
+
+    /// Sets how many pixels an image may have, as
+    /// [`SixelDecoder::set_pixel_limit`](crate::SixelDecoder::set_pixel_limit) does.
+    ///
+    /// An open image keeps the setting that it began with.
+    pub fn set_pixel_limit(&mut self, pixels: usize)
+        ensures decoder { self.new.decoder
+            ≡ record self.old.decoder { pixel_limit = limit_of pixels } }
+        ensures image { self.new.image ≡ self.old.image }
+    {
+        self.decoder.set_pixel_limit(pixels);
+    }
+}

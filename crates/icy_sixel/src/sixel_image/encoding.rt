@@ -1,0 +1,107 @@
+//! The SIXEL output of an image.
+
+ghost use Rattle.std.specs.Prelude.{◌≡◌, ℕ, ◌*◌, ◌≤◌, List, None, OnOk, IfErr, IfOk};
+ghost use Rattle.std.specs.Prelude.{◌++◌, Some, MatchOption, codes, string_bytes};
+
+use crate::sixel_image::{BackgroundMode, SixelImage};
+use sixel_base::{Result, SixelError};
+use sixel_encoder::{EncodeOptions, Source, encode_source, one_drawing};
+use std::alloc::Global;
+
+impl SixelImage {
+    ghost use Rattle.sixel_base.specs.Decoder.{new_decoder};
+    ghost use Rattle.sixel_base.specs.declared.state.DecoderState.{DecoderState};
+    ghost use Rattle.sixel_base.specs.Size.{banded};
+    ghost use Rattle.sixel_base.specs.Payload.{Image};
+    ghost use Rattle.sixel_encoder.specs.Text.{Drawing, text_of};
+    ghost use Rattle.sixel_encoder.specs.Encoding.{image_fault, IsDrawing, IsText};
+    ghost use Rattle.icy_sixel.specs.ImageView.{image_value};
+    ghost use Rattle.sixel_encoder.specs.Encoding.{AreShortest, shown_image};
+    ghost use Rattle.sixel_encoder.specs.Trip.{CanRead, IsOneString, IsReadAs, IsTrip, trip};
+
+    /// Returns the SIXEL output of this image with the default options.
+    pub fn encode(&self, alloc: Global) -> Result<String>
+        ensures refused { MatchOption (image_fault (image_value self.now))
+            (IfErr result (λ e. e ≡ SixelError.OutOfMemory))
+            (λ fault. result ≡ Err fault) }
+        ensures text { IfOk result (λ text. IsText (image_value self.now) 256 (string_bytes text)) }
+    {
+        self.encode_with(alloc, &EncodeOptions::default())
+    }
+
+    /// Returns the SIXEL output of this image.
+    ///
+    /// ```rust
+    /// let image = SixelImage::try_from_rgba(pixels, width, height)?;
+    /// image.encode_with(alloc, &EncodeOptions { max_colors: 16 })
+    /// ```
+    ///
+    /// The errors are, in this order: a zero size (`InvalidDimensions`), bytes above `usize::MAX`
+    /// (`IntegerOverflow`), sizes above the limits (`InvalidDimensions`), and pixels of another
+    /// number of bytes (`BufferSizeMismatch`).
+    ///
+    /// Colors of transparent pixels never affect the output. Nor does an alpha below 128.
+    pub fn encode_with(&self, alloc: Global, options: &EncodeOptions) -> Result<String>
+        ensures refused { MatchOption (image_fault (image_value self.now))
+            (IfErr result (λ e. e ≡ SixelError.OutOfMemory))
+            (λ fault. result ≡ Err fault) }
+        ensures text { IfOk result
+            (λ text. IsText (image_value self.now) options.now.max_colors (string_bytes text)) }
+        ensures hidden { (other : Image) (bytes : List ℕ)
+            → shown_image other ≡ shown_image (image_value self.now)
+            → IsText other options.now.max_colors bytes
+            → IfOk result (λ text. string_bytes text ≡ bytes) }
+        ensures shortest { IfOk result (λ text. (drawing : Drawing)
+            × IsDrawing (image_value self.now) options.now.max_colors drawing
+            × (string_bytes text ≡ text_of drawing) × AreShortest drawing) }
+        ensures one_string { (limit : ℕ) → self.now.width * banded self.now.height ≤ limit
+            → IfOk result (λ text. IsOneString limit (string_bytes text)) }
+        ensures readable { OnOk result (CanRead new_decoder self.now.width self.now.height) }
+        ensures read_back { (decoder : DecoderState)
+            → CanRead decoder self.now.width self.now.height
+            → IfOk result (λ text. (drawing : Drawing)
+            × IsDrawing (image_value self.now) options.now.max_colors drawing
+            × IsReadAs decoder (string_bytes text) (trip decoder.raster_crop drawing)) }
+        ensures again { (decoder : DecoderState)
+            → CanRead decoder self.now.width self.now.height
+            → IsTrip decoder.raster_crop (image_value self.now) options.now.max_colors
+            → self.now.background_mode ≡ BackgroundMode.Transparent
+            → IfOk result (λ text. IsReadAs decoder (string_bytes text) (image_value self.now)) }
+    {
+        let source = Source {
+            pixels: &self.pixels,
+            width: self.width,
+            height: self.height,
+            aspect_ratio: self.aspect_ratio,
+            background_mode: self.background_mode,
+        };
+        one_drawing();
+        encode_source(alloc, &source, options.max_colors)
+    }
+
+    /// Returns the output of [`encode`](Self::encode), or a line with its error.
+    pub fn to_display_string(&self, alloc: Global) -> Result<String>
+        ensures memory { IfErr result (λ e. e ≡ SixelError.OutOfMemory) }
+        ensures text { image_fault (image_value self.now) ≡ None
+            → IfOk result (λ text. IsText (image_value self.now) 256 (string_bytes text)) }
+        ensures refused { (fault : SixelError) → image_fault (image_value self.now) ≡ Some fault
+            → IfOk result (λ text. (words : List ℕ) × (string_bytes text
+            ≡ codes "[SIXEL encoding failed: " ++ words ++ codes "]")) }
+    {
+        match self.encode(alloc) {
+            Err(SixelError::OutOfMemory) => Err(SixelError::OutOfMemory),
+            Err(error) => refusal_line(alloc, error),
+            Ok(text) => Ok(text),
+        }
+    }
+}
+
+/// A line with the error of an image that has no SIXEL output.
+fn refusal_line(alloc: Global, error: SixelError) -> Result<String>
+    ensures memory { IfErr result (λ e. e ≡ SixelError.OutOfMemory) }
+    ensures text { IfOk result (λ text. (words : List ℕ) × (string_bytes text
+        ≡ codes "[SIXEL encoding failed: " ++ words ++ codes "]")) }
+{
+    let error = format!(in alloc; "{error}")?;
+    Ok(format!(in alloc; "[SIXEL encoding failed: {error}]")?)
+}
