@@ -20,7 +20,7 @@ use Rattle.sixel_base.specs.declared.status.SixelDcsFeedResult.{SixelDcsFeedResu
 use Rattle.sixel_base.specs.declared.status.SixelDcsFeedStatus.{SixelDcsFeedStatus}
 use Rattle.sixel_base.specs.declared.status.SixelDcsFeedStatus.TheVariants.{NeedMoreData, Complete, Cancelled, Interrupted}
 use Rattle.sixel_decoder.specs.declared.frame.Frame.{Frame}
-use Rattle.sixel_decoder.specs.declared.painter.Picture.{Picture}
+use Rattle.sixel_decoder.specs.declared.decoded_payload.DecodedPayload.{DecodedPayload}
 use Rattle.sixel_decoder.specs.declared.dcs_stream.Phase.{Phase}
 use Rattle.sixel_decoder.specs.declared.dcs_stream.Phase.TheVariants as phases
 use Rattle.sixel_base.specs.Dcs.{Stage, Heading, Failing, Reading, introduced, stage, stage_status, stage_count, stage_fault, after_terminator, end_count, payload_count, payload_status, payload_status_by, dcs_status, dcs_count, dcs_fault, dcs_growths, ended_by, end_fault, has_ended, has_come, IsSameString, IsStringImage, AreStringRegisters}
@@ -258,7 +258,7 @@ sound_by limit payload rest (Some t) is come sound =
     ap (λ (w : Option ℕ). first_fault limit (if is_some w then history_of (front payload) else closed (history_of (front payload)))) (sym is) ∙ sound
 
 -- then its image is refused for want of memory alone
-pub string_refused_at_end : (result : Result Picture SixelError) (intake : Session)
+pub string_refused_at_end : (result : Result DecodedPayload SixelError) (intake : Session)
     (decoder : DecoderState) (ended : Option SixelDcsFeedStatus) (bytes : List ℕ)
     → IsInPayload intake decoder ended bytes → has_come ended ≡ true
     → IfErr result (λ error. MatchBool intake.is_refused (IsFault error StreamFailed)
@@ -275,7 +275,7 @@ string_refused_at_end (Err e) intake decoder ended bytes is come refused =
     subst (λ (b : Bool). MatchBool b (IsFault e StreamFailed) (Faults e (is_none (payload_fault limit intake.bytes)) (payload_fault limit intake.bytes))) is.accepted refused in
     rw over (subst (λ (f : Option Fault). Faults e (is_none f) f) fine told)
 
-pub string_image : (result : Result Picture SixelError) (intake : Session) (decoder : DecoderState) (ended : Option SixelDcsFeedStatus) (bytes : List ℕ)
+pub string_image : (result : Result DecodedPayload SixelError) (intake : Session) (decoder : DecoderState) (ended : Option SixelDcsFeedStatus) (bytes : List ℕ)
     → IsInPayload intake decoder ended bytes → IfOk result (λ picture. picture_value picture ≡ payload_image intake.origin intake.bytes)
     → IfOk result (λ picture. IsStringImage decoder (stage bytes) (picture_value picture))
 string_image (Ok picture) intake decoder ended bytes is image =
@@ -283,7 +283,7 @@ string_image (Ok picture) intake decoder ended bytes is image =
     (image ∙ ap (λ (o : Origin). payload_image o intake.bytes) is.start)
 string_image (Err e) intake decoder ended bytes is image = tt
 
-pub string_registers : (result : Result Picture SixelError) (intake : Session) (decoder : DecoderState) (ended : Option SixelDcsFeedStatus) (bytes : List ℕ)
+pub string_registers : (result : Result DecodedPayload SixelError) (intake : Session) (decoder : DecoderState) (ended : Option SixelDcsFeedStatus) (bytes : List ℕ)
     → IsInPayload intake decoder ended bytes → IfOk result (λ picture. picture.registers ≡ payload_registers intake.origin intake.bytes)
     → IfOk result (λ picture. AreStringRegisters decoder (stage bytes) picture.registers)
 string_registers (Ok picture) intake decoder ended bytes is defined =
@@ -292,7 +292,7 @@ string_registers (Ok picture) intake decoder ended bytes is defined =
 string_registers (Err e) intake decoder ended bytes is defined = tt
 
 -- which is what is decoded at once, whatever follows the end
-pub string_decoded : (result : Result Picture SixelError) (intake : Session) (decoder : DecoderState) (ended : Option SixelDcsFeedStatus) (bytes more : List ℕ)
+pub string_decoded : (result : Result DecodedPayload SixelError) (intake : Session) (decoder : DecoderState) (ended : Option SixelDcsFeedStatus) (bytes more : List ℕ)
     → IsInPayload intake decoder ended bytes → has_come ended ≡ true → OnOk result (payload_fault intake.origin.pixel_limit intake.bytes ≡ None)
     → IfOk result (λ picture. picture_value picture ≡ payload_image intake.origin intake.bytes)
     → IfOk result (λ picture. picture.registers ≡ payload_registers intake.origin intake.bytes)

@@ -10,8 +10,8 @@ use Rattle.sixel_base.specs.Stroke.{Origin}
 use Rattle.sixel_base.specs.Payload.{first_fault, closed, growths, settled, fed_fault}
 use Rattle.sixel_base.specs.declared.status.SixelFeedResult.{SixelFeedResult}
 use Rattle.sixel_decoder.specs.declared.frame.Frame.{Frame}
-use Rattle.sixel_decoder.specs.declared.frame.Phase.{Phase}
-use Rattle.sixel_decoder.specs.declared.frame.Phase.TheVariants.{Ground, InRepeat, InRaster, InColor}
+use Rattle.sixel_decoder.specs.declared.frame.OpenCommand.{OpenCommand}
+use Rattle.sixel_decoder.specs.declared.frame.OpenCommand.TheVariants.{Ground, InRepeat, InRaster, InColor}
 use Rattle.sixel_decoder.specs.inside.Painter.{Shows}
 use Rattle.sixel_base.specs.Status.{status_of}
 use Rattle.sixel_decoder.specs.inside.Frame.{StandsIn, StandsAfter, Feeds, after, settled_after}
@@ -92,7 +92,7 @@ closed-ended (Newline ∷ h) ended = refl
 closed-ended (Skip _ ∷ h) ended = refl
 
 -- what was drawn is what is closed
-stands_shown : (phase : Phase) (o : Origin) (frame : Frame) (h : History) → StandsIn phase o frame h → Shows o frame.painter (closed h)
+stands_shown : (command : OpenCommand) (o : Origin) (frame : Frame) (h : History) → StandsIn command o frame h → Shows o frame.painter (closed h)
 stands_shown Ground o frame h is = subst (λ (w : History). Shows o frame.painter w) (sym (closed-ended h is.ended)) is.shows
 stands_shown InRepeat o frame h is = subst (λ (w : History). Shows o frame.painter (closed w)) (sym is.newest) is.shows
 stands_shown InRaster o frame h is = subst (λ (w : History). Shows o frame.painter (closed w)) (sym is.newest) is.shows
@@ -100,7 +100,7 @@ stands_shown InColor o frame h is = subst (λ (w : History). Shows o frame.paint
 
 pub shown_after : (ended : Bool) (o : Origin) (frame : Frame) (h : History) → StandsAfter ended o frame h → Shows o frame.painter (cond ended h (closed h))
 shown_after true o frame h is = is.1
-shown_after false o frame h is = stands_shown frame.phase o frame h is
+shown_after false o frame h is = stands_shown frame.command o frame h is
 
 after_whole : (before piece : List ℕ) → first_terminator before ≡ None → after (history_of (front before)) piece ≡ history_of (front (before ++ piece))
 after_whole before piece none = sym (fold-append read [] (front before) (front piece)) ∙ ap history_of (sym (front-append before piece none))

@@ -11,12 +11,12 @@ use Rattle.sixel_base.specs.History.{Token, Sixel, Repeat, Raster, Color, Return
 use Rattle.sixel_base.specs.Stroke.{Origin}
 use Rattle.sixel_base.specs.Payload.{first_fault, closed, growths, settled, payload_fault, payload_wants, payload_image}
 use Rattle.sixel_decoder.specs.declared.frame.Frame.{Frame}
-use Rattle.sixel_decoder.specs.declared.frame.Phase.TheVariants.{Ground}
+use Rattle.sixel_decoder.specs.declared.frame.OpenCommand.TheVariants.{Ground}
 use Rattle.sixel_base.specs.Status.{status_of}
 use Rattle.sixel_base.specs.declared.status.SixelFeedStatus.TheVariants.{NeedMoreData, Terminated}
 use Rattle.sixel_decoder.specs.inside.Frame.{Stands, StandsAfter, Decodes, after, settled_after}
 use Rattle.sixel_decoder.specs.inside.Painter.{Shows, Ends}
-use Rattle.sixel_decoder.specs.declared.painter.Picture.{Picture}
+use Rattle.sixel_decoder.specs.declared.decoded_payload.DecodedPayload.{DecodedPayload}
 use Rattle.sixel_decoder.specs.PictureView.{picture_value}
 use Rattle.sixel_decoder.specs.inside.Runs.{IsPrintable, IsSixelByte}
 use Rattle.sixel_decoder.proofs.Framing.{Faults-along, fault_stays, growths-closed}
@@ -254,7 +254,7 @@ ending read piece more is = terminator_after piece (omega (arith, more, is)) ∙
 
 -- a piece that ends at its terminator, which ends the open command
 pub feeds_terminated : (o : Origin) (frame : Frame) (h : History) (read : ℕ) (piece : List ℕ) → read < length piece → read ≡ count piece
-    → frame.phase ≡ Ground → Shows o frame.painter (after h piece)
+    → frame.command ≡ Ground → Shows o frame.painter (after h piece)
     → (read ≡ count piece) × (Terminated (get_or piece read 0) ≡ status_of (first_terminator piece)) × StandsAfter (is_terminated piece) o frame (after h piece)
 feeds_terminated o frame h read piece more is ground shows =
     let some = ending read piece more is in
@@ -300,21 +300,23 @@ feeds_refused e o frame h index piece byte splits ends is r refused =
     ap (λ w. fold read r.now w) (sym (ap front splits ∙ front-carried byte (drop (index + 1) piece) ends is)) ∙ r.ahead in
     refused_settled e o.pixel_limit h r.now next rest piece whole r.grown refused
 
--- and where bytes are read at once, what their first one is
-pub feeds_refused_front : (e : SixelError) (o : Origin) (frame : Frame) (h : History) (index : ℕ) (piece bytes : List ℕ)
-    → bytes ≡ drop index piece → index < length piece → IsPrintable (get_or piece index 0)
+-- and where the byte is printable
+pub feeds_refused_printable : (e : SixelError) (o : Origin) (frame : Frame) (h : History) (index : ℕ) (piece : List ℕ)
+    → index < length piece → IsPrintable (get_or piece index 0)
     → (r : Reaches o frame h index piece)
-    → Faults e (nat_lt (growths (closed r.now)) (growths (closed (read r.now (get_or bytes 0 0))))) (first_fault o.pixel_limit (closed (read r.now (get_or bytes 0 0))))
+    → Faults e (nat_lt (growths (closed r.now)) (growths (closed (read r.now (get_or piece index 0))))) (first_fault o.pixel_limit (closed (read r.now (get_or piece index 0))))
     → Faults e (nat_lt (growths (closed h)) (growths (settled_after h piece))) (first_fault o.pixel_limit (settled_after h piece))
-feeds_refused_front e o frame h index piece bytes is lt test r refused =
-    let byte : ℕ = get_or bytes 0 0 in
+feeds_refused_printable e o frame h index piece lt is r refused =
+    let byte : ℕ = get_or piece index 0 in
+    let ends : is_terminator byte ≡ false = grind (arith, nat_tests, is.0, is.1) in
+    let carries : is_ignored byte ≡ false = grind (arith, nat_tests, is.0, is.1) in
+    feeds_refused e o frame h index piece byte (splits_at piece index lt) ends carries r refused
+
+-- and where bytes are read at once, what their first one is
+pub first_ahead : (index : ℕ) (piece bytes : List ℕ) → bytes ≡ drop index piece → get_or bytes 0 0 ≡ get_or piece index 0
+first_ahead index piece bytes is =
     let place : index + 0 ≡ index = omega arith in
-    let first : byte ≡ get_or piece index 0 = ap (λ (bs : List ℕ). get_or bs 0 0) is ∙ get_or-drop index piece 0 0 ∙ ap (λ (k : ℕ). get_or piece k 0) place in
-    let splits : drop index piece ≡ byte ∷ drop (index + 1) piece = splits_at piece index lt ∙ ap (λ (b : ℕ). b ∷ drop (index + 1) piece) (sym first) in
-    let same : IsPrintable byte = subst IsPrintable (sym first) test in
-    let ends : is_terminator byte ≡ false = grind (arith, nat_tests, same.0, same.1) in
-    let carries : is_ignored byte ≡ false = grind (arith, nat_tests, same.0, same.1) in
-    feeds_refused e o frame h index piece byte splits ends carries r refused
+    ap (λ (bs : List ℕ). get_or bs 0 0) is ∙ get_or-drop index piece 0 0 ∙ ap (λ (k : ℕ). get_or piece k 0) place
 
 -- what a whole payload is refused for while it is fed is what it is refused for at its end
 settled_fault : (limit : ℕ) (bytes : List ℕ) (f : Fault) → first_fault limit (settled bytes) ≡ Some f → payload_fault limit bytes ≡ Some f
@@ -341,7 +343,7 @@ payload_refused e limit bytes refused =
     (λ f is. settled_fault limit bytes f is) refused
 
 -- what is refused at the end of a payload
-pub payload_ends : (result : Result Picture SixelError) (o : Origin) (bytes : List ℕ) → Ends result o (history_of (front bytes)) → Decodes result o bytes
+pub payload_ends : (result : Result DecodedPayload SixelError) (o : Origin) (bytes : List ℕ) → Ends result o (history_of (front bytes)) → Decodes result o bytes
 payload_ends (Ok picture) o bytes is = is
 payload_ends (Err e) o bytes refused =
     Faults-along e (is_none (payload_fault o.pixel_limit bytes)) (payload_wants o.pixel_limit bytes) (payload_fault o.pixel_limit bytes) (payload_fault o.pixel_limit bytes)
@@ -349,6 +351,6 @@ payload_ends (Err e) o bytes refused =
     (λ f is. is) refused
 
 -- the image of a payload that is not refused
-pub decoded_image : (result : Result Picture SixelError) (o : Origin) (bytes : List ℕ) → Decodes result o bytes → IfOk result (λ picture. picture_value picture ≡ payload_image o bytes)
+pub decoded_image : (result : Result DecodedPayload SixelError) (o : Origin) (bytes : List ℕ) → Decodes result o bytes → IfOk result (λ picture. picture_value picture ≡ payload_image o bytes)
 decoded_image (Ok picture) o bytes is = is.1
 decoded_image (Err e) o bytes is = tt

@@ -13,7 +13,7 @@ use Rattle.sixel_base.specs.Dcs.{Introduced, Waiting, Absent, Entered, introduce
 use Rattle.sixel_decoder.specs.Session.{Session}
 use Rattle.sixel_decoder.specs.PictureView.{picture_value}
 use Rattle.sixel_decoder.specs.inside.Following.{IsInPayload}
-use Rattle.sixel_decoder.specs.declared.painter.Picture.{Picture}
+use Rattle.sixel_decoder.specs.declared.decoded_payload.DecodedPayload.{DecodedPayload}
 
 escaped_introducer : (bytes rest : List ℕ) → escaped bytes ≡ Entered rest → (begins_with_p bytes ≡ true) × (without_first bytes ≡ rest)
 escaped_introducer [] rest is = absurd cc
@@ -55,7 +55,7 @@ found_reading bytes s payload is = found_by_introducer bytes (introduced bytes) 
 
 -- ---- what finishing a string in its payload answers
 
-pub found_image : (result : Result Picture SixelError) (intake : Session) (decoder : DecoderState) (ended : Option SixelDcsFeedStatus) (bytes : List ℕ)
+pub found_image : (result : Result DecodedPayload SixelError) (intake : Session) (decoder : DecoderState) (ended : Option SixelDcsFeedStatus) (bytes : List ℕ)
     → IsInPayload intake decoder ended bytes → IfOk result (λ picture. picture_value picture ≡ payload_image intake.origin intake.bytes)
     → IfOk result (λ picture. IsFoundImage decoder (found bytes) (picture_value picture))
 found_image (Ok picture) intake decoder ended bytes is image =
@@ -63,7 +63,7 @@ found_image (Ok picture) intake decoder ended bytes is image =
     (image ∙ ap (λ (o : Origin). payload_image o intake.bytes) is.start)
 found_image (Err e) intake decoder ended bytes is image = tt
 
-pub found_registers : (result : Result Picture SixelError) (intake : Session) (decoder : DecoderState) (ended : Option SixelDcsFeedStatus) (bytes : List ℕ)
+pub found_registers : (result : Result DecodedPayload SixelError) (intake : Session) (decoder : DecoderState) (ended : Option SixelDcsFeedStatus) (bytes : List ℕ)
     → IsInPayload intake decoder ended bytes → IfOk result (λ picture. picture.registers ≡ payload_registers intake.origin intake.bytes)
     → IfOk result (λ picture. AreFoundRegisters decoder (found bytes) picture.registers)
 found_registers (Ok picture) intake decoder ended bytes is defined =

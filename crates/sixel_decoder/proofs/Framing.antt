@@ -5,8 +5,8 @@ use Rattle.std.proofs.lemmas.Bool.{lt-ltb}
 use Rattle.sixel_base.specs.declared.error.SixelError.{SixelError}
 use Rattle.sixel_base.specs.declared.error.SixelError.TheVariants.{InvalidDimensions, BufferSizeMismatch, InvalidData, NoSixelData, IntegerOverflow, OutOfMemory}
 use Rattle.sixel_decoder.specs.declared.frame.Frame.{Frame}
-use Rattle.sixel_decoder.specs.declared.frame.Phase.{Phase}
-use Rattle.sixel_decoder.specs.declared.frame.Phase.TheVariants.{Ground, InRepeat, InRaster, InColor}
+use Rattle.sixel_decoder.specs.declared.frame.OpenCommand.{OpenCommand}
+use Rattle.sixel_decoder.specs.declared.frame.OpenCommand.TheVariants.{Ground, InRepeat, InRaster, InColor}
 use Rattle.sixel_base.specs.Fault.{Fault, Faults, IsFault}
 use Rattle.sixel_base.specs.inside.Parameters.{Parameters, Keeps}
 use Rattle.sixel_base.specs.History.{Token, Sixel, Repeat, Raster, Color, Return, Newline, Skip, History, begun, longer, goes_on, read}
@@ -66,36 +66,14 @@ goes_on_open command o h frame ps byte grows goes is pushed = record {
   shows = is.shows;
 }
 
-pub stands_goes_on : (phase : Phase) (o : Origin) (h : History) (frame : Frame) (ps : Parameters) (byte : ℕ)
-    → goes_on h byte ≡ true → StandsIn phase o frame h
+pub stands_goes_on : (command : OpenCommand) (o : Origin) (h : History) (frame : Frame) (ps : Parameters) (byte : ℕ)
+    → goes_on h byte ≡ true → StandsIn command o frame h
     → ((text : List ℕ) → Keeps frame.parameters text → Keeps ps (text ++ byte ∷ []))
-    → StandsIn phase o (record frame { parameters = ps }) (read h byte)
+    → StandsIn command o (record frame { parameters = ps }) (read h byte)
 stands_goes_on Ground o h frame ps byte goes is pushed = absurd (cc (goes, is.ended byte))
 stands_goes_on InRepeat o h frame ps byte goes is pushed = goes_on_open Repeat o h frame ps byte (λ text older. refl) goes is pushed
 stands_goes_on InRaster o h frame ps byte goes is pushed = goes_on_open Raster o h frame ps byte (λ text older. refl) goes is pushed
 stands_goes_on InColor o h frame ps byte goes is pushed = goes_on_open Color o h frame ps byte (λ text older. refl) goes is pushed
-
--- a byte with no meaning changes nothing
-pub shows_skip : (o : Origin) (painter : Painter) (h : History) (byte : ℕ) → Shows o painter h → Shows o painter (Skip byte ∷ h)
-shows_skip o painter h byte shows = record {
-  pixels = shows.pixels;
-  reached = shows.reached;
-  paid = shows.paid;
-  least = shows.least;
-  registers = shows.registers;
-  color = shows.color;
-  span = shows.span;
-  across = shows.across;
-  down = shows.down;
-  width = shows.width;
-  height = shows.height;
-  raster_height = shows.raster_height;
-  ratio = shows.ratio;
-  settings = shows.settings;
-  crop = shows.crop;
-  limit = shows.limit;
-  faultless = rw shows.faultless refl;
-}
 
 -- where the open command is refused as the next byte comes, so are the tokens up to that byte
 pub refused_close : (e : SixelError) (limit : ℕ) (h : History) (byte : ℕ) → goes_on h byte ≡ false → Faults e false (first_fault limit h)
@@ -104,33 +82,6 @@ refused_close e limit h byte ends is =
     let told : Faults e (nat_lt (growths (closed h)) (growths (closed (begun byte ∷ h)))) (first_fault limit (closed (begun byte ∷ h))) =
     Faults-along e false _ (first_fault limit h) (first_fault limit (closed (begun byte ∷ h))) (λ never. absurd cc) (λ f found. fault_stays limit (begun byte) h f found) is
     in subst (λ (w : History). Faults e (nat_lt (growths (closed h)) (growths (closed w))) (first_fault limit (closed w))) (sym (read_ends h byte ends)) told
-
--- where nothing is open, a frame stands with a token that was drawn and that nothing goes on with
-pub stands_drawn : (o : Origin) (frame : Frame) (h : History) (token : Token) (byte : ℕ) → frame.phase ≡ Ground → begun byte ≡ token
-    → ((b : ℕ) → goes_on (token ∷ h) b ≡ false) → Shows o frame.painter (token ∷ h) → Stands o frame (begun byte ∷ h)
-stands_drawn o frame h token byte ground is ended shows =
-    let drawn : IsDrawn o frame (token ∷ h) = record { ended = ended; shows = shows } in
-    subst (λ (w : Token). Stands o frame (w ∷ h)) (sym is) (subst (λ (p : Phase). StandsIn p o frame (token ∷ h)) (sym ground) drawn)
-
--- where nothing is open, a byte with no meaning leaves a frame that stands
-pub stands_skip : (o : Origin) (frame : Frame) (h : History) (byte : ℕ) → frame.phase ≡ Ground → begun byte ≡ Skip byte
-    → Shows o frame.painter h → Stands o frame (begun byte ∷ h)
-stands_skip o frame h byte ground skips shows =
-    stands_drawn o frame h (Skip byte) byte ground skips (λ b. refl) (shows_skip o frame.painter h byte shows)
-
--- there a sixel is read as it is drawn
-pub reads_sixel : {A : Type 0} → (result : Result A SixelError) (o : Origin) (frame : Frame) (h : History) (byte bits : ℕ) → frame.phase ≡ Ground
-    → begun byte ≡ Sixel bits → Draws result o frame.painter (Sixel bits ∷ h) true → Reads result o frame h (begun byte ∷ h)
-reads_sixel (Ok x) o frame h byte bits ground is shows = stands_drawn o frame h (Sixel bits) byte ground is (λ b. refl) shows
-reads_sixel (Err e) o frame h byte bits ground is refused =
-    let grown : nat_lt (growths (closed h)) (growths h + 1) ≡ true = lt-ltb (growths (closed h)) (growths h + 1) (omega (arith, growths-closed h)) in
-    rw (is, grown) refused
-
--- and so is a step to the next band
-pub reads_newline : {A : Type 0} → (result : Result A SixelError) (o : Origin) (frame : Frame) (h : History) (byte : ℕ) → frame.phase ≡ Ground
-    → begun byte ≡ Newline → Draws result o frame.painter (Newline ∷ h) false → Reads result o frame h (begun byte ∷ h)
-reads_newline (Ok x) o frame h byte ground is shows = stands_drawn o frame h Newline byte ground is (λ b. refl) shows
-reads_newline (Err e) o frame h byte ground is refused = rw is (Faults-along e false _ _ _ (λ never. absurd cc) (λ f found. found) refused)
 
 -- a command that was opened is the newest token
 pub opens : (command : List ℕ → Token) (o : Origin) (new : Frame) (h : History) (byte : ℕ) → begun byte ≡ command [] → Keeps new.parameters []
@@ -142,9 +93,3 @@ opens command o new h byte is keeps shows = record {
   keeps = keeps;
   shows = shows;
 }
-
-pub reads_opened : {A : Type 0} → (result : Result A SixelError) (phase : Phase) (o : Origin) (new : Frame) (h after : History) → IsOk result
-    → new.phase ≡ phase → StandsIn phase o new after → Reads result o new h after
-reads_opened (Ok x) phase o new h after ok opened stands =
-    subst (λ (p : Phase). StandsIn p o new after) (sym opened) stands
-reads_opened (Err e) phase o new h after ok opened stands = absurd cc

@@ -17,4 +17,4 @@ pub mod Finishing
 pub mod Ended
 pub mod Answering
 pub mod Lanes
-pub mod Runs
+pub mod SixelRuns

@@ -10,8 +10,8 @@ use Rattle.sixel_base.specs.Stroke.{Origin}
 use Rattle.sixel_base.specs.inside.Parameters.{IsDigit, Keeps}
 use Rattle.sixel_base.proofs.Reading.{fold-spelling}
 use Rattle.sixel_decoder.specs.declared.frame.Frame.{Frame}
-use Rattle.sixel_decoder.specs.declared.frame.Phase.{Phase}
-use Rattle.sixel_decoder.specs.declared.frame.Phase.TheVariants.{InRepeat, InColor}
+use Rattle.sixel_decoder.specs.declared.frame.OpenCommand.{OpenCommand}
+use Rattle.sixel_decoder.specs.declared.frame.OpenCommand.TheVariants.{InRepeat, InColor}
 use Rattle.sixel_decoder.specs.inside.Frame.{IsOpen, Stands, StandsIn}
 use Rattle.sixel_decoder.specs.inside.Painter.{Shows}
 
@@ -69,18 +69,18 @@ fold_front h (byte ∷ bytes) first n some is =
     ap (λ (m : ℕ). fold read h (take m (byte ∷ bytes))) more ∙ ap (λ (b : ℕ). fold read h (b ∷ take n bytes)) is
 
 module _ (o : Origin) (new : Frame) (h : History) (bytes : List ℕ) (n : ℕ) (some : 0 < length bytes) (le : n ≤ length (drop 1 bytes)) (are : (k : ℕ) → k < n → IsDigit (get_or (drop 1 bytes) k 0)) (keeps : Keeps new.parameters (take n (drop 1 bytes))) (shows : Shows o new.painter h) where
-  pub Stands-repeat : get_or bytes 0 0 ≡ 33 → new.phase ≡ InRepeat → Stands o new (fold read h (take (n + 1) bytes))
-  Stands-repeat is phase =
+  pub Stands-repeat : get_or bytes 0 0 ≡ 33 → new.command ≡ InRepeat → Stands o new (fold read h (take (n + 1) bytes))
+  Stands-repeat is command =
       let text : List ℕ = take n (drop 1 bytes) in
       let newest : fold read h (take (n + 1) bytes) ≡ Repeat text ∷ h =
       fold_front h bytes 33 n some is ∙ fold-spelling h (Repeat text) (all_digits text (AreDigits-take n (drop 1 bytes) le are)) (goes_on_repeat h) in
       let opened : IsOpen Repeat o new (fold read h (take (n + 1) bytes)) = record { text = text; older = h; newest = newest; keeps = keeps; shows = shows } in
-      subst (λ (p : Phase). StandsIn p o new (fold read h (take (n + 1) bytes))) (sym phase) opened
+      subst (λ (p : OpenCommand). StandsIn p o new (fold read h (take (n + 1) bytes))) (sym command) opened
 
-  pub Stands-color : get_or bytes 0 0 ≡ 35 → new.phase ≡ InColor → Stands o new (fold read h (take (n + 1) bytes))
-  Stands-color is phase =
+  pub Stands-color : get_or bytes 0 0 ≡ 35 → new.command ≡ InColor → Stands o new (fold read h (take (n + 1) bytes))
+  Stands-color is command =
       let text : List ℕ = take n (drop 1 bytes) in
       let newest : fold read h (take (n + 1) bytes) ≡ Color text ∷ h =
       fold_front h bytes 35 n some is ∙ fold-spelling h (Color text) (all_parameters text (AreDigits-take n (drop 1 bytes) le are)) (goes_on_color h) in
       let opened : IsOpen Color o new (fold read h (take (n + 1) bytes)) = record { text = text; older = h; newest = newest; keeps = keeps; shows = shows } in
-      subst (λ (p : Phase). StandsIn p o new (fold read h (take (n + 1) bytes))) (sym phase) opened
+      subst (λ (p : OpenCommand). StandsIn p o new (fold read h (take (n + 1) bytes))) (sym command) opened

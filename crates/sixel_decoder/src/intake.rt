@@ -8,9 +8,9 @@ ghost use Rattle.sixel_decoder.specs.PayloadCalls.{IsWriteCount, IsPaintCount};
 ghost use Rattle.sixel_decoder.specs.PictureView.{picture_value};
 ghost use Rattle.sixel_decoder.specs.inside.Intake.{HasRead, GoesOn};
 
+use crate::decoded_payload::DecodedPayload;
 use crate::frame::Frame;
 use crate::log::Log;
-use crate::painter::Picture;
 use sixel_base::settings::DcsSettings;
 use sixel_base::state::DecoderState;
 use sixel_base::status::{SixelFeedResult, SixelFeedStatus};
@@ -107,7 +107,7 @@ impl Intake {
     }
 
     /// The picture of the bytes that were fed.
-    pub fn finish(self) -> Result<Picture>
+    pub fn finish(self) -> Result<DecodedPayload>
         ensures { IsFinished picture_value (λ picture. picture.registers) self result }
     {
         let Intake { frame, .. } = self;

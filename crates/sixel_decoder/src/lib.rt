@@ -4,7 +4,9 @@
 #![tactic(auto)]
 
 mod bytes;
+mod colors;
 mod dcs_stream;
+mod decoded_payload;
 mod frame;
 mod header;
 mod intake;
@@ -12,8 +14,11 @@ mod log;
 mod one_shot;
 mod painter;
 mod progress;
+mod raster;
+mod row_ends;
+mod runs;
 
+pub use decoded_payload::DecodedPayload;
 pub use intake::Intake;
 pub use one_shot::{decode_found, decode_payload};
-pub use painter::Picture;
 pub use progress::Progress;

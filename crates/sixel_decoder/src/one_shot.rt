@@ -12,16 +12,16 @@ ghost use Rattle.sixel_decoder.specs.PictureView.{picture_value};
 ghost use Rattle.sixel_decoder.specs.inside.Frame.{Stands, Decodes};
 
 use crate::bytes::tail;
+use crate::decoded_payload::DecodedPayload;
 use crate::frame::Frame;
 use crate::header::{introducer_end, read_header};
-use crate::painter::Picture;
 use sixel_base::Result;
 use sixel_base::settings::DcsSettings;
 use sixel_base::state::DecoderState;
 use std::alloc::Global;
 
 /// Decodes the first control string in the bytes, or all of them as a payload if there is none.
-pub fn decode_found(alloc: Global, decoder: DecoderState, bytes: &[u8]) -> Result<Picture>
+pub fn decode_found(alloc: Global, decoder: DecoderState, bytes: &[u8]) -> Result<DecodedPayload>
     ensures image { IfOk result (λ picture.
         IsFoundImage decoder (found bytes.now) (picture_value picture)) }
     ensures registers { IfOk result (λ picture.
@@ -49,7 +49,7 @@ pub fn decode_payload(
     decoder: DecoderState,
     bytes: &[u8],
     settings: DcsSettings,
-) -> Result<Picture>
+) -> Result<DecodedPayload>
     ensures image { IfOk result (λ picture. picture_value picture ≡ payload_image
         (origin_of decoder settings) bytes.now) }
     ensures registers { IfOk result (λ picture. picture.registers ≡ payload_registers
@@ -65,7 +65,7 @@ pub fn decode_payload(
 }
 
 /// Reads a payload by a frame that has read nothing yet, and gives the picture.
-fn read_whole(mut frame: Frame, bytes: &[u8]) -> Result<Picture>
+fn read_whole(mut frame: Frame, bytes: &[u8]) -> Result<DecodedPayload>
     ensures { (o : Origin) → Stands o frame [] → Decodes result o bytes.now }
 {
     match frame.feed(bytes) {

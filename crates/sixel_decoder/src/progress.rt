@@ -8,8 +8,8 @@ ghost use Rattle.sixel_decoder.specs.PictureView.{picture_value};
 ghost use Rattle.sixel_decoder.specs.declared.dcs_stream.Phase.TheVariants.{Refused};
 
 use crate::dcs_stream::{Phase, follow};
+use crate::decoded_payload::DecodedPayload;
 use crate::log::Log;
-use crate::painter::Picture;
 use sixel_base::state::DecoderState;
 use sixel_base::status::{SixelDcsFeedResult, SixelDcsFeedStatus};
 use sixel_base::{Result, SixelError};
@@ -111,7 +111,7 @@ impl Progress {
     }
 
     /// The picture of the payload, once the control string has ended.
-    pub fn finish(self) -> Result<Picture>
+    pub fn finish(self) -> Result<DecodedPayload>
         ensures { IsFinished picture_value (λ picture. picture.registers) self result }
     {
         let Progress { phase, ended, .. } = self;

@@ -10,7 +10,7 @@ use Rattle.sixel_base.specs.History.{History, Sixel, read}
 use Rattle.sixel_base.specs.Place.{span, across, down, width, height, raster_height}
 use Rattle.sixel_base.specs.Stroke.{Origin, pixel, registers, color, ratio}
 use Rattle.sixel_base.specs.Payload.{first_fault, image_of}
-use Rattle.sixel_decoder.specs.declared.painter.Picture.{Picture}
+use Rattle.sixel_decoder.specs.declared.decoded_payload.DecodedPayload.{DecodedPayload}
 use Rattle.sixel_decoder.specs.PictureView.{picture_value}
 use Rattle.sixel_base.specs.Reach.{row_reach}
 use Rattle.sixel_decoder.specs.Paints.{sixels, least_count}
@@ -66,7 +66,7 @@ pub record IsExtended (old new : Painter) (wide high : ℕ) : Type 0 where
 
 -- The history has no fault, and this is its image, within the limit, with the registers after it; or it is refused by its first fault,
 -- and for want of memory only where it has an image.
-abbrev pub Ends : Result Picture SixelError → Origin → History → Type 0
+abbrev pub Ends : Result DecodedPayload SixelError → Origin → History → Type 0
 Ends result origin history =
     MatchResult result
     (λ picture. (first_fault origin.pixel_limit history ≡ None) × (picture_value picture ≡ image_of origin history)
@@ -74,7 +74,7 @@ Ends result origin history =
     (λ error. Faults error (is_none (first_fault origin.pixel_limit history)) (first_fault origin.pixel_limit history))
 
 -- The next sixel is of one column, inside the picture, and all six rows of the canvas hold it and have no tag.
-pub record IsAlone (painter : Painter) : Type 0 where
+pub record FitsColumn (painter : Painter) : Type 0 where
   pub single : painter.span ≡ 1
   pub above_bottom : painter.down + 6 ≤ painter.height
   pub inside : painter.across < painter.width

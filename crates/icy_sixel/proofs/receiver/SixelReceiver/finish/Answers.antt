@@ -4,7 +4,7 @@ use Rattle.sixel_base.specs.declared.error.SixelError.{SixelError}
 use Rattle.sixel_base.specs.Payload.{payload_fault, payload_image, payload_registers}
 use Rattle.sixel_base.specs.OneShot.{Payload, IsDecodedAs}
 use Rattle.sixel_base.specs.Stroke.{Origin}
-use Rattle.sixel_decoder.specs.declared.painter.Picture.{Picture}
+use Rattle.sixel_decoder.specs.declared.decoded_payload.DecodedPayload.{DecodedPayload}
 use Rattle.sixel_decoder.specs.PictureView.{picture_value}
 use Rattle.icy_sixel.specs.Receiver.{Receiver, Reception, found_followed}
 use Rattle.icy_sixel.specs.inside.Receiving.{reception_of}
@@ -13,10 +13,10 @@ use Rattle.icy_sixel.proofs.receiver.SixelReceiver.finish.Goals as goal
 use Rattle.icy_sixel.proofs.receiver.SixelReceiver.finish.Goals.{in-Nothing, in-Payload, in-ControlString}
 
 -- the picture of an image, whatever follows its bytes
-abbrev Decoded : Result Picture SixelError → List ℕ → Reception → Type 0
+abbrev Decoded : Result DecodedPayload SixelError → List ℕ → Reception → Type 0
 Decoded result more image = IfOk result (λ picture. IsDecodedAs image.start (found_followed image.form image.bytes more) (picture_value picture) picture.registers)
 
-payload_decoded : (result : Result Picture SixelError) (o : Origin) (bytes : List ℕ) → OnOk result (payload_fault o.pixel_limit bytes ≡ None)
+payload_decoded : (result : Result DecodedPayload SixelError) (o : Origin) (bytes : List ℕ) → OnOk result (payload_fault o.pixel_limit bytes ≡ None)
     → IfOk result (λ picture. picture_value picture ≡ payload_image o bytes) → IfOk result (λ picture. picture.registers ≡ payload_registers o bytes)
     → IfOk result (λ picture. IsDecodedAs (record { registers = o.registers; raster_crop = o.raster_crop; pixel_limit = o.pixel_limit }) (Payload o.settings bytes) (picture_value picture) picture.registers)
 payload_decoded (Ok picture) o bytes sound image registers = (sound, image, registers)

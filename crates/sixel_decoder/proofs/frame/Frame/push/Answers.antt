@@ -7,7 +7,7 @@ use Rattle.sixel_decoder.proofs.frame.Frame.push.Goals as goal
 pub returns-then-takes : goal.returns-then-takes
 returns-then-takes c = λ o h stands.
     let goes : goes_on h c.args.byte ≡ true = sym (c.takes.ensures.takes o h stands) ∙ c.if-takes.true in
-    stands_goes_on c.args.self.now.phase o h c.args.self.now c.push.new.self c.args.byte goes stands c.push.ensures
+    stands_goes_on c.args.self.now.command o h c.args.self.now c.push.new.self c.args.byte goes stands c.push.ensures
 
 pub returns-in_err-close : goal.returns-in_err-close
 returns-in_err-close c = λ o h stands.

@@ -11,12 +11,12 @@ use Rattle.sixel_decoder.specs.inside.Painter.{Ends}
 use Rattle.sixel_decoder.specs.inside.Frame.{Decodes}
 use Rattle.sixel_decoder.specs.inside.Intake.{session_of, HasRead}
 use Rattle.sixel_decoder.specs.declared.frame.Frame.{Frame}
-use Rattle.sixel_decoder.specs.declared.painter.Picture.{Picture}
+use Rattle.sixel_decoder.specs.declared.decoded_payload.DecodedPayload.{DecodedPayload}
 use Rattle.sixel_decoder.proofs.Feeding.{payload_ends}
 use Rattle.sixel_decoder.proofs.intake.Intake.finish.Goals as goal
 
 -- how a session is finished whose frame ended its history
-finished_by : (result : Result Picture SixelError) (s : Session) → s.is_refused ≡ false
+finished_by : (result : Result DecodedPayload SixelError) (s : Session) → s.is_refused ≡ false
     → Ends result s.origin (history_of (front s.bytes))
     → IsFinished picture_value (λ picture. picture.registers) s result
 finished_by (Ok picture) s accepted ends = record {
