@@ -25,12 +25,12 @@ use Rattle.sixel_base.specs.declared.status.SixelDcsFeedStatus.{SixelDcsFeedStat
 use Rattle.sixel_base.specs.declared.status.SixelFeedStatus.{SixelFeedStatus}
 use Rattle.sixel_base.specs.OneShot.{Found, found, IsDecodedAs, found_fault, found_wants, IsFoundImage, AreFoundRegisters}
 use Rattle.icy_sixel.specs.Script.{IsDecoding, IsSessionOutcome, frame_meaning, string_meaning}
-use Rattle.sixel_decoder.proofs.Feeding.{payload_refused, or_right}
+use Rattle.sixel_decoder.proofs.ChunkReads.{payload_refused, or_right}
 use Rattle.sixel_base.specs.Dcs.{dcs_status, dcs_count, dcs_fault, dcs_growths, has_ended, end_fault}
 use Rattle.icy_sixel.specs.inside.Playing.{IsWhole}
-use Rattle.sixel_decoder.proofs.Framing.{Faults-along}
-use Rattle.sixel_decoder.proofs.Appending.{first_terminator-ended}
-use Rattle.sixel_decoder.proofs.Ended.{front_ended, count_ended, settled_ended, fed_fault_stays, growths_stay, status_ended, dcs_count_ended, dcs_fault_ended, dcs_fault_stays, dcs_growths_stay}
+use Rattle.sixel_decoder.proofs.ParserSteps.{Faults-along}
+use Rattle.sixel_decoder.proofs.Chunks.{first_terminator-ended}
+use Rattle.sixel_decoder.proofs.Finality.{front_ended, count_ended, settled_ended, fed_fault_stays, growths_stay, status_ended, dcs_count_ended, dcs_fault_ended, dcs_fault_stays, dcs_growths_stay}
 
 -- what was fed and what is left make up all bytes, also after one piece more
 pub rejoined : (before piece after left rest bytes : List ℕ) → after ≡ before ++ piece → piece ++ left ≡ rest → before ++ rest ≡ bytes → after ++ left ≡ bytes

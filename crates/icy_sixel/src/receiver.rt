@@ -21,7 +21,7 @@ use crate::decoder::{DcsSettings, SixelDcsFeedResult, SixelDecoder, SixelFeedRes
 use crate::script::Status;
 use crate::sixel_image::SixelImage;
 use sixel_base::{Result, SixelError};
-use sixel_decoder::{Intake, Progress};
+use sixel_decoder::{DcsReader, PayloadReader};
 use std::alloc::Global;
 use std::marker::Model;
 use std::mem;
@@ -39,8 +39,8 @@ pub struct Received {
 #[derive(Drop)]
 enum Open {
     Nothing,
-    Payload(Intake),
-    ControlString(Progress),
+    Payload(PayloadReader),
+    ControlString(DcsReader),
 }
 
 /// A decoder, and at most one image that it is receiving.
@@ -121,7 +121,7 @@ impl SixelReceiver {
         ensures decoder { self.new.decoder ≡ self.old.decoder }
         ensures image { self.new.image ≡ begun (OfPayload settings) self.old.decoder }
     {
-        let intake = Intake::new(alloc, self.decoder.state, settings);
+        let intake = PayloadReader::new(alloc, self.decoder.state, settings);
         self.replace_open(Open::Payload(intake));
     }
 
@@ -132,7 +132,7 @@ impl SixelReceiver {
         ensures decoder { self.new.decoder ≡ self.old.decoder }
         ensures image { self.new.image ≡ begun OfString self.old.decoder }
     {
-        let progress = Progress::new(alloc, self.decoder.state);
+        let progress = DcsReader::new(alloc, self.decoder.state);
         self.replace_open(Open::ControlString(progress));
     }
 

@@ -1,6 +1,6 @@
 -- What sixels of one column each that stand inside the picture do to the words of a history: they change pixels and the place alone.
-use Rattle.std.proofs.Common.{◌≡◌, Result, Ok, Err, ℕ, zero, suc, ◌+◌, ◌*◌, ◌<◌, ◌≤◌, ◌-◌, Bool, true, false, max, List, [], ◌∷◌, ◌++◌, length, get_or, take, drop, length-take, get_or-take, get_or-drop, take-add, take_all, add-one, subst, refl, sym, ap, ◌∙◌, inl, inr, None, arith}
-use Rattle.std.specs.Prelude.{fold, IfOk, IsTrue, nat_lt, nat_le, ◌&&◌, if◌then◌else◌}
+use Rattle.std.proofs.Common.{◌≡◌, ℕ, zero, suc, ◌+◌, ◌*◌, ◌<◌, ◌≤◌, ◌-◌, Bool, true, false, max, List, [], ◌∷◌, ◌++◌, length, get_or, take, drop, length-take, get_or-take, get_or-drop, take-add, take_all, add-one, subst, refl, sym, ap, ◌∙◌, inl, inr, None, arith}
+use Rattle.std.specs.Prelude.{fold, IsTrue, nat_lt, nat_le, ◌&&◌, if◌then◌else◌}
 use Rattle.std.proofs.lemmas.List.{get_or_past}
 use Rattle.std.proofs.lemmas.Bool.{cases_lt, le-ltb, lt-leb, le-leb, lt-ltb}
 use Rattle.sixel_base.specs.History.{Sixel, Repeat, Raster, Color, Return, Newline, Skip, History, goes_on, read}
@@ -19,16 +19,16 @@ use Rattle.sixel_canvas.proofs.Underway.{reached_held}
 use Rattle.sixel_canvas.specs.inside.Block.{drawn_over}
 use Rattle.sixel_canvas.specs.inside.Canvas.{CanvasState, shown, reached}
 use Rattle.sixel_decoder.specs.declared.painter.Painter.{Painter}
-use Rattle.sixel_decoder.specs.inside.Painter.{FitsColumn, Shows, DrawsFront}
-use Rattle.sixel_decoder.specs.declared.frame.Frame.{Frame}
-use Rattle.sixel_decoder.specs.declared.frame.OpenCommand.{OpenCommand}
-use Rattle.sixel_decoder.specs.declared.frame.OpenCommand.TheVariants.{Ground}
-use Rattle.sixel_decoder.specs.inside.Frame.{IsDrawn, Stands, StandsIn}
+use Rattle.sixel_decoder.specs.inside.Painter.{FitsColumn, Shows}
+use Rattle.sixel_decoder.specs.declared.payload_parser.PayloadParser.{PayloadParser}
+use Rattle.sixel_decoder.specs.declared.payload_parser.OpenCommand.{OpenCommand}
+use Rattle.sixel_decoder.specs.declared.payload_parser.OpenCommand.TheVariants.{Ground}
+use Rattle.sixel_decoder.specs.inside.PayloadParser.{IsDrawn, Stands, StandsIn}
 use Rattle.sixel_canvas.specs.inside.Paints.{counted}
 use Rattle.sixel_decoder.specs.Paints.{sixels, least_paints}
 use Rattle.sixel_decoder.specs.inside.Runs.{IsSixelByte, IsRun, Holds, bits_of, four_of, next_end, end_of, columns_for}
-use Rattle.sixel_decoder.proofs.Framing.{growths-closed}
-use Rattle.sixel_decoder.proofs.Paid.{least-sixel, least-single}
+use Rattle.sixel_decoder.proofs.ParserSteps.{growths-closed}
+use Rattle.sixel_decoder.proofs.PaintCounts.{least-sixel, least-single}
 
 -- the history after sixels with these bits
 abbrev pub with_sixels : History → List ℕ → History
@@ -572,8 +572,8 @@ ended-run h [] some are = absurd (omega (arith, some))
 ended-run h (byte ∷ run) some are =
     ended-sixels (read h byte) run (λ k lt. are (suc k) (omega arith)) (λ next. ap (λ (w : History). goes_on w next) (read_sixel h byte (are 0 (omega arith))))
 
--- a frame whose painter has drawn a run at the front
-pub Stands-run : (o : Origin) (new : Frame) (h : History) (n : ℕ) (bytes : List ℕ) → new.command ≡ Ground → 0 < n → n ≤ length bytes → ((k : ℕ) → k < n → IsSixelByte (get_or bytes k 0))
+-- a parser whose painter has drawn a run at the front
+pub Stands-run : (o : Origin) (new : PayloadParser) (h : History) (n : ℕ) (bytes : List ℕ) → new.command ≡ Ground → 0 < n → n ≤ length bytes → ((k : ℕ) → k < n → IsSixelByte (get_or bytes k 0))
     → Shows o new.painter (fold read h (take n bytes)) → Stands o new (fold read h (take n bytes))
 Stands-run o new h n bytes ground some le are shows =
     let after : History = fold read h (take n bytes) in
@@ -585,8 +585,8 @@ pub fold_one : (h : History) (bytes : List ℕ) → 0 < length bytes → IsSixel
 fold_one h [] some is = absurd (omega (arith, some))
 fold_one h (byte ∷ bytes) some is = read_sixel h byte is
 
--- a frame whose painter has drawn it
-pub Stands-one : (o : Origin) (new : Frame) (h : History) (bytes : List ℕ) → new.command ≡ Ground → 0 < length bytes → IsSixelByte (get_or bytes 0 0)
+-- a parser whose painter has drawn it
+pub Stands-one : (o : Origin) (new : PayloadParser) (h : History) (bytes : List ℕ) → new.command ≡ Ground → 0 < length bytes → IsSixelByte (get_or bytes 0 0)
     → Shows o new.painter (Sixel (get_or bytes 0 0 - 63) ∷ h) → Stands o new (fold read h (take 1 bytes))
 Stands-one o new h bytes ground some sixel shows =
     let after : History = Sixel (get_or bytes 0 0 - 63) ∷ h in

@@ -1,5 +1,5 @@
 use Rattle.std.proofs.Common.{sym, ◌∙◌, arith}
-use Rattle.sixel_decoder.proofs.Defining.{defined-few, defined-hls, defined-rgb, defined-not}
+use Rattle.sixel_decoder.proofs.ColorDefinitions.{defined-few, defined-hls, defined-rgb, defined-not}
 use Rattle.sixel_decoder.proofs.colors.define.Goals as goal
 
 pub returns-then-len-lt5 : goal.returns-then-len-lt5

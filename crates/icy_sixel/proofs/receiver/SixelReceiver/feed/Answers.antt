@@ -16,9 +16,9 @@ use Rattle.icy_sixel.specs.declared.script.Status.TheVariants as statuses
 use Rattle.icy_sixel.specs.Receiver.{Form, OfString, Receiver, is_over, status}
 use Rattle.icy_sixel.specs.inside.Receiving.{reception_of}
 use Rattle.icy_sixel.specs.declared.receiver.Open.{Open}
-use Rattle.sixel_decoder.proofs.Feeding.{payload_refused}
-use Rattle.sixel_decoder.proofs.Answering.{dcs_count-most, frame_over, string_over}
-use Rattle.sixel_decoder.proofs.Ended.{dcs_count_ended, status_ended, dcs_fault_ended}
+use Rattle.sixel_decoder.proofs.ChunkReads.{payload_refused}
+use Rattle.sixel_decoder.proofs.Sessions.{dcs_count-most, frame_over, string_over}
+use Rattle.sixel_decoder.proofs.Finality.{dcs_count_ended, status_ended, dcs_fault_ended}
 use Rattle.icy_sixel.proofs.Playing.{frame_refused, string_refused}
 use Rattle.icy_sixel.proofs.receiver.SixelReceiver.feed.Goals as goal
 use Rattle.icy_sixel.proofs.receiver.SixelReceiver.feed.Goals.{in-Nothing, in-Payload+in_ok-feed-in-Payload, in-ControlString+in_ok-feed-in-ControlString}

@@ -2,7 +2,7 @@ use Rattle.std.proofs.Common.{◌≡◌, ℕ, true, false, Some, ◌++◌, [], a
 use Rattle.std.proofs.lemmas.List.{append-nil}
 use Rattle.sixel_base.specs.Bytes.{first_terminator}
 use Rattle.sixel_base.specs.Status.{status_of}
-use Rattle.sixel_decoder.proofs.Terminating.{terminated_by}
+use Rattle.sixel_decoder.proofs.DcsEnds.{terminated_by}
 use Rattle.icy_sixel.proofs.Playing.{rejoined, SameFrame, frame_whole, frame_refusal}
 use Rattle.icy_sixel.proofs.script.playing.feed_frame.Goals as goal
 use Rattle.icy_sixel.proofs.script.playing.feed_frame.Goals.{in-NeedMoreData, in_default-matches}

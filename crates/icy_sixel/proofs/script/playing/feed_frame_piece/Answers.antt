@@ -1,5 +1,5 @@
 use Rattle.std.proofs.Common.{length, arith, ap, length-append}
-use Rattle.sixel_decoder.proofs.Terminating.{count-fits}
+use Rattle.sixel_decoder.proofs.DcsEnds.{count-fits}
 use Rattle.icy_sixel.proofs.script.playing.feed_frame_piece.Goals as goal
 
 pub overflow_add-fed : goal.overflow_add-fed

@@ -1,5 +1,5 @@
 use Rattle.std.proofs.Common.{length, arith, ap, length-append}
-use Rattle.sixel_decoder.proofs.Answering.{dcs_count-fits}
+use Rattle.sixel_decoder.proofs.Sessions.{dcs_count-fits}
 use Rattle.icy_sixel.proofs.script.playing.feed_string_piece.Goals as goal
 
 pub overflow_add-read : goal.overflow_add-read

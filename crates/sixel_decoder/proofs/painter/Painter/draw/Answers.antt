@@ -1,6 +1,6 @@
 use Rattle.std.proofs.Common.{◌≡◌, ◌+◌, ℕ, subst, arith}
 use Rattle.sixel_decoder.specs.inside.Painter.{IsExtended}
-use Rattle.sixel_decoder.proofs.Drawing.{refused_sixel}
+use Rattle.sixel_decoder.proofs.Sixels.{refused_sixel}
 use Rattle.sixel_decoder.proofs.painter.Painter.draw.Goals as goal
 
 pub draw_up_to-requires-clause-right : goal.draw_up_to-requires-clause-right

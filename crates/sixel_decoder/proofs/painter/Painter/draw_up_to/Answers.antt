@@ -1,5 +1,5 @@
 use Rattle.std.proofs.Common.{◌≡◌, length, refl, rules}
-use Rattle.sixel_decoder.proofs.Drawing.{Shows-drawn, draws_unless}
+use Rattle.sixel_decoder.proofs.Sixels.{Shows-drawn, draws_unless}
 use Rattle.sixel_decoder.proofs.painter.Painter.draw_up_to.Goals as goal
 
 pub returns : goal.returns

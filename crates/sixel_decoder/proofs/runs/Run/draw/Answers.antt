@@ -1,5 +1,5 @@
 use Rattle.std.proofs.Common.{◌+◌, ◌<◌, ◌≤◌, length, ◌∙◌, arith}
-use Rattle.sixel_decoder.proofs.Paid.{least-four}
+use Rattle.sixel_decoder.proofs.PaintCounts.{least-four}
 use Rattle.sixel_decoder.proofs.SixelRuns.{drawn_by_four, drawn_whole, four_held}
 use Rattle.sixel_decoder.proofs.runs.Run.draw.Goals as goal
 

@@ -1,5 +1,5 @@
 use Rattle.std.proofs.Common.{ℕ, List, ◌++◌, refl, arith}
-use Rattle.sixel_decoder.proofs.Answering.{string_over, string_within, string_same}
+use Rattle.sixel_decoder.proofs.Sessions.{string_over, string_within, string_same}
 use Rattle.icy_sixel.proofs.Playing.{string_refused}
 use Rattle.icy_sixel.proofs.decoder.dcs_session.SixelDcsStreamDecoder.feed.Goals as goal
 

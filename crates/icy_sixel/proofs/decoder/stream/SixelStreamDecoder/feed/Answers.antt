@@ -1,6 +1,6 @@
 use Rattle.std.proofs.Common.{ℕ, List, [], ◌++◌, append-nil, refl}
-use Rattle.sixel_decoder.proofs.Answering.{frame_over}
-use Rattle.sixel_decoder.proofs.Feeding.{payload_refused}
+use Rattle.sixel_decoder.proofs.Sessions.{frame_over}
+use Rattle.sixel_decoder.proofs.ChunkReads.{payload_refused}
 use Rattle.icy_sixel.proofs.Playing.{frame_refused}
 use Rattle.icy_sixel.proofs.decoder.stream.SixelStreamDecoder.feed.Goals as goal
 
