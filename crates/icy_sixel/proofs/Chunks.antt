@@ -17,12 +17,12 @@ use Rattle.icy_sixel.specs.declared.script.Status.TheVariants.{Payload, Dcs}
 use Rattle.icy_sixel.specs.Receiver.{Form, Nothing, OfPayload, OfString, count, status, fault}
 use Rattle.icy_sixel.specs.Receiver.{growths, is_over, end_fault, end_wants}
 use Rattle.icy_sixel.specs.inside.Session.{IsWhole, has_ended}
-use Rattle.sixel_decoder.proofs.Framing.{Faults-along}
-use Rattle.sixel_decoder.proofs.Appending.{first_terminator-ended}
-use Rattle.sixel_decoder.proofs.Ended.{front_ended, count_ended, settled_ended}
-use Rattle.sixel_decoder.proofs.Ended.{status_ended, dcs_count_ended, dcs_fault_ended}
-use Rattle.sixel_decoder.proofs.Terminating.{count-fits}
-use Rattle.sixel_decoder.proofs.Answering.{dcs_count-fits, frame_refused, string_refused}
+use Rattle.sixel_decoder.proofs.ParserSteps.{Faults-along}
+use Rattle.sixel_decoder.proofs.Chunks.{first_terminator-ended}
+use Rattle.sixel_decoder.proofs.Finality.{front_ended, count_ended, settled_ended}
+use Rattle.sixel_decoder.proofs.Finality.{status_ended, dcs_count_ended, dcs_fault_ended}
+use Rattle.sixel_decoder.proofs.DcsEnds.{count-fits}
+use Rattle.sixel_decoder.proofs.Sessions.{dcs_count-fits, frame_refused, string_refused}
 
 -- what was fed and what is left make up all bytes, also after one chunk more
 pub rejoined : (before chunk after left rest bytes : List ℕ) → after ≡ before ++ chunk

@@ -28,8 +28,8 @@ use Rattle.icy_sixel.specs.Receiver.{found_followed, end_fault, end_wants}
 use Rattle.icy_sixel.specs.Receiver as images
 use Rattle.icy_sixel.specs.Script.{IsDecoding, IsSessionOutcome}
 use Rattle.icy_sixel.specs.inside.Session.{IsWhole, meaning, whole_fault}
-use Rattle.sixel_decoder.proofs.Framing.{Faults-along}
-use Rattle.sixel_decoder.proofs.Feeding.{payload_refused, or_right}
+use Rattle.sixel_decoder.proofs.ParserSteps.{Faults-along}
+use Rattle.sixel_decoder.proofs.ChunkReads.{payload_refused, or_right}
 use Rattle.icy_sixel.proofs.Chunks.{same, front_whole}
 
 -- ---- a session that is rejected as it is fed

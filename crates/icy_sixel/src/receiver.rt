@@ -15,7 +15,7 @@ use crate::decoder::{DcsSettings, SixelDcsFeedResult, SixelDecoder, SixelFeedRes
 use crate::script::Status;
 use crate::sixel_image::SixelImage;
 use sixel_base::{Result, SixelError};
-use sixel_decoder::{Intake, Progress};
+use sixel_decoder::{DcsReader, PayloadReader};
 use std::alloc::Global;
 use std::marker::Model;
 use std::mem;
@@ -33,8 +33,8 @@ pub struct Received {
 #[derive(Drop)]
 enum Open {
     Nothing,
-    Payload(Intake),
-    ControlString(Progress),
+    Payload(PayloadReader),
+    ControlString(DcsReader),
 }
 
 /// A decoder, and at most one image that it is receiving.
@@ -114,7 +114,7 @@ impl SixelReceiver {
     pub fn begin_frame(&mut self, alloc: Global, settings: DcsSettings)
         ensures { IsBegun self.old self.new (OfPayload settings) }
     {
-        let intake = Intake::new(alloc, self.decoder.state, settings);
+        let intake = PayloadReader::new(alloc, self.decoder.state, settings);
         self.replace_open(Open::Payload(intake));
     }
 
@@ -124,7 +124,7 @@ impl SixelReceiver {
     pub fn begin_dcs(&mut self, alloc: Global)
         ensures { IsBegun self.old self.new OfString }
     {
-        let progress = Progress::new(alloc, self.decoder.state);
+        let progress = DcsReader::new(alloc, self.decoder.state);
         self.replace_open(Open::ControlString(progress));
     }
 

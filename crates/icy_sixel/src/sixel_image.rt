@@ -13,7 +13,7 @@ use crate::decoder::{DcsSettings, SixelDecoder};
 pub use sixel_base::settings::{BackgroundMode, PixelAspectRatio};
 use sixel_base::size::{pixel_bytes, validate_buffer};
 use sixel_base::{Result, SixelError};
-use sixel_decoder::Picture;
+use sixel_decoder::DecodedPayload;
 use std::alloc::Global;
 
 /// An image: four bytes a pixel (red, green, blue, alpha), row by row from the top, each row from
@@ -92,7 +92,7 @@ impl SixelImage {
     }
 
     /// The image of a payload that was decoded.
-    pub(crate) fn from_picture(picture: Picture) -> Self
+    pub(crate) fn from_picture(picture: DecodedPayload) -> Self
         ensures image { image_value result ≡ picture_value picture }
         ensures pixels { length result.pixels.items ≡ 4 * (result.width * result.height) }
     {

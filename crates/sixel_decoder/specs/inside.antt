@@ -1,10 +1,10 @@
--- Words that hold inside the code alone, over its painter, its frame and how far they have come: a reader of what sessions and decoding
--- mean may pass them over.
+-- Words that only the contracts of private functions cite, over the painter, the parsers and the readers.
+-- What sessions and decoding mean does not depend on them.
 pub mod Painter
-pub mod Frame
-pub mod Intake
-pub mod Heading
-pub mod Following
-pub mod Progress
+pub mod PayloadParser
+pub mod PayloadReader
+pub mod Header
+pub mod DcsParser
+pub mod DcsReader
 pub mod Runs
 pub mod Sizes

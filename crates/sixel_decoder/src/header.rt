@@ -1,4 +1,4 @@
-//! The header of a control string: the parameters between its introducer and its `q`.
+//! The header of a DCS sequence: the parameters between its introducer and its `q`.
 
 ghost use Rattle.std.specs.Prelude.{◌≡◌, ◌∷◌, ◌++◌, ◌⊎◌, ◌<◌, [], List, ℕ, MatchResult, IfOk};
 ghost use Rattle.std.specs.Prelude.{IfErr, ◌≤◌, length, drop, IfSome, IfNone, Some, None};
@@ -6,30 +6,23 @@ ghost use Rattle.sixel_base.specs.OneShot.{after_introducer};
 ghost use Rattle.sixel_base.specs.inside.Parameters.{Keeps};
 ghost use Rattle.sixel_base.specs.Fault.{IsFault};
 ghost use Rattle.sixel_base.specs.Header.{headed, header_text, settings_of, header_field, Begun};
-ghost use Rattle.sixel_decoder.specs.inside.Heading.{IsHeaderFault};
+ghost use Rattle.sixel_decoder.specs.inside.Header.{IsHeaderFault};
 
 use crate::bytes::{is_ignored, is_parameter, is_terminator};
 use sixel_base::parameters::Parameters;
 use sixel_base::settings::DcsSettings;
 use sixel_base::{Result, SixelError};
 
-/// A header that is read byte by byte, so that it may come in pieces.
+/// A header that is read byte by byte, because a chunk may end within it.
 #[derive(Clone, Copy)]
 pub struct Header {
     pub parameters: Parameters,
 }
 
-/// A header that was read, and how many bytes it has with its `q`.
-#[derive(Clone, Copy)]
-pub struct WholeHeader {
-    pub settings: DcsSettings,
-    pub len: usize,
-}
-
 impl Header {
-    ghost use Rattle.sixel_decoder.specs.inside.Heading.{StepsTo};
+    ghost use Rattle.sixel_decoder.specs.inside.Header.{StepsTo};
 
-    /// A header of which nothing was read.
+    /// Creates a header of which nothing was read.
     pub fn new() -> Header
         ensures { Keeps result.parameters [] }
     {
@@ -38,10 +31,9 @@ impl Header {
         }
     }
 
-    /// Reads a byte: at the `q` the settings are known.
+    /// Reads a byte, and returns the settings at the `q`.
     ///
-    /// A terminator is refused as malformed data, and any byte that has no place in a header as a
-    /// bad header.
+    /// A terminator is rejected as malformed data, and any other byte as a bad header.
     pub fn push(&mut self, byte: u8) -> Result<Option<DcsSettings>>
         ensures { (text : List ℕ) → Keeps self.old.parameters text
             → StepsTo result self.new.parameters text byte }
@@ -63,31 +55,27 @@ impl Header {
     }
 }
 
-/// Reads the header at the front of the bytes. Bytes that end before the `q` are refused.
-pub fn read_header(bytes: &[u8]) -> Result<WholeHeader>
-    ensures within { IfOk result (λ header. header.len ≤ length bytes.now) }
-    ensures payload { IfOk result (λ header. headed bytes.now ≡ Begun (drop header.len bytes.now)) }
-    ensures settings { IfOk result (λ header.
-        header.settings ≡ settings_of (header_text bytes.now)) }
+/// Reads the header at the front of the bytes, and returns its settings and its length with `q`.
+///
+/// Bytes that end before the `q` are rejected.
+pub fn read_header(bytes: &[u8]) -> Result<(DcsSettings, usize)>
+    ensures within { IfOk result (λ header. header.1 ≤ length bytes.now) }
+    ensures payload { IfOk result (λ header. headed bytes.now ≡ Begun (drop header.1 bytes.now)) }
+    ensures settings { IfOk result (λ header. header.0 ≡ settings_of (header_text bytes.now)) }
     ensures error { IfErr result (λ error. IsHeaderFault error (headed bytes.now)) }
 {
     let mut header = Header::new();
     'header: for (index, byte) in bytes.iter().enumerate() {
         match header.push(*byte) {
             Ok(None) => {}
-            Ok(Some(settings)) => {
-                return Ok(WholeHeader {
-                    settings,
-                    len: index + 1,
-                });
-            }
+            Ok(Some(settings)) => return Ok((settings, index + 1)),
             Err(error) => return Err(error),
         }
     }
     Err(SixelError::missing_command())
 }
 
-/// Where the bytes after the first introducer begin: DCS as one byte, or as ESC and `P`.
+/// Returns where the bytes after the first introducer begin: DCS as one byte, or as ESC and `P`.
 pub fn introducer_end(bytes: &[u8]) -> Option<usize>
     ensures within { IfSome result (λ start. start ≤ length bytes.now) }
     ensures found { IfSome result (λ start.
@@ -104,8 +92,8 @@ pub fn introducer_end(bytes: &[u8]) -> Option<usize>
     None
 }
 
-/// The settings that a header's parameters are: P1, P2 and P3. Further ones have no effect.
-pub fn settings(parameters: &Parameters) -> DcsSettings
+/// Returns the settings of a header's parameters P1, P2 and P3. Further ones have no effect.
+fn settings(parameters: &Parameters) -> DcsSettings
     ensures { (text : List ℕ) → Keeps parameters.now text → result ≡ settings_of text }
 {
     DcsSettings::new(
@@ -115,7 +103,7 @@ pub fn settings(parameters: &Parameters) -> DcsSettings
     )
 }
 
-/// A parameter, where there is one; 65535 stands for any greater value.
+/// Returns a parameter if there is one, where 65535 stands for any greater value.
 fn given(parameters: &Parameters, k: usize) -> Option<u16>
     requires { k < 3 }
     ensures { (text : List ℕ) → Keeps parameters.now text → result ≡ header_field text k }

@@ -1,19 +1,25 @@
-//! How bytes are decoded: the readers of a payload and of a control string, and what they draw.
+//! SIXEL decoding: the readers of a payload and of a DCS sequence, and the painter that they feed.
 //!
-//! Nothing here keeps a decoder's registers from one image to the next: `icy_sixel` does.
+//! The decoder's registers from one image to the next are stored by `icy_sixel`.
 #![tactic(auto)]
 
 mod bytes;
-mod dcs_stream;
-mod frame;
+mod colors;
+mod dcs_end;
+mod dcs_parser;
+mod dcs_reader;
+mod decoded_payload;
 mod header;
-mod intake;
 mod log;
 mod one_shot;
 mod painter;
-mod progress;
+mod payload_parser;
+mod payload_reader;
+mod raster;
+mod row_ends;
+mod runs;
 
-pub use intake::Intake;
+pub use dcs_reader::DcsReader;
+pub use decoded_payload::DecodedPayload;
 pub use one_shot::{decode_found, decode_payload};
-pub use painter::Picture;
-pub use progress::Progress;
+pub use payload_reader::PayloadReader;

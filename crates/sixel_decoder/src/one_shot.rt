@@ -1,4 +1,4 @@
-//! Decoding in one call: a payload, or the first control string in some bytes.
+//! Decoding in one call: a payload, or the first DCS sequence in some bytes.
 
 ghost use Rattle.std.specs.Prelude.{◌≡◌, ◌*◌, ◌≤◌, OnOk, IfOk, IfErr, None, []};
 ghost use Rattle.sixel_base.specs.Decoder.{origin_of};
@@ -9,19 +9,19 @@ ghost use Rattle.sixel_base.specs.Payload.{payload_fault, payload_image};
 ghost use Rattle.sixel_base.specs.Payload.{payload_registers, payload_wants};
 ghost use Rattle.sixel_base.specs.Stroke.{Origin};
 ghost use Rattle.sixel_decoder.specs.PictureView.{picture_value};
-ghost use Rattle.sixel_decoder.specs.inside.Frame.{Stands, Decodes};
+ghost use Rattle.sixel_decoder.specs.inside.PayloadParser.{Stands, Decodes};
 
 use crate::bytes::tail;
-use crate::frame::Frame;
+use crate::decoded_payload::DecodedPayload;
 use crate::header::{introducer_end, read_header};
-use crate::painter::Picture;
+use crate::payload_parser::PayloadParser;
 use sixel_base::Result;
 use sixel_base::settings::DcsSettings;
 use sixel_base::state::DecoderState;
 use std::alloc::Global;
 
-/// Decodes the first control string in the bytes, or all of them as a payload if there is none.
-pub fn decode_found(alloc: Global, decoder: DecoderState, bytes: &[u8]) -> Result<Picture>
+/// Decodes the first DCS sequence in the bytes, or all of them as a payload if there is none.
+pub fn decode_found(alloc: Global, decoder: DecoderState, bytes: &[u8]) -> Result<DecodedPayload>
     ensures image { IfOk result (λ picture.
         IsFoundImage decoder (found bytes.now) (picture_value picture)) }
     ensures registers { IfOk result (λ picture.
@@ -38,7 +38,7 @@ pub fn decode_found(alloc: Global, decoder: DecoderState, bytes: &[u8]) -> Resul
     };
     let string = tail(bytes, start);
     match read_header(string) {
-        Ok(header) => decode_payload(alloc, decoder, tail(string, header.len), header.settings),
+        Ok(header) => decode_payload(alloc, decoder, tail(string, header.1), header.0),
         Err(error) => Err(error),
     }
 }
@@ -49,7 +49,7 @@ pub fn decode_payload(
     decoder: DecoderState,
     bytes: &[u8],
     settings: DcsSettings,
-) -> Result<Picture>
+) -> Result<DecodedPayload>
     ensures image { IfOk result (λ picture. picture_value picture ≡ payload_image
         (origin_of decoder settings) bytes.now) }
     ensures registers { IfOk result (λ picture. picture.registers ≡ payload_registers
@@ -61,15 +61,15 @@ pub fn decode_payload(
         (payload_wants decoder.pixel_limit bytes.now)
         (payload_fault decoder.pixel_limit bytes.now)) }
 {
-    read_whole(Frame::new(alloc, decoder, settings), bytes)
+    read_whole(PayloadParser::new(alloc, decoder, settings), bytes)
 }
 
-/// Reads a payload by a frame that has read nothing yet, and gives the picture.
-fn read_whole(mut frame: Frame, bytes: &[u8]) -> Result<Picture>
-    ensures { (o : Origin) → Stands o frame [] → Decodes result o bytes.now }
+/// Reads a payload with a new parser, and returns the image and the registers.
+fn read_whole(mut parser: PayloadParser, bytes: &[u8]) -> Result<DecodedPayload>
+    ensures { (o : Origin) → Stands o parser [] → Decodes result o bytes.now }
 {
-    match frame.feed(bytes) {
-        Ok(_) => frame.finish(),
+    match parser.feed(bytes) {
+        Ok(_) => parser.finish(),
         Err(error) => Err(error),
     }
 }

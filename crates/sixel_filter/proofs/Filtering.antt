@@ -13,9 +13,9 @@ use Rattle.sixel_base.specs.Bytes.{is_terminator, first_terminator, before_termi
 use Rattle.sixel_base.specs.Settings.{Settings}
 use Rattle.sixel_base.specs.Payload.{first_fault, fed_fault, settled, growths}
 use Rattle.sixel_base.specs.Dcs.{Stage, Heading, Failing, Reading, introduced, stage, stage_count, stage_status, stage_fault, stage_growths, stage_in_payload, after_terminator, escape_status, escape_count, payload_status, payload_status_by, payload_count, payload_count_by, dcs_status, dcs_count, dcs_fault, dcs_growths, dcs_in_payload, has_ended}
-use Rattle.sixel_decoder.proofs.Continuing.{reading_fits}
-use Rattle.sixel_decoder.proofs.Ended.{settled_ended, status_ended, dcs_count_ended}
-use Rattle.sixel_decoder.proofs.Ending.{stage_reading}
+use Rattle.sixel_decoder.proofs.DcsChunks.{reading_fits}
+use Rattle.sixel_decoder.proofs.Finality.{settled_ended, status_ended, dcs_count_ended}
+use Rattle.sixel_decoder.proofs.Terminators.{stage_reading}
 use Rattle.sixel_filter.specs.declared.words.Work.{Work}
 use Rattle.sixel_filter.specs.Stream.{Made, begins_image, after_stage, after_image, after_payload, after_end, after_escape}
 use Rattle.sixel_filter.specs.inside.Standing.{Starts, Writes, IsClosed, leaves_escape}

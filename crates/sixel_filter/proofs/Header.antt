@@ -13,7 +13,7 @@ use Rattle.sixel_base.specs.Settings.{Settings}
 use Rattle.sixel_base.specs.Payload.{settled, growths, fed_fault}
 use Rattle.sixel_base.specs.Header.{Begun, Faulty, headed_by, header_rest, is_header}
 use Rattle.sixel_base.specs.Dcs.{Absent, Entered, Waiting, escaped, Stage, Heading, Failing, Reading, stage, stage_after, stage_by, stage_fault, stage_growths, stage_in_payload, stage_status, payload_status, dcs_status, dcs_fault, dcs_growths, dcs_in_payload}
-use Rattle.sixel_decoder.proofs.Ending.{failing_stays}
+use Rattle.sixel_decoder.proofs.Terminators.{failing_stays}
 use Rattle.sixel_filter.specs.declared.words.Work.{Work}
 use Rattle.sixel_filter.specs.Stream.{IsFiltered, Passed, begins_image, goes_on, is_part}
 use Rattle.sixel_filter.specs.inside.Standing.{Starts}

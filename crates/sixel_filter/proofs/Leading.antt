@@ -14,7 +14,7 @@ use Rattle.sixel_base.specs.Fault.{Fault, Faults, IsFault, Incomplete}
 use Rattle.sixel_base.specs.OneShot.{found, IsDecodedAs}
 use Rattle.sixel_base.specs.Payload.{Image}
 use Rattle.sixel_base.specs.Dcs.{Stage, Heading, Failing, Reading, stage, stage_in_payload, stage_fault, dcs_status, dcs_count, dcs_fault, dcs_growths, dcs_in_payload, has_ended, end_fault}
-use Rattle.sixel_decoder.proofs.Ended.{status_ended, dcs_fault_ended}
+use Rattle.sixel_decoder.proofs.Finality.{status_ended, dcs_fault_ended}
 use Rattle.icy_sixel.specs.Receiver.{Form, OfString, Reception, is_open, count, growths, fault}
 use Rattle.sixel_encoder.specs.Encoding.{image_fault}
 use Rattle.sixel_filter.specs.declared.words.Work.{Work}

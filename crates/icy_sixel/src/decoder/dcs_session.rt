@@ -12,14 +12,14 @@ ghost use Rattle.icy_sixel.specs.ImageView.{image_value};
 use crate::decoder::{SixelDcsFeedResult, SixelDecoder};
 use crate::sixel_image::SixelImage;
 use sixel_base::{Result, SixelError};
-use sixel_decoder::Progress;
+use sixel_decoder::DcsReader;
 use std::alloc::Global;
 
 /// A control string that is decoded as it comes.
 ///
 /// It borrows its decoder until it is finished, aborted or dropped, and the decoder's registers
 /// change by a successful [`finish`](Self::finish) alone.
-pub struct SixelDcsStreamDecoder<'a, P = Progress> {
+pub struct SixelDcsStreamDecoder<'a, P = DcsReader> {
     owner: &'a mut SixelDecoder,
     progress: P,
 }
@@ -49,7 +49,7 @@ impl<'a> SixelDcsStreamDecoder<'a> {
         let state = owner.state;
         SixelDcsStreamDecoder {
             owner,
-            progress: Progress::new(alloc, state),
+            progress: DcsReader::new(alloc, state),
         }
     }
 

@@ -12,14 +12,14 @@ ghost use Rattle.icy_sixel.specs.ImageView.{image_value};
 use crate::decoder::{DcsSettings, SixelDecoder, SixelFeedResult, SixelFeedStatus};
 use crate::sixel_image::SixelImage;
 use sixel_base::{Result, SixelError};
-use sixel_decoder::Intake;
+use sixel_decoder::PayloadReader;
 use std::alloc::Global;
 
 /// A payload that is decoded as it comes.
 ///
 /// It borrows its decoder until it is finished, aborted or dropped, and the decoder's registers
 /// change by a successful [`finish`](Self::finish) alone.
-pub struct SixelStreamDecoder<'a, F = Intake> {
+pub struct SixelStreamDecoder<'a, F = PayloadReader> {
     owner: &'a mut SixelDecoder,
     intake: F,
 }
@@ -49,7 +49,7 @@ impl<'a> SixelStreamDecoder<'a> {
         let state = owner.state;
         SixelStreamDecoder {
             owner,
-            intake: Intake::new(alloc, state, settings),
+            intake: PayloadReader::new(alloc, state, settings),
         }
     }
 

@@ -10,7 +10,7 @@ use Rattle.sixel_base.specs.History.{History, Sixel, read}
 use Rattle.sixel_base.specs.Place.{span, across, down, width, height, raster_height}
 use Rattle.sixel_base.specs.Stroke.{Origin, pixel, registers, color, ratio}
 use Rattle.sixel_base.specs.Payload.{first_fault, image_of}
-use Rattle.sixel_decoder.specs.declared.painter.Picture.{Picture}
+use Rattle.sixel_decoder.specs.declared.decoded_payload.DecodedPayload.{DecodedPayload}
 use Rattle.sixel_decoder.specs.PictureView.{picture_value}
 use Rattle.sixel_base.specs.Reach.{row_reach}
 use Rattle.sixel_decoder.specs.Paints.{sixels, least_count}
@@ -35,18 +35,18 @@ pub record Shows (origin : Origin) (painter : Painter) (history : History) : Typ
   pub limit : painter.pixel_limit ≡ origin.pixel_limit
   pub faultless : first_fault origin.pixel_limit history ≡ None
 
--- The newest of these tokens was drawn, or is refused by the first fault.
+-- The newest of these tokens was drawn, or is rejected by the first fault.
 abbrev pub Draws : {A : Type 0} → Result A SixelError → Origin → Painter → History → Bool → Type 0
 Draws result origin painter history may_want =
     MatchResult result (λ _. Shows origin painter history) (λ error. Faults error may_want (first_fault origin.pixel_limit history))
 
--- So many sixels at the front of the bytes were drawn, or the first of them is refused by the first fault.
+-- So many sixels at the front of the bytes were drawn, or the first of them is rejected by the first fault.
 abbrev pub DrawsFront : Result ℕ SixelError → Origin → Painter → History → List ℕ → Type 0
 DrawsFront result origin painter history bytes =
     MatchResult result (λ drawn. Shows origin painter (fold read history (take drawn bytes)))
     (λ error. Faults error true (first_fault origin.pixel_limit (Sixel (slice_index bytes 0 - 63) ∷ history)))
 
--- The second painter is the first with a picture at least so wide and so high, which is within the limits.
+-- The second painter is the first with an image at least so wide and so high, which is within the limits.
 pub record IsExtended (old new : Painter) (wide high : ℕ) : Type 0 where
   pub right : wide ≤ 1000000
   pub lower : high ≤ 1000000
@@ -64,17 +64,17 @@ pub record IsExtended (old new : Painter) (wide high : ℕ) : Type 0 where
   pub down : new.down ≡ old.down
   pub raster_height : new.raster_height ≡ old.raster_height
 
--- The history has no fault, and this is its image, within the limit, with the registers after it; or it is refused by its first fault,
--- and for want of memory only where it has an image.
-abbrev pub Ends : Result Picture SixelError → Origin → History → Type 0
+-- The history has no fault, and this is its image, within the limit, with the registers after it; or it is rejected by its first
+-- fault, and by a failed allocation only if it has an image.
+abbrev pub Ends : Result DecodedPayload SixelError → Origin → History → Type 0
 Ends result origin history =
     MatchResult result
     (λ picture. (first_fault origin.pixel_limit history ≡ None) × (picture_value picture ≡ image_of origin history)
     × (picture.registers ≡ registers origin.registers history) × (picture.width * picture.height ≤ origin.pixel_limit))
     (λ error. Faults error (is_none (first_fault origin.pixel_limit history)) (first_fault origin.pixel_limit history))
 
--- The next sixel is of one column, inside the picture, and all six rows of the canvas hold it and have no tag.
-pub record IsAlone (painter : Painter) : Type 0 where
+-- The next sixel has one column, inside the image, which all six rows of the canvas have, without a tag.
+pub record FitsColumn (painter : Painter) : Type 0 where
   pub single : painter.span ≡ 1
   pub above_bottom : painter.down + 6 ≤ painter.height
   pub inside : painter.across < painter.width

@@ -1,4 +1,4 @@
--- Runs of sixels: bytes that begin with them, their bits, and how far each row of the band is reached by them.
+-- Runs of sixels: bytes that begin with them, their bits, and the last set pixel in each row of the band.
 -- A sixel is a byte from `?` to `~`, by DEC's account of sixel data, and its least bit is the top row's.
 use Rattle.std.specs.Prelude.{ℕ, suc, Bool, ◌+◌, ◌-◌, ◌<◌, ◌≤◌, ◌≡◌, ◌⊎◌, max, nat_lt, if◌then◌else◌, List, [], ◌∷◌, length, slice_index}
 use Rattle.sixel_base.specs.Picture.{is_set}
@@ -35,11 +35,11 @@ abbrev pub end_of : ℕ → List ℕ → ℕ
 end_of bit [] = 0
 end_of bit (byte ∷ run) = next_end (is_set (byte - 63) bit) (end_of bit run)
 
--- how many columns a row is to hold, where the run begins at this column and ends there
+-- how many columns a row needs for a run that begins at this column and ends there
 abbrev pub columns_for : ℕ → ℕ → ℕ
 columns_for from end = if nat_lt 0 end then from + end else 0
 
--- six rows of a canvas hold the columns of a run, each those up to its last dot, and the canvas shows what it did
+-- each of six rows extends to the last set pixel of a run, and the canvas shows the same pixels
 pub record Holds (old new : CanvasState) (top from : ℕ) (run : List ℕ) : Type 0 where
   pub shows : (column row : ℕ) → shown new column row ≡ shown old column row
   pub inside : (k : ℕ) → k < 6 → reached new (top + k) ≡ max (reached old (top + k)) (columns_for from (end_of k run))

@@ -2,7 +2,7 @@ use Rattle.std.proofs.Common.{◌≡◌, ◌-◌, ◌≤◌, length, get_or, tak
 use Rattle.std.proofs.lemmas.Bool.Decides.{nat_tests}
 use Rattle.std.proofs.lemmas.List.{drop_all}
 use Rattle.sixel_base.specs.OneShot.{after_introducer}
-use Rattle.sixel_decoder.proofs.Finding.{tail_whole, introduced_at_once, introduced_by_escape, introduced_at, not_introduced_at}
+use Rattle.sixel_decoder.proofs.FoundPayloads.{tail_whole, introduced_at_once, introduced_by_escape, introduced_at, not_introduced_at}
 use Rattle.sixel_decoder.proofs.header.introducer_end.Goals as goal
 use Rattle.sixel_decoder.proofs.header.introducer_end.Goals.{then-bytes-index-lt1, else-bytes-index-lt1+then-this-lt2+in_default-1, else-bytes-index-lt1+else-this-lt2+in-27+in_default-1, else-bytes-index-lt1+else-this-lt2+in_default-1}
 

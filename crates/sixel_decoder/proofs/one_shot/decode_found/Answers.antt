@@ -3,15 +3,15 @@ use Rattle.std.specs.Prelude.{IfOk, OnOk}
 use Rattle.sixel_base.specs.Header.{Begun, headed}
 use Rattle.sixel_decoder.specs.PictureView.{picture_value}
 use Rattle.sixel_base.specs.OneShot.{Found, Payload, IsFoundImage, AreFoundRegisters, after_introducer, found, found_fault}
-use Rattle.sixel_decoder.proofs.Finding.{found_refused, found_payload}
+use Rattle.sixel_decoder.proofs.FoundPayloads.{found_refused, found_payload}
 use Rattle.sixel_decoder.proofs.one_shot.decode_found.Goals as goal
 
 -- the bytes are found to be the payload that is decoded
-is_payload : (c : goal.After-decode_payload-in-Ok) → found c.args.bytes.now ≡ Payload c.in-Ok.header.settings c.tail.result.now
+is_payload : (c : goal.After-decode_payload-in-Ok) → found c.args.bytes.now ≡ Payload c.in-Ok.header.0 c.tail.result.now
 is_payload c =
     let begins : after_introducer c.args.bytes.now ≡ Some c.tail-string.result.now = c.in-Some.ensures.found ∙ ap Some (sym c.tail-string.ensures) in
     let heads : headed c.tail-string.result.now ≡ Begun c.tail.result.now = c.in-Ok.ensures.payload ∙ ap Begun (sym c.tail.ensures) in
-    found_payload c.args.bytes.now c.tail-string.result.now _ c.in-Ok.header.settings begins heads c.in-Ok.ensures.settings
+    found_payload c.args.bytes.now c.tail-string.result.now _ c.in-Ok.header.0 begins heads c.in-Ok.ensures.settings
 
 pub returns-in-Ok-clause-image : goal.returns-in-Ok-clause-image
 returns-in-Ok-clause-image c =

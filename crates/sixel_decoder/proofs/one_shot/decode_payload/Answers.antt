@@ -1,5 +1,5 @@
 use Rattle.sixel_base.specs.Decoder.{origin_of}
-use Rattle.sixel_decoder.proofs.Feeding.{decoded_image}
+use Rattle.sixel_decoder.proofs.ChunkReads.{decoded_image}
 use Rattle.sixel_decoder.proofs.one_shot.decode_payload.Goals as goal
 
 pub returns-clause-image : goal.returns-clause-image

@@ -1,4 +1,4 @@
-use Rattle.sixel_decoder.proofs.Feeding.{payload_refused, payload_ends}
+use Rattle.sixel_decoder.proofs.ChunkReads.{payload_refused, payload_ends}
 use Rattle.sixel_decoder.proofs.one_shot.read_whole.Goals as goal
 
 pub returns-in-Ok : goal.returns-in-Ok

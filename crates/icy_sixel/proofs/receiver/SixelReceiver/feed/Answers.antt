@@ -2,7 +2,7 @@ use Rattle.std.proofs.Common.{◌≡◌, ℕ, true, List, ◌++◌, rules, Resul
 use Rattle.std.specs.Prelude.{IfOk}
 use Rattle.sixel_base.specs.declared.error.SixelError.{SixelError}
 use Rattle.sixel_base.specs.Dcs.{dcs_status, has_ended, IsSameString}
-use Rattle.sixel_decoder.proofs.Answering.{same_string}
+use Rattle.sixel_decoder.proofs.Sessions.{same_string}
 use Rattle.icy_sixel.specs.Receiver.{Form, OfString}
 use Rattle.icy_sixel.specs.declared.receiver.Received.{Received}
 use Rattle.icy_sixel.specs.inside.Receiving.{reception_of}

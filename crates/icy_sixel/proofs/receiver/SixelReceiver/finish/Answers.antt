@@ -4,7 +4,7 @@ use Rattle.sixel_base.specs.declared.error.SixelError.{SixelError}
 use Rattle.sixel_base.specs.OneShot.{IsDecodedAs}
 use Rattle.sixel_decoder.specs.PayloadCalls.{IsFinished}
 use Rattle.sixel_decoder.specs.Session.{Session}
-use Rattle.sixel_decoder.specs.declared.painter.Picture.{Picture}
+use Rattle.sixel_decoder.specs.declared.decoded_payload.DecodedPayload.{DecodedPayload}
 use Rattle.sixel_decoder.specs.PictureView.{picture_value}
 use Rattle.icy_sixel.specs.Receiver.{Receiver, Reception, found_followed}
 use Rattle.icy_sixel.specs.inside.Receiving.{reception_of}
@@ -15,12 +15,12 @@ use Rattle.icy_sixel.proofs.receiver.SixelReceiver.finish.Goals.{in-Nothing, in-
 use Rattle.icy_sixel.proofs.receiver.SixelReceiver.finish.Goals.{in-ControlString}
 
 -- the picture of an image, whatever follows its bytes
-abbrev Decoded : Result Picture SixelError → List ℕ → Reception → Type 0
+abbrev Decoded : Result DecodedPayload SixelError → List ℕ → Reception → Type 0
 Decoded result more image =
     IfOk result (λ picture. IsDecodedAs image.start (found_followed image.form image.bytes more)
     (picture_value picture) picture.registers)
 
-payload_decoded : (result : Result Picture SixelError) (intake : Session) (more : List ℕ)
+payload_decoded : (result : Result DecodedPayload SixelError) (intake : Session) (more : List ℕ)
     → IsFinished picture_value (λ picture. picture.registers) intake result
     → Decoded result more (reception_of (opened.Payload intake))
 payload_decoded (Ok picture) intake more is = (is.faultless, is.image, is.registers)

@@ -2,7 +2,7 @@ use Rattle.std.proofs.Common.{◌≡◌, true, false, refl, sym, ap, ◌∙◌}
 use Rattle.std.proofs.lemmas.List.{append-nil}
 use Rattle.sixel_base.specs.Bytes.{is_ignored, is_parameter}
 use Rattle.sixel_base.specs.Header.{is_header}
-use Rattle.sixel_decoder.proofs.Heading.{carries_parameter, no_command}
+use Rattle.sixel_decoder.proofs.HeaderReads.{carries_parameter, no_command}
 use Rattle.sixel_decoder.proofs.header.Header.push.Goals as goal
 
 pub push-requires : goal.push-requires

@@ -1,43 +1,47 @@
-use Rattle.std.proofs.Common.{◌≡◌, ℕ, take, refl, sym, subst, arith}
+use Rattle.std.proofs.Common.{◌≡◌, ℕ, List, ◌+◌, take, refl, sym, ap, subst, ◌∙◌, arith}
 use Rattle.std.specs.Prelude.{fold}
 use Rattle.std.proofs.lemmas.Result.{err_from_is_err_and}
 use Rattle.sixel_base.specs.History.{History, read}
+use Rattle.sixel_decoder.specs.inside.Runs.{bits_of}
 use Rattle.sixel_decoder.specs.inside.Painter.{Shows}
-use Rattle.sixel_decoder.proofs.Runs.{fold_one}
+use Rattle.sixel_decoder.proofs.SixelRuns.{IsRun-front, length-front, Shows-run, fold_one, fold_run}
+use Rattle.sixel_decoder.proofs.SixelRuns.{held_dots, with_sixels}
 use Rattle.sixel_decoder.proofs.painter.Painter.draw_front.Goals as goal
 
-pub returns-in_err-drawn-clause-draws : goal.returns-in_err-drawn-clause-draws
-returns-in_err-drawn-clause-draws c = λ o h shows.
+pub draw-requires-clause-dots : goal.draw-requires-clause-dots
+draw-requires-clause-dots c =
+    let old = c.args.self.now in
+    held_dots old.canvas c.grow_rows.new.canvas old.down old.across c.front.result.now
+    c.in_ok-common.ensures.grown
+
+pub returns-in_err-common-clause-draws : goal.returns-in_err-common-clause-draws
+returns-in_err-common-clause-draws c = λ o h shows.
     let p = err_from_is_err_and c.from_residual.result c.from_residual.ensures.1 in
-    rw (p.1, p.2, c.in_err-drawn.ensures.error) refl
+    rw (p.1, p.2, c.in_err-common.ensures.error) refl
 
-pub returns-then-drawn-gt0-clause-draws : goal.returns-then-drawn-gt0-clause-draws
-returns-then-drawn-gt0-clause-draws c = c.in_ok-drawn.ensures.shows
-
-pub overflow_sub-bytes : goal.overflow_sub-bytes
-overflow_sub-bytes c = c.requires.sixel.0
-
-pub returns-in-Ok-clause-sixels : goal.returns-in-Ok-clause-sixels
-returns-in-Ok-clause-sixels c = λ k one.
-    let first : k ≡ 0 = omega (arith, one) in
-    rw first c.requires.sixel
+pub returns-then-self-len-clause-draws : goal.returns-then-self-len-clause-draws
+returns-then-self-len-clause-draws c = λ o h shows.
+    let old = c.args.self.now in
+    let run : List ℕ = c.front.result.now in
+    let bytes : List ℕ = c.args.bytes.now in
+    let len = c.run_len-len.result in
+    let fits = c.run_len-len.ensures in
+    let grown = c.in_ok-common.ensures in
+    let drawn = c.draw.ensures in
+    let are = IsRun-front run bytes len c.front.ensures fits.within fits.sixels in
+    let long = length-front run bytes len c.front.ensures fits.within in
+    let whole : fold read h (take len bytes) ≡ with_sixels h (bits_of run) =
+    ap (fold read h) (sym c.front.ensures) ∙ fold_run h run are in
+    Shows-run o h _ old _ c.grow_rows.new.canvas run whole shows
+    (c.is_single_above_bottom.ensures.single c.if-is_single_above_bottom.true)
+    (omega (arith, long, c.if-self-len.true))
+    (c.is_single_above_bottom.ensures.above_bottom c.if-is_single_above_bottom.true)
+    old.width_fits old.height_fits old.area_fits grown.grown drawn.drawn drawn.reached
+    (omega (arith, grown.paints, drawn.least))
+    (omega (arith, grown.paints, grown.spread, drawn.most, drawn.spread, long))
+    refl refl refl (ap (λ (n : ℕ). old.across + n) (sym long)) refl refl refl refl refl refl refl refl
 
 pub returns-in-Ok-clause-draws : goal.returns-in-Ok-clause-draws
 returns-in-Ok-clause-draws c = λ o h shows.
-    let bytes = c.args.bytes.now in
-    let none : c.in_ok-drawn.drawn ≡ 0 = omega (arith, c.if-drawn-gt0.false) in
-    let same : Shows o c.draw_run.new.self h = subst (λ (n : ℕ). Shows o c.draw_run.new.self (fold read h (take n bytes))) none (c.in_ok-drawn.ensures.shows o h shows) in
-    subst (λ (w : History). Shows o c.draw.new.self w) (sym (fold_one h bytes c.requires.some c.requires.sixel)) (c.in-Ok.ensures o h same)
-
-pub returns-in-Err-clause-draws : goal.returns-in-Err-clause-draws
-returns-in-Err-clause-draws c = λ o h shows.
-    let bytes = c.args.bytes.now in
-    let none : c.in_ok-drawn.drawn ≡ 0 = omega (arith, c.if-drawn-gt0.false) in
-    let same : Shows o c.draw_run.new.self h = subst (λ (n : ℕ). Shows o c.draw_run.new.self (fold read h (take n bytes))) none (c.in_ok-drawn.ensures.shows o h shows) in
-    c.in-Err.ensures o h same
-
-pub returns-then-drawn-gt0-clause-within : goal.returns-then-drawn-gt0-clause-within
-returns-then-drawn-gt0-clause-within c = c.in_ok-drawn.ensures.within
-
-pub returns-then-drawn-gt0-clause-sixels : goal.returns-then-drawn-gt0-clause-sixels
-returns-then-drawn-gt0-clause-sixels c = c.in_ok-drawn.ensures.sixels
+    subst (λ (w : History). Shows o c.draw-2.new.self w)
+    (sym (fold_one h c.args.bytes.now c.requires.some c.requires.sixel)) (c.in-Ok.ensures o h shows)

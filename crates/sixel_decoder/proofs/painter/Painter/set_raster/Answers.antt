@@ -1,6 +1,6 @@
 use Rattle.std.proofs.Common.{◌≡◌, ◌∙◌, arith, refl}
 use Rattle.sixel_base.specs.Fields.{field}
-use Rattle.sixel_decoder.proofs.Rastering.{refused_raster, sound_raster}
+use Rattle.sixel_decoder.proofs.RasterAttributes.{refused_raster, sound_raster}
 use Rattle.sixel_decoder.proofs.painter.Painter.set_raster.Goals as goal
 
 pub returns-in-Ok : goal.returns-in-Ok

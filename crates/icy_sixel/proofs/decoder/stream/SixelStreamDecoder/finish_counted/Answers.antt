@@ -5,7 +5,7 @@ use Rattle.sixel_base.specs.History.{history_of}
 use Rattle.sixel_base.specs.Payload.{Image, payload_area, payload_fault, payload_image}
 use Rattle.sixel_base.specs.Place.{width, height}
 use Rattle.sixel_base.specs.Stroke.{Origin}
-use Rattle.sixel_decoder.proofs.Reached.{sides-fit, image_height-most, settled-area}
+use Rattle.sixel_decoder.proofs.RowExtents.{sides-fit, image_height-most, settled-area}
 use Rattle.icy_sixel.proofs.decoder.stream.SixelStreamDecoder.finish_counted.Goals as goal
 
 -- the image has at most the pixels of the extent

@@ -1,0 +1,86 @@
+-- How a parser stands once it has opened a command with the digits after it.
+use Rattle.std.proofs.Common.{◌≡◌, ℕ, suc, ◌+◌, ◌<◌, ◌≤◌, ◌⊎◌, false, List, [], ◌∷◌, length, get_or, take, drop, get_or-take, length-take, refl, sym, ap, ◌∙◌, subst, inl, inr, arith}
+use Rattle.std.specs.Prelude.{IsTrue, fold}
+use Rattle.std.specs.List.{list_all}
+use Rattle.std.proofs.lemmas.Bool.Decides.{nat_tests}
+use Rattle.std.proofs.lemmas.Grind.{common_steps}
+use Rattle.sixel_base.specs.Bytes.{is_digit, is_parameter}
+use Rattle.sixel_base.specs.History.{Sixel, Repeat, Raster, Color, Return, Newline, Skip, History, goes_on, read}
+use Rattle.sixel_base.specs.Stroke.{Origin}
+use Rattle.sixel_base.specs.inside.Parameters.{IsDigit, Keeps}
+use Rattle.sixel_base.proofs.Reading.{fold-spelling}
+use Rattle.sixel_decoder.specs.declared.payload_parser.PayloadParser.{PayloadParser}
+use Rattle.sixel_decoder.specs.declared.payload_parser.OpenCommand.{OpenCommand}
+use Rattle.sixel_decoder.specs.declared.payload_parser.OpenCommand.TheVariants.{InRepeat, InColor}
+use Rattle.sixel_decoder.specs.inside.PayloadParser.{IsOpen, Stands, StandsIn}
+use Rattle.sixel_decoder.specs.inside.Painter.{Shows}
+
+abbrev pub AreDigits : List ℕ → Type 0
+AreDigits bytes = (k : ℕ) → k < length bytes → IsDigit (get_or bytes k 0)
+
+-- no token goes on with a repeat introducer
+goes_on_repeat : (h : History) → goes_on h 33 ≡ false
+goes_on_repeat [] = refl
+goes_on_repeat (Sixel _ ∷ h) = refl
+goes_on_repeat (Repeat _ ∷ h) = refl
+goes_on_repeat (Raster _ ∷ h) = refl
+goes_on_repeat (Color _ ∷ h) = refl
+goes_on_repeat (Return ∷ h) = refl
+goes_on_repeat (Newline ∷ h) = refl
+goes_on_repeat (Skip _ ∷ h) = refl
+
+-- nor with a color introducer
+goes_on_color : (h : History) → goes_on h 35 ≡ false
+goes_on_color [] = refl
+goes_on_color (Sixel _ ∷ h) = refl
+goes_on_color (Repeat _ ∷ h) = refl
+goes_on_color (Raster _ ∷ h) = refl
+goes_on_color (Color _ ∷ h) = refl
+goes_on_color (Return ∷ h) = refl
+goes_on_color (Newline ∷ h) = refl
+goes_on_color (Skip _ ∷ h) = refl
+
+pub goes_on_numbered : (h : History) (byte : ℕ) → (byte ≡ 33) ⊎ (byte ≡ 35) → goes_on h byte ≡ false
+goes_on_numbered h byte (inl is) = ap (goes_on h) is ∙ goes_on_repeat h
+goes_on_numbered h byte (inr is) = ap (goes_on h) is ∙ goes_on_color h
+
+all_digits : (bytes : List ℕ) → AreDigits bytes → IsTrue (list_all is_digit bytes)
+all_digits [] are = refl
+all_digits (byte ∷ bytes) are =
+    let here : IsDigit byte = are 0 (omega arith) in
+    let rest = all_digits bytes (λ k lt. are (suc k) (omega arith)) in
+    grind (arith, nat_tests, common_steps, here.0, here.1, rest)
+
+all_parameters : (bytes : List ℕ) → AreDigits bytes → IsTrue (list_all is_parameter bytes)
+all_parameters [] are = refl
+all_parameters (byte ∷ bytes) are =
+    let here : IsDigit byte = are 0 (omega arith) in
+    let rest = all_parameters bytes (λ k lt. are (suc k) (omega arith)) in
+    grind (arith, nat_tests, common_steps, here.0, here.1, rest)
+
+AreDigits-take : (n : ℕ) (bytes : List ℕ) → n ≤ length bytes → ((k : ℕ) → k < n → IsDigit (get_or bytes k 0)) → AreDigits (take n bytes)
+AreDigits-take n bytes le are k lt = subst IsDigit (sym (get_or-take n bytes k 0 (omega (arith, lt, length-take n bytes)))) (are k (omega (arith, lt, length-take n bytes)))
+
+-- the byte at the front, and the digits after it
+fold_front : (h : History) (bytes : List ℕ) (first n : ℕ) → 0 < length bytes → get_or bytes 0 0 ≡ first → fold read h (take (n + 1) bytes) ≡ fold read h (first ∷ take n (drop 1 bytes))
+fold_front h [] first n some is = absurd (omega arith)
+fold_front h (byte ∷ bytes) first n some is =
+    let more : n + 1 ≡ suc n = omega arith in
+    ap (λ (m : ℕ). fold read h (take m (byte ∷ bytes))) more ∙ ap (λ (b : ℕ). fold read h (b ∷ take n bytes)) is
+
+module _ (o : Origin) (new : PayloadParser) (h : History) (bytes : List ℕ) (n : ℕ) (some : 0 < length bytes) (le : n ≤ length (drop 1 bytes)) (are : (k : ℕ) → k < n → IsDigit (get_or (drop 1 bytes) k 0)) (keeps : Keeps new.parameters (take n (drop 1 bytes))) (shows : Shows o new.painter h) where
+  pub Stands-repeat : get_or bytes 0 0 ≡ 33 → new.command ≡ InRepeat → Stands o new (fold read h (take (n + 1) bytes))
+  Stands-repeat is command =
+      let text : List ℕ = take n (drop 1 bytes) in
+      let newest : fold read h (take (n + 1) bytes) ≡ Repeat text ∷ h =
+      fold_front h bytes 33 n some is ∙ fold-spelling h (Repeat text) (all_digits text (AreDigits-take n (drop 1 bytes) le are)) (goes_on_repeat h) in
+      let opened : IsOpen Repeat o new (fold read h (take (n + 1) bytes)) = record { text = text; older = h; newest = newest; keeps = keeps; shows = shows } in
+      subst (λ (p : OpenCommand). StandsIn p o new (fold read h (take (n + 1) bytes))) (sym command) opened
+
+  pub Stands-color : get_or bytes 0 0 ≡ 35 → new.command ≡ InColor → Stands o new (fold read h (take (n + 1) bytes))
+  Stands-color is command =
+      let text : List ℕ = take n (drop 1 bytes) in
+      let newest : fold read h (take (n + 1) bytes) ≡ Color text ∷ h =
+      fold_front h bytes 35 n some is ∙ fold-spelling h (Color text) (all_parameters text (AreDigits-take n (drop 1 bytes) le are)) (goes_on_color h) in
+      let opened : IsOpen Color o new (fold read h (take (n + 1) bytes)) = record { text = text; older = h; newest = newest; keeps = keeps; shows = shows } in
+      subst (λ (p : OpenCommand). StandsIn p o new (fold read h (take (n + 1) bytes))) (sym command) opened

@@ -1,0 +1,70 @@
+use Rattle.std.proofs.Common.{◌≡◌, ◌++◌, ◌∷◌, [], true, false, List, ℕ, length, get_or, take, drop, ◌+◌, refl, sym, ◌∙◌, subst, arith}
+use Rattle.std.proofs.lemmas.Bool.{false≢true}
+use Rattle.std.proofs.lemmas.List.{append-nil}
+use Rattle.std.proofs.lemmas.Result.{err_from_is_err_and}
+use Rattle.sixel_base.specs.declared.state.DecoderState.{DecoderState}
+use Rattle.sixel_base.specs.Dcs.{stage}
+use Rattle.sixel_decoder.specs.inside.DcsParser.{HasFollowed, is_head, IsStageFault}
+use Rattle.sixel_decoder.proofs.Terminators.{refused_stays, pieces_join, pieces_step}
+use Rattle.sixel_decoder.proofs.dcs_parser.DcsParser.read_head.Goals as goal
+
+pub head-init : goal.head-init
+head-init c = (
+  refl,
+  refl,
+  λ before fine followed.
+      let old = c.args.self.now in
+      (fine, subst (λ (w : List ℕ). HasFollowed old.state old.decoder old.ended w) (sym (append-nil before)) followed),
+)
+
+pub head-preserved : goal.head-preserved
+head-preserved c = (
+  c.in_ok-step.ensures.decoder ∙ c.head.invariant.0,
+  c.in_ok-step.ensures.ended ∙ c.head.invariant.1,
+  λ before fine followed.
+      let chunk = c.args.chunk.now in
+      let index = c.head.index in
+      let new = c.step.new.self in
+      let now = c.head.invariant.2 before fine followed in
+      let head : is_head c.head.self.state ≡ true = sym c.is_head.ensures ∙ c.if-not-is_head.false in
+      let stepped = c.in_ok-step.ensures.steps (before ++ take index chunk) head now.1 in (
+        stepped.0,
+        subst (λ (d : DecoderState). HasFollowed new.state d new.ended (before ++ take (index + 1) chunk))
+            (sym c.in_ok-step.ensures.decoder)
+            (subst (λ (w : List ℕ). HasFollowed new.state c.head.self.decoder new.ended w)
+            (pieces_step before chunk index c.head-test.true) stepped.1),
+      ),
+)
+
+pub returns-then-not-is_head-clause-heads : goal.returns-then-not-is_head-clause-heads
+returns-then-not-is_head-clause-heads c = λ before fine followed.
+    let index = c.head.index in
+    let at = c.head.self in
+    let now = c.head.invariant.2 before fine followed in
+    let payload : is_head at.state ≡ false = sym c.is_head.ensures ∙ c.if-not-is_head.true in
+    let here = subst (λ (d : DecoderState). HasFollowed at.state d at.ended (before ++ take index c.args.chunk.now))
+    c.head.invariant.0 now.1 in
+    (omega (arith, c.head-test.true), now.0, here, λ head. absurd (false≢true (sym payload ∙ head)))
+
+pub returns-clause-heads : goal.returns-clause-heads
+returns-clause-heads c = λ before fine followed.
+    let chunk = c.args.chunk.now in
+    let at = c.head.self in
+    let now = c.head.invariant.2 before fine followed in
+    let whole : c.head.index ≡ length chunk = omega (arith, c.head-test.false, c.head.auto.index-end) in
+    let here = subst (λ (d : DecoderState). HasFollowed at.state d at.ended (before ++ take c.head.index chunk))
+    c.head.invariant.0 now.1 in
+    (omega arith, now.0, subst (λ (n : ℕ). HasFollowed at.state c.args.self.now.decoder at.ended (before ++ take n chunk)) whole here, λ head. refl)
+
+pub returns-in_err-step-clause-heads : goal.returns-in_err-step-clause-heads
+returns-in_err-step-clause-heads c = λ before fine followed.
+    let chunk = c.args.chunk.now in
+    let index = c.head.index in
+    let now = c.head.invariant.2 before fine followed in
+    let head : is_head c.head.self.state ≡ true = sym c.is_head.ensures ∙ c.if-not-is_head.false in
+    let refused = c.in_err-step.ensures.steps (before ++ take index chunk) head now.1 in
+    let e = c.in_err-step.field-0.0 in
+    let p = err_from_is_err_and c.from_residual.result c.from_residual.ensures.1 in
+    rw (p.1, p.2)
+    (subst (λ (w : List ℕ). IsStageFault e (stage w)) (pieces_join before chunk index c.head-test.true)
+    (refused_stays e ((before ++ take index chunk) ++ (get_or chunk index 0 ∷ [])) (drop (index + 1) chunk) refused))

@@ -1,0 +1,86 @@
+use Rattle.std.proofs.Common.{◌≡◌, ℕ, List, ◌++◌, Result, Ok, Err, false, refl, rules}
+use Rattle.std.specs.Prelude.{Bool, nat_lt, None}
+use Rattle.std.proofs.lemmas.Bool.{false_from_ne_true}
+use Rattle.sixel_base.specs.declared.error.SixelError.{SixelError}
+use Rattle.sixel_base.specs.declared.status.SixelDcsFeedResult.{SixelDcsFeedResult}
+use Rattle.sixel_base.specs.Dcs.{dcs_fault, dcs_growths}
+use Rattle.sixel_base.specs.Fault.{Faults, IsFault, DcsStreamFailed}
+use Rattle.sixel_decoder.specs.inside.DcsParser.{is_failed}
+use Rattle.sixel_decoder.proofs.Sessions.{MatchBool-from_each, followed_sound, string_over}
+use Rattle.sixel_decoder.proofs.Sessions.{string_refused_with, string_same, string_within}
+use Rattle.sixel_decoder.proofs.dcs_reader.DcsReader.feed.Goals as goal
+
+-- a session that a feed did not refuse was accepted before it
+accepted : (c : goal.In-Ok) → is_failed c.self.inside.parser.state ≡ false
+accepted c = false_from_ne_true (is_failed c.self.inside.parser.state) c.in-Ok.ensures.failed
+
+pub invariant_of-self : goal.invariant_of-self
+invariant_of-self c =
+    let inside = c.self.inside in
+    rw (c.extend.ensures, c.in-Ok.ensures.decoder) (c.in-Ok.ensures.follows inside.log.bytes (accepted c) c.self.invariant).3
+
+pub returns-in-Ok : goal.returns-in-Ok
+returns-in-Ok c =
+    let inside = c.self.inside in
+    let limit : ℕ = inside.parser.decoder.pixel_limit in
+    let bytes : List ℕ = inside.log.bytes in
+    let piece : List ℕ = c.args.chunk.now in
+    let now : List ℕ = bytes ++ piece in
+    let result : Result SixelDcsFeedResult SixelError = Ok c.in-Ok.fed in
+    let goes = c.in-Ok.ensures.follows bytes (accepted c) c.self.invariant in
+    let sound : is_failed inside.parser.state ≡ false → dcs_fault limit bytes ≡ None =
+    followed_sound inside.parser.state inside.parser.decoder inside.parser.ended bytes c.self.invariant in
+    record {
+      start = rw (← c.self.view_is) c.in-Ok.ensures.decoder;
+      bytes = rw (← c.self.view_is) c.extend.ensures;
+      ok = rw (← c.self.view_is) (accepted c, goes.2);
+      err = search rules;
+      faultless = rw (← c.self.view_is, c.extend.ensures) goes.4;
+      sound = rw (← c.self.view_is) sound;
+      over = rw (← c.self.view_is) (λ was ended.
+          string_over limit result bytes piece now ended refl (sound was) goes.0 goes.1 tt);
+      over_for_good = rw (← c.self.view_is, c.extend.ensures) (λ more.
+          string_same limit result now more goes.1);
+      consumed = rw (← c.self.view_is, c.extend.ensures) goes.0;
+      within = string_within result bytes piece now refl goes.0;
+      status = rw c.extend.ensures goes.1;
+      error = search rules;
+      refused_for_good = λ e more is. absurd cc;
+    }
+
+pub returns-in-Err : goal.returns-in-Err
+returns-in-Err c =
+    let inside = c.self.inside in
+    let error : SixelError = c.in-Err.error in
+    let limit : ℕ = inside.parser.decoder.pixel_limit in
+    let bytes : List ℕ = inside.log.bytes in
+    let piece : List ℕ = c.args.chunk.now in
+    let now : List ℕ = bytes ++ piece in
+    let result : Result SixelDcsFeedResult SixelError = Err error in
+    let grows : Bool = nat_lt (dcs_growths bytes) (dcs_growths now) in
+    let told : is_failed inside.parser.state ≡ false → Faults error grows (dcs_fault limit now) =
+    λ fine. c.in-Err.ensures.follows bytes fine c.self.invariant in
+    let sound : is_failed inside.parser.state ≡ false → dcs_fault limit bytes ≡ None =
+    followed_sound inside.parser.state inside.parser.decoder inside.parser.ended bytes c.self.invariant in
+    record {
+      start = rw (← c.self.view_is) c.in-Err.ensures.decoder;
+      bytes = rw (← c.self.view_is) c.extend.ensures;
+      ok = search rules;
+      err = search rules;
+      faultless = search rules;
+      sound = rw (← c.self.view_is) sound;
+      over = rw (← c.self.view_is) (λ was ended.
+          string_over limit result bytes piece now ended refl (sound was) tt tt (told was));
+      over_for_good = search rules;
+      consumed = search rules;
+      within = search rules;
+      status = search rules;
+      error = rw (← c.self.view_is, c.extend.ensures)
+          (MatchBool-from_each (is_failed inside.parser.state) (IsFault error DcsStreamFailed)
+          (Faults error grows (dcs_fault limit now)) c.in-Err.ensures.failed told);
+      refused_for_good = rw (← c.self.view_is, c.extend.ensures) (λ e more is was.
+          string_refused_with limit _ result now more (told was) e is);
+    }
+
+pub invariant_of-self-in-Err : goal.invariant_of-self-in-Err
+invariant_of-self-in-Err c = rw c.fail.ensures tt

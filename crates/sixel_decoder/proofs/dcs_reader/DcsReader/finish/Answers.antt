@@ -1,0 +1,89 @@
+use Rattle.std.proofs.Common.{◌≡◌, ◌*◌, ◌≤◌, ℕ, List, Bool, true, false, ap, subst, sym, ◌∙◌, rules}
+use Rattle.std.specs.Prelude.{IfOk, OnOk}
+use Rattle.std.proofs.lemmas.Result.{on_ok_weaker}
+use Rattle.sixel_base.specs.Dcs.{dcs_status, has_come, has_ended}
+use Rattle.sixel_base.specs.OneShot.{found, found_fault}
+use Rattle.sixel_base.specs.Payload.{payload_fault}
+use Rattle.sixel_base.specs.Stroke.{Origin}
+use Rattle.sixel_decoder.specs.inside.DcsParser.{HasFollowed, IsInPayload}
+use Rattle.sixel_decoder.specs.declared.dcs_parser.DcsState.{DcsState}
+use Rattle.sixel_decoder.proofs.FoundPayloads.{Faults-named}
+use Rattle.sixel_decoder.proofs.DcsPayloads.{found_image, found_reading, found_registers}
+use Rattle.sixel_decoder.proofs.Sessions.{string_decoded, string_ended, string_image}
+use Rattle.sixel_decoder.proofs.Sessions.{string_refused_at_end, string_registers}
+use Rattle.sixel_decoder.proofs.dcs_reader.DcsReader.finish.Goals as goal
+
+-- the string is in its payload
+in_payload : (c : goal.After-finish) → IsInPayload c.in-Payload.reader c.self.inside.parser.decoder
+    c.self.inside.parser.ended c.self.inside.log.bytes
+in_payload c =
+    let inside = c.self.inside in
+    subst (λ (p : DcsState). HasFollowed p inside.parser.decoder inside.parser.ended inside.log.bytes)
+    c.in-Payload.is c.self.invariant
+
+-- and its end has come
+come : (c : goal.After-finish) → has_come c.self.inside.parser.ended ≡ true
+come c = sym c.has_come.ensures ∙ c.if-has_come.true
+
+pub returns-then-has_come : goal.returns-then-has_come
+returns-then-has_come c =
+    let inside = c.self.inside in
+    let reader = c.in-Payload.reader in
+    let is = in_payload c in
+    let result = c.finish.result in
+    let told = c.finish.ensures in
+    let bytes : List ℕ = inside.log.bytes in
+    let limit : ℕ = inside.parser.decoder.pixel_limit in
+    let same : found_fault limit (found bytes)
+    ≡ payload_fault reader.origin.pixel_limit reader.bytes =
+    ap (found_fault limit) (found_reading bytes reader.origin.settings reader.bytes is.reading)
+    ∙ ap (λ (o : Origin). payload_fault o.pixel_limit reader.bytes) (sym is.start) in
+    let over : has_ended (dcs_status bytes) ≡ true =
+    string_ended reader inside.parser.decoder inside.parser.ended bytes is ∙ come c in
+    record {
+      image = rw (← c.self.view_is) (string_image result reader _ _ _ is told.image);
+      registers = rw (← c.self.view_is)
+          (string_registers result reader _ _ _ is told.registers);
+      found_image = rw (← c.self.view_is) (found_image result reader _ _ _ is told.image);
+      found_registers = rw (← c.self.view_is)
+          (found_registers result reader _ _ _ is told.registers);
+      as_decoded = λ more. rw (← c.self.view_is)
+          (string_decoded result reader _ _ _ more is (come c)
+          told.faultless told.image told.registers);
+      area = rw (← c.self.view_is)
+          (subst (λ (o : Origin). IfOk result (λ it. it.width * it.height ≤ o.pixel_limit))
+          is.start told.area);
+      pixels = told.pixels;
+      faultless = rw (← c.self.view_is, same) told.faultless;
+      accepted = rw (← c.self.view_is, c.in-Payload.is)
+          (subst (λ (b : Bool). OnOk result (b ≡ false)) is.accepted told.accepted);
+      ended = rw (← c.self.view_is) (on_ok_weaker result (λ _. over) told.accepted);
+      error = rw (← c.self.view_is, c.in-Payload.is)
+          (string_refused_at_end result reader _ _ _ is (come c) told.error);
+    }
+
+pub returns-else-has_come : goal.returns-else-has_come
+returns-else-has_come c =
+    let inside = c.self.inside in
+    let reader = c.in-Payload.reader in
+    let bytes : List ℕ = inside.log.bytes in
+    let is : IsInPayload reader inside.parser.decoder inside.parser.ended bytes =
+    subst (λ (p : DcsState). HasFollowed p inside.parser.decoder inside.parser.ended bytes)
+    c.in-Payload.is c.self.invariant in
+    let waits : has_ended (dcs_status bytes) ≡ false =
+    string_ended reader inside.parser.decoder inside.parser.ended bytes is
+    ∙ (sym c.has_come.ensures ∙ c.if-has_come.false) in
+    record {
+      image = search rules;
+      registers = search rules;
+      found_image = search rules;
+      found_registers = search rules;
+      as_decoded = search rules;
+      area = search rules;
+      pixels = search rules;
+      faultless = search rules;
+      accepted = search rules;
+      ended = search rules;
+      error = rw (← c.self.view_is, c.in-Payload.is, waits)
+          (Faults-named c.incomplete.result false _ c.incomplete.ensures);
+    }

@@ -1,0 +1,188 @@
+use Rattle.std.proofs.Common.{◌≡◌, ◌-◌, ◌∷◌, ℕ, List, true, false, get_or, inl, inr, ap, subst, sym, ◌∙◌, arith, length, length-drop}
+use Rattle.std.specs.Prelude.{◌⊎◌}
+use Rattle.std.proofs.lemmas.Result.{err_from_is_err_and}
+use Rattle.sixel_base.specs.Fault.{Faults}
+use Rattle.sixel_base.specs.History.{Sixel}
+use Rattle.sixel_base.specs.Payload.{first_fault}
+use Rattle.sixel_base.specs.Bytes.{is_ignored, is_sixel, is_terminator}
+use Rattle.sixel_decoder.specs.declared.payload_parser.PayloadParser.{PayloadParser}
+use Rattle.sixel_decoder.specs.inside.Runs.{IsPrintable}
+use Rattle.sixel_decoder.proofs.ChunkReads.{feeds_refused, feeds_refused_end, feeds_refused_printable, feeds_terminated, feeds_whole}
+use Rattle.sixel_decoder.proofs.ChunkReads.{first_ahead, printable_from_sixel, reaches_ignored, reaches_pushed, reaches_read}
+use Rattle.sixel_decoder.proofs.ChunkReads.{reads_before, reads_whole, sixel_from_test, splits_at}
+use Rattle.sixel_decoder.proofs.ParserSteps.{refused_close}
+use Rattle.sixel_decoder.proofs.OpenCommands.{goes_on_numbered}
+use Rattle.sixel_decoder.proofs.SixelRuns.{Stands-run, goes_on_byte, refused_sixel}
+use Rattle.sixel_decoder.proofs.payload_parser.PayloadParser.read_chunk.Goals as goal
+use Rattle.sixel_decoder.proofs.payload_parser.PayloadParser.read_chunk.Goals.{then-not-is_ignored+in_ok-push, else-not-is_ignored}
+
+-- a byte that opens a command with a number is printable
+numbered_printable : (byte : ℕ) → (byte ≡ 33) ⊎ (byte ≡ 35) → IsPrintable byte
+numbered_printable byte (inl is) = (omega (arith, is), omega (arith, is))
+numbered_printable byte (inr is) = (omega (arith, is), omega (arith, is))
+
+-- ---- a sixel
+
+pub draw_front-requires-clause-some : goal.draw_front-requires-clause-some
+draw_front-requires-clause-some c =
+    rw (c.tail.ensures, splits_at c.args.chunk.now c.bytes.index c.bytes-test.true) (omega arith)
+
+pub draw_front-requires-clause-sixel : goal.draw_front-requires-clause-sixel
+draw_front-requires-clause-sixel c =
+    let byte = get_or c.args.chunk.now c.bytes.index 0 in
+    rw (c.tail.ensures, splits_at c.args.chunk.now c.bytes.index c.bytes-test.true)
+    (sixel_from_test byte (sym c.is_sixel.ensures ∙ c.if-is_sixel.true))
+
+pub returns-in_err-close : goal.returns-in_err-close
+returns-in_err-close c = λ o h stands.
+    let piece = c.args.chunk.now in
+    let index = c.bytes.index in
+    let byte = get_or piece index 0 in
+    let test : is_sixel byte ≡ true = sym c.is_sixel.ensures ∙ c.if-is_sixel.true in
+    let r = c.bytes.invariant.1 o h stands in
+    let p = err_from_is_err_and c.from_residual.result c.from_residual.ensures.1 in
+    rw (p.1, p.2)
+    (feeds_refused_printable _ o c.bytes.self h index piece c.bytes-test.true
+    (printable_from_sixel byte test) r
+    (refused_close _ o.pixel_limit r.now byte (goes_on_byte r.now byte (sixel_from_test byte test))
+    (c.in_err-close.ensures.drawn o r.now r.stands)))
+
+pub returns-in_err-drawn : goal.returns-in_err-drawn
+returns-in_err-drawn c = λ o h stands.
+    let piece = c.args.chunk.now in
+    let index = c.bytes.index in
+    let byte = get_or piece index 0 in
+    let test : is_sixel byte ≡ true = sym c.is_sixel.ensures ∙ c.if-is_sixel.true in
+    let r = c.bytes.invariant.1 o h stands in
+    let e = c.in_err-drawn.field-0.0 in
+    let refused = c.in_err-drawn.ensures.draws o r.now (c.in_ok-close.ensures.drawn o r.now r.stands) in
+    let p = err_from_is_err_and c.from_residual-in_err-drawn.result c.from_residual-in_err-drawn.ensures.1 in
+    rw (p.1, p.2)
+    (feeds_refused_printable _ o c.bytes.self h index piece c.bytes-test.true
+    (printable_from_sixel byte test) r
+    (refused_sixel e o.pixel_limit r.now byte (sixel_from_test byte test)
+    (subst (λ (b : ℕ). Faults e true (first_fault o.pixel_limit (Sixel (b - 63) ∷ r.now)))
+    (first_ahead index piece c.tail.result.now c.tail.ensures) refused)))
+
+pub bytes-preserved-then-is_sixel : goal.bytes-preserved-then-is_sixel
+bytes-preserved-then-is_sixel c =
+    let piece : List ℕ = c.args.chunk.now in
+    let rest : List ℕ = c.tail.result.now in
+    let drawn = c.in_ok-drawn.drawn in
+    let is = c.in_ok-drawn.ensures in
+    let closed = c.close.new.self in
+    let new : PayloadParser = record {
+      command = closed.command;
+      parameters = closed.parameters;
+      painter = c.draw_front.new.self;
+    } in (
+      omega (arith, is.within, c.bytes.invariant.0, ap length c.tail.ensures, length-drop c.bytes.index piece),
+      λ o h stands.
+          let r = c.bytes.invariant.1 o h stands in
+          let shows = is.draws o r.now (c.in_ok-close.ensures.drawn o r.now r.stands) in
+          reaches_read o c.bytes.self new h c.bytes.index drawn piece rest c.tail.ensures
+          (λ k lt. (omega (arith, is.sixels k lt), omega (arith, is.sixels k lt))) is.within r
+          (Stands-run o new r.now drawn rest c.in_ok-close.ensures.ground is.some is.within is.sixels shows),
+    )
+
+-- ---- a command with a number
+
+pub open_numbered-read-requires-clause-some : goal.open_numbered-read-requires-clause-some
+open_numbered-read-requires-clause-some c =
+    rw (c.tail-then-is_numbered.ensures, splits_at c.args.chunk.now c.bytes.index c.bytes-test.true)
+    (omega arith)
+
+pub open_numbered-read-requires-clause-numbered : goal.open_numbered-read-requires-clause-numbered
+open_numbered-read-requires-clause-numbered c =
+    rw (c.tail-then-is_numbered.ensures, splits_at c.args.chunk.now c.bytes.index c.bytes-test.true)
+    (c.is_numbered.ensures.bytes c.if-is_numbered.true)
+
+pub returns-in_err-close-2 : goal.returns-in_err-close-2
+returns-in_err-close-2 c = λ o h stands.
+    let piece = c.args.chunk.now in
+    let index = c.bytes.index in
+    let byte = get_or piece index 0 in
+    let numbered = c.is_numbered.ensures.bytes c.if-is_numbered.true in
+    let r = c.bytes.invariant.1 o h stands in
+    let p = err_from_is_err_and c.from_residual-in_err-close-2.result c.from_residual-in_err-close-2.ensures.1 in
+    rw (p.1, p.2)
+    (feeds_refused_printable _ o c.bytes.self h index piece c.bytes-test.true
+    (numbered_printable byte numbered) r
+    (refused_close _ o.pixel_limit r.now byte (goes_on_numbered r.now byte numbered)
+    (c.in_err-close-2.ensures.drawn o r.now r.stands)))
+
+pub bytes-preserved-then-is_numbered : goal.bytes-preserved-then-is_numbered
+bytes-preserved-then-is_numbered c =
+    let piece : List ℕ = c.args.chunk.now in
+    let rest : List ℕ = c.tail-then-is_numbered.result.now in
+    let read = c.open_numbered-read.result in
+    let is = c.open_numbered-read.ensures in (
+      omega (arith, is.within, c.bytes.invariant.0, ap length c.tail-then-is_numbered.ensures, length-drop c.bytes.index piece),
+      λ o h stands.
+          let r = c.bytes.invariant.1 o h stands in
+          reaches_read o c.bytes.self c.open_numbered-read.new.self h c.bytes.index read piece rest
+          c.tail-then-is_numbered.ensures is.printable is.within r
+          (is.stands o r.now (c.in_ok-close-2.ensures.drawn o r.now r.stands)),
+    )
+
+-- ---- a terminator
+
+pub returns-in_err-close-3 : goal.returns-in_err-close-3
+returns-in_err-close-3 c = λ o h stands.
+    let piece = c.args.chunk.now in
+    let index = c.bytes.index in
+    let byte = get_or piece index 0 in
+    let ends : is_terminator byte ≡ true = sym c.is_terminator.ensures ∙ c.if-is_terminator.true in
+    let read = reads_before o c.bytes.self h index piece byte (splits_at piece index c.bytes-test.true) ends (c.bytes.invariant.1 o h stands) in
+    let p = err_from_is_err_and c.from_residual-in_err-close-3.result c.from_residual-in_err-close-3.ensures.1 in
+    rw (p.1, p.2)
+    (feeds_refused_end _ o.pixel_limit h index piece c.bytes-test.true read.0
+    (c.in_err-close-3.ensures.drawn o _ read.1))
+
+pub returns-then-is_terminator : goal.returns-then-is_terminator
+returns-then-is_terminator c = λ o h stands.
+    let piece = c.args.chunk.now in
+    let index = c.bytes.index in
+    let byte = get_or piece index 0 in
+    let ends : is_terminator byte ≡ true = sym c.is_terminator.ensures ∙ c.if-is_terminator.true in
+    let read = reads_before o c.bytes.self h index piece byte (splits_at piece index c.bytes-test.true) ends (c.bytes.invariant.1 o h stands) in
+    feeds_terminated o _ h index piece c.bytes-test.true read.0 c.in_ok-close-3.ensures.ground
+    (c.in_ok-close-3.ensures.drawn o _ read.1)
+
+-- ---- any other byte, and the end of the chunk
+
+pub returns-in_err-push : goal.returns-in_err-push
+returns-in_err-push c = λ o h stands.
+    let piece = c.args.chunk.now in
+    let index = c.bytes.index in
+    let byte = get_or piece index 0 in
+    let r = c.bytes.invariant.1 o h stands in
+    let ends : is_terminator byte ≡ false = sym c.is_terminator.ensures ∙ c.if-is_terminator.false in
+    let carries : is_ignored byte ≡ false = sym c.is_ignored.ensures ∙ c.if-not-is_ignored.true in
+    let p = err_from_is_err_and c.from_residual-in_err-push.result c.from_residual-in_err-push.ensures.1 in
+    rw (p.1, p.2) (feeds_refused _ o c.bytes.self h index piece byte (splits_at piece index c.bytes-test.true) ends carries r (c.in_err-push.ensures o r.now r.stands))
+
+pub bytes-preserved : goal.bytes-preserved
+bytes-preserved c = (
+  omega (arith, c.bytes-test.true),
+  λ o h stands.
+      let piece = c.args.chunk.now in
+      let index = c.bytes.index in
+      let byte = get_or piece index 0 in
+      let r = c.bytes.invariant.1 o h stands in
+      let splits = splits_at piece index c.bytes-test.true in
+      let ends : is_terminator byte ≡ false = sym c.is_terminator.ensures ∙ c.if-is_terminator.false in
+      elim c.if-not-is_ignored.branch [
+        | then-not-is_ignored+in_ok-push w ↦
+            let carries : is_ignored byte ≡ false = sym c.is_ignored.ensures ∙ w.if-not-is_ignored.true in
+            reaches_pushed o c.bytes.self _ h index piece byte splits ends carries r (rw w.self-is (w.in_ok-push.ensures o r.now r.stands))
+        | else-not-is_ignored w ↦
+            let ignored : is_ignored byte ≡ true = sym c.is_ignored.ensures ∙ w.if-not-is_ignored.false in
+            rw w.self-is (reaches_ignored o c.bytes.self h index piece byte splits ends ignored r)
+      ],
+)
+
+pub returns : goal.returns
+returns c = λ o h stands.
+    feeds_whole o c.bytes.self h c.bytes.index c.args.chunk.now (omega (arith, c.bytes-test.false))
+    (reads_whole o c.bytes.self h c.bytes.index c.args.chunk.now (omega (arith, c.bytes-test.false)) (c.bytes.invariant.1 o h stands))

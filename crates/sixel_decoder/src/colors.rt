@@ -1,0 +1,47 @@
+//! Colors of pixels: the background, and what a color introducer defines.
+
+ghost use Rattle.std.specs.Prelude.{◌≡◌, ◌∷◌, ◌++◌, List, ℕ, []};
+ghost use Rattle.std.specs.Prelude.{slice_set, if◌then◌else◌};
+ghost use Rattle.sixel_base.specs.inside.Parameters.{Keeps};
+ghost use Rattle.sixel_base.specs.Stroke.{background_of, is_definition, definition};
+
+use sixel_base::parameters::Parameters;
+use sixel_base::registers::Registers;
+use sixel_base::settings::BackgroundMode;
+
+/// Returns the color of a pixel that no sixel covers.
+pub fn background(registers: &Registers, mode: BackgroundMode) -> [u8; 4]
+    ensures { result ≡ background_of registers.now mode }
+{
+    match mode {
+        BackgroundMode::Transparent => [0; 4],
+        BackgroundMode::Opaque => opaque(registers.get(0)),
+    }
+}
+
+/// Returns the opaque pixel of a color.
+pub fn opaque(color: [u8; 3]) -> [u8; 4]
+    ensures { result ≡ color ++ 255 ∷ [] }
+{
+    let [red, green, blue] = color;
+    [red, green, blue, 255]
+}
+
+/// Stores the color that five parameters define in the register.
+///
+/// Fewer parameters, and other color systems than HLS and RGB, define none.
+pub fn define(registers: &mut Registers, register: u8, parameters: &Parameters)
+    ensures { (text : List ℕ) → Keeps parameters.now text
+        → registers.new ≡ (if is_definition text
+        then slice_set registers.old register (definition text) else registers.old) }
+{
+    if parameters.len() < 5 {
+        return;
+    }
+    let (x, y, z) = (parameters.get(2), parameters.get(3), parameters.get(4));
+    match parameters.get(1) {
+        1 => registers.define_hls(register, x, y, z),
+        2 => registers.define_rgb(register, x, y, z),
+        _ => {}
+    }
+}

@@ -1,0 +1,130 @@
+//! The reader of a DCS sequence in chunks: the bytes so far, and the parser that has read them.
+
+ghost use Rattle.std.specs.Prelude.{◌≡◌, true, false};
+ghost use Rattle.sixel_base.specs.Dcs.{dcs_in_payload, has_come};
+ghost use Rattle.sixel_decoder.specs.DcsCalls.{begun, IsFed, IsFinished, IsSizeSoFar};
+ghost use Rattle.sixel_decoder.specs.DcsCalls.{IsWriteCount, IsPaintCount};
+ghost use Rattle.sixel_decoder.specs.PictureView.{picture_value};
+
+use crate::dcs_parser::{DcsParser, DcsState};
+use crate::decoded_payload::DecodedPayload;
+use crate::log::Log;
+use sixel_base::state::DecoderState;
+use sixel_base::status::{SixelDcsFeedResult, SixelDcsFeedStatus};
+use sixel_base::{Result, SixelError};
+use std::alloc::Global;
+use std::marker::Model;
+
+/// A DCS sequence that is read in chunks.
+#[derive(Drop)]
+pub struct DcsReader {
+    parser: DcsParser,
+    log: Log,
+}
+
+impl Model for DcsReader {
+    ghost use Rattle.sixel_decoder.specs.Session.{DcsSession};
+
+    ghost Value = { DcsSession };
+
+    ghost use Rattle.sixel_decoder.specs.inside.DcsReader.{session_of, IsFollowing};
+
+    ghost view = { session_of };
+
+    ghost invariant = { IsFollowing };
+}
+
+impl DcsReader {
+    /// Creates a reader that was fed nothing.
+    pub fn new(alloc: Global, decoder: DecoderState) -> DcsReader
+        ensures { result ≡ begun decoder }
+    {
+        DcsReader {
+            parser: DcsParser::new(alloc, decoder),
+            log: Log::new(),
+        }
+    }
+
+    /// Reads a chunk as far as the DCS sequence goes. After an error every feed fails.
+    pub fn feed(&mut self, chunk: &[u8]) -> Result<SixelDcsFeedResult>
+        ensures { IsFed self.old self.new chunk.now result }
+    {
+        self.log.extend(chunk);
+        match self.parser.feed(chunk) {
+            Ok(fed) => Ok(fed),
+            Err(error) => {
+                self.parser.state.fail();
+                Err(error)
+            }
+        }
+    }
+
+    /// Returns how many pixels were copied or filled to grow the canvas of the payload.
+    pub fn writes(&self) -> u64
+        ensures { IsWriteCount self.now result }
+    {
+        match &self.parser.state {
+            DcsState::Payload(reader) => reader.writes(),
+            _ => 0,
+        }
+    }
+
+    /// Returns how many pixels sixels of the payload have painted at most.
+    pub fn paints(&self) -> u64
+        ensures { IsPaintCount self.now result }
+    {
+        let DcsState::Payload(reader) = &self.parser.state else {
+            return 0;
+        };
+        reader.paints()
+    }
+
+    /// Whether the payload has begun and no feed has failed.
+    pub fn in_payload(&self) -> bool
+        ensures accepted { self.now.is_refused ≡ false → result ≡ dcs_in_payload self.now.bytes }
+        ensures refused { self.now.is_refused ≡ true → result ≡ false }
+    {
+        matches!(self.parser.state, DcsState::Payload(_))
+    }
+
+    /// Returns the width and the height of the image so far, unless a feed has failed.
+    pub fn size_so_far(&self) -> Option<(usize, usize)>
+        ensures { IsSizeSoFar self.now result }
+    {
+        match &self.parser.state {
+            DcsState::Payload(reader) => reader.size_so_far(),
+            DcsState::Start | DcsState::Escape | DcsState::Header(_) | DcsState::Failed => None,
+        }
+    }
+
+    /// Returns the image and the registers, once the DCS sequence has ended.
+    pub fn finish(self) -> Result<DecodedPayload>
+        ensures { IsFinished picture_value (λ picture. picture.registers) self result }
+    {
+        let DcsReader { parser, .. } = self;
+        let DcsParser { state, ended, .. } = parser;
+        match state {
+            DcsState::Failed => Err(SixelError::dcs_stream_failed()),
+            DcsState::Payload(reader) => {
+                if has_come(ended) {
+                    reader.finish()
+                } else {
+                    Err(SixelError::incomplete())
+                }
+            }
+            DcsState::Start | DcsState::Escape | DcsState::Header(_) => {
+                Err(SixelError::incomplete())
+            }
+        }
+    }
+}
+
+/// Whether the end of a DCS sequence has come, after which no byte is its own.
+fn has_come(ended: Option<SixelDcsFeedStatus>) -> bool
+    ensures { result ≡ has_come ended }
+{
+    match ended {
+        None | Some(SixelDcsFeedStatus::NeedMoreData) => false,
+        Some(_) => true,
+    }
+}

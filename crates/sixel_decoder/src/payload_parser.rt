@@ -1,0 +1,281 @@
+//! The parser of a payload's bytes: the command that is open, and its parameters so far.
+//!
+//! A command takes effect when it is closed: by the next byte that does not continue it, by the
+//! terminator, or by the end. So a chunk may end within a command.
+
+ghost use Rattle.std.specs.Prelude.{◌≡◌, ◌<◌, ◌≤◌, ◌+◌, ◌*◌, ◌∷◌, List, ℕ, true, false, []};
+ghost use Rattle.std.specs.Prelude.{length, slice_index, fold, take};
+ghost use Rattle.std.specs.Prelude.{IsTrue, ◌⊎◌, Bool, if◌then◌else◌};
+ghost use Rattle.sixel_canvas.specs.inside.Canvas.{canvas_writes, canvas_room};
+ghost use Rattle.sixel_base.specs.Bytes.{is_sixel as sixel};
+ghost use Rattle.sixel_base.specs.History.{History, begun, goes_on, read};
+ghost use Rattle.sixel_base.specs.Decoder.{origin_of};
+ghost use Rattle.sixel_base.specs.inside.Parameters.{IsDigit};
+ghost use Rattle.sixel_base.specs.Stroke.{Origin};
+ghost use Rattle.sixel_decoder.specs.inside.Runs.{IsPrintable, IsSixelByte};
+ghost use Rattle.sixel_decoder.specs.declared.payload_parser.OpenCommand.TheVariants.{Ground};
+ghost use Rattle.sixel_decoder.specs.declared.payload_parser.OpenCommand.TheVariants.{InRepeat};
+ghost use Rattle.sixel_decoder.specs.declared.payload_parser.OpenCommand.TheVariants.{InColor};
+
+use crate::bytes::{is_ignored, is_numbered, is_parameter, is_sixel, is_terminator, tail};
+use crate::decoded_payload::DecodedPayload;
+use crate::painter::Painter;
+use sixel_base::Result;
+use sixel_base::parameters::{Digits, Parameters};
+use sixel_base::settings::DcsSettings;
+use sixel_base::state::DecoderState;
+use sixel_base::status::{SixelFeedResult, SixelFeedStatus};
+use std::alloc::Global;
+
+/// The command that may continue, or `Ground` where none is open.
+#[derive(Clone, Copy, PartialEq, Eq)]
+pub enum OpenCommand {
+    Ground,
+    InRepeat,
+    InRaster,
+    InColor,
+}
+
+impl OpenCommand {
+    /// Returns the command that `!` or `#` opens.
+    #[inline(always)]
+    fn numbered(byte: u8) -> OpenCommand
+        ensures repeat { byte ≡ 33 → result ≡ InRepeat }
+        ensures color { byte ≡ 35 → result ≡ InColor }
+    {
+        if byte == b'!' {
+            OpenCommand::InRepeat
+        } else {
+            OpenCommand::InColor
+        }
+    }
+}
+
+/// A payload's open command, and the painter that has drawn the closed ones.
+#[derive(Drop)]
+pub struct PayloadParser {
+    pub command: OpenCommand,
+    pub parameters: Parameters,
+    pub painter: Painter,
+}
+
+impl PayloadParser {
+    ghost use Rattle.sixel_decoder.specs.inside.Painter.{Shows, Draws, Ends};
+    ghost use Rattle.sixel_decoder.specs.inside.PayloadParser.{Stands, Reads, Feeds, StandsAfter};
+
+    /// Creates a parser that has read nothing.
+    pub fn new(alloc: Global, decoder: DecoderState, settings: DcsSettings) -> PayloadParser
+        ensures stands { Stands (origin_of decoder settings) result [] }
+        ensures unwritten { canvas_writes result.painter.canvas ≡ 0 }
+        ensures roomless { canvas_room result.painter.canvas ≡ 0 }
+        ensures unpainted { result.painter.canvas.paints ≡ 0 }
+    {
+        PayloadParser {
+            command: OpenCommand::Ground,
+            parameters: Parameters::new(),
+            painter: Painter::new(alloc, decoder, settings),
+        }
+    }
+
+    /// Reads a chunk up to its first terminator, which closes the open command.
+    #[inline(always)]
+    pub fn feed(&mut self, chunk: &[u8]) -> Result<SixelFeedResult>
+        ensures { (o : Origin) (h : History) → Stands o self.old h
+            → Feeds result o self.new h chunk.now }
+    {
+        if chunk.len() == 1 && self.try_byte(chunk[0]) {
+            return Ok(SixelFeedResult {
+                consumed: 1,
+                status: SixelFeedStatus::NeedMoreData,
+            });
+        }
+        self.read_chunk(chunk)
+    }
+
+    /// Reads a byte that cannot fail, and returns whether it is one. Any other changes nothing.
+    ///
+    /// It continues the open command, opens one, or is a sixel in a column that all six rows have.
+    #[inline(always)]
+    fn try_byte(&mut self, byte: u8) -> bool
+        ensures printable { IsTrue result → IsPrintable byte }
+        ensures stands { IsTrue result → (o : Origin) (h : History) → Stands o self.old h
+            → Stands o self.new (read h byte) }
+        ensures left { result ≡ false → self.new ≡ self.old }
+    {
+        if is_sixel(byte) {
+            return self.try_sixel(byte);
+        }
+        if self.takes(byte) {
+            self.parameters.push(byte);
+            return true;
+        }
+        if self.command != OpenCommand::Ground || !is_numbered(byte) {
+            return false;
+        }
+        self.command = OpenCommand::numbered(byte);
+        self.parameters = Parameters::new();
+        true
+    }
+
+    /// Draws a sixel that cannot fail, and returns whether it is one. Any other changes nothing.
+    ///
+    /// An open color command is closed first.
+    #[inline(always)]
+    fn try_sixel(&mut self, byte: u8) -> bool
+        requires { IsSixelByte byte }
+        ensures stands { IsTrue result → (o : Origin) (h : History) → Stands o self.old h
+            → Stands o self.new (read h byte) }
+        ensures left { result ≡ false → self.new ≡ self.old }
+    {
+        if !self.painter.fits_column() {
+            return false;
+        }
+        match self.command {
+            OpenCommand::Ground => {}
+            OpenCommand::InColor => {
+                self.command = OpenCommand::Ground;
+                self.painter.select(&self.parameters);
+            }
+            OpenCommand::InRepeat | OpenCommand::InRaster => return false,
+        }
+        self.painter.draw_column(byte - 0x3f);
+        true
+    }
+
+    /// Whether the byte continues the open command.
+    fn takes(&self, byte: u8) -> bool
+        ensures takes { (o : Origin) (h : History) → Stands o self.now h → result ≡ goes_on h byte }
+        ensures parameter { IsTrue result → IsDigit byte ⊎ (byte ≡ 59) }
+    {
+        match self.command {
+            OpenCommand::Ground => false,
+            OpenCommand::InRepeat => byte.is_ascii_digit(),
+            OpenCommand::InRaster | OpenCommand::InColor => is_parameter(byte),
+        }
+    }
+
+    /// Reads a chunk of any bytes.
+    #[inline(never)]
+    fn read_chunk(&mut self, chunk: &[u8]) -> Result<SixelFeedResult>
+        ensures { (o : Origin) (h : History) → Stands o self.old h
+            → Feeds result o self.new h chunk.now }
+    {
+        let mut index = 0;
+        'bytes: while index < chunk.len() {
+            let byte = chunk[index];
+            if is_sixel(byte) {
+                self.close()?;
+                let drawn = self.painter.draw_front(tail(chunk, index))?;
+                index += drawn;
+            } else if is_numbered(byte) {
+                self.close()?;
+                let read = self.open_numbered(tail(chunk, index));
+                index += read;
+            } else {
+                if is_terminator(byte) {
+                    self.close()?;
+                    return Ok(SixelFeedResult {
+                        consumed: index,
+                        status: SixelFeedStatus::Terminated(byte),
+                    });
+                }
+                if !is_ignored(byte) {
+                    self.push(byte)?;
+                }
+                index += 1;
+            }
+        }
+        Ok(SixelFeedResult {
+            consumed: index,
+            status: SixelFeedStatus::NeedMoreData,
+        })
+    }
+
+    /// Closes the open command, which then takes effect.
+    #[inline(always)]
+    fn close(&mut self) -> Result<()>
+        ensures ground { self.new.command ≡ Ground }
+        ensures drawn { (o : Origin) (h : History) → Stands o self.old h
+            → Draws result o self.new.painter h false }
+        ensures kept { (o : Origin) (h : History) → self.old.command ≡ Ground
+            → Shows o self.old.painter h → Draws result o self.new.painter h false }
+    {
+        let command = self.command;
+        self.command = OpenCommand::Ground;
+        match command {
+            OpenCommand::Ground => Ok(()),
+            OpenCommand::InRepeat => self.painter.repeat(&self.parameters),
+            OpenCommand::InRaster => self.painter.set_raster(&self.parameters),
+            OpenCommand::InColor => {
+                self.painter.select(&self.parameters);
+                Ok(())
+            }
+        }
+    }
+
+    /// Opens the command at the front, and returns how many bytes it has with its digits.
+    #[inline(always)]
+    fn open_numbered(&mut self, bytes: &[u8]) -> usize
+        requires some { 0 < length bytes.now }
+        requires numbered { (slice_index bytes.now 0 ≡ 33) ⊎ (slice_index bytes.now 0 ≡ 35) }
+        ensures some { 0 < result }
+        ensures within { result ≤ length bytes.now }
+        ensures printable { (k : ℕ) → k < result → IsPrintable (slice_index bytes.now k) }
+        ensures stands { (o : Origin) (h : History) → Shows o self.old.painter h
+            → Stands o self.new (fold read h (take result bytes.now)) }
+    {
+        let digits = Digits::at_front(tail(bytes, 1));
+        self.command = OpenCommand::numbered(bytes[0]);
+        self.parameters = digits.parameters;
+        digits.len + 1
+    }
+
+    /// Reads any other byte that is no control.
+    fn push(&mut self, byte: u8) -> Result<()>
+        requires sixel { sixel byte ≡ false }
+        requires numbered { (byte ≡ 33 → ⊥) × (byte ≡ 35 → ⊥) }
+        ensures { (o : Origin) (h : History) → Stands o self.old h
+            → Reads result o self.new h (read h byte) }
+    {
+        if self.takes(byte) {
+            self.parameters.push(byte);
+            return Ok(());
+        }
+        self.close()?;
+        self.begin(byte)
+    }
+
+    /// Begins the token of such a byte.
+    fn begin(&mut self, byte: u8) -> Result<()>
+        requires ground { self.old.command ≡ Ground }
+        requires sixel { sixel byte ≡ false }
+        requires numbered { (byte ≡ 33 → ⊥) × (byte ≡ 35 → ⊥) }
+        ensures { (o : Origin) (h : History) → Shows o self.old.painter h
+            → Reads result o self.new h (begun byte ∷ h) }
+    {
+        match byte {
+            b'"' => {
+                self.command = OpenCommand::InRaster;
+                self.parameters = Parameters::new();
+                Ok(())
+            }
+            b'$' => {
+                self.painter.carriage_return();
+                Ok(())
+            }
+            b'-' => self.painter.new_line(),
+            _ => Ok(()),
+        }
+    }
+
+    /// Closes the open command, and returns the image with the registers.
+    pub fn finish(mut self) -> Result<DecodedPayload>
+        ensures { (o : Origin) (h : History) (ended : Bool) → StandsAfter ended o self h
+            → Ends result o h }
+    {
+        match self.close() {
+            Ok(()) => self.painter.pack(),
+            Err(error) => Err(error),
+        }
+    }
+}

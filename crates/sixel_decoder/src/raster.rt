@@ -1,0 +1,70 @@
+//! What raster attributes change: the pixel aspect ratio, the height to crop to, and the extent.
+
+ghost use Rattle.std.specs.Prelude.{◌≡◌, ◌*◌, ◌≤◌, List, ℕ, length, max};
+ghost use Rattle.std.specs.Prelude.{nat_le, nat_lt, if◌then◌else◌, MatchResult};
+ghost use Rattle.sixel_base.specs.Fields.{fields, field};
+ghost use Rattle.sixel_base.specs.inside.Parameters.{Keeps};
+ghost use Rattle.sixel_base.specs.Stroke.{ratio_from as shape_from};
+ghost use Rattle.sixel_decoder.specs.inside.Sizes.{IsTooLarge};
+
+use sixel_base::limits::MAX_SIDE;
+use sixel_base::parameters::Parameters;
+use sixel_base::settings::PixelAspectRatio;
+use sixel_base::{Result, SixelError};
+
+/// Returns the pixel aspect ratio after raster attributes: `now` if they have one field.
+pub fn shape(
+    parameters: &Parameters,
+    now: PixelAspectRatio,
+    other: PixelAspectRatio,
+) -> PixelAspectRatio
+    ensures { (text : List ℕ) → Keeps parameters.now text
+        → result ≡ (if nat_le 2 (length (fields text))
+        then shape_from other (max 1 (field text 0)) (max 1 (field text 1)) else now) }
+{
+    if parameters.len() < 2 {
+        return now;
+    }
+    ratio_from(other, parameters.get(0).max(1), parameters.get(1).max(1))
+}
+
+/// Returns the ratio of a pixel's height to its width, or `other` for any but the four.
+fn ratio_from(other: PixelAspectRatio, vertical: u32, horizontal: u32) -> PixelAspectRatio
+    ensures { result ≡ shape_from other vertical horizontal }
+{
+    let (vertical, horizontal) = (u64::from(vertical), u64::from(horizontal));
+    if vertical == horizontal {
+        PixelAspectRatio::Square
+    } else if vertical == 2 * horizontal {
+        PixelAspectRatio::Ratio2To1
+    } else if vertical == 3 * horizontal {
+        PixelAspectRatio::Ratio3To1
+    } else if vertical == 5 * horizontal {
+        PixelAspectRatio::Ratio5To1
+    } else {
+        other
+    }
+}
+
+/// Returns the last height that raster attributes name, where 0 names none.
+pub fn last_height(before: usize, high: usize) -> usize
+    ensures { result ≡ (if nat_lt 0 high then high else before) }
+{
+    if high > 0 { high } else { before }
+}
+
+/// Rejects an extent of which a side or the area is above its limit.
+#[inline(always)]
+pub fn check_size(width: usize, height: usize, limit: usize) -> Result<()>
+    ensures { MatchResult result
+        (λ _. (width ≤ 1000000) × (height ≤ 1000000) × (width * height ≤ limit))
+        (λ error. IsTooLarge width height limit error) }
+{
+    if width > MAX_SIDE || height > MAX_SIDE {
+        return Err(SixelError::malformed());
+    }
+    if width * height > limit {
+        return Err(SixelError::too_large());
+    }
+    Ok(())
+}
