@@ -1,6 +1,6 @@
--- How a row of sixels is written: in tokens, each one sixel or a repeat introducer with a count and
--- a sixel. By DEC's sixel data; that a count is at most 65535, and which of the shortest spellings
--- is written, are this library's own rules.
+-- A row of sixels as run-length tokens: a token is one sixel, or a repeat introducer with a count
+-- and a sixel, as in DEC's sixel data. Two rules are this library's own: a count is at most 65535,
+-- and one of the shortest spellings is chosen.
 use Rattle.std.specs.Prelude.{◌≡◌, ℕ, ◌+◌, ◌/◌, ◌%◌, ◌≤◌, ◌==◌, nat_lt, if◌then◌else◌, List, []}
 use Rattle.std.specs.Prelude.{◌∷◌, ◌++◌, length, replicate, flat_map, All, decimal}
 
@@ -45,16 +45,16 @@ pub record Spells (tokens : List RunToken) (row : List ℕ) : Type 0 where
 abbrev pub IsShortest : List RunToken → List ℕ → Type 0
 IsShortest tokens row = (others : List RunToken) → Spells others row → cost tokens ≤ cost others
 
--- fewer equal sixels than the greatest count: singly up to three, else as one token
+-- a run shorter than the greatest count: up to three sixels singly, else one repeat
 abbrev pub rest_tokens : ℕ → ℕ → List RunToken
 rest_tokens count bits = if nat_lt 3 count then Many count bits ∷ [] else replicate count (One bits)
 
--- equal sixels, cut from the left into tokens of the greatest count and a rest
+-- a run of equal sixels: repeats of the greatest count from the left, then the rest
 abbrev pub run_tokens : ℕ → ℕ → List RunToken
 run_tokens count bits =
     replicate (count / longest) (Many longest bits) ++ rest_tokens (count % longest) bits
 
--- the tokens of so many equal sixels and the row after them
+-- the tokens of a run so far and of the row after it
 abbrev pub tokens_after : ℕ → ℕ → List ℕ → List RunToken
 tokens_after count bits [] = run_tokens count bits
 tokens_after count bits (next ∷ row) =

@@ -75,6 +75,7 @@ impl SixelImage {
             aspect_ratio: self.aspect_ratio,
             background_mode: self.background_mode,
         };
+        // A law without work: the clause `hidden` follows from it.
         one_drawing();
         encode_source(alloc, &source, options.max_colors)
     }

@@ -1,6 +1,6 @@
--- The rows of sixels of one band: those of some entries from a first one on, entry after entry, and
--- which of them have a set pixel. This is internal to the encoder; its output is defined by the
--- text of a drawing.
+-- The rows of sixels of one band: those of some entries from one on, entry after entry, and which
+-- of them have a set pixel. They are internal to the encoder: the text of a drawing defines its
+-- output.
 use Rattle.std.specs.Prelude.{◌≡◌, ℕ, ◌+◌, ◌*◌, ◌<◌, ◌≤◌, ◌==◌, Bool, true, false, ◌&&◌}
 use Rattle.std.specs.Prelude.{if◌then◌else◌, List, [], length, map, slice_index, slice_index_or}
 use Rattle.std.specs.Prelude.{Option}
@@ -17,17 +17,17 @@ cell rows width entry column = slice_index rows (entry * width + column)
 abbrev pub grid_row : List ℕ → ℕ → ℕ → List ℕ
 grid_row rows width entry = map (cell rows width entry) (range_with_len 0 width)
 
--- the text of an entry's row, if it has a dot
+-- the text of an entry's row, if it has a set pixel
 abbrev pub grid_text : List ℕ → ℕ → ℕ → ℕ → List ℕ
 grid_text rows width first entry =
     if has_dot (grid_row rows width entry) then row_text (first + entry) (grid_row rows width entry)
     else []
 
--- a number where the entry and the column are these, else nothing
+-- the weight in this entry and column, else 0
 abbrev pub dot_at : ℕ → ℕ → ℕ → ℕ → ℕ → ℕ
 dot_at weight entry column e x = if e == entry && x == column then weight else 0
 
--- what a pixel adds to an entry's sixel: its line's weight where the pixel has the entry
+-- what a pixel adds to an entry's sixel: its line's weight if the pixel has the entry
 abbrev pub pixel_bit : ℕ → ℕ → Option ℕ → ℕ
 pixel_bit weight e place = if is_entry e place then weight else 0
 
@@ -47,14 +47,14 @@ abbrev pub AreBelow : List ℕ → ℕ → ℕ → ℕ → Type 0
 AreBelow rows width count limit =
     (entry column : ℕ) → entry < count → column < width → cell rows width entry column < limit
 
--- an entry is marked exactly if its row has a dot
+-- an entry is marked exactly if its row has a set pixel
 pub record AreMarks (rows : List ℕ) (used : List Bool) (width : ℕ) : Type 0 where
   pub dotted : (entry : ℕ) → entry < length used → slice_index_or used entry false ≡ true
       → (column : ℕ) × (column < width) × (0 < cell rows width entry column)
   pub marked : (entry column : ℕ) → entry < length used → column < width
       → 0 < cell rows width entry column → slice_index_or used entry false ≡ true
 
--- no entry before this one has a dot or a mark
+-- no entry before this one has a set pixel or a mark
 pub record AreClear (rows : List ℕ) (used : List Bool) (width entries : ℕ) : Type 0 where
   pub blank : (entry column : ℕ) → entry < entries → column < width
       → cell rows width entry column ≡ 0

@@ -1,5 +1,5 @@
--- Equal sixels next to each other in a row, which the encoder counts some at a time. How a row is
--- cut into tokens does not know of this.
+-- Runs of equal sixels in a row, which the encoder counts some at a time. The tokens of a row do
+-- not depend on how it counts.
 use Rattle.std.specs.Prelude.{◌≡◌, ℕ, ◌+◌, ◌<◌, ◌≤◌, List, length, slice_index}
 
 -- so many sixels of the row from a place on are these
