@@ -1,4 +1,6 @@
-use Rattle.std.proofs.Common.{◌≡◌, ℕ, zero, suc, ◌+◌, ◌-◌, ◌*◌, ◌<◌, ◌≤◌, min, List, [], ◌∷◌, ◌++◌, length, get_or, take, drop, refl, sym, ap, ◌∙◌, inl, inr, take_all, get_or-drop, length-drop, arith}
+use Rattle.std.proofs.Common.{◌≡◌, ℕ, zero, suc, ◌+◌, ◌-◌, ◌*◌, ◌<◌, ◌≤◌, min, List, [], ◌∷◌, ◌++◌}
+use Rattle.std.proofs.Common.{length, get_or, take, drop, refl, sym, ap, ◌∙◌, inl, inr, take_all}
+use Rattle.std.proofs.Common.{get_or-drop, length-drop, arith}
 use Rattle.std.specs.List.{flat_map}
 use Rattle.std.proofs.lemmas.Bool.{cases_lt}
 use Rattle.std.proofs.lemmas.List.{append-nil, drop_all, get_or_past}
@@ -9,7 +11,8 @@ use Rattle.sixel_base.proofs.Joined.{joined-front, joined-same, joined-add, leng
 use Rattle.sixel_canvas.proofs.Spans.{IsColored}
 
 -- a span in one color is that color's bytes, over and over
-joined-colored : (color span : List ℕ) (n : ℕ) → length color ≡ 4 → length span ≡ 4 * n → IsColored color span (4 * n) → span ≡ joined (λ _. color) n
+joined-colored : (color span : List ℕ) (n : ℕ) → length color ≡ 4 → length span ≡ 4 * n
+    → IsColored color span (4 * n) → span ≡ joined (λ _. color) n
 unfolding joined
 joined-colored (r ∷ g ∷ b ∷ a ∷ []) [] zero whole long colored = refl
 joined-colored (r ∷ g ∷ b ∷ a ∷ []) (w ∷ x ∷ y ∷ z ∷ rest) (suc n) whole long colored =
@@ -18,29 +21,46 @@ joined-colored (r ∷ g ∷ b ∷ a ∷ []) (w ∷ x ∷ y ∷ z ∷ rest) (suc 
     let e2 : y ≡ b = colored 2 (omega arith) in
     let e3 : z ≡ a = colored 3 (omega arith) in
     let color = r ∷ g ∷ b ∷ a ∷ [] in
-    let more = joined-colored color rest n whole (omega arith) (λ k h. colored (suc (suc (suc (suc k)))) (omega arith) ∙ ap (λ i. get_or color i 0) (omega arith)) in
+    let more =
+    joined-colored color rest n whole (omega arith)
+    (λ k h.
+    colored (suc (suc (suc (suc k)))) (omega arith) ∙ ap (λ i. get_or color i 0) (omega arith)) in
     let front = joined-front (λ _. color) n in
     cc
 joined-colored _ _ n whole long colored = absurd (omega arith)
 
 -- bytes whose end was written in one color
-pub put_mid-colored : (bytes span color : List ℕ) (start n : ℕ) → start + 4 * n ≡ length bytes → length color ≡ 4 → length span ≡ 4 * n → IsColored color span (4 * n) → put_mid start (length bytes - start) bytes span ≡ take start bytes ++ joined (λ _. color) n
+pub put_mid-colored : (bytes span color : List ℕ) (start n : ℕ) → start + 4 * n ≡ length bytes
+    → length color ≡ 4 → length span ≡ 4 * n → IsColored color span (4 * n)
+    → put_mid start (length bytes - start) bytes span ≡ take start bytes ++ joined (λ _. color) n
 put_mid-colored bytes span color start n whole four long colored =
-    put_mid-paste start (length bytes - start) bytes span (joined (λ _. color) n) (4 * n) (joined-colored color span n four long colored) (omega arith) (omega (arith, length-joined (λ _. color) 4 n (λ _. four)))
-    ∙ ap (λ xs. take start bytes ++ xs ++ drop (start + 4 * n) bytes) (take_all (4 * n) (joined (λ _. color) n) (omega (arith, length-joined (λ _. color) 4 n (λ _. four))))
-    ∙ ap (λ xs. take start bytes ++ joined (λ _. color) n ++ xs) (drop_all (start + 4 * n) bytes (omega arith))
+    put_mid-paste start (length bytes - start) bytes span (joined (λ _. color) n) (4 * n)
+    (joined-colored color span n four long colored) (omega arith)
+    (omega (arith, length-joined (λ _. color) 4 n (λ _. four)))
+    ∙ ap
+    (λ xs. take start bytes ++ xs ++ drop (start + 4 * n) bytes)
+    (take_all (4 * n) (joined (λ _. color) n)
+    (omega (arith, length-joined (λ _. color) 4 n (λ _. four))))
+    ∙ ap
+    (λ xs. take start bytes ++ joined (λ _. color) n ++ xs)
+    (drop_all (start + 4 * n) bytes (omega arith))
     ∙ append-nil (take start bytes ++ joined (λ _. color) n)
 
 -- the bytes of the first pixels
-joined-pixels : (pixels : List (List ℕ)) (d : List ℕ) (n : ℕ) → n ≤ length pixels → joined (λ k. get_or pixels k d) n ≡ flat_map (λ x. x) (take n pixels)
+joined-pixels : (pixels : List (List ℕ)) (d : List ℕ) (n : ℕ) → n ≤ length pixels
+    → joined (λ k. get_or pixels k d) n ≡ flat_map (λ x. x) (take n pixels)
 unfolding joined
 joined-pixels pixels d zero le = refl
 joined-pixels [] d (suc n) le = absurd (omega arith)
 joined-pixels (pixel ∷ pixels) d (suc n) le =
-    joined-front (λ k. get_or (pixel ∷ pixels) k d) n ∙ ap (λ xs. pixel ++ xs) (joined-pixels pixels d n (omega arith))
+    joined-front (λ k. get_or (pixel ∷ pixels) k d) n
+    ∙ ap (λ xs. pixel ++ xs) (joined-pixels pixels d n (omega arith))
 
 -- the bytes of a row of this width, with the background where the pixels end
-pub joined-row : (pixels : List (List ℕ)) (background : List ℕ) (held width : ℕ) → held ≡ min (length pixels) width → joined (λ column. get_or pixels column background) width ≡ flat_map (λ x. x) (take held pixels) ++ joined (λ _. background) (width - held)
+pub joined-row : (pixels : List (List ℕ)) (background : List ℕ) (held width : ℕ)
+    → held ≡ min (length pixels) width
+    → joined (λ column. get_or pixels column background) width
+    ≡ flat_map (λ x. x) (take held pixels) ++ joined (λ _. background) (width - held)
 joined-row pixels background held width least =
     let pixel = λ (k : ℕ). get_or pixels k background in
     let rest = width - held in
@@ -48,20 +68,31 @@ joined-row pixels background held width least =
     let past = λ (k : ℕ) (h : k < rest). get_or_past pixels (held + k) background (omega arith) in
     ap (joined pixel) (sym wide)
     ∙ joined-add pixel held rest
-    ∙ ap (λ xs. xs ++ joined (λ k. pixel (held + k)) rest) (joined-pixels pixels background held (omega arith))
-    ∙ ap (λ xs. flat_map (λ x. x) (take held pixels) ++ xs) (joined-same (λ k. pixel (held + k)) (λ _. background) rest past)
+    ∙ ap
+    (λ xs. xs ++ joined (λ k. pixel (held + k)) rest)
+    (joined-pixels pixels background held (omega arith))
+    ∙ ap
+    (λ xs. flat_map (λ x. x) (take held pixels) ++ xs)
+    (joined-same (λ k. pixel (held + k)) (λ _. background) rest past)
 
 -- the bytes of so many pixels from a column on, with the background where the pixels end
-pub joined-part : (pixels : List (List ℕ)) (background : List ℕ) (from begin held count : ℕ) → begin ≡ min from (length pixels) → held ≡ min count (length pixels - begin) → joined (λ k. get_or pixels (from + k) background) count ≡ flat_map (λ x. x) (take held (drop begin pixels)) ++ joined (λ _. background) (count - held)
+pub joined-part : (pixels : List (List ℕ)) (background : List ℕ) (from begin held count : ℕ)
+    → begin ≡ min from (length pixels) → held ≡ min count (length pixels - begin)
+    → joined (λ k. get_or pixels (from + k) background) count
+    ≡ flat_map (λ x. x) (take held (drop begin pixels)) ++ joined (λ _. background) (count - held)
 joined-part pixels background from begin held count begins least =
     let rest = drop begin pixels in
-    let same : (k : ℕ) → k < count → get_or pixels (from + k) background ≡ get_or rest k background =
+    let same : (k : ℕ) → k < count
+    → get_or pixels (from + k) background ≡ get_or rest k background =
     λ k h. elim (cases_lt (length pixels) from) [
       | inl past ↦
           get_or_past pixels (from + k) background (omega arith)
           ∙ sym (get_or_past rest k background (omega (arith, length-drop begin pixels)))
       | inr within ↦
-          ap (λ i. get_or pixels (i + k) background) (omega arith) ∙ sym (get_or-drop begin pixels k background)
+          ap (λ i. get_or pixels (i + k) background) (omega arith)
+          ∙ sym (get_or-drop begin pixels k background)
     ] in
-    joined-same (λ k. get_or pixels (from + k) background) (λ k. get_or rest k background) count same
+    joined-same (λ k. get_or pixels (from + k) background)
+    (λ k. get_or rest k background)
+    count same
     ∙ joined-row rest background held count (omega (arith, length-drop begin pixels))

@@ -21,7 +21,8 @@ total-grown f g (suc n) more = omega (arith, total-grown f g n more, more n)
 pub total-bounded : (f : ℕ → ℕ) (bound n : ℕ) → ((k : ℕ) → f k ≤ bound) → total f n ≤ bound * n
 unfolding total
 total-bounded f bound zero most = omega arith
-total-bounded f bound (suc n) most = rw mul-suc (omega (arith, total-bounded f bound n most, most n))
+total-bounded f bound (suc n) most =
+    rw mul-suc (omega (arith, total-bounded f bound n most, most n))
 
 -- more of them
 total-further : (f : ℕ → ℕ) (n m : ℕ) → n ≤ m → total f n ≤ total f m
@@ -40,45 +41,71 @@ total-ended f n (suc m) past =
     ]
 
 -- the rows grow
-pub IsSpread-grown : (sheet next : CanvasState) (top painted spread : ℕ) → IsSpread sheet top painted spread → ((k : ℕ) → reached sheet k ≤ reached next k) → IsSpread next top painted spread
+pub IsSpread-grown : (sheet next : CanvasState) (top painted spread : ℕ)
+    → IsSpread sheet top painted spread → ((k : ℕ) → reached sheet k ≤ reached next k)
+    → IsSpread next top painted spread
 IsSpread-grown sheet next top painted spread is more = record {
   closed = omega (arith, is.closed, total-grown (reached sheet) (reached next) top more);
-  going = omega (arith, is.going, total-grown (λ k. reached sheet (top + k)) (λ k. reached next (top + k)) 6 (λ k. more (top + k)));
+  going =
+      omega (
+        arith,
+        is.going,
+        total-grown (λ k. reached sheet (top + k)) (λ k. reached next (top + k)) 6
+            (λ k. more (top + k)),
+      );
 }
 
 -- the band is left
-pub IsSpread-next : (sheet : CanvasState) (top painted spread next : ℕ) → IsSpread sheet top painted spread → top + 6 ≤ next → IsSpread sheet next 0 spread
+pub IsSpread-next : (sheet : CanvasState) (top painted spread next : ℕ)
+    → IsSpread sheet top painted spread → top + 6 ≤ next → IsSpread sheet next 0 spread
 IsSpread-next sheet top painted spread next is below =
     let f = reached sheet in
     let band : total f (top + 6) ≡ total f top + total (λ k. f (top + k)) 6 = total-add f top 6 in
-    let rest : total f (top + 6 + (next - (top + 6))) ≡ total f (top + 6) + total (λ k. f (top + 6 + k)) (next - (top + 6)) = total-add f (top + 6) (next - (top + 6)) in
+    let rest : total f (top + 6 + (next - (top + 6)))
+    ≡ total f (top + 6) + total (λ k. f (top + 6 + k)) (next - (top + 6)) =
+    total-add f (top + 6) (next - (top + 6)) in
     let all : top + 6 + (next - (top + 6)) ≡ next = omega arith in
-    record { closed = omega (arith, is.closed, is.going, band, rw all at rest); going = omega arith }
+    record {
+      closed = omega (arith, is.closed, is.going, band, rw all at rest);
+      going = omega arith;
+    }
 
 -- what was painted at once in all
-pub spread_le : (sheet : CanvasState) (top painted spread n : ℕ) → IsSpread sheet top painted spread → length sheet.rows ≤ n → spread ≤ 3 * total (reached sheet) n
+pub spread_le : (sheet : CanvasState) (top painted spread n : ℕ) → IsSpread sheet top painted spread
+    → length sheet.rows ≤ n → spread ≤ 3 * total (reached sheet) n
 spread_le sheet top painted spread n is enough =
     let f = reached sheet in
     let band : total f (top + 6) ≡ total f top + total (λ k. f (top + k)) 6 = total-add f top 6 in
-    let past = λ (k : ℕ) (over : n ≤ k). ap (λ (r : RowState). length r.pixels) (get_or_past sheet.rows k (empty_row sheet.background) (omega arith)) in
+    let past = λ (k : ℕ) (over : n ≤ k).
+    ap (λ (r : RowState). length r.pixels)
+    (get_or_past sheet.rows k (empty_row sheet.background) (omega arith)) in
     omega (arith, is.closed, is.going, band, total-ended f n (top + 6) past)
 
 -- it fits a number
-pub spread_fits : (sheet : CanvasState) (top painted spread : ℕ) → IsSpread sheet top painted spread → length sheet.rows ≤ 1000000 → ((k : ℕ) → reached sheet k ≤ 1000000) → spread ≤ 3000000000000
+pub spread_fits : (sheet : CanvasState) (top painted spread : ℕ) → IsSpread sheet top painted spread
+    → length sheet.rows ≤ 1000000 → ((k : ℕ) → reached sheet k ≤ 1000000) → spread ≤ 3000000000000
 spread_fits sheet top painted spread is few side =
-    omega (arith, spread_le sheet top painted spread 1000000 is few, total-bounded (reached sheet) 1000000 1000000 side)
+    omega (
+      arith,
+      spread_le sheet top painted spread 1000000 is few,
+      total-bounded (reached sheet) 1000000 1000000 side,
+    )
 
 -- a canvas with tags over it, and with its counts
-pub IsBounded-counted : (sheet tags : CanvasState) (top painted spread paints : ℕ) → IsBounded sheet → IsSpread sheet top painted spread → IsBounded (record (tagged sheet tags) { paints = paints; spread = spread })
+pub IsBounded-counted : (sheet tags : CanvasState) (top painted spread paints : ℕ) → IsBounded sheet
+    → IsSpread sheet top painted spread
+    → IsBounded (record (tagged sheet tags) { paints = paints; spread = spread })
 IsBounded-counted sheet tags top painted spread paints bounded is =
     let over = IsBounded-tagged sheet tags bounded in
     let long = length-tagged_rows tags.rows sheet.rows in
-    let area = λ (n : ℕ). total-same (reached (tagged sheet tags)) (reached sheet) n (reached-tagged sheet tags) in
+    let area = λ (n : ℕ).
+    total-same (reached (tagged sheet tags)) (reached sheet) n (reached-tagged sheet tags) in
     record {
       few = over.few;
       side = over.side;
       at_least = over.at_least;
       at_most = over.at_most;
       room_at_most = over.room_at_most;
-      spread_at_most = λ n enough. omega (arith, area n, spread_le sheet top painted spread n is (omega (arith, long)));
+      spread_at_most = λ n enough.
+          omega (arith, area n, spread_le sheet top painted spread n is (omega (arith, long)));
     }

@@ -1,4 +1,5 @@
-use Rattle.std.proofs.Common.{◌≡◌, ℕ, zero, suc, ◌+◌, ◌*◌, ◌≤◌, List, [], ◌∷◌, All, length, get_or, refl, sym, ap, ◌∙◌, inl, inr, arith}
+use Rattle.std.proofs.Common.{◌≡◌, ℕ, zero, suc, ◌+◌, ◌*◌, ◌≤◌, List, [], ◌∷◌, All, length, get_or}
+use Rattle.std.proofs.Common.{refl, sym, ap, ◌∙◌, inl, inr, arith}
 use Rattle.std.specs.List.{sum_by}
 use Rattle.std.proofs.lemmas.List.Elements.{All-head, All-tail, All-get_or, All-weaker}
 use Rattle.std.proofs.lemmas.List.Sums.{sum_by-cons, sum_by-le}
@@ -41,7 +42,8 @@ pub held_by : List RowState → ℕ
 held_by rows = sum_by (λ row. length row.pixels) rows
 
 -- the total over the places is the sum over the rows
-pub total-held : (rows : List RowState) (background : List ℕ) (n : ℕ) → length rows ≤ n → total (λ k. length (get_or rows k (empty_row background)).pixels) n ≡ held_by rows
+pub total-held : (rows : List RowState) (background : List ℕ) (n : ℕ) → length rows ≤ n
+    → total (λ k. length (get_or rows k (empty_row background)).pixels) n ≡ held_by rows
 unfolding held_by
 total-held [] background n enough = total-zero n
 total-held (row ∷ rows) background zero enough = absurd (omega arith)
@@ -55,7 +57,8 @@ pub record IsPaid (rows : List RowState) : Type 0 where
   pub at_least : held_by rows ≤ sum_by (λ row. row.writes) rows
   pub at_most : sum_by (λ row. row.writes) rows ≤ 3 * held_by rows
 
-pub IsPaid-rows : (background : List ℕ) (rows : List RowState) → All (IsRowOf background) rows → IsPaid rows
+pub IsPaid-rows : (background : List ℕ) (rows : List RowState) → All (IsRowOf background) rows
+    → IsPaid rows
 unfolding held_by
 IsPaid-rows background [] sound = record { at_least = omega arith; at_most = omega arith }
 IsPaid-rows background (row ∷ rows) sound =
@@ -82,15 +85,21 @@ IsRowOf-empty_row background = record {
 }
 
 -- a row of the canvas, also where none was made
-pub IsRowOf-get_or : (background : List ℕ) (rows : List RowState) (row : ℕ) → All (IsRowOf background) rows → IsRowOf background (get_or rows row (empty_row background))
+pub IsRowOf-get_or : (background : List ℕ) (rows : List RowState) (row : ℕ)
+    → All (IsRowOf background) rows → IsRowOf background (get_or rows row (empty_row background))
 IsRowOf-get_or background rows row sound =
     elim (cases_lt row (length rows)) [
       | inl made ↦ All-get_or (IsRowOf background) rows row (empty_row background) made sound
-      | inr past ↦ rw (get_or_past rows row (empty_row background) past) (IsRowOf-empty_row background)
+      | inr past ↦
+          rw (get_or_past rows row (empty_row background) past) (IsRowOf-empty_row background)
     ]
 
 -- all the writes fit a number
-pub writes_le : (background : List ℕ) (rows : List RowState) → length rows ≤ 1000000 → All (IsRowOf background) rows → sum_by (λ row. row.writes) rows ≤ 3000000000000
+pub writes_le : (background : List ℕ) (rows : List RowState) → length rows ≤ 1000000
+    → All (IsRowOf background) rows → sum_by (λ row. row.writes) rows ≤ 3000000000000
 writes_le background rows few sound =
-    let each = All-weaker (IsRowOf background) (λ row. row.writes ≤ 3000000) (λ row is. omega (arith, is.roomy.at_most, is.roomy.held, is.roomy.side)) rows sound in
+    let each =
+    All-weaker (IsRowOf background) (λ row. row.writes ≤ 3000000)
+    (λ row is. omega (arith, is.roomy.at_most, is.roomy.held, is.roomy.side))
+    rows sound in
     omega (arith, sum_by-le (λ (row : RowState). row.writes) 3000000 rows each)

@@ -1,8 +1,11 @@
--- What a row of the canvas is: the pixels from the left up to the last column that was reached, and what they cost.
--- The rule is this library's own: a row that is too small doubles its room, up to the greatest side of an image.
-use Rattle.std.specs.Prelude.{ℕ, ◌+◌, ◌-◌, ◌*◌, ◌<◌, ◌≤◌, min, max, nat_lt, if◌then◌else◌, List, [], ◌++◌, length, take, drop, replicate}
+-- What a row of the canvas is: the pixels from the left up to the last column that was reached, and
+-- what they cost. The rule is this library's own: a row that is too small doubles its room, up to
+-- the greatest side of an image.
+use Rattle.std.specs.Prelude.{ℕ, ◌+◌, ◌-◌, ◌*◌, ◌<◌, ◌≤◌, min, max, nat_lt, if◌then◌else◌, List, []}
+use Rattle.std.specs.Prelude.{◌++◌, length, take, drop, replicate}
 
--- the pixels of a row, of four bytes each, for how many it has memory, and how many pixels it has written
+-- the pixels of a row, of four bytes each, for how many it has memory, and how many pixels it has
+-- written
 pub record RowState : Type 0 where
   pub background : List ℕ
   pub pixels : List (List ℕ)
@@ -11,13 +14,19 @@ pub record RowState : Type 0 where
 
 -- the row with these parts
 abbrev pub row_state : List ℕ → List (List ℕ) → ℕ → ℕ → RowState
-row_state background pixels room writes = record { background = background; pixels = pixels; room = room; writes = writes }
+row_state background pixels room writes = record {
+  background = background;
+  pixels = pixels;
+  room = room;
+  writes = writes;
+}
 
 -- a row that no stroke has reached
 abbrev pub empty_row : List ℕ → RowState
 empty_row background = row_state background [] 0 0
 
--- what is true of every row: its room is at most twice its pixels, and its writes are from once to three times these
+-- what is true of every row: its room is at most twice its pixels, and its writes are from once to
+-- three times these
 pub record IsThrifty (row : RowState) : Type 0 where
   pub held : length row.pixels ≤ row.room
   pub room_at_most : row.room ≤ 2 * length row.pixels
@@ -32,7 +41,8 @@ room_for columns room = if nat_lt room columns then max columns (min 1000000 (2 
 
 -- the pixels that this writes: those that are added, and those that move to a greater room
 abbrev pub writes_for : ℕ → RowState → ℕ
-writes_for columns row = columns - length row.pixels + (if nat_lt row.room columns then length row.pixels else 0)
+writes_for columns row =
+    columns - length row.pixels + (if nat_lt row.room columns then length row.pixels else 0)
 
 -- the row, grown by background to so many columns if it has fewer
 abbrev pub reached_to : ℕ → RowState → RowState

@@ -1,10 +1,12 @@
--- What a canvas of one band shows: the final rows above the band, the six rows of the band, and background elsewhere.
--- That no row above the band changes any more is DEC's manual's: a graphics new line goes down, and nothing goes up.
+-- What a canvas of one band shows: the final rows above the band, the six rows of the band, and
+-- background elsewhere. That no row above the band changes any more is DEC's manual's: a graphics
+-- new line goes down, and nothing goes up.
 use Rattle.std.specs.Prelude.{◌≡◌, ℕ, ◌+◌, ◌-◌, ◌*◌, ◌<◌, ◌≤◌, List, nat_lt, if◌then◌else◌}
 use Rattle.sixel_canvas.specs.inside.Band.{BandState, cell}
 use Rattle.sixel_canvas.specs.inside.FinalRows.{RowsState, final}
 
--- the final rows, the band, its first row, and how many columns of it are drawn on without an allocation
+-- the final rows, the band, its first row, and how many columns of it are drawn on without an
+-- allocation
 pub record BandCanvasState : Type 0 where
   pub rows : RowsState
   pub band : BandState
@@ -18,7 +20,8 @@ band_canvas_state rows band top held = record { rows = rows; band = band; top = 
 -- the pixel at this place
 abbrev pub band_canvas_shown : BandCanvasState → ℕ → ℕ → List ℕ
 band_canvas_shown canvas column row =
-    if nat_lt row canvas.top then final canvas.rows column row else cell canvas.band column (row - canvas.top)
+    if nat_lt row canvas.top then final canvas.rows column row
+    else cell canvas.band column (row - canvas.top)
 
 -- There is memory for these columns in the band, and for its six rows among the final ones.
 pub record IsHeld (rows : RowsState) (band : BandState) (top held : ℕ) : Type 0 where

@@ -1,13 +1,14 @@
--- What a canvas shows: the pixel of each column and row, the background where no stroke has reached, and what it cost.
--- The rules are this library's own: a row holds pixels only up to its last painted column.
+-- What a canvas shows: the pixel of each column and row, the background where no stroke has
+-- reached, and what it cost. The rules are this library's own: a row holds pixels only up to its
+-- last painted column.
 use Rattle.std.specs.Prelude.{◌≡◌, ℕ, ◌*◌, ◌≤◌, List, length, slice_index_or, sum_by}
 use Rattle.sixel_base.specs.Picture.{total}
 use Rattle.sixel_canvas.specs.Row.{RowState, empty_row}
 use Rattle.sixel_canvas.specs.inside.Loan.{IsRoomy}
 
--- the rows from the top, as far down as a stroke has come, where the band begins that strokes have come to, from which
--- row on no block has a tag, how many pixels
--- strokes have painted, at most, and how many of these wide strokes that were painted at once
+-- the rows from the top, as far down as a stroke has come, where the band begins that strokes have
+-- come to, from which row on no block has a tag, how many pixels strokes have painted, at most, and
+-- how many of these wide strokes that were painted at once
 pub record CanvasState : Type 0 where
   pub background : List ℕ
   pub rows : List RowState
@@ -41,12 +42,16 @@ canvas_writes canvas = sum_by (λ row. row.writes) canvas.rows
 abbrev pub canvas_room : CanvasState → ℕ
 canvas_room canvas = sum_by (λ row. row.room) canvas.rows
 
--- what is true of every canvas, for any n from the number of rows on: the writes are from once to three times the
--- pixels that were reached, and the room is at most twice these; and no row passes a million columns
+-- what is true of every canvas, for any n from the number of rows on: the writes are from once to
+-- three times the pixels that were reached, and the room is at most twice these; and no row passes
+-- a million columns
 pub record IsBounded (canvas : CanvasState) : Type 0 where
   pub few : length canvas.rows ≤ 1000000
   pub side : (row : ℕ) → reached canvas row ≤ 1000000
   pub at_least : (n : ℕ) → length canvas.rows ≤ n → total (reached canvas) n ≤ canvas_writes canvas
-  pub at_most : (n : ℕ) → length canvas.rows ≤ n → canvas_writes canvas ≤ 3 * total (reached canvas) n
-  pub room_at_most : (n : ℕ) → length canvas.rows ≤ n → canvas_room canvas ≤ 2 * total (reached canvas) n
-  pub spread_at_most : (n : ℕ) → length canvas.rows ≤ n → canvas.spread ≤ 3 * total (reached canvas) n
+  pub at_most : (n : ℕ) → length canvas.rows ≤ n
+      → canvas_writes canvas ≤ 3 * total (reached canvas) n
+  pub room_at_most : (n : ℕ) → length canvas.rows ≤ n
+      → canvas_room canvas ≤ 2 * total (reached canvas) n
+  pub spread_at_most : (n : ℕ) → length canvas.rows ≤ n
+      → canvas.spread ≤ 3 * total (reached canvas) n

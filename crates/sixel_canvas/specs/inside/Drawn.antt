@@ -1,6 +1,8 @@
--- What a canvas is drawn by: runs of a sixel, and blocks of eight sixels of one column each. A sixel's bits are DEC's, the least bit the
--- top row's. That a canvas has a band of six rows, and goes on to the next at a graphics new line, is DEC's manual's as well.
-use Rattle.std.specs.Prelude.{ℕ, ◌+◌, ◌-◌, max, Bool, ◌&&◌, nat_le, nat_lt, List, [], ◌∷◌, slice_index_or}
+-- What a canvas is drawn by: runs of a sixel, and blocks of eight sixels of one column each. A
+-- sixel's bits are DEC's, the least bit the top row's. That a canvas has a band of six rows, and
+-- goes on to the next at a graphics new line, is DEC's manual's as well.
+use Rattle.std.specs.Prelude.{ℕ, ◌+◌, ◌-◌, max, Bool, ◌&&◌, nat_le, nat_lt, List, [], ◌∷◌}
+use Rattle.std.specs.Prelude.{slice_index_or}
 use Rattle.sixel_base.specs.Picture.{is_struck}
 
 -- a sixel over the columns from .. up to before to, in the six rows from top on
@@ -16,7 +18,8 @@ run from to top bits = record { from = from; to = to; top = top; bits = bits }
 -- these runs, newest first, and after them sixels of one column each, the first at column from
 abbrev pub with_sixels : ℕ → List ℕ → ℕ → List Run → List Run
 with_sixels from [] top runs = runs
-with_sixels from (sixel ∷ sixels) top runs = with_sixels (from + 1) sixels top (run from (from + 1) top sixel ∷ runs)
+with_sixels from (sixel ∷ sixels) top runs =
+    with_sixels (from + 1) sixels top (run from (from + 1) top sixel ∷ runs)
 
 -- the greatest right edge of these runs, 0 where there is none
 abbrev pub right_edge : List Run → ℕ
@@ -26,4 +29,5 @@ right_edge (newest ∷ runs) = max (right_edge runs) newest.to
 -- whether eight sixels of one column each, the first at column from, cover the pixel
 abbrev pub covers_block : ℕ → List ℕ → ℕ → ℕ → ℕ → Bool
 covers_block from sixels top column row =
-    nat_le from column && nat_lt column (from + 8) && is_struck top (slice_index_or sixels (column - from) 0) row
+    nat_le from column && nat_lt column (from + 8)
+    && is_struck top (slice_index_or sixels (column - from) 0) row

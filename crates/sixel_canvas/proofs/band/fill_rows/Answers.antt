@@ -11,11 +11,18 @@ drawn-preserved c =
       | then-bits-bit-eq1 w ↦
           rw w.pixels-is (
             w.fill.ensures.len ∙ before.0,
-            λ d column k inside six. struck_more c.args.pixels.now c.drawn.pixels w.fill.new.pixels c.args.cap c.args.from c.args.to c.args.bits c.drawn.bit c.args.color d column k inside six c.requires.ordered c.requires.within (eq-eqb _ _ w.if-bits-bit-eq1.true) (before.1 d column k inside six) (w.fill.ensures.filled d),
+            λ d column k inside six.
+                struck_more c.args.pixels.now c.drawn.pixels w.fill.new.pixels c.args.cap
+                c.args.from c.args.to c.args.bits c.drawn.bit c.args.color d column k inside six
+                c.requires.ordered c.requires.within (eq-eqb _ _ w.if-bits-bit-eq1.true)
+                (before.1 d column k inside six) (w.fill.ensures.filled d),
           )
       | else-bits-bit-eq1 w ↦
           rw w.pixels-is (
             before.0,
-            λ d column k inside six. struck_same c.args.pixels.now c.drawn.pixels c.args.cap c.args.from c.args.to c.args.bits c.drawn.bit c.args.color d column k (ne_eqb _ _ w.if-bits-bit-eq1.false) (before.1 d column k inside six),
+            λ d column k inside six.
+                struck_same c.args.pixels.now c.drawn.pixels c.args.cap c.args.from c.args.to
+                c.args.bits c.drawn.bit c.args.color d column k (ne_eqb _ _ w.if-bits-bit-eq1.false)
+                (before.1 d column k inside six),
           )
     ]

@@ -7,4 +7,7 @@ use Rattle.sixel_canvas.proofs.band.fill_rows.Given as goal
 abbrev pub invariant-drawn : goal.invariant-drawn
 invariant-drawn l =
     (length l.pixels ≡ length l.fn.pixels)
-    × ((d : List ℕ) (column k : ℕ) → column < l.cap → k < 6 → stored l.pixels l.cap d column k ≡ (if nat_lt k l.bit && covers l.from l.to 0 l.bits column k then l.color else stored l.fn.pixels l.cap d column k))
+    × ((d : List ℕ) (column k : ℕ) → column < l.cap → k < 6
+    → stored l.pixels l.cap d column k
+    ≡ (if nat_lt k l.bit && covers l.from l.to 0 l.bits column k then l.color
+    else stored l.fn.pixels l.cap d column k))

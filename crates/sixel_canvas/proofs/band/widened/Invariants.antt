@@ -6,4 +6,6 @@ use Rattle.sixel_canvas.proofs.band.widened.Given as goal
 abbrev pub invariant-copied : goal.invariant-copied
 invariant-copied l =
     (length l.new.items ≡ l.row * l.wide)
-    × ((column k : ℕ) → column < l.wide → k < l.row → stored l.new.items l.wide l.background column k ≡ (if nat_lt column l.cap then stored l.pixels l.cap l.background column k else l.background))
+    × ((column k : ℕ) → column < l.wide → k < l.row
+    → stored l.new.items l.wide l.background column k
+    ≡ (if nat_lt column l.cap then stored l.pixels l.cap l.background column k else l.background))

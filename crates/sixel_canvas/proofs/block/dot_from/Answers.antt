@@ -9,4 +9,6 @@ returns c =
     let pixels = c.args.pixels.now in
     c.mix_from.ensures
     ∙ ap (λ ss. over_from last ss c.args.bit c.args.color pixels) c.moved.ensures
-    ∙ over_moved from last c.args.bit c.args.sixels c.args.color pixels (search rules) (omega (arith, c.min-last.ensures)) (λ less. omega (arith, c.min-last.ensures, c.if-pixels-lt4.false, less))
+    ∙ over_moved from last c.args.bit c.args.sixels c.args.color pixels (search rules)
+    (omega (arith, c.min-last.ensures))
+    (λ less. omega (arith, c.min-last.ensures, c.if-pixels-lt4.false, less))

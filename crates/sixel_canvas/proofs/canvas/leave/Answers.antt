@@ -21,7 +21,13 @@ rows-preserved c =
       omega (arith, before.0, len),
       omega (arith, before.1, room),
       omega (arith, before.2, len, side),
-      omega (arith, before.3, room, room_at-side c.args.rows.now.items c.args.loan.now.top c.args.loan.now.credit c.args.loan.now.room c.requires.lent row (omega arith) side),
+      omega (
+        arith,
+        before.3,
+        room,
+        room_at-side c.args.rows.now.items c.args.loan.now.top c.args.loan.now.credit
+            c.args.loan.now.room c.requires.lent row (omega arith) side,
+      ),
       elim c.if-len-widest.branch [
         | then-len-widest w ↦ rw w.widest-is (omega (arith, len, side))
         | else-len-widest w ↦ rw w.widest-is before.4
@@ -39,8 +45,10 @@ lend-requires-clause-covered c =
     let loan = c.args.loan.now in
     let rows = c.args.rows.now.items in
     let all : c.rows.bit ≡ 6 = omega (arith, c.rows.auto.bit-end, c.rows-test.false) in
-    let held : c.rows.held ≡ total (λ k. len_at rows (loan.top + k)) 6 = rw all at c.rows.invariant.0 in
-    let taken : c.rows.taken ≡ total (λ k. room_at rows (loan.top + k)) 6 = rw all at c.rows.invariant.1 in
+    let held : c.rows.held ≡ total (λ k. len_at rows (loan.top + k)) 6 =
+    rw all at c.rows.invariant.0 in
+    let taken : c.rows.taken ≡ total (λ k. room_at rows (loan.top + k)) 6 =
+    rw all at c.rows.invariant.1 in
     omega (arith, band-taken rows loan.top loan.credit loan.room c.requires.lent, held, taken)
 
 pub returns-clause-lent : goal.returns-clause-lent
@@ -48,6 +56,8 @@ returns-clause-lent c =
     let loan = c.args.loan.now in
     let rows = c.args.rows.now.items in
     let all : c.rows.bit ≡ 6 = omega (arith, c.rows.auto.bit-end, c.rows-test.false) in
-    let held : c.rows.held ≡ total (λ k. len_at rows (loan.top + k)) 6 = rw all at c.rows.invariant.0 in
-    let taken : c.rows.taken ≡ total (λ k. room_at rows (loan.top + k)) 6 = rw all at c.rows.invariant.1 in
+    let held : c.rows.held ≡ total (λ k. len_at rows (loan.top + k)) 6 =
+    rw all at c.rows.invariant.0 in
+    let taken : c.rows.taken ≡ total (λ k. room_at rows (loan.top + k)) 6 =
+    rw all at c.rows.invariant.1 in
     c.lend.ensures.lent rows c.requires.lent held taken

@@ -10,6 +10,11 @@ pub made-preserved : goal.made-preserved
 made-preserved c =
     let empty = empty_row c.args.background in (
       omega (arith, c.in_ok-push.ensures.len),
-      λ row. rw (c.in_ok-push.ensures.items, c.new.ensures.empty) (get_or-append_replicate c.made.rows.items 1 row empty ∙ c.made.invariant.1 row),
-      λ sound. rw (c.in_ok-push.ensures.items, c.new.ensures.empty) (All-push (IsRowOf c.args.background) c.made.rows.items empty (c.made.invariant.2 sound) (IsRowOf-empty_row c.args.background)),
+      λ row.
+          rw (c.in_ok-push.ensures.items, c.new.ensures.empty)
+          (get_or-append_replicate c.made.rows.items 1 row empty ∙ c.made.invariant.1 row),
+      λ sound.
+          rw (c.in_ok-push.ensures.items, c.new.ensures.empty)
+          (All-push (IsRowOf c.args.background) c.made.rows.items empty (c.made.invariant.2 sound)
+          (IsRowOf-empty_row c.args.background)),
     )

@@ -6,5 +6,7 @@ use Rattle.sixel_canvas.proofs.canvas.make_rows.Given as goal
 abbrev pub invariant-made : goal.invariant-made
 invariant-made l =
     (length l.rows.items ≡ l._made)
-    × ((row : ℕ) → get_or l.rows.items row (empty_row l.background) ≡ get_or l.fn.rows.items row (empty_row l.background))
+    × ((row : ℕ)
+    → get_or l.rows.items row (empty_row l.background)
+    ≡ get_or l.fn.rows.items row (empty_row l.background))
     × (All (IsRowOf l.background) l.fn.rows.items → All (IsRowOf l.background) l.rows.items)

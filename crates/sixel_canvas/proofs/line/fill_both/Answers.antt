@@ -9,7 +9,13 @@ returns-clause-ok c =
     let gap = replicate (c.args.from - length pixels) c.args.background in
     let stroke = replicate (c.args.to - c.args.from) c.args.color in
     let up_to : length filled ≡ c.args.from =
-    omega (arith, ap length c.fill_up.ensures.filled, length-append pixels gap, length-replicate (c.args.from - length pixels) c.args.background, c.requires.beyond) in
+    omega (
+      arith,
+      ap length c.fill_up.ensures.filled,
+      length-append pixels gap,
+      length-replicate (c.args.from - length pixels) c.args.background,
+      c.requires.beyond,
+    ) in
     c.fill_up-2.ensures.filled
     ∙ ap (λ n. filled ++ replicate (c.args.to - n) c.args.color) up_to
     ∙ ap (λ xs. xs ++ stroke) c.fill_up.ensures.filled

@@ -8,4 +8,7 @@ abbrev pub invariant-mixed : goal.invariant-mixed
 invariant-mixed l =
     (to_le_bytes w32 l.new ≡ l.fn.color)
     × (length l.pixels ≡ length l.fn.pixels)
-    × ((d : List ℕ) (i : ℕ) → get_or l.pixels i d ≡ (if nat_le l.at i && nat_lt i (l.at + l.j) && is_set (get_or l.sixels (i - l.at) 0) l.bit then l.fn.color else get_or l.fn.pixels i d))
+    × ((d : List ℕ) (i : ℕ)
+    → get_or l.pixels i d
+    ≡ (if nat_le l.at i && nat_lt i (l.at + l.j) && is_set (get_or l.sixels (i - l.at) 0) l.bit
+    then l.fn.color else get_or l.fn.pixels i d))

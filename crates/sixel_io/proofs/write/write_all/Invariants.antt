@@ -6,5 +6,6 @@ use Rattle.sixel_io.proofs.write.write_all.Given as goal
 abbrev pub invariant-writes : goal.invariant-writes
 invariant-writes g l = record {
   within : l.done ≤ length l.bytes;
-  written : Appends (g.O.Write.contents l.fn.output) (g.O.Write.contents l.output) (take l.done l.bytes);
+  written : Appends (g.O.Write.contents l.fn.output) (g.O.Write.contents l.output)
+      (take l.done l.bytes);
 }

@@ -28,7 +28,8 @@ pub returns-else-top-self-clause-bounded : goal.returns-else-top-self-clause-bou
 returns-else-top-self-clause-bounded c =
     let canvas = c.self.inside in
     let loan = canvas.loan in
-    rw (← c.self.view_is) (IsBounded-rows canvas.background canvas.rows.items loan.top loan.credit loan.room c.self.invariant.0 c.self.invariant.1 c.self.invariant.2)
+    rw (← c.self.view_is) (IsBounded-rows canvas.background canvas.rows.items loan.top loan.credit
+    loan.room c.self.invariant.0 c.self.invariant.1 c.self.invariant.2)
 
 pub returns-else-top-self-clause-band : goal.returns-else-top-self-clause-band
 returns-else-top-self-clause-band c = grind arith

@@ -10,5 +10,10 @@ invariant-drawn g l =
     let top = g.Self.Canvas.top in
     let paid = g.Self.Canvas.paid in
     (top l.self ≡ top l.fn.self)
-    × ((column row : ℕ) → shown l.self column row ≡ (if nat_le l.from column && nat_lt column (l.from + l.j) && is_struck (top l.fn.self) (get_or l.sixels (column - l.from) 0) row then l.color else shown l.fn.self column row))
-    × ((runs : List Run) → paid l.fn.self runs → paid l.self (with_sixels l.from (take l.j l.sixels) (top l.fn.self) runs))
+    × ((column row : ℕ)
+    → shown l.self column row
+    ≡ (if nat_le l.from column && nat_lt column (l.from + l.j)
+    && is_struck (top l.fn.self) (get_or l.sixels (column - l.from) 0) row then l.color
+    else shown l.fn.self column row))
+    × ((runs : List Run) → paid l.fn.self runs
+    → paid l.self (with_sixels l.from (take l.j l.sixels) (top l.fn.self) runs))

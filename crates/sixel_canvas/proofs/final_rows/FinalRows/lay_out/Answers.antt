@@ -13,10 +13,17 @@ copied-preserved c =
     let least : kept ≡ min width old.width = omega (arith, c.min-kept.ensures) in
     let inside : row < old.rows = omega (arith, c.copied-test.true) in
     let part = take (start + 4 * kept - start) (drop start c.deref.result.now) in
-    let cut : part ≡ take (4 * kept) (drop start old.bytes.items) = ap (λ n. take n (drop start c.deref.result.now)) (omega arith) ∙ ap (λ xs. take (4 * kept) (drop start xs)) c.deref.ensures.value in
+    let cut : part ≡ take (4 * kept) (drop start old.bytes.items) =
+    ap (λ n. take n (drop start c.deref.result.now)) (omega arith)
+    ∙ ap (λ xs. take (4 * kept) (drop start xs)) c.deref.ensures.value in
     let narrow : kept ≤ width = omega (arith, least) in
-    let part_len = part_len_is old.bytes.items part old.width width row old.rows kept least inside c.self.invariant.fits cut in (
-      row_len c.copied.bytes.items part c.add_row.new.bytes.items old.background width row kept narrow c.self.told before.0 part_len c.in_ok-add_row.ensures.ok,
+    let part_len =
+    part_len_is old.bytes.items part old.width width row old.rows kept least inside
+    c.self.invariant.fits cut in (
+      row_len c.copied.bytes.items part c.add_row.new.bytes.items old.background width row kept
+          narrow c.self.told before.0 part_len c.in_ok-add_row.ensures.ok,
       omega (arith, before.1, c.in_ok-add_row.ensures.capacity),
-      row_copied old.bytes.items c.copied.bytes.items part c.add_row.new.bytes.items old.background old.width width row old.rows kept least c.self.told inside c.self.invariant.fits before.0 cut c.in_ok-add_row.ensures.ok before.2,
+      row_copied old.bytes.items c.copied.bytes.items part c.add_row.new.bytes.items old.background
+          old.width width row old.rows kept least c.self.told inside c.self.invariant.fits before.0
+          cut c.in_ok-add_row.ensures.ok before.2,
     )

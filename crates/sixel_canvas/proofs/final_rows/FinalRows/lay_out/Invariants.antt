@@ -8,4 +8,7 @@ invariant-copied l =
     let old = l.self-inside in
     (length l.bytes.items ≡ 4 * (l.row * l.width))
     × (4 * (max l.rows old.rows * l.width) ≤ vec_capacity l.bytes)
-    × ((column row : ℕ) → column < l.width → row < l.row → pixel_at l.bytes.items (row * l.width + column) ≡ (if nat_lt column old.width then pixel_at old.bytes.items (row * old.width + column) else old.background))
+    × ((column row : ℕ) → column < l.width → row < l.row
+    → pixel_at l.bytes.items (row * l.width + column)
+    ≡ (if nat_lt column old.width then pixel_at old.bytes.items (row * old.width + column)
+    else old.background))

@@ -1,4 +1,5 @@
-use Rattle.std.proofs.Common.{◌≡◌, ◌+◌, ◌-◌, ◌≤◌, ◌++◌, length, replicate, sym, ap, ◌∙◌, arith, rules}
+use Rattle.std.proofs.Common.{◌≡◌, ◌+◌, ◌-◌, ◌≤◌, ◌++◌, length, replicate, sym, ap, ◌∙◌, arith}
+use Rattle.std.proofs.Common.{rules}
 use Rattle.std.specs.Prelude.{nat_lt, if◌then◌else◌}
 use Rattle.sixel_canvas.specs.Row.{RowState, row_state, writes_for}
 use Rattle.sixel_canvas.proofs.Strokes.{struck_row, row_state-struck, IsRoomy-struck_row}
@@ -10,21 +11,30 @@ returns-clause-ok c =
     let pixels = row.pixels.items in
     let from = c.args.from in
     let to = c.args.to in
-    let same : length c.args.self.now.pixels ≡ length pixels = sym (ap (λ (r : RowState). length r.pixels) c.self.view_is) in
+    let same : length c.args.self.now.pixels ≡ length pixels =
+    sym (ap (λ (r : RowState). length r.pixels) c.self.view_is) in
     let beyond : length pixels ≤ from = omega (arith, c.requires.beyond, same) in
-    let counted : c.written_to_grow-written.result ≡ writes_for to (row_state row.background pixels row.room row.writes) =
+    let counted : c.written_to_grow-written.result
+    ≡ writes_for to (row_state row.background pixels row.room row.writes) =
     c.written_to_grow-written.ensures
     ∙ ap (λ n. to - n + (if nat_lt row.room to then n else 0)) (c.len.ensures.value ∙ same) in
-    let struck : c.fill_both.new.pixels.items ≡ pixels ++ replicate (from - length pixels) row.background ++ replicate (to - from) c.args.color =
+    let struck : c.fill_both.new.pixels.items
+    ≡ pixels ++ replicate (from - length pixels) row.background
+    ++ replicate (to - from) c.args.color =
     c.fill_both.ensures.ok
-    ∙ ap (λ xs. xs ++ replicate (from - length xs) row.background ++ replicate (to - from) c.args.color) c.make_room.ensures.items in
-    row_state-struck c.args.lent from to c.args.color row.background pixels c.fill_both.new.pixels.items row.room c.in_ok-room.room row.writes _ beyond c.requires.ordered struck c.in_ok-room.ensures.room counted
+    ∙ ap
+    (λ xs. xs ++ replicate (from - length xs) row.background ++ replicate (to - from) c.args.color)
+    c.make_room.ensures.items in
+    row_state-struck c.args.lent from to c.args.color row.background pixels
+    c.fill_both.new.pixels.items row.room c.in_ok-room.room row.writes _ beyond c.requires.ordered
+    struck c.in_ok-room.ensures.room counted
     ∙ ap (struck_row c.args.lent from to c.args.color) c.self.view_is
 
 pub invariant_of-self-2 : goal.invariant_of-self-2
 invariant_of-self-2 c = (
   omega (arith, c.in_ok-room.ensures.enough, c.fill_both.ensures.capacity),
-  rw (returns-clause-ok c) (IsRoomy-struck_row c.args.lent c.args.from c.args.to c.args.color c.args.self.now c.requires.side c.requires.ordered c.requires.within c.len.ensures.roomy),
+  rw (returns-clause-ok c) (IsRoomy-struck_row c.args.lent c.args.from c.args.to c.args.color
+      c.args.self.now c.requires.side c.requires.ordered c.requires.within c.len.ensures.roomy),
 )
 
 pub returns-clause-roomy : goal.returns-clause-roomy

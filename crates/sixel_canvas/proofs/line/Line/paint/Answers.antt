@@ -1,4 +1,5 @@
-use Rattle.std.proofs.Common.{◌≡◌, ◌-◌, ◌≤◌, List, ℕ, length, take, drop, replicate, ap, ◌∙◌, length-take, length-drop, arith}
+use Rattle.std.proofs.Common.{◌≡◌, ◌-◌, ◌≤◌, List, ℕ, length, take, drop, replicate, ap, ◌∙◌}
+use Rattle.std.proofs.Common.{length-take, length-drop, arith}
 use borrow.Rule.Slice.PartMut.{put_mid}
 use Rattle.std.proofs.lemmas.List.{same_lists, with_items_is}
 use Rattle.sixel_canvas.specs.Row.{RowState, painted, row_state}

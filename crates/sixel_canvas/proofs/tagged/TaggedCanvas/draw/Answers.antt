@@ -10,15 +10,22 @@ use Rattle.sixel_canvas.proofs.tagged.TaggedCanvas.draw.Goals as goal
 pub returns-then-holds_one-clause-grown : goal.returns-then-holds_one-clause-grown
 returns-then-holds_one-clause-grown c = λ row.
     c.column.ensures.reached row
-    ∙ reached_held c.args.top c.args.bits c.args.to c.args.self.now (c.holds_one.ensures.held c.if-holds_one.true) row
+    ∙ reached_held c.args.top c.args.bits c.args.to c.args.self.now
+    (c.holds_one.ensures.held c.if-holds_one.true) row
 
 pub returns-then-bits-eq0-clause-bounded : goal.returns-then-bits-eq0-clause-bounded
 returns-then-bits-eq0-clause-bounded c =
-    rw (← c.self.view_is) (IsBounded-counted c.self.inside.sheet c.self.inside.tags c.self.inside.band.top c.self.inside.band.painted c.self.inside.band.spread c.self.inside.paints c.self.invariant.0.bounded c.self.invariant.1)
+    rw (← c.self.view_is) (IsBounded-counted c.self.inside.sheet c.self.inside.tags
+    c.self.inside.band.top c.self.inside.band.painted c.self.inside.band.spread c.self.inside.paints
+    c.self.invariant.0.bounded c.self.invariant.1)
 
 pub column-requires-clause-held : goal.column-requires-clause-held
 column-requires-clause-held c = λ k six.
-    omega (arith, c.holds_one.ensures.held c.if-holds_one.true k six, c.holds_one.ensures.one c.if-holds_one.true)
+    omega (
+      arith,
+      c.holds_one.ensures.held c.if-holds_one.true k six,
+      c.holds_one.ensures.one c.if-holds_one.true,
+    )
 
 pub returns-then-holds_one-clause-drawn : goal.returns-then-holds_one-clause-drawn
 returns-then-holds_one-clause-drawn c = λ column row.
@@ -31,7 +38,12 @@ pub returns-then-holds_one-clause-least : goal.returns-then-holds_one-clause-lea
 returns-then-holds_one-clause-least c = elim (cases_lt 0 c.args.bits) [
   | inl some ↦
       let set = lt-ltb 0 c.args.bits some in
-      rw set (omega (arith, rw set at c.column.ensures.least, c.column.ensures.spread, c.holds_one.ensures.one c.if-holds_one.true))
+      rw set (omega (
+        arith,
+        rw set at c.column.ensures.least,
+        c.column.ensures.spread,
+        c.holds_one.ensures.one c.if-holds_one.true,
+      ))
   | inr none ↦
       let blank = le-ltb 0 c.args.bits none in
       rw blank (rw blank at c.column.ensures.least)

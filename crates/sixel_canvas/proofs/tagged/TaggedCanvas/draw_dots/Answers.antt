@@ -14,13 +14,19 @@ returns-then-is_painted_at_once-clause-drawn c =
     let sheet = c.self.inside.sheet in
     let next = c.draw.new.self in
     let tags = c.self.inside.tags in
-    let is = IsTagged-grown sheet next tags c.self.invariant.0 c.draw.ensures.bounded c.draw.ensures.never_less in
+    let is =
+    IsTagged-grown sheet next tags c.self.invariant.0 c.draw.ensures.bounded
+    c.draw.ensures.never_less in
     on_ok_weaker c.draw.result (λ drawn column row.
     let covered = covers c.args.from c.args.to c.args.top c.args.bits column row in
     shown-tagged next tags is column row
     ∙ ap (under (shown tags (column / 128) row)) (drawn column row)
-    ∙ under-covered c.args.from c.args.to c.args.top c.args.bits column row c.args.color sheet tags c.self.invariant.0 (c.is_painted_at_once.ensures.plain c.if-is_painted_at_once.true)
-    ∙ ap (λ p. if covered then c.args.color else p) (sym (shown-tagged sheet tags c.self.invariant.0 column row) ∙ ap (λ (s : CanvasState). shown s column row) c.self.view_is))
+    ∙ under-covered c.args.from c.args.to c.args.top c.args.bits column row c.args.color sheet tags
+    c.self.invariant.0 (c.is_painted_at_once.ensures.plain c.if-is_painted_at_once.true)
+    ∙ ap
+    (λ p. if covered then c.args.color else p)
+    (sym (shown-tagged sheet tags c.self.invariant.0 column row)
+    ∙ ap (λ (s : CanvasState). shown s column row) c.self.view_is))
     c.draw.ensures.drawn
 
 pub returns-then-is_painted_at_once-clause-grown : goal.returns-then-is_painted_at_once-clause-grown
@@ -28,7 +34,8 @@ returns-then-is_painted_at_once-clause-grown c =
     let sheet = c.self.inside.sheet in
     let tags = c.self.inside.tags in
     on_ok_weaker c.draw.result (λ grown row.
-    let before : reached sheet row ≡ reached c.args.self.now row = sym (reached-tagged sheet tags row) ∙ ap (λ (s : CanvasState). reached s row) c.self.view_is in
+    let before : reached sheet row ≡ reached c.args.self.now row =
+    sym (reached-tagged sheet tags row) ∙ ap (λ (s : CanvasState). reached s row) c.self.view_is in
     reached-tagged c.draw.new.self tags row ∙ grown row
     ∙ ap (λ n. if is_struck c.args.top c.args.bits row then max n c.args.to else n) before)
     c.draw.ensures.grown
@@ -39,21 +46,32 @@ returns-then-is_painted_at_once-clause-held c = λ some held.
     let tags = c.self.inside.tags in
     c.draw.ensures.held some (λ k six.
     let row = c.args.top + k in
-    omega (arith, held k six, ap (λ (s : CanvasState). reached s row) c.self.view_is, reached-tagged sheet tags row))
+    omega (
+      arith,
+      held k six,
+      ap (λ (s : CanvasState). reached s row) c.self.view_is,
+      reached-tagged sheet tags row,
+    ))
 
 pub invariant_of-self : goal.invariant_of-self
 invariant_of-self c =
     let sheet = c.self.inside.sheet in
     let band = c.self.inside.band in (
-      IsTagged-grown sheet c.draw.new.self c.self.inside.tags c.self.invariant.0 c.draw.ensures.bounded c.draw.ensures.never_less,
-      IsSpread-grown sheet c.draw.new.self band.top band.painted band.spread c.self.invariant.1 c.draw.ensures.never_less,
+      IsTagged-grown sheet c.draw.new.self c.self.inside.tags c.self.invariant.0
+          c.draw.ensures.bounded c.draw.ensures.never_less,
+      IsSpread-grown sheet c.draw.new.self band.top band.painted band.spread c.self.invariant.1
+          c.draw.ensures.never_less,
     )
 
-pub returns-then-is_painted_at_once-clause-bounded : goal.returns-then-is_painted_at_once-clause-bounded
+pub returns-then-is_painted_at_once-clause-bounded :
+    goal.returns-then-is_painted_at_once-clause-bounded
 returns-then-is_painted_at_once-clause-bounded c =
     let band = c.self.inside.band in
-    let is = IsSpread-grown c.self.inside.sheet c.draw.new.self band.top band.painted band.spread c.self.invariant.1 c.draw.ensures.never_less in
-    IsBounded-counted c.draw.new.self c.self.inside.tags band.top band.painted band.spread _ c.draw.ensures.bounded is
+    let is =
+    IsSpread-grown c.self.inside.sheet c.draw.new.self band.top band.painted band.spread
+    c.self.invariant.1 c.draw.ensures.never_less in
+    IsBounded-counted c.draw.new.self c.self.inside.tags band.top band.painted band.spread _
+    c.draw.ensures.bounded is
 
 pub returns-then-is_painted_at_once-clause-least : goal.returns-then-is_painted_at_once-clause-least
 returns-then-is_painted_at_once-clause-least c =

@@ -19,7 +19,9 @@ packed-preserved c =
 pub returns-clause-ok : goal.returns-clause-ok
 unfolding picture
 returns-clause-ok c =
-    c.packed.invariant.0 ∙ ap (joined (λ row. joined (λ column. shown c.args.self.now column row) c.args.width)) (omega arith)
+    c.packed.invariant.0
+    ∙ ap (joined (λ row. joined (λ column. shown c.args.self.now column row) c.args.width))
+    (omega arith)
 
 pub pack_row-requires : goal.pack_row-requires
 pack_row-requires c =

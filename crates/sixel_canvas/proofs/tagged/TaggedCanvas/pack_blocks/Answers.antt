@@ -18,13 +18,16 @@ segments-preserved c =
     let from = c.segments.block * 128 in
     let count = c.min.result in
     let pixel = λ (column : ℕ). shown c.args.self.now column c.args.row in
-    let before : min from width ≡ from = omega (arith, c.segments-test.true, c.div_ceil-block-end.ensures) in
-    let after : min ((c.segments.block + 1) * 128) width ≡ from + count = omega (arith, c.segments-test.true, c.div_ceil-block-end.ensures, c.min.ensures) in
+    let before : min from width ≡ from =
+    omega (arith, c.segments-test.true, c.div_ceil-block-end.ensures) in
+    let after : min ((c.segments.block + 1) * 128) width ≡ from + count =
+    omega (arith, c.segments-test.true, c.div_ceil-block-end.ensures, c.min.ensures) in
     let front = c.args.bytes.now.items in
     let rest = joined (λ k. pixel (from + k)) count in
     rw after (
       c.in_ok-pack_block.ensures.ok
-          ∙ ap (λ xs. xs ++ rest) (c.segments.invariant.0 ∙ ap (λ n. front ++ joined pixel n) before)
+          ∙ ap (λ xs. xs ++ rest)
+          (c.segments.invariant.0 ∙ ap (λ n. front ++ joined pixel n) before)
           ∙ append_assoc front (joined pixel from) rest
           ∙ ap (λ xs. front ++ xs) (sym (joined-add pixel from count)),
       omega (arith, c.in_ok-pack_block.ensures.len, c.segments.invariant.1, before),
@@ -32,8 +35,13 @@ segments-preserved c =
 
 pub returns-clause-ok : goal.returns-clause-ok
 returns-clause-ok c =
-    let all : min (c.segments.block * 128) c.args.width ≡ c.args.width = omega (arith, c.segments-test.false, c.div_ceil-block-end.ensures) in
-    c.segments.invariant.0 ∙ ap (λ n. c.args.bytes.now.items ++ joined (λ column. shown c.args.self.now column c.args.row) n) all
+    let all : min (c.segments.block * 128) c.args.width ≡ c.args.width =
+    omega (arith, c.segments-test.false, c.div_ceil-block-end.ensures) in
+    c.segments.invariant.0
+    ∙ ap
+    (λ n. c.args.bytes.now.items ++ joined (λ column. shown c.args.self.now column c.args.row) n)
+    all
 
 pub returns-clause-len : goal.returns-clause-len
-returns-clause-len c = omega (arith, c.segments.invariant.1, c.segments-test.false, c.div_ceil-block-end.ensures)
+returns-clause-len c =
+    omega (arith, c.segments.invariant.1, c.segments-test.false, c.div_ceil-block-end.ensures)

@@ -9,7 +9,12 @@ use Rattle.sixel_canvas.proofs.tagged.TaggedCanvas.strike_held.Goals as goal
 
 pub strike_rows-requires-clause-held : goal.strike_rows-requires-clause-held
 strike_rows-requires-clause-held c = λ k hit.
-    omega (arith, c.requires.held k hit, ap (λ (s : CanvasState). reached s k) c.self.view_is, reached-tagged c.self.inside.sheet c.self.inside.tags k)
+    omega (
+      arith,
+      c.requires.held k hit,
+      ap (λ (s : CanvasState). reached s k) c.self.view_is,
+      reached-tagged c.self.inside.sheet c.self.inside.tags k,
+    )
 
 pub returns-clause-drawn : goal.returns-clause-drawn
 returns-clause-drawn c = λ column row.
@@ -20,7 +25,10 @@ returns-clause-drawn c = λ column row.
     ∙ ap (λ (s : CanvasState). shown s column row) c.self.view_is in
     shown-tagged struck.new.sheet struck.new.tags struck.ensures.tagged column row
     ∙ struck.ensures.drawn column row
-    ∙ ap (λ p. if covers c.args.from c.args.to c.args.top c.args.bits column row then c.args.color else p) before
+    ∙ ap
+    (λ p.
+    if covers c.args.from c.args.to c.args.top c.args.bits column row then c.args.color else p)
+    before
 
 pub returns-clause-reached : goal.returns-clause-reached
 returns-clause-reached c = λ row.
@@ -44,7 +52,8 @@ pub returns-clause-bounded : goal.returns-clause-bounded
 returns-clause-bounded c =
     let struck = c.strike_rows in
     let band = c.price-lazy.new.band in
-    IsBounded-counted struck.new.sheet struck.new.tags band.top band.painted band.spread _ struck.ensures.tagged.bounded (invariant_of-self c).1
+    IsBounded-counted struck.new.sheet struck.new.tags band.top band.painted band.spread _
+    struck.ensures.tagged.bounded (invariant_of-self c).1
 
 pub returns-clause-least : goal.returns-clause-least
 returns-clause-least c = λ _.

@@ -14,8 +14,11 @@ returns-clause-shown c =
     let sheet = c.self.inside.sheet in
     let next = c.widen.new.self in
     let tags = c.self.inside.tags in
-    let is = IsTagged-grown sheet next tags c.self.invariant.0 c.widen.ensures.bounded c.widen.ensures.never_less in
-    on_ok_mapped c.widen.result c.map_err.result _ c.map_err.ensures.variant (on_ok_weaker c.widen.result (λ kept column row.
+    let is =
+    IsTagged-grown sheet next tags c.self.invariant.0 c.widen.ensures.bounded
+    c.widen.ensures.never_less in
+    on_ok_mapped c.widen.result c.map_err.result _ c.map_err.ensures.variant (on_ok_weaker
+    c.widen.result (λ kept column row.
     shown-tagged next tags is column row
     ∙ ap (under (shown tags (column / 128) row)) (kept column row)
     ∙ sym (shown-tagged sheet tags c.self.invariant.0 column row)
@@ -26,16 +29,22 @@ returns-clause-grown c =
     let sheet = c.self.inside.sheet in
     let tags = c.self.inside.tags in
     let columns = c.args.columns in
-    on_ok_mapped c.widen.result c.map_err.result _ c.map_err.ensures.variant (on_ok_weaker c.widen.result (λ grown row.
-    let before : reached sheet row ≡ reached c.args.self.now row = sym (reached-tagged sheet tags row) ∙ ap (λ (s : CanvasState). reached s row) c.self.view_is in
+    on_ok_mapped c.widen.result c.map_err.result _ c.map_err.ensures.variant (on_ok_weaker
+    c.widen.result (λ grown row.
+    let before : reached sheet row ≡ reached c.args.self.now row =
+    sym (reached-tagged sheet tags row) ∙ ap (λ (s : CanvasState). reached s row) c.self.view_is in
     reached-tagged c.widen.new.self tags row ∙ grown row
-    ∙ ap (λ n. if in_band c.args.top row then max n (get_or columns (row - c.args.top) 0) else n) before) c.widen.ensures.grown)
+    ∙ ap
+    (λ n. if in_band c.args.top row then max n (get_or columns (row - c.args.top) 0) else n)
+    before) c.widen.ensures.grown)
 
 pub invariant_of-self : goal.invariant_of-self
 invariant_of-self c =
     let sheet = c.self.inside.sheet in
     let next = c.widen.new.self in
     let band = c.self.inside.band in (
-      IsTagged-grown sheet next c.self.inside.tags c.self.invariant.0 c.widen.ensures.bounded c.widen.ensures.never_less,
-      IsSpread-grown sheet next band.top band.painted band.spread c.self.invariant.1 c.widen.ensures.never_less,
+      IsTagged-grown sheet next c.self.inside.tags c.self.invariant.0 c.widen.ensures.bounded
+          c.widen.ensures.never_less,
+      IsSpread-grown sheet next band.top band.painted band.spread c.self.invariant.1
+          c.widen.ensures.never_less,
     )

@@ -14,12 +14,16 @@ returns-clause-drawn c =
     let ends = c.settle_ends.ensures in
     let sheet = c.settle_ends.new.sheet in
     let tags = c.settle_ends.new.tags in
-    let settled : IsSettled row from to (to / 128) (seen c.args.sheet.now c.args.tags.now) (shown sheet) (shown tags) =
+    let settled : IsSettled row from to (to / 128) (seen c.args.sheet.now c.args.tags.now)
+    (shown sheet) (shown tags) =
     record { outside = ends.seen; left = ends.left; right = ends.right } in
-    let past = λ (block : ℕ) (h : last ≤ block) (k : first ≤ block) (l : block < to / 128). none_past sheet tags block row ends.tagged (omega (arith, h, k, l, c.width.ensures.value)) in
-    painted_seen row from to first last (to / 128) c.args.color (seen c.args.sheet.now c.args.tags.now)
+    let past = λ (block : ℕ) (h : last ≤ block) (k : first ≤ block) (l : block < to / 128).
+    none_past sheet tags block row ends.tagged (omega (arith, h, k, l, c.width.ensures.value)) in
+    painted_seen row from to first last (to / 128) c.args.color
+    (seen c.args.sheet.now c.args.tags.now)
     (shown sheet) (shown c.fill_row-2.new.self) (shown tags) (shown c.fill_row.new.self)
-    (omega arith) (omega arith) (λ h. omega (arith, h)) settled past c.fill_row.ensures.drawn c.fill_row-2.ensures.drawn
+    (omega arith) (omega arith) (λ h. omega (arith, h)) settled past c.fill_row.ensures.drawn
+    c.fill_row-2.ensures.drawn
 
 pub settle_ends-requires : goal.settle_ends-requires
 settle_ends-requires c = grind arith

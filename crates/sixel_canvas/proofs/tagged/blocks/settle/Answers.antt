@@ -12,12 +12,14 @@ returns-then-not-can_be_seen-clause-settled c =
 
 pub fill_row-requires-clause-held : goal.fill_row-requires-clause-held
 fill_row-requires-clause-held c = λ _.
-    let hit = ap is_tag (sym c.pixel-tag.ensures) ∙ sym c.can_be_seen.ensures ∙ c.if-not-can_be_seen.false in
+    let hit =
+    ap is_tag (sym c.pixel-tag.ensures) ∙ sym c.can_be_seen.ensures ∙ c.if-not-can_be_seen.false in
     omega (arith, c.requires.tagged.whole c.args.block c.args.row hit, c.clamp.ensures)
 
 pub fill_row-requires-2-clause-held : goal.fill_row-requires-2-clause-held
 fill_row-requires-2-clause-held c = λ _.
-    let hit = ap is_tag (sym c.pixel-tag.ensures) ∙ sym c.can_be_seen.ensures ∙ c.if-not-can_be_seen.false in
+    let hit =
+    ap is_tag (sym c.pixel-tag.ensures) ∙ sym c.can_be_seen.ensures ∙ c.if-not-can_be_seen.false in
     omega (
       arith,
       c.requires.tagged.whole c.args.block c.args.row hit,
@@ -28,7 +30,8 @@ fill_row-requires-2-clause-held c = λ _.
 pub fill_row-requires-3-clause-held : goal.fill_row-requires-3-clause-held
 fill_row-requires-3-clause-held c = λ _.
     let tags = c.args.tags.now in
-    let hit = ap is_tag (sym c.pixel-tag.ensures) ∙ sym c.can_be_seen.ensures ∙ c.if-not-can_be_seen.false in
+    let hit =
+    ap is_tag (sym c.pixel-tag.ensures) ∙ sym c.can_be_seen.ensures ∙ c.if-not-can_be_seen.false in
     elim (cases_lt c.args.block (reached tags c.args.row)) [
       | inl inside ↦ omega (arith, inside)
       | inr past ↦ absurd (true≢false (sym hit

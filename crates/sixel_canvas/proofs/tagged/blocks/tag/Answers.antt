@@ -17,8 +17,10 @@ returns-clause-drawn c =
     let settled : IsSettled row from to (to / 128) before (shown sheet) (shown tags) =
     record { outside = ends.seen; left = ends.left; right = ends.right } in
     tagged_seen row from to first (to / 128) c.args.color before
-    (shown sheet) (shown c.fill_row.new.self) (shown c.fill_row-2.new.self) (shown tags) (shown c.fill_row-3.new.self)
-    (omega arith) (omega arith) (omega arith) c.requires.visible settled c.fill_row.ensures.drawn c.fill_row-2.ensures.drawn c.fill_row-3.ensures.drawn
+    (shown sheet) (shown c.fill_row.new.self) (shown c.fill_row-2.new.self) (shown tags)
+    (shown c.fill_row-3.new.self)
+    (omega arith) (omega arith) (omega arith) c.requires.visible settled c.fill_row.ensures.drawn
+    c.fill_row-2.ensures.drawn c.fill_row-3.ensures.drawn
 
 pub div_ceil-first-requires : goal.div_ceil-first-requires
 div_ceil-first-requires c = grind arith
