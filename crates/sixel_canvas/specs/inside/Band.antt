@@ -1,6 +1,6 @@
 -- What a band shows: six rows of cap columns each, one after another in one block of pixels, and background from reach on.
 -- The layout is this library's own.
-use Rattle.std.specs.Prelude.{◌≡◌, ℕ, ◌+◌, ◌-◌, ◌*◌, ◌<◌, ◌≤◌, List, length, slice_index_or, Bool, ◌&&◌, nat_le, nat_lt, if◌then◌else◌}
+use Rattle.std.specs.Prelude.{◌≡◌, ℕ, ◌+◌, ◌-◌, ◌*◌, ◌≤◌, List, length, slice_index_or, ◌&&◌, nat_le, nat_lt, if◌then◌else◌}
 use Rattle.sixel_base.specs.Picture.{is_set}
 
 -- a row of pixels, those from from up to before to in this color
