@@ -4,7 +4,7 @@ use Rattle.std.proofs.Common.{length, get_or, ap, refl, sym, ◌∙◌, inl, inr
 use Rattle.std.specs.Prelude.{nat_le, nat_lt, ◌&&◌, ◌==◌, if◌then◌else◌}
 use Rattle.std.proofs.lemmas.Bool.{cases_lt, lt-ltb, le-ltb, le-leb, ne_eqb}
 use Rattle.sixel_base.specs.Picture.{covers, is_set, is_struck}
-use Rattle.sixel_canvas.specs.inside.Band.{BandState, IsBand, band_state, cell, filled, stored}
+use Rattle.sixel_canvas.specs.inside.Band.{IsBand, band_state, cell, filled, stored}
 use Rattle.sixel_canvas.proofs.BandRows.{within_row}
 
 and_right_none : (a b s : Bool) → b ≡ false → (a && b && s) ≡ false

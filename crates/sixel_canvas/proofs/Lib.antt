@@ -1,5 +1,7 @@
 pub mod BandRows
 pub mod BandStates
+pub mod BandTags
+pub mod HandedRows
 pub mod Loans
 pub mod Mixing
 pub mod OneRow

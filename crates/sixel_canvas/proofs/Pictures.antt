@@ -1,5 +1,5 @@
 -- Pictures with the same pixels.
-use Rattle.std.proofs.Common.{◌≡◌, ℕ, ◌<◌, List}
+use Rattle.std.proofs.Common.{◌≡◌, ℕ, List}
 use Rattle.sixel_base.specs.Picture.{joined, picture}
 use Rattle.sixel_base.proofs.Joined.{joined-same}
 

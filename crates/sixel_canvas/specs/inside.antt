@@ -7,4 +7,5 @@ pub mod Drawn
 pub mod FinalRows
 pub mod Loan
 pub mod Paints
+pub mod TaggedBand
 pub mod Tags

@@ -2,13 +2,13 @@
 ghost use Rattle.std.specs.Prelude.{◌≡◌, ℕ, ◌+◌, ◌*◌, ◌^◌, ◌≤◌, ◌<◌, List, max, OnErr, OnOk};
 ghost use Rattle.std.specs.Prelude.{◌-◌, nat_lt, if◌then◌else◌};
 ghost use Rattle.sixel_canvas.specs.inside.Band.{cell};
-ghost use Rattle.sixel_canvas.specs.inside.BandCanvas.{band_canvas_shown, IsHeld};
-ghost use Rattle.sixel_canvas.specs.inside.Drawn.{right_edge};
+ghost use Rattle.sixel_canvas.specs.inside.BandCanvas.{band_canvas_shown, IsHeld, IsPaid};
 ghost use Rattle.sixel_canvas.specs.inside.FinalRows.{final};
+ghost use Rattle.sixel_canvas.specs.inside.TaggedBand.{tagged_cell};
 
-use crate::band::Band;
 use crate::drawing::Canvas;
 use crate::final_rows::FinalRows;
+use crate::tagged_band::TaggedBand;
 use sixel_base::limits::MAX_SIDE;
 use std::alloc::{AllocError, Global};
 use std::marker::Model;
@@ -20,7 +20,7 @@ use std::marker::Model;
 #[derive(Drop)]
 pub struct BandCanvas {
     rows: FinalRows,
-    band: Band,
+    band: TaggedBand,
     top: usize,
     held: usize,
     expected_width: usize,
@@ -45,12 +45,13 @@ impl Canvas for BandCanvas {
 
     ghost held = { λ canvas. canvas.held };
 
-    ghost paid = { λ canvas runs. canvas.band.cap ≤ 2 * right_edge runs + 16 };
+    ghost paid = { λ canvas runs. IsPaid canvas.band.pixels.cap canvas.band.painted
+        canvas.band.pixels.reach canvas.top runs };
 
     fn new(alloc: Global, background: [u8; 4]) -> BandCanvas {
         BandCanvas {
             rows: FinalRows::new(alloc, background),
-            band: Band::new(alloc, background),
+            band: TaggedBand::new(alloc, background),
             top: 0,
             held: 0,
             expected_width: 0,
@@ -73,6 +74,9 @@ impl Canvas for BandCanvas {
 
     #[inline(always)]
     fn draw(&mut self, from: usize, to: usize, bits: u8, color: [u8; 4]) -> Result<(), AllocError> {
+        if bits == 0 {
+            return Ok(());
+        }
         self.hold(to)?;
         self.band.draw(from, to, bits, color);
         Ok(())
@@ -80,6 +84,9 @@ impl Canvas for BandCanvas {
 
     #[inline(always)]
     fn column(&mut self, at: usize, bits: u8, color: [u8; 4]) {
+        if bits == 0 {
+            return;
+        }
         self.band.draw(at, at + 1, bits, color);
     }
 
@@ -119,9 +126,10 @@ impl BandCanvas {
         ensures shown { OnOk result ((column row : ℕ) → band_canvas_shown self.new column row
             ≡ band_canvas_shown self.old column row) }
         ensures top { OnOk result (self.new.top ≡ self.old.top) }
-        ensures cap { OnOk result (self.new.band.cap
-            ≤ max self.old.band.cap (2 * columns + 16)) }
-        ensures reach { OnOk result (self.new.band.reach ≡ self.old.band.reach) }
+        ensures cap { OnOk result (self.new.band.pixels.cap
+            ≤ max self.old.band.pixels.cap (2 * columns + 16)) }
+        ensures reach { OnOk result (self.new.band.pixels.reach ≡ self.old.band.pixels.reach) }
+        ensures painted { OnOk result (self.new.band.painted ≡ self.old.band.painted) }
     {
         if columns <= self.held {
             return Ok(());
@@ -140,9 +148,10 @@ impl BandCanvas {
         ensures shown { OnOk result ((column row : ℕ) → band_canvas_shown self.new column row
             ≡ band_canvas_shown self.old column row) }
         ensures top { OnOk result (self.new.top ≡ self.old.top) }
-        ensures cap { OnOk result (self.new.band.cap
-            ≤ max self.old.band.cap (2 * columns + 16)) }
-        ensures reach { OnOk result (self.new.band.reach ≡ self.old.band.reach) }
+        ensures cap { OnOk result (self.new.band.pixels.cap
+            ≤ max self.old.band.pixels.cap (2 * columns + 16)) }
+        ensures reach { OnOk result (self.new.band.pixels.reach ≡ self.old.band.pixels.reach) }
+        ensures painted { OnOk result (self.new.band.painted ≡ self.old.band.painted) }
     {
         let least = columns
             .max(self.held)
@@ -159,11 +168,12 @@ impl BandCanvas {
     fn finish_rows(&mut self)
         ensures shown { (column row : ℕ) → final self.new.rows column row
             ≡ band_canvas_shown self.old column row }
-        ensures empty { (column k : ℕ) → cell self.new.band column k ≡ self.new.rows.background }
-        ensures reach { self.new.band.reach ≡ 0 }
-        ensures cap { self.new.band.cap ≡ self.old.band.cap }
+        ensures empty { (column k : ℕ) → tagged_cell self.new.band column k ≡ self.new.rows.background }
+        ensures reach { self.new.band.pixels.reach ≡ 0 }
+        ensures cap { self.new.band.pixels.cap ≡ self.old.band.pixels.cap }
         ensures top { self.new.top ≤ self.old.top + 6 }
         ensures held { self.new.held ≡ 0 }
+        ensures painted { self.new.band.painted ≡ self.old.band.painted }
     {
         if self.band.reach() > 0 {
             let width = self.expected_width;
@@ -175,21 +185,23 @@ impl BandCanvas {
 }
 
 /// Appends the six rows of a band to the rows above it, with background between them.
-fn hand_out(rows: &mut FinalRows, band: &mut Band, top: usize, expected_width: usize)
+fn hand_out(rows: &mut FinalRows, band: &mut TaggedBand, top: usize, expected_width: usize)
     requires above { rows.old.rows ≤ top }
     requires bottom { top + 6 ≤ 1000000 }
-    requires background { rows.old.background ≡ band.old.background }
-    requires stored { band.old.reach ≤ rows.old.width }
+    requires background { rows.old.background ≡ band.old.pixels.background }
+    requires stored { band.old.pixels.reach ≤ rows.old.width }
     requires room { 4 * ((top + 6) * rows.old.width) ≤ rows.old.room }
     ensures shown { (column row : ℕ) → final rows.new column row ≡ (if nat_lt row top
-        then final rows.old column row else cell band.old column (row - top)) }
+        then final rows.old column row else tagged_cell band.old column (row - top)) }
     ensures rows { rows.new.rows ≡ top + 6 }
     ensures rows_background { rows.new.background ≡ rows.old.background }
-    ensures cleared { (column k : ℕ) → cell band.new column k ≡ band.old.background }
-    ensures background { band.new.background ≡ band.old.background }
-    ensures reach { band.new.reach ≡ 0 }
-    ensures cap { band.new.cap ≡ band.old.cap }
+    ensures cleared { (column k : ℕ) → tagged_cell band.new column k ≡ band.old.pixels.background }
+    ensures background { band.new.pixels.background ≡ band.old.pixels.background }
+    ensures reach { band.new.pixels.reach ≡ 0 }
+    ensures cap { band.new.pixels.cap ≡ band.old.pixels.cap }
+    ensures painted { band.new.painted ≡ band.old.painted }
 {
+    band.settle_all();
     let width = expected_width.min(rows.width()).max(band.reach());
     rows.fit(width);
     'blank: for _row in rows.len()..top {

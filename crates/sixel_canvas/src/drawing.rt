@@ -1,8 +1,9 @@
 //! The trait of everything that a SIXEL decoder draws on.
 ghost use Rattle.std.specs.Prelude.{◌≡◌, ℕ, ◌+◌, ◌*◌, ◌^◌, ◌≤◌, ◌<◌, List, [], ◌∷◌, length, take};
-ghost use Rattle.std.specs.Prelude.{slice_index_or, IfOk, OnOk, if◌then◌else◌};
+ghost use Rattle.std.specs.Prelude.{true, slice_index_or, IfOk, OnOk, if◌then◌else◌};
 ghost use Rattle.sixel_base.specs.Picture.{covers, picture};
 ghost use Rattle.sixel_canvas.specs.inside.Drawn.{Run, run, with_sixels, covers_block};
+ghost use Rattle.sixel_canvas.specs.inside.Tags.{is_tag};
 
 use std::alloc::{AllocError, Global};
 
@@ -50,6 +51,7 @@ pub trait Canvas {
         requires within { to ≤ 1000000 }
         requires above_bottom { top self.old + 6 ≤ 1000000 }
         requires six { bits < 64 }
+        requires visible { is_tag color ≡ true }
         ensures drawn { OnOk result ((column row : ℕ) → shown self.new column row
             ≡ (if covers from to (top self.old) bits column row then color
             else shown self.old column row)) }
@@ -63,6 +65,7 @@ pub trait Canvas {
         requires within { at < 1000000 }
         requires above_bottom { top self.old + 6 ≤ 1000000 }
         requires six { bits < 64 }
+        requires visible { is_tag color ≡ true }
         ensures drawn { (column row : ℕ) → shown self.new column row
             ≡ (if covers at (at + 1) (top self.old) bits column row then color
             else shown self.old column row) }
@@ -83,6 +86,7 @@ pub trait Canvas {
         requires within { from + len ≤ 1000000 }
         requires above_bottom { top self.old + 6 ≤ 1000000 }
         requires six { (j : ℕ) → slice_index_or sixels j 0 < 64 }
+        requires visible { is_tag color ≡ true }
         requires blank { (j : ℕ) → len ≤ j → slice_index_or sixels j 0 ≡ 0 }
         ensures drawn { OnOk result ((column row : ℕ) → shown self.new column row
             ≡ (if covers_block from sixels (top self.old) column row then color

@@ -12,6 +12,7 @@ mod pixel_row;
 mod row;
 mod span;
 mod tagged;
+pub mod tagged_band;
 
 pub use row::Row;
 pub use span::fill_rgba_span;

@@ -1,0 +1,32 @@
+-- What a band shows some of whose blocks are tagged: a tag is the color of a block of 128 columns of a row, over what is stored there.
+-- The rule is this library's own: a wide run over columns that were drawn on tags the blocks that it covers whole.
+use Rattle.std.specs.Prelude.{◌≡◌, ℕ, ◌+◌, ◌*◌, ◌/◌, ◌≤◌, List}
+use Rattle.sixel_canvas.specs.inside.Band.{BandState, IsBand, cell}
+use Rattle.sixel_canvas.specs.inside.Tags.{no_tag, under}
+
+-- the pixels, a tag for each block of columns, and how many columns and tags were painted
+pub record TaggedState : Type 0 where
+  pub pixels : BandState
+  pub tags : BandState
+  pub painted : ℕ
+
+-- the band with these parts
+abbrev pub tagged_state : BandState → BandState → ℕ → TaggedState
+tagged_state pixels tags painted = record { pixels = pixels; tags = tags; painted = painted }
+
+-- the pixel at a column of row k
+abbrev pub tagged_cell : TaggedState → ℕ → ℕ → List ℕ
+tagged_cell band column k = under (cell band.tags (column / 128) k) (cell band.pixels column k)
+
+-- what is true of every band with tags: each tagged block was drawn on whole
+pub record IsTaggedBand (band : TaggedState) : Type 0 where
+  pub pixels : IsBand band.pixels
+  pub tags : IsBand band.tags
+  pub clear : band.tags.background ≡ no_tag
+  pub room : band.pixels.cap ≤ 128 * band.tags.cap
+  pub whole : 128 * band.tags.reach ≤ band.pixels.reach
+
+-- what a run of so many columns paints at most beside the columns past all that was drawn on: a tag a block, two ends, and what is
+-- painted of tagged blocks that it covers in part
+abbrev pub most_painted : ℕ → ℕ
+most_painted columns = columns / 128 + 640

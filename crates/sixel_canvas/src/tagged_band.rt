@@ -1,0 +1,343 @@
+//! A band in which a wide run over what was drawn costs no more than its blocks and two ends.
+ghost use Rattle.std.specs.Prelude.{◌≡◌, ℕ, ◌+◌, ◌-◌, ◌*◌, ◌/◌, ◌^◌, ◌≤◌, ◌<◌, List, length, max, min};
+ghost use Rattle.std.specs.Prelude.{true, false, nat_le, nat_lt, ◌&&◌, slice_index_or, OnErr, OnOk, if◌then◌else◌};
+ghost use Rattle.sixel_base.specs.Picture.{covers};
+ghost use Rattle.sixel_canvas.specs.inside.Band.{cell, IsBand};
+ghost use Rattle.sixel_canvas.specs.inside.Drawn.{covers_block};
+ghost use Rattle.sixel_canvas.specs.inside.TaggedBand.{most_painted, tagged_cell};
+ghost use Rattle.sixel_canvas.specs.inside.Tags.{is_tag, no_tag, under};
+
+use crate::band::Band;
+use std::alloc::{AllocError, Global};
+use std::marker::Model;
+
+/// How many columns of a row have a tag in common.
+const BLOCK: usize = 128;
+
+/// From how many columns on a run may be tagged.
+const WIDE: usize = 256;
+
+/// The color of a block that has no tag.
+const NO_TAG: [u8; 4] = [0; 4];
+
+/// A band some of whose blocks of 128 columns show one color, whatever is stored there.
+///
+/// So a run over a block that was drawn on whole need not paint it. A run that covers a part of
+/// a tagged block paints the block in its tag first.
+#[derive(Drop)]
+pub struct TaggedBand {
+    pixels: Band,
+    tags: Band,
+    painted: u64,
+}
+
+impl Model for TaggedBand {
+    ghost use Rattle.sixel_canvas.specs.inside.TaggedBand.{TaggedState, IsTaggedBand};
+    ghost use Rattle.sixel_canvas.specs.inside.TaggedBand.{tagged_state};
+
+    ghost Value = { TaggedState };
+
+    ghost view = { λ band. tagged_state band.pixels band.tags band.painted };
+
+    ghost invariant = { λ band. IsTaggedBand (tagged_state band.pixels band.tags band.painted) };
+}
+
+impl TaggedBand {
+    /// Returns a band of background with memory for no column.
+    pub fn new(alloc: Global, background: [u8; 4]) -> TaggedBand
+        ensures shown { (column k : ℕ) → tagged_cell result column k ≡ background }
+        ensures background { result.pixels.background ≡ background }
+        ensures reach { result.pixels.reach ≡ 0 }
+        ensures cap { result.pixels.cap ≡ 0 }
+        ensures painted { result.painted ≡ 0 }
+    {
+        TaggedBand {
+            pixels: Band::new(alloc, background),
+            tags: Band::new(alloc, NO_TAG),
+            painted: 0,
+        }
+    }
+
+    /// Returns how many columns there is memory for.
+    #[inline(always)]
+    pub fn cap(&self) -> usize
+        ensures value { result ≡ self.now.pixels.cap }
+        ensures few { result ≤ 1000008 }
+        ensures reached { self.now.pixels.reach ≤ result }
+    {
+        self.pixels.cap()
+    }
+
+    /// Returns the column from which on all six rows are background.
+    #[inline(always)]
+    pub fn reach(&self) -> usize
+        ensures value { result ≡ self.now.pixels.reach }
+        ensures within { result ≤ self.now.pixels.cap }
+        ensures clean { (column k : ℕ) → result ≤ column
+            → tagged_cell self.now column k ≡ self.now.pixels.background }
+    {
+        self.pixels.reach()
+    }
+
+    /// Returns how many columns and tags were painted so far, at most.
+    pub fn painted(&self) -> u64
+        ensures { result ≡ self.now.painted }
+    {
+        self.painted
+    }
+
+    /// Makes memory for so many columns, and at least doubles it where it is too small.
+    #[inline(never)]
+    pub fn widen(&mut self, columns: usize) -> Result<(), AllocError>
+        requires within { columns ≤ 1000008 }
+        ensures held { OnOk result (columns ≤ self.new.pixels.cap) }
+        ensures no_more { OnOk result (self.new.pixels.cap
+            ≤ max columns (2 * self.old.pixels.cap)) }
+        ensures shown { (column k : ℕ) → tagged_cell self.new column k
+            ≡ tagged_cell self.old column k }
+        ensures background { self.new.pixels.background ≡ self.old.pixels.background }
+        ensures reach { self.new.pixels.reach ≡ self.old.pixels.reach }
+        ensures refused { OnErr result (self.new.pixels ≡ self.old.pixels) }
+        ensures painted { self.new.painted ≡ self.old.painted }
+    {
+        self.tags
+            .widen(columns.max(2 * self.pixels.cap()).div_ceil(BLOCK))?;
+        self.pixels.widen(columns)
+    }
+
+    /// Draws a sixel over the columns from `from` up to before `to`, for which there is memory.
+    #[inline(always)]
+    pub fn draw(&mut self, from: usize, to: usize, bits: u8, color: [u8; 4])
+        requires ordered { from < to }
+        requires held { to ≤ self.old.pixels.cap }
+        requires visible { is_tag color ≡ true }
+        ensures drawn { (column k : ℕ) → tagged_cell self.new column k
+            ≡ (if covers from to 0 bits column k then color else tagged_cell self.old column k) }
+        ensures background { self.new.pixels.background ≡ self.old.pixels.background }
+        ensures cap { self.new.pixels.cap ≡ self.old.pixels.cap }
+        ensures reach { self.new.pixels.reach ≡ max self.old.pixels.reach to }
+        ensures painted { self.new.painted ≤ self.old.painted + most_painted (to - from)
+            + (max self.old.pixels.reach to - self.old.pixels.reach) }
+    {
+        if to - from < WIDE || from >= self.pixels.reach() {
+            return self.paint(from, to, bits, color);
+        }
+        self.draw_wide(from, to, bits, color);
+    }
+
+    /// Draws a wide sixel over columns some of which were drawn on.
+    #[inline(never)]
+    fn draw_wide(&mut self, from: usize, to: usize, bits: u8, color: [u8; 4])
+        requires ordered { from + 256 ≤ to }
+        requires held { to ≤ self.old.pixels.cap }
+        requires over { from < self.old.pixels.reach }
+        requires visible { is_tag color ≡ true }
+        ensures drawn { (column k : ℕ) → tagged_cell self.new column k
+            ≡ (if covers from to 0 bits column k then color else tagged_cell self.old column k) }
+        ensures background { self.new.pixels.background ≡ self.old.pixels.background }
+        ensures cap { self.new.pixels.cap ≡ self.old.pixels.cap }
+        ensures reach { self.new.pixels.reach ≡ max self.old.pixels.reach to }
+        ensures painted { self.new.painted ≤ self.old.painted + most_painted (to - from)
+            + (max self.old.pixels.reach to - self.old.pixels.reach) }
+    {
+        let first = from.div_ceil(BLOCK);
+        let last = to.min(self.pixels.reach()) / BLOCK;
+        if first >= last {
+            return self.paint(from, to, bits, color);
+        }
+        self.paint(from, first * BLOCK, bits, color);
+        self.tag(first, last, bits, color);
+        self.paint(last * BLOCK, to, bits, color);
+    }
+
+    /// Gives the blocks from `first` up to before `last`, which were drawn on whole, a tag.
+    fn tag(&mut self, first: usize, last: usize, bits: u8, color: [u8; 4])
+        requires ordered { first < last }
+        requires whole { 128 * last ≤ self.old.pixels.reach }
+        requires visible { is_tag color ≡ true }
+        ensures drawn { (column k : ℕ) → tagged_cell self.new column k
+            ≡ (if covers (first * 128) (last * 128) 0 bits column k then color
+            else tagged_cell self.old column k) }
+        ensures pixels { self.new.pixels ≡ self.old.pixels }
+        ensures reach { self.new.tags.reach ≡ max self.old.tags.reach last }
+        ensures painted { self.new.painted ≤ self.old.painted + (last - first) }
+    {
+        self.tags.draw(first, last, bits, color);
+        self.painted = self.painted.saturating_add((last - first) as u64);
+    }
+
+    /// Paints a sixel over the columns from `from` up to before `to`.
+    #[inline(always)]
+    fn paint(&mut self, from: usize, to: usize, bits: u8, color: [u8; 4])
+        requires ordered { from ≤ to }
+        requires held { to ≤ self.old.pixels.cap }
+        ensures drawn { (column k : ℕ) → tagged_cell self.new column k
+            ≡ (if covers from to 0 bits column k then color else tagged_cell self.old column k) }
+        ensures background { self.new.pixels.background ≡ self.old.pixels.background }
+        ensures cap { self.new.pixels.cap ≡ self.old.pixels.cap }
+        ensures reach { self.new.pixels.reach ≡ max self.old.pixels.reach to }
+        ensures tags_reach { self.new.tags.reach ≡ self.old.tags.reach }
+        ensures painted { self.new.painted ≤ self.old.painted + (to - from)
+            + 128 * (min ((to + 127) / 128) self.old.tags.reach - from / 128) }
+    {
+        self.settle(from, to);
+        self.pixels.draw(from, to, bits, color);
+        self.painted = self.painted.saturating_add((to - from) as u64);
+    }
+
+    /// Draws eight sixels of one column each, from `from` on: those past `to` are blank.
+    #[inline(always)]
+    pub fn block(&mut self, from: usize, to: usize, sixels: [u8; 8], color: [u8; 4])
+        requires ordered { from < to }
+        requires held { from + 8 ≤ self.old.pixels.cap }
+        requires within { from ≤ 1000000 }
+        requires few { to ≤ from + 8 }
+        requires blank { (column k : ℕ) → to ≤ column
+            → covers_block from sixels 0 column k ≡ false }
+        ensures drawn { (column k : ℕ) → tagged_cell self.new column k
+            ≡ (if covers_block from sixels 0 column k then color
+            else tagged_cell self.old column k) }
+        ensures background { self.new.pixels.background ≡ self.old.pixels.background }
+        ensures cap { self.new.pixels.cap ≡ self.old.pixels.cap }
+        ensures reach { self.new.pixels.reach ≡ max self.old.pixels.reach to }
+        ensures painted { self.new.painted ≤ self.old.painted + 264 }
+    {
+        self.settle(from, from + 8);
+        self.pixels.block(from, to, sixels, color);
+        self.painted = self.painted.saturating_add(8);
+    }
+
+    /// Paints all tags, so that no block has one. This is not counted.
+    #[inline(never)]
+    pub fn settle_all(&mut self)
+        ensures shown { (column k : ℕ) → cell self.new.pixels column k
+            ≡ tagged_cell self.old column k }
+        ensures background { self.new.pixels.background ≡ self.old.pixels.background }
+        ensures cap { self.new.pixels.cap ≡ self.old.pixels.cap }
+        ensures reach { self.new.pixels.reach ≡ self.old.pixels.reach }
+        ensures painted { self.new.painted ≡ self.old.painted }
+    {
+        let tagged = self.tags.reach();
+        self.settle_blocks(0, tagged);
+        self.tags.clear();
+    }
+
+    /// Returns the pixels of row `k` up to `reach`, without its tags.
+    pub fn row(&self, k: usize) -> &[[u8; 4]]
+        requires { k < 6 }
+        ensures len { length result.now ≡ self.now.pixels.reach }
+        ensures pixels { (column : ℕ) → slice_index_or result.now column self.now.pixels.background
+            ≡ cell self.now.pixels column k }
+    {
+        self.pixels.row(k)
+    }
+
+    /// Fills the band with background.
+    pub fn clear(&mut self)
+        ensures shown { (column k : ℕ) → tagged_cell self.new column k
+            ≡ self.old.pixels.background }
+        ensures background { self.new.pixels.background ≡ self.old.pixels.background }
+        ensures cap { self.new.pixels.cap ≡ self.old.pixels.cap }
+        ensures reach { self.new.pixels.reach ≡ 0 }
+        ensures painted { self.new.painted ≡ self.old.painted }
+    {
+        self.tags.clear();
+        self.pixels.clear();
+    }
+
+    /// Paints the tags of the blocks that these columns lie in.
+    #[inline(always)]
+    fn settle(&mut self, from: usize, to: usize)
+        requires ordered { from ≤ to }
+        ensures shown { (column k : ℕ) → tagged_cell self.new column k
+            ≡ tagged_cell self.old column k }
+        ensures settled { (column k : ℕ) → from ≤ column → column < to
+            → is_tag (cell self.new.tags (column / 128) k) ≡ false }
+        ensures background { self.new.pixels.background ≡ self.old.pixels.background }
+        ensures cap { self.new.pixels.cap ≡ self.old.pixels.cap }
+        ensures reach { self.new.pixels.reach ≡ self.old.pixels.reach }
+        ensures tags_reach { self.new.tags.reach ≡ self.old.tags.reach }
+        ensures painted { self.new.painted ≤ self.old.painted
+            + 128 * (min ((to + 127) / 128) self.old.tags.reach - from / 128) }
+    {
+        let tagged = self.tags.reach();
+        if tagged > 0 {
+            let last = to.div_ceil(BLOCK).min(tagged);
+            let first = last.min(from / BLOCK);
+            self.settle_blocks(first, last);
+            let painted = BLOCK * (last - first);
+            self.painted = self.painted.saturating_add(painted as u64);
+        }
+    }
+
+    /// Paints the tags of the blocks from `first` up to before `last`.
+    #[inline(never)]
+    fn settle_blocks(&mut self, first: usize, last: usize)
+        requires ordered { first ≤ last }
+        requires tagged { last ≤ self.old.tags.reach }
+        ensures shown { (column k : ℕ) → tagged_cell self.new column k
+            ≡ tagged_cell self.old column k }
+        ensures settled { (block k : ℕ) → first ≤ block → block < last
+            → is_tag (cell self.new.tags block k) ≡ false }
+        ensures others { (block k : ℕ) → last ≤ block
+            → cell self.new.tags block k ≡ cell self.old.tags block k }
+        ensures background { self.new.pixels.background ≡ self.old.pixels.background }
+        ensures cap { self.new.pixels.cap ≡ self.old.pixels.cap }
+        ensures reach { self.new.pixels.reach ≡ self.old.pixels.reach }
+        ensures tags_reach { self.new.tags.reach ≡ self.old.tags.reach }
+        ensures painted { self.new.painted ≡ self.old.painted }
+    {
+        'each: for block in first..last {
+            self.settle_block(block);
+        }
+    }
+
+    /// Paints the tags of one block.
+    fn settle_block(&mut self, block: usize)
+        requires { block < self.old.tags.reach }
+        ensures shown { (column k : ℕ) → tagged_cell self.new column k
+            ≡ tagged_cell self.old column k }
+        ensures settled { (k : ℕ) → is_tag (cell self.new.tags block k) ≡ false }
+        ensures others { (other k : ℕ) → (other ≡ block → ⊥)
+            → cell self.new.tags other k ≡ cell self.old.tags other k }
+        ensures background { self.new.pixels.background ≡ self.old.pixels.background }
+        ensures cap { self.new.pixels.cap ≡ self.old.pixels.cap }
+        ensures reach { self.new.pixels.reach ≡ self.old.pixels.reach }
+        ensures tags_reach { self.new.tags.reach ≡ self.old.tags.reach }
+        ensures painted { self.new.painted ≡ self.old.painted }
+    {
+        paint_tags(&mut self.pixels, &self.tags, block);
+        self.tags.draw(block, block + 1, 63, NO_TAG);
+    }
+}
+
+/// Paints the tags that the rows of one block have.
+fn paint_tags(pixels: &mut Band, tags: &Band, block: usize)
+    requires tagged { block < tags.now.reach }
+    requires whole { 128 * tags.now.reach ≤ pixels.old.reach }
+    requires pixels { IsBand pixels.old }
+    requires clear { tags.now.background ≡ no_tag }
+    ensures painted { (column k : ℕ) → cell pixels.new column k ≡ (if nat_le (block * 128) column
+        && nat_lt column (block * 128 + 128) && nat_lt k 6
+        then under (cell tags.now block k) (cell pixels.old column k)
+        else cell pixels.old column k) }
+    ensures background { pixels.new.background ≡ pixels.old.background }
+    ensures cap { pixels.new.cap ≡ pixels.old.cap }
+    ensures reach { pixels.new.reach ≡ pixels.old.reach }
+    ensures whole { IsBand pixels.new }
+{
+    'rows: for k in 0..6 {
+        let tag = tags.row(k)[block];
+        if is_visible(tag) {
+            let start = block * BLOCK;
+            pixels.draw_row(k, start, start + BLOCK, tag);
+        }
+    }
+}
+
+/// Whether a color is visible, as that of a tag is.
+fn is_visible(color: [u8; 4]) -> bool
+    ensures { result ≡ is_tag color }
+{
+    color[3] > 0
+}
