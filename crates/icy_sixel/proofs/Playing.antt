@@ -1,9 +1,8 @@
 -- What is known of a step's bytes once a beginning of them was fed to its session.
-use Rattle.std.proofs.Common.{◌≡◌, ℕ, true, List, ◌++◌, refl, ap, sym, ◌∙◌, inl, inr, subst, arith, Option, Some, None}
+use Rattle.std.proofs.Common.{◌≡◌, ℕ, true, List, ◌++◌, refl, ap, sym, ◌∙◌, inl, inr, subst, Option, Some, None}
 use Rattle.std.specs.Prelude.{Bool, false, IsTrue, nat_lt, ◌||◌, if◌then◌else◌, is_none, Result, Ok, Err, MatchResult, IfOk, IfErr, OnOk, OnErr}
 use Rattle.std.specs.Option.{option_or}
 use Rattle.std.proofs.lemmas.List.{append-nil, append_assoc}
-use Rattle.std.proofs.lemmas.Bool.Decides.{nat_tests}
 use Rattle.sixel_base.specs.declared.error.SixelError.{SixelError}
 use Rattle.sixel_base.specs.Fault.{Fault, Faults, Incomplete}
 use Rattle.sixel_base.specs.Bytes.{front, count, first_terminator}
@@ -25,12 +24,13 @@ use Rattle.sixel_base.specs.declared.status.SixelDcsFeedStatus.{SixelDcsFeedStat
 use Rattle.sixel_base.specs.declared.status.SixelFeedStatus.{SixelFeedStatus}
 use Rattle.sixel_base.specs.OneShot.{Found, found, IsDecodedAs, found_fault, found_wants, IsFoundImage, AreFoundRegisters}
 use Rattle.icy_sixel.specs.Script.{IsDecoding, IsSessionOutcome, frame_meaning, string_meaning}
+use Rattle.sixel_decoder.proofs.Sessions.{frame_refused, string_refused}
 use Rattle.sixel_decoder.proofs.ChunkReads.{payload_refused, or_right}
 use Rattle.sixel_base.specs.Dcs.{dcs_status, dcs_count, dcs_fault, dcs_growths, has_ended, end_fault}
 use Rattle.icy_sixel.specs.inside.Playing.{IsWhole}
 use Rattle.sixel_decoder.proofs.ParserSteps.{Faults-along}
 use Rattle.sixel_decoder.proofs.Chunks.{first_terminator-ended}
-use Rattle.sixel_decoder.proofs.Finality.{front_ended, count_ended, settled_ended, fed_fault_stays, growths_stay, status_ended, dcs_count_ended, dcs_fault_ended, dcs_fault_stays, dcs_growths_stay}
+use Rattle.sixel_decoder.proofs.Finality.{front_ended, count_ended, settled_ended, status_ended, dcs_count_ended, dcs_fault_ended}
 
 -- what was fed and what is left make up all bytes, also after one piece more
 pub rejoined : (before piece after left rest bytes : List ℕ) → after ≡ before ++ piece → piece ++ left ≡ rest → before ++ rest ≡ bytes → after ++ left ≡ bytes
@@ -55,13 +55,6 @@ frame_whole limit fed left bytes t joined is = subst (λ (w : List ℕ). SameFra
 })
 
 -- what a beginning is refused for is what all are refused for
-pub frame_refused : (e : SixelError) (limit : ℕ) (fed left bytes : List ℕ) (n : ℕ) → fed ++ left ≡ bytes
-    → Faults e (nat_lt n (growths (settled fed))) (fed_fault limit fed) → Faults e (nat_lt 0 (growths (settled bytes))) (fed_fault limit bytes)
-frame_refused e limit fed left bytes n joined refused =
-    subst (λ (w : List ℕ). Faults e (nat_lt 0 (growths (settled w))) (fed_fault limit w)) joined
-    (Faults-along e _ (nat_lt 0 (growths (settled (fed ++ left)))) (fed_fault limit fed) (fed_fault limit (fed ++ left))
-    (λ may. grind (arith, nat_tests, growths_stay fed left)) (fed_fault_stays limit fed left) refused)
-
 pub frame_refusal : (R : Type 0) (answer : Result R SixelError) (limit : ℕ) (fed left bytes : List ℕ) (n : ℕ) → fed ++ left ≡ bytes
     → IfErr answer (λ e. Faults e (nat_lt n (growths (settled fed))) (fed_fault limit fed)) → IfErr answer (λ e. Faults e (nat_lt 0 (growths (settled bytes))) (fed_fault limit bytes))
 frame_refusal R (Ok fed) limit beginning left bytes n joined refused = tt
@@ -121,13 +114,6 @@ string_whole limit fed left bytes joined ended = record {
 }
 
 -- what a beginning is refused for is what all are refused for
-pub string_refused : (e : SixelError) (limit : ℕ) (fed left bytes : List ℕ) (n : ℕ) → fed ++ left ≡ bytes
-    → Faults e (nat_lt n (dcs_growths fed)) (dcs_fault limit fed) → Faults e (nat_lt 0 (dcs_growths bytes)) (dcs_fault limit bytes)
-string_refused e limit fed left bytes n joined refused =
-    subst (λ (w : List ℕ). Faults e (nat_lt 0 (dcs_growths w)) (dcs_fault limit w)) joined
-    (Faults-along e _ (nat_lt 0 (dcs_growths (fed ++ left))) (dcs_fault limit fed) (dcs_fault limit (fed ++ left))
-    (λ may. grind (arith, nat_tests, dcs_growths_stay fed left)) (dcs_fault_stays limit fed left) refused)
-
 pub string_refusal : (R : Type 0) (answer : Result R SixelError) (limit : ℕ) (fed left bytes : List ℕ) (n : ℕ) → fed ++ left ≡ bytes
     → IfErr answer (λ e. Faults e (nat_lt n (dcs_growths fed)) (dcs_fault limit fed)) → IfErr answer (λ e. Faults e (nat_lt 0 (dcs_growths bytes)) (dcs_fault limit bytes))
 string_refusal R (Ok fed) limit beginning left bytes n joined refused = tt

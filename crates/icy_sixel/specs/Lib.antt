@@ -1,5 +1,6 @@
 pub mod ImageView
 pub mod Script
 pub mod Receiver
+pub mod ReceiverCalls
 pub mod Sessions
 pub mod inside

@@ -5,7 +5,7 @@
 //! (`History`), what they draw (`Place`, `Stroke`), and when they are refused (`Payload`).
 
 ghost use Rattle.std.specs.Prelude.{◌≡◌, ◌*◌, ◌≤◌, [], length, slice_index_or, slice_set, IsOk};
-ghost use Rattle.std.specs.Prelude.{None, false};
+ghost use Rattle.std.specs.Prelude.{None};
 ghost use Rattle.std.specs.Prelude.{OnOk, OnErr, IfOk, IfErr};
 ghost use Rattle.sixel_base.specs.Color.{default_registers};
 ghost use Rattle.sixel_base.specs.Decoder.{IsSetAs, limit_of, new_decoder, origin_of};
@@ -15,6 +15,8 @@ ghost use Rattle.sixel_base.specs.Payload.{payload_registers, payload_wants};
 ghost use Rattle.icy_sixel.specs.ImageView.{image_value};
 ghost use Rattle.sixel_base.specs.OneShot.{found, found_fault, found_wants, IsFoundImage};
 ghost use Rattle.sixel_base.specs.OneShot.{AreFoundRegisters};
+ghost use Rattle.sixel_decoder.specs.DcsCalls.{begun as begun_dcs};
+ghost use Rattle.sixel_decoder.specs.PayloadCalls.{begun};
 
 mod dcs_session;
 mod stream;
@@ -195,14 +197,8 @@ impl SixelDecoder {
         ensures owner { IfOk result
             (λ session. (payload_owner session).ghost_name ≡ self.entry.ghost_name) }
         ensures registers { IfOk result (λ session. (payload_owner session).now ≡ self.old) }
-        ensures session { IfOk result (λ session. payload session ≡ record {
-          origin = origin_of self.old settings;
-          bytes = [];
-          is_refused = false;
-          writes = 0;
-          room = 0;
-          paints = 0;
-        }) }
+        ensures session { IfOk result
+            (λ session. payload session ≡ begun (origin_of self.old settings)) }
     {
         Ok(SixelStreamDecoder::begin(alloc, self, settings))
     }
@@ -223,14 +219,7 @@ impl SixelDecoder {
     pub fn begin_dcs(&mut self, alloc: Global) -> SixelDcsStreamDecoder<'_>
         ensures owner { (sequence_owner result).ghost_name ≡ self.entry.ghost_name }
         ensures registers { (sequence_owner result).now ≡ self.old }
-        ensures session { sequence result ≡ record {
-          decoder = self.old;
-          bytes = [];
-          is_refused = false;
-          writes = 0;
-          room = 0;
-          paints = 0;
-        } }
+        ensures session { sequence result ≡ begun_dcs self.old }
     {
         SixelDcsStreamDecoder::begin(alloc, self)
     }

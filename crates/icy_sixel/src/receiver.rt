@@ -1,20 +1,13 @@
 //! A decoder that owns the image that it is receiving, for a host that keeps both in one struct.
+//!
+//! The contracts of its calls are the records of `ReceiverCalls`.
 
-ghost use Rattle.std.specs.Prelude.{◌≡◌, ◌+◌, ◌*◌, ◌≤◌, ◌++◌, [], true, false, nat_lt, None};
-ghost use Rattle.std.specs.Prelude.{List, ℕ, Ok, Err, OnOk, OnErr, IfOk, IfErr, MatchBool, length};
-ghost use Rattle.std.specs.Prelude.{slice_index_or, slice_set};
+ghost use Rattle.std.specs.Prelude.{◌≡◌, [], true, false, slice_index_or, slice_set};
 ghost use Rattle.sixel_base.specs.Color.{default_registers};
-ghost use Rattle.sixel_base.specs.Decoder.{IsSetAs, limit_of, new_decoder};
-ghost use Rattle.sixel_base.specs.Fault.{Faults, IsFault};
-ghost use Rattle.sixel_base.specs.Payload.{payload_fault, payload_wants};
-ghost use Rattle.sixel_base.specs.Settings.{Settings};
-ghost use Rattle.icy_sixel.specs.ImageView.{image_value};
-ghost use Rattle.sixel_base.specs.Dcs.{dcs_fault, dcs_growths, IsSameString};
-ghost use Rattle.sixel_base.specs.OneShot.{found_fault, IsFoundImage, AreFoundRegisters, IsDecodedAs};
-ghost use Rattle.icy_sixel.specs.Receiver.{OfPayload, OfString, begun, no_image, is_open};
-ghost use Rattle.icy_sixel.specs.Receiver.{count, status, is_over, fault, failed, growths, reached_area};
-ghost use Rattle.icy_sixel.specs.Receiver.{sixels, least_count};
-ghost use Rattle.icy_sixel.specs.Receiver.{found, found_followed, end_fault, end_wants, in_payload, size};
+ghost use Rattle.sixel_base.specs.Decoder.{limit_of, new_decoder};
+ghost use Rattle.icy_sixel.specs.Receiver.{OfPayload, OfString, no_image, is_open, in_payload};
+ghost use Rattle.icy_sixel.specs.ReceiverCalls.{IsBegun, IsFed, IsFinished, IsAborted};
+ghost use Rattle.icy_sixel.specs.ReceiverCalls.{IsWriteCount, IsPaintCount, IsSizeSoFar};
 ghost use Rattle.icy_sixel.specs.inside.Receiving.{reception_of};
 
 use crate::decoder::{DcsSettings, SixelDcsFeedResult, SixelDecoder, SixelFeedResult};
@@ -118,8 +111,7 @@ impl SixelReceiver {
     ///
     /// An image that is open is given up. It takes no memory.
     pub fn begin_frame(&mut self, alloc: Global, settings: DcsSettings)
-        ensures decoder { self.new.decoder ≡ self.old.decoder }
-        ensures image { self.new.image ≡ begun (OfPayload settings) self.old.decoder }
+        ensures { IsBegun self.old self.new (OfPayload settings) }
     {
         let intake = PayloadReader::new(alloc, self.decoder.state, settings);
         self.replace_open(Open::Payload(intake));
@@ -129,8 +121,7 @@ impl SixelReceiver {
     ///
     /// An image that is open is given up. It takes no memory.
     pub fn begin_dcs(&mut self, alloc: Global)
-        ensures decoder { self.new.decoder ≡ self.old.decoder }
-        ensures image { self.new.image ≡ begun OfString self.old.decoder }
+        ensures { IsBegun self.old self.new OfString }
     {
         let progress = DcsReader::new(alloc, self.decoder.state);
         self.replace_open(Open::ControlString(progress));
@@ -146,58 +137,7 @@ impl SixelReceiver {
     /// [`SixelStreamDecoder::feed`]: crate::SixelStreamDecoder::feed
     /// [`SixelDcsStreamDecoder::feed`]: crate::SixelDcsStreamDecoder::feed
     pub fn feed(&mut self, piece: &[u8]) -> Result<Received>
-        ensures decoder { self.new.decoder ≡ self.old.decoder }
-        ensures form { self.new.image.form ≡ self.old.image.form }
-        ensures start { self.new.image.start ≡ self.old.image.start }
-        ensures bytes { is_open self.old.image.form ≡ true
-            → self.new.image.bytes ≡ self.old.image.bytes ++ piece.now }
-        ensures ok { OnOk result
-            ((self.old.image.is_refused ≡ false) × (self.new.image.is_refused ≡ false)) }
-        ensures err { OnErr result (self.new.image.is_refused ≡ true) }
-        ensures faultless { OnOk result (fault self.old.image.start.pixel_limit
-            self.new.image.form self.new.image.bytes ≡ None) }
-        ensures sound { self.old.image.is_refused ≡ false
-            → fault self.old.image.start.pixel_limit
-            self.old.image.form self.old.image.bytes ≡ None }
-        ensures over { self.old.image.is_refused ≡ false
-            → is_over self.old.image.form self.old.image.bytes ≡ true
-            → result ≡ Ok (record {
-              consumed = 0;
-              status = status self.old.image.form self.old.image.bytes;
-            }) }
-        ensures over_for_good { (more : List ℕ) → IfOk result (λ fed.
-            self.old.image.form ≡ OfString → is_over OfString self.new.image.bytes ≡ true
-            → IsSameString self.old.image.start.pixel_limit
-            self.new.image.bytes (self.new.image.bytes ++ more)) }
-        ensures consumed { IfOk result (λ fed.
-            count self.old.image.form self.old.image.bytes + fed.consumed
-            ≡ count self.new.image.form self.new.image.bytes) }
-        ensures within { IfOk result (λ fed. fed.consumed ≤ length piece.now) }
-        ensures status { IfOk result (λ fed.
-            fed.status ≡ status self.new.image.form self.new.image.bytes) }
-        ensures error { IfErr result (λ error. MatchBool self.old.image.is_refused
-            (IsFault error (failed self.old.image.form))
-            (Faults error
-            (nat_lt (growths self.old.image.form self.old.image.bytes)
-            (growths self.new.image.form self.new.image.bytes))
-            (fault self.old.image.start.pixel_limit
-            self.new.image.form self.new.image.bytes))) }
-        ensures refused { (settings : Settings) (error : SixelError)
-            → self.old.image.form ≡ OfPayload settings → result ≡ Err error
-            → self.old.image.is_refused ≡ false
-            → Faults error (payload_wants self.old.image.start.pixel_limit self.new.image.bytes)
-            (payload_fault self.old.image.start.pixel_limit self.new.image.bytes) }
-        ensures refused_for_good { (settings : Settings) (error : SixelError) (more : List ℕ)
-            → self.old.image.form ≡ OfPayload settings → result ≡ Err error
-            → self.old.image.is_refused ≡ false
-            → Faults error (payload_wants self.old.image.start.pixel_limit
-            (self.new.image.bytes ++ more))
-            (payload_fault self.old.image.start.pixel_limit (self.new.image.bytes ++ more)) }
-        ensures string_refused_for_good { (error : SixelError) (more : List ℕ)
-            → self.old.image.form ≡ OfString → result ≡ Err error
-            → self.old.image.is_refused ≡ false
-            → Faults error (nat_lt 0 (dcs_growths (self.new.image.bytes ++ more)))
-            (dcs_fault self.old.image.start.pixel_limit (self.new.image.bytes ++ more)) }
+        ensures { IsFed self.old self.new piece.now result }
     {
         match &mut self.open {
             Open::Nothing => Err(SixelError::stream_failed()),
@@ -211,38 +151,7 @@ impl SixelReceiver {
     /// A refusal closes it too, and leaves the decoder as it was. The refusals are those of the
     /// sessions, and where none is open that of [`feed`](Self::feed).
     pub fn finish(&mut self) -> Result<SixelImage>
-        ensures closed { self.new.image ≡ no_image }
-        ensures image { IfOk result (λ image. IsFoundImage self.old.image.start
-            (found self.old.image.form self.old.image.bytes) (image_value image)) }
-        ensures registers { OnOk result (AreFoundRegisters self.old.image.start
-            (found self.old.image.form self.old.image.bytes) self.new.decoder.registers) }
-        ensures as_decoded { (more : List ℕ) → IfOk result (λ image.
-            IsDecodedAs self.old.image.start
-            (found_followed self.old.image.form self.old.image.bytes more)
-            (image_value image) self.new.decoder.registers) }
-        ensures area { IfOk result (λ image.
-            image.width * image.height ≤ self.old.image.start.pixel_limit) }
-        ensures pixels { IfOk result (λ image.
-            length image.pixels.items ≡ 4 * (image.width * image.height)) }
-        ensures set { IsSetAs self.old.decoder self.new.decoder }
-        ensures faultless { OnOk result
-            (found_fault self.old.image.start.pixel_limit
-            (found self.old.image.form self.old.image.bytes) ≡ None) }
-        ensures accepted { OnOk result (self.old.image.is_refused ≡ false) }
-        ensures ended { OnOk result (end_fault self.old.image.start.pixel_limit
-            self.old.image.form self.old.image.bytes ≡ None) }
-        ensures kept { OnErr result (self.new.decoder ≡ self.old.decoder) }
-        ensures error { IfErr result (λ error. MatchBool self.old.image.is_refused
-            (IsFault error (failed self.old.image.form))
-            (Faults error
-            (end_wants self.old.image.start.pixel_limit self.old.image.form self.old.image.bytes)
-            (end_fault self.old.image.start.pixel_limit
-            self.old.image.form self.old.image.bytes))) }
-        ensures refused { (settings : Settings) (error : SixelError)
-            → self.old.image.form ≡ OfPayload settings → result ≡ Err error
-            → self.old.image.is_refused ≡ false
-            → Faults error (payload_wants self.old.image.start.pixel_limit self.old.image.bytes)
-            (payload_fault self.old.image.start.pixel_limit self.old.image.bytes) }
+        ensures { IsFinished self.old self.new result }
     {
         let open = mem::replace(&mut self.open, Open::Nothing);
         let picture = match open {
@@ -256,8 +165,7 @@ impl SixelReceiver {
 
     /// Gives up the image that is open, if one is. The decoder stays as it is.
     pub fn abort(&mut self)
-        ensures decoder { self.new.decoder ≡ self.old.decoder }
-        ensures closed { self.new.image ≡ no_image }
+        ensures { IsAborted self.old self.new }
     {
         self.replace_open(Open::Nothing);
     }
@@ -276,13 +184,7 @@ impl SixelReceiver {
     /// The bounds are those of the sessions, by
     /// [`canvas_writes`](crate::SixelStreamDecoder::canvas_writes).
     pub fn canvas_writes(&self) -> u64
-        ensures value { result ≡ self.now.image.writes }
-        ensures at_least { self.now.image.is_refused ≡ false
-            → reached_area self.now.image.form self.now.image.bytes ≤ result }
-        ensures at_most { result ≤ 3 * reached_area self.now.image.form self.now.image.bytes }
-        ensures room { self.now.image.room
-            ≤ 2 * reached_area self.now.image.form self.now.image.bytes }
-        ensures refused { self.now.image.is_refused ≡ true → result ≡ 0 }
+        ensures { IsWriteCount self.now.image result }
     {
         match &self.open {
             Open::Nothing => 0,
@@ -297,12 +199,7 @@ impl SixelReceiver {
     /// The bounds are those of the sessions, by
     /// [`canvas_paints`](crate::SixelStreamDecoder::canvas_paints).
     pub fn canvas_paints(&self) -> u64
-        ensures value { result ≡ self.now.image.paints }
-        ensures at_least { self.now.image.is_refused ≡ false
-            → least_count self.now.image.form self.now.image.bytes ≤ result }
-        ensures at_most { result ≤ 3 * reached_area self.now.image.form self.now.image.bytes
-            + 4602 * sixels self.now.image.form self.now.image.bytes }
-        ensures refused { self.now.image.is_refused ≡ true → result ≡ 0 }
+        ensures { IsPaintCount self.now.image result }
     {
         match &self.open {
             Open::Nothing => 0,
@@ -331,9 +228,7 @@ impl SixelReceiver {
     /// [`size_so_far`](crate::SixelStreamDecoder::size_so_far). `None` before the payload, after a
     /// refusal, and where no image is open. It takes no memory.
     pub fn size_so_far(&self) -> Option<(usize, usize)>
-        ensures accepted { self.now.image.is_refused ≡ false
-            → result ≡ size self.now.image.form self.now.image.bytes }
-        ensures refused { self.now.image.is_refused ≡ true → result ≡ None }
+        ensures { IsSizeSoFar self.now.image result }
     {
         match &self.open {
             Open::Nothing => None,

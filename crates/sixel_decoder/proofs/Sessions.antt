@@ -211,11 +211,20 @@ string_within (Ok r) fed piece fed' joined counted = omega (arith, counted, ap d
 string_within (Err e) fed piece fed' joined counted = tt
 
 -- what follows the end means nothing
-pub string_same : (limit : ℕ) (result : Result SixelDcsFeedResult SixelError) (fed more : List ℕ) → IfOk result (λ r. r.status ≡ dcs_status fed)
+pub same_string : (limit : ℕ) (fed more : List ℕ) → has_ended (dcs_status fed) ≡ true
+    → IsSameString limit fed (fed ++ more)
+same_string limit fed more over = record {
+  count = dcs_count_ended fed more over;
+  status = status_ended fed more over;
+  fault = dcs_fault_ended limit fed more over;
+}
+
+-- so a feed that reports the end is the last one with an effect
+pub string_same : (limit : ℕ) (result : Result SixelDcsFeedResult SixelError) (fed more : List ℕ)
+    → IfOk result (λ r. r.status ≡ dcs_status fed)
     → IfOk result (λ r. has_ended r.status ≡ true → IsSameString limit fed (fed ++ more))
 string_same limit (Ok r) fed more stands = λ ended.
-    let over : has_ended (dcs_status fed) ≡ true = ap has_ended (sym stands) ∙ ended in
-    record { count = dcs_count_ended fed more over; status = status_ended fed more over; fault = dcs_fault_ended limit fed more over }
+    same_string limit fed more (ap has_ended (sym stands) ∙ ended)
 string_same limit (Err e) fed more stands = tt
 
 -- what a beginning is refused for is what all bytes are refused for

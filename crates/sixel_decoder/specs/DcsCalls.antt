@@ -34,13 +34,13 @@ pub record IsFed (old new : DcsSession) (chunk : List ℕ)
   pub start : new.decoder ≡ old.decoder
   -- the chunk follows the bytes so far
   pub bytes : new.bytes ≡ old.bytes ++ chunk
-  -- a feed succeeds only if no earlier one failed, and the session is not rejected then
+  -- a feed succeeds only if no earlier one failed, and leaves the session open
   pub ok : OnOk result ((old.is_refused ≡ false) × (new.is_refused ≡ false))
   -- an error rejects the session
   pub err : OnErr result (new.is_refused ≡ true)
   -- bytes that were accepted have no fault
   pub faultless : OnOk result (dcs_fault old.decoder.pixel_limit new.bytes ≡ None)
-  -- nor have the bytes of a session that was not rejected before
+  -- the bytes of a session that was not rejected before have no fault either
   pub sound : old.is_refused ≡ false → dcs_fault old.decoder.pixel_limit old.bytes ≡ None
   -- after the end a feed consumes nothing and reports the same status
   pub over : old.is_refused ≡ false → has_ended (dcs_status old.bytes) ≡ true
@@ -50,16 +50,17 @@ pub record IsFed (old new : DcsSession) (chunk : List ℕ)
       → IsSameString old.decoder.pixel_limit new.bytes (new.bytes ++ more))
   -- the bytes consumed are those of the sequence
   pub consumed : IfOk result (λ fed. dcs_count old.bytes + fed.consumed ≡ dcs_count new.bytes)
-  -- and at most the chunk
+  -- they are at most the chunk
   pub within : IfOk result (λ fed. fed.consumed ≤ length chunk)
   -- the status is that of all bytes so far
   pub status : IfOk result (λ fed. fed.status ≡ dcs_status new.bytes)
-  -- an error is the first fault of all bytes so far; a rejected session always reports the same one
+  -- an error is the first fault of all bytes so far, or an allocation failed; after an error each
+  -- feed reports that the stream has failed
   pub error : IfErr result (λ error. MatchBool old.is_refused
       (IsFault error DcsStreamFailed)
       (Faults error (nat_lt (dcs_growths old.bytes) (dcs_growths new.bytes))
       (dcs_fault old.decoder.pixel_limit new.bytes)))
-  -- it stays that fault, whatever bytes follow
+  -- that stays so, whatever bytes follow
   pub refused_for_good : (error : SixelError) (more : List ℕ) → result ≡ Err error
       → old.is_refused ≡ false
       → Faults error (nat_lt 0 (dcs_growths (new.bytes ++ more)))
@@ -74,13 +75,13 @@ pub record IsFinished {A : Type 0} (image_of : A → Image) (registers_of : A �
   -- the registers are those that the payload leaves
   pub registers : IfOk result (λ done.
       AreStringRegisters session.decoder (stage session.bytes) (registers_of done))
-  -- decoding these bytes in one call has the same image
+  -- decoding these bytes in one call returns the same image
   pub found_image : IfOk result (λ done.
       IsFoundImage session.decoder (found session.bytes) (image_of done))
-  -- and leaves the same registers
+  -- it leaves the same registers
   pub found_registers : IfOk result (λ done.
       AreFoundRegisters session.decoder (found session.bytes) (registers_of done))
-  -- whatever bytes follow them
+  -- that stays so, whatever bytes follow
   pub as_decoded : (more : List ℕ) → IfOk result (λ done. IsDecodedAs session.decoder
       (found (session.bytes ++ more)) (image_of done) (registers_of done))
   -- the area is within the limit
@@ -93,15 +94,15 @@ pub record IsFinished {A : Type 0} (image_of : A → Image) (registers_of : A �
   pub faultless : OnOk result (found_fault session.decoder.pixel_limit (found session.bytes) ≡ None)
   -- a rejected session has no image
   pub accepted : OnOk result (session.is_refused ≡ false)
-  -- nor has a sequence that goes on
+  -- a sequence has an image only once it has ended
   pub ended : OnOk result (has_ended (dcs_status session.bytes) ≡ true)
-  -- an error is the fault of a sequence that goes on, or an allocation failed; a rejected session
-  -- always reports the same error
+  -- an error is that the sequence goes on, or an allocation failed; a rejected session reports that
+  -- the stream has failed
   pub error : IfErr result (λ error. MatchBool session.is_refused
       (IsFault error DcsStreamFailed)
       (Faults error (has_ended (dcs_status session.bytes)) (end_fault (dcs_status session.bytes))))
 
--- So many pixels were copied or filled to grow the canvas of the payload.
+-- This number of pixels was copied or filled to grow the canvas of the payload.
 pub record IsWriteCount (session : DcsSession) (writes : ℕ) : Type 0 where
   -- the number that contracts see of the session
   pub value : writes ≡ session.writes
@@ -114,7 +115,7 @@ pub record IsWriteCount (session : DcsSession) (writes : ℕ) : Type 0 where
   -- a rejected session has no canvas
   pub refused : session.is_refused ≡ true → writes ≡ 0
 
--- Sixels of the payload have set at most so many pixels.
+-- Sixels of the payload have set at most this number of pixels.
 pub record IsPaintCount (session : DcsSession) (paints : ℕ) : Type 0 where
   -- the number that contracts see of the session
   pub value : paints ≡ session.paints

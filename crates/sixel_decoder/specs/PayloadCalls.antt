@@ -34,13 +34,13 @@ pub record IsFed (old new : Session) (chunk : List ℕ)
   pub origin : new.origin ≡ old.origin
   -- the chunk follows the bytes so far
   pub bytes : new.bytes ≡ old.bytes ++ chunk
-  -- a feed succeeds only if no earlier one failed, and the session is not rejected then
+  -- a feed succeeds only if no earlier one failed, and leaves the session open
   pub ok : OnOk result ((old.is_refused ≡ false) × (new.is_refused ≡ false))
   -- an error rejects the session
   pub err : OnErr result (new.is_refused ≡ true)
   -- bytes that were accepted have no fault
   pub faultless : OnOk result (fed_fault old.origin.pixel_limit new.bytes ≡ None)
-  -- nor have the bytes of a session that was not rejected before
+  -- the bytes of a session that was not rejected before have no fault either
   pub sound : old.is_refused ≡ false → fed_fault old.origin.pixel_limit old.bytes ≡ None
   -- after a terminator a feed consumes nothing and reports the terminator again
   pub over : (terminator : ℕ) → old.is_refused ≡ false
@@ -48,22 +48,23 @@ pub record IsFed (old new : Session) (chunk : List ℕ)
       → result ≡ Ok (record { consumed = 0; status = Terminated terminator })
   -- the bytes consumed are those of the payload
   pub consumed : IfOk result (λ fed. count old.bytes + fed.consumed ≡ count new.bytes)
-  -- and at most the chunk
+  -- they are at most the chunk
   pub within : IfOk result (λ fed. fed.consumed ≤ length chunk)
   -- the status is that of all bytes so far
   pub status : IfOk result (λ fed. fed.status ≡ status_of (first_terminator new.bytes))
-  -- an error is the first fault of all bytes so far; a rejected session always reports the same one
+  -- an error is the first fault of all bytes so far, or an allocation failed; after an error each
+  -- feed reports that the stream has failed
   pub error : IfErr result (λ error. MatchBool old.is_refused
       (IsFault error StreamFailed)
       (Faults error
       (nat_lt (growths (settled old.bytes)) (growths (settled new.bytes)))
       (fed_fault old.origin.pixel_limit new.bytes)))
-  -- decoding these bytes in one call is rejected with that error
+  -- decoding these bytes in one call fails with that error
   pub refused : (error : SixelError) → result ≡ Err error → old.is_refused ≡ false
       → Faults error
       (payload_wants old.origin.pixel_limit new.bytes)
       (payload_fault old.origin.pixel_limit new.bytes)
-  -- whatever bytes follow them
+  -- that stays so, whatever bytes follow
   pub refused_for_good : (error : SixelError) (more : List ℕ) → result ≡ Err error
       → old.is_refused ≡ false
       → Faults error
@@ -88,19 +89,20 @@ pub record IsFinished {A : Type 0} (image_of : A → Image) (registers_of : A �
       length (image_of done).pixels ≡ 4 * ((image_of done).width * (image_of done).height))
   -- a rejected session has no image
   pub accepted : OnOk result (session.is_refused ≡ false)
-  -- an error is the first fault of the payload; a rejected session always reports the same one
+  -- an error is the first fault of the payload, or an allocation failed; a rejected session reports
+  -- that the stream has failed
   pub error : IfErr result (λ error. MatchBool session.is_refused
       (IsFault error StreamFailed)
       (Faults error
       (is_none (payload_fault session.origin.pixel_limit session.bytes))
       (payload_fault session.origin.pixel_limit session.bytes)))
-  -- decoding these bytes in one call is rejected with that error
+  -- decoding these bytes in one call fails with that error
   pub refused : (error : SixelError) → result ≡ Err error → session.is_refused ≡ false
       → Faults error
       (payload_wants session.origin.pixel_limit session.bytes)
       (payload_fault session.origin.pixel_limit session.bytes)
 
--- So many pixels were copied or filled to grow the canvas.
+-- This number of pixels was copied or filled to grow the canvas.
 pub record IsWriteCount (session : Session) (writes : ℕ) : Type 0 where
   -- the number that contracts see of the session
   pub value : writes ≡ session.writes
@@ -113,7 +115,7 @@ pub record IsWriteCount (session : Session) (writes : ℕ) : Type 0 where
   -- a rejected session has no canvas
   pub refused : session.is_refused ≡ true → writes ≡ 0
 
--- Sixels have set at most so many pixels.
+-- Sixels have set at most this number of pixels.
 pub record IsPaintCount (session : Session) (paints : ℕ) : Type 0 where
   -- the number that contracts see of the session
   pub value : paints ≡ session.paints

@@ -1,15 +1,12 @@
 //! The session that decodes one control string as it comes.
+//!
+//! The contracts of its calls are the records of `DcsCalls` in `sixel_decoder`.
 
-ghost use Rattle.std.specs.Prelude.{◌≡◌, ◌+◌, ◌*◌, ◌≤◌, ◌++◌, [], false, true, nat_lt, None};
-ghost use Rattle.std.specs.Prelude.{OnOk, OnErr, IfOk, IfErr, MatchBool, List, ℕ, length, Ok, Err};
-ghost use Rattle.sixel_base.specs.Dcs.{dcs_count, dcs_status, dcs_fault, dcs_growths};
-ghost use Rattle.sixel_base.specs.Dcs.{dcs_in_payload, dcs_size};
-ghost use Rattle.sixel_decoder.specs.Paints.{dcs_sixels, dcs_least_count};
-ghost use Rattle.sixel_base.specs.Dcs.{dcs_reached_area, has_ended, end_fault, stage};
-ghost use Rattle.sixel_base.specs.Dcs.{IsSameString, IsStringImage, AreStringRegisters};
+ghost use Rattle.std.specs.Prelude.{◌≡◌, true, false, OnErr};
+ghost use Rattle.sixel_base.specs.Dcs.{dcs_in_payload};
 ghost use Rattle.sixel_base.specs.Decoder.{IsSetAs};
-ghost use Rattle.sixel_base.specs.Fault.{Faults, IsFault, DcsStreamFailed};
-ghost use Rattle.sixel_base.specs.OneShot.{found, IsDecodedAs};
+ghost use Rattle.sixel_decoder.specs.DcsCalls.{begun, IsFed, IsFinished, IsSizeSoFar};
+ghost use Rattle.sixel_decoder.specs.DcsCalls.{IsWriteCount, IsPaintCount};
 ghost use Rattle.icy_sixel.specs.ImageView.{image_value};
 
 use crate::decoder::{SixelDcsFeedResult, SixelDecoder};
@@ -47,14 +44,7 @@ impl<'a> SixelDcsStreamDecoder<'a> {
     pub(crate) fn begin(alloc: Global, owner: &'a mut SixelDecoder) -> Self
         ensures owner { (sequence_owner result).ghost_name ≡ owner.entry.ghost_name }
         ensures registers { (sequence_owner result).now ≡ owner.old }
-        ensures session { sequence result ≡ record {
-          decoder = owner.old;
-          bytes = [];
-          is_refused = false;
-          writes = 0;
-          room = 0;
-          paints = 0;
-        } }
+        ensures session { sequence result ≡ begun owner.old }
     {
         let state = owner.state;
         SixelDcsStreamDecoder {
@@ -74,38 +64,7 @@ impl<'a> SixelDcsStreamDecoder<'a> {
         ensures owner { (sequence_owner self.new).ghost_name
             ≡ (sequence_owner self.old).ghost_name }
         ensures registers { (sequence_owner self.new).now ≡ (sequence_owner self.old).now }
-        ensures start { (sequence self.new).decoder ≡ (sequence self.old).decoder }
-        ensures bytes { (sequence self.new).bytes ≡ (sequence self.old).bytes ++ piece.now }
-        ensures ok { OnOk result
-            (((sequence self.old).is_refused ≡ false) × ((sequence self.new).is_refused ≡ false)) }
-        ensures err { OnErr result ((sequence self.new).is_refused ≡ true) }
-        ensures faultless { OnOk result
-            (dcs_fault (sequence self.old).decoder.pixel_limit (sequence self.new).bytes ≡ None) }
-        ensures sound { (sequence self.old).is_refused ≡ false
-            → dcs_fault (sequence self.old).decoder.pixel_limit (sequence self.old).bytes ≡ None }
-        ensures over { (sequence self.old).is_refused ≡ false
-            → has_ended (dcs_status (sequence self.old).bytes) ≡ true
-            → result ≡ Ok (record {
-              consumed = 0;
-              status = dcs_status (sequence self.old).bytes;
-            }) }
-        ensures over_for_good { (more : List ℕ) → IfOk result (λ fed. has_ended fed.status ≡ true
-            → IsSameString (sequence self.old).decoder.pixel_limit
-            (sequence self.new).bytes ((sequence self.new).bytes ++ more)) }
-        ensures consumed { IfOk result (λ fed. dcs_count (sequence self.old).bytes + fed.consumed
-            ≡ dcs_count (sequence self.new).bytes) }
-        ensures within { IfOk result (λ fed. fed.consumed ≤ length piece.now) }
-        ensures status { IfOk result (λ fed. fed.status ≡ dcs_status (sequence self.new).bytes) }
-        ensures error { IfErr result (λ error. MatchBool (sequence self.old).is_refused
-            (IsFault error DcsStreamFailed)
-            (Faults error (nat_lt (dcs_growths (sequence self.old).bytes)
-            (dcs_growths (sequence self.new).bytes))
-            (dcs_fault (sequence self.old).decoder.pixel_limit (sequence self.new).bytes))) }
-        ensures refused_for_good { (error : SixelError) (more : List ℕ) → result ≡ Err error
-            → (sequence self.old).is_refused ≡ false
-            → Faults error (nat_lt 0 (dcs_growths ((sequence self.new).bytes ++ more)))
-            (dcs_fault (sequence self.old).decoder.pixel_limit
-            ((sequence self.new).bytes ++ more)) }
+        ensures fed { IsFed (sequence self.old) (sequence self.new) piece.now result }
     {
         self.progress.feed(piece)
     }
@@ -116,13 +75,7 @@ impl<'a> SixelDcsStreamDecoder<'a> {
     /// The bounds are those of a payload session, by
     /// [`canvas_writes`](crate::SixelStreamDecoder::canvas_writes).
     pub fn canvas_writes(&self) -> u64
-        ensures value { result ≡ (sequence self.now).writes }
-        ensures at_least { (sequence self.now).is_refused ≡ false
-            → dcs_reached_area (sequence self.now).bytes ≤ result }
-        ensures at_most { result ≤ 3 * dcs_reached_area (sequence self.now).bytes }
-        ensures room { (sequence self.now).room
-            ≤ 2 * dcs_reached_area (sequence self.now).bytes }
-        ensures refused { (sequence self.now).is_refused ≡ true → result ≡ 0 }
+        ensures { IsWriteCount (sequence self.now) result }
     {
         self.progress.writes()
     }
@@ -133,12 +86,7 @@ impl<'a> SixelDcsStreamDecoder<'a> {
     /// The bounds are those of a payload session, by
     /// [`canvas_paints`](crate::SixelStreamDecoder::canvas_paints).
     pub fn canvas_paints(&self) -> u64
-        ensures value { result ≡ (sequence self.now).paints }
-        ensures at_least { (sequence self.now).is_refused ≡ false
-            → dcs_least_count (sequence self.now).bytes ≤ result }
-        ensures at_most { result ≤ 3 * dcs_reached_area (sequence self.now).bytes
-            + 4602 * dcs_sixels (sequence self.now).bytes }
-        ensures refused { (sequence self.now).is_refused ≡ true → result ≡ 0 }
+        ensures { IsPaintCount (sequence self.now) result }
     {
         self.progress.paints()
     }
@@ -159,9 +107,7 @@ impl<'a> SixelDcsStreamDecoder<'a> {
     /// [`size_so_far`](crate::SixelStreamDecoder::size_so_far). `None` before the payload and after
     /// a refusal. It takes no memory.
     pub fn size_so_far(&self) -> Option<(usize, usize)>
-        ensures accepted { (sequence self.now).is_refused ≡ false
-            → result ≡ dcs_size (sequence self.now).bytes }
-        ensures refused { (sequence self.now).is_refused ≡ true → result ≡ None }
+        ensures { IsSizeSoFar (sequence self.now) result }
     {
         self.progress.size_so_far()
     }
@@ -174,25 +120,10 @@ impl<'a> SixelDcsStreamDecoder<'a> {
     /// the image of the payload that came: as [`decode`](SixelDecoder::decode) of the bytes that were
     /// fed, whatever comes after them. A refusal leaves the decoder as it was.
     pub fn finish(self) -> Result<SixelImage>
-        ensures image { IfOk result (λ image. IsStringImage (sequence self.entry).decoder
-            (stage (sequence self.entry).bytes) (image_value image)) }
-        ensures registers { OnOk result (AreStringRegisters (sequence self.entry).decoder
-            (stage (sequence self.entry).bytes) self.exit.0.now.registers) }
-        ensures as_decoded { (more : List ℕ) → IfOk result (λ image.
-            IsDecodedAs (sequence self.entry).decoder (found ((sequence self.entry).bytes ++ more))
-            (image_value image) self.exit.0.now.registers) }
-        ensures area { IfOk result (λ image.
-            image.width * image.height ≤ (sequence self.entry).decoder.pixel_limit) }
-        ensures pixels { IfOk result (λ image.
-            length image.pixels.items ≡ 4 * (image.width * image.height)) }
+        ensures finished { IsFinished image_value (λ _. self.exit.0.now.registers)
+            (sequence self.entry) result }
         ensures set { IsSetAs (sequence_owner self.entry).now self.exit.0.now }
-        ensures accepted { OnOk result ((sequence self.entry).is_refused ≡ false) }
-        ensures ended { OnOk result (has_ended (dcs_status (sequence self.entry).bytes) ≡ true) }
         ensures kept { OnErr result (self.exit.0.now ≡ (sequence_owner self.entry).now) }
-        ensures error { IfErr result (λ error. MatchBool (sequence self.entry).is_refused
-            (IsFault error DcsStreamFailed)
-            (Faults error (has_ended (dcs_status (sequence self.entry).bytes))
-            (end_fault (dcs_status (sequence self.entry).bytes)))) }
     {
         let SixelDcsStreamDecoder { owner, progress } = self;
         let picture = progress.finish()?;

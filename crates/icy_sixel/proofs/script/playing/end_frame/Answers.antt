@@ -7,8 +7,12 @@ pub returns-in-Finish : goal.returns-in-Finish
 returns-in-Finish c = λ bytes whole sound counted stands.
     let told = c.finish.ensures in
     let session = c.args.session in
-    rw c.in-Finish.is (frame_finished c.finish.result _ session.owner.now _ session.intake.origin session.intake.bytes bytes _ _ c.finished.ensures c.requires.origin whole counted stands told.image told.registers told.faultless
-    (rw c.requires.accepted at told.error) told.set told.kept)
+    let done = told.finished in
+    rw c.in-Finish.is
+    (frame_finished c.finish.result _ session.owner.now _ session.intake.origin
+    session.intake.bytes bytes _ _ c.finished.ensures c.requires.origin whole counted stands
+    done.image done.registers done.faultless (rw c.requires.accepted at done.error)
+    told.set told.kept)
 
 pub returns-in-Abort : goal.returns-in-Abort
 returns-in-Abort c = λ bytes whole sound counted stands. rw c.in-Abort.is (sound, counted, ap Payload stands, c.abort.ensures)

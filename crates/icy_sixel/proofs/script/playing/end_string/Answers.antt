@@ -7,8 +7,11 @@ pub returns-in-Finish : goal.returns-in-Finish
 returns-in-Finish c = λ bytes whole sound counted stands.
     let told = c.finish.ensures in
     let session = c.args.session in
-    rw c.in-Finish.is (string_finished c.finish.result _ session.owner.now _ session.progress.bytes bytes _ _ c.finished.ensures whole sound counted stands
-    (rw c.requires.start at told.as_decoded) told.ended (rw c.requires.accepted at told.error) told.set told.kept)
+    let done = told.finished in
+    rw c.in-Finish.is
+    (string_finished c.finish.result _ session.owner.now _ session.progress.bytes bytes _ _
+    c.finished.ensures whole sound counted stands (rw c.requires.start at done.as_decoded)
+    done.ended (rw c.requires.accepted at done.error) told.set told.kept)
 
 pub returns-in-Abort : goal.returns-in-Abort
 returns-in-Abort c = λ bytes whole sound counted stands. rw c.in-Abort.is (sound, counted, ap Dcs stands, c.abort.ensures)

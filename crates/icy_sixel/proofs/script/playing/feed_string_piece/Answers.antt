@@ -5,7 +5,16 @@ use Rattle.icy_sixel.proofs.script.playing.feed_string_piece.Goals as goal
 pub overflow_add-read : goal.overflow_add-read
 overflow_add-read c =
     let before = c.args.session.now.progress.bytes in
-    omega (arith, dcs_count-fits c.feed.new.self.progress.bytes, ap length c.in_ok-read.ensures.bytes, length-append before c.args.piece.now, c.in_ok-read.ensures.consumed, c.requires.room, c.requires.counted)
+    let fed = c.in_ok-read.ensures.fed in
+    omega (
+      arith,
+      dcs_count-fits c.feed.new.self.progress.bytes,
+      ap length fed.bytes,
+      length-append before c.args.piece.now,
+      fed.consumed,
+      c.requires.room,
+      c.requires.counted,
+    )
 
 pub returns-clause-consumed : goal.returns-clause-consumed
-returns-clause-consumed c = omega (arith, c.in_ok-read.ensures.consumed, c.requires.counted)
+returns-clause-consumed c = omega (arith, c.in_ok-read.ensures.fed.consumed, c.requires.counted)

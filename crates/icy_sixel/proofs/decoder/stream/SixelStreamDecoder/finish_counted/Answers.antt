@@ -25,19 +25,25 @@ few limit bytes sound =
 pub with_packed-count-requires : goal.with_packed-count-requires
 with_packed-count-requires c =
     let session = c.args.self.intake in
-    omega (arith, fewer _ session.origin session.bytes c.in_ok-image.ensures.image, few _ session.bytes c.in_ok-image.ensures.faultless, settled-area session.bytes, c.canvas_writes-writes.ensures.at_most)
+    let done = c.in_ok-image.ensures.finished in
+    omega (
+      arith,
+      fewer _ session.origin session.bytes done.image,
+      few _ session.bytes done.faultless,
+      settled-area session.bytes,
+      c.canvas_writes-writes.ensures.at_most,
+    )
 
 pub returns-clause-at_most : goal.returns-clause-at_most
 returns-clause-at_most c =
     let session = c.args.self.intake in
-    omega (arith, fewer _ session.origin session.bytes c.in_ok-image.ensures.image, settled-area session.bytes, c.canvas_writes-writes.ensures.at_most)
-
-pub returns-clause-image : goal.returns-clause-image
-returns-clause-image c = c.in_ok-image.ensures.image
+    omega (
+      arith,
+      fewer _ session.origin session.bytes c.in_ok-image.ensures.finished.image,
+      settled-area session.bytes,
+      c.canvas_writes-writes.ensures.at_most,
+    )
 
 pub returns-clause-counted : goal.returns-clause-counted
 returns-clause-counted c =
     c.with_packed-count.ensures ∙ ap (λ (n : ℕ). n + c.in_ok-image.image.width * c.in_ok-image.image.height) c.canvas_writes-writes.ensures.value
-
-pub returns-clause-registers : goal.returns-clause-registers
-returns-clause-registers c = c.in_ok-image.ensures.registers

@@ -1,0 +1,179 @@
+-- What the calls of a receiver do, by the receiver before and after. Each field is one fact. The
+-- facts are those of a payload session or a DCS session, in the words that Receiver has for both.
+use Rattle.std.specs.Prelude.{ℕ, ◌≡◌, ◌+◌, ◌*◌, ◌≤◌, ◌++◌, List, length, true, false}
+use Rattle.std.specs.Prelude.{nat_lt, Option, None, Result, Ok, Err}
+use Rattle.std.specs.Prelude.{OnOk, OnErr, IfOk, IfErr, MatchBool}
+use Rattle.sixel_base.specs.declared.error.SixelError.{SixelError}
+use Rattle.sixel_base.specs.Dcs.{dcs_fault, dcs_growths, IsSameString}
+use Rattle.sixel_base.specs.Decoder.{IsSetAs}
+use Rattle.sixel_base.specs.Fault.{Faults, IsFault}
+use Rattle.sixel_base.specs.OneShot.{found_fault, IsFoundImage, AreFoundRegisters, IsDecodedAs}
+use Rattle.sixel_base.specs.Payload.{payload_fault, payload_wants}
+use Rattle.sixel_base.specs.Settings.{Settings}
+use Rattle.icy_sixel.specs.ImageView.{image_value}
+use Rattle.icy_sixel.specs.Receiver.{Form, Receiver, Reception, OfPayload, OfString, no_image}
+use Rattle.icy_sixel.specs.Receiver as receivers
+use Rattle.icy_sixel.specs.declared.receiver.Received.{Received}
+use Rattle.icy_sixel.specs.declared.sixel_image.SixelImage.{SixelImage}
+
+-- The receiver opens an image of this form, and aborts the one that was open.
+pub record IsBegun (old new : Receiver) (form : Form) : Type 0 where
+  -- the decoder stays
+  pub decoder : new.decoder ≡ old.decoder
+  -- the image was fed nothing, and begins from the decoder
+  pub image : new.image ≡ receivers.begun form old.decoder
+
+-- The open image reads the chunk, or is rejected.
+pub record IsFed (old new : Receiver) (chunk : List ℕ)
+    (result : Result Received SixelError) : Type 0 where
+  -- the decoder stays
+  pub decoder : new.decoder ≡ old.decoder
+  -- a payload stays a payload, and a DCS sequence a DCS sequence
+  pub form : new.image.form ≡ old.image.form
+  -- the decoder that the image began from stays
+  pub start : new.image.start ≡ old.image.start
+  -- the chunk follows the bytes so far
+  pub bytes : receivers.is_open old.image.form ≡ true
+      → new.image.bytes ≡ old.image.bytes ++ chunk
+  -- a feed succeeds only if no earlier one failed, and leaves the image open
+  pub ok : OnOk result ((old.image.is_refused ≡ false) × (new.image.is_refused ≡ false))
+  -- an error rejects the image
+  pub err : OnErr result (new.image.is_refused ≡ true)
+  -- bytes that were accepted have no fault
+  pub faultless : OnOk result
+      (receivers.fault old.image.start.pixel_limit new.image.form new.image.bytes ≡ None)
+  -- the bytes of an image that was not rejected before have no fault either
+  pub sound : old.image.is_refused ≡ false
+      → receivers.fault old.image.start.pixel_limit old.image.form old.image.bytes ≡ None
+  -- after the end a feed consumes nothing and reports the same status
+  pub over : old.image.is_refused ≡ false
+      → receivers.is_over old.image.form old.image.bytes ≡ true
+      → result ≡ Ok (record {
+        consumed = 0;
+        status = receivers.status old.image.form old.image.bytes;
+      })
+  -- no bytes that follow the end change what a DCS sequence means
+  pub over_for_good : (more : List ℕ) → IfOk result (λ fed. old.image.form ≡ OfString
+      → receivers.is_over OfString new.image.bytes ≡ true
+      → IsSameString old.image.start.pixel_limit new.image.bytes (new.image.bytes ++ more))
+  -- the bytes consumed are those of the image
+  pub consumed : IfOk result (λ fed.
+      receivers.count old.image.form old.image.bytes + fed.consumed
+      ≡ receivers.count new.image.form new.image.bytes)
+  -- they are at most the chunk
+  pub within : IfOk result (λ fed. fed.consumed ≤ length chunk)
+  -- the status is that of all bytes so far
+  pub status : IfOk result (λ fed.
+      fed.status ≡ receivers.status new.image.form new.image.bytes)
+  -- an error is the first fault of all bytes so far, or an allocation failed; after an error each
+  -- feed reports that the stream has failed
+  pub error : IfErr result (λ error. MatchBool old.image.is_refused
+      (IsFault error (receivers.failed old.image.form))
+      (Faults error
+      (nat_lt (receivers.growths old.image.form old.image.bytes)
+      (receivers.growths new.image.form new.image.bytes))
+      (receivers.fault old.image.start.pixel_limit new.image.form new.image.bytes)))
+  -- decoding the bytes of a payload in one call fails with that error
+  pub refused : (settings : Settings) (error : SixelError)
+      → old.image.form ≡ OfPayload settings → result ≡ Err error → old.image.is_refused ≡ false
+      → Faults error
+      (payload_wants old.image.start.pixel_limit new.image.bytes)
+      (payload_fault old.image.start.pixel_limit new.image.bytes)
+  -- that stays so, whatever bytes follow
+  pub refused_for_good : (settings : Settings) (error : SixelError) (more : List ℕ)
+      → old.image.form ≡ OfPayload settings → result ≡ Err error → old.image.is_refused ≡ false
+      → Faults error
+      (payload_wants old.image.start.pixel_limit (new.image.bytes ++ more))
+      (payload_fault old.image.start.pixel_limit (new.image.bytes ++ more))
+  -- a DCS sequence keeps its fault, whatever bytes follow
+  pub string_refused_for_good : (error : SixelError) (more : List ℕ)
+      → old.image.form ≡ OfString → result ≡ Err error → old.image.is_refused ≡ false
+      → Faults error (nat_lt 0 (dcs_growths (new.image.bytes ++ more)))
+      (dcs_fault old.image.start.pixel_limit (new.image.bytes ++ more))
+
+-- The open image ends, and the decoder has the registers after it; or the call reports an error.
+pub record IsFinished (old new : Receiver) (result : Result SixelImage SixelError) : Type 0 where
+  -- no image is open then
+  pub closed : new.image ≡ no_image
+  -- the image is that of its bytes
+  pub image : IfOk result (λ image. IsFoundImage old.image.start
+      (receivers.found old.image.form old.image.bytes) (image_value image))
+  -- the registers are those that its payload leaves
+  pub registers : OnOk result (AreFoundRegisters old.image.start
+      (receivers.found old.image.form old.image.bytes) new.decoder.registers)
+  -- decoding in one call returns this image, whatever bytes follow a DCS sequence
+  pub as_decoded : (more : List ℕ) → IfOk result (λ image. IsDecodedAs old.image.start
+      (receivers.found_followed old.image.form old.image.bytes more)
+      (image_value image) new.decoder.registers)
+  -- the area is within the limit
+  pub area : IfOk result (λ image.
+      image.width * image.height ≤ old.image.start.pixel_limit)
+  -- each pixel takes four bytes
+  pub pixels : IfOk result (λ image.
+      length image.pixels.items ≡ 4 * (image.width * image.height))
+  -- crop and limit of the decoder stay
+  pub set : IsSetAs old.decoder new.decoder
+  -- a payload with an image has no fault
+  pub faultless : OnOk result (found_fault old.image.start.pixel_limit
+      (receivers.found old.image.form old.image.bytes) ≡ None)
+  -- a rejected image is never returned
+  pub accepted : OnOk result (old.image.is_refused ≡ false)
+  -- a DCS sequence has an image only once it has ended
+  pub ended : OnOk result (receivers.end_fault old.image.start.pixel_limit
+      old.image.form old.image.bytes ≡ None)
+  -- an error leaves the decoder as it was
+  pub kept : OnErr result (new.decoder ≡ old.decoder)
+  -- an error is the fault of the bytes, or an allocation failed; a rejected image reports that the
+  -- stream has failed
+  pub error : IfErr result (λ error. MatchBool old.image.is_refused
+      (IsFault error (receivers.failed old.image.form))
+      (Faults error
+      (receivers.end_wants old.image.start.pixel_limit old.image.form old.image.bytes)
+      (receivers.end_fault old.image.start.pixel_limit old.image.form old.image.bytes)))
+  -- decoding the bytes of a payload in one call fails with that error
+  pub refused : (settings : Settings) (error : SixelError)
+      → old.image.form ≡ OfPayload settings → result ≡ Err error → old.image.is_refused ≡ false
+      → Faults error
+      (payload_wants old.image.start.pixel_limit old.image.bytes)
+      (payload_fault old.image.start.pixel_limit old.image.bytes)
+
+-- The open image is aborted.
+pub record IsAborted (old new : Receiver) : Type 0 where
+  -- the decoder stays
+  pub decoder : new.decoder ≡ old.decoder
+  -- no image is open then
+  pub closed : new.image ≡ no_image
+
+-- This number of pixels was copied or filled to grow the canvas of the open image.
+pub record IsWriteCount (image : Reception) (writes : ℕ) : Type 0 where
+  -- the number that contracts see of the image
+  pub value : writes ≡ image.writes
+  -- at least once the painted area
+  pub at_least : image.is_refused ≡ false
+      → receivers.reached_area image.form image.bytes ≤ writes
+  -- at most three times the painted area
+  pub at_most : writes ≤ 3 * receivers.reached_area image.form image.bytes
+  -- the rows have capacity for at most twice the painted area
+  pub room : image.room ≤ 2 * receivers.reached_area image.form image.bytes
+  -- a rejected image has no canvas
+  pub refused : image.is_refused ≡ true → writes ≡ 0
+
+-- Sixels of the open image have set at most this number of pixels.
+pub record IsPaintCount (image : Reception) (paints : ℕ) : Type 0 where
+  -- the number that contracts see of the image
+  pub value : paints ≡ image.paints
+  -- at least what the closed sixels count
+  pub at_least : image.is_refused ≡ false
+      → receivers.least_count image.form image.bytes ≤ paints
+  -- at most three times the painted area, and a constant for each closed sixel
+  pub at_most : paints ≤ 3 * receivers.reached_area image.form image.bytes
+      + 4602 * receivers.sixels image.form image.bytes
+  -- a rejected image has no canvas
+  pub refused : image.is_refused ≡ true → paints ≡ 0
+
+-- The open image has this size so far.
+pub record IsSizeSoFar (image : Reception) (answer : Option (ℕ × ℕ)) : Type 0 where
+  -- width and height of the closed sixels and raster attributes, once the payload has begun
+  pub accepted : image.is_refused ≡ false → answer ≡ receivers.size image.form image.bytes
+  -- a rejected image is never returned
+  pub refused : image.is_refused ≡ true → answer ≡ None
