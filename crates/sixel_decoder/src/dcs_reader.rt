@@ -1,4 +1,6 @@
 //! The reader of a DCS sequence in chunks: the bytes so far, and the parser that has read them.
+//!
+//! The contracts of its calls are the records of `DcsCalls`.
 
 ghost use Rattle.std.specs.Prelude.{◌≡◌, true, false};
 ghost use Rattle.sixel_base.specs.Dcs.{dcs_in_payload, has_come};

@@ -1,4 +1,6 @@
 //! The reader of a payload in chunks: the bytes so far, and the parser that has read them.
+//!
+//! The contracts of its calls are the records of `PayloadCalls`.
 
 ghost use Rattle.std.specs.Prelude.{◌≡◌, None, Some};
 ghost use Rattle.sixel_base.specs.Decoder.{origin_of};
