@@ -35,22 +35,27 @@ returns-in_err-feed-clause-faultless c = grind arith
 pub returns-in_err-feed-clause-refused : goal.returns-in_err-feed-clause-refused
 returns-in_err-feed-clause-refused c =
     let p = err_from_is_err_and c.from_residual.result c.from_residual.ensures.1 in
+    let fed = c.in_err-feed.ensures.fed in
     let waits = sym c.pieces.invariant.known ∙ goes_on c.pieces.fed.status c.if-not-has_ended.ensures in
     let cut : Cut c.args.piece_len c.args.bytes.now c.feed.new.self.progress.bytes c.split_piece.result.1.now =
-    cut_more _ _ _ _ _ _ _ c.split_piece.ensures.piece c.split_piece.ensures.after c.in_err-feed.ensures.bytes waits c.pieces.invariant.cut in
-    let refused = c.in_err-feed.ensures.refused_for_good c.in_err-feed.field-0.0 c.split_piece.result.1.now refl c.pieces.invariant.accepted in
+    cut_more _ _ _ _ _ _ _ c.split_piece.ensures.piece c.split_piece.ensures.after
+    fed.bytes waits c.pieces.invariant.cut in
+    let refused = fed.refused_for_good c.in_err-feed.field-0.0 c.split_piece.result.1.now refl
+    c.pieces.invariant.accepted in
     rw (p.1, p.2) (refused_early _ _ c.args.session.now.progress.decoder.pixel_limit c.args.bytes.now c.requires.some (rw (cut_joined _ _ _ _ cut, c.pieces.invariant.start) at refused))
 
 pub together-fed-requires : goal.together-fed-requires
 together-fed-requires c =
+    let fed = c.in_ok-feed.ensures.fed in
     let waits = sym c.pieces.invariant.known ∙ goes_on c.pieces.fed.status c.if-not-has_ended.ensures in
     let cut : Cut c.args.piece_len c.args.bytes.now c.feed.new.self.progress.bytes c.split_piece.result.1.now =
-    cut_more _ _ _ _ _ _ _ c.split_piece.ensures.piece c.split_piece.ensures.after c.in_ok-feed.ensures.bytes waits c.pieces.invariant.cut in
+    cut_more _ _ _ _ _ _ _ c.split_piece.ensures.piece c.split_piece.ensures.after
+    fed.bytes waits c.pieces.invariant.cut in
     omega (
       arith,
       c.pieces.invariant.within,
-      c.in_ok-feed.ensures.within,
-      ap length c.in_ok-feed.ensures.bytes,
+      fed.within,
+      ap length fed.bytes,
       length-append c.pieces.session.progress.bytes c.split_piece.result.0.now,
       begins_fits c.feed.new.self.progress.bytes c.args.bytes.now (cut_begins _ _ _ _ cut),
     )
@@ -58,16 +63,18 @@ together-fed-requires c =
 pub pieces-preserved : goal.pieces-preserved
 pieces-preserved c =
     let before = c.pieces.invariant in
-    let s = c.in_ok-feed.ensures in
+    let told = c.in_ok-feed.ensures in
+    let s = told.fed in
     let fed : List ℕ = c.feed.new.self.progress.bytes in
     let after : List ℕ = c.split_piece.result.1.now in
     let waits = sym c.pieces.invariant.known ∙ goes_on c.pieces.fed.status c.if-not-has_ended.ensures in
     let cut : Cut c.args.piece_len c.args.bytes.now c.feed.new.self.progress.bytes c.split_piece.result.1.now =
-    cut_more _ _ _ _ _ _ _ c.split_piece.ensures.piece c.split_piece.ensures.after c.in_ok-feed.ensures.bytes waits c.pieces.invariant.cut in
+    cut_more _ _ _ _ _ _ _ c.split_piece.ensures.piece c.split_piece.ensures.after
+    s.bytes waits c.pieces.invariant.cut in
     let all = c.together-fed.ensures in
     record {
-      owner = s.owner ∙ before.owner;
-      kept = s.registers ∙ before.kept;
+      owner = told.owner ∙ before.owner;
+      kept = told.registers ∙ before.kept;
       start = s.start ∙ before.start;
       accepted = s.ok.1;
       cut = cut;

@@ -21,19 +21,24 @@ returns-in_err-image c = grind arith
 
 -- the bytes that were fed are the string that all begin with
 same : (c : goal.In_ok-image) → IsSameString c.args.decoder.now.pixel_limit c.feed_pieces.new.session.progress.bytes c.args.bytes.now
-same c = rw c.begin_dcs-session.ensures.session at (c.in_ok-fed.ensures.over (ap has_ended c.in_ok-fed.ensures.status ∙ c.in_ok-image.ensures.ended))
+same c =
+    let fed = c.in_ok-fed.ensures in
+    rw c.begin_dcs-session.ensures.session
+    at (fed.over (ap has_ended fed.status ∙ c.in_ok-image.ensures.finished.ended))
 
 pub returns-clause-image : goal.returns-clause-image
 returns-clause-image c =
     let s = c.in_ok-fed.ensures in
     let begins : Begins _ c.args.bytes.now = pieces_begin _ _ _ s.pieces in
-    (rw (s.start, c.begin_dcs-session.ensures.session, begins.joined) at (c.in_ok-image.ensures.as_decoded begins.rest)).1
+    let decoded = c.in_ok-image.ensures.finished.as_decoded begins.rest in
+    (rw (s.start, c.begin_dcs-session.ensures.session, begins.joined) at decoded).1
 
 pub returns-clause-registers : goal.returns-clause-registers
 returns-clause-registers c =
     let s = c.in_ok-fed.ensures in
     let begins : Begins _ c.args.bytes.now = pieces_begin _ _ _ s.pieces in
-    let left = (rw (s.start, c.begin_dcs-session.ensures.session, begins.joined) at (c.in_ok-image.ensures.as_decoded begins.rest)).2 in
+    let decoded = c.in_ok-image.ensures.finished.as_decoded begins.rest in
+    let left = (rw (s.start, c.begin_dcs-session.ensures.session, begins.joined) at decoded).2 in
     search (rules, left)
 
 pub returns-clause-set : goal.returns-clause-set
@@ -49,8 +54,10 @@ pub returns-clause-status : goal.returns-clause-status
 returns-clause-status c = c.in_ok-fed.ensures.status ∙ sym (same c).status
 
 pub returns-clause-ended : goal.returns-clause-ended
-returns-clause-ended c = ap has_ended (same c).status ∙ c.in_ok-image.ensures.ended
+returns-clause-ended c = ap has_ended (same c).status ∙ c.in_ok-image.ensures.finished.ended
 
 pub returns-clause-faultless : goal.returns-clause-faultless
 returns-clause-faultless c =
-    ended_faultless c.args.decoder.now.pixel_limit c.args.bytes.now c.requires.some (ap has_ended (same c).status ∙ c.in_ok-image.ensures.ended) ((same c).fault ∙ (rw c.begin_dcs-session.ensures.session at c.in_ok-fed.ensures.faultless))
+    ended_faultless c.args.decoder.now.pixel_limit c.args.bytes.now c.requires.some
+    (ap has_ended (same c).status ∙ c.in_ok-image.ensures.finished.ended)
+    ((same c).fault ∙ (rw c.begin_dcs-session.ensures.session at c.in_ok-fed.ensures.faultless))

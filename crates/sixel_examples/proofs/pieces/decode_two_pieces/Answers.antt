@@ -2,5 +2,9 @@ use Rattle.sixel_examples.proofs.pieces.decode_two_pieces.Goals as goal
 
 pub returns-clause-image : goal.returns-clause-image
 returns-clause-image c = λ image is.
-    let joined = rw (c.feed-2.ensures.origin, c.feed.ensures.origin, c.feed-2.ensures.bytes, c.feed.ensures.bytes, c.in_ok-session.ensures.session) at c.finish.ensures.image in
+    let first = c.feed.ensures.fed in
+    let second = c.feed-2.ensures.fed in
+    let session = c.in_ok-session.ensures.session in
+    let joined = rw (second.origin, first.origin, second.bytes, first.bytes, session)
+    at c.finish.ensures.finished.image in
     rw is at joined
