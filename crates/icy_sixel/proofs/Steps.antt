@@ -5,10 +5,15 @@ use Rattle.icy_sixel.specs.declared.script.Step.{Step}
 use Rattle.icy_sixel.specs.declared.script.Outcome.{Outcome}
 use Rattle.icy_sixel.specs.Script.{IsOutcome, AreOutcomes}
 
-pub AreOutcomes-push : (before between after : DecoderState) (steps : List Step) (outcomes : List Outcome) (step : Step) (outcome : Outcome)
+pub AreOutcomes-push : (before between after : DecoderState) (steps : List Step)
+    (outcomes : List Outcome) (step : Step) (outcome : Outcome)
     → AreOutcomes before steps outcomes between → IsOutcome between step outcome after
     → AreOutcomes before (steps ++ step ∷ []) (outcomes ++ outcome ∷ []) after
-AreOutcomes-push before between after [] [] step outcome are is = (after, subst (λ (w : DecoderState). IsOutcome w step outcome after) are is, refl)
+AreOutcomes-push before between after [] [] step outcome are is = (
+  after,
+  subst (λ (w : DecoderState). IsOutcome w step outcome after) are is,
+  refl,
+)
 AreOutcomes-push before between after [] (o ∷ outcomes) step outcome are is = absurd are
 AreOutcomes-push before between after (s ∷ steps) [] step outcome are is = absurd are
 AreOutcomes-push before between after (s ∷ steps) (o ∷ outcomes) step outcome are is =

@@ -1,5 +1,6 @@
--- What a decoder answers, apart from where its bytes lie: the pixels, sizes, pixel shape and background mode of an image. Which image that
--- is, by DEC's manual, is defined in Payload of sixel_base.
+-- What a decoder answers, apart from where its bytes lie: the pixels, sizes, pixel shape and
+-- background mode of an image. Which image that is, by DEC's manual, is defined in Payload of
+-- sixel_base.
 use Rattle.sixel_base.specs.Payload.{Image}
 use Rattle.icy_sixel.specs.declared.sixel_image.SixelImage.{SixelImage}
 

@@ -1,5 +1,6 @@
--- What contracts see of a decoder that owns the image it is receiving: the decoder, and the image that is open. What the bytes of an image
--- mean is told by the words of both sessions, of a payload's and of a control string's; how the bytes were cut occurs nowhere in it.
+-- What contracts see of a decoder that owns the image it is receiving: the decoder, and the image
+-- that is open. What the bytes of an image mean is told by the words of both sessions, of a
+-- payload's and of a control string's; how the bytes were cut occurs nowhere in it.
 use Rattle.std.specs.Prelude.{ℕ, Bool, true, false, List, [], ◌++◌, Option, Some, None, is_none}
 use Rattle.sixel_base.specs.Bytes.{first_terminator, is_terminated}
 use Rattle.sixel_base.specs.Fault.{Fault, StreamFailed, DcsStreamFailed}
@@ -12,7 +13,8 @@ use Rattle.sixel_base.specs.Settings.{Settings}
 use Rattle.sixel_base.specs.declared.status.SixelFeedStatus.TheVariants.{NeedMoreData}
 use Rattle.icy_sixel.specs.declared.script.Status.{Status}
 use Rattle.icy_sixel.specs.declared.script.Status.TheVariants as statuses
-use Rattle.sixel_base.specs.Dcs.{dcs_count, dcs_status, dcs_fault, dcs_growths, dcs_reached_area, dcs_in_payload, dcs_size, has_ended}
+use Rattle.sixel_base.specs.Dcs.{dcs_count, dcs_status, dcs_fault, dcs_growths, dcs_reached_area}
+use Rattle.sixel_base.specs.Dcs.{dcs_in_payload, dcs_size, has_ended}
 use Rattle.sixel_base.specs.Dcs as strings
 use Rattle.sixel_base.specs.Status.{status_of}
 use Rattle.sixel_base.specs.OneShot.{Found, Payload, NoPayload}
@@ -26,8 +28,9 @@ pub data Form : Type 0 where
   OfPayload : Settings → Form
   OfString : Form
 
--- The image that is open: its form, what the decoder kept that it began from, the bytes that it was fed, whether a feed was refused,
--- how many pixels were written to grow its canvas, for how many the rows of the canvas have room, and how many sixels have painted, at most.
+-- The image that is open: its form, what the decoder kept that it began from, the bytes that it was
+-- fed, whether a feed was refused, how many pixels were written to grow its canvas, for how many
+-- the rows of the canvas have room, and how many sixels have painted, at most.
 pub record Reception : Type 0 where
   pub form : Form
   pub start : DecoderState
@@ -44,11 +47,27 @@ pub record Receiver : Type 0 where
 
 -- where none is open, all is refused
 abbrev pub no_image : Reception
-no_image = record { form = Nothing; start = new_decoder; bytes = []; is_refused = true; writes = 0; room = 0; paints = 0 }
+no_image = record {
+  form = Nothing;
+  start = new_decoder;
+  bytes = [];
+  is_refused = true;
+  writes = 0;
+  room = 0;
+  paints = 0;
+}
 
 -- an image that was fed nothing
 abbrev pub begun : Form → DecoderState → Reception
-begun form decoder = record { form = form; start = decoder; bytes = []; is_refused = false; writes = 0; room = 0; paints = 0 }
+begun form decoder = record {
+  form = form;
+  start = decoder;
+  bytes = [];
+  is_refused = false;
+  writes = 0;
+  room = 0;
+  paints = 0;
+}
 
 abbrev pub is_open : Form → Bool
 is_open Nothing = false

@@ -1,5 +1,6 @@
--- What a list of steps on one decoder comes to, by the meaning of the bytes of each step. A step relates the decoder before it to an
--- outcome and the decoder after it, and a run joins steps. This library's own: how bytes are cut into pieces occurs nowhere in it.
+-- What a list of steps on one decoder comes to, by the meaning of the bytes of each step. A step
+-- relates the decoder before it to an outcome and the decoder after it, and a run joins steps. This
+-- library's own: how bytes are cut into pieces occurs nowhere in it.
 use Rattle.std.specs.Prelude.{ℕ, ◌≡◌, Bool, nat_lt, ◌||◌, List, [], ◌∷◌, Option, None, is_none}
 use Rattle.std.specs.Option.{option_or}
 use Rattle.sixel_base.specs.Bytes.{count, first_terminator}
@@ -16,14 +17,17 @@ use Rattle.icy_sixel.specs.declared.script.Step.TheVariants as steps
 use Rattle.icy_sixel.specs.declared.script.Status.{Status}
 use Rattle.icy_sixel.specs.declared.script.Status.TheVariants as statuses
 use Rattle.icy_sixel.specs.declared.script.Outcome.{Outcome}
-use Rattle.icy_sixel.specs.declared.script.Outcome.TheVariants.{Reset, Changed, Failed, Finished, Aborted, Decoded}
+use Rattle.icy_sixel.specs.declared.script.Outcome.TheVariants.{Reset, Changed, Failed, Finished}
+use Rattle.icy_sixel.specs.declared.script.Outcome.TheVariants.{Aborted, Decoded}
 use Rattle.sixel_base.specs.Dcs.{dcs_count, dcs_status, dcs_fault, dcs_growths, end_fault}
 use Rattle.sixel_base.specs.Status.{status_of}
 use Rattle.icy_sixel.specs.ImageView.{image_value}
-use Rattle.sixel_base.specs.OneShot.{Found, Payload, found, found_fault, found_wants, IsFoundImage, AreFoundRegisters}
+use Rattle.sixel_base.specs.OneShot.{Found, Payload, found, found_fault, found_wants, IsFoundImage}
+use Rattle.sixel_base.specs.OneShot.{AreFoundRegisters}
 
--- What bytes mean that are fed to a session: how many of them are its own, how they stand, what is wrong with them while it goes on and
--- once it is finished, whether their payload has a closed sixel or raster attributes, and which payload is drawn.
+-- What bytes mean that are fed to a session: how many of them are its own, how they stand, what is
+-- wrong with them while it goes on and once it is finished, whether their payload has a closed
+-- sixel or raster attributes, and which payload is drawn.
 pub record Meaning : Type 0 where
   pub consumed : ℕ
   pub status : Status
@@ -52,45 +56,59 @@ string_meaning limit bytes = record {
   drawn = found bytes;
 }
 
--- A session of these bytes that is given up is refused by what is wrong with them so far, and changes nothing. One that is finished
--- gives the image and the registers of its payload, or is refused by what is wrong then, and changes nothing else. Memory may be wanted
--- where the payload grows, and for an image.
+-- A session of these bytes that is given up is refused by what is wrong with them so far, and
+-- changes nothing. One that is finished gives the image and the registers of its payload, or is
+-- refused by what is wrong then, and changes nothing else. Memory may be wanted where the payload
+-- grows, and for an image.
 abbrev pub IsSessionOutcome : DecoderState → Meaning → End → Outcome → DecoderState → Type 0
 IsSessionOutcome before bytes Abort (Aborted consumed status) after =
-    (bytes.fed_fault ≡ None) × (consumed ≡ bytes.consumed) × (status ≡ bytes.status) × (after ≡ before)
-IsSessionOutcome before bytes Abort (Failed error) after = Faults error bytes.grows bytes.fed_fault × (after ≡ before)
+    (bytes.fed_fault ≡ None) × (consumed ≡ bytes.consumed) × (status ≡ bytes.status)
+    × (after ≡ before)
+IsSessionOutcome before bytes Abort (Failed error) after =
+    Faults error bytes.grows bytes.fed_fault × (after ≡ before)
 IsSessionOutcome before bytes Finish (Finished consumed status image) after =
     (bytes.end_fault ≡ None) × (consumed ≡ bytes.consumed) × (status ≡ bytes.status)
-    × IsFoundImage before bytes.drawn (image_value image) × AreFoundRegisters before bytes.drawn after.registers
+    × IsFoundImage before bytes.drawn (image_value image)
+    × AreFoundRegisters before bytes.drawn after.registers
     × IsSetAs before after
 IsSessionOutcome before bytes Finish (Failed error) after =
     Faults error (is_none bytes.end_fault || bytes.grows) bytes.end_fault × (after ≡ before)
 IsSessionOutcome before bytes ending outcome after = ⊥
 
--- A payload that is decoded at once gives its image and its registers, or is refused, and changes nothing else.
+-- A payload that is decoded at once gives its image and its registers, or is refused, and changes
+-- nothing else.
 abbrev pub IsDecoding : DecoderState → Found → Outcome → DecoderState → Type 0
 IsDecoding before payload (Decoded image) after =
-    (found_fault before.pixel_limit payload ≡ None) × IsFoundImage before payload (image_value image)
+    (found_fault before.pixel_limit payload ≡ None)
+    × IsFoundImage before payload (image_value image)
     × AreFoundRegisters before payload after.registers × IsSetAs before after
 IsDecoding before payload (Failed error) after =
-    Faults error (found_wants before.pixel_limit payload) (found_fault before.pixel_limit payload) × (after ≡ before)
+    Faults error (found_wants before.pixel_limit payload) (found_fault before.pixel_limit payload)
+    × (after ≡ before)
 IsDecoding before payload outcome after = ⊥
 
 -- what a step comes to, from the decoder before it to the decoder after it
 abbrev pub IsOutcome : DecoderState → Step → Outcome → DecoderState → Type 0
-IsOutcome before steps.Reset outcome after = (outcome ≡ Reset) × (after ≡ record before { registers = default_registers })
-IsOutcome before (steps.RasterCrop on) outcome after = (outcome ≡ Changed) × (after ≡ record before { raster_crop = on })
-IsOutcome before (steps.PixelLimit pixels) outcome after = (outcome ≡ Changed) × (after ≡ record before { pixel_limit = limit_of pixels })
+IsOutcome before steps.Reset outcome after =
+    (outcome ≡ Reset) × (after ≡ record before { registers = default_registers })
+IsOutcome before (steps.RasterCrop on) outcome after =
+    (outcome ≡ Changed) × (after ≡ record before { raster_crop = on })
+IsOutcome before (steps.PixelLimit pixels) outcome after =
+    (outcome ≡ Changed) × (after ≡ record before { pixel_limit = limit_of pixels })
 IsOutcome before (steps.Frame settings bytes cuts ending) outcome after =
-    IsSessionOutcome before (frame_meaning before.pixel_limit settings bytes.now) ending outcome after
+    IsSessionOutcome before (frame_meaning before.pixel_limit settings bytes.now) ending outcome
+    after
 IsOutcome before (steps.Dcs bytes cuts ending) outcome after =
     IsSessionOutcome before (string_meaning before.pixel_limit bytes.now) ending outcome after
-IsOutcome before (steps.Decode bytes) outcome after = IsDecoding before (found bytes.now) outcome after
-IsOutcome before (steps.DecodeFromDcs bytes settings) outcome after = IsDecoding before (Payload settings bytes.now) outcome after
+IsOutcome before (steps.Decode bytes) outcome after =
+    IsDecoding before (found bytes.now) outcome after
+IsOutcome before (steps.DecodeFromDcs bytes settings) outcome after =
+    IsDecoding before (Payload settings bytes.now) outcome after
 
 -- the steps come to these outcomes one by one, and the decoder after each is that before the next
 abbrev pub AreOutcomes : DecoderState → List Step → List Outcome → DecoderState → Type 0
 AreOutcomes before [] [] after = after ≡ before
 AreOutcomes before (step ∷ steps) (outcome ∷ outcomes) after =
-    (between : DecoderState) × IsOutcome before step outcome between × AreOutcomes between steps outcomes after
+    (between : DecoderState) × IsOutcome before step outcome between
+    × AreOutcomes between steps outcomes after
 AreOutcomes before steps outcomes after = ⊥

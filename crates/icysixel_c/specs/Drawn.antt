@@ -15,7 +15,12 @@ drawn width height settings pixels = record {
   background_mode = mode_of settings;
 }
 
--- the image of the rows that lie so in these bytes
+-- the image of rows that lie at this stride
+abbrev pub drawn_rows : ℕ → ℕ → ℕ → Settings → List ℕ → Image
+drawn_rows stride width height settings bytes =
+    drawn width height settings (rows_of (stride_of stride (4 * width)) (4 * width) height bytes)
+
+-- the same with the shape and the background of P1 and P2
 abbrev pub image_of : ℕ → ℕ → ℕ → ℤ → ℤ → List ℕ → Image
 image_of stride width height p1 p2 bytes =
-    drawn width height (settings_of p1 p2 (negsuc 0)) (rows_of (stride_of stride (4 * width)) (4 * width) height bytes)
+    drawn_rows stride width height (settings_of p1 p2 (negsuc 0)) bytes

@@ -12,7 +12,7 @@ ghost use Rattle.icysixel_c.specs.declared.state.State.{State};
 
 use crate::bytes::Bytes;
 use crate::code::{BAD_STRIDE, DONE, NO_HANDLE, NO_IMAGE, NO_SESSION, SMALL_ROOM};
-use crate::rows::{spread, stride_of, wanted};
+use crate::rows::{Layout, stride_of};
 use crate::shape::Shape;
 use crate::slot::Slot;
 use crate::state::State;
@@ -130,43 +130,45 @@ fn copied(image: &SixelImage, room: &mut [u8], stride: usize, bytes: &mut usize)
         drop (image.now.height * stride) room.new ≡ drop (image.now.height * stride) room.old }
     ensures unwritten { result ≢ 0 → room.new ≡ room.old }
 {
-    let Some(wide) = image.width.checked_mul(4) else {
+    let Some(row_len) = image.width.checked_mul(4) else {
         return BAD_STRIDE;
     };
-    let stride = stride_of(stride, wide);
-    copied_rows(&image.pixels, room, stride, wide, image.height, bytes)
+    let stride = stride_of(stride, row_len);
+    let layout = Layout {
+        stride,
+        row_len,
+        height: image.height,
+    };
+    copied_rows(&image.pixels, room, layout, bytes)
 }
 
-/// Copies rows into the room, and tells how many bytes that takes.
-fn copied_rows(
-    rows: &[u8],
-    room: &mut [u8],
-    stride: usize,
-    wide: usize,
-    height: usize,
-    bytes: &mut usize,
-) -> u32
-    requires { length rows.now ≡ wide * height }
-    ensures bad_stride { wanted stride wide height ≡ None → result ≡ 7 }
+/// Copies rows into the buffer, and reports the number of bytes that they take there.
+fn copied_rows(rows: &[u8], room: &mut [u8], layout: Layout, bytes: &mut usize) -> u32
+    requires { length rows.now ≡ layout.row_len * layout.height }
+    ensures bad_stride { wanted layout.stride layout.row_len layout.height ≡ None
+        → result ≡ 7 }
     ensures no_bytes { result ≢ 0 → result ≢ 6 → bytes.new ≡ bytes.old }
-    ensures small { (size : ℕ) → wanted stride wide height ≡ Some size
+    ensures small { (size : ℕ) → wanted layout.stride layout.row_len layout.height ≡ Some size
         → length room.old < size → result ≡ 6 }
-    ensures bytes { (size : ℕ) → wanted stride wide height ≡ Some size → bytes.new ≡ size }
-    ensures moved { (size : ℕ) → wanted stride wide height ≡ Some size
+    ensures bytes { (size : ℕ) → wanted layout.stride layout.row_len layout.height ≡ Some size
+        → bytes.new ≡ size }
+    ensures moved { (size : ℕ) → wanted layout.stride layout.row_len layout.height ≡ Some size
         → size ≤ length room.old → result ≡ 0 }
-    ensures rows { result ≡ 0 → rows_of stride wide height room.new ≡ rows.now }
-    ensures gaps { (row : ℕ) → AreGapsKept stride wide row room.old room.new }
-    ensures rest { drop (height * stride) room.new ≡ drop (height * stride) room.old }
+    ensures rows { result ≡ 0
+        → rows_of layout.stride layout.row_len layout.height room.new ≡ rows.now }
+    ensures gaps { (row : ℕ) → AreGapsKept layout.stride layout.row_len row room.old room.new }
+    ensures rest { drop (layout.height * layout.stride) room.new
+        ≡ drop (layout.height * layout.stride) room.old }
     ensures unwritten { result ≢ 0 → room.new ≡ room.old }
 {
-    let Some(size) = wanted(stride, wide, height) else {
+    let Some(size) = layout.byte_len() else {
         return BAD_STRIDE;
     };
     *bytes = size;
     if room.len() < size {
         return SMALL_ROOM;
     }
-    spread(room, rows, stride, wide, height);
+    layout.spread(room, rows);
     DONE
 }
 

@@ -12,6 +12,7 @@ pub mod limits;
 pub mod once;
 pub mod palette;
 pub mod parameters;
+mod pixels;
 pub mod progress;
 pub mod registers;
 mod rows;

@@ -5,77 +5,90 @@ ghost use Rattle.icysixel_c.specs.Rows.{AreGapsKept, extent, rows_of, stride_of,
 
 use std::alloc::{AllocError, Global};
 
-/// The stride that C names: 0 stands for rows without room between them.
-pub fn stride_of(stride: usize, wide: usize) -> usize
-    ensures { result ≡ stride_of stride wide }
-{
-    if stride == 0 { wide } else { stride }
+/// How the rows of an image lie in the caller's memory.
+#[derive(Clone, Copy)]
+pub struct Layout {
+    /// The number of bytes from the start of a row to the start of the next.
+    pub stride: usize,
+    /// The number of bytes of a row.
+    pub row_len: usize,
+    /// The number of rows.
+    pub height: usize,
 }
 
-/// How many bytes the rows take with this stride, if it holds a row and a number counts them.
-pub fn wanted(stride: usize, wide: usize, height: usize) -> Option<usize>
-    ensures { result ≡ wanted stride wide height }
-{
-    if stride < wide {
-        return None;
+impl Layout {
+    /// The number of bytes of all rows with their gaps.
+    ///
+    /// `None` if a row is longer than the stride, or no `usize` holds the number.
+    pub fn byte_len(self) -> Option<usize>
+        ensures { result ≡ wanted self.stride self.row_len self.height }
+    {
+        if self.stride < self.row_len {
+            return None;
+        }
+        self.stride
+            .checked_mul(self.height.saturating_sub(1))
+            .and_then(|above| above.checked_add(self.row_len))
     }
-    stride
-        .checked_mul(height.saturating_sub(1))
-        .and_then(|above| above.checked_add(wide))
-}
 
-/// The rows, where one follows another.
-pub fn dense(bytes: &[u8], wide: usize, height: usize) -> &[u8]
-    requires { extent wide wide height ≤ length bytes.now }
-    ensures rows { result.now ≡ rows_of wide wide height bytes.now }
-    ensures size { length result.now ≡ wide * height }
-{
-    &bytes[..wide * height]
-}
-
-/// The rows, joined.
-#[tactic(auto, unfolding(sixel_base::specs::Picture::joined))]
-pub fn gathered(
-    alloc: Global,
-    bytes: &[u8],
-    stride: usize,
-    wide: usize,
-    height: usize,
-) -> Result<Vec<u8>, AllocError>
-    requires stride { wide ≤ stride }
-    requires room { extent stride wide height ≤ length bytes.now }
-    ensures rows { IfOk result (λ rows. rows.items ≡ rows_of stride wide height bytes.now) }
-    ensures size { IfOk result (λ rows. length rows.items ≡ wide * height) }
-{
-    let mut rows = Vec::new(alloc);
-    for row in 0..height {
-        rows.extend_from_slice(row_of(bytes, stride, wide, row))?;
+    /// The rows, where the stride is the length of a row.
+    pub fn dense(self, bytes: &[u8]) -> &[u8]
+        requires dense { self.stride ≡ self.row_len }
+        requires room { extent self.stride self.row_len self.height ≤ length bytes.now }
+        ensures rows { result.now ≡ rows_of self.stride self.row_len self.height bytes.now }
+        ensures size { length result.now ≡ self.row_len * self.height }
+    {
+        &bytes[..self.row_len * self.height]
     }
-    Ok(rows)
-}
 
-/// A row.
-fn row_of(bytes: &[u8], stride: usize, wide: usize, row: usize) -> &[u8]
-    requires { row * stride + wide ≤ length bytes.now }
-    ensures rows { result.now ≡ slice_range bytes.now (row * stride) (row * stride + wide) }
-{
-    let start = row * stride;
-    &bytes[start..start + wide]
-}
-
-/// Writes the rows into the room, and leaves what lies between them.
-#[tactic(auto, unfolding(sixel_base::specs::Picture::joined))]
-pub fn spread(room: &mut [u8], rows: &[u8], stride: usize, wide: usize, height: usize)
-    requires stride { wide ≤ stride }
-    requires rows { length rows.now ≡ wide * height }
-    requires room { extent stride wide height ≤ length room.old }
-    ensures rows { rows_of stride wide height room.new ≡ rows.now }
-    ensures gaps { (row : ℕ) → AreGapsKept stride wide row room.old room.new }
-    ensures after { drop (height * stride) room.new ≡ drop (height * stride) room.old }
-{
-    for row in 0..height {
-        let to = row * stride;
-        let from = row * wide;
-        room[to..to + wide].copy_from_slice(&rows[from..from + wide]);
+    /// A copy of the rows without gaps.
+    #[tactic(auto, unfolding(sixel_base::specs::Picture::joined))]
+    pub fn gathered(self, alloc: Global, bytes: &[u8]) -> Result<Vec<u8>, AllocError>
+        requires stride { self.row_len ≤ self.stride }
+        requires room { extent self.stride self.row_len self.height ≤ length bytes.now }
+        ensures rows { IfOk result (λ rows.
+            rows.items ≡ rows_of self.stride self.row_len self.height bytes.now) }
+        ensures size { IfOk result (λ rows. length rows.items ≡ self.row_len * self.height) }
+    {
+        let mut rows = Vec::new(alloc);
+        for row in 0..self.height {
+            rows.extend_from_slice(self.row_of(bytes, row))?;
+        }
+        Ok(rows)
     }
+
+    /// A row.
+    fn row_of(self, bytes: &[u8], row: usize) -> &[u8]
+        requires { row * self.stride + self.row_len ≤ length bytes.now }
+        ensures rows { result.now
+            ≡ slice_range bytes.now (row * self.stride) (row * self.stride + self.row_len) }
+    {
+        let start = row * self.stride;
+        &bytes[start..start + self.row_len]
+    }
+
+    /// Copies rows without gaps into the buffer. The gaps stay as they are.
+    #[tactic(auto, unfolding(sixel_base::specs::Picture::joined))]
+    pub fn spread(self, room: &mut [u8], rows: &[u8])
+        requires stride { self.row_len ≤ self.stride }
+        requires rows { length rows.now ≡ self.row_len * self.height }
+        requires room { extent self.stride self.row_len self.height ≤ length room.old }
+        ensures rows { rows_of self.stride self.row_len self.height room.new ≡ rows.now }
+        ensures gaps { (row : ℕ) → AreGapsKept self.stride self.row_len row room.old room.new }
+        ensures after { drop (self.height * self.stride) room.new
+            ≡ drop (self.height * self.stride) room.old }
+    {
+        for row in 0..self.height {
+            let to = row * self.stride;
+            let from = row * self.row_len;
+            room[to..to + self.row_len].copy_from_slice(&rows[from..from + self.row_len]);
+        }
+    }
+}
+
+/// The stride that C names: 0 stands for rows without gaps.
+pub fn stride_of(stride: usize, row_len: usize) -> usize
+    ensures { result ≡ stride_of stride row_len }
+{
+    if stride == 0 { row_len } else { stride }
 }

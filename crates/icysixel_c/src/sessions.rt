@@ -14,7 +14,7 @@ use crate::code::{DONE, NO_HANDLE, NO_SESSION, OUT_OF_MEMORY, code_of, status_by
 use crate::parameters::settings;
 use crate::slot::Slot;
 use crate::state::State;
-use icy_sixel::receiver::{Received, SixelReceiver};
+use icy_sixel::Received;
 use std::alloc::Global;
 
 /// What a feed did: how many bytes are the image's own, how it stands, and the control that ended
@@ -117,17 +117,9 @@ pub extern "C" fn icysixel_begin_payload(
     if !slot.is_held() {
         return NO_HANDLE;
     }
-    begin_payload(&mut slot.state().receiver, alloc, p1, p2, grid);
+    let settings = settings(p1, p2, grid);
+    slot.state().receiver.begin_frame(alloc, settings);
     DONE
-}
-
-/// Begins a payload with these parameters.
-fn begin_payload(receiver: &mut SixelReceiver, alloc: Global, p1: i32, p2: i32, grid: i32)
-    ensures decoder { receiver.new.decoder ≡ receiver.old.decoder }
-    ensures image { receiver.new.image
-        ≡ begun (OfPayload (settings_of p1 p2 grid)) receiver.old.decoder }
-{
-    receiver.begin_frame(alloc, settings(p1, p2, grid));
 }
 
 /// Reads a piece of the image that is open, and tells what it did where the answer is 0.

@@ -1,14 +1,19 @@
 -- What a session that was fed a beginning of the bytes says about the string that they begin with.
-use Rattle.std.proofs.Common.{◌≡◌, ℕ, ◌<◌, ◌≤◌, Bool, true, false, List, [], ◌∷◌, ◌++◌, refl, ap, sym, ◌∙◌, subst, arith, length, length-append, Option, Some, None}
+use Rattle.std.proofs.Common.{◌≡◌, ℕ, ◌<◌, ◌≤◌, Bool, true, false, List, [], ◌∷◌, ◌++◌, refl, ap}
+use Rattle.std.proofs.Common.{sym, ◌∙◌, subst, arith, length, length-append, Option, Some, None}
 use Rattle.std.specs.Prelude.{◌==◌, IsSomeAnd}
 use Rattle.std.specs.Option.{option_or}
 use Rattle.std.proofs.lemmas.Bool.{false≢true}
 use Rattle.std.proofs.lemmas.Bool.Decides.{nat_tests}
 use Rattle.sixel_base.specs.declared.error.SixelError.{SixelError}
-use Rattle.sixel_base.specs.declared.error.SixelError.TheVariants.{InvalidDimensions, BufferSizeMismatch, InvalidData, NoSixelData, IntegerOverflow, OutOfMemory}
+use Rattle.sixel_base.specs.declared.error.SixelError.TheVariants.{InvalidDimensions}
+use Rattle.sixel_base.specs.declared.error.SixelError.TheVariants.{BufferSizeMismatch, InvalidData}
+use Rattle.sixel_base.specs.declared.error.SixelError.TheVariants.{NoSixelData, IntegerOverflow}
+use Rattle.sixel_base.specs.declared.error.SixelError.TheVariants.{OutOfMemory}
 use Rattle.sixel_base.specs.Fault.{Fault, Faults, IsFault}
 use Rattle.sixel_base.specs.declared.status.SixelDcsFeedStatus.{SixelDcsFeedStatus}
-use Rattle.sixel_base.specs.declared.status.SixelDcsFeedStatus.TheVariants.{NeedMoreData, Complete, Cancelled, Interrupted}
+use Rattle.sixel_base.specs.declared.status.SixelDcsFeedStatus.TheVariants.{NeedMoreData, Complete}
+use Rattle.sixel_base.specs.declared.status.SixelDcsFeedStatus.TheVariants.{Cancelled, Interrupted}
 use Rattle.sixel_base.specs.Dcs.{dcs_status, dcs_fault, has_ended, end_fault}
 use Rattle.sixel.specs.Strings.{string_fault}
 
@@ -29,30 +34,40 @@ pub record Begins (fed bytes : List ℕ) : Type 0 where
 pub begins_fits : (fed bytes : List ℕ) → Begins fed bytes → length fed ≤ length bytes
 begins_fits fed bytes b = omega (arith, length-append fed b.rest, ap length b.joined)
 
-string_fault-some : (limit : ℕ) (bytes : List ℕ) → 0 < length bytes → string_fault limit bytes ≡ option_or (dcs_fault limit bytes) (end_fault (dcs_status bytes))
+string_fault-some : (limit : ℕ) (bytes : List ℕ) → 0 < length bytes
+    → string_fault limit bytes ≡ option_or (dcs_fault limit bytes) (end_fault (dcs_status bytes))
 string_fault-some limit [] some = absurd (omega arith)
 string_fault-some limit (byte ∷ bytes) some = refl
 
-named_along : (e : SixelError) (found found' : Option Fault) → ((f : Fault) → found ≡ Some f → found' ≡ Some f)
+named_along : (e : SixelError) (found found' : Option Fault)
+    → ((f : Fault) → found ≡ Some f → found' ≡ Some f)
     → IsSomeAnd found (IsFault e) → IsSomeAnd found' (IsFault e)
 named_along e None found' stays is = absurd is
-named_along e (Some f) found' stays is = subst (λ w. IsSomeAnd w (IsFault e)) (sym (stays f refl)) is
+named_along e (Some f) found' stays is =
+    subst (λ w. IsSomeAnd w (IsFault e)) (sym (stays f refl)) is
 
 -- a refusal goes on along a fault that stays
-Faults-weaker : (e : SixelError) (may : Bool) (found found' : Option Fault) → ((f : Fault) → found ≡ Some f → found' ≡ Some f) → Faults e may found
+Faults-weaker : (e : SixelError) (may : Bool) (found found' : Option Fault)
+    → ((f : Fault) → found ≡ Some f → found' ≡ Some f) → Faults e may found
     → Faults e true found'
-Faults-weaker (InvalidDimensions w h) may found found' stays is = named_along (InvalidDimensions w h) found found' stays is
-Faults-weaker (BufferSizeMismatch w h) may found found' stays is = named_along (BufferSizeMismatch w h) found found' stays is
-Faults-weaker (InvalidData t) may found found' stays is = named_along (InvalidData t) found found' stays is
+Faults-weaker (InvalidDimensions w h) may found found' stays is =
+    named_along (InvalidDimensions w h) found found' stays is
+Faults-weaker (BufferSizeMismatch w h) may found found' stays is =
+    named_along (BufferSizeMismatch w h) found found' stays is
+Faults-weaker (InvalidData t) may found found' stays is =
+    named_along (InvalidData t) found found' stays is
 Faults-weaker NoSixelData may found found' stays is = named_along NoSixelData found found' stays is
-Faults-weaker IntegerOverflow may found found' stays is = named_along IntegerOverflow found found' stays is
+Faults-weaker IntegerOverflow may found found' stays is =
+    named_along IntegerOverflow found found' stays is
 Faults-weaker OutOfMemory may found found' stays is = refl
 
 -- what is wrong with the bytes is the string's fault
-pub refused_early : (e : SixelError) (may : Bool) (limit : ℕ) (bytes : List ℕ) → 0 < length bytes → Faults e may (dcs_fault limit bytes) → Faults e true (string_fault limit bytes)
+pub refused_early : (e : SixelError) (may : Bool) (limit : ℕ) (bytes : List ℕ) → 0 < length bytes
+    → Faults e may (dcs_fault limit bytes) → Faults e true (string_fault limit bytes)
 refused_early e may limit bytes some is =
     Faults-weaker e may (dcs_fault limit bytes) (string_fault limit bytes)
-    (λ f found. string_fault-some limit bytes some ∙ ap (λ o. option_or o (end_fault (dcs_status bytes))) found)
+    (λ f found.
+    string_fault-some limit bytes some ∙ ap (λ o. option_or o (end_fault (dcs_status bytes))) found)
     is
 
 -- a string that has not ended waits for more
@@ -69,7 +84,9 @@ no_end_fault (Cancelled byte) ended = refl
 no_end_fault (Interrupted byte) ended = refl
 
 -- a string that has ended without a fault has none
-pub ended_faultless : (limit : ℕ) (bytes : List ℕ) → 0 < length bytes → has_ended (dcs_status bytes) ≡ true → dcs_fault limit bytes ≡ None → string_fault limit bytes ≡ None
+pub ended_faultless : (limit : ℕ) (bytes : List ℕ) → 0 < length bytes
+    → has_ended (dcs_status bytes) ≡ true → dcs_fault limit bytes ≡ None
+    → string_fault limit bytes ≡ None
 ended_faultless limit bytes some ended faultless =
     string_fault-some limit bytes some
     ∙ ap (λ o. option_or o (end_fault (dcs_status bytes))) faultless

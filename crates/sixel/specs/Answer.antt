@@ -1,6 +1,8 @@
--- What the program writes for a word and the bytes of its input, and how it ends: as the definitions of the data's meaning say, or for
--- want of memory, which may come before any image. The order of the two is this program's own: an image is written once it is whole.
-use Rattle.std.specs.Prelude.{◌≡◌, ◌⊎◌, ℕ, true, List, [], ◌++◌, Option, None, Some, Result, Ok, Err}
+-- What the program writes for a word and the bytes of its input, and how it ends: as the
+-- definitions of the data's meaning say, or for want of memory, which may come before any image.
+-- The order of the two is this program's own: an image is written once it is whole.
+use Rattle.std.specs.Prelude.{◌≡◌, ◌⊎◌, ℕ, true, List, [], ◌++◌, Option, None, Some, Result, Ok}
+use Rattle.std.specs.Prelude.{Err}
 use Rattle.sixel_base.specs.declared.error.SixelError.TheVariants.{OutOfMemory}
 use Rattle.sixel_base.specs.Decoder.{new_decoder, origin_of}
 use Rattle.sixel_base.specs.Stroke.{Origin}
@@ -23,18 +25,24 @@ fresh = origin_of new_decoder no_settings
 
 -- an image of this kind, or the refusal by this fault with nothing written
 abbrev pub IsImageAnswer : Option data_fault.Fault → (Image → Type 0) → List ℕ → Ending → Type 0
-IsImageAnswer fault IsImage text Done = (fault ≡ None) × ((image : Image) × IsImage image × (text ≡ image_form image))
+IsImageAnswer fault IsImage text Done =
+    (fault ≡ None) × ((image : Image) × IsImage image × (text ≡ image_form image))
 IsImageAnswer fault IsImage text (Refused error) = (text ≡ []) × data_fault.Faults error true fault
 
 -- the text of square pixels on a transparent background, or its refusal with nothing written
 abbrev pub IsTextAnswer : Image → ℕ → List ℕ → Ending → Type 0
 IsTextAnswer image colors text Done = (image_fault image ≡ None) × IsText image colors text
-IsTextAnswer image colors text (Refused error) = (text ≡ []) × ((error ≡ OutOfMemory) ⊎ (image_fault image ≡ Some error))
+IsTextAnswer image colors text (Refused error) =
+    (text ≡ []) × ((error ≡ OutOfMemory) ⊎ (image_fault image ≡ Some error))
 
 -- the text that a word writes for these bytes, and how it ends
 abbrev pub IsAnswer : Word → List ℕ → List ℕ → Ending → Type 0
-IsAnswer Payload bytes = IsImageAnswer (payload_fault fresh.pixel_limit bytes) (λ image. image ≡ payload_image fresh bytes)
-IsAnswer Decode bytes = IsImageAnswer (found_fault new_decoder.pixel_limit (found bytes)) (IsFoundImage new_decoder (found bytes))
+IsAnswer Payload bytes =
+    IsImageAnswer (payload_fault fresh.pixel_limit bytes)
+    (λ image. image ≡ payload_image fresh bytes)
+IsAnswer Decode bytes =
+    IsImageAnswer (found_fault new_decoder.pixel_limit (found bytes))
+    (IsFoundImage new_decoder (found bytes))
 IsAnswer (Frames length) bytes = AreAnswered new_decoder bytes
 IsAnswer (Encode width height colors) bytes = IsTextAnswer (square_value bytes width height) colors
 
@@ -42,8 +50,10 @@ IsAnswer (Encode width height colors) bytes = IsTextAnswer (square_value bytes w
 abbrev pub Begins : (List ℕ → Ending → Type 0) → List ℕ → Type 0
 Begins IsText text = (rest : List ℕ) × (ending : Ending) × IsText (text ++ rest) ending
 
--- What a writer holds grew by an answer as far as it came: the whole of it, that before the refusal, or a beginning where the writer failed.
-abbrev pub Serves : {A : Type 0} → Result A Fault → (List ℕ → Ending → Type 0) → Option (List ℕ) → Option (List ℕ) → Type 0
+-- What a writer holds grew by an answer as far as it came: the whole of it, that before the
+-- refusal, or a beginning where the writer failed.
+abbrev pub Serves : {A : Type 0} → Result A Fault → (List ℕ → Ending → Type 0) → Option (List ℕ)
+    → Option (List ℕ) → Type 0
 Serves (Ok _) IsText old new = Writes (λ text. IsText text Done) old new
 Serves (Err (Sixel error)) IsText old new = Writes (λ text. IsText text (Refused error)) old new
 Serves (Err Input) IsText old new = ⊥

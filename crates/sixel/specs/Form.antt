@@ -1,5 +1,6 @@
--- How the program writes an image: a line `image W H P1 P2` of its sizes, its pixel shape and its background, the raw pixels, a line
--- end. The form is this program's own; P1 and P2 are the parameters that a SIXEL control string gives a shape and a background.
+-- How the program writes an image: a line `image W H P1 P2` of its sizes, its pixel shape and its
+-- background, the raw pixels, a line end. The form is this program's own; P1 and P2 are the
+-- parameters that a SIXEL control string gives a shape and a background.
 use Rattle.std.specs.Prelude.{ℕ, List, [], ◌∷◌, ◌++◌, codes, decimal}
 use Rattle.sixel_base.specs.Settings.{p1_of, p2_of}
 use Rattle.sixel_base.specs.Payload.{Image}

@@ -1,7 +1,9 @@
--- What the program writes for control strings that follow one another on one decoder: the image of each, until one is cut short or no
--- byte is left. From the meaning of control strings; how their bytes are cut into pieces occurs nowhere in it. The order is this
--- program's own: each image is written before the next string is read, and stays written where that one is refused.
-use Rattle.std.specs.Prelude.{◌≡◌, ◌<◌, ◌*◌, ℕ, Bool, true, false, List, [], ◌∷◌, ◌++◌, take, drop, Option, None}
+-- What the program writes for control strings that follow one another on one decoder: the image of
+-- each, until one is cut short or no byte is left. From the meaning of control strings; how their
+-- bytes are cut into pieces occurs nowhere in it. The order is this program's own: each image is
+-- written before the next string is read, and stays written where that one is refused.
+use Rattle.std.specs.Prelude.{◌≡◌, ◌<◌, ◌*◌, ℕ, Bool, true, false, List, [], ◌∷◌, ◌++◌, take, drop}
+use Rattle.std.specs.Prelude.{Option, None}
 use Rattle.std.specs.Option.{option_or}
 use Rattle.sixel_base.specs.declared.error.SixelError.{SixelError}
 use Rattle.sixel_base.specs.Fault.{Fault, Faults}
@@ -9,23 +11,28 @@ use Rattle.sixel_base.specs.Payload.{Image}
 use Rattle.sixel_base.specs.Decoder.{IsSetAs}
 use Rattle.sixel_base.specs.declared.state.DecoderState.{DecoderState}
 use Rattle.sixel_base.specs.declared.status.SixelDcsFeedStatus.{SixelDcsFeedStatus}
-use Rattle.sixel_base.specs.declared.status.SixelDcsFeedStatus.TheVariants.{NeedMoreData, Complete, Cancelled, Interrupted}
+use Rattle.sixel_base.specs.declared.status.SixelDcsFeedStatus.TheVariants.{NeedMoreData, Complete}
+use Rattle.sixel_base.specs.declared.status.SixelDcsFeedStatus.TheVariants.{Cancelled, Interrupted}
 use Rattle.sixel_base.specs.Dcs.{dcs_status, dcs_count, dcs_fault, end_fault}
 use Rattle.sixel_base.specs.OneShot.{found, IsFoundImage, AreFoundRegisters}
 use Rattle.sixel.specs.Form.{image_form}
 use Rattle.sixel.specs.Ending.{Ending, Done, Refused}
 
--- what the string is refused for that the bytes begin with, where no more come after them: a fault, or an end that is missing
+-- what the string is refused for that the bytes begin with, where no more come after them: a fault,
+-- or an end that is missing
 abbrev pub string_fault : ℕ → List ℕ → Option Fault
 string_fault limit [] = None
-string_fault limit (byte ∷ bytes) = option_or (dcs_fault limit (byte ∷ bytes)) (end_fault (dcs_status (byte ∷ bytes)))
+string_fault limit (byte ∷ bytes) =
+    option_or (dcs_fault limit (byte ∷ bytes)) (end_fault (dcs_status (byte ∷ bytes)))
 
--- A string was fed in pieces of this length, counted from its own first byte, and in no more of them than it took to end; the last byte
--- of all may cut the last piece short. Where it has not ended, all bytes were fed.
+-- A string was fed in pieces of this length, counted from its own first byte, and in no more of
+-- them than it took to end; the last byte of all may cut the last piece short. Where it has not
+-- ended, all bytes were fed.
 pub record IsFedInPieces (piece_len : ℕ) (bytes fed : List ℕ) : Type 0 where
   pub pieces : ℕ
   pub whole : fed ≡ take (pieces * piece_len) bytes
-  pub needed : (fewer : ℕ) → fewer < pieces → dcs_status (take (fewer * piece_len) bytes) ≡ NeedMoreData
+  pub needed : (fewer : ℕ) → fewer < pieces
+      → dcs_status (take (fewer * piece_len) bytes) ≡ NeedMoreData
   pub enough : dcs_status fed ≡ NeedMoreData → fed ≡ bytes
 
 -- whether a string ended before its terminator
@@ -40,12 +47,18 @@ pub data AreAnswered : DecoderState → List ℕ → List ℕ → Ending → Typ
   -- no string is left
   Over : (decoder : DecoderState) → AreAnswered decoder [] [] Done
   -- the first string is refused, or memory is
-  Broken : (decoder : DecoderState) (bytes : List ℕ) (error : SixelError) → Faults error true (string_fault decoder.pixel_limit bytes)
+  Broken : (decoder : DecoderState) (bytes : List ℕ) (error : SixelError)
+      → Faults error true (string_fault decoder.pixel_limit bytes)
       → AreAnswered decoder bytes [] (Refused error)
   -- the first string was cut short: its image is the last
-  CutShort : (decoder : DecoderState) (bytes : List ℕ) (image : Image) → string_fault decoder.pixel_limit bytes ≡ None → is_cut_short (dcs_status bytes) ≡ true
+  CutShort : (decoder : DecoderState) (bytes : List ℕ) (image : Image)
+      → string_fault decoder.pixel_limit bytes ≡ None → is_cut_short (dcs_status bytes) ≡ true
       → IsFoundImage decoder (found bytes) image → AreAnswered decoder bytes (image_form image) Done
-  -- the first string is complete: its image, and the answer to the bytes after it, by the decoder after it
-  Followed : (decoder after : DecoderState) (bytes text : List ℕ) (image : Image) (ending : Ending) → string_fault decoder.pixel_limit bytes ≡ None
-      → dcs_status bytes ≡ Complete → IsFoundImage decoder (found bytes) image → AreFoundRegisters decoder (found bytes) after.registers → IsSetAs decoder after
-      → AreAnswered after (drop (dcs_count bytes) bytes) text ending → AreAnswered decoder bytes (image_form image ++ text) ending
+  -- the first string is complete: its image, and the answer to the bytes after it, by the decoder
+  -- after it
+  Followed : (decoder after : DecoderState) (bytes text : List ℕ) (image : Image) (ending : Ending)
+      → string_fault decoder.pixel_limit bytes ≡ None
+      → dcs_status bytes ≡ Complete → IsFoundImage decoder (found bytes) image
+      → AreFoundRegisters decoder (found bytes) after.registers → IsSetAs decoder after
+      → AreAnswered after (drop (dcs_count bytes) bytes) text ending
+      → AreAnswered decoder bytes (image_form image ++ text) ending

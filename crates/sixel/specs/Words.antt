@@ -1,5 +1,7 @@
--- Which words on the command line ask for which work. The words are this program's own; a number is written in decimal digits alone.
-use Rattle.std.specs.Prelude.{◌≡◌, ◌^◌, ◌<◌, ◌∷◌, [], List, ℕ, codes, map, Option, None, Some, String, string_bytes}
+-- Which words on the command line ask for which work. The words are this program's own; a number is
+-- written in decimal digits alone.
+use Rattle.std.specs.Prelude.{◌≡◌, ◌^◌, ◌<◌, ◌∷◌, [], List, ℕ, codes, map, Option, None, Some}
+use Rattle.std.specs.Prelude.{String, string_bytes}
 use Rattle.std.specs.declared.alloc.Global.{Global}
 use Rattle.std.specs.Str.Parse.{IsNumeral, digits_value}
 use Rattle.sixel.specs.declared.words.Word.{Word}
@@ -23,9 +25,12 @@ IsServable _ = Unit {0}
 abbrev pub Asks : Word → List ℕ → Option (List ℕ) → Option (List ℕ) → Option (List ℕ) → Type 0
 Asks Payload word a b c = (word ≡ codes "payload") × (a ≡ None) × (b ≡ None) × (c ≡ None)
 Asks Decode word a b c = (word ≡ codes "decode") × (a ≡ None) × (b ≡ None) × (c ≡ None)
-Asks (Frames length) word a b c = (word ≡ codes "frames") × (Gives a length × (length < 2 ^ 64)) × (0 < length) × (b ≡ None) × (c ≡ None)
+Asks (Frames length) word a b c =
+    (word ≡ codes "frames") × (Gives a length × (length < 2 ^ 64)) × (0 < length) × (b ≡ None)
+    × (c ≡ None)
 Asks (Encode width height colors) word a b c =
-    (word ≡ codes "encode") × (Gives a width × (width < 2 ^ 64)) × (Gives b height × (height < 2 ^ 64)) × (Gives c colors × (colors < 2 ^ 16))
+    (word ≡ codes "encode") × (Gives a width × (width < 2 ^ 64))
+    × (Gives b height × (height < 2 ^ 64)) × (Gives c colors × (colors < 2 ^ 16))
 
 -- the work that the words after the program's own name ask for: one, and up to three more
 abbrev pub IsAskedBy : List (List ℕ) → Word → Type 0

@@ -21,10 +21,12 @@ fn first_line(alloc: Global, image: &SixelImage) -> Result<String, Fault>
     Ok(format!(in alloc; "image {width} {height} {p1} {p2}\n")?)
 }
 
-/// Writes an image: its first line, which is made before anything is written, its pixels, a line end.
+/// Writes an image: its first line, its pixels and a line end.
+///
+/// The line is formatted before anything is written.
 pub fn write_image<O: Write>(alloc: Global, image: &SixelImage, output: &mut O) -> Result<(), Fault>
-    ensures { Serves result (IsImageAnswer None (λ i. i ≡ image_value image.now)) (O.contents output.old)
-        (O.contents output.new) }
+    ensures { Serves result (IsImageAnswer None (λ i. i ≡ image_value image.now))
+        (O.contents output.old) (O.contents output.new) }
 {
     let line = first_line(alloc, image)?;
     write_all(output, line.as_bytes())?;

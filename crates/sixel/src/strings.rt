@@ -1,7 +1,7 @@
-//! Control strings that follow one another, on one decoder.
+//! DCS sequences that follow one another, on one decoder.
 
-ghost use Rattle.std.specs.Prelude.{◌≡◌, ◌<◌, ◌≤◌, ◌+◌, ◌^◌, [], length, take, drop, true, false, None};
-ghost use Rattle.std.specs.Prelude.{IfOk, OnOk, IfErr, OnErr};
+ghost use Rattle.std.specs.Prelude.{◌≡◌, ◌<◌, ◌≤◌, ◌+◌, ◌^◌, [], length, take, drop, true, false};
+ghost use Rattle.std.specs.Prelude.{None, IfOk, OnOk, IfErr, OnErr};
 ghost use Rattle.std.specs.Io.KnownBytes.{Appends};
 ghost use Rattle.sixel_base.specs.Decoder.{new_decoder, IsSetAs};
 ghost use Rattle.sixel_base.specs.Fault.{Faults};
@@ -23,7 +23,7 @@ use sixel_io::Fault;
 use std::alloc::Global;
 use std::io::Write;
 
-/// A control string that has ended: its image, how many bytes are its own, and how it ended.
+/// A DCS sequence that has ended: its image, the number of its bytes, and how it ended.
 #[derive(Drop)]
 struct ControlString {
     image: SixelImage,
@@ -31,9 +31,9 @@ struct ControlString {
     status: SixelDcsFeedStatus,
 }
 
-/// Writes the image of each control string, until one is cut short or no byte is left.
+/// Writes the image of each DCS sequence, until one is cut short or no byte is left.
 ///
-/// Each is fed in pieces of so many bytes, from its own first byte on.
+/// Each is fed in chunks of `piece_len` bytes, from its own first byte on.
 pub fn write_strings<O: Write>(
     alloc: Global,
     piece_len: usize,
@@ -52,8 +52,7 @@ pub fn write_strings<O: Write>(
     Ok(())
 }
 
-/// Writes the image of the control string that the bytes begin with, and returns those that are to
-/// be answered after it.
+/// Writes the image of the DCS sequence at the start of the bytes, and returns the bytes after it.
 fn write_string<'a, O: Write>(
     alloc: Global,
     decoder: &mut SixelDecoder,
@@ -81,8 +80,7 @@ fn write_string<'a, O: Write>(
     write_read(alloc, string, bytes, output)
 }
 
-/// Writes the image of a control string that was read, which the bytes begin with, and returns those
-/// that are to be answered after it.
+/// Writes the image of the DCS sequence that was read, and returns the bytes to read next.
 fn write_read<'a, O: Write>(
     alloc: Global,
     string: ControlString,
@@ -103,8 +101,7 @@ fn write_read<'a, O: Write>(
     }
 }
 
-/// The bytes to be answered after a control string of so many that has ended, which they begin with:
-/// none where it was cut short.
+/// The bytes to read after a DCS sequence of `len` bytes: none if it was cut short.
 fn bytes_after(status: SixelDcsFeedStatus, len: usize, bytes: &[u8]) -> &[u8]
     requires { len ≤ length bytes.now }
     ensures complete { status ≡ Complete → result.now ≡ drop len bytes.now }
@@ -116,7 +113,7 @@ fn bytes_after(status: SixelDcsFeedStatus, len: usize, bytes: &[u8]) -> &[u8]
     }
 }
 
-/// Decodes the control string that the bytes begin with, and leaves those after it.
+/// Decodes the DCS sequence at the start of the bytes. Those after it are not read.
 fn read_string(
     alloc: Global,
     decoder: &mut SixelDecoder,
@@ -148,8 +145,7 @@ fn read_string(
     })
 }
 
-/// Feeds a new session pieces of so many bytes, from the string's own first byte on, until it has
-/// ended or no byte is left.
+/// Feeds a new session chunks of `piece_len` bytes, until the sequence ends or no byte is left.
 fn feed_pieces(
     session: &mut SixelDcsStreamDecoder,
     piece_len: usize,
@@ -191,7 +187,7 @@ fn feed_pieces(
     Ok(fed)
 }
 
-/// Splits off the next piece: so many bytes, or all that are left.
+/// Splits off the next chunk: `piece_len` bytes, or all that are left.
 fn split_piece(piece_len: usize, rest: &[u8]) -> (&[u8], &[u8])
     ensures piece { result.0.now ≡ take piece_len rest.now }
     ensures after { result.1.now ≡ drop piece_len rest.now }
@@ -199,7 +195,7 @@ fn split_piece(piece_len: usize, rest: &[u8]) -> (&[u8], &[u8])
     rest.split_at(piece_len.min(rest.len()))
 }
 
-/// What pieces and the one after them told together.
+/// The sum of the chunks before and of the last one.
 fn together(earlier: SixelDcsFeedResult, last: SixelDcsFeedResult) -> SixelDcsFeedResult
     requires { earlier.consumed + last.consumed < 2 ^ 64 }
     ensures consumed { result.consumed ≡ earlier.consumed + last.consumed }

@@ -1,4 +1,5 @@
-ghost use Rattle.std.specs.Prelude.{◌≡◌, ◌<◌, ◌^◌, ℕ, IfSome, IfNone, option_map, slice_get, Some, None, codes};
+ghost use Rattle.std.specs.Prelude.{◌≡◌, ◌<◌, ◌^◌, ℕ, IfSome, IfNone, option_map, slice_get};
+ghost use Rattle.std.specs.Prelude.{Some, None, codes};
 ghost use Rattle.sixel.specs.Words.{Asks, IsAskedBy, IsNumber, IsServable, words_of};
 
 /// What the program is asked to do with its input.

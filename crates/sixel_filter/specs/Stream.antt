@@ -1,8 +1,10 @@
--- What a filter over a terminal's stream writes: each byte that is no image's own, in order, and in the place of each image what is made of
--- it. An image begins at DCS, as ESC and `P` or as one byte, with parameters and `q` after it; it ends with ST, CAN or SUB. An ESC with
--- another byte after it and other C1 controls end it too, and are not its own. From DEC's device control strings; how the stream is cut
--- into pieces occurs nowhere in it.
-use Rattle.std.specs.Prelude.{ℕ, ◌≡◌, ◌==◌, nat_le, Bool, true, false, ◌&&◌, ◌||◌, if◌then◌else◌, List, [], ◌∷◌, ◌++◌}
+-- What a filter over a terminal's stream writes: each byte that is no image's own, in order, and in
+-- the place of each image what is made of it. An image begins at DCS, as ESC and `P` or as one
+-- byte, with parameters and `q` after it; it ends with ST, CAN or SUB. An ESC with another byte
+-- after it and other C1 controls end it too, and are not its own. From DEC's device control
+-- strings; how the stream is cut into pieces occurs nowhere in it.
+use Rattle.std.specs.Prelude.{ℕ, ◌≡◌, ◌==◌, nat_le, Bool, true, false, ◌&&◌, ◌||◌, if◌then◌else◌}
+use Rattle.std.specs.Prelude.{List, [], ◌∷◌, ◌++◌}
 use Rattle.sixel_base.specs.Bytes.{is_terminator}
 use Rattle.sixel_base.specs.Dcs.{Stage, Heading, Failing, Reading, stage, dcs_in_payload}
 use Rattle.sixel_base.specs.declared.state.DecoderState.{DecoderState}
@@ -37,7 +39,8 @@ after_end terminator bytes =
 -- what follows an image from its payload on
 abbrev pub after_payload : List ℕ → List ℕ
 after_payload [] = []
-after_payload (byte ∷ bytes) = if is_terminator byte then after_end byte bytes else after_payload bytes
+after_payload (byte ∷ bytes) =
+    if is_terminator byte then after_end byte bytes else after_payload bytes
 
 abbrev pub after_stage : Stage → List ℕ
 after_stage Heading = []
@@ -48,13 +51,22 @@ after_stage (Reading settings payload) = after_payload payload
 abbrev pub after_image : List ℕ → List ℕ
 after_image bytes = after_stage (stage bytes)
 
--- By this decoder, after text whose last byte was of a character or not, these bytes are written as this text.
+-- By this decoder, after text whose last byte was of a character or not, these bytes are written as
+-- this text.
 pub data IsFiltered : Work → Bool → DecoderState → List ℕ → List ℕ → Type 0 where
   -- no byte is left
-  Over : (work : Work) (in_character : Bool) (decoder : DecoderState) → IsFiltered work in_character decoder [] []
+  Over : (work : Work) (in_character : Bool) (decoder : DecoderState)
+      → IsFiltered work in_character decoder [] []
   -- no image begins here: the byte is passed on
-  Passed : (work : Work) (in_character : Bool) (decoder : DecoderState) (byte : ℕ) (bytes text : List ℕ) → begins_image in_character (byte ∷ bytes) ≡ false
-      → IsFiltered work (is_part byte) decoder bytes text → IsFiltered work in_character decoder (byte ∷ bytes) (byte ∷ text)
-  -- an image begins here: what is made of it, and what is written of the bytes that follow it, by the decoder after it
-  Made : (work : Work) (in_character : Bool) (decoder after : DecoderState) (bytes made text : List ℕ) → begins_image in_character bytes ≡ true
-      → IsMade work decoder bytes made after → IsFiltered work false after (after_image bytes) text → IsFiltered work in_character decoder bytes (made ++ text)
+  Passed :
+      (work : Work) (in_character : Bool) (decoder : DecoderState) (byte : ℕ) (bytes text : List ℕ)
+      → begins_image in_character (byte ∷ bytes) ≡ false
+      → IsFiltered work (is_part byte) decoder bytes text
+      → IsFiltered work in_character decoder (byte ∷ bytes) (byte ∷ text)
+  -- an image begins here: what is made of it, and what is written of the bytes that follow it, by
+  -- the decoder after it
+  Made :
+      (work : Work) (in_character : Bool) (decoder after : DecoderState) (bytes made text : List ℕ)
+      → begins_image in_character bytes ≡ true
+      → IsMade work decoder bytes made after → IsFiltered work false after (after_image bytes) text
+      → IsFiltered work in_character decoder bytes (made ++ text)

@@ -1,5 +1,5 @@
--- Which words on the command line ask for which work, in pieces of which length. The words are this program's own; a number is written in
--- decimal digits alone.
+-- Which words on the command line ask for which work, in pieces of which length. The words are this
+-- program's own; a number is written in decimal digits alone.
 use Rattle.std.specs.Prelude.{◌≡◌, ◌^◌, ◌<◌, ◌∷◌, [], List, ℕ, codes, map, String, string_bytes}
 use Rattle.std.specs.declared.alloc.Global.{Global}
 use Rattle.std.specs.Str.Parse.{IsNumeral, digits_value}

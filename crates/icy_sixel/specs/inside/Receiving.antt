@@ -1,5 +1,5 @@
--- What contracts see of a receiver, by its parts: the record of the session inside, in the words of both forms.
--- This library's own.
+-- What contracts see of a receiver, by its parts: the record of the session inside, in the words of
+-- both forms. This library's own.
 use Rattle.icy_sixel.specs.Receiver.{Reception, Receiver, no_image, OfPayload, OfString}
 use Rattle.icy_sixel.specs.declared.receiver.Open.{Open}
 use Rattle.icy_sixel.specs.declared.receiver.Open.TheVariants as opened

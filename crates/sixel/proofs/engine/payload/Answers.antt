@@ -7,5 +7,6 @@ use Rattle.sixel.proofs.engine.payload.Goals as goal
 pub returns : goal.returns
 returns g c =
     let decoded = c.in_ok-image.ensures in
-    let settings = ap (λ s. payload_image (origin_of new_decoder s) c.args.bytes.now) c.new-settings.ensures in
+    let settings =
+    ap (λ s. payload_image (origin_of new_decoder s) c.args.bytes.now) c.new-settings.ensures in
     Serves-image _ _ _ _ _ _ decoded.faultless (decoded.image ∙ settings) c.write_image.ensures

@@ -21,7 +21,9 @@ returns-clause-done g c = grind arith
 
 pub returns-clause-refused : goal.returns-clause-refused
 returns-clause-refused g c = λ error is.
-    asked-for (IsAskedBy (words_of c.args.words.now)) (λ asked bytes. Writes (λ text. IsAnswer asked bytes text (Refused error)) _ _) _ c.in-Some.word c.in-Some.ensures.asked
+    asked-for (IsAskedBy (words_of c.args.words.now))
+    (λ asked bytes. Writes (λ text. IsAnswer asked bytes text (Refused error)) _ _)
+    _ c.in-Some.word c.in-Some.ensures.asked
     (c.serve.ensures.refused error (c.response_of.ensures.failed (Sixel error) is))
 
 pub returns-clause-unread : goal.returns-clause-unread
@@ -29,5 +31,7 @@ returns-clause-unread g c = grind arith
 
 pub returns-clause-unwritten : goal.returns-clause-unwritten
 returns-clause-unwritten g c = λ is.
-    asked-for (IsAskedBy (words_of c.args.words.now)) (λ asked bytes. Writes (Begins (IsAnswer asked bytes)) _ _) _ c.in-Some.word c.in-Some.ensures.asked
+    asked-for (IsAskedBy (words_of c.args.words.now))
+    (λ asked bytes. Writes (Begins (IsAnswer asked bytes)) _ _)
+    _ c.in-Some.word c.in-Some.ensures.asked
     (c.serve.ensures.unwritten (c.response_of.ensures.failed Output is))

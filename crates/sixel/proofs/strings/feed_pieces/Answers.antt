@@ -36,19 +36,25 @@ pub returns-in_err-feed-clause-refused : goal.returns-in_err-feed-clause-refused
 returns-in_err-feed-clause-refused c =
     let p = err_from_is_err_and c.from_residual.result c.from_residual.ensures.1 in
     let fed = c.in_err-feed.ensures.fed in
-    let waits = sym c.pieces.invariant.known ∙ goes_on c.pieces.fed.status c.if-not-has_ended.ensures in
-    let cut : Cut c.args.piece_len c.args.bytes.now c.feed.new.self.progress.bytes c.split_piece.result.1.now =
+    let waits =
+    sym c.pieces.invariant.known ∙ goes_on c.pieces.fed.status c.if-not-has_ended.ensures in
+    let cut : Cut c.args.piece_len c.args.bytes.now c.feed.new.self.progress.bytes
+    c.split_piece.result.1.now =
     cut_more _ _ _ _ _ _ _ c.split_piece.ensures.piece c.split_piece.ensures.after
     fed.bytes waits c.pieces.invariant.cut in
     let refused = fed.refused_for_good c.in_err-feed.field-0.0 c.split_piece.result.1.now refl
     c.pieces.invariant.accepted in
-    rw (p.1, p.2) (refused_early _ _ c.args.session.now.progress.decoder.pixel_limit c.args.bytes.now c.requires.some (rw (cut_joined _ _ _ _ cut, c.pieces.invariant.start) at refused))
+    rw (p.1, p.2) (refused_early _ _ c.args.session.now.progress.decoder.pixel_limit
+    c.args.bytes.now c.requires.some
+    (rw (cut_joined _ _ _ _ cut, c.pieces.invariant.start) at refused))
 
 pub together-fed-requires : goal.together-fed-requires
 together-fed-requires c =
     let fed = c.in_ok-feed.ensures.fed in
-    let waits = sym c.pieces.invariant.known ∙ goes_on c.pieces.fed.status c.if-not-has_ended.ensures in
-    let cut : Cut c.args.piece_len c.args.bytes.now c.feed.new.self.progress.bytes c.split_piece.result.1.now =
+    let waits =
+    sym c.pieces.invariant.known ∙ goes_on c.pieces.fed.status c.if-not-has_ended.ensures in
+    let cut : Cut c.args.piece_len c.args.bytes.now c.feed.new.self.progress.bytes
+    c.split_piece.result.1.now =
     cut_more _ _ _ _ _ _ _ c.split_piece.ensures.piece c.split_piece.ensures.after
     fed.bytes waits c.pieces.invariant.cut in
     omega (
@@ -67,8 +73,10 @@ pieces-preserved c =
     let s = told.fed in
     let fed : List ℕ = c.feed.new.self.progress.bytes in
     let after : List ℕ = c.split_piece.result.1.now in
-    let waits = sym c.pieces.invariant.known ∙ goes_on c.pieces.fed.status c.if-not-has_ended.ensures in
-    let cut : Cut c.args.piece_len c.args.bytes.now c.feed.new.self.progress.bytes c.split_piece.result.1.now =
+    let waits =
+    sym c.pieces.invariant.known ∙ goes_on c.pieces.fed.status c.if-not-has_ended.ensures in
+    let cut : Cut c.args.piece_len c.args.bytes.now c.feed.new.self.progress.bytes
+    c.split_piece.result.1.now =
     cut_more _ _ _ _ _ _ _ c.split_piece.ensures.piece c.split_piece.ensures.after
     s.bytes waits c.pieces.invariant.cut in
     let all = c.together-fed.ensures in
@@ -79,9 +87,21 @@ pieces-preserved c =
       accepted = s.ok.1;
       cut = cut;
       faultless = rw before.start at s.faultless;
-      counted = all.consumed ∙ (ap (λ n. n + c.in_ok-feed.field-0.consumed) before.counted ∙ s.consumed);
-      within = omega (arith, all.consumed, before.within, s.within, ap length s.bytes, length-append c.pieces.session.progress.bytes c.split_piece.result.0.now);
-      over = λ ended. subst (λ (w : List ℕ). IsSameString c.args.session.now.progress.decoder.pixel_limit fed w) (cut_joined _ _ fed after cut) (rw before.start at (s.over_for_good after (ap has_ended (sym all.status) ∙ ended)));
+      counted =
+          all.consumed ∙ (ap (λ n. n + c.in_ok-feed.field-0.consumed) before.counted ∙ s.consumed);
+      within =
+          omega (
+            arith,
+            all.consumed,
+            before.within,
+            s.within,
+            ap length s.bytes,
+            length-append c.pieces.session.progress.bytes c.split_piece.result.0.now,
+          );
+      over = λ ended.
+          subst (λ (w : List ℕ). IsSameString c.args.session.now.progress.decoder.pixel_limit fed w)
+          (cut_joined _ _ fed after cut)
+          (rw before.start at (s.over_for_good after (ap has_ended (sym all.status) ∙ ended)));
       known = all.status ∙ s.status;
     }
 

@@ -1,4 +1,5 @@
--- The session was fed whole pieces of the string, without a fault, and how many of their bytes are the string's own is known.
+-- The session was fed whole pieces of the string, without a fault, and how many of their bytes are
+-- the string's own is known.
 use Rattle.std.proofs.Common.{◌≡◌, ◌≤◌, length, true, false, None}
 use Rattle.sixel_base.specs.Dcs.{dcs_status, dcs_count, dcs_fault, has_ended, IsSameString}
 use Rattle.sixel.proofs.Pieces.{Cut}
@@ -14,7 +15,8 @@ invariant-pieces l = record {
   faultless : dcs_fault l.fn.session.progress.decoder.pixel_limit l.session.progress.bytes ≡ None;
   counted : l.fed.consumed ≡ dcs_count l.session.progress.bytes;
   within : l.fed.consumed ≤ length l.session.progress.bytes;
-  over : has_ended l.fed.status ≡ true → IsSameString l.fn.session.progress.decoder.pixel_limit l.session.progress.bytes l.bytes;
+  over : has_ended l.fed.status ≡ true
+      → IsSameString l.fn.session.progress.decoder.pixel_limit l.session.progress.bytes l.bytes;
   known : l.fed.status ≡ dcs_status l.session.progress.bytes;
 }
 

@@ -20,7 +20,9 @@ pub returns-in_err-image : goal.returns-in_err-image
 returns-in_err-image c = grind arith
 
 -- the bytes that were fed are the string that all begin with
-same : (c : goal.In_ok-image) → IsSameString c.args.decoder.now.pixel_limit c.feed_pieces.new.session.progress.bytes c.args.bytes.now
+same : (c : goal.In_ok-image)
+    → IsSameString c.args.decoder.now.pixel_limit c.feed_pieces.new.session.progress.bytes
+    c.args.bytes.now
 same c =
     let fed = c.in_ok-fed.ensures in
     rw c.begin_dcs-session.ensures.session
@@ -48,7 +50,12 @@ pub returns-clause-len : goal.returns-clause-len
 returns-clause-len c = c.in_ok-fed.ensures.consumed ∙ sym (same c).count
 
 pub returns-clause-within : goal.returns-clause-within
-returns-clause-within c = omega (arith, c.in_ok-fed.ensures.within, begins_fits _ c.args.bytes.now (pieces_begin _ _ _ c.in_ok-fed.ensures.pieces))
+returns-clause-within c =
+    omega (
+      arith,
+      c.in_ok-fed.ensures.within,
+      begins_fits _ c.args.bytes.now (pieces_begin _ _ _ c.in_ok-fed.ensures.pieces),
+    )
 
 pub returns-clause-status : goal.returns-clause-status
 returns-clause-status c = c.in_ok-fed.ensures.status ∙ sym (same c).status

@@ -10,15 +10,27 @@ use Rattle.sixel.proofs.strings.write_string.Goals as goal
 pub returns-in_err-string-clause-stopped : goal.returns-in_err-string-clause-stopped
 returns-in_err-string-clause-stopped g c =
     let p = err_from_is_err_and c.from_residual.result c.from_residual.ensures.1 in
-    rw (p.1, p.2) ([], Broken c.args.decoder.now c.args.bytes.now _ c.in_err-string.ensures.refused, Appends-nil _)
+    rw (p.1, p.2) (
+      [],
+      Broken c.args.decoder.now c.args.bytes.now _ c.in_err-string.ensures.refused,
+      Appends-nil _,
+    )
 
 pub returns-clause-stopped : goal.returns-clause-stopped
 returns-clause-stopped g c =
     let s = c.in_ok-string.ensures in
-    let string : HasEnded c.args.decoder.now c.args.bytes.now (image_value c.in_ok-string.string.image) c.read_string.new.decoder =
-    record { ended = s.ended; faultless = s.faultless; shows = s.image; leaves = s.registers; set = s.set } in
+    let string : HasEnded c.args.decoder.now c.args.bytes.now
+    (image_value c.in_ok-string.string.image) c.read_string.new.decoder =
+    record {
+      ended = s.ended;
+      faultless = s.faultless;
+      shows = s.image;
+      leaves = s.registers;
+      set = s.set;
+    } in
     OnErr-broken c.write_read.result _ _ _ _ _ _ string c.write_read.ensures.image
 
 pub returns-clause-image : goal.returns-clause-image
 returns-clause-image g c =
-    OnOk-image (IsFoundImage c.args.decoder.now (found c.args.bytes.now)) _ c.write_read.result _ _ c.in_ok-string.ensures.image c.write_read.ensures.image
+    OnOk-image (IsFoundImage c.args.decoder.now (found c.args.bytes.now)) _ c.write_read.result _ _
+    c.in_ok-string.ensures.image c.write_read.ensures.image

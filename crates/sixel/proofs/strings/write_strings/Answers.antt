@@ -1,6 +1,7 @@
 use Rattle.std.proofs.Common.{ℕ, List, Bor}
 use Rattle.std.proofs.lemmas.Result.{err_from_is_err_and}
-use Rattle.sixel.proofs.Leading.{HasEnded, Serves-led, Serves-stopped, stands_first, still_leads, stands_last, stands_more, follows_smaller}
+use Rattle.sixel.proofs.Leading.{HasEnded, Serves-led, Serves-stopped, stands_first, still_leads}
+use Rattle.sixel.proofs.Leading.{stands_last, stands_more, follows_smaller}
 use Rattle.sixel.proofs.Stringing.{no_bytes, some_bytes}
 use Rattle.sixel.proofs.strings.write_strings.Goals as goal
 
@@ -10,21 +11,38 @@ strings-init g c = stands_first _ _ _ _ c.new-decoder.ensures
 pub returns-in_err-rest : goal.returns-in_err-rest
 returns-in_err-rest g c =
     let p = err_from_is_err_and c.from_residual.result c.from_residual.ensures.1 in
-    let leads = still_leads _ _ _ _ _ _ (some_bytes c.strings.rest.now c.strings-test.ensures) c.strings.invariant in
-    Serves-led c.from_residual.result _ _ c.strings.decoder c.strings.rest.now _ _ _ leads (rw (p.1, p.2) (Serves-stopped (Bor (List ℕ)) (Unit {0}) _ _ _ _ c.in_err-rest.ensures.stopped))
+    let leads =
+    still_leads _ _ _ _ _ _ (some_bytes c.strings.rest.now c.strings-test.ensures)
+    c.strings.invariant in
+    Serves-led c.from_residual.result _ _ c.strings.decoder c.strings.rest.now _ _ _ leads
+    (rw (p.1, p.2) (Serves-stopped (Bor (List ℕ)) (Unit {0}) _ _ _ _ c.in_err-rest.ensures.stopped))
 
 pub strings-smaller : goal.strings-smaller
 strings-smaller g c =
     let s = c.in_ok-rest.ensures in
-    follows_smaller c.strings.rest.now _ s.ended record { complete = s.complete; cut_short = s.cut_short } (some_bytes c.strings.rest.now c.strings-test.ensures)
+    follows_smaller c.strings.rest.now _ s.ended record {
+      complete = s.complete;
+      cut_short = s.cut_short;
+    } (some_bytes c.strings.rest.now c.strings-test.ensures)
 
 pub strings-preserved : goal.strings-preserved
 strings-preserved g c =
     let s = c.in_ok-rest.ensures in
-    let leads = still_leads _ _ _ _ _ _ (some_bytes c.strings.rest.now c.strings-test.ensures) c.strings.invariant in
-    let string : HasEnded c.strings.decoder c.strings.rest.now s.image.0 c.write_string.new.decoder =
-    record { ended = s.ended; faultless = s.faultless; shows = s.image.1; leaves = s.registers; set = s.set } in
-    stands_more _ _ _ _ _ _ _ _ _ _ string record { complete = s.complete; cut_short = s.cut_short } s.image.2 leads
+    let leads =
+    still_leads _ _ _ _ _ _ (some_bytes c.strings.rest.now c.strings-test.ensures)
+    c.strings.invariant in
+    let string : HasEnded c.strings.decoder c.strings.rest.now s.image.0
+    c.write_string.new.decoder =
+    record {
+      ended = s.ended;
+      faultless = s.faultless;
+      shows = s.image.1;
+      leaves = s.registers;
+      set = s.set;
+    } in
+    stands_more _ _ _ _ _ _ _ _ _ _ string record { complete = s.complete; cut_short = s.cut_short }
+    s.image.2 leads
 
 pub returns : goal.returns
-returns g c = stands_last _ _ _ _ _ _ (no_bytes c.strings.rest.now c.strings-test.ensures) c.strings.invariant
+returns g c =
+    stands_last _ _ _ _ _ _ (no_bytes c.strings.rest.now c.strings-test.ensures) c.strings.invariant

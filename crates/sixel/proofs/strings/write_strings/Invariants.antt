@@ -5,7 +5,9 @@ use Rattle.sixel.proofs.Leading.{Stands}
 use Rattle.sixel.proofs.strings.write_strings.Given as goal
 
 abbrev pub invariant-strings : goal.invariant-strings
-invariant-strings g l = Stands new_decoder l.bytes l.decoder l.rest (g.O.Write.contents l.fn.output) (g.O.Write.contents l.output)
+invariant-strings g l =
+    Stands new_decoder l.bytes l.decoder l.rest (g.O.Write.contents l.fn.output)
+    (g.O.Write.contents l.output)
 
 abbrev pub decreases-strings : goal.decreases-strings
 decreases-strings g l = length l.rest

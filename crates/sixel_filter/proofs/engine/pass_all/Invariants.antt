@@ -9,6 +9,8 @@ invariant-reads g l = record {
   sound : IsSound l.filter;
   none : l.made.items ≡ [];
   len : length l.chunk ≡ length l.fn.chunk;
-  passed : (bytes : List ℕ) × Consumes (g.R.Read.remaining l.fn.input) (g.R.Read.remaining l.input) bytes
-      × Passes l.fn.filter l.filter bytes (g.O.Write.contents l.fn.output) (g.O.Write.contents l.output);
+  passed : (bytes : List ℕ)
+      × Consumes (g.R.Read.remaining l.fn.input) (g.R.Read.remaining l.input) bytes
+      × Passes l.fn.filter l.filter bytes (g.O.Write.contents l.fn.output)
+      (g.O.Write.contents l.output);
 }

@@ -7,7 +7,10 @@ use Rattle.sixel_filter.proofs.engine.serve.Goals as goal
 
 pub returns-in_err-chunk-clause-stopped : goal.returns-in_err-chunk-clause-stopped
 returns-in_err-chunk-clause-stopped g c =
-    if_err c.from_residual.result (Sixel OutOfMemory) _ c.from_residual.ensures.1 ([], Consumes-nil _, stops_unbegun c.args.work (Sixel OutOfMemory) _ refl)
+    if_err c.from_residual.result (Sixel OutOfMemory) _ c.from_residual.ensures.1
+    ([], Consumes-nil _, stops_unbegun c.args.work (Sixel OutOfMemory) _ refl)
 
 pub returns-clause-stopped : goal.returns-clause-stopped
-returns-clause-stopped g c = stopped_along c.pass_all-passed.result _ _ _ _ _ _ c.new-filter.ensures.leads c.pass_all-passed.ensures.stopped
+returns-clause-stopped g c =
+    stopped_along c.pass_all-passed.result _ _ _ _ _ _ c.new-filter.ensures.leads
+    c.pass_all-passed.ensures.stopped

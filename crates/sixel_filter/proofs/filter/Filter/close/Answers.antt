@@ -20,12 +20,24 @@ pub returns-in-Ok-clause-closed : goal.returns-in-Ok-clause-closed
 returns-in-Ok-clause-closed c = λ more last.
     let f = c.args.self.now in
     let r = c.requires.receiving in
-    let ended = subst (λ (g : Form). end_fault f.receiver.image.start.pixel_limit g f.receiver.image.bytes ≡ None) r.form c.in-Ok.ensures.ended in
-    let decoded = subst (λ (d : DecoderState). IsDecodedAs d (found (f.receiver.image.bytes ++ more)) (image_value c.in-Ok.image) c.finish.new.self.decoder.registers) r.start
-    (subst (λ (g : Form). IsDecodedAs f.receiver.image.start (found_followed g f.receiver.image.bytes more) (image_value c.in-Ok.image) c.finish.new.self.decoder.registers) r.form
+    let ended =
+    subst
+    (λ (g : Form). end_fault f.receiver.image.start.pixel_limit g f.receiver.image.bytes ≡ None)
+    r.form c.in-Ok.ensures.ended in
+    let decoded =
+    subst (λ (d : DecoderState).
+    IsDecodedAs d (found (f.receiver.image.bytes ++ more)) (image_value c.in-Ok.image)
+    c.finish.new.self.decoder.registers)
+    r.start
+    (subst (λ (g : Form).
+    IsDecodedAs f.receiver.image.start (found_followed g f.receiver.image.bytes more)
+    (image_value c.in-Ok.image) c.finish.new.self.decoder.registers)
+    r.form
     (c.in-Ok.ensures.as_decoded more)) in
     on_ok c.write_image.result
-    (closed_shown f.work f.receiver.decoder c.finish.new.self.decoder f.receiver.image.bytes more c.args.output.now.items c.write_image.new.output.items (image_value c.in-Ok.image) r.sound ended decoded
+    (closed_shown f.work f.receiver.decoder c.finish.new.self.decoder f.receiver.image.bytes more
+    c.args.output.now.items c.write_image.new.output.items (image_value c.in-Ok.image) r.sound ended
+    decoded
     c.in-Ok.ensures.set)
     c.write_image.ensures.written
 
@@ -46,8 +58,13 @@ returns-in-Err-clause-closed c = λ more last.
     let f = c.args.self.now in
     let r = c.requires.receiving in
     let limit : ℕ = f.receiver.image.start.pixel_limit in
-    let refused = subst (λ (g : Form). Faults c.in-Err.error (end_wants limit g f.receiver.image.bytes) (end_fault limit g f.receiver.image.bytes)) r.form (rw r.accepted at c.in-Err.ensures.error) in
+    let refused =
+    subst (λ (g : Form).
+    Faults c.in-Err.error (end_wants limit g f.receiver.image.bytes)
+    (end_fault limit g f.receiver.image.bytes))
+    r.form (rw r.accepted at c.in-Err.ensures.error) in
     on_ok c.write_refusal.result
-    (closed_refused f.work f.receiver.decoder c.finish.new.self.decoder f.receiver.image.bytes more c.args.output.now.items c.write_refusal.new.output.items c.in-Err.error r.sound refused last
+    (closed_refused f.work f.receiver.decoder c.finish.new.self.decoder f.receiver.image.bytes more
+    c.args.output.now.items c.write_refusal.new.output.items c.in-Err.error r.sound refused last
     c.in-Err.ensures.kept)
     c.write_refusal.ensures.written

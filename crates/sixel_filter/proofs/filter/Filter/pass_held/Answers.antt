@@ -24,4 +24,6 @@ returns-clause-passes c = λ more whole none w.
     let held : List ℕ = c.args.self.now.held.items in
     let class : c.is_lone_dcs-self.result ≡ (length held == 1 && slice_index held 0 == 0x90) = cc in
     let grown : c.extend_from_slice.new.self.items ≡ c.args.output.now.items ++ held = cc in
-    writes_held c.args.self.now.work c.args.self.now.in_character _ c.args.self.now.receiver.decoder held c.args.output.now.items _ more whole c.requires.heading c.requires.starts none class grown w
+    writes_held c.args.self.now.work c.args.self.now.in_character _ c.args.self.now.receiver.decoder
+    held c.args.output.now.items _ more whole c.requires.heading c.requires.starts none class grown
+    w

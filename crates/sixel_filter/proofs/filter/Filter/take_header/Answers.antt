@@ -1,4 +1,5 @@
-use Rattle.std.proofs.Common.{◌≡◌, true, List, ℕ, [], ◌∷◌, ◌++◌, refl, ap, ◌∙◌, subst, arith, append_assoc}
+use Rattle.std.proofs.Common.{◌≡◌, true, List, ℕ, [], ◌∷◌, ◌++◌, refl, ap, ◌∙◌, subst, arith}
+use Rattle.std.proofs.Common.{append_assoc}
 use Rattle.sixel_base.specs.Dcs.{dcs_in_payload, dcs_status}
 use Rattle.sixel_base.specs.declared.status.SixelDcsFeedStatus.TheVariants.{NeedMoreData}
 use Rattle.icy_sixel.specs.Receiver.{Form, Receiver, is_open, in_payload}
@@ -29,14 +30,24 @@ returns-in-Err-clause-passes c = λ more whole.
     let f = c.args.self.now in
     let h = c.requires.heading in
     let byte : ℕ = c.args.byte in
-    let grown : c.feed.new.self.image.bytes ≡ f.receiver.image.bytes ++ byte ∷ [] = c.feed.ensures.bytes (ap is_open h.receiving.form) in
-    let refused = string_error f.receiver.image c.feed.new.self.image c.in-Err.no_image (byte ∷ []) h.receiving.form c.feed.ensures.form grown (rw h.receiving.accepted at c.in-Err.ensures.error) in
-    let none = header_refused c.in-Err.no_image _ f.in_character f.receiver.image.bytes more byte h.heading h.receiving.starts refused in
+    let grown : c.feed.new.self.image.bytes ≡ f.receiver.image.bytes ++ byte ∷ [] =
+    c.feed.ensures.bytes (ap is_open h.receiving.form) in
+    let refused =
+    string_error f.receiver.image c.feed.new.self.image c.in-Err.no_image (byte ∷ [])
+    h.receiving.form c.feed.ensures.form grown
+    (rw h.receiving.accepted at c.in-Err.ensures.error) in
+    let none =
+    header_refused c.in-Err.no_image _ f.in_character f.receiver.image.bytes more byte h.heading
+    h.receiving.starts refused in
     let receiver = c.in_ok-pass_held-in-Err.ensures.receiver in
     on_ok c.take_text.result
-    (header_lost f byte c.args.output.now.items c.pass_held.new.output.items more whole c.pass_held.new.self.in_character c.pass_held.new.self.work c.pass_held.new.self.receiver.decoder
-    c.feed.new.self.decoder h c.requires.place c.in_ok-pass_held-in-Err.ensures.work (ap (λ (r : Receiver). r.decoder) receiver) c.feed.ensures.decoder none
-    (c.in_ok-pass_held-in-Err.ensures.passes (byte ∷ more) whole) c.take_text.new.self c.take_text.new.output.items)
+    (header_lost f byte c.args.output.now.items c.pass_held.new.output.items more whole
+    c.pass_held.new.self.in_character c.pass_held.new.self.work
+    c.pass_held.new.self.receiver.decoder
+    c.feed.new.self.decoder h c.requires.place c.in_ok-pass_held-in-Err.ensures.work
+    (ap (λ (r : Receiver). r.decoder) receiver) c.feed.ensures.decoder none
+    (c.in_ok-pass_held-in-Err.ensures.passes (byte ∷ more) whole) c.take_text.new.self
+    c.take_text.new.output.items)
     (c.take_text.ensures.passes more whole)
 
 pub returns-in-Err-clause-error : goal.returns-in-Err-clause-error
@@ -47,16 +58,22 @@ returns-then-in_payload-clause-sound c =
     let f = c.args.self.now in
     let h = c.requires.heading in
     let byte : ℕ = c.args.byte in
-    let grown : c.feed.new.self.image.bytes ≡ f.receiver.image.bytes ++ byte ∷ [] = c.feed.ensures.bytes (ap is_open h.receiving.form) in
+    let grown : c.feed.new.self.image.bytes ≡ f.receiver.image.bytes ++ byte ∷ [] =
+    c.feed.ensures.bytes (ap is_open h.receiving.form) in
     let told = c.in_payload.ensures.accepted c.in-Ok.ensures.ok.1 in
     let is = c.if-in_payload.true in
     let whether : in_payload c.feed.new.self.image.form c.feed.new.self.image.bytes ≡ true = cc in
     let reading : dcs_in_payload c.feed.new.self.image.bytes ≡ true =
-    subst (λ (g : Form). in_payload g c.feed.new.self.image.bytes ≡ true) (c.feed.ensures.form ∙ h.receiving.form) whether in
+    subst (λ (g : Form). in_payload g c.feed.new.self.image.bytes ≡ true)
+    (c.feed.ensures.form ∙ h.receiving.form) whether in
     let waiting : dcs_status c.feed.new.self.image.bytes ≡ NeedMoreData =
-    ap dcs_status grown ∙ header_done f.in_character f.receiver.image.bytes byte h.heading h.receiving.starts (subst (λ (b : List ℕ). dcs_in_payload b ≡ true) grown reading) in
+    ap dcs_status grown
+    ∙ header_done f.in_character f.receiver.image.bytes byte h.heading h.receiving.starts
+    (subst (λ (b : List ℕ). dcs_in_payload b ≡ true) grown reading) in
     record {
-      receiving = fed f _ (byte ∷ []) h.receiving refl c.feed.ensures.decoder c.feed.ensures.form c.feed.ensures.start c.feed.ensures.bytes c.in-Ok.ensures.ok.1 c.in-Ok.ensures.faultless;
+      receiving =
+          fed f _ (byte ∷ []) h.receiving refl c.feed.ensures.decoder c.feed.ensures.form
+          c.feed.ensures.start c.feed.ensures.bytes c.in-Ok.ensures.ok.1 c.in-Ok.ensures.faultless;
       reading = reading;
       waiting = waiting;
       none = c.clear.ensures.items;
@@ -71,7 +88,8 @@ returns-clause-sooner c = grind arith
 pub returns-then-in_payload-clause-passes : goal.returns-then-in_payload-clause-passes
 returns-then-in_payload-clause-passes c = λ more whole l.
     let f = c.args.self.now in
-    let grown : c.feed.new.self.image.bytes ≡ f.receiver.image.bytes ++ c.args.byte ∷ [] = c.feed.ensures.bytes (ap is_open c.requires.heading.receiving.form) in
+    let grown : c.feed.new.self.image.bytes ≡ f.receiver.image.bytes ++ c.args.byte ∷ [] =
+    c.feed.ensures.bytes (ap is_open c.requires.heading.receiving.form) in
     record {
       text = l.text;
       rest = rw c.requires.place (rw (c.feed.ensures.decoder, grown, append_assoc) at l.rest);
@@ -81,9 +99,12 @@ returns-then-in_payload-clause-passes c = λ more whole l.
 pub returns-clause-passes : goal.returns-clause-passes
 returns-clause-passes c = λ more whole l.
     let f = c.args.self.now in
-    let grown : c.feed.new.self.image.bytes ≡ f.receiver.image.bytes ++ c.args.byte ∷ [] = c.feed.ensures.bytes (ap is_open c.requires.heading.receiving.form) in
+    let grown : c.feed.new.self.image.bytes ≡ f.receiver.image.bytes ++ c.args.byte ∷ [] =
+    c.feed.ensures.bytes (ap is_open c.requires.heading.receiving.form) in
     record {
       text = l.text;
-      rest = rw c.requires.place (rw (c.requires.place, c.feed.ensures.decoder, grown, append_assoc) at l.rest);
+      rest =
+          rw c.requires.place
+          (rw (c.requires.place, c.feed.ensures.decoder, grown, append_assoc) at l.rest);
       joined = l.joined;
     }

@@ -9,14 +9,17 @@ use Rattle.sixel_decoder.proofs.RowExtents.{sides-fit, image_height-most, settle
 use Rattle.icy_sixel.proofs.decoder.stream.SixelStreamDecoder.finish_counted.Goals as goal
 
 -- the image has at most the pixels of the extent
-fewer : (image : Image) (o : Origin) (bytes : List ℕ) → image ≡ payload_image o bytes → image.width * image.height ≤ payload_area bytes
+fewer : (image : Image) (o : Origin) (bytes : List ℕ) → image ≡ payload_image o bytes
+    → image.width * image.height ≤ payload_area bytes
 fewer image o bytes is =
     let h = history_of (front bytes) in
-    mul-le image.width image.height (width h) (height h) (omega (arith, ap (λ (i : Image). i.width) is))
+    mul-le image.width image.height (width h) (height h)
+    (omega (arith, ap (λ (i : Image). i.width) is))
     (omega (arith, ap (λ (i : Image). i.height) is, image_height-most o.raster_crop h))
 
 -- which are few
-few : (limit : ℕ) (bytes : List ℕ) → payload_fault limit bytes ≡ None → payload_area bytes ≤ 1000000000000
+few : (limit : ℕ) (bytes : List ℕ) → payload_fault limit bytes ≡ None
+    → payload_area bytes ≤ 1000000000000
 few limit bytes sound =
     let h = history_of (front bytes) in
     let sides = sides-fit limit h sound in
@@ -46,4 +49,6 @@ returns-clause-at_most c =
 
 pub returns-clause-counted : goal.returns-clause-counted
 returns-clause-counted c =
-    c.with_packed-count.ensures ∙ ap (λ (n : ℕ). n + c.in_ok-image.image.width * c.in_ok-image.image.height) c.canvas_writes-writes.ensures.value
+    c.with_packed-count.ensures
+    ∙ ap (λ (n : ℕ). n + c.in_ok-image.image.width * c.in_ok-image.image.height)
+    c.canvas_writes-writes.ensures.value

@@ -1,5 +1,5 @@
 use Rattle.std.proofs.Common.{arith}
-use Rattle.icysixel_c.proofs.texts.text_of.Goals as goal
+use Rattle.icysixel_c.proofs.pixels.Pixels.text_of.Goals as goal
 
 pub returns-in-Ok : goal.returns-in-Ok
 returns-in-Ok c = grind arith

@@ -1,17 +1,17 @@
 use Rattle.std.proofs.Common.{arith}
-use Rattle.icysixel_c.proofs.texts.text_of_rows.Goals as goal
+use Rattle.icysixel_c.proofs.pixels.Pixels.text_of_rows.Goals as goal
 
 pub dense-rows-requires : goal.dense-rows-requires
 dense-rows-requires c = grind arith
 
-pub returns-then-stride-wide-clause-memory : goal.returns-then-stride-wide-clause-memory
-returns-then-stride-wide-clause-memory c = grind arith
+pub returns-then-stride-layout-clause-memory : goal.returns-then-stride-layout-clause-memory
+returns-then-stride-layout-clause-memory c = grind arith
 
 pub returns-in-Ok-clause-text : goal.returns-in-Ok-clause-text
 returns-in-Ok-clause-text c = grind arith
 
-pub returns-then-stride-wide-clause-text : goal.returns-then-stride-wide-clause-text
-returns-then-stride-wide-clause-text c = grind arith
+pub returns-then-stride-layout-clause-text : goal.returns-then-stride-layout-clause-text
+returns-then-stride-layout-clause-text c = grind arith
 
 pub gathered-requires-clause-stride : goal.gathered-requires-clause-stride
 gathered-requires-clause-stride c = grind arith

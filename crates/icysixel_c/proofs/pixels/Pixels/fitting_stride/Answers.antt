@@ -1,11 +1,11 @@
 use Rattle.std.proofs.Common.{arith}
-use Rattle.icysixel_c.proofs.texts.fitting_stride.Goals as goal
+use Rattle.icysixel_c.proofs.pixels.Pixels.fitting_stride.Goals as goal
 
 pub returns-in-Err : goal.returns-in-Err
 returns-in-Err c = grind arith
 
-pub overflow_mul-wide : goal.overflow_mul-wide
-overflow_mul-wide c = grind arith
+pub overflow_mul-row_len : goal.overflow_mul-row_len
+overflow_mul-row_len c = grind arith
 
 pub returns-in-Some : goal.returns-in-Some
 returns-in-Some c = grind arith

@@ -1,5 +1,5 @@
 use Rattle.std.proofs.Common.{rules}
-use Rattle.icysixel_c.proofs.rows.row_of.Goals as goal
+use Rattle.icysixel_c.proofs.rows.Layout.row_of.Goals as goal
 
 pub returns : goal.returns
 returns c = search rules

@@ -2,22 +2,22 @@ use Rattle.std.proofs.Common.{◌≡◌, ◌+◌, ◌-◌, ◌*◌, ◌++◌, Re
 use Rattle.std.proofs.lemmas.Bool.{false≢true}
 use Rattle.std.specs.Prelude.{slice_range}
 use Rattle.icysixel_c.proofs.Spread.{row_inside, rows_more}
-use Rattle.icysixel_c.proofs.rows.gathered.Goals as goal
+use Rattle.icysixel_c.proofs.rows.Layout.gathered.Goals as goal
 
 pub row_of-requires : goal.row_of-requires
 row_of-requires c =
-    omega (arith, row_inside c.args.stride c.args.wide c.args.height c.loop-row.row c.loop-row-test.true, c.requires.room)
+    omega (arith, row_inside c.args.self.stride c.args.self.row_len c.args.self.height c.loop-row.row c.loop-row-test.true, c.requires.room)
 
 pub loop-row-preserved : goal.loop-row-preserved
 loop-row-preserved c =
-    let stride = c.args.stride in
-    let wide = c.args.wide in
+    let stride = c.args.self.stride in
+    let wide = c.args.self.row_len in
     let row = c.loop-row.row in
     let bytes = c.args.bytes.now in
     let rows = c.loop-row.rows.items in
     let start = row * stride in
     let slice = slice_range bytes start (start + wide) in
-    let inside = row_inside stride wide c.args.height row c.loop-row-test.true in
+    let inside = row_inside stride wide c.args.self.height row c.loop-row-test.true in
     let pushed = rw c.row_of.ensures.rows at c.in_ok-extend_from_slice.ensures.items in (
       pushed ∙ (ap (λ xs. xs ++ slice) c.loop-row.invariant.0 ∙ sym (rows_more stride wide row bytes)),
       omega (arith, inside, c.requires.room, ap length pushed, length-append rows slice, length-take (start + wide - start) (drop start bytes), length-drop start bytes, c.loop-row.invariant.1),
@@ -36,5 +36,5 @@ returns-in_err-extend_from_slice c = record {
 
 pub returns : goal.returns
 returns c =
-    let all : c.args.height ≡ c.loop-row.row = omega arith in
+    let all : c.args.self.height ≡ c.loop-row.row = omega arith in
     record { rows = rw all c.loop-row.invariant.0; size = rw all c.loop-row.invariant.1 }

@@ -1,5 +1,5 @@
 use Rattle.std.proofs.Common.{arith, rules}
-use Rattle.icysixel_c.proofs.texts.encoded.Goals as goal
+use Rattle.icysixel_c.proofs.pixels.Pixels.encoded.Goals as goal
 
 pub text_of_rows-requires-clause-stride : goal.text_of_rows-requires-clause-stride
 text_of_rows-requires-clause-stride c = grind arith
