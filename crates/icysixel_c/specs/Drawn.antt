@@ -1,4 +1,5 @@
--- The image whose text C asks for: its rows as they lie in the caller's memory, the shape of a pixel and the background by P1 and P2.
+-- The image whose text C asks for: its rows as they lie in the caller's memory, the shape of a
+-- pixel and the background by P1 and P2.
 use Rattle.std.specs.Prelude.{ℕ, ◌*◌, ℤ, negsuc, List}
 use Rattle.sixel_base.specs.Payload.{Image}
 use Rattle.sixel_base.specs.Settings.{Settings, ratio_of, mode_of}
@@ -18,4 +19,5 @@ drawn width height settings pixels = record {
 -- the image of the rows that lie so in these bytes
 abbrev pub image_of : ℕ → ℕ → ℕ → ℤ → ℤ → List ℕ → Image
 image_of stride width height p1 p2 bytes =
-    drawn width height (settings_of p1 p2 (negsuc 0)) (rows_of (stride_of stride (4 * width)) (4 * width) height bytes)
+    drawn width height (settings_of p1 p2 (negsuc 0))
+    (rows_of (stride_of stride (4 * width)) (4 * width) height bytes)

@@ -11,7 +11,9 @@ pub slice_bounds-result-end : goal.slice_bounds-result-end
 slice_bounds-result-end c = grind (arith, common_steps, rows)
 
 pub returns-clause-rows : goal.returns-clause-rows
-returns-clause-rows c = ap (λ m. take m c.args.bytes.now) (mul_comm c.args.wide c.args.height) ∙ dense_rows c.args.wide c.args.height c.args.bytes.now
+returns-clause-rows c =
+    ap (λ m. take m c.args.bytes.now) (mul_comm c.args.wide c.args.height)
+    ∙ dense_rows c.args.wide c.args.height c.args.bytes.now
 
 pub returns-clause-size : goal.returns-clause-size
 returns-clause-size c = grind (arith, common_steps, rows)
