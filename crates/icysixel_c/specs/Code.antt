@@ -1,7 +1,11 @@
--- The numbers that C is told: a code for each cause of a refusal, and how an image stands that is received. This library's own;
--- include/icysixel.h names them for C. Here 8 is want of memory, 9 an overflow, and from 10 on what is wrong with sizes and data.
-use Rattle.std.specs.Prelude.{◌≡◌, ℕ, nat_le, ℤ, pos, negsuc, Bool, IsTrue, if◌then◌else◌, ◌⊎◌, List, Option, Some, None, IsSomeAnd}
-use Rattle.sixel_base.specs.Fault.{Fault, text_of, Malformed, TooLarge, MissingCommand, BadHeader, StreamFailed, DcsStreamFailed, Incomplete, NoIntroducer, Overflow}
+-- The numbers that C is told: a code for each cause of a refusal, and how an image stands that is
+-- received. This library's own; include/icysixel.h names them for C. Here 8 is want of memory, 9 an
+-- overflow, and from 10 on what is wrong with sizes and data.
+use Rattle.std.specs.Prelude.{◌≡◌, ℕ, nat_le, ℤ, pos, negsuc, Bool, IsTrue, if◌then◌else◌, ◌⊎◌}
+use Rattle.std.specs.Prelude.{List, Option, Some, None, IsSomeAnd}
+use Rattle.sixel_base.specs.Fault.{Fault, text_of, Malformed, TooLarge, MissingCommand, BadHeader}
+use Rattle.sixel_base.specs.Fault.{StreamFailed, DcsStreamFailed, Incomplete, NoIntroducer}
+use Rattle.sixel_base.specs.Fault.{Overflow}
 use Rattle.sixel_base.specs.Settings.{Settings}
 use Rattle.sixel_base.specs.declared.error.SixelError.{SixelError}
 use Rattle.sixel_base.specs.declared.error.SixelError.TheVariants as error
@@ -24,7 +28,8 @@ fault_code DcsStreamFailed = 19
 
 -- what may be told where this fault was found: its code, or want of memory where that may come
 abbrev pub IsTold : ℕ → Bool → Option Fault → Type 0
-IsTold code may_want found = ((code ≡ 8) × IsTrue may_want) ⊎ IsSomeAnd found (λ fault. code ≡ fault_code fault)
+IsTold code may_want found =
+    ((code ≡ 8) × IsTrue may_want) ⊎ IsSomeAnd found (λ fault. code ≡ fault_code fault)
 
 -- the code of an error
 abbrev pub IsCodeOf : ℕ → SixelError → Type 0
@@ -33,7 +38,8 @@ IsCodeOf code error.IntegerOverflow = code ≡ 9
 IsCodeOf code (error.InvalidDimensions width height) = code ≡ 10
 IsCodeOf code (error.BufferSizeMismatch expected actual) = code ≡ 11
 IsCodeOf code error.NoSixelData = code ≡ 12
-IsCodeOf code (error.InvalidData text) = (fault : Fault) → text_of fault ≡ Some text.now → code ≡ fault_code fault
+IsCodeOf code (error.InvalidData text) =
+    (fault : Fault) → text_of fault ≡ Some text.now → code ≡ fault_code fault
 
 -- a text that an error has with invalid data: that of a fault
 abbrev pub IsFaultText : List ℕ → Type 0
@@ -55,9 +61,14 @@ given (negsuc below) = None
 
 -- the parameters that C names
 abbrev pub settings_of : ℤ → ℤ → ℤ → Settings
-settings_of p1 p2 grid = record { aspect_ratio = given p1; zero_color = given p2; grid_size = given grid }
+settings_of p1 p2 grid = record {
+  aspect_ratio = given p1;
+  zero_color = given p2;
+  grid_size = given grid;
+}
 
--- 0 where more bytes are wanted, 1 where the image is complete, 2 where it was cancelled, 3 where it was interrupted
+-- 0 where more bytes are wanted, 1 where the image is complete, 2 where it was cancelled, 3 where
+-- it was interrupted
 abbrev pub status_code : Status → ℕ
 status_code (Payload payload.NeedMoreData) = 0
 status_code (Payload (payload.Terminated byte)) = 1

@@ -1,4 +1,5 @@
--- What a handle keeps for the caller beside its decoder: the image and the text that came last, if they are not taken yet.
+-- What a handle keeps for the caller beside its decoder: the image and the text that came last, if
+-- they are not taken yet.
 use Rattle.std.specs.Prelude.{◌≡◌, ℕ, List, Option, string_bytes}
 use Rattle.std.specs.Option.{option_map}
 use Rattle.icy_sixel.specs.ImageView.{image_value}

@@ -1,5 +1,7 @@
--- How the rows of an image lie in the caller's memory: each as many bytes, from the start of one row to that of the next a stride.
-use Rattle.std.specs.Prelude.{ℕ, ◌+◌, ◌-◌, ◌*◌, ◌==◌, nat_lt, ◌||◌, if◌then◌else◌, List, Option, Some, None, slice_range, ◌≡◌}
+-- How the rows of an image lie in the caller's memory: each as many bytes, from the start of one
+-- row to that of the next a stride.
+use Rattle.std.specs.Prelude.{ℕ, ◌+◌, ◌-◌, ◌*◌, ◌==◌, nat_lt, ◌||◌, if◌then◌else◌, List, Option}
+use Rattle.std.specs.Prelude.{Some, None, slice_range, ◌≡◌}
 use Rattle.sixel_base.specs.Payload.{Image}
 use Rattle.sixel_base.specs.Picture.{joined}
 
@@ -14,11 +16,13 @@ extent stride wide height = stride * (height - 1) + wide
 -- the same for a stride that holds a row, where a number counts it
 abbrev pub wanted : ℕ → ℕ → ℕ → Option ℕ
 wanted stride wide height =
-    if nat_lt stride wide || nat_lt 0xffff_ffff_ffff_ffff (extent stride wide height) then None else Some (extent stride wide height)
+    if nat_lt stride wide || nat_lt 0xffff_ffff_ffff_ffff (extent stride wide height) then None
+    else Some (extent stride wide height)
 
 -- the rows, joined
 abbrev pub rows_of : ℕ → ℕ → ℕ → List ℕ → List ℕ
-rows_of stride wide height bytes = joined (λ row. slice_range bytes (row * stride) (row * stride + wide)) height
+rows_of stride wide height bytes =
+    joined (λ row. slice_range bytes (row * stride) (row * stride + wide)) height
 
 -- how many bytes the rows of an image take with this stride
 abbrev pub bytes_of : ℕ → Image → Option ℕ
@@ -27,4 +31,5 @@ bytes_of stride image = wanted (stride_of stride (4 * image.width)) (4 * image.w
 -- what lies between a row and the next is the same
 abbrev pub AreGapsKept : ℕ → ℕ → ℕ → List ℕ → List ℕ → Type 0
 AreGapsKept stride wide row before after =
-    slice_range after (row * stride + wide) ((row + 1) * stride) ≡ slice_range before (row * stride + wide) ((row + 1) * stride)
+    slice_range after (row * stride + wide) ((row + 1) * stride)
+    ≡ slice_range before (row * stride + wide) ((row + 1) * stride)

@@ -1,5 +1,5 @@
--- What C is told of an image beside its pixels: its sizes, the shape of a pixel and the background, also as the parameters that ask for
--- them. The tables of these parameters are DEC's.
+-- What C is told of an image beside its pixels: its sizes, the shape of a pixel and the background,
+-- also as the parameters that ask for them. The tables of these parameters are DEC's.
 use Rattle.std.specs.Prelude.{length}
 use Rattle.sixel_base.specs.Payload.{Image}
 use Rattle.sixel_base.specs.Settings.{pad_of, p1_of, p2_of}

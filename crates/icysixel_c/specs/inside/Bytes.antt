@@ -9,4 +9,5 @@ use Rattle.std.specs.Vec.Ownership.{has_block, owns_if}
 use Rattle.std_heap.specs.contracts.GlobalAllocator.TheImpl.{ghosts}
 
 abbrev pub bytes_own : Global → Ptr → ℕ → ℕ → List ℕ → Fml
-bytes_own alloc at len room bytes = owns_if (has_block room) (block_with_items (ghosts.dealloc_token alloc) u8 at len room bytes)
+bytes_own alloc at len room bytes =
+    owns_if (has_block room) (block_with_items (ghosts.dealloc_token alloc) u8 at len room bytes)

@@ -17,7 +17,8 @@ abbrev pub LendsState : MutBor Handle → MutBor State → Fml
 LendsState h x = Lends handle.the_row state.the_row h x (with_state h.now)
 
 -- the slot with this state in it; one that holds none stays
-abbrev pub holding : (s : Slot) (before : Option State) → is_some before ≡ nat_lt 0 s.held → State → Slot
+abbrev pub holding : (s : Slot) (before : Option State) → is_some before ≡ nat_lt 0 s.held → State
+    → Slot
 holding s None agrees x = s
 holding s (Some before) agrees x = record s { handle = with_state s.handle x; agrees = agrees }
 

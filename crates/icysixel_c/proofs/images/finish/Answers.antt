@@ -27,15 +27,20 @@ keep_answer-requires-clause-known c =
     let image = c.keep_image.new.self.receiver.image in
     let wants = end_wants image.start.pixel_limit image.form image.bytes in
     let fault = end_fault image.start.pixel_limit image.form image.bytes in
-    result_known c.finish-answer.result (λ error. MatchBool image.is_refused (IsFault error (failed image.form)) (Faults error wants fault))
-    (λ error. received_known error image.is_refused wants (failed image.form) fault) c.finish-answer.ensures.error
+    result_known c.finish-answer.result
+    (λ error.
+    MatchBool image.is_refused (IsFault error (failed image.form)) (Faults error wants fault))
+    (λ error. received_known error image.is_refused wants (failed image.form) fault)
+    c.finish-answer.ensures.error
 
 pub returns-clause-finished : goal.returns-clause-finished
 returns-clause-finished c =
     let image = c.args.state.now.receiver.image in
     let wants = end_wants image.start.pixel_limit image.form image.bytes in
     let fault = end_fault image.start.pixel_limit image.form image.bytes in
-    let error : IfErr c.finish-answer.result (λ error. MatchBool image.is_refused (IsFault error (failed image.form)) (Faults error wants fault)) =
+    let error : IfErr c.finish-answer.result
+    (λ error.
+    MatchBool image.is_refused (IsFault error (failed image.form)) (Faults error wants fault)) =
     rw (← c.keep_image.ensures.receiver) c.finish-answer.ensures.error in
     record {
       unopened = grind arith;
@@ -44,12 +49,17 @@ returns-clause-finished c =
       image = grind arith;
       shape = grind arith;
       bytes = c.keep_answer.ensures.bytes;
-      area = λ done. c.keep_answer.ensures.area image.start.pixel_limit done (rw (← c.keep_image.ensures.receiver) c.finish-answer.ensures.area);
+      area = λ done.
+          c.keep_answer.ensures.area image.start.pixel_limit done
+          (rw (← c.keep_image.ensures.receiver) c.finish-answer.ensures.area);
       registers = grind arith;
       as_decoded = λ stored more is.
           of_stored c.finish-answer.result c.keep_answer.new.self.image
-          (λ i. IsDecodedAs image.start (found_followed image.form image.bytes more) (image_value i) c.keep_answer.new.self.receiver.decoder.registers)
-          (rw (c.keep_answer.ensures.receiver, ← c.keep_image.ensures.receiver) (c.finish-answer.ensures.as_decoded more))
+          (λ i.
+          IsDecodedAs image.start (found_followed image.form image.bytes more) (image_value i)
+          c.keep_answer.new.self.receiver.decoder.registers)
+          (rw (c.keep_answer.ensures.receiver, ← c.keep_image.ensures.receiver)
+          (c.finish-answer.ensures.as_decoded more))
           c.keep_answer.ensures.image c.keep_answer.ensures.dropped stored is;
       accepted = grind arith;
       faultless = grind arith;
@@ -58,6 +68,10 @@ returns-clause-finished c =
       kept = grind arith;
       dropped = search rules;
       refused = λ opened accepted refused. c.keep_answer.ensures.code wants fault refused
-          (subst (λ is_refused. IfErr c.finish-answer.result (λ error. MatchBool is_refused (IsFault error (failed image.form)) (Faults error wants fault))) accepted error);
+          (subst (λ is_refused.
+          IfErr c.finish-answer.result
+          (λ error.
+          MatchBool is_refused (IsFault error (failed image.form)) (Faults error wants fault)))
+          accepted error);
       again = grind arith;
     }

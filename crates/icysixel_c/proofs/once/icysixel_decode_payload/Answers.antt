@@ -22,7 +22,10 @@ keep_answer-requires-clause-known c =
     let limit = c.replace_decoder-decoder.result.pixel_limit in
     let wants = payload_wants limit c.args.bytes.now in
     let fault = payload_fault limit c.args.bytes.now in
-    result_known c.decode_from_dcs-answer.result (λ error. Faults error wants fault) (λ error. found_known error wants fault) c.decode_from_dcs-answer.ensures.refused
+    result_known c.decode_from_dcs-answer.result
+    (λ error. Faults error wants fault)
+    (λ error. found_known error wants fault)
+    c.decode_from_dcs-answer.ensures.refused
 
 pub returns-clause-held : goal.returns-clause-held
 returns-clause-held c = grind arith
@@ -35,7 +38,8 @@ returns-clause-dropped c = grind arith
 
 pub returns-clause-refused : goal.returns-clause-refused
 returns-clause-refused c = λ before is refused.
-    let same : c.replace_decoder-decoder.result ≡ before.receiver.decoder = grind (arith, c.state-state.ensures.value) in
+    let same : c.replace_decoder-decoder.result ≡ before.receiver.decoder =
+    grind (arith, c.state-state.ensures.value) in
     rw (← same) (c.keep_answer.ensures.code _ _ refused c.decode_from_dcs-answer.ensures.refused)
 
 pub returns-clause-closed : goal.returns-clause-closed
@@ -46,11 +50,17 @@ returns-clause-found c = grind arith
 
 pub returns-clause-image : goal.returns-clause-image
 returns-clause-image c = λ before after image is is_now kept.
-    let same : c.replace_decoder-decoder.result ≡ before.receiver.decoder = grind (arith, c.state-state.ensures.value) in
+    let same : c.replace_decoder-decoder.result ≡ before.receiver.decoder =
+    grind (arith, c.state-state.ensures.value) in
     let now : c.keep_answer.new.self.image ≡ Some image = grind arith in
     let settings : c.settings.result ≡ settings_of c.args.p1 c.args.p2 c.args.grid = search rules in
     let bytes = c.args.bytes.now in
-    of_stored c.decode_from_dcs-answer.result c.keep_answer.new.self.image (λ image. image_value image ≡ payload_image (origin_of c.replace_decoder-decoder.result c.settings.result) bytes) c.decode_from_dcs-answer.ensures.image c.keep_answer.ensures.image c.keep_answer.ensures.dropped image now
+    of_stored c.decode_from_dcs-answer.result c.keep_answer.new.self.image
+    (λ image.
+    image_value image
+    ≡ payload_image (origin_of c.replace_decoder-decoder.result c.settings.result) bytes)
+    c.decode_from_dcs-answer.ensures.image c.keep_answer.ensures.image c.keep_answer.ensures.dropped
+    image now
     ∙ (ap (λ decoder. payload_image (origin_of decoder c.settings.result) bytes) same
     ∙ ap (λ settings. payload_image (origin_of before.receiver.decoder settings) bytes) settings)
 

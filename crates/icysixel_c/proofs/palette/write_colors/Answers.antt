@@ -1,4 +1,5 @@
-use Rattle.std.proofs.Common.{◌≡◌, ℕ, ◌+◌, ◌<◌, ◌≤◌, List, [], ◌∷◌, ◌++◌, length, take, map, set, get_or, refl, ap, sym, ◌∙◌, arith}
+use Rattle.std.proofs.Common.{◌≡◌, ℕ, ◌+◌, ◌<◌, ◌≤◌, List, [], ◌∷◌, ◌++◌, length, take, map, set}
+use Rattle.std.proofs.Common.{get_or, refl, ap, sym, ◌∙◌, arith}
 use Rattle.std.proofs.lemmas.List.{map-set, length-map, take_more, take_more_set, drop-set-lt}
 use Rattle.icysixel_c.specs.Colors.{channels, first_colors}
 use Rattle.icysixel_c.specs.declared.registers.Color.{Color}
@@ -12,10 +13,14 @@ three (a ∷ b ∷ c ∷ []) long = refl
 three (a ∷ b ∷ c ∷ d ∷ xs) long = absurd (omega (arith, long))
 
 -- one color more
-one_more : (place : ℕ) (room : List Color) (color : Color) (colors : List (List ℕ)) → place < length colors → length colors ≤ length room → channels color ≡ get_or colors place [] → first_colors place room ≡ take place colors → first_colors (place + 1) (set room place color) ≡ take (place + 1) colors
+one_more : (place : ℕ) (room : List Color) (color : Color) (colors : List (List ℕ))
+    → place < length colors → length colors ≤ length room → channels color ≡ get_or colors place []
+    → first_colors place room ≡ take place colors
+    → first_colors (place + 1) (set room place color) ≡ take (place + 1) colors
 one_more place room color colors inside fits is before =
     ap (take (place + 1)) (map-set channels room place color)
-    ∙ (take_more_set (map channels room) place (channels color) (omega (arith, length-map room channels))
+    ∙ (take_more_set (map channels room) place (channels color)
+    (omega (arith, length-map room channels))
     ∙ (ap (λ xs. xs ++ channels color ∷ []) before
     ∙ (ap (λ x. take place colors ++ x ∷ []) is ∙ sym (take_more colors place [] inside))))
 
@@ -39,7 +44,14 @@ loop-place-preserved c =
     let place = c.loop-place.place in
     let inside = c.loop-place-test.true in
     let color = get_or c.args.colors.now place [] in
-    let written : Color = record { red = get_or color 0 0; green = get_or color 1 0; blue = get_or color 2 0 } in (
-      one_more place c.loop-place.room written c.args.colors.now inside (omega (arith, c.requires, c.loop-place.auto.room)) (three color (c.told-colors place inside)) c.loop-place.invariant.0,
-      drop-set-lt (length c.args.colors.now) c.loop-place.room place written inside ∙ c.loop-place.invariant.1,
+    let written : Color = record {
+      red = get_or color 0 0;
+      green = get_or color 1 0;
+      blue = get_or color 2 0;
+    } in (
+      one_more place c.loop-place.room written c.args.colors.now inside
+          (omega (arith, c.requires, c.loop-place.auto.room))
+          (three color (c.told-colors place inside)) c.loop-place.invariant.0,
+      drop-set-lt (length c.args.colors.now) c.loop-place.room place written inside
+          ∙ c.loop-place.invariant.1,
     )

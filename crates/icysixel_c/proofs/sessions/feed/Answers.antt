@@ -34,7 +34,9 @@ returns-in-Err-clause-fed c =
       sound = grind arith;
       failed = grind arith;
       refused = grind arith;
-      refused_for_good = λ settings more form accepted error. told _ _ (read.refused_for_good settings c.in-Err.error more form c.in-Err.is accepted);
-      string_refused_for_good = λ more form accepted error. told _ _ (read.string_refused_for_good c.in-Err.error more form c.in-Err.is accepted);
+      refused_for_good = λ settings more form accepted error.
+          told _ _ (read.refused_for_good settings c.in-Err.error more form c.in-Err.is accepted);
+      string_refused_for_good = λ more form accepted error.
+          told _ _ (read.string_refused_for_good c.in-Err.error more form c.in-Err.is accepted);
       again = grind arith;
     }

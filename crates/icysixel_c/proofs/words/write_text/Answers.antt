@@ -13,7 +13,8 @@ returns-then-text-room-clause-text c = λ fits.
     let text = c.args.text.now in
     let room = c.args.room.now in
     let same : c.copy_from_slice.new.self ≡ text = grind arith in
-    ap (λ first. set (first ++ drop (length text) room) (length text) 0) same ∙ zero_after text room fits
+    ap (λ first. set (first ++ drop (length text) room) (length text) 0) same
+    ∙ zero_after text room fits
 
 pub returns-then-text-room-clause-empty : goal.returns-then-text-room-clause-empty
 returns-then-text-room-clause-empty c = grind arith
