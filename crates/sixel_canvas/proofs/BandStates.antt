@@ -19,13 +19,18 @@ all_set (suc (suc (suc (suc zero)))) six = refl
 all_set (suc (suc (suc (suc (suc zero))))) six = refl
 all_set (suc (suc (suc (suc (suc (suc k)))))) six = absurd (omega (arith, six))
 
-stored_clean : (background : List ℕ) (pixels : List (List ℕ)) (cap reach : ℕ) → IsBand (band_state background pixels cap reach) → (column k : ℕ) → reach ≤ column → column < cap → k < 6 → stored pixels cap background column k ≡ background
+stored_clean : (background : List ℕ) (pixels : List (List ℕ)) (cap reach : ℕ) →
+    IsBand (band_state background pixels cap reach) → (column k : ℕ) → reach ≤ column →
+    column < cap → k < 6 → stored pixels cap background column k ≡ background
 stored_clean background pixels cap reach is column k past inside six =
     let shown : cell (band_state background pixels cap reach) column k ≡ stored pixels cap background column k = rw (lt-ltb column cap inside, lt-ltb k 6 six) refl in
     sym shown ∙ is.clean column k past
 
 -- a band whose columns up to its reach were drawn over in background shows nothing else
-pub cleared : (background : List ℕ) (pixels new : List (List ℕ)) (cap reach : ℕ) → IsBand (band_state background pixels cap reach) → ((column k : ℕ) → column < cap → k < 6 → stored new cap background column k ≡ (if covers 0 reach 0 63 column k then background else stored pixels cap background column k)) → (column k : ℕ) → cell (band_state background new cap 0) column k ≡ background
+pub cleared : (background : List ℕ) (pixels new : List (List ℕ)) (cap reach : ℕ) →
+    IsBand (band_state background pixels cap reach) →
+    ((column k : ℕ) → column < cap → k < 6 → stored new cap background column k ≡ (if covers 0 reach 0 63 column k then background else stored pixels cap background column k)) →
+    (column k : ℕ) → cell (band_state background new cap 0) column k ≡ background
 cleared background pixels new cap reach is drawn column k =
     elim (cases_lt column cap) [
       | inr right ↦ rw (le-ltb column cap right) refl
@@ -56,7 +61,11 @@ none_third true false c is = refl
 none_third false b c is = refl
 
 -- one row was filled between two columns
-pub row_filled : (background : List ℕ) (pixels new : List (List ℕ)) (cap reach k from to : ℕ) (color : List ℕ) → k < 6 → from ≤ to → to ≤ cap → ((i : ℕ) → get_or new i background ≡ filled (k * cap + from) (k * cap + to) color i (get_or pixels i background)) → (column j : ℕ) → cell (band_state background new cap reach) column j ≡ (if nat_le from column && nat_lt column to && j == k then color else cell (band_state background pixels cap reach) column j)
+pub row_filled : (background : List ℕ) (pixels new : List (List ℕ)) (cap reach k from to : ℕ) (color : List ℕ) →
+    k < 6 → from ≤ to → to ≤ cap →
+    ((i : ℕ) → get_or new i background ≡ filled (k * cap + from) (k * cap + to) color i (get_or pixels i background)) →
+    (column j : ℕ) →
+    cell (band_state background new cap reach) column j ≡ (if nat_le from column && nat_lt column to && j == k then color else cell (band_state background pixels cap reach) column j)
 row_filled background pixels new cap reach k from to color six order within change column j =
     elim (cases_lt column cap) [
       | inr right ↦ rw (le-ltb column cap right, and_right_none (nat_le from column) (nat_lt column to) (j == k) (le-ltb column to (omega (arith, within, right)))) refl
@@ -70,7 +79,10 @@ row_filled background pixels new cap reach k from to color six order within chan
     ]
 
 -- and the band stays one where the row was drawn on up to there
-pub is_filled : (background : List ℕ) (pixels new : List (List ℕ)) (cap reach k from to : ℕ) (color : List ℕ) → IsBand (band_state background pixels cap reach) → length new ≡ length pixels → to ≤ reach → ((column j : ℕ) → cell (band_state background new cap reach) column j ≡ (if nat_le from column && nat_lt column to && j == k then color else cell (band_state background pixels cap reach) column j)) → IsBand (band_state background new cap reach)
+pub is_filled : (background : List ℕ) (pixels new : List (List ℕ)) (cap reach k from to : ℕ) (color : List ℕ) →
+    IsBand (band_state background pixels cap reach) → length new ≡ length pixels → to ≤ reach →
+    ((column j : ℕ) → cell (band_state background new cap reach) column j ≡ (if nat_le from column && nat_lt column to && j == k then color else cell (band_state background pixels cap reach) column j)) →
+    IsBand (band_state background new cap reach)
 is_filled background pixels new cap reach k from to color is len reached shown =
     record {
       fits = len ∙ is.fits;

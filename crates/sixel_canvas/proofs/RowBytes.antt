@@ -13,12 +13,14 @@ use Rattle.sixel_canvas.specs.inside.FinalRows.{final, pixel_at, rows_state}
 use Rattle.sixel_canvas.proofs.Pixels.{joined-row}
 
 -- a pixel of the first bytes, and one of those after them
-pub pixel_left : (xs ys : List ℕ) (n i : ℕ) → length xs ≡ 4 * n → i < n → pixel_at (xs ++ ys) i ≡ pixel_at xs i
+pub pixel_left : (xs ys : List ℕ) (n i : ℕ) → length xs ≡ 4 * n → i < n →
+    pixel_at (xs ++ ys) i ≡ pixel_at xs i
 pixel_left xs ys n i len inside =
     ap (take 4) (drop-append-le (4 * i) xs ys (omega (arith, len, inside)))
     ∙ take-append-le 4 (drop (4 * i) xs) ys (omega (arith, length-drop (4 * i) xs, len, inside))
 
-pub pixel_right : (xs ys : List ℕ) (n i : ℕ) → length xs ≡ 4 * n → pixel_at (xs ++ ys) (n + i) ≡ pixel_at ys i
+pub pixel_right : (xs ys : List ℕ) (n i : ℕ) → length xs ≡ 4 * n →
+    pixel_at (xs ++ ys) (n + i) ≡ pixel_at ys i
 pixel_right xs ys n i len =
     let at : 4 * (n + i) ≡ length xs + 4 * i = omega (arith, len) in
     ap (λ m. take 4 (drop m (xs ++ ys))) at ∙ ap (take 4) (drop-append-add xs ys (4 * i))
@@ -27,7 +29,8 @@ take_front : (x rest : List ℕ) → length x ≡ 4 → take 4 (x ++ rest) ≡ x
 take_front x rest four = ap (λ n. take n (x ++ rest)) (sym four) ∙ take-append_seam x rest
 
 -- a pixel of a row
-pub pixel_joined : (f : ℕ → List ℕ) (n i : ℕ) → ((k : ℕ) → length (f k) ≡ 4) → i < n → pixel_at (joined f n) i ≡ f i
+pub pixel_joined : (f : ℕ → List ℕ) (n i : ℕ) → ((k : ℕ) → length (f k) ≡ 4) → i < n →
+    pixel_at (joined f n) i ≡ f i
 pixel_joined f n i four inside =
     let m = n - suc i in
     let rest = joined (λ k. f (i + suc k)) m in
@@ -54,7 +57,8 @@ drop-drop_sum (suc n) (suc m) (suc k) [] sum = refl
 drop-drop_sum (suc n) m (suc k) (x ∷ xs) sum = drop-drop_sum n m k xs (omega (arith, sum))
 
 -- a pixel of some bytes from a pixel on
-pub pixel_part : (bytes : List ℕ) (from n i : ℕ) → i < n → pixel_at (take (4 * n) (drop (4 * from) bytes)) i ≡ pixel_at bytes (from + i)
+pub pixel_part : (bytes : List ℕ) (from n i : ℕ) → i < n →
+    pixel_at (take (4 * n) (drop (4 * from) bytes)) i ≡ pixel_at bytes (from + i)
 pixel_part bytes from n i inside =
     let rest = drop (4 * from) bytes in
     let more : 4 * n ≡ 4 * i + 4 * (n - i) = omega (arith, inside) in
@@ -65,7 +69,8 @@ pixel_part bytes from n i inside =
     ∙ ap (take 4) (drop-drop_sum (4 * from) (4 * i) (4 * (from + i)) bytes at)
 
 -- bytes are their pixels, one after another
-pub pixels_joined : (f : ℕ → List ℕ) (bytes : List ℕ) (n : ℕ) → length bytes ≡ 4 * n → ((i : ℕ) → i < n → pixel_at bytes i ≡ f i) → bytes ≡ joined f n
+pub pixels_joined : (f : ℕ → List ℕ) (bytes : List ℕ) (n : ℕ) → length bytes ≡ 4 * n →
+    ((i : ℕ) → i < n → pixel_at bytes i ≡ f i) → bytes ≡ joined f n
 unfolding joined
 pixels_joined f [] zero len same = refl
 pixels_joined f (x ∷ bytes) zero len same = absurd (omega (arith, len))
@@ -79,7 +84,10 @@ pixels_joined f bytes (suc n) len same =
     sym parts ∙ ap (λ xs. xs ++ last) is_front ∙ ap (λ xs. joined f n ++ xs) is_last
 
 -- bytes are a picture where each of their pixels is the picture's
-pub pixels_picture : (p : ℕ → ℕ → List ℕ) (bytes : List ℕ) (width height : ℕ) → length bytes ≡ 4 * (height * width) → ((column row : ℕ) → column < width → row < height → pixel_at bytes (row * width + column) ≡ p column row) → bytes ≡ picture p width height
+pub pixels_picture : (p : ℕ → ℕ → List ℕ) (bytes : List ℕ) (width height : ℕ) →
+    length bytes ≡ 4 * (height * width) →
+    ((column row : ℕ) → column < width → row < height → pixel_at bytes (row * width + column) ≡ p column row) →
+    bytes ≡ picture p width height
 unfolding joined picture
 pixels_picture p [] width zero len same = refl
 pixels_picture p (x ∷ bytes) width zero len same = absurd (omega (arith, len))
@@ -97,26 +105,38 @@ pixels_picture p bytes width (suc height) len same =
     sym parts ∙ ap (λ xs. xs ++ last) is_front ∙ ap (λ xs. picture p width height ++ xs) is_last
 
 -- so many background pixels, or those of a row and background to their right
-background-pixel : (background : List ℕ) (n i : ℕ) → length background ≡ 4 → i < n → pixel_at (joined (λ _. background) n) i ≡ background
+background-pixel : (background : List ℕ) (n i : ℕ) → length background ≡ 4 → i < n →
+    pixel_at (joined (λ _. background) n) i ≡ background
 background-pixel background n i four inside = pixel_joined (λ _. background) n i (λ _. four) inside
 
-row-pixel-len : (pixels : List (List ℕ)) (background : List ℕ) (k : ℕ) → length background ≡ 4 → ((i : ℕ) → i < length pixels → length (get_or pixels i []) ≡ 4) → length (get_or pixels k background) ≡ 4
+row-pixel-len : (pixels : List (List ℕ)) (background : List ℕ) (k : ℕ) → length background ≡ 4 →
+    ((i : ℕ) → i < length pixels → length (get_or pixels i []) ≡ 4) →
+    length (get_or pixels k background) ≡ 4
 row-pixel-len [] background k four all = four
 row-pixel-len (p ∷ pixels) background zero four all = all zero (omega arith)
 row-pixel-len (p ∷ pixels) background (suc k) four all = row-pixel-len pixels background k four (λ i h. all (suc i) (omega (arith, h)))
 
-row-is : (pixels : List (List ℕ)) (background : List ℕ) (width : ℕ) → length pixels ≤ width → flat_map (λ x. x) pixels ++ joined (λ _. background) (width - length pixels) ≡ joined (λ column. get_or pixels column background) width
+row-is : (pixels : List (List ℕ)) (background : List ℕ) (width : ℕ) → length pixels ≤ width →
+    flat_map (λ x. x) pixels ++ joined (λ _. background) (width - length pixels) ≡ joined (λ column. get_or pixels column background) width
 row-is pixels background width few =
     sym (joined-row pixels background (length pixels) width (omega (arith, few)) ∙ ap (λ xs. flat_map (λ x. x) xs ++ joined (λ _. background) (width - length pixels)) (take_all (length pixels) pixels (omega arith)))
 
 -- one row more, of these pixels and background to their right
-pub row_len : (bytes part new background : List ℕ) (width rows held : ℕ) → held ≤ width → length background ≡ 4 → length bytes ≡ 4 * (rows * width) → length part ≡ 4 * held → new ≡ bytes ++ (part ++ joined (λ _. background) (width - held)) → length new ≡ 4 * ((rows + 1) * width)
+pub row_len : (bytes part new background : List ℕ) (width rows held : ℕ) → held ≤ width →
+    length background ≡ 4 → length bytes ≡ 4 * (rows * width) → length part ≡ 4 * held →
+    new ≡ bytes ++ (part ++ joined (λ _. background) (width - held)) →
+    length new ≡ 4 * ((rows + 1) * width)
 row_len bytes part new background width rows held few four len part_len is =
     let rest = joined (λ _. background) (width - held) in
     let more : (rows + 1) * width ≡ rows * width + width = omega arith in
     ap length is ∙ omega (arith, more, few, len, part_len, length-append bytes (part ++ rest), length-append part rest, length-joined (λ _. background) 4 (width - held) (λ _. four))
 
-pub row_appended : (bytes part new background : List ℕ) (pixels : List (List ℕ)) (width rows room room' : ℕ) → length pixels ≤ width → length background ≡ 4 → ((i : ℕ) → i < length pixels → length (get_or pixels i []) ≡ 4) → length bytes ≡ 4 * (rows * width) → part ≡ flat_map (λ x. x) pixels → new ≡ bytes ++ (part ++ joined (λ _. background) (width - length pixels)) → (column row : ℕ) → final (rows_state background new width (rows + 1) room') column row ≡ (if row == rows then get_or pixels column background else final (rows_state background bytes width rows room) column row)
+pub row_appended : (bytes part new background : List ℕ) (pixels : List (List ℕ)) (width rows room room' : ℕ) →
+    length pixels ≤ width → length background ≡ 4 →
+    ((i : ℕ) → i < length pixels → length (get_or pixels i []) ≡ 4) →
+    length bytes ≡ 4 * (rows * width) → part ≡ flat_map (λ x. x) pixels →
+    new ≡ bytes ++ (part ++ joined (λ _. background) (width - length pixels)) → (column row : ℕ) →
+    final (rows_state background new width (rows + 1) room') column row ≡ (if row == rows then get_or pixels column background else final (rows_state background bytes width rows room) column row)
 row_appended bytes part new background pixels width rows room room' few four all len flat is column row =
     let f = λ (k : ℕ). get_or pixels k background in
     let next : new ≡ bytes ++ joined f width = is ∙ ap (λ xs. bytes ++ xs) (ap (λ xs. xs ++ joined (λ _. background) (width - length pixels)) flat ∙ row-is pixels background width few) in
@@ -140,14 +160,22 @@ row_appended bytes part new background pixels width rows room room' few four all
       ]
     ]
 
-pub part_len_is : (old part : List ℕ) (held width row rows kept : ℕ) → kept ≡ min width held → row < rows → length old ≡ 4 * (rows * held) → part ≡ take (4 * kept) (drop (4 * (row * held)) old) → length part ≡ 4 * kept
+pub part_len_is : (old part : List ℕ) (held width row rows kept : ℕ) → kept ≡ min width held →
+    row < rows → length old ≡ 4 * (rows * held) →
+    part ≡ take (4 * kept) (drop (4 * (row * held)) old) → length part ≡ 4 * kept
 part_len_is old part held width row rows kept least inside len cut =
     let rest = drop (4 * (row * held)) old in
     ap length cut ∙ length-take (4 * kept) rest
     ∙ omega (arith, least, len, length-drop (4 * (row * held)) old, row_fits row held rows held inside (omega arith))
 
 -- one row more was copied to rows of another width
-pub row_copied : (old bytes part new background : List ℕ) (held width row rows kept : ℕ) → kept ≡ min width held → length background ≡ 4 → row < rows → length old ≡ 4 * (rows * held) → length bytes ≡ 4 * (row * width) → part ≡ take (4 * kept) (drop (4 * (row * held)) old) → new ≡ bytes ++ (part ++ joined (λ _. background) (width - kept)) → ((column r : ℕ) → column < width → r < row → pixel_at bytes (r * width + column) ≡ (if nat_lt column held then pixel_at old (r * held + column) else background)) → (column r : ℕ) → column < width → r < row + 1 → pixel_at new (r * width + column) ≡ (if nat_lt column held then pixel_at old (r * held + column) else background)
+pub row_copied : (old bytes part new background : List ℕ) (held width row rows kept : ℕ) →
+    kept ≡ min width held → length background ≡ 4 → row < rows → length old ≡ 4 * (rows * held) →
+    length bytes ≡ 4 * (row * width) → part ≡ take (4 * kept) (drop (4 * (row * held)) old) →
+    new ≡ bytes ++ (part ++ joined (λ _. background) (width - kept)) →
+    ((column r : ℕ) → column < width → r < row → pixel_at bytes (r * width + column) ≡ (if nat_lt column held then pixel_at old (r * held + column) else background)) →
+    (column r : ℕ) → column < width → r < row + 1 →
+    pixel_at new (r * width + column) ≡ (if nat_lt column held then pixel_at old (r * held + column) else background)
 row_copied old bytes part new background held width row rows kept least four inside_rows len bytes_len cut is before column r inside up =
     let rest = joined (λ _. background) (width - kept) in
     let part_len : length part ≡ 4 * kept = part_len_is old part held width row rows kept least inside_rows len cut in
@@ -184,7 +212,11 @@ and_false true = refl
 and_false false = refl
 
 -- bytes cut to a height, and filled up with background, are the picture of what they show
-pub taken_len : (bytes cut new background : List ℕ) (width height rows : ℕ) → length background ≡ 4 → length bytes ≡ 4 * (rows * width) → cut ≡ take (4 * (height * width)) bytes → new ≡ cut ++ joined (λ _. background) ((height - rows) * width) → length new ≡ 4 * (height * width)
+pub taken_len : (bytes cut new background : List ℕ) (width height rows : ℕ) →
+    length background ≡ 4 → length bytes ≡ 4 * (rows * width) →
+    cut ≡ take (4 * (height * width)) bytes →
+    new ≡ cut ++ joined (λ _. background) ((height - rows) * width) →
+    length new ≡ 4 * (height * width)
 taken_len bytes cut new background width height rows four len is filled =
     let rest = joined (λ _. background) ((height - rows) * width) in
     let cut_len : length cut ≡ min (4 * (height * width)) (4 * (rows * width)) = ap length is ∙ length-take (4 * (height * width)) bytes ∙ ap (min (4 * (height * width))) len in
@@ -200,7 +232,12 @@ taken_len bytes cut new background width height rows four len is filled =
           omega (arith, cut_len, none, fits, length-joined (λ _. background) 4 ((height - rows) * width) (λ _. four))
     ]
 
-pub taken : (p : ℕ → ℕ → List ℕ) (bytes cut new background : List ℕ) (width height rows : ℕ) → length background ≡ 4 → length bytes ≡ 4 * (rows * width) → cut ≡ take (4 * (height * width)) bytes → new ≡ cut ++ joined (λ _. background) ((height - rows) * width) → ((column row : ℕ) → column < width → p column row ≡ (if nat_lt column width && nat_lt row rows then pixel_at bytes (row * width + column) else background)) → new ≡ picture p width height
+pub taken : (p : ℕ → ℕ → List ℕ) (bytes cut new background : List ℕ) (width height rows : ℕ) →
+    length background ≡ 4 → length bytes ≡ 4 * (rows * width) →
+    cut ≡ take (4 * (height * width)) bytes →
+    new ≡ cut ++ joined (λ _. background) ((height - rows) * width) →
+    ((column row : ℕ) → column < width → p column row ≡ (if nat_lt column width && nat_lt row rows then pixel_at bytes (row * width + column) else background)) →
+    new ≡ picture p width height
 taken p bytes cut new background width height rows four len is filled shown =
     let rest = joined (λ _. background) ((height - rows) * width) in
     let n = min (height * width) (rows * width) in
