@@ -1,10 +1,15 @@
--- What a canvas of one band shows once its band was drawn on, or one more of its rows was appended to the final ones.
+-- What a canvas of one band shows once its band was drawn on, or one more of its rows was appended
+-- to the final ones.
 use Rattle.std.proofs.Common.{◌≡◌, ℕ, ◌+◌, ◌-◌, ◌≤◌, Bool, true, false, List, refl, ap, ◌∙◌, inl, inr, eq-eqb, arith}
 use Rattle.std.specs.Prelude.{nat_lt, ◌==◌, ◌&&◌, if◌then◌else◌}
 use Rattle.std.proofs.lemmas.Bool.{cases_lt, cases_order, lt-ltb, le-ltb, lt-leb, le-leb, ne_eqb}
 use Rattle.sixel_base.specs.Picture.{is_struck}
 
-pub row_handed : (top k row rows : ℕ) (above here new_row mid new background : List ℕ) → rows ≡ top + k → new ≡ (if row == rows then new_row else mid) → mid ≡ (if nat_lt row top then above else (if nat_lt row (top + k) then here else background)) → (row ≡ top + k → new_row ≡ here) → new ≡ (if nat_lt row top then above else (if nat_lt row (top + (k + 1)) then here else background))
+pub row_handed : (top k row rows : ℕ) (above here new_row mid new background : List ℕ) →
+    rows ≡ top + k → new ≡ (if row == rows then new_row else mid) →
+    mid ≡ (if nat_lt row top then above else (if nat_lt row (top + k) then here else background)) →
+    (row ≡ top + k → new_row ≡ here) →
+    new ≡ (if nat_lt row top then above else (if nat_lt row (top + (k + 1)) then here else background))
 row_handed top k row rows above here new_row mid new background at is before same = elim (cases_order row rows) [
   | inl equal ↦
       is ∙ rw (eq-eqb row rows equal, le-ltb row top (omega (arith, equal, at)), lt-ltb row (top + (k + 1)) (omega (arith, equal, at)))
@@ -32,7 +37,9 @@ struck_down bits top row below =
     ]
 
 -- what is drawn on the band is drawn on the canvas
-pub canvas_over : (a b : Bool) (bits top row : ℕ) (above old new color : List ℕ) → new ≡ (if a && b && is_struck 0 bits (row - top) then color else old) → (if nat_lt row top then above else new) ≡ (if a && b && is_struck top bits row then color else (if nat_lt row top then above else old))
+pub canvas_over : (a b : Bool) (bits top row : ℕ) (above old new color : List ℕ) →
+    new ≡ (if a && b && is_struck 0 bits (row - top) then color else old) →
+    (if nat_lt row top then above else new) ≡ (if a && b && is_struck top bits row then color else (if nat_lt row top then above else old))
 canvas_over a b bits top row above old new color is = elim (cases_lt row top) [
   | inl high ↦ rw (lt-ltb row top high, lt-leb top row high, and_none a b) refl
   | inr below ↦ rw (le-ltb row top below) (is ∙ ap (λ s. if a && b && s then color else old) (struck_down bits top row below))

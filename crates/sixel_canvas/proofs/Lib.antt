@@ -6,6 +6,7 @@ pub mod Loans
 pub mod Mixing
 pub mod OneRow
 pub mod Pictures
+pub mod PixelBytes
 pub mod Pixels
 pub mod Results
 pub mod RowBytes

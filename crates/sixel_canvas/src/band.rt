@@ -1,6 +1,7 @@
 //! Six rows of pixels in one block, in which an image's bands are drawn one after another.
 ghost use Rattle.std.specs.Prelude.{◌≡◌, ℕ, ◌+◌, ◌*◌, ◌≤◌, ◌<◌, List, length, max, min};
-ghost use Rattle.std.specs.Prelude.{false, nat_le, nat_lt, ◌&&◌, ◌==◌, slice_index_or, IfOk, OnErr, OnOk, if◌then◌else◌};
+ghost use Rattle.std.specs.Prelude.{false, nat_le, nat_lt, ◌&&◌, ◌==◌, slice_index_or};
+ghost use Rattle.std.specs.Prelude.{IfOk, OnErr, OnOk, if◌then◌else◌};
 ghost use Rattle.sixel_base.specs.Picture.{covers};
 ghost use Rattle.sixel_canvas.specs.inside.Band.{cell, stored, IsBand};
 ghost use Rattle.sixel_canvas.specs.inside.Drawn.{covers_block};
@@ -122,7 +123,7 @@ impl Band {
         self.reach = self.reach.max(to);
     }
 
-    /// Gives one color to the columns from `from` up to before `to` of row `k`, which were drawn on.
+    /// Gives one color to a part of row `k` that was drawn on.
     pub fn draw_row(&mut self, k: usize, from: usize, to: usize, color: [u8; 4])
         requires six { k < 6 }
         requires ordered { from ≤ to }

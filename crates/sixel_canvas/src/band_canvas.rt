@@ -1,11 +1,13 @@
 //! A canvas of one band: the rows above it are final, and stored as those of the image.
 ghost use Rattle.std.specs.Prelude.{◌≡◌, ℕ, ◌+◌, ◌*◌, ◌^◌, ◌≤◌, ◌<◌, List, max, OnErr, OnOk};
-ghost use Rattle.std.specs.Prelude.{◌-◌, nat_lt, if◌then◌else◌};
+ghost use Rattle.std.specs.Prelude.{◌-◌, ◌/◌, ◌%◌, length, slice_index, nat_lt, if◌then◌else◌};
 ghost use Rattle.sixel_canvas.specs.inside.Band.{cell};
 ghost use Rattle.sixel_canvas.specs.inside.BandCanvas.{band_canvas_shown, IsHeld, IsPaid};
+ghost use Rattle.sixel_canvas.specs.inside.Channels.{in_order};
 ghost use Rattle.sixel_canvas.specs.inside.FinalRows.{final};
 ghost use Rattle.sixel_canvas.specs.inside.TaggedBand.{tagged_cell};
 
+use crate::channels::{ChannelOrder, copy_row};
 use crate::drawing::Canvas;
 use crate::final_rows::FinalRows;
 use crate::tagged_band::TaggedBand;
@@ -116,6 +118,26 @@ impl Canvas for BandCanvas {
 }
 
 impl BandCanvas {
+    /// Writes row `k` of the band, as it shows now, to a row of the caller's.
+    pub fn copy_row(&mut self, k: usize, order: ChannelOrder, out: &mut [u8])
+        requires { k < 6 }
+        ensures len { length out.new ≡ length out.old }
+        ensures copied { (i : ℕ) → i < 4 * (length out.old / 4) → slice_index out.new i
+            ≡ slice_index (in_order order
+            (band_canvas_shown self.old (i / 4) (self.old.top + k))) (i % 4) }
+        ensures shown { (column row : ℕ) → band_canvas_shown self.new column row
+            ≡ band_canvas_shown self.old column row }
+        ensures top { self.new.top ≡ self.old.top }
+        ensures held { self.new.held ≡ self.old.held }
+        ensures cap { self.new.band.pixels.cap ≡ self.old.band.pixels.cap }
+        ensures reach { self.new.band.pixels.reach ≡ self.old.band.pixels.reach }
+        ensures painted { self.new.band.painted ≡ self.old.band.painted }
+    {
+        self.band.settle_all();
+        let background = self.band.background();
+        copy_row(self.band.row(k), background, order, out);
+    }
+
     /// Makes memory for so many columns of the band, and for its rows among the final ones.
     #[inline(always)]
     fn hold(&mut self, columns: usize) -> Result<(), AllocError>
@@ -168,7 +190,8 @@ impl BandCanvas {
     fn finish_rows(&mut self)
         ensures shown { (column row : ℕ) → final self.new.rows column row
             ≡ band_canvas_shown self.old column row }
-        ensures empty { (column k : ℕ) → tagged_cell self.new.band column k ≡ self.new.rows.background }
+        ensures empty { (column k : ℕ) → tagged_cell self.new.band column k
+            ≡ self.new.rows.background }
         ensures reach { self.new.band.pixels.reach ≡ 0 }
         ensures cap { self.new.band.pixels.cap ≡ self.old.band.pixels.cap }
         ensures top { self.new.top ≤ self.old.top + 6 }

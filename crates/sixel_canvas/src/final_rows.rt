@@ -1,6 +1,7 @@
 //! The rows of an image that are final, in the bytes of the image.
-ghost use Rattle.std.specs.Prelude.{◌≡◌, ℕ, ◌+◌, ◌-◌, ◌*◌, ◌^◌, ◌≤◌, ◌<◌, ◌++◌, ◌==◌, List, length, max};
-ghost use Rattle.std.specs.Prelude.{nat_lt, ◌&&◌, slice_index_or, IfOk, IsOk, OnErr, OnOk, if◌then◌else◌};
+ghost use Rattle.std.specs.Prelude.{◌≡◌, ℕ, ◌+◌, ◌-◌, ◌*◌, ◌^◌, ◌≤◌, ◌<◌, ◌++◌, ◌==◌};
+ghost use Rattle.std.specs.Prelude.{List, length, max, nat_lt, ◌&&◌, slice_index_or};
+ghost use Rattle.std.specs.Prelude.{IfOk, IsOk, OnErr, OnOk, if◌then◌else◌};
 ghost use Rattle.std.specs.Prelude.{vec_len, vec_capacity};
 ghost use Rattle.sixel_base.specs.Picture.{joined, picture};
 ghost use Rattle.sixel_canvas.specs.inside.FinalRows.{final, pixel_at};

@@ -5,6 +5,7 @@ pub mod band;
 pub mod band_canvas;
 mod block;
 mod canvas;
+pub mod channels;
 pub mod drawing;
 pub mod final_rows;
 mod line;

@@ -1,6 +1,7 @@
 //! A band in which a wide run over what was drawn costs no more than its blocks and two ends.
-ghost use Rattle.std.specs.Prelude.{◌≡◌, ℕ, ◌+◌, ◌-◌, ◌*◌, ◌/◌, ◌^◌, ◌≤◌, ◌<◌, List, length, max, min};
-ghost use Rattle.std.specs.Prelude.{true, false, nat_le, nat_lt, ◌&&◌, slice_index_or, OnErr, OnOk, if◌then◌else◌};
+ghost use Rattle.std.specs.Prelude.{◌≡◌, ℕ, ◌+◌, ◌-◌, ◌*◌, ◌/◌, ◌^◌, ◌≤◌, ◌<◌, List, length};
+ghost use Rattle.std.specs.Prelude.{max, min, true, false, nat_le, nat_lt, ◌&&◌};
+ghost use Rattle.std.specs.Prelude.{slice_index_or, OnErr, OnOk, if◌then◌else◌};
 ghost use Rattle.sixel_base.specs.Picture.{covers};
 ghost use Rattle.sixel_canvas.specs.inside.Band.{cell, IsBand};
 ghost use Rattle.sixel_canvas.specs.inside.Drawn.{covers_block};
@@ -77,6 +78,13 @@ impl TaggedBand {
             → tagged_cell self.now column k ≡ self.now.pixels.background }
     {
         self.pixels.reach()
+    }
+
+    /// Returns the color of columns that nothing was drawn on.
+    pub fn background(&self) -> [u8; 4]
+        ensures { result ≡ self.now.pixels.background }
+    {
+        self.pixels.background()
     }
 
     /// Returns how many columns and tags were painted so far, at most.
@@ -211,6 +219,8 @@ impl TaggedBand {
     #[inline(never)]
     pub fn settle_all(&mut self)
         ensures shown { (column k : ℕ) → cell self.new.pixels column k
+            ≡ tagged_cell self.old column k }
+        ensures same { (column k : ℕ) → tagged_cell self.new column k
             ≡ tagged_cell self.old column k }
         ensures background { self.new.pixels.background ≡ self.old.pixels.background }
         ensures cap { self.new.pixels.cap ≡ self.old.pixels.cap }

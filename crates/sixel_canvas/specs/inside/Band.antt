@@ -1,6 +1,7 @@
--- What a band shows: six rows of cap columns each, one after another in one block of pixels, and background from reach on.
--- The layout is this library's own.
-use Rattle.std.specs.Prelude.{◌≡◌, ℕ, ◌+◌, ◌-◌, ◌*◌, ◌≤◌, List, length, slice_index_or, ◌&&◌, nat_le, nat_lt, if◌then◌else◌}
+-- What a band shows: six rows of cap columns each, one after another in one block of pixels, and
+-- background from reach on. The layout is this library's own.
+use Rattle.std.specs.Prelude.{◌≡◌, ℕ, ◌+◌, ◌-◌, ◌*◌, ◌≤◌, List, length, slice_index_or}
+use Rattle.std.specs.Prelude.{◌&&◌, nat_le, nat_lt, if◌then◌else◌}
 use Rattle.sixel_base.specs.Picture.{is_set}
 
 -- a row of pixels, those from from up to before to in this color
@@ -10,13 +11,15 @@ filled from to color i pixel = if nat_le from i && nat_lt i to then color else p
 -- a pixel of the row of this bit, where eight sixels start at place at
 abbrev pub mixed_at : ℕ → List ℕ → ℕ → List ℕ → ℕ → List ℕ → List ℕ
 mixed_at at sixels bit color i pixel =
-    if nat_le at i && nat_lt i (at + 8) && is_set (slice_index_or sixels (i - at) 0) bit then color else pixel
+    if nat_le at i && nat_lt i (at + 8) && is_set (slice_index_or sixels (i - at) 0) bit then color
+    else pixel
 
 -- the pixel at a column of row k, in rows of cap columns
 abbrev pub stored : List (List ℕ) → ℕ → List ℕ → ℕ → ℕ → List ℕ
 stored pixels cap background column k = slice_index_or pixels (k * cap + column) background
 
--- the color of columns that nothing was drawn on, the six rows, how many columns each has, and from which column on they are background
+-- the color of columns that nothing was drawn on, the six rows, how many columns each has, and from
+-- which column on they are background
 pub record BandState : Type 0 where
   pub background : List ℕ
   pub pixels : List (List ℕ)
@@ -25,12 +28,14 @@ pub record BandState : Type 0 where
 
 -- the band with these parts
 abbrev pub band_state : List ℕ → List (List ℕ) → ℕ → ℕ → BandState
-band_state background pixels cap reach = record { background = background; pixels = pixels; cap = cap; reach = reach }
+band_state background pixels cap reach =
+    record { background = background; pixels = pixels; cap = cap; reach = reach }
 
 -- the pixel at a column of row k, and background outside the six rows
 abbrev pub cell : BandState → ℕ → ℕ → List ℕ
 cell band column k =
-    if nat_lt column band.cap && nat_lt k 6 then stored band.pixels band.cap band.background column k else band.background
+    if nat_lt column band.cap && nat_lt k 6 then stored band.pixels band.cap band.background column k
+    else band.background
 
 -- what is true of every band
 pub record IsBand (band : BandState) : Type 0 where

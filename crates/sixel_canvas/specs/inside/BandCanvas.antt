@@ -1,11 +1,13 @@
--- What a canvas of one band shows: the final rows above the band, the six rows of the band, and background elsewhere.
--- That no row above the band changes any more is DEC's manual's: a graphics new line goes down, and nothing goes up.
+-- What a canvas of one band shows: the final rows above the band, the six rows of the band, and
+-- background elsewhere. That no row above the band changes any more is DEC's manual's: a graphics
+-- new line goes down, and nothing goes up.
 use Rattle.std.specs.Prelude.{◌≡◌, ℕ, ◌+◌, ◌-◌, ◌*◌, ◌<◌, ◌≤◌, List, nat_lt, if◌then◌else◌}
 use Rattle.sixel_canvas.specs.inside.Drawn.{Run, band_edge, drawn_columns, right_edge, runs_paint}
 use Rattle.sixel_canvas.specs.inside.TaggedBand.{TaggedState, tagged_cell}
 use Rattle.sixel_canvas.specs.inside.FinalRows.{RowsState, final}
 
--- the final rows, the band, its first row, and how many columns of it are drawn on without an allocation
+-- the final rows, the band, its first row, and how many columns of it are drawn on without an
+-- allocation
 pub record BandCanvasState : Type 0 where
   pub rows : RowsState
   pub band : TaggedState
@@ -19,7 +21,8 @@ band_canvas_state rows band top held = record { rows = rows; band = band; top = 
 -- the pixel at this place
 abbrev pub band_canvas_shown : BandCanvasState → ℕ → ℕ → List ℕ
 band_canvas_shown canvas column row =
-    if nat_lt row canvas.top then final canvas.rows column row else tagged_cell canvas.band column (row - canvas.top)
+    if nat_lt row canvas.top then final canvas.rows column row
+    else tagged_cell canvas.band column (row - canvas.top)
 
 -- There is memory for these columns in the band, and for its six rows among the final ones.
 pub record IsHeld (rows : RowsState) (band : TaggedState) (top held : ℕ) : Type 0 where
@@ -36,8 +39,9 @@ pub record IsBandCanvas (canvas : BandCanvasState) : Type 0 where
   pub narrow : canvas.held ≤ 1000000
   pub held : 0 < canvas.held → IsHeld canvas.rows canvas.band canvas.top canvas.held
 
--- What is true of a band that these runs were drawn on, and that has come down to this row: it is at most twice as wide as they reach,
--- and has painted at most the columns of their bands, and so much more for each run.
+-- What is true of a band that these runs were drawn on, and that has come down to this row: it is
+-- at most twice as wide as they reach, and has painted at most the columns of their bands, and so
+-- much more for each run.
 pub record IsPaid (cap painted reach top : ℕ) (runs : List Run) : Type 0 where
   pub narrow : cap ≤ 2 * right_edge runs + 16
   pub few : painted ≤ drawn_columns runs + runs_paint runs

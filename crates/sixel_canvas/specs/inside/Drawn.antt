@@ -1,6 +1,8 @@
--- What a canvas is drawn by: runs of a sixel, and blocks of eight sixels of one column each. A sixel's bits are DEC's, the least bit the
--- top row's. That a canvas has a band of six rows, and goes on to the next at a graphics new line, is DEC's manual's as well.
-use Rattle.std.specs.Prelude.{ℕ, ◌+◌, ◌-◌, ◌/◌, ◌==◌, max, Bool, ◌&&◌, nat_le, nat_lt, List, [], ◌∷◌, slice_index_or, if◌then◌else◌}
+-- What a canvas is drawn by: runs of a sixel, and blocks of eight sixels of one column each. A
+-- sixel's bits are DEC's, the least bit the top row's. That a canvas has a band of six rows, and
+-- goes on to the next at a graphics new line, is DEC's manual's as well.
+use Rattle.std.specs.Prelude.{ℕ, ◌+◌, ◌-◌, ◌/◌, ◌==◌, max, Bool, ◌&&◌, nat_le, nat_lt}
+use Rattle.std.specs.Prelude.{List, [], ◌∷◌, slice_index_or, if◌then◌else◌}
 use Rattle.sixel_base.specs.Picture.{is_struck}
 
 -- a sixel over the columns from .. up to before to, in the six rows from top on
@@ -16,7 +18,8 @@ run from to top bits = record { from = from; to = to; top = top; bits = bits }
 -- these runs, newest first, and after them sixels of one column each, the first at column from
 abbrev pub with_sixels : ℕ → List ℕ → ℕ → List Run → List Run
 with_sixels from [] top runs = runs
-with_sixels from (sixel ∷ sixels) top runs = with_sixels (from + 1) sixels top (run from (from + 1) top sixel ∷ runs)
+with_sixels from (sixel ∷ sixels) top runs =
+    with_sixels (from + 1) sixels top (run from (from + 1) top sixel ∷ runs)
 
 -- the greatest right edge of these runs, 0 where there is none
 abbrev pub right_edge : List Run → ℕ
@@ -27,7 +30,8 @@ right_edge (newest ∷ runs) = max (right_edge runs) newest.to
 abbrev pub band_edge : List Run → ℕ → ℕ
 band_edge [] top = 0
 band_edge (newest ∷ runs) top =
-    if newest.top == top && nat_lt 0 newest.bits then max (band_edge runs top) newest.to else band_edge runs top
+    if newest.top == top && nat_lt 0 newest.bits then max (band_edge runs top) newest.to
+    else band_edge runs top
 
 -- the right edges of all bands together: how many columns they have
 abbrev pub drawn_columns : List Run → ℕ
@@ -35,8 +39,8 @@ drawn_columns [] = 0
 drawn_columns (newest ∷ runs) =
     drawn_columns runs + (band_edge (newest ∷ runs) newest.top - band_edge runs newest.top)
 
--- what these runs paint at most beside the columns of their bands: of each a tag for each whole 128 columns, and 640 for its two ends and
--- for tagged blocks that it covers in part
+-- what these runs paint at most beside the columns of their bands: of each a tag for each whole 128
+-- columns, and 640 for its two ends and for tagged blocks that it covers in part
 abbrev pub runs_paint : List Run → ℕ
 runs_paint [] = 0
 runs_paint (newest ∷ runs) = runs_paint runs + ((newest.to - newest.from) / 128 + 640)
@@ -44,4 +48,5 @@ runs_paint (newest ∷ runs) = runs_paint runs + ((newest.to - newest.from) / 12
 -- whether eight sixels of one column each, the first at column from, cover the pixel
 abbrev pub covers_block : ℕ → List ℕ → ℕ → ℕ → ℕ → Bool
 covers_block from sixels top column row =
-    nat_le from column && nat_lt column (from + 8) && is_struck top (slice_index_or sixels (column - from) 0) row
+    nat_le from column && nat_lt column (from + 8)
+    && is_struck top (slice_index_or sixels (column - from) 0) row

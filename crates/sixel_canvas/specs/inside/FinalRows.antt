@@ -1,8 +1,8 @@
 -- What the final rows of an image show: the pixel at each place, in bytes of four a pixel, row by
 -- row, and background where there is none. The layout is that of the image, as Picture of
 -- sixel_base has it.
-use Rattle.std.specs.Prelude.{◌≡◌, ℕ, ◌+◌, ◌*◌, ◌≤◌, List, length, take, drop, ◌&&◌, nat_lt}
-use Rattle.std.specs.Prelude.{if◌then◌else◌}
+use Rattle.std.specs.Prelude.{◌≡◌, ℕ, ◌+◌, ◌*◌, ◌≤◌, List, length, take, drop}
+use Rattle.std.specs.Prelude.{◌&&◌, nat_lt, if◌then◌else◌}
 
 -- the background, the bytes of the rows, how many columns and rows they have, and for how many
 -- bytes there is memory
@@ -25,8 +25,9 @@ pixel_at bytes i = take 4 (drop (4 * i) bytes)
 -- the pixel at this place
 abbrev pub final : RowsState → ℕ → ℕ → List ℕ
 final rows column row =
-    if nat_lt column rows.width && nat_lt row rows.rows
-    then pixel_at rows.bytes (row * rows.width + column) else rows.background
+    if nat_lt column rows.width && nat_lt row rows.rows then
+    pixel_at rows.bytes (row * rows.width + column)
+    else rows.background
 
 -- what is true of the rows of every image
 pub record AreRows (rows : RowsState) : Type 0 where

@@ -1,5 +1,6 @@
--- What a band shows some of whose blocks are tagged: a tag is the color of a block of 128 columns of a row, over what is stored there.
--- The rule is this library's own: a wide run over columns that were drawn on tags the blocks that it covers whole.
+-- What a band shows some of whose blocks are tagged: a tag is the color of a block of 128 columns
+-- of a row, over what is stored there. The rule is this library's own: a wide run over columns that
+-- were drawn on tags the blocks that it covers whole.
 use Rattle.std.specs.Prelude.{◌≡◌, ℕ, ◌+◌, ◌*◌, ◌/◌, ◌≤◌, List}
 use Rattle.sixel_canvas.specs.inside.Band.{BandState, IsBand, cell}
 use Rattle.sixel_canvas.specs.inside.Tags.{no_tag, under}
@@ -26,7 +27,7 @@ pub record IsTaggedBand (band : TaggedState) : Type 0 where
   pub room : band.pixels.cap ≤ 128 * band.tags.cap
   pub whole : 128 * band.tags.reach ≤ band.pixels.reach
 
--- what a run of so many columns paints at most beside the columns past all that was drawn on: a tag a block, two ends, and what is
--- painted of tagged blocks that it covers in part
+-- what a run of so many columns paints at most beside the columns past all that was drawn on: a tag
+-- a block, two ends, and what is painted of tagged blocks that it covers in part
 abbrev pub most_painted : ℕ → ℕ
 most_painted columns = columns / 128 + 640

@@ -1,5 +1,6 @@
-use Rattle.std.proofs.Common.{◌/◌, ◌∙◌, sym}
+use Rattle.std.proofs.Common.{◌/◌, ◌∙◌, sym, ap}
 use Rattle.sixel_canvas.specs.inside.Band.{cell}
+use Rattle.sixel_canvas.specs.inside.Tags.{is_tag}
 use Rattle.sixel_canvas.proofs.BandTags.{all_settled, under_none}
 use Rattle.sixel_canvas.proofs.tagged_band.TaggedBand.settle_all.Goals as goal
 
@@ -11,3 +12,10 @@ returns-clause-shown c = λ column k.
     let shown = rw (← c.self-2.view_is) at c.settle_blocks.ensures.shown in
     let none = all_settled c.self.inside.tags after.tags c.reach-tagged.result (column / 128) k settled others c.reach-tagged.ensures.clean c.self.invariant.clear in
     sym (under_none (cell after.tags (column / 128) k) (cell after.pixels column k) none) ∙ shown column k
+
+pub returns-clause-same : goal.returns-clause-same
+returns-clause-same c = λ column k.
+    let after = c.self-2.inside in
+    let none = ap is_tag (c.clear.ensures.shown (column / 128) k ∙ c.self-2.invariant.clear) in
+    under_none (cell c.clear.new.self (column / 128) k) (cell after.pixels column k) none
+    ∙ returns-clause-shown c column k
