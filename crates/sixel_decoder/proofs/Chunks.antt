@@ -1,44 +1,63 @@
 -- What the bytes before a piece and the piece are together.
-use Rattle.std.proofs.Common.{◌≡◌, ℕ, ◌+◌, Bool, true, false, cond, List, [], ◌∷◌, ◌++◌, refl, ap, sym, ◌∙◌, subst, arith, Option, Some, None, Result, Ok, Err, length, length-append}
+use Rattle.std.proofs.Common.{◌≡◌, ℕ, ◌+◌, Bool, true, false, cond, List, [], ◌∷◌, ◌++◌, refl, ap}
+use Rattle.std.proofs.Common.{sym, ◌∙◌, subst, arith, Option, Some, None, Result, Ok, Err, length}
+use Rattle.std.proofs.Common.{length-append}
 use Rattle.std.specs.Prelude.{nat_lt, is_some}
 use Rattle.std.proofs.lemmas.List.Sums.{fold-append}
 use Rattle.sixel_base.specs.declared.error.SixelError.{SixelError}
 use Rattle.sixel_base.specs.Fault.{Faults}
-use Rattle.sixel_base.specs.Bytes.{is_terminator, is_ignored, front, carrying, before_terminator, count, first_terminator, is_terminated}
-use Rattle.sixel_base.specs.History.{Sixel, Repeat, Raster, Color, Return, Newline, Skip, History, goes_on, read, history_of}
+use Rattle.sixel_base.specs.Bytes.{is_terminator, is_ignored, front, carrying, before_terminator}
+use Rattle.sixel_base.specs.Bytes.{count, first_terminator, is_terminated}
+use Rattle.sixel_base.specs.History.{Sixel, Repeat, Raster, Color, Return, Newline, Skip, History}
+use Rattle.sixel_base.specs.History.{goes_on, read, history_of}
 use Rattle.sixel_base.specs.Stroke.{Origin}
 use Rattle.sixel_base.specs.Payload.{first_fault, closed, growths, settled, fed_fault}
 use Rattle.sixel_base.specs.declared.status.SixelFeedResult.{SixelFeedResult}
 use Rattle.sixel_decoder.specs.declared.payload_parser.PayloadParser.{PayloadParser}
 use Rattle.sixel_decoder.specs.declared.payload_parser.OpenCommand.{OpenCommand}
-use Rattle.sixel_decoder.specs.declared.payload_parser.OpenCommand.TheVariants.{Ground, InRepeat, InRaster, InColor}
+use Rattle.sixel_decoder.specs.declared.payload_parser.OpenCommand.TheVariants.{Ground, InRepeat}
+use Rattle.sixel_decoder.specs.declared.payload_parser.OpenCommand.TheVariants.{InRaster, InColor}
 use Rattle.sixel_decoder.specs.inside.Painter.{Shows}
 use Rattle.sixel_base.specs.Status.{status_of}
-use Rattle.sixel_decoder.specs.inside.PayloadParser.{StandsIn, StandsAfter, Feeds, after, settled_after}
+use Rattle.sixel_decoder.specs.inside.PayloadParser.{StandsIn, StandsAfter, Feeds, after}
+use Rattle.sixel_decoder.specs.inside.PayloadParser.{settled_after}
 use Rattle.sixel_decoder.specs.inside.PayloadReader.{HasRead, GoesOn}
 
 -- ---- where no terminator has come yet
 
-pub before_terminator-append : (bytes piece : List ℕ) → first_terminator bytes ≡ None → before_terminator (bytes ++ piece) ≡ bytes ++ before_terminator piece
+pub before_terminator-append : (bytes piece : List ℕ) → first_terminator bytes ≡ None
+    → before_terminator (bytes ++ piece) ≡ bytes ++ before_terminator piece
 before_terminator-append [] piece none = refl
 before_terminator-append (byte ∷ bytes) piece none =
-    (elim (is_terminator byte) as (λ t. cond t (Some byte) (first_terminator bytes) ≡ None → cond t [] (byte ∷ before_terminator (bytes ++ piece)) ≡ byte ∷ (bytes ++ before_terminator piece)) [
+    (elim (is_terminator byte) as
+    (λ t.
+    cond t (Some byte) (first_terminator bytes) ≡ None
+    → cond t [] (byte ∷ before_terminator (bytes ++ piece))
+    ≡ byte ∷ (bytes ++ before_terminator piece)) [
       | true ↦ λ is. absurd cc
       | false ↦ λ is. ap (λ w. byte ∷ w) (before_terminator-append bytes piece is)
     ]) none
 
-pub before_terminator-whole : (bytes : List ℕ) → first_terminator bytes ≡ None → before_terminator bytes ≡ bytes
+pub before_terminator-whole : (bytes : List ℕ) → first_terminator bytes ≡ None
+    → before_terminator bytes ≡ bytes
 before_terminator-whole [] none = refl
 before_terminator-whole (byte ∷ bytes) none =
-    (elim (is_terminator byte) as (λ t. cond t (Some byte) (first_terminator bytes) ≡ None → cond t [] (byte ∷ before_terminator bytes) ≡ byte ∷ bytes) [
+    (elim (is_terminator byte) as
+    (λ t.
+    cond t (Some byte) (first_terminator bytes) ≡ None
+    → cond t [] (byte ∷ before_terminator bytes) ≡ byte ∷ bytes) [
       | true ↦ λ is. absurd cc
       | false ↦ λ is. ap (λ w. byte ∷ w) (before_terminator-whole bytes is)
     ]) none
 
-pub first_terminator-append : (bytes piece : List ℕ) → first_terminator bytes ≡ None → first_terminator (bytes ++ piece) ≡ first_terminator piece
+pub first_terminator-append : (bytes piece : List ℕ) → first_terminator bytes ≡ None
+    → first_terminator (bytes ++ piece) ≡ first_terminator piece
 first_terminator-append [] piece none = refl
 first_terminator-append (byte ∷ bytes) piece none =
-    (elim (is_terminator byte) as (λ t. cond t (Some byte) (first_terminator bytes) ≡ None → cond t (Some byte) (first_terminator (bytes ++ piece)) ≡ first_terminator piece) [
+    (elim (is_terminator byte) as
+    (λ t.
+    cond t (Some byte) (first_terminator bytes) ≡ None
+    → cond t (Some byte) (first_terminator (bytes ++ piece)) ≡ first_terminator piece) [
       | true ↦ λ is. absurd cc
       | false ↦ λ is. first_terminator-append bytes piece is
     ]) none
@@ -46,34 +65,51 @@ first_terminator-append (byte ∷ bytes) piece none =
 pub carrying-append : (xs ys : List ℕ) → carrying (xs ++ ys) ≡ carrying xs ++ carrying ys
 carrying-append [] ys = refl
 carrying-append (byte ∷ xs) ys =
-    elim (is_ignored byte) as (λ t. cond t (carrying (xs ++ ys)) (byte ∷ carrying (xs ++ ys)) ≡ cond t (carrying xs) (byte ∷ carrying xs) ++ carrying ys) [
+    elim (is_ignored byte) as
+    (λ t.
+    cond t (carrying (xs ++ ys)) (byte ∷ carrying (xs ++ ys))
+    ≡ cond t (carrying xs) (byte ∷ carrying xs) ++ carrying ys) [
       | true ↦ carrying-append xs ys
       | false ↦ ap (λ w. byte ∷ w) (carrying-append xs ys)
     ]
 
-pub front-append : (bytes piece : List ℕ) → first_terminator bytes ≡ None → front (bytes ++ piece) ≡ front bytes ++ front piece
+pub front-append : (bytes piece : List ℕ) → first_terminator bytes ≡ None
+    → front (bytes ++ piece) ≡ front bytes ++ front piece
 front-append bytes piece none =
     ap carrying (before_terminator-append bytes piece none)
-    ∙ (carrying-append bytes (before_terminator piece) ∙ ap (λ w. carrying w ++ front piece) (sym (before_terminator-whole bytes none)))
+    ∙ (carrying-append bytes (before_terminator piece)
+    ∙ ap (λ w. carrying w ++ front piece) (sym (before_terminator-whole bytes none)))
 
-pub count-append : (bytes piece : List ℕ) → first_terminator bytes ≡ None → count (bytes ++ piece) ≡ count bytes + count piece
+pub count-append : (bytes piece : List ℕ) → first_terminator bytes ≡ None
+    → count (bytes ++ piece) ≡ count bytes + count piece
 count-append bytes piece none =
-    ap length (before_terminator-append bytes piece none) ∙ (length-append bytes (before_terminator piece) ∙ ap (λ w. length w + count piece) (sym (before_terminator-whole bytes none)))
+    ap length (before_terminator-append bytes piece none)
+    ∙ (length-append bytes (before_terminator piece)
+    ∙ ap (λ w. length w + count piece) (sym (before_terminator-whole bytes none)))
 
 -- ---- where one has come
 
-pub before_terminator-ended : (bytes piece : List ℕ) (t : ℕ) → first_terminator bytes ≡ Some t → before_terminator (bytes ++ piece) ≡ before_terminator bytes
+pub before_terminator-ended : (bytes piece : List ℕ) (t : ℕ) → first_terminator bytes ≡ Some t
+    → before_terminator (bytes ++ piece) ≡ before_terminator bytes
 before_terminator-ended [] piece t some = absurd cc
 before_terminator-ended (byte ∷ bytes) piece t some =
-    (elim (is_terminator byte) as (λ b. cond b (Some byte) (first_terminator bytes) ≡ Some t → cond b [] (byte ∷ before_terminator (bytes ++ piece)) ≡ cond b [] (byte ∷ before_terminator bytes)) [
+    (elim (is_terminator byte) as
+    (λ b.
+    cond b (Some byte) (first_terminator bytes) ≡ Some t
+    → cond b [] (byte ∷ before_terminator (bytes ++ piece))
+    ≡ cond b [] (byte ∷ before_terminator bytes)) [
       | true ↦ λ is. refl
       | false ↦ λ is. ap (λ w. byte ∷ w) (before_terminator-ended bytes piece t is)
     ]) some
 
-pub first_terminator-ended : (bytes piece : List ℕ) (t : ℕ) → first_terminator bytes ≡ Some t → first_terminator (bytes ++ piece) ≡ Some t
+pub first_terminator-ended : (bytes piece : List ℕ) (t : ℕ) → first_terminator bytes ≡ Some t
+    → first_terminator (bytes ++ piece) ≡ Some t
 first_terminator-ended [] piece t some = absurd cc
 first_terminator-ended (byte ∷ bytes) piece t some =
-    (elim (is_terminator byte) as (λ b. cond b (Some byte) (first_terminator bytes) ≡ Some t → cond b (Some byte) (first_terminator (bytes ++ piece)) ≡ Some t) [
+    (elim (is_terminator byte) as
+    (λ b.
+    cond b (Some byte) (first_terminator bytes) ≡ Some t
+    → cond b (Some byte) (first_terminator (bytes ++ piece)) ≡ Some t) [
       | true ↦ λ is. is
       | false ↦ λ is. first_terminator-ended bytes piece t is
     ]) some
@@ -92,48 +128,75 @@ closed-ended (Newline ∷ h) ended = refl
 closed-ended (Skip _ ∷ h) ended = refl
 
 -- what was drawn is what is closed
-stands_shown : (command : OpenCommand) (o : Origin) (parser : PayloadParser) (h : History) → StandsIn command o parser h → Shows o parser.painter (closed h)
-stands_shown Ground o parser h is = subst (λ (w : History). Shows o parser.painter w) (sym (closed-ended h is.ended)) is.shows
-stands_shown InRepeat o parser h is = subst (λ (w : History). Shows o parser.painter (closed w)) (sym is.newest) is.shows
-stands_shown InRaster o parser h is = subst (λ (w : History). Shows o parser.painter (closed w)) (sym is.newest) is.shows
-stands_shown InColor o parser h is = subst (λ (w : History). Shows o parser.painter (closed w)) (sym is.newest) is.shows
+stands_shown : (command : OpenCommand) (o : Origin) (parser : PayloadParser) (h : History)
+    → StandsIn command o parser h → Shows o parser.painter (closed h)
+stands_shown Ground o parser h is =
+    subst (λ (w : History). Shows o parser.painter w) (sym (closed-ended h is.ended)) is.shows
+stands_shown InRepeat o parser h is =
+    subst (λ (w : History). Shows o parser.painter (closed w)) (sym is.newest) is.shows
+stands_shown InRaster o parser h is =
+    subst (λ (w : History). Shows o parser.painter (closed w)) (sym is.newest) is.shows
+stands_shown InColor o parser h is =
+    subst (λ (w : History). Shows o parser.painter (closed w)) (sym is.newest) is.shows
 
-pub shown_after : (ended : Bool) (o : Origin) (parser : PayloadParser) (h : History) → StandsAfter ended o parser h → Shows o parser.painter (cond ended h (closed h))
+pub shown_after : (ended : Bool) (o : Origin) (parser : PayloadParser) (h : History)
+    → StandsAfter ended o parser h → Shows o parser.painter (cond ended h (closed h))
 shown_after true o parser h is = is.1
 shown_after false o parser h is = stands_shown parser.command o parser h is
 
-after_whole : (before piece : List ℕ) → first_terminator before ≡ None → after (history_of (front before)) piece ≡ history_of (front (before ++ piece))
-after_whole before piece none = sym (fold-append read [] (front before) (front piece)) ∙ ap history_of (sym (front-append before piece none))
+after_whole : (before piece : List ℕ) → first_terminator before ≡ None
+    → after (history_of (front before)) piece ≡ history_of (front (before ++ piece))
+after_whole before piece none =
+    sym (fold-append read [] (front before) (front piece))
+    ∙ ap history_of (sym (front-append before piece none))
 
-settled_open : (before : List ℕ) → first_terminator before ≡ None → settled before ≡ closed (history_of (front before))
-settled_open before none = ap (λ t. cond (is_some t) (history_of (front before)) (closed (history_of (front before)))) none
+settled_open : (before : List ℕ) → first_terminator before ≡ None
+    → settled before ≡ closed (history_of (front before))
+settled_open before none =
+    ap (λ t. cond (is_some t) (history_of (front before)) (closed (history_of (front before)))) none
 
-settled_whole : (before piece : List ℕ) → first_terminator before ≡ None → settled_after (history_of (front before)) piece ≡ settled (before ++ piece)
+settled_whole : (before piece : List ℕ) → first_terminator before ≡ None
+    → settled_after (history_of (front before)) piece ≡ settled (before ++ piece)
 settled_whole before piece none =
     ap (λ (w : History). cond (is_terminated piece) w (closed w)) (after_whole before piece none)
-    ∙ ap (λ t. cond (is_some t) (history_of (front (before ++ piece))) (closed (history_of (front (before ++ piece))))) (sym (first_terminator-append before piece none))
+    ∙ ap
+    (λ t.
+    cond (is_some t) (history_of (front (before ++ piece)))
+    (closed (history_of (front (before ++ piece)))))
+    (sym (first_terminator-append before piece none))
 
 -- what a parser read of a piece, it read after the bytes before
-pub feeds_goes_on : (result : Result SixelFeedResult SixelError) (o : Origin) (parser : PayloadParser) (before piece : List ℕ) → first_terminator before ≡ None
+pub feeds_goes_on : (result : Result SixelFeedResult SixelError) (o : Origin)
+    (parser : PayloadParser) (before piece : List ℕ) → first_terminator before ≡ None
     → Feeds result o parser (history_of (front before)) piece → GoesOn result o parser before piece
 feeds_goes_on (Ok fed) o parser before piece none fed_to =
     let bytes : List ℕ = before ++ piece in
     let first = first_terminator-append before piece none in
     let moved : StandsAfter (is_some (first_terminator piece)) o parser (history_of (front bytes)) =
-    subst (λ (w : History). StandsAfter (is_terminated piece) o parser w) (after_whole before piece none) fed_to.2 in
-    let stands : StandsAfter (is_some (first_terminator bytes)) o parser (history_of (front bytes)) =
-    subst (λ (w : Option ℕ). StandsAfter (is_some w) o parser (history_of (front bytes))) (sym first) moved in (
+    subst (λ (w : History). StandsAfter (is_terminated piece) o parser w)
+    (after_whole before piece none) fed_to.2 in
+    let stands : StandsAfter (is_some (first_terminator bytes)) o parser
+    (history_of (front bytes)) =
+    subst (λ (w : Option ℕ). StandsAfter (is_some w) o parser (history_of (front bytes)))
+    (sym first) moved in (
       omega (arith, fed_to.0, count-append before piece none),
       fed_to.1 ∙ ap status_of (sym first),
       (refl, stands),
       (shown_after (is_terminated bytes) o parser (history_of (front bytes)) stands).faultless,
     )
 feeds_goes_on (Err e) o parser before piece none refused =
-    subst (λ (w : History). Faults e (nat_lt (growths w) (growths (settled (before ++ piece)))) (fed_fault o.pixel_limit (before ++ piece))) (sym (settled_open before none))
-    (subst (λ (w : History). Faults e (nat_lt (growths (closed (history_of (front before)))) (growths w)) (first_fault o.pixel_limit w)) (settled_whole before piece none) refused)
+    subst (λ (w : History).
+    Faults e (nat_lt (growths w) (growths (settled (before ++ piece))))
+    (fed_fault o.pixel_limit (before ++ piece)))
+    (sym (settled_open before none))
+    (subst (λ (w : History).
+    Faults e (nat_lt (growths (closed (history_of (front before)))) (growths w))
+    (first_fault o.pixel_limit w))
+    (settled_whole before piece none) refused)
 
 -- once a payload has ended, its bytes stay what they are
-pub ended_goes_on : (o : Origin) (parser : PayloadParser) (before piece : List ℕ) (t : ℕ) → HasRead (Some parser) o (Some t) before
+pub ended_goes_on : (o : Origin) (parser : PayloadParser) (before piece : List ℕ) (t : ℕ)
+    → HasRead (Some parser) o (Some t) before
     → GoesOn (Ok (record { consumed = 0; status = status_of (Some t) })) o parser before piece
 ended_goes_on o parser before piece t is =
     let bytes : List ℕ = before ++ piece in
@@ -141,8 +204,10 @@ ended_goes_on o parser before piece t is =
     let first = first_terminator-ended before piece t is.0 in
     let drawn : StandsAfter true o parser (history_of (front bytes)) =
     subst (λ (w : List ℕ). StandsAfter true o parser (history_of (carrying w))) (sym same) is.1 in
-    let stands : StandsAfter (is_some (first_terminator bytes)) o parser (history_of (front bytes)) =
-    subst (λ (w : Option ℕ). StandsAfter (is_some w) o parser (history_of (front bytes))) (sym first) drawn in (
+    let stands : StandsAfter (is_some (first_terminator bytes)) o parser
+    (history_of (front bytes)) =
+    subst (λ (w : Option ℕ). StandsAfter (is_some w) o parser (history_of (front bytes)))
+    (sym first) drawn in (
       omega (arith, ap length same),
       ap status_of (sym first),
       (refl, stands),
@@ -158,16 +223,20 @@ shown_settled o parser terminator bytes is =
     (shown_after (is_some terminator) o parser h is.1)
 
 -- after a terminator a chunk changes nothing
-pub ended_reads : (o : Origin) (parser : PayloadParser) (before chunk : List ℕ) (t : ℕ) → HasRead (Some parser) o (Some t) before
+pub ended_reads : (o : Origin) (parser : PayloadParser) (before chunk : List ℕ) (t : ℕ)
+    → HasRead (Some parser) o (Some t) before
     → HasRead (Some parser) o (Some t) (before ++ chunk)
 ended_reads o parser before chunk t is =
     let goes = ended_goes_on o parser before chunk t is in
-    subst (λ (w : Option ℕ). HasRead (Some parser) o w (before ++ chunk)) (first_terminator-ended before chunk t is.0) goes.2
+    subst (λ (w : Option ℕ). HasRead (Some parser) o w (before ++ chunk))
+    (first_terminator-ended before chunk t is.0) goes.2
 
 -- before one the parser reads the chunk
-pub open_goes_on : (result : Result SixelFeedResult SixelError) (o : Origin) (old new : PayloadParser) (terminator : Option ℕ) (before chunk : List ℕ)
+pub open_goes_on : (result : Result SixelFeedResult SixelError) (o : Origin)
+    (old new : PayloadParser) (terminator : Option ℕ) (before chunk : List ℕ)
     → terminator ≡ None → HasRead (Some old) o terminator before
-    → (StandsAfter false o old (history_of (front before)) → Feeds result o new (history_of (front before)) chunk)
+    → (StandsAfter false o old (history_of (front before))
+    → Feeds result o new (history_of (front before)) chunk)
     → GoesOn result o new before chunk
 open_goes_on result o old new terminator before chunk none is feeds =
     let stands : StandsAfter false o old (history_of (front before)) =

@@ -1,5 +1,7 @@
 -- How a control string goes on, once its payload has or where a payload begins.
-use Rattle.std.proofs.Common.{◌≡◌, ℕ, ◌+◌, ◌-◌, ◌≤◌, suc, Bool, true, false, cond, List, [], ◌∷◌, ◌++◌, refl, ap, sym, ◌∙◌, subst, arith, Option, None, Ok, length, take, drop, append_assoc, length-append}
+use Rattle.std.proofs.Common.{◌≡◌, ℕ, ◌+◌, ◌-◌, ◌≤◌, suc, Bool, true, false, cond, List, [], ◌∷◌}
+use Rattle.std.proofs.Common.{◌++◌, refl, ap, sym, ◌∙◌, subst, arith, Option, None, Ok, length}
+use Rattle.std.proofs.Common.{take, drop, append_assoc, length-append}
 use Rattle.std.specs.Prelude.{nat_lt, ◌==◌, IsTrue}
 use Rattle.std.proofs.lemmas.Bool.Decides.{nat_tests}
 use Rattle.std.proofs.lemmas.List.{take-append-drop, length-take-le, take_all}
@@ -17,8 +19,13 @@ use Rattle.sixel_decoder.specs.declared.dcs_parser.DcsState.{DcsState}
 use Rattle.sixel_decoder.specs.declared.dcs_parser.DcsState.TheVariants as states
 use Rattle.sixel_base.specs.Header.{Begun, Faulty, headed_by, is_header, header_rest}
 use Rattle.sixel_decoder.specs.Session.{Session}
-use Rattle.sixel_base.specs.Dcs.{Introduced, Waiting, Absent, Entered, introduced, escaped, Stage, Heading, Failing, Reading, stage_after, stage_by, stage, stage_status, stage_count, stage_fault, stage_growths, payload_count, dcs_status, dcs_count, dcs_fault, dcs_growths, after_terminator, ended_with}
-use Rattle.sixel_decoder.specs.inside.DcsParser.{IsInPayload, HasFollowed, is_head, is_failed, IsStageFault, GoesTo, Follows}
+use Rattle.sixel_base.specs.Dcs.{Introduced, Waiting, Absent, Entered, introduced, escaped, Stage}
+use Rattle.sixel_base.specs.Dcs.{Heading, Failing, Reading, stage_after, stage_by, stage}
+use Rattle.sixel_base.specs.Dcs.{stage_status, stage_count, stage_fault, stage_growths}
+use Rattle.sixel_base.specs.Dcs.{payload_count, dcs_status, dcs_count, dcs_fault, dcs_growths}
+use Rattle.sixel_base.specs.Dcs.{after_terminator, ended_with}
+use Rattle.sixel_decoder.specs.inside.DcsParser.{IsInPayload, HasFollowed, is_head, is_failed}
+use Rattle.sixel_decoder.specs.inside.DcsParser.{IsStageFault, GoesTo, Follows}
 use Rattle.sixel_decoder.proofs.ParserSteps.{Faults-along}
 use Rattle.sixel_decoder.proofs.FoundPayloads.{Faults-named}
 use Rattle.sixel_decoder.proofs.Chunks.{before_terminator-whole}
@@ -27,46 +34,78 @@ use Rattle.sixel_decoder.proofs.DcsEnds.{none_by, count_open}
 
 -- ---- in a payload
 
-pub payload_follows : (reader reader' : Session) (decoder : DecoderState) (ended ended' : Option SixelDcsFeedStatus) (before piece : List ℕ)
+pub payload_follows : (reader reader' : Session) (decoder : DecoderState)
+    (ended ended' : Option SixelDcsFeedStatus) (before piece : List ℕ)
     (consumed : ℕ) (status : SixelDcsFeedStatus) → IsInPayload reader decoder ended before
-    → reader'.origin ≡ reader.origin → reader'.bytes ≡ reader.bytes ++ piece → reader'.is_refused ≡ false → fed_fault reader.origin.pixel_limit reader'.bytes ≡ None
-    → GoesTo reader.bytes (reader.bytes ++ piece) (record { consumed = consumed; status = status }) → ended' ≡ ended_with (reader.bytes ++ piece)
-    → Follows (Ok (record { consumed = consumed; status = status })) (states.Payload reader') decoder ended' before piece
-payload_follows reader reader' decoder ended ended' before piece consumed status is origin bytes accepted faultless goes ends =
+    → reader'.origin ≡ reader.origin → reader'.bytes ≡ reader.bytes ++ piece
+    → reader'.is_refused ≡ false → fed_fault reader.origin.pixel_limit reader'.bytes ≡ None
+    → GoesTo reader.bytes (reader.bytes ++ piece) (record { consumed = consumed; status = status })
+    → ended' ≡ ended_with (reader.bytes ++ piece)
+    → Follows (Ok (record { consumed = consumed; status = status })) (states.Payload reader')
+    decoder ended' before piece
+payload_follows reader reader' decoder ended ended' before piece consumed status is origin bytes
+    accepted faultless goes ends =
     let settings : Settings = reader.origin.settings in
-    let sound : fed_fault decoder.pixel_limit reader'.bytes ≡ None = ap (λ (o : Origin). fed_fault o.pixel_limit reader'.bytes) (sym is.start) ∙ faultless in
+    let sound : fed_fault decoder.pixel_limit reader'.bytes ≡ None =
+    ap (λ (o : Origin). fed_fault o.pixel_limit reader'.bytes) (sym is.start) ∙ faultless in
     let payload : List ℕ = reader.bytes in
-    let reads : stage (before ++ piece) ≡ Reading settings (payload ++ piece) = stage_reading before piece settings payload is.reading in
-    let was : dcs_count before ≡ (length before - length payload) + payload_count payload = ap (stage_count before) is.reading in
-    let now : dcs_count (before ++ piece) ≡ (length (before ++ piece) - length (payload ++ piece)) + payload_count (payload ++ piece) = ap (stage_count (before ++ piece)) reads in (
+    let reads : stage (before ++ piece) ≡ Reading settings (payload ++ piece) =
+    stage_reading before piece settings payload is.reading in
+    let was : dcs_count before ≡ (length before - length payload) + payload_count payload =
+    ap (stage_count before) is.reading in
+    let now : dcs_count (before ++ piece)
+    ≡ (length (before ++ piece) - length (payload ++ piece)) + payload_count (payload ++ piece) =
+    ap (stage_count (before ++ piece)) reads in (
       omega (arith, was, now, length-append before piece, length-append payload piece, goes.0),
       goes.1 ∙ sym (ap stage_status reads),
       refl,
       record {
-        reading = reads ∙ (ap (λ (o : Origin). Reading o.settings (payload ++ piece)) (sym origin) ∙ ap (Reading reader'.origin.settings) (sym bytes));
-        start = origin ∙ (is.start ∙ ap (λ (o : Origin). origin_of decoder o.settings) (sym origin));
+        reading =
+            reads
+            ∙ (ap (λ (o : Origin). Reading o.settings (payload ++ piece)) (sym origin)
+            ∙ ap (Reading reader'.origin.settings) (sym bytes));
+        start =
+            origin ∙ (is.start ∙ ap (λ (o : Origin). origin_of decoder o.settings) (sym origin));
         accepted = accepted;
         faultless = sound;
         ending = ends ∙ ap ended_with (sym bytes);
       },
-      ap (stage_fault decoder.pixel_limit) reads ∙ (ap (fed_fault decoder.pixel_limit) (sym bytes) ∙ sound),
+      ap (stage_fault decoder.pixel_limit) reads
+          ∙ (ap (fed_fault decoder.pixel_limit) (sym bytes) ∙ sound),
     )
 
-pub payload_refuses : (e : SixelError) (reader : Session) (decoder : DecoderState) (ended : Option SixelDcsFeedStatus) (before piece : List ℕ)
+pub payload_refuses : (e : SixelError) (reader : Session) (decoder : DecoderState)
+    (ended : Option SixelDcsFeedStatus) (before piece : List ℕ)
     → IsInPayload reader decoder ended before
-    → Faults e (nat_lt (growths (settled reader.bytes)) (growths (settled (reader.bytes ++ piece)))) (fed_fault reader.origin.pixel_limit (reader.bytes ++ piece))
-    → Faults e (nat_lt (dcs_growths before) (dcs_growths (before ++ piece))) (dcs_fault decoder.pixel_limit (before ++ piece))
+    → Faults e (nat_lt (growths (settled reader.bytes)) (growths (settled (reader.bytes ++ piece))))
+    (fed_fault reader.origin.pixel_limit (reader.bytes ++ piece))
+    → Faults e (nat_lt (dcs_growths before) (dcs_growths (before ++ piece)))
+    (dcs_fault decoder.pixel_limit (before ++ piece))
 payload_refuses e reader decoder ended before piece is refused =
-    let reads : stage (before ++ piece) ≡ Reading reader.origin.settings (reader.bytes ++ piece) = stage_reading before piece reader.origin.settings reader.bytes is.reading in
-    let here : Faults e (nat_lt (growths (settled reader.bytes)) (growths (settled (reader.bytes ++ piece)))) (fed_fault decoder.pixel_limit (reader.bytes ++ piece)) =
-    subst (λ (o : Origin). Faults e (nat_lt (growths (settled reader.bytes)) (growths (settled (reader.bytes ++ piece)))) (fed_fault o.pixel_limit (reader.bytes ++ piece))) is.start refused in
-    subst (λ (w : Stage). Faults e (nat_lt (stage_growths w) (dcs_growths (before ++ piece))) (dcs_fault decoder.pixel_limit (before ++ piece))) (sym is.reading)
-    (subst (λ (w : Stage). Faults e (nat_lt (growths (settled reader.bytes)) (stage_growths w)) (stage_fault decoder.pixel_limit w)) (sym reads) here)
+    let reads : stage (before ++ piece) ≡ Reading reader.origin.settings (reader.bytes ++ piece) =
+    stage_reading before piece reader.origin.settings reader.bytes is.reading in
+    let here : Faults e
+    (nat_lt (growths (settled reader.bytes)) (growths (settled (reader.bytes ++ piece))))
+    (fed_fault decoder.pixel_limit (reader.bytes ++ piece)) =
+    subst (λ (o : Origin).
+    Faults e (nat_lt (growths (settled reader.bytes)) (growths (settled (reader.bytes ++ piece))))
+    (fed_fault o.pixel_limit (reader.bytes ++ piece)))
+    is.start refused in
+    subst (λ (w : Stage).
+    Faults e (nat_lt (stage_growths w) (dcs_growths (before ++ piece)))
+    (dcs_fault decoder.pixel_limit (before ++ piece)))
+    (sym is.reading)
+    (subst (λ (w : Stage).
+    Faults e (nat_lt (growths (settled reader.bytes)) (stage_growths w))
+    (stage_fault decoder.pixel_limit w))
+    (sym reads) here)
 
 -- ---- before a payload
 
 -- the payload has not begun, nor ended
-pub heading : (state : DcsState) (decoder : DecoderState) (ended : Option SixelDcsFeedStatus) (bytes : List ℕ) → is_head state ≡ true
+pub heading :
+    (state : DcsState) (decoder : DecoderState) (ended : Option SixelDcsFeedStatus) (bytes : List ℕ)
+    → is_head state ≡ true
     → HasFollowed state decoder ended bytes → (stage bytes ≡ Heading) × (ended ≡ None)
 heading states.Start decoder ended bytes head is = (ap stage is.0, is.1)
 heading states.Escape decoder ended bytes head is = (ap stage is.0, is.1)
@@ -82,7 +121,8 @@ head_fine (states.Header header) head = refl
 head_fine (states.Payload reader) head = refl
 head_fine states.Failed head = absurd cc
 
-pub head_or_payload : (state : DcsState) → is_failed state ≡ false → ((reader : Session) → state ≡ states.Payload reader → ⊥) → is_head state ≡ true
+pub head_or_payload : (state : DcsState) → is_failed state ≡ false
+    → ((reader : Session) → state ≡ states.Payload reader → ⊥) → is_head state ≡ true
 head_or_payload states.Start fine other = refl
 head_or_payload states.Escape fine other = refl
 head_or_payload (states.Header header) fine other = refl
@@ -90,20 +130,31 @@ head_or_payload (states.Payload reader) fine other = absurd (other reader refl)
 head_or_payload states.Failed fine other = absurd cc
 
 -- what an error names before a payload is what is wrong with the bytes
-pub stage_refuses : (e : SixelError) (may : Bool) (limit : ℕ) (s : Stage) → IsStageFault e s → Faults e may (stage_fault limit s)
+pub stage_refuses : (e : SixelError) (may : Bool) (limit : ℕ) (s : Stage) → IsStageFault e s
+    → Faults e may (stage_fault limit s)
 stage_refuses e may limit Heading is = absurd is
 stage_refuses e may limit (Failing fault) is = Faults-named e may fault is
 stage_refuses e may limit (Reading settings payload) is = absurd is
 
 -- all of the piece stands before the payload
-pub head_follows : (state : DcsState) (decoder : DecoderState) (ended : Option SixelDcsFeedStatus) (before piece : List ℕ) (start : ℕ)
-    → stage before ≡ Heading → is_failed state ≡ false → is_head state ≡ true → start ≡ length piece → HasFollowed state decoder ended (before ++ take start piece)
-    → Follows (Ok (record { consumed = length piece; status = NeedMoreData })) state decoder ended before piece
+pub head_follows : (state : DcsState) (decoder : DecoderState) (ended : Option SixelDcsFeedStatus)
+    (before piece : List ℕ) (start : ℕ)
+    → stage before ≡ Heading → is_failed state ≡ false → is_head state ≡ true → start ≡ length piece
+    → HasFollowed state decoder ended (before ++ take start piece)
+    → Follows (Ok (record { consumed = length piece; status = NeedMoreData })) state decoder ended
+    before piece
 head_follows state decoder ended before piece start from fine head all is =
-    let whole : take start piece ≡ piece = ap (λ n. take n piece) all ∙ take_all (length piece) piece (omega arith) in
-    let now : HasFollowed state decoder ended (before ++ piece) = subst (λ (w : List ℕ). HasFollowed state decoder ended (before ++ w)) whole is in
+    let whole : take start piece ≡ piece =
+    ap (λ n. take n piece) all ∙ take_all (length piece) piece (omega arith) in
+    let now : HasFollowed state decoder ended (before ++ piece) =
+    subst (λ (w : List ℕ). HasFollowed state decoder ended (before ++ w)) whole is in
     let heads = heading state decoder ended (before ++ piece) head now in (
-      omega (arith, ap (stage_count before) from, ap (stage_count (before ++ piece)) heads.0, length-append before piece),
+      omega (
+        arith,
+        ap (stage_count before) from,
+        ap (stage_count (before ++ piece)) heads.0,
+        length-append before piece,
+      ),
       sym (ap stage_status heads.0),
       fine,
       now,
@@ -115,71 +166,113 @@ head_follows state decoder ended before piece start from fine head all is =
 header_rest-fits : (bytes : List ℕ) → length (header_rest bytes) ≤ length bytes
 header_rest-fits [] = omega arith
 header_rest-fits (byte ∷ bytes) =
-    elim (is_header byte) as (λ t. length (cond t (header_rest bytes) (byte ∷ bytes)) ≤ suc (length bytes)) [
+    elim (is_header byte) as
+    (λ t. length (cond t (header_rest bytes) (byte ∷ bytes)) ≤ suc (length bytes)) [
       | true ↦ omega (arith, header_rest-fits bytes)
       | false ↦ omega arith
     ]
 
-begun_fits : (rest h : List ℕ) (s : Settings) (payload : List ℕ) → header_rest rest ≡ h → stage_after rest (headed_by h) ≡ Reading s payload → length payload ≤ length rest
+begun_fits : (rest h : List ℕ) (s : Settings) (payload : List ℕ) → header_rest rest ≡ h
+    → stage_after rest (headed_by h) ≡ Reading s payload → length payload ≤ length rest
 begun_fits rest [] s payload ends is = absurd cc
 begun_fits rest (byte ∷ tail) s payload ends is =
-    (elim (byte == 113) as (λ q. stage_after rest (cond q (Begun tail) (cond (is_terminator byte) (Faulty Malformed) (Faulty BadHeader))) ≡ Reading s payload → length payload ≤ length rest) [
+    (elim (byte == 113) as
+    (λ q.
+    stage_after rest
+    (cond q (Begun tail) (cond (is_terminator byte) (Faulty Malformed) (Faulty BadHeader)))
+    ≡ Reading s payload → length payload ≤ length rest) [
       | true ↦ λ e.
           let same : tail ≡ payload = cc in
           omega (arith, ap length same, ap length ends, header_rest-fits rest)
-      | false ↦ elim (is_terminator byte) as (λ t. stage_after rest (cond t (Faulty Malformed) (Faulty BadHeader)) ≡ Reading s payload → length payload ≤ length rest) [
-        | true ↦ λ e. absurd cc
-        | false ↦ λ e. absurd cc
-      ]
+      | false ↦ elim (is_terminator byte) as
+          (λ t.
+          stage_after rest (cond t (Faulty Malformed) (Faulty BadHeader)) ≡ Reading s payload
+          → length payload ≤ length rest) [
+            | true ↦ λ e. absurd cc
+            | false ↦ λ e. absurd cc
+          ]
     ]) is
 
 escaped_fits : (bytes rest : List ℕ) → escaped bytes ≡ Entered rest → length rest ≤ length bytes
 escaped_fits [] rest is = absurd cc
 escaped_fits (byte ∷ bytes) rest is =
-    (elim (byte == 80) as (λ t. cond t (Entered bytes) Absent ≡ Entered rest → length rest ≤ suc (length bytes)) [
+    (elim (byte == 80) as
+    (λ t. cond t (Entered bytes) Absent ≡ Entered rest → length rest ≤ suc (length bytes)) [
       | true ↦ λ e.
           let same : bytes ≡ rest = cc in
           omega (arith, ap length same)
       | false ↦ λ e. absurd cc
     ]) is
 
-introduced_fits : (bytes rest : List ℕ) → introduced bytes ≡ Entered rest → length rest ≤ length bytes
+introduced_fits : (bytes rest : List ℕ) → introduced bytes ≡ Entered rest
+    → length rest ≤ length bytes
 introduced_fits [] rest is = absurd cc
 introduced_fits (byte ∷ bytes) rest is =
-    (elim (byte == 0x90) as (λ t. cond t (Entered bytes) (cond (byte == 27) (escaped bytes) Absent) ≡ Entered rest → length rest ≤ suc (length bytes)) [
+    (elim (byte == 0x90) as
+    (λ t.
+    cond t (Entered bytes) (cond (byte == 27) (escaped bytes) Absent) ≡ Entered rest
+    → length rest ≤ suc (length bytes)) [
       | true ↦ λ e.
           let same : bytes ≡ rest = cc in
           omega (arith, ap length same)
-      | false ↦ elim (byte == 27) as (λ t. cond t (escaped bytes) Absent ≡ Entered rest → length rest ≤ suc (length bytes)) [
-        | true ↦ λ e. omega (arith, escaped_fits bytes rest e)
-        | false ↦ λ e. absurd cc
-      ]
+      | false ↦ elim (byte == 27) as
+          (λ t. cond t (escaped bytes) Absent ≡ Entered rest → length rest ≤ suc (length bytes)) [
+            | true ↦ λ e. omega (arith, escaped_fits bytes rest e)
+            | false ↦ λ e. absurd cc
+          ]
     ]) is
 
-pub reading_fits : (bytes : List ℕ) (i : Introduced) (s : Settings) (payload : List ℕ) → introduced bytes ≡ i → stage_by i ≡ Reading s payload → length payload ≤ length bytes
+pub reading_fits : (bytes : List ℕ) (i : Introduced) (s : Settings) (payload : List ℕ)
+    → introduced bytes ≡ i → stage_by i ≡ Reading s payload → length payload ≤ length bytes
 reading_fits bytes Waiting s payload e is = absurd cc
 reading_fits bytes Absent s payload e is = absurd cc
-reading_fits bytes (Entered rest) s payload e is = omega (arith, introduced_fits bytes rest e, begun_fits rest (header_rest rest) s payload refl is)
+reading_fits bytes (Entered rest) s payload e is =
+    omega
+    (arith, introduced_fits bytes rest e, begun_fits rest (header_rest rest) s payload refl is)
 
 -- no terminator came yet, so that all bytes are the string's own
-pub all_counted : (reader : Session) (decoder : DecoderState) (bytes : List ℕ) → IsInPayload reader decoder None bytes → dcs_count bytes ≡ length bytes
+pub all_counted : (reader : Session) (decoder : DecoderState) (bytes : List ℕ)
+    → IsInPayload reader decoder None bytes → dcs_count bytes ≡ length bytes
 all_counted reader decoder bytes is =
     let payload : List ℕ = reader.bytes in
     let none = none_by (first_terminator payload) (after_terminator payload) (sym is.ending) in
-    let fits = reading_fits bytes (introduced bytes) reader.origin.settings payload refl is.reading in
-    omega (arith, fits, ap (stage_count bytes) is.reading, count_open payload none, ap length (before_terminator-whole payload none))
+    let fits =
+    reading_fits bytes (introduced bytes) reader.origin.settings payload refl is.reading in
+    omega (
+      arith,
+      fits,
+      ap (stage_count bytes) is.reading,
+      count_open payload none,
+      ap length (before_terminator-whole payload none),
+    )
 
-cut_joins : (before piece : List ℕ) (start : ℕ) → (before ++ take start piece) ++ drop start piece ≡ before ++ piece
-cut_joins before piece start = append_assoc before (take start piece) (drop start piece) ∙ ap (λ w. before ++ w) (take-append-drop start piece)
+cut_joins : (before piece : List ℕ) (start : ℕ)
+    → (before ++ take start piece) ++ drop start piece ≡ before ++ piece
+cut_joins before piece start =
+    append_assoc before (take start piece) (drop start piece)
+    ∙ ap (λ w. before ++ w) (take-append-drop start piece)
 
-pub entered_follows : (state : DcsState) (decoder : DecoderState) (ended : Option SixelDcsFeedStatus) (before piece : List ℕ) (start consumed : ℕ) (status : SixelDcsFeedStatus)
-    → start ≤ length piece → stage before ≡ Heading → dcs_count (before ++ take start piece) ≡ length (before ++ take start piece)
-    → Follows (Ok (record { consumed = consumed; status = status })) state decoder ended (before ++ take start piece) (drop start piece)
-    → Follows (Ok (record { consumed = start + consumed; status = status })) state decoder ended before piece
+pub entered_follows : (state : DcsState) (decoder : DecoderState)
+    (ended : Option SixelDcsFeedStatus) (before piece : List ℕ) (start consumed : ℕ)
+    (status : SixelDcsFeedStatus)
+    → start ≤ length piece → stage before ≡ Heading
+    → dcs_count (before ++ take start piece) ≡ length (before ++ take start piece)
+    → Follows (Ok (record { consumed = consumed; status = status })) state decoder ended
+    (before ++ take start piece) (drop start piece)
+    → Follows (Ok (record { consumed = start + consumed; status = status })) state decoder ended
+    before piece
 entered_follows state decoder ended before piece start consumed status within from counted follows =
     let front : List ℕ = before ++ take start piece in
     let joins = cut_joins before piece start in (
-      omega (arith, follows.0, counted, ap (stage_count before) from, length-append before (take start piece), length-take-le start piece within, ap dcs_count joins),
+      omega (
+        arith,
+        follows.0,
+        counted,
+        ap (stage_count before) from,
+        length-append before (take start piece),
+        length-take-le start piece within,
+        ap dcs_count joins,
+      ),
       follows.1 ∙ ap dcs_status joins,
       follows.2,
       subst (λ (w : List ℕ). HasFollowed state decoder ended w) joins follows.3,
@@ -189,14 +282,23 @@ entered_follows state decoder ended before piece start consumed status within fr
 grows : (a b n : ℕ) → a ≡ 0 → IsTrue (nat_lt b n) → IsTrue (nat_lt a n)
 grows a b n none may = grind (arith, nat_tests)
 
-pub entered_refuses : (e : SixelError) (limit : ℕ) (before piece : List ℕ) (start : ℕ) → stage before ≡ Heading
-    → Faults e (nat_lt (dcs_growths (before ++ take start piece)) (dcs_growths ((before ++ take start piece) ++ drop start piece))) (dcs_fault limit ((before ++ take start piece) ++ drop start piece))
-    → Faults e (nat_lt (dcs_growths before) (dcs_growths (before ++ piece))) (dcs_fault limit (before ++ piece))
+pub entered_refuses : (e : SixelError) (limit : ℕ) (before piece : List ℕ) (start : ℕ)
+    → stage before ≡ Heading
+    → Faults e (nat_lt (dcs_growths (before ++ take start piece))
+    (dcs_growths ((before ++ take start piece) ++ drop start piece)))
+    (dcs_fault limit ((before ++ take start piece) ++ drop start piece))
+    → Faults e (nat_lt (dcs_growths before) (dcs_growths (before ++ piece)))
+    (dcs_fault limit (before ++ piece))
 entered_refuses e limit before piece start from refused =
     let none : dcs_growths before ≡ 0 = ap stage_growths from in
     let front : List ℕ = before ++ take start piece in
-    let moved : Faults e (nat_lt (dcs_growths front) (dcs_growths (before ++ piece))) (dcs_fault limit (before ++ piece)) =
-    subst (λ (w : List ℕ). Faults e (nat_lt (dcs_growths front) (dcs_growths w)) (dcs_fault limit w)) (cut_joins before piece start) refused in
-    Faults-along e (nat_lt (dcs_growths front) (dcs_growths (before ++ piece))) (nat_lt (dcs_growths before) (dcs_growths (before ++ piece)))
+    let moved : Faults e (nat_lt (dcs_growths front) (dcs_growths (before ++ piece)))
+    (dcs_fault limit (before ++ piece)) =
+    subst
+    (λ (w : List ℕ). Faults e (nat_lt (dcs_growths front) (dcs_growths w)) (dcs_fault limit w))
+    (cut_joins before piece start) refused in
+    Faults-along e (nat_lt (dcs_growths front) (dcs_growths (before ++ piece)))
+    (nat_lt (dcs_growths before) (dcs_growths (before ++ piece)))
     (dcs_fault limit (before ++ piece)) (dcs_fault limit (before ++ piece))
-    (λ may. grows (dcs_growths before) (dcs_growths front) (dcs_growths (before ++ piece)) none may) (λ f is. is) moved
+    (λ may. grows (dcs_growths before) (dcs_growths front) (dcs_growths (before ++ piece)) none may)
+    (λ f is. is) moved

@@ -1,22 +1,29 @@
 -- What more of a payload's piece is the control string's own, once its terminator has come.
-use Rattle.std.proofs.Common.{◌≡◌, ℕ, ◌+◌, ◌≤◌, suc, true, false, cond, List, [], ◌∷◌, ◌++◌, refl, ap, sym, ◌∙◌, arith, Option, Some, None, length, drop}
+use Rattle.std.proofs.Common.{◌≡◌, ℕ, ◌+◌, ◌≤◌, suc, true, false, cond, List, [], ◌∷◌, ◌++◌, refl}
+use Rattle.std.proofs.Common.{ap, sym, ◌∙◌, arith, Option, Some, None, length, drop}
 use Rattle.std.specs.Prelude.{◌==◌}
 use Rattle.std.proofs.lemmas.Bool.Decides.{nat_tests}
 use Rattle.sixel_base.specs.Bytes.{is_terminator, before_terminator, count, first_terminator}
 use Rattle.sixel_base.specs.declared.status.SixelFeedStatus.TheVariants as fed
 use Rattle.sixel_base.specs.declared.status.SixelDcsFeedStatus.{SixelDcsFeedStatus}
-use Rattle.sixel_base.specs.declared.status.SixelDcsFeedStatus.TheVariants.{NeedMoreData, Complete, Cancelled, Interrupted}
+use Rattle.sixel_base.specs.declared.status.SixelDcsFeedStatus.TheVariants.{NeedMoreData, Complete}
+use Rattle.sixel_base.specs.declared.status.SixelDcsFeedStatus.TheVariants.{Cancelled, Interrupted}
 use Rattle.sixel_base.specs.Status.{status_of}
-use Rattle.sixel_base.specs.Dcs.{after_terminator, end_status, end_count, escape_status, escape_count, payload_status, payload_status_by, payload_count, payload_count_by, ended_with, ended_by}
+use Rattle.sixel_base.specs.Dcs.{after_terminator, end_status, end_count, escape_status}
+use Rattle.sixel_base.specs.Dcs.{escape_count, payload_status, payload_status_by, payload_count}
+use Rattle.sixel_base.specs.Dcs.{payload_count_by, ended_with, ended_by}
 use Rattle.sixel_decoder.specs.inside.DcsParser.{GoesTo}
-use Rattle.sixel_decoder.proofs.Chunks.{count-append, first_terminator-append, first_terminator-ended, before_terminator-ended}
-use Rattle.sixel_decoder.proofs.Terminators.{after_terminator-none, after_terminator-some, drop-count, escape_waits, end_stays}
+use Rattle.sixel_decoder.proofs.Chunks.{count-append, first_terminator-append}
+use Rattle.sixel_decoder.proofs.Chunks.{first_terminator-ended, before_terminator-ended}
+use Rattle.sixel_decoder.proofs.Terminators.{after_terminator-none, after_terminator-some}
+use Rattle.sixel_decoder.proofs.Terminators.{drop-count, escape_waits, end_stays}
 
 -- a payload has at most all bytes
 pub count-fits : (bytes : List ℕ) → count bytes ≤ length bytes
 count-fits [] = omega arith
 count-fits (byte ∷ bytes) =
-    elim (is_terminator byte) as (λ t. length (cond t [] (byte ∷ before_terminator bytes)) ≤ suc (length bytes)) [
+    elim (is_terminator byte) as
+    (λ t. length (cond t [] (byte ∷ before_terminator bytes)) ≤ suc (length bytes)) [
       | true ↦ omega arith
       | false ↦ omega (arith, count-fits bytes)
     ]
@@ -25,7 +32,10 @@ count-fits (byte ∷ bytes) =
 pub count-most : (bytes piece : List ℕ) → count (bytes ++ piece) ≤ count bytes + length piece
 count-most [] piece = omega (arith, count-fits piece)
 count-most (byte ∷ bytes) piece =
-    elim (is_terminator byte) as (λ t. length (cond t [] (byte ∷ before_terminator (bytes ++ piece))) ≤ length (cond t [] (byte ∷ before_terminator bytes)) + length piece) [
+    elim (is_terminator byte) as
+    (λ t.
+    length (cond t [] (byte ∷ before_terminator (bytes ++ piece)))
+    ≤ length (cond t [] (byte ∷ before_terminator bytes)) + length piece) [
       | true ↦ omega arith
       | false ↦ omega (arith, count-most bytes piece)
     ]
@@ -36,25 +46,33 @@ pub none_by : (o : Option ℕ) (rest : List ℕ) → ended_by o rest ≡ None �
 none_by None rest is = refl
 none_by (Some t) rest is = absurd cc
 
-some_by : (o : Option ℕ) (rest : List ℕ) (status : SixelDcsFeedStatus) → ended_by o rest ≡ Some status → (t : ℕ) × (o ≡ Some t) × (end_status t rest ≡ status)
+some_by : (o : Option ℕ) (rest : List ℕ) (status : SixelDcsFeedStatus)
+    → ended_by o rest ≡ Some status → (t : ℕ) × (o ≡ Some t) × (end_status t rest ≡ status)
 some_by None rest status is = absurd cc
 some_by (Some t) rest status is = (t, refl, cc)
 
-pub count_open : (payload : List ℕ) → first_terminator payload ≡ None → payload_count payload ≡ count payload
+pub count_open : (payload : List ℕ) → first_terminator payload ≡ None
+    → payload_count payload ≡ count payload
 count_open payload none =
     let e = ap (λ o. count payload + payload_count_by o (after_terminator payload)) none in
     e ∙ omega arith
 
-pub count_at : (payload rest : List ℕ) (t : ℕ) → first_terminator payload ≡ Some t → after_terminator payload ≡ rest → payload_count payload ≡ count payload + end_count t rest
+pub count_at : (payload rest : List ℕ) (t : ℕ) → first_terminator payload ≡ Some t
+    → after_terminator payload ≡ rest → payload_count payload ≡ count payload + end_count t rest
 count_at payload rest t first after =
-    ap (λ o. count payload + payload_count_by o (after_terminator payload)) first ∙ ap (λ w. count payload + end_count t w) after
+    ap (λ o. count payload + payload_count_by o (after_terminator payload)) first
+    ∙ ap (λ w. count payload + end_count t w) after
 
-pub status_at : (payload rest : List ℕ) (t : ℕ) → first_terminator payload ≡ Some t → after_terminator payload ≡ rest → payload_status payload ≡ end_status t rest
-status_at payload rest t first after = ap (λ o. payload_status_by o (after_terminator payload)) first ∙ ap (end_status t) after
+pub status_at : (payload rest : List ℕ) (t : ℕ) → first_terminator payload ≡ Some t
+    → after_terminator payload ≡ rest → payload_status payload ≡ end_status t rest
+status_at payload rest t first after =
+    ap (λ o. payload_status_by o (after_terminator payload)) first ∙ ap (end_status t) after
 
-pub ended_at : (payload : List ℕ) (t : ℕ) → first_terminator payload ≡ Some t → ended_with payload ≡ Some (payload_status payload)
+pub ended_at : (payload : List ℕ) (t : ℕ) → first_terminator payload ≡ Some t
+    → ended_with payload ≡ Some (payload_status payload)
 ended_at payload t first =
-    ap (λ o. ended_by o (after_terminator payload)) first ∙ ap Some (sym (ap (λ o. payload_status_by o (after_terminator payload)) first))
+    ap (λ o. ended_by o (after_terminator payload)) first
+    ∙ ap Some (sym (ap (λ o. payload_status_by o (after_terminator payload)) first))
 
 pub terminated_by : (o : Option ℕ) (t : ℕ) → fed.Terminated t ≡ status_of o → o ≡ Some t
 terminated_by None t is = absurd cc
@@ -72,57 +90,81 @@ terminator_same a (Some t) same = terminated_by a t (sym same)
 -- ---- how it goes on
 
 -- no terminator came
-open_before : (payload piece : List ℕ) (o : Option ℕ) → first_terminator payload ≡ o → first_terminator (payload ++ piece) ≡ None → first_terminator payload ≡ None
+open_before : (payload piece : List ℕ) (o : Option ℕ) → first_terminator payload ≡ o
+    → first_terminator (payload ++ piece) ≡ None → first_terminator payload ≡ None
 open_before payload piece None is none = is
 open_before payload piece (Some t) is none =
     let e = first_terminator-ended payload piece t is in
     absurd cc
 
-pub goes_open : (payload piece : List ℕ) (consumed : ℕ) (ended : Option SixelDcsFeedStatus) → ended ≡ ended_with payload → first_terminator (payload ++ piece) ≡ None
+pub goes_open : (payload piece : List ℕ) (consumed : ℕ) (ended : Option SixelDcsFeedStatus)
+    → ended ≡ ended_with payload → first_terminator (payload ++ piece) ≡ None
     → count payload + consumed ≡ count (payload ++ piece)
-    → GoesTo payload (payload ++ piece) (record { consumed = consumed; status = NeedMoreData }) × (ended ≡ ended_with (payload ++ piece))
+    → GoesTo payload (payload ++ piece) (record { consumed = consumed; status = NeedMoreData })
+    × (ended ≡ ended_with (payload ++ piece))
 goes_open payload piece consumed ended is none counted =
     let before = open_before payload piece (first_terminator payload) refl none in (
       (
         omega (arith, count_open payload before, count_open (payload ++ piece) none, counted),
         sym (ap (λ o. payload_status_by o (after_terminator (payload ++ piece))) none),
       ),
-      is ∙ (ap (λ o. ended_by o (after_terminator payload)) before ∙ sym (ap (λ o. ended_by o (after_terminator (payload ++ piece))) none)),
+      is
+          ∙ (ap (λ o. ended_by o (after_terminator payload)) before
+          ∙ sym (ap (λ o. ended_by o (after_terminator (payload ++ piece))) none)),
     )
 
 -- the terminator comes in the piece, and the bytes after it are these
-pub goes_to_end : (payload piece rest : List ℕ) (t start consumed more : ℕ) (status : SixelDcsFeedStatus) → None ≡ ended_with payload
-    → first_terminator (payload ++ piece) ≡ Some t → count payload + consumed ≡ count (payload ++ piece)
+pub goes_to_end :
+    (payload piece rest : List ℕ) (t start consumed more : ℕ) (status : SixelDcsFeedStatus)
+    → None ≡ ended_with payload
+    → first_terminator (payload ++ piece) ≡ Some t
+    → count payload + consumed ≡ count (payload ++ piece)
     → rest ≡ drop start piece → (consumed + 1 ≤ length piece → start ≡ consumed + 1)
     → more ≡ end_count t rest → status ≡ end_status t rest
     → GoesTo payload (payload ++ piece) (record { consumed = consumed + more; status = status })
-goes_to_end payload piece rest t start consumed more status ended first counted is begins counts stands =
-    let none : first_terminator payload ≡ None = none_by (first_terminator payload) (after_terminator payload) (sym ended) in
-    let here : first_terminator piece ≡ Some t = sym (first_terminator-append payload piece none) ∙ first in
+goes_to_end payload piece rest t start consumed more status ended first counted is begins counts
+    stands =
+    let none : first_terminator payload ≡ None =
+    none_by (first_terminator payload) (after_terminator payload) (sym ended) in
+    let here : first_terminator piece ≡ Some t =
+    sym (first_terminator-append payload piece none) ∙ first in
     let same : consumed ≡ count piece = omega (arith, count-append payload piece none, counted) in
     let follows = drop-count piece t here in
-    let at : start ≡ count piece + 1 = begins (omega (arith, same, follows.1)) ∙ ap (λ n. n + 1) same in
+    let at : start ≡ count piece + 1 =
+    begins (omega (arith, same, follows.1)) ∙ ap (λ n. n + 1) same in
     let after : after_terminator (payload ++ piece) ≡ rest =
-    after_terminator-none payload piece none ∙ (sym follows.0 ∙ (ap (λ n. drop n piece) (sym at) ∙ sym is)) in (
-      omega (arith, count_open payload none, count_at (payload ++ piece) rest t first after, counted, counts),
+    after_terminator-none payload piece none
+    ∙ (sym follows.0 ∙ (ap (λ n. drop n piece) (sym at) ∙ sym is)) in (
+      omega (
+        arith,
+        count_open payload none,
+        count_at (payload ++ piece) rest t first after,
+        counted,
+        counts,
+      ),
       stands ∙ sym (status_at (payload ++ piece) rest t first after),
     )
 
-escape_ends : (t : ℕ) (rest : List ℕ) → (t == 27) ≡ true → (end_count t rest ≡ escape_count rest) × (end_status t rest ≡ escape_status rest)
+escape_ends : (t : ℕ) (rest : List ℕ) → (t == 27) ≡ true
+    → (end_count t rest ≡ escape_count rest) × (end_status t rest ≡ escape_status rest)
 escape_ends t rest is =
     let e : t ≡ 27 = grind (arith, nat_tests) in
     (ap (λ n. end_count n rest) e, ap (λ n. end_status n rest) e)
 
 -- ESC was the last byte before the piece
-goes_after_escape : (payload piece : List ℕ) (t consumed more : ℕ) (status : SixelDcsFeedStatus) → Some NeedMoreData ≡ ended_with payload
-    → first_terminator (payload ++ piece) ≡ Some t → count payload + consumed ≡ count (payload ++ piece)
+goes_after_escape : (payload piece : List ℕ) (t consumed more : ℕ) (status : SixelDcsFeedStatus)
+    → Some NeedMoreData ≡ ended_with payload
+    → first_terminator (payload ++ piece) ≡ Some t
+    → count payload + consumed ≡ count (payload ++ piece)
     → more + 1 ≡ escape_count piece → status ≡ escape_status piece
     → GoesTo payload (payload ++ piece) (record { consumed = consumed + more; status = status })
 goes_after_escape payload piece t consumed more status ended first counted counts stands =
-    let was = some_by (first_terminator payload) (after_terminator payload) NeedMoreData (sym ended) in
+    let was =
+    some_by (first_terminator payload) (after_terminator payload) NeedMoreData (sym ended) in
     let waits = escape_waits was.0 (after_terminator payload) was.2 in
     let now = first_terminator-ended payload piece was.0 was.1 in
-    let after : after_terminator (payload ++ piece) ≡ piece = after_terminator-some payload piece was.0 was.1 ∙ ap (λ w. w ++ piece) waits.1 in
+    let after : after_terminator (payload ++ piece) ≡ piece =
+    after_terminator-some payload piece was.0 was.1 ∙ ap (λ w. w ++ piece) waits.1 in
     let then = escape_ends was.0 piece waits.0 in (
       omega (
         arith,
@@ -138,12 +180,15 @@ goes_after_escape payload piece t consumed more status ended first counted count
     )
 
 -- the string had ended before the piece
-goes_ended : (payload piece : List ℕ) (consumed more : ℕ) (before status : SixelDcsFeedStatus) → Some before ≡ ended_with payload
-    → (before ≡ NeedMoreData → ⊥) → count payload + consumed ≡ count (payload ++ piece) → (more ≡ 0) × (status ≡ before)
+goes_ended : (payload piece : List ℕ) (consumed more : ℕ) (before status : SixelDcsFeedStatus)
+    → Some before ≡ ended_with payload
+    → (before ≡ NeedMoreData → ⊥) → count payload + consumed ≡ count (payload ++ piece)
+    → (more ≡ 0) × (status ≡ before)
     → GoesTo payload (payload ++ piece) (record { consumed = consumed + more; status = status })
 goes_ended payload piece consumed more before status ended over counted same =
     let was = some_by (first_terminator payload) (after_terminator payload) before (sym ended) in
-    let stays = end_stays was.0 (after_terminator payload) piece (λ waits. over (sym was.2 ∙ waits)) in
+    let stays =
+    end_stays was.0 (after_terminator payload) piece (λ waits. over (sym was.2 ∙ waits)) in
     let now = first_terminator-ended payload piece was.0 was.1 in
     let after = after_terminator-some payload piece was.0 was.1 in (
       omega (
@@ -155,20 +200,29 @@ goes_ended payload piece consumed more before status ended over counted same =
         count_at (payload ++ piece) (after_terminator payload ++ piece) was.0 now after,
         stays.1,
       ),
-      same.1 ∙ (sym was.2 ∙ (sym stays.0 ∙ sym (status_at (payload ++ piece) (after_terminator payload ++ piece) was.0 now after))),
+      same.1
+          ∙ (sym was.2
+          ∙ (sym stays.0
+          ∙ sym
+          (status_at (payload ++ piece) (after_terminator payload ++ piece) was.0 now after))),
     )
 
 -- a terminator had come before the piece
-pub goes_later : (payload piece : List ℕ) (t consumed more : ℕ) (was status : SixelDcsFeedStatus) → Some was ≡ ended_with payload
-    → first_terminator (payload ++ piece) ≡ Some t → count payload + consumed ≡ count (payload ++ piece)
+pub goes_later : (payload piece : List ℕ) (t consumed more : ℕ) (was status : SixelDcsFeedStatus)
+    → Some was ≡ ended_with payload
+    → first_terminator (payload ++ piece) ≡ Some t
+    → count payload + consumed ≡ count (payload ++ piece)
     → (was ≡ NeedMoreData → (more + 1 ≡ escape_count piece) × (status ≡ escape_status piece))
     → ((was ≡ NeedMoreData → ⊥) → (more ≡ 0) × (status ≡ was))
     → GoesTo payload (payload ++ piece) (record { consumed = consumed + more; status = status })
 goes_later payload piece t consumed more NeedMoreData status ended first counted waiting over =
-    goes_after_escape payload piece t consumed more status ended first counted (waiting refl).0 (waiting refl).1
+    goes_after_escape payload piece t consumed more status ended first counted (waiting refl).0
+    (waiting refl).1
 goes_later payload piece t consumed more Complete status ended first counted waiting over =
     goes_ended payload piece consumed more Complete status ended (λ e. cc) counted (over (λ e. cc))
 goes_later payload piece t consumed more (Cancelled b) status ended first counted waiting over =
-    goes_ended payload piece consumed more (Cancelled b) status ended (λ e. cc) counted (over (λ e. cc))
+    goes_ended payload piece consumed more (Cancelled b) status ended (λ e. cc) counted
+    (over (λ e. cc))
 goes_later payload piece t consumed more (Interrupted b) status ended first counted waiting over =
-    goes_ended payload piece consumed more (Interrupted b) status ended (λ e. cc) counted (over (λ e. cc))
+    goes_ended payload piece consumed more (Interrupted b) status ended (λ e. cc) counted
+    (over (λ e. cc))

@@ -1,5 +1,6 @@
 -- What has ended or is refused stays so, whatever bytes come after it.
-use Rattle.std.proofs.Common.{◌≡◌, ℕ, ◌≤◌, true, false, cond, List, [], ◌++◌, refl, ap, sym, ◌∙◌, subst, arith, Option, Some, None, length, length-append}
+use Rattle.std.proofs.Common.{◌≡◌, ℕ, ◌≤◌, true, false, cond, List, [], ◌++◌, refl, ap, sym, ◌∙◌}
+use Rattle.std.proofs.Common.{subst, arith, Option, Some, None, length, length-append}
 use Rattle.std.specs.Prelude.{fold, is_some}
 use Rattle.std.proofs.lemmas.Bool.{false≢true}
 use Rattle.std.proofs.lemmas.List.Sums.{fold-append}
@@ -10,75 +11,114 @@ use Rattle.sixel_base.specs.Settings.{Settings}
 use Rattle.sixel_base.specs.Stroke.{Origin, registers}
 use Rattle.sixel_base.specs.Decoder.{origin_of}
 use Rattle.sixel_base.specs.declared.state.DecoderState.{DecoderState}
-use Rattle.sixel_base.specs.Payload.{Image, image_of, first_fault, closed, settled, fed_fault, growths, payload_image, payload_registers}
+use Rattle.sixel_base.specs.Payload.{Image, image_of, first_fault, closed, settled, fed_fault}
+use Rattle.sixel_base.specs.Payload.{growths, payload_image, payload_registers}
 use Rattle.sixel_base.specs.declared.status.SixelDcsFeedStatus.TheVariants.{NeedMoreData}
-use Rattle.sixel_base.specs.Dcs.{Stage, Heading, Failing, Reading, stage, after_terminator, end_status, payload_status_by, stage_status, stage_count, stage_fault, stage_growths, dcs_status, dcs_count, dcs_fault, dcs_growths, has_ended}
+use Rattle.sixel_base.specs.Dcs.{Stage, Heading, Failing, Reading, stage, after_terminator}
+use Rattle.sixel_base.specs.Dcs.{end_status, payload_status_by, stage_status, stage_count}
+use Rattle.sixel_base.specs.Dcs.{stage_fault, stage_growths, dcs_status, dcs_count, dcs_fault}
+use Rattle.sixel_base.specs.Dcs.{dcs_growths, has_ended}
 use Rattle.sixel_base.specs.OneShot.{Payload, found, found_fault, IsFoundImage, AreFoundRegisters}
 use Rattle.sixel_decoder.proofs.ParserSteps.{growths-closed}
 use Rattle.sixel_decoder.proofs.ChunkReads.{whole_fault, fold_fault, growths-fold}
-use Rattle.sixel_decoder.proofs.Chunks.{front-append, first_terminator-ended, before_terminator-ended}
-use Rattle.sixel_decoder.proofs.Terminators.{after_terminator-some, end_stays, stage_reading, failing_stays}
+use Rattle.sixel_decoder.proofs.Chunks.{front-append, first_terminator-ended}
+use Rattle.sixel_decoder.proofs.Chunks.{before_terminator-ended}
+use Rattle.sixel_decoder.proofs.Terminators.{after_terminator-some, end_stays, stage_reading}
+use Rattle.sixel_decoder.proofs.Terminators.{failing_stays}
 use Rattle.sixel_decoder.proofs.DcsEnds.{status_at, count_at}
 use Rattle.sixel_decoder.proofs.DcsPayloads.{found_reading}
 
 -- ---- a payload
 
-pub front_ended : (bytes more : List ℕ) (t : ℕ) → first_terminator bytes ≡ Some t → front (bytes ++ more) ≡ front bytes
+pub front_ended : (bytes more : List ℕ) (t : ℕ) → first_terminator bytes ≡ Some t
+    → front (bytes ++ more) ≡ front bytes
 front_ended bytes more t is = ap carrying (before_terminator-ended bytes more t is)
 
-pub count_ended : (bytes more : List ℕ) (t : ℕ) → first_terminator bytes ≡ Some t → count (bytes ++ more) ≡ count bytes
+pub count_ended : (bytes more : List ℕ) (t : ℕ) → first_terminator bytes ≡ Some t
+    → count (bytes ++ more) ≡ count bytes
 count_ended bytes more t is = ap length (before_terminator-ended bytes more t is)
 
 -- the tokens that no further byte can change, where a terminator has come
-pub settled_ended : (bytes more : List ℕ) (t : ℕ) → first_terminator bytes ≡ Some t → settled (bytes ++ more) ≡ settled bytes
-settled_ended bytes more t is = rw (is, first_terminator-ended bytes more t is, before_terminator-ended bytes more t is) refl
+pub settled_ended : (bytes more : List ℕ) (t : ℕ) → first_terminator bytes ≡ Some t
+    → settled (bytes ++ more) ≡ settled bytes
+settled_ended bytes more t is =
+    rw (is, first_terminator-ended bytes more t is, before_terminator-ended bytes more t is) refl
 
 -- the tokens of the bytes so far, and how they go on with more
-history_more : (bytes more : List ℕ) → first_terminator bytes ≡ None → history_of (front (bytes ++ more)) ≡ fold read (history_of (front bytes)) (front more)
-history_more bytes more none = ap history_of (front-append bytes more none) ∙ fold-append read [] (front bytes) (front more)
+history_more : (bytes more : List ℕ) → first_terminator bytes ≡ None
+    → history_of (front (bytes ++ more)) ≡ fold read (history_of (front bytes)) (front more)
+history_more bytes more none =
+    ap history_of (front-append bytes more none) ∙ fold-append read [] (front bytes) (front more)
 
-settled_open : (bytes : List ℕ) → first_terminator bytes ≡ None → settled bytes ≡ closed (history_of (front bytes))
-settled_open bytes none = ap (λ t. cond (is_some t) (history_of (front bytes)) (closed (history_of (front bytes)))) none
+settled_open : (bytes : List ℕ) → first_terminator bytes ≡ None
+    → settled bytes ≡ closed (history_of (front bytes))
+settled_open bytes none =
+    ap (λ t. cond (is_some t) (history_of (front bytes)) (closed (history_of (front bytes)))) none
 
 -- what holds of the closed tokens and of all holds of those that are settled
-of_settled : (P : History → Type 0) (bytes : List ℕ) → P (history_of (front bytes)) → P (closed (history_of (front bytes))) → P (settled bytes)
+of_settled : (P : History → Type 0) (bytes : List ℕ) → P (history_of (front bytes))
+    → P (closed (history_of (front bytes))) → P (settled bytes)
 of_settled P bytes all some =
-    elim (is_some (first_terminator bytes)) as (λ t. P (cond t (history_of (front bytes)) (closed (history_of (front bytes))))) [ true ↦ all | false ↦ some ]
+    elim (is_some (first_terminator bytes)) as
+    (λ t. P (cond t (history_of (front bytes)) (closed (history_of (front bytes)))))
+    [ true ↦ all | false ↦ some ]
 
-fault_more : (limit : ℕ) (h : History) (bytes more : List ℕ) (f : Fault) → history_of (front (bytes ++ more)) ≡ fold read h (front more)
+fault_more : (limit : ℕ) (h : History) (bytes more : List ℕ) (f : Fault)
+    → history_of (front (bytes ++ more)) ≡ fold read h (front more)
     → first_fault limit (closed h) ≡ Some f → fed_fault limit (bytes ++ more) ≡ Some f
 fault_more limit h bytes more f goes is =
-    let some : first_fault limit (closed (history_of (front (bytes ++ more)))) ≡ Some f = ap (λ w. first_fault limit (closed w)) goes ∙ fold_fault limit h (front more) f is in
-    of_settled (λ w. first_fault limit w ≡ Some f) (bytes ++ more) (whole_fault limit (history_of (front (bytes ++ more))) f some) some
+    let some : first_fault limit (closed (history_of (front (bytes ++ more)))) ≡ Some f =
+    ap (λ w. first_fault limit (closed w)) goes ∙ fold_fault limit h (front more) f is in
+    of_settled (λ w. first_fault limit w ≡ Some f)
+    (bytes ++ more) (whole_fault limit (history_of (front (bytes ++ more))) f some) some
 
-fault_by : (limit : ℕ) (bytes more : List ℕ) (f : Fault) (o : Option ℕ) → first_terminator bytes ≡ o → fed_fault limit bytes ≡ Some f → fed_fault limit (bytes ++ more) ≡ Some f
+fault_by : (limit : ℕ) (bytes more : List ℕ) (f : Fault) (o : Option ℕ) → first_terminator bytes ≡ o
+    → fed_fault limit bytes ≡ Some f → fed_fault limit (bytes ++ more) ≡ Some f
 fault_by limit bytes more f None none is =
-    fault_more limit (history_of (front bytes)) bytes more f (history_more bytes more none) (ap (first_fault limit) (sym (settled_open bytes none)) ∙ is)
-fault_by limit bytes more f (Some t) some is = ap (first_fault limit) (settled_ended bytes more t some) ∙ is
+    fault_more limit (history_of (front bytes)) bytes more f (history_more bytes more none)
+    (ap (first_fault limit) (sym (settled_open bytes none)) ∙ is)
+fault_by limit bytes more f (Some t) some is =
+    ap (first_fault limit) (settled_ended bytes more t some) ∙ is
 
 -- a payload that was refused stays refused
-pub fed_fault_stays : (limit : ℕ) (bytes more : List ℕ) (f : Fault) → fed_fault limit bytes ≡ Some f → fed_fault limit (bytes ++ more) ≡ Some f
+pub fed_fault_stays : (limit : ℕ) (bytes more : List ℕ) (f : Fault) → fed_fault limit bytes ≡ Some f
+    → fed_fault limit (bytes ++ more) ≡ Some f
 fed_fault_stays limit bytes more f is = fault_by limit bytes more f (first_terminator bytes) refl is
 
-growths_more : (h : History) (bytes more : List ℕ) → history_of (front (bytes ++ more)) ≡ fold read h (front more) → growths (closed h) ≤ growths (settled (bytes ++ more))
+growths_more : (h : History) (bytes more : List ℕ)
+    → history_of (front (bytes ++ more)) ≡ fold read h (front more)
+    → growths (closed h) ≤ growths (settled (bytes ++ more))
 growths_more h bytes more goes =
-    let some : growths (closed h) ≤ growths (closed (history_of (front (bytes ++ more)))) = omega (arith, growths-fold h (front more), ap (λ w. growths (closed w)) goes) in
-    of_settled (λ w. growths (closed h) ≤ growths w) (bytes ++ more) (omega (arith, some, growths-closed (history_of (front (bytes ++ more))))) some
+    let some : growths (closed h) ≤ growths (closed (history_of (front (bytes ++ more)))) =
+    omega (arith, growths-fold h (front more), ap (λ w. growths (closed w)) goes) in
+    of_settled (λ w. growths (closed h) ≤ growths w)
+    (bytes ++ more) (omega (arith, some, growths-closed (history_of (front (bytes ++ more))))) some
 
-growths_by : (bytes more : List ℕ) (o : Option ℕ) → first_terminator bytes ≡ o → growths (settled bytes) ≤ growths (settled (bytes ++ more))
-growths_by bytes more None none = omega (arith, ap growths (settled_open bytes none), growths_more (history_of (front bytes)) bytes more (history_more bytes more none))
+growths_by : (bytes more : List ℕ) (o : Option ℕ) → first_terminator bytes ≡ o
+    → growths (settled bytes) ≤ growths (settled (bytes ++ more))
+growths_by bytes more None none =
+    omega (
+      arith,
+      ap growths (settled_open bytes none),
+      growths_more (history_of (front bytes)) bytes more (history_more bytes more none),
+    )
 growths_by bytes more (Some t) some = omega (arith, ap growths (settled_ended bytes more t some))
 
 -- the sixels and raster attributes that are settled stay so
-pub growths_stay : (bytes more : List ℕ) → growths (settled bytes) ≤ growths (settled (bytes ++ more))
+pub growths_stay : (bytes more : List ℕ)
+    → growths (settled bytes) ≤ growths (settled (bytes ++ more))
 growths_stay bytes more = growths_by bytes more (first_terminator bytes) refl
 
 -- the image of a payload that has ended, and the registers after it
-image_more : (origin : Origin) (bytes more : List ℕ) (t : ℕ) → first_terminator bytes ≡ Some t → payload_image origin (bytes ++ more) ≡ payload_image origin bytes
-image_more origin bytes more t is = ap (λ w. image_of origin (history_of w)) (front_ended bytes more t is)
+image_more : (origin : Origin) (bytes more : List ℕ) (t : ℕ) → first_terminator bytes ≡ Some t
+    → payload_image origin (bytes ++ more) ≡ payload_image origin bytes
+image_more origin bytes more t is =
+    ap (λ w. image_of origin (history_of w)) (front_ended bytes more t is)
 
-registers_more : (origin : Origin) (bytes more : List ℕ) (t : ℕ) → first_terminator bytes ≡ Some t → payload_registers origin (bytes ++ more) ≡ payload_registers origin bytes
-registers_more origin bytes more t is = ap (λ w. registers origin.registers (history_of w)) (front_ended bytes more t is)
+registers_more : (origin : Origin) (bytes more : List ℕ) (t : ℕ) → first_terminator bytes ≡ Some t
+    → payload_registers origin (bytes ++ more) ≡ payload_registers origin bytes
+registers_more origin bytes more t is =
+    ap (λ w. registers origin.registers (history_of w)) (front_ended bytes more t is)
 
 -- ---- a control string
 
@@ -88,9 +128,14 @@ record Ends (payload : List ℕ) : Type 0 where
   first : first_terminator payload ≡ Some terminator
   over : end_status terminator (after_terminator payload) ≡ NeedMoreData → ⊥
 
-ends_by : (payload : List ℕ) (o : Option ℕ) → first_terminator payload ≡ o → has_ended (payload_status_by o (after_terminator payload)) ≡ true → Ends payload
+ends_by : (payload : List ℕ) (o : Option ℕ) → first_terminator payload ≡ o
+    → has_ended (payload_status_by o (after_terminator payload)) ≡ true → Ends payload
 ends_by payload None is ended = absurd cc
-ends_by payload (Some t) is ended = record { terminator = t; first = is; over = λ waits. false≢true (sym (ap has_ended waits) ∙ ended) }
+ends_by payload (Some t) is ended = record {
+  terminator = t;
+  first = is;
+  over = λ waits. false≢true (sym (ap has_ended waits) ∙ ended);
+}
 
 -- where a string has ended: in a payload
 record EndsIn (bytes : List ℕ) : Type 0 where
@@ -99,19 +144,27 @@ record EndsIn (bytes : List ℕ) : Type 0 where
   reading : stage bytes ≡ Reading settings payload
   ends : Ends payload
 
-ends_in_by : (bytes : List ℕ) (w : Stage) → stage bytes ≡ w → has_ended (stage_status w) ≡ true → EndsIn bytes
+ends_in_by : (bytes : List ℕ) (w : Stage) → stage bytes ≡ w → has_ended (stage_status w) ≡ true
+    → EndsIn bytes
 ends_in_by bytes Heading is ended = absurd cc
 ends_in_by bytes (Failing f) is ended = absurd cc
-ends_in_by bytes (Reading s payload) is ended = record { settings = s; payload = payload; reading = is; ends = ends_by payload (first_terminator payload) refl ended }
+ends_in_by bytes (Reading s payload) is ended = record {
+  settings = s;
+  payload = payload;
+  reading = is;
+  ends = ends_by payload (first_terminator payload) refl ended;
+}
 
 ends_in : (bytes : List ℕ) → has_ended (dcs_status bytes) ≡ true → EndsIn bytes
 ends_in bytes ended = ends_in_by bytes (stage bytes) refl ended
 
-reads_on : (bytes more : List ℕ) (e : EndsIn bytes) → stage (bytes ++ more) ≡ Reading e.settings (e.payload ++ more)
+reads_on : (bytes more : List ℕ) (e : EndsIn bytes)
+    → stage (bytes ++ more) ≡ Reading e.settings (e.payload ++ more)
 reads_on bytes more e = stage_reading bytes more e.settings e.payload e.reading
 
 -- its status and its bytes stay what they are
-pub status_ended : (bytes more : List ℕ) → has_ended (dcs_status bytes) ≡ true → dcs_status (bytes ++ more) ≡ dcs_status bytes
+pub status_ended : (bytes more : List ℕ) → has_ended (dcs_status bytes) ≡ true
+    → dcs_status (bytes ++ more) ≡ dcs_status bytes
 status_ended bytes more ended =
     let e = ends_in bytes ended in
     let t : ℕ = e.ends.terminator in
@@ -120,9 +173,12 @@ status_ended bytes more ended =
     let stays = end_stays t (after_terminator e.payload) more e.ends.over in
     ap stage_status (reads_on bytes more e)
     ∙ (status_at (e.payload ++ more) (after_terminator e.payload ++ more) t now after
-    ∙ (stays.0 ∙ sym (ap stage_status e.reading ∙ status_at e.payload (after_terminator e.payload) t e.ends.first refl)))
+    ∙ (stays.0
+    ∙ sym (ap stage_status e.reading
+    ∙ status_at e.payload (after_terminator e.payload) t e.ends.first refl)))
 
-pub dcs_count_ended : (bytes more : List ℕ) → has_ended (dcs_status bytes) ≡ true → dcs_count (bytes ++ more) ≡ dcs_count bytes
+pub dcs_count_ended : (bytes more : List ℕ) → has_ended (dcs_status bytes) ≡ true
+    → dcs_count (bytes ++ more) ≡ dcs_count bytes
 dcs_count_ended bytes more ended =
     let e = ends_in bytes ended in
     let t : ℕ = e.ends.terminator in
@@ -141,54 +197,83 @@ dcs_count_ended bytes more ended =
     )
 
 -- as does what is wrong with it
-pub dcs_fault_ended : (limit : ℕ) (bytes more : List ℕ) → has_ended (dcs_status bytes) ≡ true → dcs_fault limit (bytes ++ more) ≡ dcs_fault limit bytes
+pub dcs_fault_ended : (limit : ℕ) (bytes more : List ℕ) → has_ended (dcs_status bytes) ≡ true
+    → dcs_fault limit (bytes ++ more) ≡ dcs_fault limit bytes
 dcs_fault_ended limit bytes more ended =
     let e = ends_in bytes ended in
     ap (stage_fault limit) (reads_on bytes more e)
-    ∙ (ap (first_fault limit) (settled_ended e.payload more e.ends.terminator e.ends.first) ∙ sym (ap (stage_fault limit) e.reading))
+    ∙ (ap (first_fault limit) (settled_ended e.payload more e.ends.terminator e.ends.first)
+    ∙ sym (ap (stage_fault limit) e.reading))
 
-pub dcs_growths_ended : (bytes more : List ℕ) → has_ended (dcs_status bytes) ≡ true → dcs_growths (bytes ++ more) ≡ dcs_growths bytes
+pub dcs_growths_ended : (bytes more : List ℕ) → has_ended (dcs_status bytes) ≡ true
+    → dcs_growths (bytes ++ more) ≡ dcs_growths bytes
 dcs_growths_ended bytes more ended =
     let e = ends_in bytes ended in
-    ap stage_growths (reads_on bytes more e) ∙ (ap growths (settled_ended e.payload more e.ends.terminator e.ends.first) ∙ sym (ap stage_growths e.reading))
+    ap stage_growths (reads_on bytes more e)
+    ∙ (ap growths (settled_ended e.payload more e.ends.terminator e.ends.first)
+    ∙ sym (ap stage_growths e.reading))
 
 -- its image, and the registers after it
-pub found_image_ended : (start : DecoderState) (bytes more : List ℕ) (image : Image) → has_ended (dcs_status bytes) ≡ true
+pub found_image_ended : (start : DecoderState) (bytes more : List ℕ) (image : Image)
+    → has_ended (dcs_status bytes) ≡ true
     → IsFoundImage start (found bytes) image → IsFoundImage start (found (bytes ++ more)) image
 found_image_ended start bytes more image ended is =
     let e = ends_in bytes ended in
-    let here : IsFoundImage start (Payload e.settings e.payload) image = subst (λ w. IsFoundImage start w image) (found_reading bytes e.settings e.payload e.reading) is in
-    subst (λ w. IsFoundImage start w image) (sym (found_reading (bytes ++ more) e.settings (e.payload ++ more) (reads_on bytes more e)))
-    (here ∙ sym (image_more (origin_of start e.settings) e.payload more e.ends.terminator e.ends.first))
+    let here : IsFoundImage start (Payload e.settings e.payload) image =
+    subst (λ w. IsFoundImage start w image)
+    (found_reading bytes e.settings e.payload e.reading) is in
+    subst (λ w. IsFoundImage start w image)
+    (sym (found_reading (bytes ++ more) e.settings (e.payload ++ more) (reads_on bytes more e)))
+    (here
+    ∙ sym (image_more (origin_of start e.settings) e.payload more e.ends.terminator e.ends.first))
 
-pub found_registers_ended : (start : DecoderState) (bytes more : List ℕ) (after : List (List ℕ)) → has_ended (dcs_status bytes) ≡ true
-    → AreFoundRegisters start (found bytes) after → AreFoundRegisters start (found (bytes ++ more)) after
+pub found_registers_ended : (start : DecoderState) (bytes more : List ℕ) (after : List (List ℕ))
+    → has_ended (dcs_status bytes) ≡ true
+    → AreFoundRegisters start (found bytes) after
+    → AreFoundRegisters start (found (bytes ++ more)) after
 found_registers_ended start bytes more after ended is =
     let e = ends_in bytes ended in
-    let here : AreFoundRegisters start (Payload e.settings e.payload) after = subst (λ w. AreFoundRegisters start w after) (found_reading bytes e.settings e.payload e.reading) is in
-    subst (λ w. AreFoundRegisters start w after) (sym (found_reading (bytes ++ more) e.settings (e.payload ++ more) (reads_on bytes more e)))
-    (here ∙ sym (registers_more (origin_of start e.settings) e.payload more e.ends.terminator e.ends.first))
+    let here : AreFoundRegisters start (Payload e.settings e.payload) after =
+    subst (λ w. AreFoundRegisters start w after)
+    (found_reading bytes e.settings e.payload e.reading) is in
+    subst (λ w. AreFoundRegisters start w after)
+    (sym (found_reading (bytes ++ more) e.settings (e.payload ++ more) (reads_on bytes more e)))
+    (here
+    ∙ sym
+    (registers_more (origin_of start e.settings) e.payload more e.ends.terminator e.ends.first))
 
-pub found_fault_ended : (limit : ℕ) (bytes more : List ℕ) → has_ended (dcs_status bytes) ≡ true → found_fault limit (found (bytes ++ more)) ≡ found_fault limit (found bytes)
+pub found_fault_ended : (limit : ℕ) (bytes more : List ℕ) → has_ended (dcs_status bytes) ≡ true
+    → found_fault limit (found (bytes ++ more)) ≡ found_fault limit (found bytes)
 found_fault_ended limit bytes more ended =
     let e = ends_in bytes ended in
-    ap (found_fault limit) (found_reading (bytes ++ more) e.settings (e.payload ++ more) (reads_on bytes more e))
-    ∙ (ap (λ w. first_fault limit (history_of w)) (front_ended e.payload more e.ends.terminator e.ends.first)
+    ap (found_fault limit)
+    (found_reading (bytes ++ more) e.settings (e.payload ++ more) (reads_on bytes more e))
+    ∙ (ap
+    (λ w. first_fault limit (history_of w))
+    (front_ended e.payload more e.ends.terminator e.ends.first)
     ∙ sym (ap (found_fault limit) (found_reading bytes e.settings e.payload e.reading)))
 
-fault_in : (limit : ℕ) (bytes more : List ℕ) (f : Fault) (w : Stage) → stage bytes ≡ w → stage_fault limit w ≡ Some f → dcs_fault limit (bytes ++ more) ≡ Some f
+fault_in : (limit : ℕ) (bytes more : List ℕ) (f : Fault) (w : Stage) → stage bytes ≡ w
+    → stage_fault limit w ≡ Some f → dcs_fault limit (bytes ++ more) ≡ Some f
 fault_in limit bytes more f Heading is some = absurd cc
-fault_in limit bytes more f (Failing g) is some = ap (stage_fault limit) (failing_stays bytes more g is) ∙ some
-fault_in limit bytes more f (Reading s payload) is some = ap (stage_fault limit) (stage_reading bytes more s payload is) ∙ fed_fault_stays limit payload more f some
+fault_in limit bytes more f (Failing g) is some =
+    ap (stage_fault limit) (failing_stays bytes more g is) ∙ some
+fault_in limit bytes more f (Reading s payload) is some =
+    ap (stage_fault limit) (stage_reading bytes more s payload is)
+    ∙ fed_fault_stays limit payload more f some
 
 -- a control string that was refused stays refused
-pub dcs_fault_stays : (limit : ℕ) (bytes more : List ℕ) (f : Fault) → dcs_fault limit bytes ≡ Some f → dcs_fault limit (bytes ++ more) ≡ Some f
+pub dcs_fault_stays : (limit : ℕ) (bytes more : List ℕ) (f : Fault) → dcs_fault limit bytes ≡ Some f
+    → dcs_fault limit (bytes ++ more) ≡ Some f
 dcs_fault_stays limit bytes more f is = fault_in limit bytes more f (stage bytes) refl is
 
-growths_in : (bytes more : List ℕ) (w : Stage) → stage bytes ≡ w → stage_growths w ≤ dcs_growths (bytes ++ more)
+growths_in : (bytes more : List ℕ) (w : Stage) → stage bytes ≡ w
+    → stage_growths w ≤ dcs_growths (bytes ++ more)
 growths_in bytes more Heading is = omega arith
 growths_in bytes more (Failing g) is = omega arith
-growths_in bytes more (Reading s payload) is = omega (arith, ap stage_growths (stage_reading bytes more s payload is), growths_stay payload more)
+growths_in bytes more (Reading s payload) is =
+    omega
+    (arith, ap stage_growths (stage_reading bytes more s payload is), growths_stay payload more)
 
 -- the sixels and raster attributes of its payload that are settled stay so
 pub dcs_growths_stay : (bytes more : List ℕ) → dcs_growths bytes ≤ dcs_growths (bytes ++ more)

@@ -1,11 +1,14 @@
 -- How a parser stands once it has opened a command with the digits after it.
-use Rattle.std.proofs.Common.{◌≡◌, ℕ, suc, ◌+◌, ◌<◌, ◌≤◌, ◌⊎◌, false, List, [], ◌∷◌, length, get_or, take, drop, get_or-take, length-take, refl, sym, ap, ◌∙◌, subst, inl, inr, arith}
+use Rattle.std.proofs.Common.{◌≡◌, ℕ, suc, ◌+◌, ◌<◌, ◌≤◌, ◌⊎◌, false, List, [], ◌∷◌, length, get_or}
+use Rattle.std.proofs.Common.{take, drop, get_or-take, length-take, refl, sym, ap, ◌∙◌, subst, inl}
+use Rattle.std.proofs.Common.{inr, arith}
 use Rattle.std.specs.Prelude.{IsTrue, fold}
 use Rattle.std.specs.List.{list_all}
 use Rattle.std.proofs.lemmas.Bool.Decides.{nat_tests}
 use Rattle.std.proofs.lemmas.Grind.{common_steps}
 use Rattle.sixel_base.specs.Bytes.{is_digit, is_parameter}
-use Rattle.sixel_base.specs.History.{Sixel, Repeat, Raster, Color, Return, Newline, Skip, History, goes_on, read}
+use Rattle.sixel_base.specs.History.{Sixel, Repeat, Raster, Color, Return, Newline, Skip, History}
+use Rattle.sixel_base.specs.History.{goes_on, read}
 use Rattle.sixel_base.specs.Stroke.{Origin}
 use Rattle.sixel_base.specs.inside.Parameters.{IsDigit, Keeps}
 use Rattle.sixel_base.proofs.Reading.{fold-spelling}
@@ -58,29 +61,58 @@ all_parameters (byte ∷ bytes) are =
     let rest = all_parameters bytes (λ k lt. are (suc k) (omega arith)) in
     grind (arith, nat_tests, common_steps, here.0, here.1, rest)
 
-AreDigits-take : (n : ℕ) (bytes : List ℕ) → n ≤ length bytes → ((k : ℕ) → k < n → IsDigit (get_or bytes k 0)) → AreDigits (take n bytes)
-AreDigits-take n bytes le are k lt = subst IsDigit (sym (get_or-take n bytes k 0 (omega (arith, lt, length-take n bytes)))) (are k (omega (arith, lt, length-take n bytes)))
+AreDigits-take : (n : ℕ) (bytes : List ℕ) → n ≤ length bytes
+    → ((k : ℕ) → k < n → IsDigit (get_or bytes k 0)) → AreDigits (take n bytes)
+AreDigits-take n bytes le are k lt =
+    subst IsDigit (sym (get_or-take n bytes k 0 (omega (arith, lt, length-take n bytes))))
+    (are k (omega (arith, lt, length-take n bytes)))
 
 -- the byte at the front, and the digits after it
-fold_front : (h : History) (bytes : List ℕ) (first n : ℕ) → 0 < length bytes → get_or bytes 0 0 ≡ first → fold read h (take (n + 1) bytes) ≡ fold read h (first ∷ take n (drop 1 bytes))
+fold_front : (h : History) (bytes : List ℕ) (first n : ℕ) → 0 < length bytes
+    → get_or bytes 0 0 ≡ first
+    → fold read h (take (n + 1) bytes) ≡ fold read h (first ∷ take n (drop 1 bytes))
 fold_front h [] first n some is = absurd (omega arith)
 fold_front h (byte ∷ bytes) first n some is =
     let more : n + 1 ≡ suc n = omega arith in
-    ap (λ (m : ℕ). fold read h (take m (byte ∷ bytes))) more ∙ ap (λ (b : ℕ). fold read h (b ∷ take n bytes)) is
+    ap (λ (m : ℕ). fold read h (take m (byte ∷ bytes))) more
+    ∙ ap (λ (b : ℕ). fold read h (b ∷ take n bytes)) is
 
-module _ (o : Origin) (new : PayloadParser) (h : History) (bytes : List ℕ) (n : ℕ) (some : 0 < length bytes) (le : n ≤ length (drop 1 bytes)) (are : (k : ℕ) → k < n → IsDigit (get_or (drop 1 bytes) k 0)) (keeps : Keeps new.parameters (take n (drop 1 bytes))) (shows : Shows o new.painter h) where
-  pub Stands-repeat : get_or bytes 0 0 ≡ 33 → new.command ≡ InRepeat → Stands o new (fold read h (take (n + 1) bytes))
+module _ (o : Origin) (new : PayloadParser) (h : History) (bytes : List ℕ) (n : ℕ)
+    (some : 0 < length bytes) (le : n ≤ length (drop 1 bytes))
+    (are : (k : ℕ) → k < n → IsDigit (get_or (drop 1 bytes) k 0))
+    (keeps : Keeps new.parameters (take n (drop 1 bytes))) (shows : Shows o new.painter h) where
+  pub Stands-repeat : get_or bytes 0 0 ≡ 33 → new.command ≡ InRepeat
+      → Stands o new (fold read h (take (n + 1) bytes))
   Stands-repeat is command =
       let text : List ℕ = take n (drop 1 bytes) in
       let newest : fold read h (take (n + 1) bytes) ≡ Repeat text ∷ h =
-      fold_front h bytes 33 n some is ∙ fold-spelling h (Repeat text) (all_digits text (AreDigits-take n (drop 1 bytes) le are)) (goes_on_repeat h) in
-      let opened : IsOpen Repeat o new (fold read h (take (n + 1) bytes)) = record { text = text; older = h; newest = newest; keeps = keeps; shows = shows } in
-      subst (λ (p : OpenCommand). StandsIn p o new (fold read h (take (n + 1) bytes))) (sym command) opened
+      fold_front h bytes 33 n some is
+      ∙ fold-spelling h (Repeat text) (all_digits text (AreDigits-take n (drop 1 bytes) le are))
+      (goes_on_repeat h) in
+      let opened : IsOpen Repeat o new (fold read h (take (n + 1) bytes)) = record {
+        text = text;
+        older = h;
+        newest = newest;
+        keeps = keeps;
+        shows = shows;
+      } in
+      subst (λ (p : OpenCommand). StandsIn p o new (fold read h (take (n + 1) bytes)))
+      (sym command) opened
 
-  pub Stands-color : get_or bytes 0 0 ≡ 35 → new.command ≡ InColor → Stands o new (fold read h (take (n + 1) bytes))
+  pub Stands-color : get_or bytes 0 0 ≡ 35 → new.command ≡ InColor
+      → Stands o new (fold read h (take (n + 1) bytes))
   Stands-color is command =
       let text : List ℕ = take n (drop 1 bytes) in
       let newest : fold read h (take (n + 1) bytes) ≡ Color text ∷ h =
-      fold_front h bytes 35 n some is ∙ fold-spelling h (Color text) (all_parameters text (AreDigits-take n (drop 1 bytes) le are)) (goes_on_color h) in
-      let opened : IsOpen Color o new (fold read h (take (n + 1) bytes)) = record { text = text; older = h; newest = newest; keeps = keeps; shows = shows } in
-      subst (λ (p : OpenCommand). StandsIn p o new (fold read h (take (n + 1) bytes))) (sym command) opened
+      fold_front h bytes 35 n some is
+      ∙ fold-spelling h (Color text) (all_parameters text (AreDigits-take n (drop 1 bytes) le are))
+      (goes_on_color h) in
+      let opened : IsOpen Color o new (fold read h (take (n + 1) bytes)) = record {
+        text = text;
+        older = h;
+        newest = newest;
+        keeps = keeps;
+        shows = shows;
+      } in
+      subst (λ (p : OpenCommand). StandsIn p o new (fold read h (take (n + 1) bytes)))
+      (sym command) opened

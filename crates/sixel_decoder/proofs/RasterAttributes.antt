@@ -1,5 +1,6 @@
 -- What raster attributes do to what was drawn, and where they are refused.
-use Rattle.std.proofs.Common.{◌≡◌, ℕ, ◌*◌, ◌<◌, ◌≤◌, ◌⊎◌, List, ◌∷◌, None, false, max, inl, inr, refl, arith}
+use Rattle.std.proofs.Common.{◌≡◌, ℕ, ◌*◌, ◌<◌, ◌≤◌, ◌⊎◌, List, ◌∷◌, None, false, max, inl, inr}
+use Rattle.std.proofs.Common.{refl, arith}
 use Rattle.std.proofs.lemmas.Bool.{le-ltb}
 use Rattle.sixel_base.specs.Fault.{Malformed, TooLarge, Faults}
 use Rattle.sixel_base.specs.Fields.{field}
@@ -15,29 +16,38 @@ use Rattle.sixel_decoder.proofs.Sixels.{extent_malformed, extent_large}
 use Rattle.sixel_decoder.proofs.FoundPayloads.{Faults-named}
 
 -- a side above a million, or an area above the limit
-pub refused_raster : (e : SixelError) (o : Origin) (painter : Painter) (h : History) (text : List ℕ) (wide high : ℕ) → Shows o painter h
-    → wide ≡ field text 2 → high ≡ field text 3 → IsTooLarge (max painter.width wide) (max painter.height high) painter.pixel_limit e
+pub refused_raster :
+    (e : SixelError) (o : Origin) (painter : Painter) (h : History) (text : List ℕ) (wide high : ℕ)
+    → Shows o painter h
+    → wide ≡ field text 2 → high ≡ field text 3
+    → IsTooLarge (max painter.width wide) (max painter.height high) painter.pixel_limit e
     → Faults e false (first_fault o.pixel_limit (Raster text ∷ h))
 refused_raster e o painter h text wide high shows wide' high' (inl far) =
     let side : (1000000 < field text 2) ⊎ (1000000 < field text 3) = elim far.0 [
       | inl long ↦ inl (omega (arith, long, painter.width_fits, wide'))
       | inr long ↦ inr (omega (arith, long, painter.height_fits, high'))
     ] in
-    let found = extent_malformed o.pixel_limit (field text 2) (field text 3) (Raster text ∷ h) side in
+    let found =
+    extent_malformed o.pixel_limit (field text 2) (field text 3) (Raster text ∷ h) side in
     rw (shows.faultless, found) (Faults-named e false Malformed far.1)
 refused_raster e o painter h text wide high shows wide' high' (inr large) =
     let found =
-    extent_large o.pixel_limit (field text 2) (field text 3) (Raster text ∷ h) (omega (arith, large.0, wide')) (omega (arith, large.1, high'))
+    extent_large o.pixel_limit (field text 2) (field text 3) (Raster text ∷ h)
+    (omega (arith, large.0, wide')) (omega (arith, large.1, high'))
     (rw (shows.width, shows.height, shows.limit, wide', high') at large.2) in
     rw (shows.faultless, found) (Faults-named e false TooLarge large.3)
 
 -- sides and an area within their limits
-pub sound_raster : (o : Origin) (old new : Painter) (h : History) (text : List ℕ) (wide high : ℕ) → Shows o old h → IsExtended old new wide high
-    → wide ≡ field text 2 → high ≡ field text 3 → new.width * new.height ≤ new.pixel_limit → first_fault o.pixel_limit (Raster text ∷ h) ≡ None
+pub sound_raster : (o : Origin) (old new : Painter) (h : History) (text : List ℕ) (wide high : ℕ)
+    → Shows o old h → IsExtended old new wide high
+    → wide ≡ field text 2 → high ≡ field text 3 → new.width * new.height ≤ new.pixel_limit
+    → first_fault o.pixel_limit (Raster text ∷ h) ≡ None
 sound_raster o old new h text wide high shows is wide' high' area =
     rw (
       shows.faultless,
       le-ltb 1000000 (field text 2) (rw (← wide') is.right),
       le-ltb 1000000 (field text 3) (rw (← high') is.lower),
-      le-ltb o.pixel_limit (width (Raster text ∷ h) * height (Raster text ∷ h)) (rw (is.width, is.height, is.limit, shows.width, shows.height, shows.limit, wide', high') at area),
+      le-ltb o.pixel_limit (width (Raster text ∷ h) * height (Raster text ∷ h))
+          (rw (is.width, is.height, is.limit, shows.width, shows.height, shows.limit, wide', high')
+          at area),
     ) refl

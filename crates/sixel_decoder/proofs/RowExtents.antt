@@ -1,13 +1,17 @@
 -- How far the rows of a canvas were reached, and what that says of its writes.
-use Rattle.std.proofs.Common.{◌≡◌, ℕ, suc, zero, ◌+◌, ◌*◌, ◌≤◌, Bool, true, false, max, nat_lt, cond, List, [], ◌∷◌, Option, Some, None, length, refl, ap, inl, inr, arith}
+use Rattle.std.proofs.Common.{◌≡◌, ℕ, suc, zero, ◌+◌, ◌*◌, ◌≤◌, Bool, true, false, max, nat_lt}
+use Rattle.std.proofs.Common.{cond, List, [], ◌∷◌, Option, Some, None, length, refl, ap, inl, inr}
+use Rattle.std.proofs.Common.{arith}
 use Rattle.std.specs.Prelude.{◌&&◌}
 use Rattle.std.specs.Option.{option_or}
 use Rattle.std.proofs.Math.Nat.{mul-suc}
 use Rattle.std.proofs.lemmas.Nat.{mul-le}
 use Rattle.std.proofs.lemmas.Bool.Decides.{nat_tests}
 use Rattle.std.proofs.lemmas.Bool.{cases_lt, le-ltb, le-leb}
-use Rattle.sixel_canvas.specs.inside.Canvas.{CanvasState, IsBounded, canvas_writes, canvas_room, reached}
-use Rattle.sixel_base.specs.History.{Sixel, Repeat, Raster, Color, Return, Newline, Skip, History, history_of}
+use Rattle.sixel_canvas.specs.inside.Canvas.{CanvasState, IsBounded, canvas_writes, canvas_room}
+use Rattle.sixel_canvas.specs.inside.Canvas.{reached}
+use Rattle.sixel_base.specs.History.{Sixel, Repeat, Raster, Color, Return, Newline, Skip, History}
+use Rattle.sixel_base.specs.History.{history_of}
 use Rattle.sixel_base.specs.Bytes.{front, is_terminated}
 use Rattle.sixel_base.specs.Fault.{Fault}
 use Rattle.sixel_base.specs.Fields.{field}
@@ -22,7 +26,8 @@ pub row_reach-past : (h : History) (row : ℕ) → height h ≤ row → row_reac
 row_reach-past [] row past = refl
 row_reach-past (Sixel bits ∷ h) row past =
     let below : down h + 6 ≤ row = omega arith in
-    rw (le-leb (down h) row (omega arith), le-ltb row (down h + 6) below) (row_reach-past h row (omega arith))
+    rw (le-leb (down h) row (omega arith), le-ltb row (down h + 6) below)
+    (row_reach-past h row (omega arith))
 row_reach-past (Repeat _ ∷ h) row past = row_reach-past h row past
 row_reach-past (Raster _ ∷ h) row past = row_reach-past h row (omega arith)
 row_reach-past (Color _ ∷ h) row past = row_reach-past h row past
@@ -34,7 +39,10 @@ row_reach-past (Skip _ ∷ h) row past = row_reach-past h row past
 row_reach-most : (h : History) (row : ℕ) → row_reach h row ≤ width h
 row_reach-most [] row = omega arith
 row_reach-most (Sixel bits ∷ h) row =
-    elim (is_struck (down h) bits row) as (λ t. cond t (max (row_reach h row) (across h + span h)) (row_reach h row) ≤ max (width h) (across h + span h)) [
+    elim (is_struck (down h) bits row) as
+    (λ t.
+    cond t (max (row_reach h row) (across h + span h)) (row_reach h row)
+    ≤ max (width h) (across h + span h)) [
       | true ↦ omega (arith, row_reach-most h row)
       | false ↦ omega (arith, row_reach-most h row)
     ]
@@ -69,9 +77,12 @@ total-most f bound (suc n) most = rw mul-suc (omega (arith, total-most f bound n
 reached_area-most : (h : History) → reached_area h ≤ width h * height h
 reached_area-most h = total-most (row_reach h) (width h) (height h) (row_reach-most h)
 
--- what a canvas has written, and for how much it has room, that was reached exactly as far as these tokens reach
-pub canvas_paid : (canvas : CanvasState) (h : History) → IsBounded canvas → ((row : ℕ) → reached canvas row ≡ row_reach h row)
-    → (reached_area h ≤ canvas_writes canvas) × (canvas_writes canvas ≤ 3 * reached_area h) × (canvas_room canvas ≤ 2 * reached_area h)
+-- what a canvas has written, and for how much it has room, that was reached exactly as far as these
+-- tokens reach
+pub canvas_paid : (canvas : CanvasState) (h : History) → IsBounded canvas
+    → ((row : ℕ) → reached canvas row ≡ row_reach h row)
+    → (reached_area h ≤ canvas_writes canvas) × (canvas_writes canvas ≤ 3 * reached_area h)
+    × (canvas_room canvas ≤ 2 * reached_area h)
 canvas_paid canvas h bounded same =
     let n = max (length canvas.rows) (height h) in
     let equal = total-same (reached canvas) (row_reach h) n same in
@@ -89,11 +100,13 @@ both_none None b is = (refl, is)
 both_none (Some f) b is = absurd cc
 
 -- an extent without a fault has its sides within theirs
-extent-fits : (limit right lower : ℕ) (h : History) → extent_fault limit right lower h ≡ None → (right ≤ 1000000) × (lower ≤ 1000000)
+extent-fits : (limit right lower : ℕ) (h : History) → extent_fault limit right lower h ≡ None
+    → (right ≤ 1000000) × (lower ≤ 1000000)
 extent-fits limit right lower h is = (grind (arith, nat_tests), grind (arith, nat_tests))
 
 -- so have tokens without a fault
-pub sides-fit : (limit : ℕ) (h : History) → first_fault limit h ≡ None → (width h ≤ 1000000) × (height h ≤ 1000000)
+pub sides-fit : (limit : ℕ) (h : History) → first_fault limit h ≡ None
+    → (width h ≤ 1000000) × (height h ≤ 1000000)
 sides-fit limit [] is = (omega arith, omega arith)
 sides-fit limit (Sixel bits ∷ h) is =
     let both = both_none (first_fault limit h) _ is in
@@ -117,7 +130,8 @@ raster_height-most [] = omega arith
 raster_height-most (Sixel bits ∷ h) = omega (arith, raster_height-most h)
 raster_height-most (Repeat _ ∷ h) = raster_height-most h
 raster_height-most (Raster text ∷ h) =
-    elim (nat_lt 0 (field text 3)) as (λ t. cond t (field text 3) (raster_height h) ≤ max (height h) (field text 3)) [
+    elim (nat_lt 0 (field text 3)) as
+    (λ t. cond t (field text 3) (raster_height h) ≤ max (height h) (field text 3)) [
       | true ↦ omega arith
       | false ↦ omega (arith, raster_height-most h)
     ]
@@ -129,7 +143,8 @@ raster_height-most (Skip _ ∷ h) = raster_height-most h
 -- so an image is at most as high as the extent
 pub image_height-most : (crop : Bool) (h : History) → image_height crop h ≤ height h
 image_height-most crop h =
-    elim (crop && nat_lt 0 (raster_height h)) as (λ t. cond t (raster_height h) (height h) ≤ height h) [
+    elim (crop && nat_lt 0 (raster_height h)) as
+    (λ t. cond t (raster_height h) (height h) ≤ height h) [
       | true ↦ raster_height-most h
       | false ↦ omega arith
     ]
@@ -140,14 +155,21 @@ closed-area [] = reached_area-most []
 closed-area (Sixel bits ∷ h) = reached_area-most (Sixel bits ∷ h)
 closed-area (Repeat _ ∷ h) = reached_area-most h
 closed-area (Raster text ∷ h) =
-    omega (arith, reached_area-most h, mul-le (width h) (height h) (width (Raster text ∷ h)) (height (Raster text ∷ h)) (omega arith) (omega arith))
+    omega (
+      arith,
+      reached_area-most h,
+      mul-le (width h) (height h) (width (Raster text ∷ h)) (height (Raster text ∷ h)) (omega arith)
+          (omega arith),
+    )
 closed-area (Color _ ∷ h) = reached_area-most h
 closed-area (Return ∷ h) = reached_area-most (Return ∷ h)
 closed-area (Newline ∷ h) = reached_area-most (Newline ∷ h)
 closed-area (Skip byte ∷ h) = reached_area-most (Skip byte ∷ h)
 
 -- the closed tokens of a payload reach no more than its picture has
-pub settled-area : (bytes : List ℕ) → reached_area (settled bytes) ≤ width (history_of (front bytes)) * height (history_of (front bytes))
+pub settled-area : (bytes : List ℕ)
+    → reached_area (settled bytes)
+    ≤ width (history_of (front bytes)) * height (history_of (front bytes))
 settled-area bytes =
     let h : History = history_of (front bytes) in
     elim (is_terminated bytes) as (λ t. reached_area (cond t h (closed h)) ≤ width h * height h) [

@@ -1,12 +1,18 @@
--- What a feed answers beside its count and its status: a session that was accepted had no fault, a feed takes no more bytes than there are,
--- and once the end has come it takes none.
-use Rattle.std.proofs.Common.{◌≡◌, ℕ, ◌+◌, ◌≤◌, Bool, true, false, List, [], ◌∷◌, ◌++◌, refl, ap, sym, ◌∙◌, arith, Option, Some, None, Result, Ok, Err, length, length-append, subst}
-use Rattle.std.specs.Prelude.{◌==◌, nat_lt, is_none, is_some, if◌then◌else◌, IfOk, IfErr, MatchBool, OnOk}
+-- What a feed answers beside its count and its status: a session that was accepted had no fault, a
+-- feed takes no more bytes than there are, and once the end has come it takes none.
+use Rattle.std.proofs.Common.{◌≡◌, ℕ, ◌+◌, ◌≤◌, Bool, true, false, List, [], ◌∷◌, ◌++◌, refl, ap}
+use Rattle.std.proofs.Common.{sym, ◌∙◌, arith, Option, Some, None, Result, Ok, Err, length}
+use Rattle.std.proofs.Common.{length-append, subst}
+use Rattle.std.specs.Prelude.{◌==◌, nat_lt, is_none, is_some, if◌then◌else◌, IfOk, IfErr, MatchBool}
+use Rattle.std.specs.Prelude.{OnOk}
 use Rattle.std.proofs.lemmas.List.{length-drop}
 use Rattle.std.proofs.lemmas.Bool.{false≢true}
 use Rattle.std.proofs.lemmas.Bool.Decides.{nat_tests}
 use Rattle.sixel_base.specs.declared.error.SixelError.{SixelError}
-use Rattle.sixel_base.specs.declared.error.SixelError.TheVariants.{InvalidDimensions, BufferSizeMismatch, InvalidData, NoSixelData, IntegerOverflow, OutOfMemory}
+use Rattle.sixel_base.specs.declared.error.SixelError.TheVariants.{InvalidDimensions}
+use Rattle.sixel_base.specs.declared.error.SixelError.TheVariants.{BufferSizeMismatch, InvalidData}
+use Rattle.sixel_base.specs.declared.error.SixelError.TheVariants.{NoSixelData, IntegerOverflow}
+use Rattle.sixel_base.specs.declared.error.SixelError.TheVariants.{OutOfMemory}
 use Rattle.sixel_base.specs.Fault.{Fault, Faults, IsFault, StreamFailed}
 use Rattle.sixel_base.specs.Bytes.{front, count, first_terminator}
 use Rattle.sixel_base.specs.History.{history_of}
@@ -18,26 +24,34 @@ use Rattle.sixel_base.specs.declared.status.SixelFeedResult.{SixelFeedResult}
 use Rattle.sixel_base.specs.declared.status.SixelFeedStatus.TheVariants.{Terminated}
 use Rattle.sixel_base.specs.declared.status.SixelDcsFeedResult.{SixelDcsFeedResult}
 use Rattle.sixel_base.specs.declared.status.SixelDcsFeedStatus.{SixelDcsFeedStatus}
-use Rattle.sixel_base.specs.declared.status.SixelDcsFeedStatus.TheVariants.{NeedMoreData, Complete, Cancelled, Interrupted}
+use Rattle.sixel_base.specs.declared.status.SixelDcsFeedStatus.TheVariants.{NeedMoreData, Complete}
+use Rattle.sixel_base.specs.declared.status.SixelDcsFeedStatus.TheVariants.{Cancelled, Interrupted}
 use Rattle.sixel_decoder.specs.declared.payload_parser.PayloadParser.{PayloadParser}
 use Rattle.sixel_decoder.specs.declared.decoded_payload.DecodedPayload.{DecodedPayload}
 use Rattle.sixel_decoder.specs.declared.dcs_parser.DcsState.{DcsState}
 use Rattle.sixel_decoder.specs.declared.dcs_parser.DcsState.TheVariants as states
-use Rattle.sixel_base.specs.Dcs.{Stage, Heading, Failing, Reading, introduced, stage, stage_status, stage_count, stage_fault, after_terminator, end_count, payload_count, payload_status, payload_status_by, dcs_status, dcs_count, dcs_fault, dcs_growths, ended_by, end_fault, has_ended, has_come, IsSameString, IsStringImage, AreStringRegisters}
+use Rattle.sixel_base.specs.Dcs.{Stage, Heading, Failing, Reading, introduced, stage, stage_status}
+use Rattle.sixel_base.specs.Dcs.{stage_count, stage_fault, after_terminator, end_count}
+use Rattle.sixel_base.specs.Dcs.{payload_count, payload_status, payload_status_by, dcs_status}
+use Rattle.sixel_base.specs.Dcs.{dcs_count, dcs_fault, dcs_growths, ended_by, end_fault, has_ended}
+use Rattle.sixel_base.specs.Dcs.{has_come, IsSameString, IsStringImage, AreStringRegisters}
 use Rattle.sixel_base.specs.Status.{status_of}
 use Rattle.sixel_decoder.specs.inside.PayloadParser.{StandsAfter}
 use Rattle.sixel_decoder.specs.inside.DcsParser.{HasFollowed, IsInPayload, is_failed}
 use Rattle.sixel_decoder.specs.PictureView.{picture_value}
 use Rattle.sixel_decoder.specs.inside.PayloadReader.{HasRead}
-use Rattle.sixel_base.specs.OneShot.{Found, found, found_fault, IsFoundImage, AreFoundRegisters, IsDecodedAs}
+use Rattle.sixel_base.specs.OneShot.{Found, found, found_fault, IsFoundImage, AreFoundRegisters}
+use Rattle.sixel_base.specs.OneShot.{IsDecodedAs}
 use Rattle.sixel_decoder.specs.Session.{Session}
-use Rattle.sixel_decoder.proofs.Chunks.{shown_after, first_terminator-ended, before_terminator-whole}
+use Rattle.sixel_decoder.proofs.Chunks.{shown_after, first_terminator-ended}
+use Rattle.sixel_decoder.proofs.Chunks.{before_terminator-whole}
 use Rattle.sixel_decoder.proofs.DcsChunks.{heading, reading_fits}
 use Rattle.sixel_decoder.proofs.Finality.{count_ended, settled_ended, status_ended}
 use Rattle.sixel_decoder.proofs.Finality.{fed_fault_stays, growths_stay}
 use Rattle.sixel_decoder.proofs.Finality.{dcs_count_ended, dcs_fault_ended, dcs_growths_ended}
 use Rattle.sixel_decoder.proofs.Finality.{dcs_fault_stays, dcs_growths_stay}
-use Rattle.sixel_decoder.proofs.Finality.{found_fault_ended, found_image_ended, found_registers_ended}
+use Rattle.sixel_decoder.proofs.Finality.{found_fault_ended, found_image_ended}
+use Rattle.sixel_decoder.proofs.Finality.{found_registers_ended}
 use Rattle.sixel_decoder.proofs.Terminators.{drop-count, escape_waits, failing_stays}
 use Rattle.sixel_decoder.proofs.ChunkReads.{payload_refused}
 use Rattle.sixel_decoder.proofs.DcsPayloads.{found_reading}
@@ -57,34 +71,48 @@ no_growth : (a b : ℕ) → b ≡ a → nat_lt a b ≡ false
 no_growth a b same = grind (arith, nat_tests)
 
 -- what holds at either answer of a test
-pub MatchBool-from_each : (test : Bool) (P Q : Type 0) → (test ≡ true → P) → (test ≡ false → Q) → MatchBool test P Q
+pub MatchBool-from_each : (test : Bool) (P Q : Type 0) → (test ≡ true → P) → (test ≡ false → Q)
+    → MatchBool test P Q
 MatchBool-from_each true P Q held failed = held refl
 MatchBool-from_each false P Q held failed = failed refl
 
 -- ---- a payload
 
 -- an reader that was not refused has read bytes without a fault
-pub read_sound : (parser : Option PayloadParser) (o : Origin) (terminator : Option ℕ) (bytes : List ℕ) → HasRead parser o terminator bytes → is_none parser ≡ false
+pub read_sound :
+    (parser : Option PayloadParser) (o : Origin) (terminator : Option ℕ) (bytes : List ℕ)
+    → HasRead parser o terminator bytes → is_none parser ≡ false
     → fed_fault o.pixel_limit bytes ≡ None
 read_sound None o terminator bytes is accepted = absurd cc
 read_sound (Some parser) o terminator bytes is accepted =
-    let stands : StandsAfter (is_some (first_terminator bytes)) o parser (history_of (front bytes)) =
-    subst (λ (w : Option ℕ). StandsAfter (is_some w) o parser (history_of (front bytes))) (sym is.0) is.1 in
-    (shown_after (is_some (first_terminator bytes)) o parser (history_of (front bytes)) stands).faultless
+    let stands : StandsAfter (is_some (first_terminator bytes)) o parser
+    (history_of (front bytes)) =
+    subst (λ (w : Option ℕ). StandsAfter (is_some w) o parser (history_of (front bytes)))
+    (sym is.0) is.1 in
+    (shown_after (is_some (first_terminator bytes)) o parser (history_of (front bytes))
+    stands).faultless
 
 -- a feed after the terminator takes no byte and tells it again
-pub frame_over : (limit : ℕ) (result : Result SixelFeedResult SixelError) (fed piece fed' : List ℕ) (t : ℕ) → first_terminator fed ≡ Some t → fed' ≡ fed ++ piece
-    → fed_fault limit fed ≡ None → IfOk result (λ r. count fed + r.consumed ≡ count fed') → IfOk result (λ r. r.status ≡ status_of (first_terminator fed'))
-    → IfErr result (λ e. Faults e (nat_lt (growths (settled fed)) (growths (settled fed'))) (fed_fault limit fed'))
+pub frame_over :
+    (limit : ℕ) (result : Result SixelFeedResult SixelError) (fed piece fed' : List ℕ) (t : ℕ)
+    → first_terminator fed ≡ Some t → fed' ≡ fed ++ piece
+    → fed_fault limit fed ≡ None → IfOk result (λ r. count fed + r.consumed ≡ count fed')
+    → IfOk result (λ r. r.status ≡ status_of (first_terminator fed'))
+    → IfErr result
+    (λ e. Faults e (nat_lt (growths (settled fed)) (growths (settled fed'))) (fed_fault limit fed'))
     → result ≡ Ok (record { consumed = 0; status = Terminated t })
 frame_over limit (Ok r) fed piece fed' t some joined sound counted stands refused =
-    let none : r.consumed ≡ 0 = omega (arith, counted, ap count joined, count_ended fed piece t some) in
-    let same : r.status ≡ Terminated t = stands ∙ ap status_of (ap first_terminator joined ∙ first_terminator-ended fed piece t some) in
+    let none : r.consumed ≡ 0 =
+    omega (arith, counted, ap count joined, count_ended fed piece t some) in
+    let same : r.status ≡ Terminated t =
+    stands ∙ ap status_of (ap first_terminator joined ∙ first_terminator-ended fed piece t some) in
     λ i. Ok (record { consumed = none i; status = same i })
 frame_over limit (Err e) fed piece fed' t some joined sound counted stands refused =
     let same : settled fed' ≡ settled fed = ap settled joined ∙ settled_ended fed piece t some in
     let fine : fed_fault limit fed' ≡ None = ap (first_fault limit) same ∙ sound in
-    absurd (never_refused e _ (no_growth _ _ (ap growths same)) (subst (λ f. Faults e (nat_lt (growths (settled fed)) (growths (settled fed'))) f) fine refused))
+    absurd (never_refused e _ (no_growth _ _ (ap growths same))
+    (subst (λ f. Faults e (nat_lt (growths (settled fed)) (growths (settled fed'))) f)
+    fine refused))
 
 -- what a beginning is refused for is what all bytes are refused for
 pub frame_refused : (e : SixelError) (limit : ℕ) (fed left bytes : List ℕ) (n : ℕ)
@@ -109,13 +137,19 @@ frame_refused_with limit n result fed left bytes joined refused e is =
 -- ---- a control string
 
 -- a reader that was not refused has followed bytes without a fault
-pub followed_sound : (state : DcsState) (decoder : DecoderState) (ended : Option SixelDcsFeedStatus) (bytes : List ℕ) → HasFollowed state decoder ended bytes
+pub followed_sound :
+    (state : DcsState) (decoder : DecoderState) (ended : Option SixelDcsFeedStatus) (bytes : List ℕ)
+    → HasFollowed state decoder ended bytes
     → is_failed state ≡ false → dcs_fault decoder.pixel_limit bytes ≡ None
-followed_sound states.Start decoder ended bytes is accepted = ap (stage_fault decoder.pixel_limit) (heading states.Start decoder ended bytes refl is).0
-followed_sound states.Escape decoder ended bytes is accepted = ap (stage_fault decoder.pixel_limit) (heading states.Escape decoder ended bytes refl is).0
+followed_sound states.Start decoder ended bytes is accepted =
+    ap (stage_fault decoder.pixel_limit) (heading states.Start decoder ended bytes refl is).0
+followed_sound states.Escape decoder ended bytes is accepted =
+    ap (stage_fault decoder.pixel_limit) (heading states.Escape decoder ended bytes refl is).0
 followed_sound (states.Header header) decoder ended bytes is accepted =
-    ap (stage_fault decoder.pixel_limit) (heading (states.Header header) decoder ended bytes refl is).0
-followed_sound (states.Payload reader) decoder ended bytes is accepted = ap (stage_fault decoder.pixel_limit) is.reading ∙ is.faultless
+    ap (stage_fault decoder.pixel_limit)
+    (heading (states.Header header) decoder ended bytes refl is).0
+followed_sound (states.Payload reader) decoder ended bytes is accepted =
+    ap (stage_fault decoder.pixel_limit) is.reading ∙ is.faultless
 followed_sound states.Failed decoder ended bytes is accepted = absurd cc
 
 -- at most ESC and the byte after it
@@ -123,7 +157,8 @@ end_count-fits : (t : ℕ) (rest : List ℕ) → end_count t rest ≤ length res
 end_count-fits t [] = grind (arith, nat_tests)
 end_count-fits t (byte ∷ rest) = grind (arith, nat_tests)
 
-payload_count-fits : (payload : List ℕ) (o : Option ℕ) → first_terminator payload ≡ o → payload_count payload ≤ length payload
+payload_count-fits : (payload : List ℕ) (o : Option ℕ) → first_terminator payload ≡ o
+    → payload_count payload ≤ length payload
 payload_count-fits payload None none = omega (arith, count_open payload none, count-fits payload)
 payload_count-fits payload (Some t) some =
     let after = drop-count payload t some in
@@ -140,7 +175,11 @@ counted_in : (bytes : List ℕ) (w : Stage) → stage bytes ≡ w → stage_coun
 counted_in bytes Heading is = omega arith
 counted_in bytes (Failing f) is = omega arith
 counted_in bytes (Reading s payload) is =
-    omega (arith, payload_count-fits payload (first_terminator payload) refl, reading_fits bytes (introduced bytes) s payload refl is)
+    omega (
+      arith,
+      payload_count-fits payload (first_terminator payload) refl,
+      reading_fits bytes (introduced bytes) s payload refl is,
+    )
 
 -- no more bytes are a string's own than there are
 pub dcs_count-fits : (bytes : List ℕ) → dcs_count bytes ≤ length bytes
@@ -156,10 +195,14 @@ end_of_escape : (t : ℕ) → (t == 27) ≡ true → end_count t [] ≡ 1
 end_of_escape t is = grind (arith, nat_tests)
 
 -- all bytes are a payload's own while the string waits for more
-waiting_count : (payload : List ℕ) (o : Option ℕ) → first_terminator payload ≡ o → payload_status payload ≡ NeedMoreData → payload_count payload ≡ length payload
-waiting_count payload None none waits = omega (arith, count_open payload none, ap length (before_terminator-whole payload none))
+waiting_count : (payload : List ℕ) (o : Option ℕ) → first_terminator payload ≡ o
+    → payload_status payload ≡ NeedMoreData → payload_count payload ≡ length payload
+waiting_count payload None none waits =
+    omega (arith, count_open payload none, ap length (before_terminator-whole payload none))
 waiting_count payload (Some t) some waits =
-    let after = escape_waits t (after_terminator payload) (sym (status_at payload (after_terminator payload) t some refl) ∙ waits) in
+    let after =
+    escape_waits t (after_terminator payload)
+    (sym (status_at payload (after_terminator payload) t some refl) ∙ waits) in
     let follows = drop-count payload t some in
     omega (
       arith,
@@ -170,14 +213,18 @@ waiting_count payload (Some t) some waits =
       length-drop (count payload + 1) payload,
     )
 
-count_most_by : (bytes piece : List ℕ) (w : Stage) (ended : Bool) → stage bytes ≡ w → has_ended (dcs_status bytes) ≡ ended
+count_most_by : (bytes piece : List ℕ) (w : Stage) (ended : Bool) → stage bytes ≡ w
+    → has_ended (dcs_status bytes) ≡ ended
     → dcs_count (bytes ++ piece) ≤ dcs_count bytes + length piece
 count_most_by bytes piece w true is over = omega (arith, dcs_count_ended bytes piece over)
 count_most_by bytes piece Heading false is not =
-    omega (arith, ap (stage_count bytes) is, dcs_count-fits (bytes ++ piece), length-append bytes piece)
-count_most_by bytes piece (Failing f) false is not = omega (arith, ap (stage_count (bytes ++ piece)) (failing_stays bytes piece f is))
+    omega
+    (arith, ap (stage_count bytes) is, dcs_count-fits (bytes ++ piece), length-append bytes piece)
+count_most_by bytes piece (Failing f) false is not =
+    omega (arith, ap (stage_count (bytes ++ piece)) (failing_stays bytes piece f is))
 count_most_by bytes piece (Reading s payload) false is not =
-    let waiting : payload_status payload ≡ NeedMoreData = sym (ap stage_status is) ∙ waits (dcs_status bytes) not in
+    let waiting : payload_status payload ≡ NeedMoreData =
+    sym (ap stage_status is) ∙ waits (dcs_status bytes) not in
     omega (
       arith,
       ap (stage_count bytes) is,
@@ -188,26 +235,40 @@ count_most_by bytes piece (Reading s payload) false is not =
     )
 
 -- a piece adds at most its bytes
-pub dcs_count-most : (bytes piece : List ℕ) → dcs_count (bytes ++ piece) ≤ dcs_count bytes + length piece
-dcs_count-most bytes piece = count_most_by bytes piece (stage bytes) (has_ended (dcs_status bytes)) refl refl
+pub dcs_count-most : (bytes piece : List ℕ)
+    → dcs_count (bytes ++ piece) ≤ dcs_count bytes + length piece
+dcs_count-most bytes piece =
+    count_most_by bytes piece (stage bytes) (has_ended (dcs_status bytes)) refl refl
 
 -- a feed after the end takes no byte and tells the end again
-pub string_over : (limit : ℕ) (result : Result SixelDcsFeedResult SixelError) (fed piece fed' : List ℕ) → has_ended (dcs_status fed) ≡ true → fed' ≡ fed ++ piece
-    → dcs_fault limit fed ≡ None → IfOk result (λ r. dcs_count fed + r.consumed ≡ dcs_count fed') → IfOk result (λ r. r.status ≡ dcs_status fed')
-    → IfErr result (λ e. Faults e (nat_lt (dcs_growths fed) (dcs_growths fed')) (dcs_fault limit fed'))
+pub string_over :
+    (limit : ℕ) (result : Result SixelDcsFeedResult SixelError) (fed piece fed' : List ℕ)
+    → has_ended (dcs_status fed) ≡ true → fed' ≡ fed ++ piece
+    → dcs_fault limit fed ≡ None → IfOk result (λ r. dcs_count fed + r.consumed ≡ dcs_count fed')
+    → IfOk result (λ r. r.status ≡ dcs_status fed')
+    → IfErr result
+    (λ e. Faults e (nat_lt (dcs_growths fed) (dcs_growths fed')) (dcs_fault limit fed'))
     → result ≡ Ok (record { consumed = 0; status = dcs_status fed })
 string_over limit (Ok r) fed piece fed' over joined sound counted stands refused =
-    let none : r.consumed ≡ 0 = omega (arith, counted, ap dcs_count joined, dcs_count_ended fed piece over) in
-    let same : r.status ≡ dcs_status fed = stands ∙ (ap dcs_status joined ∙ status_ended fed piece over) in
+    let none : r.consumed ≡ 0 =
+    omega (arith, counted, ap dcs_count joined, dcs_count_ended fed piece over) in
+    let same : r.status ≡ dcs_status fed =
+    stands ∙ (ap dcs_status joined ∙ status_ended fed piece over) in
     λ i. Ok (record { consumed = none i; status = same i })
 string_over limit (Err e) fed piece fed' over joined sound counted stands refused =
-    let fine : dcs_fault limit fed' ≡ None = ap (dcs_fault limit) joined ∙ (dcs_fault_ended limit fed piece over ∙ sound) in
-    let same : dcs_growths fed' ≡ dcs_growths fed = ap dcs_growths joined ∙ dcs_growths_ended fed piece over in
-    absurd (never_refused e _ (no_growth _ _ same) (subst (λ f. Faults e (nat_lt (dcs_growths fed) (dcs_growths fed')) f) fine refused))
+    let fine : dcs_fault limit fed' ≡ None =
+    ap (dcs_fault limit) joined ∙ (dcs_fault_ended limit fed piece over ∙ sound) in
+    let same : dcs_growths fed' ≡ dcs_growths fed =
+    ap dcs_growths joined ∙ dcs_growths_ended fed piece over in
+    absurd (never_refused e _ (no_growth _ _ same)
+    (subst (λ f. Faults e (nat_lt (dcs_growths fed) (dcs_growths fed')) f) fine refused))
 
-pub string_within : (result : Result SixelDcsFeedResult SixelError) (fed piece fed' : List ℕ) → fed' ≡ fed ++ piece
-    → IfOk result (λ r. dcs_count fed + r.consumed ≡ dcs_count fed') → IfOk result (λ r. r.consumed ≤ length piece)
-string_within (Ok r) fed piece fed' joined counted = omega (arith, counted, ap dcs_count joined, dcs_count-most fed piece)
+pub string_within : (result : Result SixelDcsFeedResult SixelError) (fed piece fed' : List ℕ)
+    → fed' ≡ fed ++ piece
+    → IfOk result (λ r. dcs_count fed + r.consumed ≡ dcs_count fed')
+    → IfOk result (λ r. r.consumed ≤ length piece)
+string_within (Ok r) fed piece fed' joined counted =
+    omega (arith, counted, ap dcs_count joined, dcs_count-most fed piece)
 string_within (Err e) fed piece fed' joined counted = tt
 
 -- what follows the end means nothing
@@ -249,51 +310,71 @@ string_refused_with limit n result fed left refused e is =
 
 -- ---- what finishing a string in its payload answers
 
-has_come-ended : (o : Option ℕ) (rest : List ℕ) → has_ended (payload_status_by o rest) ≡ has_come (ended_by o rest)
+has_come-ended : (o : Option ℕ) (rest : List ℕ)
+    → has_ended (payload_status_by o rest) ≡ has_come (ended_by o rest)
 has_come-ended None rest = refl
 has_come-ended (Some t) rest = refl
 
 -- a string in its payload has ended once the end has come
-pub string_ended : (reader : Session) (decoder : DecoderState) (ended : Option SixelDcsFeedStatus) (bytes : List ℕ) → IsInPayload reader decoder ended bytes
+pub string_ended :
+    (reader : Session) (decoder : DecoderState) (ended : Option SixelDcsFeedStatus) (bytes : List ℕ)
+    → IsInPayload reader decoder ended bytes
     → has_ended (dcs_status bytes) ≡ has_come ended
 string_ended reader decoder ended bytes is =
     ap (λ w. has_ended (stage_status w)) is.reading
-    ∙ has_come-ended (first_terminator reader.bytes) (after_terminator reader.bytes) ∙ ap has_come (sym is.ending)
+    ∙ has_come-ended (first_terminator reader.bytes) (after_terminator reader.bytes)
+    ∙ ap has_come (sym is.ending)
 
-sound_by : (limit : ℕ) (payload rest : List ℕ) (o : Option ℕ) → first_terminator payload ≡ o → has_come (ended_by o rest) ≡ true
+sound_by : (limit : ℕ) (payload rest : List ℕ) (o : Option ℕ) → first_terminator payload ≡ o
+    → has_come (ended_by o rest) ≡ true
     → fed_fault limit payload ≡ None → payload_fault limit payload ≡ None
 sound_by limit payload rest None is come sound = absurd cc
 sound_by limit payload rest (Some t) is come sound =
-    ap (λ (w : Option ℕ). first_fault limit (if is_some w then history_of (front payload) else closed (history_of (front payload)))) (sym is) ∙ sound
+    ap (λ (w : Option ℕ).
+    first_fault limit
+    (if is_some w then history_of (front payload) else closed (history_of (front payload))))
+    (sym is) ∙ sound
 
 -- then its image is refused for want of memory alone
 pub string_refused_at_end : (result : Result DecodedPayload SixelError) (reader : Session)
     (decoder : DecoderState) (ended : Option SixelDcsFeedStatus) (bytes : List ℕ)
     → IsInPayload reader decoder ended bytes → has_come ended ≡ true
     → IfErr result (λ error. MatchBool reader.is_refused (IsFault error StreamFailed)
-    (Faults error (is_none (payload_fault reader.origin.pixel_limit reader.bytes)) (payload_fault reader.origin.pixel_limit reader.bytes)))
-    → IfErr result (λ error. Faults error (has_ended (dcs_status bytes)) (end_fault (dcs_status bytes)))
+    (Faults error (is_none (payload_fault reader.origin.pixel_limit reader.bytes))
+    (payload_fault reader.origin.pixel_limit reader.bytes)))
+    → IfErr result
+    (λ error. Faults error (has_ended (dcs_status bytes)) (end_fault (dcs_status bytes)))
 string_refused_at_end (Ok picture) reader decoder ended bytes is come refused = tt
 string_refused_at_end (Err e) reader decoder ended bytes is come refused =
     let limit = reader.origin.pixel_limit in
-    let over : has_ended (dcs_status bytes) ≡ true = string_ended reader decoder ended bytes is ∙ come in
+    let over : has_ended (dcs_status bytes) ≡ true =
+    string_ended reader decoder ended bytes is ∙ come in
     let fine : payload_fault limit reader.bytes ≡ None =
-    sound_by limit reader.bytes (after_terminator reader.bytes) (first_terminator reader.bytes) refl (ap has_come (sym is.ending) ∙ come)
+    sound_by limit reader.bytes (after_terminator reader.bytes) (first_terminator reader.bytes) refl
+    (ap has_come (sym is.ending) ∙ come)
     (ap (λ (o : Origin). fed_fault o.pixel_limit reader.bytes) is.start ∙ is.faultless) in
-    let told : Faults e (is_none (payload_fault limit reader.bytes)) (payload_fault limit reader.bytes) =
-    subst (λ (b : Bool). MatchBool b (IsFault e StreamFailed) (Faults e (is_none (payload_fault limit reader.bytes)) (payload_fault limit reader.bytes))) is.accepted refused in
+    let told : Faults e (is_none (payload_fault limit reader.bytes))
+    (payload_fault limit reader.bytes) =
+    subst (λ (b : Bool).
+    MatchBool b (IsFault e StreamFailed)
+    (Faults e (is_none (payload_fault limit reader.bytes)) (payload_fault limit reader.bytes)))
+    is.accepted refused in
     rw over (subst (λ (f : Option Fault). Faults e (is_none f) f) fine told)
 
-pub string_image : (result : Result DecodedPayload SixelError) (reader : Session) (decoder : DecoderState) (ended : Option SixelDcsFeedStatus) (bytes : List ℕ)
-    → IsInPayload reader decoder ended bytes → IfOk result (λ picture. picture_value picture ≡ payload_image reader.origin reader.bytes)
+pub string_image : (result : Result DecodedPayload SixelError) (reader : Session)
+    (decoder : DecoderState) (ended : Option SixelDcsFeedStatus) (bytes : List ℕ)
+    → IsInPayload reader decoder ended bytes
+    → IfOk result (λ picture. picture_value picture ≡ payload_image reader.origin reader.bytes)
     → IfOk result (λ picture. IsStringImage decoder (stage bytes) (picture_value picture))
 string_image (Ok picture) reader decoder ended bytes is image =
     subst (λ (w : Stage). IsStringImage decoder w (picture_value picture)) (sym is.reading)
     (image ∙ ap (λ (o : Origin). payload_image o reader.bytes) is.start)
 string_image (Err e) reader decoder ended bytes is image = tt
 
-pub string_registers : (result : Result DecodedPayload SixelError) (reader : Session) (decoder : DecoderState) (ended : Option SixelDcsFeedStatus) (bytes : List ℕ)
-    → IsInPayload reader decoder ended bytes → IfOk result (λ picture. picture.registers ≡ payload_registers reader.origin reader.bytes)
+pub string_registers : (result : Result DecodedPayload SixelError) (reader : Session)
+    (decoder : DecoderState) (ended : Option SixelDcsFeedStatus) (bytes : List ℕ)
+    → IsInPayload reader decoder ended bytes
+    → IfOk result (λ picture. picture.registers ≡ payload_registers reader.origin reader.bytes)
     → IfOk result (λ picture. AreStringRegisters decoder (stage bytes) picture.registers)
 string_registers (Ok picture) reader decoder ended bytes is defined =
     subst (λ (w : Stage). AreStringRegisters decoder w picture.registers) (sym is.reading)
@@ -301,19 +382,28 @@ string_registers (Ok picture) reader decoder ended bytes is defined =
 string_registers (Err e) reader decoder ended bytes is defined = tt
 
 -- which is what is decoded at once, whatever follows the end
-pub string_decoded : (result : Result DecodedPayload SixelError) (reader : Session) (decoder : DecoderState) (ended : Option SixelDcsFeedStatus) (bytes more : List ℕ)
-    → IsInPayload reader decoder ended bytes → has_come ended ≡ true → OnOk result (payload_fault reader.origin.pixel_limit reader.bytes ≡ None)
+pub string_decoded : (result : Result DecodedPayload SixelError) (reader : Session)
+    (decoder : DecoderState) (ended : Option SixelDcsFeedStatus) (bytes more : List ℕ)
+    → IsInPayload reader decoder ended bytes → has_come ended ≡ true
+    → OnOk result (payload_fault reader.origin.pixel_limit reader.bytes ≡ None)
     → IfOk result (λ picture. picture_value picture ≡ payload_image reader.origin reader.bytes)
     → IfOk result (λ picture. picture.registers ≡ payload_registers reader.origin reader.bytes)
-    → IfOk result (λ picture. IsDecodedAs decoder (found (bytes ++ more)) (picture_value picture) picture.registers)
+    → IfOk result
+    (λ picture.
+    IsDecodedAs decoder (found (bytes ++ more)) (picture_value picture) picture.registers)
 string_decoded (Ok picture) reader decoder ended bytes more is come sound image defined =
-    let over : has_ended (dcs_status bytes) ≡ true = string_ended reader decoder ended bytes is ∙ come in
+    let over : has_ended (dcs_status bytes) ≡ true =
+    string_ended reader decoder ended bytes is ∙ come in
     let at = found_reading bytes reader.origin.settings reader.bytes is.reading in (
       found_fault_ended decoder.pixel_limit bytes more over
-          ∙ (ap (found_fault decoder.pixel_limit) at ∙ (ap (λ (o : Origin). payload_fault o.pixel_limit reader.bytes) (sym is.start) ∙ sound)),
+          ∙ (ap (found_fault decoder.pixel_limit) at
+          ∙ (ap (λ (o : Origin). payload_fault o.pixel_limit reader.bytes) (sym is.start)
+          ∙ sound)),
       found_image_ended decoder bytes more (picture_value picture) over
-          (subst (λ (w : Found). IsFoundImage decoder w (picture_value picture)) (sym at) (image ∙ ap (λ (o : Origin). payload_image o reader.bytes) is.start)),
+          (subst (λ (w : Found). IsFoundImage decoder w (picture_value picture))
+          (sym at) (image ∙ ap (λ (o : Origin). payload_image o reader.bytes) is.start)),
       found_registers_ended decoder bytes more picture.registers over
-          (subst (λ (w : Found). AreFoundRegisters decoder w picture.registers) (sym at) (defined ∙ ap (λ (o : Origin). payload_registers o reader.bytes) is.start)),
+          (subst (λ (w : Found). AreFoundRegisters decoder w picture.registers)
+          (sym at) (defined ∙ ap (λ (o : Origin). payload_registers o reader.bytes) is.start)),
     )
 string_decoded (Err e) reader decoder ended bytes more is come sound image defined = tt

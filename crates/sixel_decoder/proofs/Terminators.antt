@@ -1,61 +1,90 @@
 -- How a payload's end goes on as more bytes come.
-use Rattle.std.proofs.Common.{◌≡◌, ℕ, ◌+◌, ◌<◌, ◌≤◌, suc, Bool, true, false, cond, List, [], ◌∷◌, ◌++◌, refl, ap, sym, ◌∙◌, subst, arith, Some, None, length, drop, drop-cons, take, get_or, add-one, append_assoc}
+use Rattle.std.proofs.Common.{◌≡◌, ℕ, ◌+◌, ◌<◌, ◌≤◌, suc, Bool, true, false, cond, List, [], ◌∷◌}
+use Rattle.std.proofs.Common.{◌++◌, refl, ap, sym, ◌∙◌, subst, arith, Some, None, length, drop}
+use Rattle.std.proofs.Common.{drop-cons, take, get_or, add-one, append_assoc}
 use Rattle.std.specs.Prelude.{◌==◌, ◌||◌}
 use Rattle.std.proofs.Math.Seq.{take-suc}
 use Rattle.std.proofs.lemmas.List.{take-append-drop}
 use Rattle.sixel_base.specs.declared.error.SixelError.{SixelError}
 use Rattle.sixel_decoder.specs.inside.DcsParser.{IsStageFault}
 use Rattle.sixel_base.specs.Fault.{Fault, Malformed, BadHeader}
-use Rattle.sixel_base.specs.Bytes.{is_terminator, carrying, count, first_terminator, before_terminator}
+use Rattle.sixel_base.specs.Bytes.{is_terminator, carrying, count, first_terminator}
+use Rattle.sixel_base.specs.Bytes.{before_terminator}
 use Rattle.sixel_base.specs.Settings.{Settings}
-use Rattle.sixel_base.specs.declared.status.SixelDcsFeedStatus.TheVariants.{NeedMoreData, Complete, Cancelled, Interrupted}
-use Rattle.sixel_base.specs.Header.{Begun, Faulty, headed, headed_by, header_rest, header_text, settings_of}
-use Rattle.sixel_base.specs.Dcs.{Introduced, Waiting, Absent, Entered, introduced, escaped, Stage, Heading, Failing, Reading, stage_after, stage_by, stage, after_terminator, end_status, end_count, escape_status, escape_count}
-use Rattle.sixel_decoder.proofs.DcsHeaders.{introduced-entered, header_rest-ended, header_front-ended}
+use Rattle.sixel_base.specs.declared.status.SixelDcsFeedStatus.TheVariants.{NeedMoreData, Complete}
+use Rattle.sixel_base.specs.declared.status.SixelDcsFeedStatus.TheVariants.{Cancelled, Interrupted}
+use Rattle.sixel_base.specs.Header.{Begun, Faulty, headed, headed_by, header_rest, header_text}
+use Rattle.sixel_base.specs.Header.{settings_of}
+use Rattle.sixel_base.specs.Dcs.{Introduced, Waiting, Absent, Entered, introduced, escaped, Stage}
+use Rattle.sixel_base.specs.Dcs.{Heading, Failing, Reading, stage_after, stage_by, stage}
+use Rattle.sixel_base.specs.Dcs.{after_terminator, end_status, end_count, escape_status}
+use Rattle.sixel_base.specs.Dcs.{escape_count}
+use Rattle.sixel_decoder.proofs.DcsHeaders.{introduced-entered, header_rest-ended}
+use Rattle.sixel_decoder.proofs.DcsHeaders.{header_front-ended}
 
-pub after_terminator-none : (bytes more : List ℕ) → first_terminator bytes ≡ None → after_terminator (bytes ++ more) ≡ after_terminator more
+pub after_terminator-none : (bytes more : List ℕ) → first_terminator bytes ≡ None
+    → after_terminator (bytes ++ more) ≡ after_terminator more
 after_terminator-none [] more none = refl
 after_terminator-none (byte ∷ bytes) more none =
-    (elim (is_terminator byte) as (λ t. cond t (Some byte) (first_terminator bytes) ≡ None → cond t (bytes ++ more) (after_terminator (bytes ++ more)) ≡ after_terminator more) [
+    (elim (is_terminator byte) as
+    (λ t.
+    cond t (Some byte) (first_terminator bytes) ≡ None
+    → cond t (bytes ++ more) (after_terminator (bytes ++ more)) ≡ after_terminator more) [
       | true ↦ λ never. absurd cc
       | false ↦ λ is. after_terminator-none bytes more is
     ]) none
 
-pub after_terminator-some : (bytes more : List ℕ) (t : ℕ) → first_terminator bytes ≡ Some t → after_terminator (bytes ++ more) ≡ after_terminator bytes ++ more
+pub after_terminator-some : (bytes more : List ℕ) (t : ℕ) → first_terminator bytes ≡ Some t
+    → after_terminator (bytes ++ more) ≡ after_terminator bytes ++ more
 after_terminator-some [] more t some = absurd cc
 after_terminator-some (byte ∷ bytes) more t some =
-    (elim (is_terminator byte) as (λ b. cond b (Some byte) (first_terminator bytes) ≡ Some t → cond b (bytes ++ more) (after_terminator (bytes ++ more)) ≡ cond b bytes (after_terminator bytes) ++ more) [
+    (elim (is_terminator byte) as
+    (λ b.
+    cond b (Some byte) (first_terminator bytes) ≡ Some t
+    → cond b (bytes ++ more) (after_terminator (bytes ++ more))
+    ≡ cond b bytes (after_terminator bytes) ++ more) [
       | true ↦ λ is. refl
       | false ↦ λ is. after_terminator-some bytes more t is
     ]) some
 
 -- the bytes after a terminator stand behind those before it
-pub drop-count : (bytes : List ℕ) (t : ℕ) → first_terminator bytes ≡ Some t → (drop (count bytes + 1) bytes ≡ after_terminator bytes) × (count bytes + 1 ≤ length bytes)
+pub drop-count : (bytes : List ℕ) (t : ℕ) → first_terminator bytes ≡ Some t
+    → (drop (count bytes + 1) bytes ≡ after_terminator bytes) × (count bytes + 1 ≤ length bytes)
 drop-count [] t some = absurd cc
 drop-count (byte ∷ bytes) t some =
     (elim (is_terminator byte) as (λ b. cond b (Some byte) (first_terminator bytes) ≡ Some t
-    → (drop (length (cond b [] (byte ∷ before_terminator bytes)) + 1) (byte ∷ bytes) ≡ cond b bytes (after_terminator bytes))
+    → (drop (length (cond b [] (byte ∷ before_terminator bytes)) + 1) (byte ∷ bytes)
+    ≡ cond b bytes (after_terminator bytes))
     × (length (cond b [] (byte ∷ before_terminator bytes)) + 1 ≤ suc (length bytes))) [
       | true ↦ λ is. (refl, omega arith)
-      | false ↦ λ is. let r = drop-count bytes t is in (rw add-one (rw add-one at r.0), omega (arith, r.1))
+      | false ↦ λ is.
+          let r = drop-count bytes t is in (rw add-one (rw add-one at r.0), omega (arith, r.1))
     ]) some
 
-escape_waits_by : (a b c : Bool) (t : ℕ) (rest : List ℕ) → cond a Complete (cond b (Cancelled t) (cond c (escape_status rest) (Interrupted t))) ≡ NeedMoreData
+escape_waits_by : (a b c : Bool) (t : ℕ) (rest : List ℕ)
+    → cond a Complete (cond b (Cancelled t) (cond c (escape_status rest) (Interrupted t)))
+    ≡ NeedMoreData
     → (c ≡ true) × (rest ≡ []) × (a ≡ false) × (b ≡ false)
 escape_waits_by true b c t rest waits = absurd cc
 escape_waits_by false true c t rest waits = absurd cc
 escape_waits_by false false false t rest waits = absurd cc
 escape_waits_by false false true t [] waits = (refl, refl, refl, refl)
 escape_waits_by false false true t (byte ∷ rest) waits =
-    absurd ((elim (byte == 92) as (λ w. cond w Complete (Interrupted 27) ≡ NeedMoreData → ⊥) [ true ↦ λ e. cc | false ↦ λ e. cc ]) waits)
+    absurd ((elim (byte == 92) as
+    (λ w. cond w Complete (Interrupted 27) ≡ NeedMoreData → ⊥)
+    [ true ↦ λ e. cc | false ↦ λ e. cc ]) waits)
 
 -- only ESC without a byte after it leaves a string open
 pub escape_waits : (t : ℕ) (rest : List ℕ) → end_status t rest ≡ NeedMoreData
     → ((t == 27) ≡ true) × (rest ≡ []) × ((t == 0x9c) ≡ false) × ((t == 0x18 || t == 0x1a) ≡ false)
-escape_waits t rest waits = escape_waits_by (t == 0x9c) (t == 0x18 || t == 0x1a) (t == 27) t rest waits
+escape_waits t rest waits =
+    escape_waits_by (t == 0x9c) (t == 0x18 || t == 0x1a) (t == 27) t rest waits
 
-end_stays_by : (a b c : Bool) (t : ℕ) (more : List ℕ) → (cond a Complete (cond b (Cancelled t) (cond c NeedMoreData (Interrupted t))) ≡ NeedMoreData → ⊥)
-    → (cond a Complete (cond b (Cancelled t) (cond c (escape_status more) (Interrupted t))) ≡ cond a Complete (cond b (Cancelled t) (cond c NeedMoreData (Interrupted t))))
+end_stays_by : (a b c : Bool) (t : ℕ) (more : List ℕ)
+    → (cond a Complete (cond b (Cancelled t) (cond c NeedMoreData (Interrupted t))) ≡ NeedMoreData
+    → ⊥)
+    → (cond a Complete (cond b (Cancelled t) (cond c (escape_status more) (Interrupted t)))
+    ≡ cond a Complete (cond b (Cancelled t) (cond c NeedMoreData (Interrupted t))))
     × (cond (a || b) 1 (cond c (escape_count more) 0) ≡ cond (a || b) 1 (cond c 1 0))
 end_stays_by true b c t more ended = (refl, refl)
 end_stays_by false true c t more ended = (refl, refl)
@@ -63,95 +92,143 @@ end_stays_by false false true t more ended = absurd (ended refl)
 end_stays_by false false false t more ended = (refl, refl)
 
 -- a string that has ended stays so
-pub end_stays : (t : ℕ) (rest more : List ℕ) → (end_status t rest ≡ NeedMoreData → ⊥) → (end_status t (rest ++ more) ≡ end_status t rest) × (end_count t (rest ++ more) ≡ end_count t rest)
+pub end_stays : (t : ℕ) (rest more : List ℕ) → (end_status t rest ≡ NeedMoreData → ⊥)
+    → (end_status t (rest ++ more) ≡ end_status t rest)
+    × (end_count t (rest ++ more) ≡ end_count t rest)
 end_stays t [] more ended = end_stays_by (t == 0x9c) (t == 0x18 || t == 0x1a) (t == 27) t more ended
 end_stays t (byte ∷ rest) more ended = (refl, refl)
 
 -- ---- a payload goes on
 
-staged_reading : (rest more : List ℕ) (h : List ℕ) (s : Settings) (payload : List ℕ) → header_rest rest ≡ h → stage_after rest (headed_by h) ≡ Reading s payload
+staged_reading : (rest more : List ℕ) (h : List ℕ) (s : Settings) (payload : List ℕ)
+    → header_rest rest ≡ h → stage_after rest (headed_by h) ≡ Reading s payload
     → stage_after (rest ++ more) (headed (rest ++ more)) ≡ Reading s (payload ++ more)
 staged_reading rest more [] s payload ended is = absurd cc
 staged_reading rest more (byte ∷ tail) s payload ended is =
-    ap (λ w. stage_after (rest ++ more) (headed_by w)) (header_rest-ended rest more tail byte ended) ∙
-    (elim (byte == 113) as (λ q. stage_after rest (cond q (Begun tail) (cond (is_terminator byte) (Faulty Malformed) (Faulty BadHeader))) ≡ Reading s payload
-    → stage_after (rest ++ more) (cond q (Begun (tail ++ more)) (cond (is_terminator byte) (Faulty Malformed) (Faulty BadHeader))) ≡ Reading s (payload ++ more)) [
+    ap (λ w. stage_after (rest ++ more) (headed_by w)) (header_rest-ended rest more tail byte ended)
+    ∙
+    (elim (byte == 113) as (λ q. stage_after rest
+    (cond q (Begun tail) (cond (is_terminator byte) (Faulty Malformed) (Faulty BadHeader)))
+    ≡ Reading s payload
+    → stage_after (rest ++ more) (cond q (Begun (tail ++ more))
+    (cond (is_terminator byte) (Faulty Malformed) (Faulty BadHeader)))
+    ≡ Reading s (payload ++ more)) [
       | true ↦ λ e.
           let same_settings : settings_of (header_text rest) ≡ s = cc in
           let same_payload : tail ≡ payload = cc in
-          ap (λ w. Reading (settings_of (carrying w)) (tail ++ more)) (header_front-ended rest more tail byte ended) ∙ (ap (λ w. Reading w (tail ++ more)) same_settings ∙ ap (λ w. Reading s (w ++ more)) same_payload)
-      | false ↦ elim (is_terminator byte) as (λ t. stage_after rest (cond t (Faulty Malformed) (Faulty BadHeader)) ≡ Reading s payload
-          → stage_after (rest ++ more) (cond t (Faulty Malformed) (Faulty BadHeader)) ≡ Reading s (payload ++ more)) [ true ↦ λ e. absurd cc | false ↦ λ e. absurd cc ]
+          ap (λ w. Reading (settings_of (carrying w)) (tail ++ more))
+          (header_front-ended rest more tail byte ended)
+          ∙ (ap (λ w. Reading w (tail ++ more)) same_settings
+          ∙ ap (λ w. Reading s (w ++ more)) same_payload)
+      | false ↦ elim (is_terminator byte) as (λ t. stage_after rest
+          (cond t (Faulty Malformed) (Faulty BadHeader)) ≡ Reading s payload
+          → stage_after (rest ++ more) (cond t (Faulty Malformed) (Faulty BadHeader))
+          ≡ Reading s (payload ++ more)) [ true ↦ λ e. absurd cc | false ↦ λ e. absurd cc ]
     ]) is
 
-stage_reading_by : (bytes more : List ℕ) (i : Introduced) (s : Settings) (payload : List ℕ) → introduced bytes ≡ i → stage_by i ≡ Reading s payload
+stage_reading_by : (bytes more : List ℕ) (i : Introduced) (s : Settings) (payload : List ℕ)
+    → introduced bytes ≡ i → stage_by i ≡ Reading s payload
     → stage (bytes ++ more) ≡ Reading s (payload ++ more)
 stage_reading_by bytes more Waiting s payload e is = absurd cc
 stage_reading_by bytes more Absent s payload e is = absurd cc
 stage_reading_by bytes more (Entered rest) s payload e is =
-    ap stage_by (introduced-entered bytes rest more e) ∙ staged_reading rest more (header_rest rest) s payload refl is
+    ap stage_by (introduced-entered bytes rest more e)
+    ∙ staged_reading rest more (header_rest rest) s payload refl is
 
 -- the bytes after a payload's are its own
-pub stage_reading : (bytes more : List ℕ) (s : Settings) (payload : List ℕ) → stage bytes ≡ Reading s payload → stage (bytes ++ more) ≡ Reading s (payload ++ more)
-stage_reading bytes more s payload is = stage_reading_by bytes more (introduced bytes) s payload refl is
+pub stage_reading : (bytes more : List ℕ) (s : Settings) (payload : List ℕ)
+    → stage bytes ≡ Reading s payload → stage (bytes ++ more) ≡ Reading s (payload ++ more)
+stage_reading bytes more s payload is =
+    stage_reading_by bytes more (introduced bytes) s payload refl is
 
 -- ---- what is refused before a payload stays refused
 
-introduced-absent : (bytes more : List ℕ) → introduced bytes ≡ Absent → introduced (bytes ++ more) ≡ Absent
+introduced-absent : (bytes more : List ℕ) → introduced bytes ≡ Absent
+    → introduced (bytes ++ more) ≡ Absent
 introduced-absent [] more is = absurd cc
 introduced-absent (byte ∷ []) more is =
-    (elim (byte == 0x90) as (λ t. cond t (Entered []) (cond (byte == 27) Waiting Absent) ≡ Absent → cond t (Entered more) (cond (byte == 27) (escaped more) Absent) ≡ Absent) [
+    (elim (byte == 0x90) as
+    (λ t.
+    cond t (Entered []) (cond (byte == 27) Waiting Absent) ≡ Absent
+    → cond t (Entered more) (cond (byte == 27) (escaped more) Absent) ≡ Absent) [
       | true ↦ λ e. absurd cc
-      | false ↦ elim (byte == 27) as (λ t. cond t Waiting Absent ≡ Absent → cond t (escaped more) Absent ≡ Absent) [ true ↦ λ e. absurd cc | false ↦ λ e. refl ]
+      | false ↦ elim (byte == 27) as
+          (λ t. cond t Waiting Absent ≡ Absent → cond t (escaped more) Absent ≡ Absent)
+          [ true ↦ λ e. absurd cc | false ↦ λ e. refl ]
     ]) is
 introduced-absent (byte ∷ next ∷ bytes) more is =
-    (elim (byte == 0x90) as (λ t. cond t (Entered (next ∷ bytes)) (cond (byte == 27) (escaped (next ∷ bytes)) Absent) ≡ Absent
-    → cond t (Entered (next ∷ (bytes ++ more))) (cond (byte == 27) (escaped (next ∷ (bytes ++ more))) Absent) ≡ Absent) [
+    (elim (byte == 0x90) as (λ t. cond t (Entered (next ∷ bytes))
+    (cond (byte == 27) (escaped (next ∷ bytes)) Absent) ≡ Absent
+    → cond t (Entered (next ∷ (bytes ++ more)))
+    (cond (byte == 27) (escaped (next ∷ (bytes ++ more))) Absent) ≡ Absent) [
       | true ↦ λ e. absurd cc
-      | false ↦ elim (byte == 27) as (λ t. cond t (escaped (next ∷ bytes)) Absent ≡ Absent → cond t (escaped (next ∷ (bytes ++ more))) Absent ≡ Absent) [
-        | true ↦ elim (next == 80) as (λ t. cond t (Entered bytes) Absent ≡ Absent → cond t (Entered (bytes ++ more)) Absent ≡ Absent) [ true ↦ λ e. absurd cc | false ↦ λ e. refl ]
-        | false ↦ λ e. refl
-      ]
+      | false ↦ elim (byte == 27) as
+          (λ t.
+          cond t (escaped (next ∷ bytes)) Absent ≡ Absent
+          → cond t (escaped (next ∷ (bytes ++ more))) Absent ≡ Absent) [
+            | true ↦ elim (next == 80) as
+                (λ t.
+                cond t (Entered bytes) Absent ≡ Absent
+                → cond t (Entered (bytes ++ more)) Absent ≡ Absent)
+                [ true ↦ λ e. absurd cc | false ↦ λ e. refl ]
+            | false ↦ λ e. refl
+          ]
     ]) is
 
-failing_after : (rest more h : List ℕ) (f : Fault) → header_rest rest ≡ h → stage_after rest (headed_by h) ≡ Failing f
+failing_after : (rest more h : List ℕ) (f : Fault) → header_rest rest ≡ h
+    → stage_after rest (headed_by h) ≡ Failing f
     → stage_after (rest ++ more) (headed (rest ++ more)) ≡ Failing f
 failing_after rest more [] f is fails = absurd cc
 failing_after rest more (byte ∷ tail) f is fails =
     ap (λ w. stage_after (rest ++ more) (headed_by w)) (header_rest-ended rest more tail byte is) ∙
-    (elim (byte == 113) as (λ q. stage_after rest (cond q (Begun tail) (cond (is_terminator byte) (Faulty Malformed) (Faulty BadHeader))) ≡ Failing f
-    → stage_after (rest ++ more) (cond q (Begun (tail ++ more)) (cond (is_terminator byte) (Faulty Malformed) (Faulty BadHeader))) ≡ Failing f) [
+    (elim (byte == 113) as (λ q. stage_after rest
+    (cond q (Begun tail) (cond (is_terminator byte) (Faulty Malformed) (Faulty BadHeader)))
+    ≡ Failing f
+    → stage_after (rest ++ more) (cond q (Begun (tail ++ more))
+    (cond (is_terminator byte) (Faulty Malformed) (Faulty BadHeader))) ≡ Failing f) [
       | true ↦ λ e. absurd cc
-      | false ↦ elim (is_terminator byte) as (λ t. stage_after rest (cond t (Faulty Malformed) (Faulty BadHeader)) ≡ Failing f
-          → stage_after (rest ++ more) (cond t (Faulty Malformed) (Faulty BadHeader)) ≡ Failing f) [ true ↦ λ e. e | false ↦ λ e. e ]
+      | false ↦ elim (is_terminator byte) as (λ t. stage_after rest
+          (cond t (Faulty Malformed) (Faulty BadHeader)) ≡ Failing f
+          → stage_after (rest ++ more) (cond t (Faulty Malformed) (Faulty BadHeader))
+          ≡ Failing f) [ true ↦ λ e. e | false ↦ λ e. e ]
     ]) fails
 
-failing_by : (bytes more : List ℕ) (i : Introduced) (f : Fault) → introduced bytes ≡ i → stage_by i ≡ Failing f → stage (bytes ++ more) ≡ Failing f
+failing_by : (bytes more : List ℕ) (i : Introduced) (f : Fault) → introduced bytes ≡ i
+    → stage_by i ≡ Failing f → stage (bytes ++ more) ≡ Failing f
 failing_by bytes more Waiting f is fails = absurd cc
 failing_by bytes more Absent f is fails = ap stage_by (introduced-absent bytes more is) ∙ fails
 failing_by bytes more (Entered rest) f is fails =
-    ap stage_by (introduced-entered bytes rest more is) ∙ failing_after rest more (header_rest rest) f refl fails
+    ap stage_by (introduced-entered bytes rest more is)
+    ∙ failing_after rest more (header_rest rest) f refl fails
 
-pub failing_stays : (bytes more : List ℕ) (f : Fault) → stage bytes ≡ Failing f → stage (bytes ++ more) ≡ Failing f
+pub failing_stays : (bytes more : List ℕ) (f : Fault) → stage bytes ≡ Failing f
+    → stage (bytes ++ more) ≡ Failing f
 failing_stays bytes more f is = failing_by bytes more (introduced bytes) f refl is
 
-refused_by : (e : SixelError) (was now : Stage) → ((f : Fault) → was ≡ Failing f → now ≡ Failing f) → IsStageFault e was → IsStageFault e now
+refused_by : (e : SixelError) (was now : Stage) → ((f : Fault) → was ≡ Failing f → now ≡ Failing f)
+    → IsStageFault e was → IsStageFault e now
 refused_by e Heading now stays refused = absurd refused
-refused_by e (Failing f) now stays refused = subst (λ (w : Stage). IsStageFault e w) (sym (stays f refl)) refused
+refused_by e (Failing f) now stays refused =
+    subst (λ (w : Stage). IsStageFault e w) (sym (stays f refl)) refused
 refused_by e (Reading s payload) now stays refused = absurd refused
 
-pub refused_stays : (e : SixelError) (bytes more : List ℕ) → IsStageFault e (stage bytes) → IsStageFault e (stage (bytes ++ more))
-refused_stays e bytes more refused = refused_by e (stage bytes) (stage (bytes ++ more)) (failing_stays bytes more) refused
+pub refused_stays : (e : SixelError) (bytes more : List ℕ) → IsStageFault e (stage bytes)
+    → IsStageFault e (stage (bytes ++ more))
+refused_stays e bytes more refused =
+    refused_by e (stage bytes) (stage (bytes ++ more)) (failing_stays bytes more) refused
 
 -- the bytes before a piece, a beginning of the piece and the next byte, and the rest of it
 pub pieces_join : (before piece : List ℕ) (index : ℕ) → index < length piece
-    → ((before ++ take index piece) ++ (get_or piece index 0 ∷ [])) ++ drop (index + 1) piece ≡ before ++ piece
+    → ((before ++ take index piece) ++ (get_or piece index 0 ∷ [])) ++ drop (index + 1) piece
+    ≡ before ++ piece
 pieces_join before piece index within =
     let byte : List ℕ = get_or piece index 0 ∷ [] in
-    let splits : drop index piece ≡ byte ++ drop (index + 1) piece = rw (add-one, drop-cons piece index 0) refl in
+    let splits : drop index piece ≡ byte ++ drop (index + 1) piece =
+    rw (add-one, drop-cons piece index 0) refl in
     append_assoc (before ++ take index piece) byte (drop (index + 1) piece)
     ∙ (ap (λ w. (before ++ take index piece) ++ w) (sym splits)
-    ∙ (append_assoc before (take index piece) (drop index piece) ∙ ap (λ w. before ++ w) (take-append-drop index piece)))
+    ∙ (append_assoc before (take index piece) (drop index piece)
+    ∙ ap (λ w. before ++ w) (take-append-drop index piece)))
 
 -- the bytes before a piece, a beginning of the piece and the next byte
 pub pieces_step : (before piece : List ℕ) (index : ℕ) → index < length piece

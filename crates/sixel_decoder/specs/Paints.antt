@@ -1,5 +1,6 @@
--- How many sixels are closed and what they are counted as at least, by which painting is measured beside the area that they reach. The
--- measure is this library's own, and says nothing of how pixels are kept; what a sixel is, by DEC's manual, is in History.
+-- How many sixels are closed and what they are counted as at least, by which painting is measured
+-- beside the area that they reach. The measure is this library's own, and says nothing of how
+-- pixels are kept; what a sixel is, by DEC's manual, is in History.
 use Rattle.std.specs.Prelude.{ℕ, suc, ◌+◌, ◌*◌, ◌/◌, min, nat_lt, if◌then◌else◌, List, [], ◌∷◌}
 use Rattle.sixel_base.specs.History.{Sixel, History}
 use Rattle.sixel_base.specs.Payload.{settled}
@@ -12,15 +13,16 @@ sixels [] = 0
 sixels (Sixel bits ∷ older) = suc (sixels older)
 sixels (_ ∷ older) = sixels older
 
--- what a sixel with a set pixel is counted as at least: six pixels a column, or where it is less, in six rows one for each whole 128
--- columns and 256 for two ends
+-- what a sixel with a set pixel is counted as at least: six pixels a column, or where it is less,
+-- in six rows one for each whole 128 columns and 256 for two ends
 abbrev pub sixel_paints : ℕ → ℕ
 sixel_paints columns = min (6 * columns) (6 * (columns / 128 + 256))
 
 -- what the sixels are counted as at least, where one without a set pixel counts nothing
 abbrev pub least_paints : History → ℕ
 least_paints [] = 0
-least_paints (Sixel bits ∷ older) = least_paints older + (if nat_lt 0 bits then sixel_paints (span older) else 0)
+least_paints (Sixel bits ∷ older) =
+    least_paints older + (if nat_lt 0 bits then sixel_paints (span older) else 0)
 least_paints (_ ∷ older) = least_paints older
 
 -- what they are counted as at least by a count that stays at the greatest number of 64 bits

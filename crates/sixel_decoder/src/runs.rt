@@ -54,23 +54,7 @@ impl Run<'_> {
         if self.column + self.sixels.len() <= common {
             return Ok(common);
         }
-        self.grow_short_rows(canvas)
-    }
-
-    /// Grows the rows where some of the six are too short.
-    #[inline(never)]
-    fn grow_short_rows(&self, canvas: &mut Canvas) -> Result<usize>
-        ensures grown { OnOk result
-            (Holds canvas.old canvas.new self.now.top self.now.column self.now.sixels.now) }
-        ensures common { IfOk result
-            (λ common. (k : ℕ) → k < 6 → common ≤ reached canvas.new (self.now.top + k)) }
-        ensures plain { IfOk result (λ common. 0 < common → canvas.new.tagged ≤ self.now.top) }
-        ensures paints { canvas.new.paints ≡ canvas.old.paints }
-        ensures spread { canvas.new.spread ≡ canvas.old.spread }
-        ensures error { IfErr result (λ e. e ≡ OutOfMemory) }
-    {
-        canvas.widen(self.top, columns_of(self.sixels, self.column))?;
-        Ok(canvas.held(self.top))
+        grow_short_rows(canvas, self.top, self.column, self.sixels)
     }
 
     /// Draws the run on a canvas whose rows have its set pixels, and all six so many columns.
@@ -177,6 +161,26 @@ impl Run<'_> {
             bits_at(self.sixels, at + 3),
         ]
     }
+}
+
+/// Grows the rows where some of the six are too short.
+///
+/// It takes the run apart: a run behind a reference would be stored in memory each time.
+#[inline(never)]
+fn grow_short_rows(canvas: &mut Canvas, top: usize, column: usize, run: &[u8]) -> Result<usize>
+    requires sixels { IsRun run.now }
+    requires within { column + length run.now ≤ 1000000 }
+    requires above_bottom { top + 6 ≤ 1000000 }
+    ensures grown { OnOk result (Holds canvas.old canvas.new top column run.now) }
+    ensures common { IfOk result
+        (λ common. (k : ℕ) → k < 6 → common ≤ reached canvas.new (top + k)) }
+    ensures plain { IfOk result (λ common. 0 < common → canvas.new.tagged ≤ top) }
+    ensures paints { canvas.new.paints ≡ canvas.old.paints }
+    ensures spread { canvas.new.spread ≡ canvas.old.spread }
+    ensures error { IfErr result (λ e. e ≡ OutOfMemory) }
+{
+    canvas.widen(top, columns_of(run, column))?;
+    Ok(canvas.held(top))
 }
 
 /// Returns the bits of a byte that is a sixel of the run, and none of any other.

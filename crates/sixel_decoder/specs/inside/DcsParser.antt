@@ -1,6 +1,7 @@
 -- What the state of a DCS parser says of the bytes so far, and how it continues with a chunk.
 -- From the meaning of DCS sequences: each state is one place where a sequence can be.
-use Rattle.std.specs.Prelude.{◌≡◌, ◌+◌, ◌≤◌, nat_lt, Bool, true, false, List, [], ◌∷◌, ◌++◌, ℕ, Option, None, Result, MatchResult, take, length}
+use Rattle.std.specs.Prelude.{◌≡◌, ◌+◌, ◌≤◌, nat_lt, Bool, true, false, List, [], ◌∷◌, ◌++◌, ℕ}
+use Rattle.std.specs.Prelude.{Option, None, Result, MatchResult, take, length}
 use Rattle.sixel_base.specs.declared.error.SixelError.{SixelError}
 use Rattle.sixel_base.specs.Fault.{IsFault, Faults}
 use Rattle.sixel_base.specs.inside.Parameters.{Keeps}
@@ -14,7 +15,9 @@ use Rattle.sixel_decoder.specs.declared.dcs_parser.DcsState.TheVariants as state
 use Rattle.sixel_decoder.specs.declared.header.Header as headers
 use Rattle.sixel_base.specs.Header.{header_rest, header_text}
 use Rattle.sixel_decoder.specs.Session.{Session}
-use Rattle.sixel_base.specs.Dcs.{Entered, introduced, Stage, Heading, Failing, Reading, stage, payload_status, payload_count, dcs_status, dcs_count, dcs_fault, dcs_growths, ended_with}
+use Rattle.sixel_base.specs.Dcs.{Entered, introduced, Stage, Heading, Failing, Reading, stage}
+use Rattle.sixel_base.specs.Dcs.{payload_status, payload_count, dcs_status, dcs_count, dcs_fault}
+use Rattle.sixel_base.specs.Dcs.{dcs_growths, ended_with}
 
 -- the header continues, and its parameters are those of its text so far
 pub record IsInHeader (header : headers.Header) (bytes : List ℕ) : Type 0 where
@@ -24,7 +27,8 @@ pub record IsInHeader (header : headers.Header) (bytes : List ℕ) : Type 0 wher
   pub keeps : Keeps header.parameters (header_text rest)
 
 -- the payload is that of the bytes, and how it ended is known
-pub record IsInPayload (reader : Session) (decoder : DecoderState) (ended : Option SixelDcsFeedStatus) (bytes : List ℕ) : Type 0 where
+pub record IsInPayload (reader : Session) (decoder : DecoderState)
+    (ended : Option SixelDcsFeedStatus) (bytes : List ℕ) : Type 0 where
   pub reading : stage bytes ≡ Reading reader.origin.settings reader.bytes
   pub start : reader.origin ≡ origin_of decoder reader.origin.settings
   pub accepted : reader.is_refused ≡ false
@@ -57,26 +61,39 @@ IsStageFault error (Failing fault) = IsFault error fault
 IsStageFault error (Reading settings payload) = ⊥
 
 -- one more byte was read, or is rejected
-abbrev pub StepsInto : {A : Type 0} → Result A SixelError → DcsState → DecoderState → Option SixelDcsFeedStatus → List ℕ → Type 0
+abbrev pub StepsInto : {A : Type 0} → Result A SixelError → DcsState → DecoderState
+    → Option SixelDcsFeedStatus → List ℕ → Type 0
 StepsInto result state decoder ended bytes =
-    MatchResult result (λ _. (is_failed state ≡ false) × HasFollowed state decoder ended bytes) (λ error. IsStageFault error (stage bytes))
+    MatchResult result
+    (λ _. (is_failed state ≡ false) × HasFollowed state decoder ended bytes)
+    (λ error. IsStageFault error (stage bytes))
 
--- The beginning of the chunk was read, all of it if the payload has not begun; or the chunk is rejected.
-abbrev pub Heads : Result ℕ SixelError → DcsState → DecoderState → Option SixelDcsFeedStatus → List ℕ → List ℕ → Type 0
+-- The beginning of the chunk was read, all of it if the payload has not begun; or the chunk is
+-- rejected.
+abbrev pub Heads : Result ℕ SixelError → DcsState → DecoderState → Option SixelDcsFeedStatus
+    → List ℕ → List ℕ → Type 0
 Heads result state decoder ended before piece =
     MatchResult result
-    (λ count. (count ≤ length piece) × (is_failed state ≡ false) × HasFollowed state decoder ended (before ++ take count piece)
+    (λ count. (count ≤ length piece) × (is_failed state ≡ false)
+    × HasFollowed state decoder ended (before ++ take count piece)
     × (is_head state ≡ true → count ≡ length piece))
     (λ error. IsStageFault error (stage (before ++ piece)))
 
 -- The payload continues to these bytes: the sequence has so many more of its own, and this status.
 abbrev pub GoesTo : List ℕ → List ℕ → SixelDcsFeedResult → Type 0
-GoesTo payload payload' fed = (payload_count payload + fed.consumed ≡ payload_count payload') × (fed.status ≡ payload_status payload')
+GoesTo payload payload' fed =
+    (payload_count payload + fed.consumed ≡ payload_count payload')
+    × (fed.status ≡ payload_status payload')
 
 -- The chunk was read as far as the sequence goes, or is rejected by the fault of the bytes.
-abbrev pub Follows : Result SixelDcsFeedResult SixelError → DcsState → DecoderState → Option SixelDcsFeedStatus → List ℕ → List ℕ → Type 0
+abbrev pub Follows : Result SixelDcsFeedResult SixelError → DcsState → DecoderState
+    → Option SixelDcsFeedStatus → List ℕ → List ℕ → Type 0
 Follows result state decoder ended before piece =
     MatchResult result
-    (λ fed. (dcs_count before + fed.consumed ≡ dcs_count (before ++ piece)) × (fed.status ≡ dcs_status (before ++ piece))
-    × (is_failed state ≡ false) × HasFollowed state decoder ended (before ++ piece) × (dcs_fault decoder.pixel_limit (before ++ piece) ≡ None))
-    (λ error. Faults error (nat_lt (dcs_growths before) (dcs_growths (before ++ piece))) (dcs_fault decoder.pixel_limit (before ++ piece)))
+    (λ fed. (dcs_count before + fed.consumed ≡ dcs_count (before ++ piece))
+    × (fed.status ≡ dcs_status (before ++ piece))
+    × (is_failed state ≡ false) × HasFollowed state decoder ended (before ++ piece)
+    × (dcs_fault decoder.pixel_limit (before ++ piece) ≡ None))
+    (λ error.
+    Faults error (nat_lt (dcs_growths before) (dcs_growths (before ++ piece)))
+    (dcs_fault decoder.pixel_limit (before ++ piece)))

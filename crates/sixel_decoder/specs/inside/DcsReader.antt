@@ -7,7 +7,8 @@ use Rattle.sixel_decoder.specs.Session.{DcsSession}
 use Rattle.sixel_decoder.specs.inside.DcsParser.{HasFollowed, is_failed}
 use Rattle.sixel_decoder.specs.declared.dcs_reader.DcsReader.TheInside.{Inside}
 
--- how many pixels the canvas of the payload has written; there is none before the payload and after an error
+-- how many pixels the canvas of the payload has written; there is none before the payload and after
+-- an error
 abbrev pub writes_of : DcsState → ℕ
 writes_of (Payload reader) = reader.writes
 writes_of _ = 0
@@ -33,4 +34,5 @@ session_of reader = record {
 }
 
 abbrev pub IsFollowing : Inside → Type 0
-IsFollowing reader = HasFollowed reader.parser.state reader.parser.decoder reader.parser.ended reader.log.bytes
+IsFollowing reader =
+    HasFollowed reader.parser.state reader.parser.decoder reader.parser.ended reader.log.bytes

@@ -1,18 +1,22 @@
 -- How the header of a DCS sequence continues with a byte, and which of its faults an error names.
 -- An invariant of this library's own: what a header means is in Header of sixel_base.
-use Rattle.std.specs.Prelude.{ℕ, ◌≡◌, true, false, List, [], ◌∷◌, ◌++◌, Option, Result, MatchResult, MatchOption, IsSomeAnd}
+use Rattle.std.specs.Prelude.{ℕ, ◌≡◌, true, false, List, [], ◌∷◌, ◌++◌, Option, Result, MatchResult}
+use Rattle.std.specs.Prelude.{MatchOption, IsSomeAnd}
 use Rattle.sixel_base.specs.declared.error.SixelError.{SixelError}
 use Rattle.sixel_base.specs.Bytes.{carrying}
 use Rattle.sixel_base.specs.Fault.{IsFault, MissingCommand}
-use Rattle.sixel_base.specs.Header.{Headed, Open, Begun, Faulty, is_header, settings_of, command_fault}
+use Rattle.sixel_base.specs.Header.{Headed, Open, Begun, Faulty, is_header, settings_of}
+use Rattle.sixel_base.specs.Header.{command_fault}
 use Rattle.sixel_base.specs.Settings.{Settings}
 use Rattle.sixel_base.specs.inside.Parameters.{Parameters, Keeps}
 
--- The parameters are those of the text before the byte; the byte continues the header, ends it, or is a fault.
+-- The parameters are those of the text before the byte; the byte continues the header, ends it, or
+-- is a fault.
 abbrev pub StepsTo : Result (Option Settings) SixelError → Parameters → List ℕ → ℕ → Type 0
 StepsTo result parameters text byte =
     MatchResult result
-    (λ answer. MatchOption answer ((is_header byte ≡ true) × Keeps parameters (text ++ carrying (byte ∷ [])))
+    (λ answer. MatchOption answer
+    ((is_header byte ≡ true) × Keeps parameters (text ++ carrying (byte ∷ [])))
     (λ settings. (is_header byte ≡ false) × (byte ≡ 113) × (settings ≡ settings_of text)))
     (λ error. (is_header byte ≡ false) × IsSomeAnd (command_fault byte) (IsFault error))
 

@@ -1,6 +1,8 @@
--- What the parts of a painter keep, in the words of the history that was read. An invariant of this library's own: the words are those
--- of Place and Stroke of sixel_base, where DEC's manual gives the rules.
-use Rattle.std.specs.Prelude.{true, ℕ, ◌≡◌, ◌+◌, ◌*◌, ◌<◌, ◌≤◌, Bool, ◌-◌, MatchResult, Result, None, is_none, [], ◌∷◌, ◌++◌, List, max, fold, take, slice_index}
+-- What the parts of a painter keep, in the words of the history that was read. An invariant of this
+-- library's own: the words are those of Place and Stroke of sixel_base, where DEC's manual gives
+-- the rules.
+use Rattle.std.specs.Prelude.{true, ℕ, ◌≡◌, ◌+◌, ◌*◌, ◌<◌, ◌≤◌, Bool, ◌-◌, MatchResult, Result}
+use Rattle.std.specs.Prelude.{None, is_none, [], ◌∷◌, ◌++◌, List, max, fold, take, slice_index}
 use Rattle.sixel_base.specs.declared.error.SixelError.{SixelError}
 use Rattle.sixel_decoder.specs.declared.painter.Painter.{Painter}
 use Rattle.sixel_base.specs.Settings.{ratio_of}
@@ -38,15 +40,20 @@ pub record Shows (origin : Origin) (painter : Painter) (history : History) : Typ
 -- The newest of these tokens was drawn, or is rejected by the first fault.
 abbrev pub Draws : {A : Type 0} → Result A SixelError → Origin → Painter → History → Bool → Type 0
 Draws result origin painter history may_want =
-    MatchResult result (λ _. Shows origin painter history) (λ error. Faults error may_want (first_fault origin.pixel_limit history))
+    MatchResult result
+    (λ _. Shows origin painter history)
+    (λ error. Faults error may_want (first_fault origin.pixel_limit history))
 
--- So many sixels at the front of the bytes were drawn, or the first of them is rejected by the first fault.
+-- So many sixels at the front of the bytes were drawn, or the first of them is rejected by the
+-- first fault.
 abbrev pub DrawsFront : Result ℕ SixelError → Origin → Painter → History → List ℕ → Type 0
 DrawsFront result origin painter history bytes =
     MatchResult result (λ drawn. Shows origin painter (fold read history (take drawn bytes)))
-    (λ error. Faults error true (first_fault origin.pixel_limit (Sixel (slice_index bytes 0 - 63) ∷ history)))
+    (λ error.
+    Faults error true (first_fault origin.pixel_limit (Sixel (slice_index bytes 0 - 63) ∷ history)))
 
--- The second painter is the first with an image at least so wide and so high, which is within the limits.
+-- The second painter is the first with an image at least so wide and so high, which is within the
+-- limits.
 pub record IsExtended (old new : Painter) (wide high : ℕ) : Type 0 where
   pub right : wide ≤ 1000000
   pub lower : high ≤ 1000000
@@ -64,16 +71,21 @@ pub record IsExtended (old new : Painter) (wide high : ℕ) : Type 0 where
   pub down : new.down ≡ old.down
   pub raster_height : new.raster_height ≡ old.raster_height
 
--- The history has no fault, and this is its image, within the limit, with the registers after it; or it is rejected by its first
--- fault, and by a failed allocation only if it has an image.
+-- The history has no fault, and this is its image, within the limit, with the registers after it;
+-- or it is rejected by its first fault, and by a failed allocation only if it has an image.
 abbrev pub Ends : Result DecodedPayload SixelError → Origin → History → Type 0
 Ends result origin history =
     MatchResult result
-    (λ picture. (first_fault origin.pixel_limit history ≡ None) × (picture_value picture ≡ image_of origin history)
-    × (picture.registers ≡ registers origin.registers history) × (picture.width * picture.height ≤ origin.pixel_limit))
-    (λ error. Faults error (is_none (first_fault origin.pixel_limit history)) (first_fault origin.pixel_limit history))
+    (λ picture. (first_fault origin.pixel_limit history ≡ None)
+    × (picture_value picture ≡ image_of origin history)
+    × (picture.registers ≡ registers origin.registers history)
+    × (picture.width * picture.height ≤ origin.pixel_limit))
+    (λ error.
+    Faults error (is_none (first_fault origin.pixel_limit history))
+    (first_fault origin.pixel_limit history))
 
--- The next sixel has one column, inside the image, which all six rows of the canvas have, without a tag.
+-- The next sixel has one column, inside the image, which all six rows of the canvas have, without a
+-- tag.
 pub record FitsColumn (painter : Painter) : Type 0 where
   pub single : painter.span ≡ 1
   pub above_bottom : painter.down + 6 ≤ painter.height

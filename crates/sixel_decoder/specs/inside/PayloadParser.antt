@@ -1,24 +1,29 @@
--- What a payload parser has drawn of the history so far: every token but a newest one that can continue.
--- An invariant of this library's own: what a payload means, by DEC's manual, is in Payload of sixel_base.
-use Rattle.std.specs.Prelude.{ℕ, ◌≤◌, ◌*◌, ◌≡◌, None, Bool, true, false, nat_lt, MatchResult, Result, List, ◌∷◌, fold, if◌then◌else◌}
+-- What a payload parser has drawn of the history so far: every token but a newest one that can
+-- continue. An invariant of this library's own: what a payload means, by DEC's manual, is in
+-- Payload of sixel_base.
+use Rattle.std.specs.Prelude.{ℕ, ◌≤◌, ◌*◌, ◌≡◌, None, Bool, true, false, nat_lt, MatchResult}
+use Rattle.std.specs.Prelude.{Result, List, ◌∷◌, fold, if◌then◌else◌}
 use Rattle.sixel_base.specs.Status.{status_of}
 use Rattle.sixel_base.specs.declared.status.SixelFeedResult.{SixelFeedResult}
 use Rattle.sixel_base.specs.Bytes.{front, count, first_terminator, is_terminated}
 use Rattle.sixel_base.specs.declared.error.SixelError.{SixelError}
 use Rattle.sixel_decoder.specs.declared.payload_parser.PayloadParser.{PayloadParser}
 use Rattle.sixel_decoder.specs.declared.payload_parser.OpenCommand.{OpenCommand}
-use Rattle.sixel_decoder.specs.declared.payload_parser.OpenCommand.TheVariants.{Ground, InRepeat, InRaster, InColor}
+use Rattle.sixel_decoder.specs.declared.payload_parser.OpenCommand.TheVariants.{Ground, InRepeat}
+use Rattle.sixel_decoder.specs.declared.payload_parser.OpenCommand.TheVariants.{InRaster, InColor}
 use Rattle.sixel_base.specs.Fault.{Faults}
 use Rattle.sixel_base.specs.inside.Parameters.{Keeps}
 use Rattle.sixel_base.specs.History.{Token, Repeat, Raster, Color, History, goes_on, read}
 use Rattle.sixel_base.specs.Stroke.{Origin}
-use Rattle.sixel_base.specs.Payload.{first_fault, closed, growths, payload_fault, payload_image, payload_registers, payload_wants}
+use Rattle.sixel_base.specs.Payload.{first_fault, closed, growths, payload_fault, payload_image}
+use Rattle.sixel_base.specs.Payload.{payload_registers, payload_wants}
 use Rattle.sixel_decoder.specs.inside.Painter.{Shows}
 use Rattle.sixel_decoder.specs.PictureView.{picture_value}
 use Rattle.sixel_decoder.specs.declared.decoded_payload.DecodedPayload.{DecodedPayload}
 
 -- the newest token is a command that is open, and the parameters are those of its text so far
-pub record IsOpen (command : List ℕ → Token) (origin : Origin) (parser : PayloadParser) (history : History) : Type 0 where
+pub record IsOpen (command : List ℕ → Token) (origin : Origin) (parser : PayloadParser)
+    (history : History) : Type 0 where
   pub text : List ℕ
   pub older : History
   pub newest : history ≡ command text ∷ older
@@ -39,11 +44,15 @@ StandsIn InColor origin parser history = IsOpen Color origin parser history
 abbrev pub Stands : Origin → PayloadParser → History → Type 0
 Stands origin parser history = StandsIn parser.command origin parser history
 
--- The parser has read the history, which continues an earlier one; or a token that was closed since is rejected.
-abbrev pub Reads : {A : Type 0} → Result A SixelError → Origin → PayloadParser → History → History → Type 0
+-- The parser has read the history, which continues an earlier one; or a token that was closed since
+-- is rejected.
+abbrev pub Reads : {A : Type 0} → Result A SixelError → Origin → PayloadParser → History → History
+    → Type 0
 Reads result origin parser before history =
     MatchResult result (λ _. Stands origin parser history)
-    (λ error. Faults error (nat_lt (growths (closed before)) (growths (closed history))) (first_fault origin.pixel_limit (closed history)))
+    (λ error.
+    Faults error (nat_lt (growths (closed before)) (growths (closed history)))
+    (first_fault origin.pixel_limit (closed history)))
 
 -- the history after a chunk
 abbrev pub after : History → List ℕ → History
@@ -51,26 +60,34 @@ after history piece = fold read history (front piece)
 
 -- the tokens then that no further byte can change
 abbrev pub settled_after : History → List ℕ → History
-settled_after history piece = if is_terminated piece then after history piece else closed (after history piece)
+settled_after history piece =
+    if is_terminated piece then after history piece else closed (after history piece)
 
 -- After a terminator every token was drawn; before one, all but an open command.
 abbrev pub StandsAfter : Bool → Origin → PayloadParser → History → Type 0
-StandsAfter true origin parser history = (parser.command ≡ Ground) × Shows origin parser.painter history
+StandsAfter true origin parser history =
+    (parser.command ≡ Ground) × Shows origin parser.painter history
 StandsAfter false origin parser history = Stands origin parser history
 
 -- The chunk was read up to its first terminator, or is rejected by the first fault.
-abbrev pub Feeds : Result SixelFeedResult SixelError → Origin → PayloadParser → History → List ℕ → Type 0
+abbrev pub Feeds : Result SixelFeedResult SixelError → Origin → PayloadParser → History → List ℕ
+    → Type 0
 Feeds result origin parser history piece =
     MatchResult result
     (λ fed. (fed.consumed ≡ count piece) × (fed.status ≡ status_of (first_terminator piece))
     × StandsAfter (is_terminated piece) origin parser (after history piece))
-    (λ error. Faults error (nat_lt (growths (closed history)) (growths (settled_after history piece)))
+    (λ error. Faults error
+    (nat_lt (growths (closed history)) (growths (settled_after history piece)))
     (first_fault origin.pixel_limit (settled_after history piece)))
 
--- The bytes are a payload with no fault, and this is its image; or they are rejected by their first fault.
+-- The bytes are a payload with no fault, and this is its image; or they are rejected by their first
+-- fault.
 abbrev pub Decodes : Result DecodedPayload SixelError → Origin → List ℕ → Type 0
 Decodes result origin bytes =
     MatchResult result
-    (λ picture. (payload_fault origin.pixel_limit bytes ≡ None) × (picture_value picture ≡ payload_image origin bytes)
-    × (picture.registers ≡ payload_registers origin bytes) × (picture.width * picture.height ≤ origin.pixel_limit))
-    (λ error. Faults error (payload_wants origin.pixel_limit bytes) (payload_fault origin.pixel_limit bytes))
+    (λ picture. (payload_fault origin.pixel_limit bytes ≡ None)
+    × (picture_value picture ≡ payload_image origin bytes)
+    × (picture.registers ≡ payload_registers origin bytes)
+    × (picture.width * picture.height ≤ origin.pixel_limit))
+    (λ error.
+    Faults error (payload_wants origin.pixel_limit bytes) (payload_fault origin.pixel_limit bytes))

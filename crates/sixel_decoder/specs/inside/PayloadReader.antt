@@ -1,6 +1,7 @@
--- What contracts see of a payload reader, and what its parser has read: the bytes so far, up to their first terminator.
--- An invariant of this library's own: contracts speak of the bytes alone.
-use Rattle.std.specs.Prelude.{◌≡◌, ◌+◌, ◌++◌, nat_lt, List, ℕ, Option, Some, None, is_some, is_none, Result, MatchResult}
+-- What contracts see of a payload reader, and what its parser has read: the bytes so far, up to
+-- their first terminator. An invariant of this library's own: contracts speak of the bytes alone.
+use Rattle.std.specs.Prelude.{◌≡◌, ◌+◌, ◌++◌, nat_lt, List, ℕ, Option, Some, None, is_some, is_none}
+use Rattle.std.specs.Prelude.{Result, MatchResult}
 use Rattle.sixel_base.specs.declared.error.SixelError.{SixelError}
 use Rattle.sixel_base.specs.Fault.{Faults}
 use Rattle.sixel_base.specs.Bytes.{front, count, first_terminator}
@@ -45,16 +46,23 @@ session_of reader = record {
 abbrev pub HasRead : Option PayloadParser → Origin → Option ℕ → List ℕ → Type 0
 HasRead None origin terminator bytes = Unit {0}
 HasRead (Some parser) origin terminator bytes =
-    (first_terminator bytes ≡ terminator) × StandsAfter (is_some terminator) origin parser (history_of (front bytes))
+    (first_terminator bytes ≡ terminator)
+    × StandsAfter (is_some terminator) origin parser (history_of (front bytes))
 
 abbrev pub IsReading : Inside → Type 0
-IsReading reader = HasRead reader.parser (session_of reader).origin reader.terminator reader.log.bytes
+IsReading reader =
+    HasRead reader.parser (session_of reader).origin reader.terminator reader.log.bytes
 
--- The parser has read these bytes and the chunk after them, or all are rejected by their first fault.
-abbrev pub GoesOn : Result SixelFeedResult SixelError → Origin → PayloadParser → List ℕ → List ℕ → Type 0
+-- The parser has read these bytes and the chunk after them, or all are rejected by their first
+-- fault.
+abbrev pub GoesOn : Result SixelFeedResult SixelError → Origin → PayloadParser → List ℕ → List ℕ
+    → Type 0
 GoesOn result origin parser before piece =
     MatchResult result
-    (λ fed. (count before + fed.consumed ≡ count (before ++ piece)) × (fed.status ≡ status_of (first_terminator (before ++ piece)))
+    (λ fed. (count before + fed.consumed ≡ count (before ++ piece))
+    × (fed.status ≡ status_of (first_terminator (before ++ piece)))
     × HasRead (Some parser) origin (first_terminator (before ++ piece)) (before ++ piece)
     × (fed_fault origin.pixel_limit (before ++ piece) ≡ None))
-    (λ error. Faults error (nat_lt (growths (settled before)) (growths (settled (before ++ piece)))) (fed_fault origin.pixel_limit (before ++ piece)))
+    (λ error.
+    Faults error (nat_lt (growths (settled before)) (growths (settled (before ++ piece))))
+    (fed_fault origin.pixel_limit (before ++ piece)))

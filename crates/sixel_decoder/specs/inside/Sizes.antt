@@ -1,4 +1,5 @@
--- What is wrong with the sizes of a picture. From the limits of sixel_base: a side ends at a million, and the area at the limit of pixels.
+-- What is wrong with the sizes of a picture. From the limits of sixel_base: a side ends at a
+-- million, and the area at the limit of pixels.
 use Rattle.std.specs.Prelude.{ℕ, ◌*◌, ◌<◌, ◌≤◌, ◌⊎◌}
 use Rattle.sixel_base.specs.Fault.{IsFault, Malformed, TooLarge}
 use Rattle.sixel_base.specs.declared.error.SixelError.{SixelError}

@@ -10,9 +10,12 @@ returns-clause-ends c = λ payload ended first counted.
     let consumed = c.args.consumed in
     elim c.match-ended.branch [
       | in-None w ↦
-          rw w.end-is (goes_to_end payload piece c.tail-rest.result.now t c.min.result consumed _ _ (sym w.in-None.is ∙ ended) first counted
-          c.tail-rest.ensures (λ within. omega (arith, c.min.ensures)) w.end_at-end.ensures.count w.end_at-end.ensures.status)
+          rw w.end-is (goes_to_end payload piece c.tail-rest.result.now t c.min.result consumed _ _
+          (sym w.in-None.is ∙ ended) first counted
+          c.tail-rest.ensures (λ within. omega (arith, c.min.ensures))
+          w.end_at-end.ensures.count w.end_at-end.ensures.status)
       | in-Some w ↦
-          rw w.end-is (goes_later payload piece t consumed _ w.in-Some.status _ (sym w.in-Some.is ∙ ended) first counted
+          rw w.end-is (goes_later payload piece t consumed _ w.in-Some.status _
+          (sym w.in-Some.is ∙ ended) first counted
           w.end_later-end.ensures.waiting w.end_later-end.ensures.over)
     ]

@@ -13,10 +13,13 @@ returns-in_err-fed-clause-follows c = λ decoder before is.
     let payload : List ℕ = c.args.reader.now.bytes in
     let piece : List ℕ = c.args.chunk.now in
     let e = c.in_err-fed.field-0.0 in
-    let refused : Faults e (nat_lt (growths (settled payload)) (growths (settled (payload ++ piece)))) (fed_fault c.args.reader.now.origin.pixel_limit (payload ++ piece)) =
+    let refused : Faults e
+    (nat_lt (growths (settled payload)) (growths (settled (payload ++ piece))))
+    (fed_fault c.args.reader.now.origin.pixel_limit (payload ++ piece)) =
     rw (is.accepted, c.in_err-fed.ensures.bytes) at c.in_err-fed.ensures.error in
     let p = err_from_is_err_and c.from_residual.result c.from_residual.ensures.1 in
-    rw (p.1, p.2) (payload_refuses e c.args.reader.now decoder c.args.ended.now before piece is refused)
+    rw (p.1, p.2)
+    (payload_refuses e c.args.reader.now decoder c.args.ended.now before piece is refused)
 
 pub returns-in-NeedMoreData-clause-follows : goal.returns-in-NeedMoreData-clause-follows
 returns-in-NeedMoreData-clause-follows c = λ decoder before is.
@@ -25,10 +28,13 @@ returns-in-NeedMoreData-clause-follows c = λ decoder before is.
     let now = c.in_ok-fed.ensures in
     let consumed = c.in_ok-fed.fed.consumed in
     let none : first_terminator (payload ++ piece) ≡ None =
-    ap first_terminator (sym now.bytes) ∙ waiting_by (first_terminator c.feed.new.self.bytes) (sym c.in-NeedMoreData.is ∙ now.status) in
-    let counted : count payload + consumed ≡ count (payload ++ piece) = now.consumed ∙ ap count now.bytes in
+    ap first_terminator (sym now.bytes)
+    ∙ waiting_by (first_terminator c.feed.new.self.bytes) (sym c.in-NeedMoreData.is ∙ now.status) in
+    let counted : count payload + consumed ≡ count (payload ++ piece) =
+    now.consumed ∙ ap count now.bytes in
     let goes = goes_open payload piece consumed c.args.ended.now is.ending none counted in
-    payload_follows c.args.reader.now c.feed.new.self decoder c.args.ended.now c.args.ended.now before piece consumed _ is
+    payload_follows c.args.reader.now c.feed.new.self decoder c.args.ended.now c.args.ended.now
+    before piece consumed _ is
     now.origin now.bytes now.ok.1 now.faultless goes.0 goes.1
 
 pub returns-in-Terminated-clause-follows : goal.returns-in-Terminated-clause-follows
@@ -38,8 +44,13 @@ returns-in-Terminated-clause-follows c = λ decoder before is.
     let now = c.in_ok-fed.ensures in
     let t = c.in-Terminated.terminator in
     let some : first_terminator (payload ++ piece) ≡ Some t =
-    ap first_terminator (sym now.bytes) ∙ terminated_by (first_terminator c.feed.new.self.bytes) t (sym c.in-Terminated.is ∙ now.status) in
-    let counted : count payload + c.in_ok-fed.fed.consumed ≡ count (payload ++ piece) = now.consumed ∙ ap count now.bytes in
+    ap first_terminator (sym now.bytes)
+    ∙ terminated_by (first_terminator c.feed.new.self.bytes) t
+    (sym c.in-Terminated.is ∙ now.status) in
+    let counted : count payload + c.in_ok-fed.fed.consumed ≡ count (payload ++ piece) =
+    now.consumed ∙ ap count now.bytes in
     let goes = c.end_now-end.ensures.ends payload is.ending some counted in
-    payload_follows c.args.reader.now c.feed.new.self decoder c.args.ended.now (Some c.end_now-end.result.status) before piece _ _ is
-    now.origin now.bytes now.ok.1 now.faultless goes (ap Some goes.1 ∙ sym (ended_at (payload ++ piece) t some))
+    payload_follows c.args.reader.now c.feed.new.self decoder c.args.ended.now
+    (Some c.end_now-end.result.status) before piece _ _ is
+    now.origin now.bytes now.ok.1 now.faultless goes
+    (ap Some goes.1 ∙ sym (ended_at (payload ++ piece) t some))

@@ -7,4 +7,5 @@ returns-in-Ok c = λ o stands.
     payload_ends c.finish.result o bytes (c.finish.ensures o _ _ (c.in-Ok.ensures o _ stands).2)
 
 pub returns-in-Err : goal.returns-in-Err
-returns-in-Err c = λ o stands. payload_refused c.in-Err.error o.pixel_limit c.args.bytes.now (c.in-Err.ensures o _ stands)
+returns-in-Err c = λ o stands.
+    payload_refused c.in-Err.error o.pixel_limit c.args.bytes.now (c.in-Err.ensures o _ stands)

@@ -11,8 +11,11 @@ returns-then-has_bit-clause-end c =
     sym (end_is bit end run c.blank.invariant.0 c.blank.invariant.1
     (λ k is.
     let place : k ≡ end - 1 = omega (arith, is) in
-    ap (λ (j : ℕ). is_set (get_or run j 0 - 63) bit) place ∙ sym c.has_bit.ensures ∙ c.if-has_bit.true))
+    ap (λ (j : ℕ). is_set (get_or run j 0 - 63) bit) place ∙ sym c.has_bit.ensures
+    ∙ c.if-has_bit.true))
 
 pub returns-clause-end : goal.returns-clause-end
 returns-clause-end c =
-    sym (end_is c.args.bit 0 c.args.run.now (omega arith) (λ k from lt. c.blank.invariant.1 k (omega (arith, c.blank-test.false)) lt) (λ k is. absurd (omega (arith, is))))
+    sym (end_is c.args.bit 0 c.args.run.now (omega arith)
+    (λ k from lt. c.blank.invariant.1 k (omega (arith, c.blank-test.false)) lt)
+    (λ k is. absurd (omega (arith, is))))

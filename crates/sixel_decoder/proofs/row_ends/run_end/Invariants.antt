@@ -4,7 +4,8 @@ use Rattle.sixel_decoder.proofs.row_ends.run_end.Given as goal
 
 abbrev pub invariant-blank : goal.invariant-blank
 invariant-blank l =
-    (l.end ≤ length l.run) × ((k : ℕ) → l.end ≤ k → k < length l.run → is_set (get_or l.run k 0 - 63) l.bit ≡ false)
+    (l.end ≤ length l.run)
+    × ((k : ℕ) → l.end ≤ k → k < length l.run → is_set (get_or l.run k 0 - 63) l.bit ≡ false)
 
 abbrev pub decreases-blank : goal.decreases-blank
 decreases-blank l = l.end

@@ -11,11 +11,14 @@ sixels-preserved c =
       c.move_ends.array_long,
       λ k six.
           c.move_ends.ensures k six
-          ∙ ap (λ (end : ℕ). if is_set (get_or run at 0 - 63) k then at + 1 else end) (c.sixels.invariant.1 k six)
+          ∙ ap
+          (λ (end : ℕ). if is_set (get_or run at 0 - 63) k then at + 1 else end)
+          (c.sixels.invariant.1 k six)
           ∙ sym (end_of-next k at run (omega (arith, c.sixels-test.true))),
     )
 
 pub returns-clause-within : goal.returns-clause-within
 returns-clause-within c = λ bit six.
     let part = take c.sixels.at c.args.run.now in
-    omega (arith, c.sixels.invariant.1 bit six, end_most bit part, length-take c.sixels.at c.args.run.now)
+    omega
+    (arith, c.sixels.invariant.1 bit six, end_most bit part, length-take c.sixels.at c.args.run.now)

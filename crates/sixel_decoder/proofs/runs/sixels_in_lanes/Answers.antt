@@ -4,12 +4,18 @@ use Rattle.sixel_decoder.proofs.runs.sixels_in_lanes.Goals as goal
 
 pub returns-then-others-eq0-clause-sixels : goal.returns-then-others-eq0-clause-sixels
 returns-then-others-eq0-clause-sixels c =
-    all_sixels c.args.bytes.now c.args.at _ c.requires (λ k. omega (arith, c.type_inv.bytes k)) (mask_is c.args.bytes.now c.args.at c.requires) c.if-others-eq0.true
+    all_sixels c.args.bytes.now c.args.at _ c.requires
+    (λ k. omega (arith, c.type_inv.bytes k))
+    (mask_is c.args.bytes.now c.args.at c.requires) c.if-others-eq0.true
 
 pub returns-else-others-eq0-clause-few : goal.returns-else-others-eq0-clause-few
 returns-else-others-eq0-clause-few c =
-    first_few c.args.bytes.now c.args.at _ c.requires (λ k. omega (arith, c.type_inv.bytes k)) (mask_is c.args.bytes.now c.args.at c.requires) c.if-others-eq0.false
+    first_few c.args.bytes.now c.args.at _ c.requires
+    (λ k. omega (arith, c.type_inv.bytes k))
+    (mask_is c.args.bytes.now c.args.at c.requires) c.if-others-eq0.false
 
 pub returns-else-others-eq0-clause-sixels : goal.returns-else-others-eq0-clause-sixels
 returns-else-others-eq0-clause-sixels c =
-    first_sixels c.args.bytes.now c.args.at _ c.requires (λ k. omega (arith, c.type_inv.bytes k)) (mask_is c.args.bytes.now c.args.at c.requires) c.if-others-eq0.false
+    first_sixels c.args.bytes.now c.args.at _ c.requires
+    (λ k. omega (arith, c.type_inv.bytes k))
+    (mask_is c.args.bytes.now c.args.at c.requires) c.if-others-eq0.false

@@ -5,7 +5,9 @@ use Rattle.sixel_decoder.specs.declared.dcs_parser.DcsState.{DcsState}
 use Rattle.sixel_decoder.specs.declared.dcs_parser.DcsState.TheVariants as states
 use Rattle.sixel_base.specs.Dcs.{stage}
 use Rattle.sixel_decoder.specs.inside.DcsParser.{IsInPayload, HasFollowed}
-use Rattle.sixel_decoder.proofs.DcsChunks.{heading, head_or_payload, head_fine, stage_refuses, head_follows, all_counted, entered_follows, entered_refuses}
+use Rattle.sixel_decoder.proofs.DcsChunks.{heading, head_or_payload, head_fine, stage_refuses}
+use Rattle.sixel_decoder.proofs.DcsChunks.{head_follows, all_counted, entered_follows}
+use Rattle.sixel_decoder.proofs.DcsChunks.{entered_refuses}
 use Rattle.sixel_decoder.proofs.dcs_parser.DcsParser.read_beginning.Goals as goal
 
 pub returns-in_err-start-clause-follows : goal.returns-in_err-start-clause-follows
@@ -13,37 +15,60 @@ returns-in_err-start-clause-follows c = λ before head is.
     let e = c.in_err-start.field-0.0 in
     let refused = c.in_err-start.ensures.heads before (head_fine c.args.self.now.state head) is in
     let p = err_from_is_err_and c.from_residual.result c.from_residual.ensures.1 in
-    rw (p.1, p.2) (stage_refuses e _ c.args.self.now.decoder.pixel_limit (stage (before ++ c.args.chunk.now)) refused)
+    rw (p.1, p.2) (stage_refuses e _ c.args.self.now.decoder.pixel_limit
+    (stage (before ++ c.args.chunk.now)) refused)
 
 pub returns-in_err-fed-in-Payload-clause-follows : goal.returns-in_err-fed-in-Payload-clause-follows
 returns-in_err-fed-in-Payload-clause-follows c = λ before head is.
     let piece : List ℕ = c.args.chunk.now in
     let start = c.in_ok-start.start in
     let begun = c.in_ok-start.ensures.heads before (head_fine c.args.self.now.state head) is in
-    let from = heading c.args.self.now.state c.args.self.now.decoder c.args.self.now.ended before head is in
-    let now : IsInPayload c.in-Payload.reader c.args.self.now.decoder c.read_head.new.self.ended (before ++ take start piece) =
-    subst (λ (w : DcsState). HasFollowed w c.args.self.now.decoder c.read_head.new.self.ended (before ++ take start piece)) c.in-Payload.is begun.2 in
-    let refused = c.in_err-fed-in-Payload.ensures.follows c.args.self.now.decoder (before ++ take start piece) now in
-    let p = err_from_is_err_and c.from_residual-in_err-fed-in-Payload.result c.from_residual-in_err-fed-in-Payload.ensures.1 in
-    rw (p.1, p.2) (entered_refuses _ c.args.self.now.decoder.pixel_limit before piece start from.0 (rw c.tail.ensures at refused))
+    let from =
+    heading c.args.self.now.state c.args.self.now.decoder c.args.self.now.ended before head is in
+    let now : IsInPayload c.in-Payload.reader c.args.self.now.decoder c.read_head.new.self.ended
+    (before ++ take start piece) =
+    subst (λ (w : DcsState).
+    HasFollowed w c.args.self.now.decoder c.read_head.new.self.ended (before ++ take start piece))
+    c.in-Payload.is begun.2 in
+    let refused =
+    c.in_err-fed-in-Payload.ensures.follows c.args.self.now.decoder (before ++ take start piece)
+    now in
+    let p =
+    err_from_is_err_and c.from_residual-in_err-fed-in-Payload.result
+    c.from_residual-in_err-fed-in-Payload.ensures.1 in
+    rw (p.1, p.2) (entered_refuses _ c.args.self.now.decoder.pixel_limit before piece start from.0
+    (rw c.tail.ensures at refused))
 
 pub returns-in_ok-fed-in-Payload-clause-follows : goal.returns-in_ok-fed-in-Payload-clause-follows
 returns-in_ok-fed-in-Payload-clause-follows c = λ before head is.
     let piece : List ℕ = c.args.chunk.now in
     let start = c.in_ok-start.start in
     let begun = c.in_ok-start.ensures.heads before (head_fine c.args.self.now.state head) is in
-    let from = heading c.args.self.now.state c.args.self.now.decoder c.args.self.now.ended before head is in
-    let now : IsInPayload c.in-Payload.reader c.args.self.now.decoder c.read_head.new.self.ended (before ++ take start piece) =
-    subst (λ (w : DcsState). HasFollowed w c.args.self.now.decoder c.read_head.new.self.ended (before ++ take start piece)) c.in-Payload.is begun.2 in
-    let unended : IsInPayload c.in-Payload.reader c.args.self.now.decoder None (before ++ take start piece) =
-    subst (λ (w : Option SixelDcsFeedStatus). IsInPayload c.in-Payload.reader c.args.self.now.decoder w (before ++ take start piece)) (c.in_ok-start.ensures.ended ∙ from.1) now in
-    let follows = c.in_ok-fed-in-Payload.ensures.follows c.args.self.now.decoder (before ++ take start piece) now in
-    entered_follows (states.Payload c.read_payload.new.reader) c.args.self.now.decoder c.read_payload.new.ended before piece start _ _ begun.0 from.0
-    (all_counted c.in-Payload.reader c.args.self.now.decoder (before ++ take start piece) unended) (rw c.tail.ensures at follows)
+    let from =
+    heading c.args.self.now.state c.args.self.now.decoder c.args.self.now.ended before head is in
+    let now : IsInPayload c.in-Payload.reader c.args.self.now.decoder c.read_head.new.self.ended
+    (before ++ take start piece) =
+    subst (λ (w : DcsState).
+    HasFollowed w c.args.self.now.decoder c.read_head.new.self.ended (before ++ take start piece))
+    c.in-Payload.is begun.2 in
+    let unended : IsInPayload c.in-Payload.reader c.args.self.now.decoder None
+    (before ++ take start piece) =
+    subst (λ (w : Option SixelDcsFeedStatus).
+    IsInPayload c.in-Payload.reader c.args.self.now.decoder w (before ++ take start piece))
+    (c.in_ok-start.ensures.ended ∙ from.1) now in
+    let follows =
+    c.in_ok-fed-in-Payload.ensures.follows c.args.self.now.decoder (before ++ take start piece)
+    now in
+    entered_follows (states.Payload c.read_payload.new.reader) c.args.self.now.decoder
+    c.read_payload.new.ended before piece start _ _ begun.0 from.0
+    (all_counted c.in-Payload.reader c.args.self.now.decoder (before ++ take start piece) unended)
+    (rw c.tail.ensures at follows)
 
 pub returns-in_default-clause-follows : goal.returns-in_default-clause-follows
 returns-in_default-clause-follows c = λ before head is.
     let begun = c.in_ok-start.ensures.heads before (head_fine c.args.self.now.state head) is in
-    let from = heading c.args.self.now.state c.args.self.now.decoder c.args.self.now.ended before head is in
+    let from =
+    heading c.args.self.now.state c.args.self.now.decoder c.args.self.now.ended before head is in
     let now = head_or_payload c.read_head.new.self.state begun.1 c.in_default.not-Payload in
-    head_follows c.read_head.new.self.state c.args.self.now.decoder c.read_head.new.self.ended before c.args.chunk.now c.in_ok-start.start from.0 begun.1 now (begun.3 now) begun.2
+    head_follows c.read_head.new.self.state c.args.self.now.decoder c.read_head.new.self.ended
+    before c.args.chunk.now c.in_ok-start.start from.0 begun.1 now (begun.3 now) begun.2

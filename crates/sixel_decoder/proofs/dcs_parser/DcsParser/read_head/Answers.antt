@@ -1,4 +1,5 @@
-use Rattle.std.proofs.Common.{◌≡◌, ◌++◌, ◌∷◌, [], true, false, List, ℕ, length, get_or, take, drop, ◌+◌, refl, sym, ◌∙◌, subst, arith}
+use Rattle.std.proofs.Common.{◌≡◌, ◌++◌, ◌∷◌, [], true, false, List, ℕ, length, get_or, take, drop}
+use Rattle.std.proofs.Common.{◌+◌, refl, sym, ◌∙◌, subst, arith}
 use Rattle.std.proofs.lemmas.Bool.{false≢true}
 use Rattle.std.proofs.lemmas.List.{append-nil}
 use Rattle.std.proofs.lemmas.Result.{err_from_is_err_and}
@@ -13,8 +14,11 @@ head-init c = (
   refl,
   refl,
   λ before fine followed.
-      let old = c.args.self.now in
-      (fine, subst (λ (w : List ℕ). HasFollowed old.state old.decoder old.ended w) (sym (append-nil before)) followed),
+      let old = c.args.self.now in (
+        fine,
+        subst (λ (w : List ℕ). HasFollowed old.state old.decoder old.ended w)
+            (sym (append-nil before)) followed,
+      ),
 )
 
 pub head-preserved : goal.head-preserved
@@ -26,10 +30,12 @@ head-preserved c = (
       let index = c.head.index in
       let new = c.step.new.self in
       let now = c.head.invariant.2 before fine followed in
-      let head : is_head c.head.self.state ≡ true = sym c.is_head.ensures ∙ c.if-not-is_head.false in
+      let head : is_head c.head.self.state ≡ true =
+      sym c.is_head.ensures ∙ c.if-not-is_head.false in
       let stepped = c.in_ok-step.ensures.steps (before ++ take index chunk) head now.1 in (
         stepped.0,
-        subst (λ (d : DecoderState). HasFollowed new.state d new.ended (before ++ take (index + 1) chunk))
+        subst (λ (d : DecoderState).
+            HasFollowed new.state d new.ended (before ++ take (index + 1) chunk))
             (sym c.in_ok-step.ensures.decoder)
             (subst (λ (w : List ℕ). HasFollowed new.state c.head.self.decoder new.ended w)
             (pieces_step before chunk index c.head-test.true) stepped.1),
@@ -42,7 +48,9 @@ returns-then-not-is_head-clause-heads c = λ before fine followed.
     let at = c.head.self in
     let now = c.head.invariant.2 before fine followed in
     let payload : is_head at.state ≡ false = sym c.is_head.ensures ∙ c.if-not-is_head.true in
-    let here = subst (λ (d : DecoderState). HasFollowed at.state d at.ended (before ++ take index c.args.chunk.now))
+    let here =
+    subst
+    (λ (d : DecoderState). HasFollowed at.state d at.ended (before ++ take index c.args.chunk.now))
     c.head.invariant.0 now.1 in
     (omega (arith, c.head-test.true), now.0, here, λ head. absurd (false≢true (sym payload ∙ head)))
 
@@ -51,10 +59,19 @@ returns-clause-heads c = λ before fine followed.
     let chunk = c.args.chunk.now in
     let at = c.head.self in
     let now = c.head.invariant.2 before fine followed in
-    let whole : c.head.index ≡ length chunk = omega (arith, c.head-test.false, c.head.auto.index-end) in
-    let here = subst (λ (d : DecoderState). HasFollowed at.state d at.ended (before ++ take c.head.index chunk))
-    c.head.invariant.0 now.1 in
-    (omega arith, now.0, subst (λ (n : ℕ). HasFollowed at.state c.args.self.now.decoder at.ended (before ++ take n chunk)) whole here, λ head. refl)
+    let whole : c.head.index ≡ length chunk =
+    omega (arith, c.head-test.false, c.head.auto.index-end) in
+    let here =
+    subst
+    (λ (d : DecoderState). HasFollowed at.state d at.ended (before ++ take c.head.index chunk))
+    c.head.invariant.0 now.1 in (
+      omega arith,
+      now.0,
+      subst (λ (n : ℕ).
+          HasFollowed at.state c.args.self.now.decoder at.ended (before ++ take n chunk))
+          whole here,
+      λ head. refl,
+    )
 
 pub returns-in_err-step-clause-heads : goal.returns-in_err-step-clause-heads
 returns-in_err-step-clause-heads c = λ before fine followed.
@@ -66,5 +83,7 @@ returns-in_err-step-clause-heads c = λ before fine followed.
     let e = c.in_err-step.field-0.0 in
     let p = err_from_is_err_and c.from_residual.result c.from_residual.ensures.1 in
     rw (p.1, p.2)
-    (subst (λ (w : List ℕ). IsStageFault e (stage w)) (pieces_join before chunk index c.head-test.true)
-    (refused_stays e ((before ++ take index chunk) ++ (get_or chunk index 0 ∷ [])) (drop (index + 1) chunk) refused))
+    (subst (λ (w : List ℕ). IsStageFault e (stage w))
+    (pieces_join before chunk index c.head-test.true)
+    (refused_stays e ((before ++ take index chunk) ++ (get_or chunk index 0 ∷ []))
+    (drop (index + 1) chunk) refused))

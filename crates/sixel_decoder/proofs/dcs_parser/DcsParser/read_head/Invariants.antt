@@ -6,6 +6,7 @@ abbrev pub invariant-head : goal.invariant-head
 invariant-head l =
     let old = l.initial.self in
     (l.self.decoder ≡ old.decoder) × (l.self.ended ≡ old.ended)
-    × ((before : List ℕ) → is_failed old.state ≡ false → HasFollowed old.state old.decoder old.ended before
+    × ((before : List ℕ) → is_failed old.state ≡ false
+    → HasFollowed old.state old.decoder old.ended before
     → (is_failed l.self.state ≡ false)
     × HasFollowed l.self.state l.self.decoder l.self.ended (before ++ take l.index l.chunk))

@@ -38,16 +38,20 @@ returns-in-80-clause-steps c = λ before head is.
 pub returns-in-Ok-None-clause-steps : goal.returns-in-Ok-None-clause-steps
 returns-in-Ok-None-clause-steps c = λ before head is.
     let old = c.args.self.now in
-    let it : IsInHeader c.in-Header.header before × (old.ended ≡ None) = subst (λ (p : DcsState). HasFollowed p old.decoder old.ended before) c.in-Header.is is in
-    let stepped : (is_header c.args.byte ≡ true) × Keeps c.push.new.self.parameters (header_text it.0.rest ++ carrying (c.args.byte ∷ [])) =
+    let it : IsInHeader c.in-Header.header before × (old.ended ≡ None) =
+    subst (λ (p : DcsState). HasFollowed p old.decoder old.ended before) c.in-Header.is is in
+    let stepped : (is_header c.args.byte ≡ true)
+    × Keeps c.push.new.self.parameters (header_text it.0.rest ++ carrying (c.args.byte ∷ [])) =
     rw c.in-Ok-None.field-0-is at (c.in-Ok-None.ensures (header_text it.0.rest) it.0.keeps) in
     (refl, (header_goes_on c.in-Header.header _ before c.args.byte it.0 stepped.0 stepped.1, it.1))
 
 pub returns-in-Ok-Some-clause-steps : goal.returns-in-Ok-Some-clause-steps
 returns-in-Ok-Some-clause-steps c = λ before head is.
     let old = c.args.self.now in
-    let it : IsInHeader c.in-Header.header before × (old.ended ≡ None) = subst (λ (p : DcsState). HasFollowed p old.decoder old.ended before) c.in-Header.is is in
-    let stepped : (is_header c.args.byte ≡ false) × (c.args.byte ≡ 113) × (c.in-Ok-Some.settings ≡ settings_of (header_text it.0.rest)) =
+    let it : IsInHeader c.in-Header.header before × (old.ended ≡ None) =
+    subst (λ (p : DcsState). HasFollowed p old.decoder old.ended before) c.in-Header.is is in
+    let stepped : (is_header c.args.byte ≡ false) × (c.args.byte ≡ 113)
+    × (c.in-Ok-Some.settings ≡ settings_of (header_text it.0.rest)) =
     rw c.in-Ok-Some.field-0-is at (c.in-Ok-Some.ensures (header_text it.0.rest) it.0.keeps) in
     let fresh : Session = record {
       origin = origin_of old.decoder c.in-Ok-Some.settings;
@@ -58,17 +62,23 @@ returns-in-Ok-Some-clause-steps c = λ before head is.
       paints = 0;
     } in
     let begun : IsInPayload fresh old.decoder old.ended (before ++ c.args.byte ∷ []) = record {
-      reading = header_begins c.in-Header.header before c.args.byte it.0 stepped.0 stepped.1 ∙ ap (λ s. Reading s []) (sym stepped.2);
+      reading =
+          header_begins c.in-Header.header before c.args.byte it.0 stepped.0 stepped.1
+          ∙ ap (λ s. Reading s []) (sym stepped.2);
       start = refl;
       accepted = refl;
       faultless = refl;
       ending = it.1;
-    } in
-    (refl, subst (λ (w : Session). IsInPayload w old.decoder old.ended (before ++ c.args.byte ∷ [])) (sym c.new-reader.ensures) begun)
+    } in (
+      refl,
+      subst (λ (w : Session). IsInPayload w old.decoder old.ended (before ++ c.args.byte ∷ []))
+          (sym c.new-reader.ensures) begun,
+    )
 
 pub returns-in-Err-clause-steps : goal.returns-in-Err-clause-steps
 returns-in-Err-clause-steps c = λ before head is.
     let old = c.args.self.now in
-    let it : IsInHeader c.in-Header.header before × (old.ended ≡ None) = subst (λ (p : DcsState). HasFollowed p old.decoder old.ended before) c.in-Header.is is in
+    let it : IsInHeader c.in-Header.header before × (old.ended ≡ None) =
+    subst (λ (p : DcsState). HasFollowed p old.decoder old.ended before) c.in-Header.is is in
     let stepped = c.in-Err.ensures (header_text it.0.rest) it.0.keeps in
     header_refuses c.in-Err.error c.in-Header.header before c.args.byte it.0 stepped.0 stepped.1

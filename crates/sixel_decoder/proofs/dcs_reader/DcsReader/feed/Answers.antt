@@ -17,7 +17,8 @@ accepted c = false_from_ne_true (is_failed c.self.inside.parser.state) c.in-Ok.e
 pub invariant_of-self : goal.invariant_of-self
 invariant_of-self c =
     let inside = c.self.inside in
-    rw (c.extend.ensures, c.in-Ok.ensures.decoder) (c.in-Ok.ensures.follows inside.log.bytes (accepted c) c.self.invariant).3
+    rw (c.extend.ensures, c.in-Ok.ensures.decoder)
+    (c.in-Ok.ensures.follows inside.log.bytes (accepted c) c.self.invariant).3
 
 pub returns-in-Ok : goal.returns-in-Ok
 returns-in-Ok c =
@@ -29,7 +30,8 @@ returns-in-Ok c =
     let result : Result SixelDcsFeedResult SixelError = Ok c.in-Ok.fed in
     let goes = c.in-Ok.ensures.follows bytes (accepted c) c.self.invariant in
     let sound : is_failed inside.parser.state ≡ false → dcs_fault limit bytes ≡ None =
-    followed_sound inside.parser.state inside.parser.decoder inside.parser.ended bytes c.self.invariant in
+    followed_sound inside.parser.state inside.parser.decoder inside.parser.ended bytes
+    c.self.invariant in
     record {
       start = rw (← c.self.view_is) c.in-Ok.ensures.decoder;
       bytes = rw (← c.self.view_is) c.extend.ensures;
@@ -61,7 +63,8 @@ returns-in-Err c =
     let told : is_failed inside.parser.state ≡ false → Faults error grows (dcs_fault limit now) =
     λ fine. c.in-Err.ensures.follows bytes fine c.self.invariant in
     let sound : is_failed inside.parser.state ≡ false → dcs_fault limit bytes ≡ None =
-    followed_sound inside.parser.state inside.parser.decoder inside.parser.ended bytes c.self.invariant in
+    followed_sound inside.parser.state inside.parser.decoder inside.parser.ended bytes
+    c.self.invariant in
     record {
       start = rw (← c.self.view_is) c.in-Err.ensures.decoder;
       bytes = rw (← c.self.view_is) c.extend.ensures;

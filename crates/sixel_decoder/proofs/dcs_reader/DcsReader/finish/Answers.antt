@@ -18,7 +18,8 @@ in_payload : (c : goal.After-finish) → IsInPayload c.in-Payload.reader c.self.
     c.self.inside.parser.ended c.self.inside.log.bytes
 in_payload c =
     let inside = c.self.inside in
-    subst (λ (p : DcsState). HasFollowed p inside.parser.decoder inside.parser.ended inside.log.bytes)
+    subst
+    (λ (p : DcsState). HasFollowed p inside.parser.decoder inside.parser.ended inside.log.bytes)
     c.in-Payload.is c.self.invariant
 
 -- and its end has come

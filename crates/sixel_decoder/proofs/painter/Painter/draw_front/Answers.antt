@@ -39,7 +39,8 @@ returns-then-self-len-clause-draws c = λ o h shows.
     old.width_fits old.height_fits old.area_fits grown.grown drawn.drawn drawn.reached
     (omega (arith, grown.paints, drawn.least))
     (omega (arith, grown.paints, grown.spread, drawn.most, drawn.spread, long))
-    refl refl refl (ap (λ (n : ℕ). old.across + n) (sym long)) refl refl refl refl refl refl refl refl
+    refl refl refl (ap (λ (n : ℕ). old.across + n) (sym long)) refl refl refl refl refl refl refl
+    refl
 
 pub returns-in-Ok-clause-draws : goal.returns-in-Ok-clause-draws
 returns-in-Ok-clause-draws c = λ o h shows.

@@ -8,5 +8,7 @@ returns c = λ o h before shows is.
     let four : length wide.color ≡ 4 = search rules in
     let drawn = c.draw.ensures in
     draws_unless c.draw.result o _ _ _ _ _ drawn.drawn drawn.grown drawn.least drawn.error
-    (λ shown reached least. Shows-drawn o h before wide _ c.args.bits c.args.right shows is c.requires.right four wide.span_fits wide.area_fits
-    shown reached least drawn.most drawn.spread refl refl refl refl refl refl refl refl refl refl refl refl)
+    (λ shown reached least. Shows-drawn o h before wide _ c.args.bits c.args.right shows is
+    c.requires.right four wide.span_fits wide.area_fits
+    shown reached least drawn.most drawn.spread refl refl refl refl refl refl refl refl refl refl
+    refl refl)

@@ -14,27 +14,45 @@ use Rattle.sixel_canvas.specs.inside.Canvas.{shown}
 use Rattle.sixel_decoder.proofs.painter.Painter.pack.Goals as goal
 
 -- no image is higher than its painter's picture
-low : (painter : Painter) (height : ℕ) → height ≡ (if painter.raster_crop && nat_lt 0 painter.raster_height then painter.raster_height else painter.height)
+low : (painter : Painter) (height : ℕ)
+    → height
+    ≡ (if painter.raster_crop && nat_lt 0 painter.raster_height then painter.raster_height
+    else painter.height)
     → height ≤ painter.height
 low painter height is =
-    (elim (painter.raster_crop && nat_lt 0 painter.raster_height) as (λ t. height ≡ cond t painter.raster_height painter.height → height ≤ painter.height) [
+    (elim (painter.raster_crop && nat_lt 0 painter.raster_height) as
+    (λ t. height ≡ cond t painter.raster_height painter.height → height ≤ painter.height) [
       | true ↦ λ cropped. omega (arith, cropped, painter.raster_fits)
       | false ↦ λ whole. omega (arith, whole)
     ]) is
 
 -- pictures of equal pixels
-picture-same : (f g : ℕ → ℕ → List ℕ) (width height : ℕ) → ((column row : ℕ) → f column row ≡ g column row) → picture f width height ≡ picture g width height
+picture-same : (f g : ℕ → ℕ → List ℕ) (width height : ℕ)
+    → ((column row : ℕ) → f column row ≡ g column row)
+    → picture f width height ≡ picture g width height
 unfolding picture
 picture-same f g width height same =
-    joined-same (λ row. joined (λ column. f column row) width) (λ row. joined (λ column. g column row) width) height
-    (λ row _. joined-same (λ column. f column row) (λ column. g column row) width (λ column _. same column row))
+    joined-same (λ row. joined (λ column. f column row) width)
+    (λ row. joined (λ column. g column row) width)
+    height
+    (λ row _.
+    joined-same (λ column. f column row) (λ column. g column row) width
+    (λ column _. same column row))
 
 -- the image of these parts
 abbrev image_from : List ℕ → ℕ → ℕ → PixelAspectRatio → BackgroundMode → Image
-image_from pixels width height ratio mode = record { pixels = pixels; width = width; height = height; aspect_ratio = ratio; background_mode = mode }
+image_from pixels width height ratio mode = record {
+  pixels = pixels;
+  width = width;
+  height = height;
+  aspect_ratio = ratio;
+  background_mode = mode;
+}
 
 -- images of equal parts
-image_of-parts : (pixels pixels' : List ℕ) (width width' height height' : ℕ) (ratio ratio' : PixelAspectRatio) (mode mode' : BackgroundMode) → pixels ≡ pixels' → width ≡ width' → height ≡ height' → ratio ≡ ratio' → mode ≡ mode'
+image_of-parts : (pixels pixels' : List ℕ) (width width' height height' : ℕ)
+    (ratio ratio' : PixelAspectRatio) (mode mode' : BackgroundMode) → pixels ≡ pixels'
+    → width ≡ width' → height ≡ height' → ratio ≡ ratio' → mode ≡ mode'
     → image_from pixels width height ratio mode ≡ image_from pixels' width' height' ratio' mode'
 image_of-parts pixels pixels' width width' height height' ratio ratio' mode mode' a b c d e = cc
 
@@ -42,17 +60,27 @@ pub returns-in-Ok : goal.returns-in-Ok
 returns-in-Ok c = λ o h shows.
     let painter = c.args.self.now in
     let height = c.image_height-height.result in
-    let tall : height ≡ image_height o.raster_crop h = c.image_height-height.ensures ∙ rw (shows.crop, shows.raster_height, shows.height) refl in
+    let tall : height ≡ image_height o.raster_crop h =
+    c.image_height-height.ensures ∙ rw (shows.crop, shows.raster_height, shows.height) refl in
     let pixels =
     c.in-Ok.ensures.ok
     ∙ picture-same (shown painter.canvas) (pixel o h) painter.width height shows.pixels
     ∙ ap (λ w. picture (pixel o h) w height) shows.width
     ∙ ap (picture (pixel o h) (width h)) tall in (
       shows.faultless,
-      image_of-parts c.in-Ok.pixels.items (picture (pixel o h) (width h) (image_height o.raster_crop h)) painter.width (width h) height (image_height o.raster_crop h)
-          painter.ratio (ratio (ratio_of o.settings) h) c.background_mode.result (mode_of o.settings) pixels shows.width tall shows.ratio (c.background_mode.ensures ∙ ap mode_of shows.settings),
+      image_of-parts c.in-Ok.pixels.items
+          (picture (pixel o h) (width h) (image_height o.raster_crop h)) painter.width (width h)
+          height (image_height o.raster_crop h)
+          painter.ratio (ratio (ratio_of o.settings) h) c.background_mode.result
+          (mode_of o.settings) pixels shows.width tall shows.ratio
+          (c.background_mode.ensures ∙ ap mode_of shows.settings),
       shows.registers,
-      omega (arith, mul-le-mul_left painter.width (low painter height c.image_height-height.ensures), painter.area_fits, shows.limit),
+      omega (
+        arith,
+        mul-le-mul_left painter.width (low painter height c.image_height-height.ensures),
+        painter.area_fits,
+        shows.limit,
+      ),
     )
 
 pub returns-in-Err : goal.returns-in-Err

@@ -5,7 +5,8 @@ use Rattle.sixel_decoder.proofs.painter.Painter.select.Goals as goal
 
 pub returns-clause-shows : goal.returns-clause-shows
 returns-clause-shows c = λ o h text keeps shows.
-    let named : c.min-register.result ≡ named_by text = grind (arith, keeps.valued 0 (omega arith)) in
+    let named : c.min-register.result ≡ named_by text =
+    grind (arith, keeps.valued 0 (omega arith)) in
     let defined : c.define.new.registers ≡ registers o.registers (Color text ∷ h) =
     rw (← named, ← shows.registers) (c.define.ensures text keeps) in
     record {
@@ -14,7 +15,9 @@ returns-clause-shows c = λ o h text keeps shows.
       paid = shows.paid;
       least = shows.least;
       registers = defined;
-      color = c.opaque-self.ensures ∙ ap (λ w. w ++ 255 ∷ []) (c.get-2.ensures.color ∙ rw (defined, named) refl);
+      color =
+          c.opaque-self.ensures
+          ∙ ap (λ w. w ++ 255 ∷ []) (c.get-2.ensures.color ∙ rw (defined, named) refl);
       span = shows.span;
       across = shows.across;
       down = shows.down;

@@ -7,8 +7,10 @@ pub returns-in-Ok : goal.returns-in-Ok
 returns-in-Ok c = λ o h text keeps shows.
     let is = c.in-Ok.ensures in
     let new = c.extend.new.self in
-    let wide : c.get-wide.result ≡ field text 2 = c.get-wide.ensures ∙ keeps.valued 2 (omega arith) in
-    let high : c.get-high.result ≡ field text 3 = c.get-high.ensures ∙ keeps.valued 3 (omega arith) in
+    let wide : c.get-wide.result ≡ field text 2 =
+    c.get-wide.ensures ∙ keeps.valued 2 (omega arith) in
+    let high : c.get-high.result ≡ field text 3 =
+    c.get-high.ensures ∙ keeps.valued 3 (omega arith) in
     record {
       pixels = λ column row. rw is.canvas (shows.pixels column row);
       reached = λ row. rw is.canvas (shows.reached row);
@@ -21,8 +23,12 @@ returns-in-Ok c = λ o h text keeps shows.
       down = is.down ∙ shows.down;
       width = is.width ∙ rw (shows.width, wide) refl;
       height = is.height ∙ rw (shows.height, high) refl;
-      raster_height = c.last_height-self.ensures ∙ rw (high, is.raster_height, shows.raster_height) refl;
-      ratio = c.shape-self.ensures text keeps ∙ rw (c.pixel_aspect_ratio.ensures, is.settings, is.ratio, shows.settings, shows.ratio) refl;
+      raster_height =
+          c.last_height-self.ensures ∙ rw (high, is.raster_height, shows.raster_height) refl;
+      ratio =
+          c.shape-self.ensures text keeps
+          ∙ rw (c.pixel_aspect_ratio.ensures, is.settings, is.ratio, shows.settings, shows.ratio)
+          refl;
       settings = is.settings ∙ shows.settings;
       crop = is.crop ∙ shows.crop;
       limit = is.limit ∙ shows.limit;
@@ -31,5 +37,6 @@ returns-in-Ok c = λ o h text keeps shows.
 
 pub returns-in-Err : goal.returns-in-Err
 returns-in-Err c = λ o h text keeps shows.
-    refused_raster c.in-Err.error o c.args.self.now h text _ _ shows (c.get-wide.ensures ∙ keeps.valued 2 (omega arith))
+    refused_raster c.in-Err.error o c.args.self.now h text _ _ shows
+    (c.get-wide.ensures ∙ keeps.valued 2 (omega arith))
     (c.get-high.ensures ∙ keeps.valued 3 (omega arith)) c.in-Err.ensures

@@ -10,11 +10,20 @@ returns-clause-stands c = λ o h shows.
     let n = c.at_front-digits.result.len in
     let parameters = c.at_front-digits.result.parameters in
     let kept = c.at_front-digits.ensures in
-    let new : PayloadParser = record { command = c.numbered-self.result; parameters = parameters; painter = c.args.self.now.painter } in
-    let le : n ≤ length (drop 1 bytes) = subst (λ (bs : List ℕ). n ≤ length bs) c.tail.ensures kept.within in
-    let are : (k : ℕ) → k < n → IsDigit (get_or (drop 1 bytes) k 0) = subst (λ (bs : List ℕ). (k : ℕ) → k < n → IsDigit (get_or bs k 0)) c.tail.ensures kept.digits in
-    let keeps : Keeps parameters (take n (drop 1 bytes)) = subst (λ (bs : List ℕ). Keeps parameters (take n bs)) c.tail.ensures kept.kept in
+    let new : PayloadParser = record {
+      command = c.numbered-self.result;
+      parameters = parameters;
+      painter = c.args.self.now.painter;
+    } in
+    let le : n ≤ length (drop 1 bytes) =
+    subst (λ (bs : List ℕ). n ≤ length bs) c.tail.ensures kept.within in
+    let are : (k : ℕ) → k < n → IsDigit (get_or (drop 1 bytes) k 0) =
+    subst (λ (bs : List ℕ). (k : ℕ) → k < n → IsDigit (get_or bs k 0)) c.tail.ensures kept.digits in
+    let keeps : Keeps parameters (take n (drop 1 bytes)) =
+    subst (λ (bs : List ℕ). Keeps parameters (take n bs)) c.tail.ensures kept.kept in
     elim c.requires.numbered [
-      | inl is ↦ Stands-repeat o new h bytes n c.requires.some le are keeps shows is (c.numbered-self.ensures.repeat is)
-      | inr is ↦ Stands-color o new h bytes n c.requires.some le are keeps shows is (c.numbered-self.ensures.color is)
+      | inl is ↦ Stands-repeat o new h bytes n c.requires.some le are keeps shows is
+          (c.numbered-self.ensures.repeat is)
+      | inr is ↦ Stands-color o new h bytes n c.requires.some le are keeps shows is
+          (c.numbered-self.ensures.color is)
     ]

@@ -1,4 +1,5 @@
-use Rattle.std.proofs.Common.{◌≡◌, ◌-◌, ◌∷◌, ℕ, List, true, false, get_or, inl, inr, ap, subst, sym, ◌∙◌, arith, length, length-drop}
+use Rattle.std.proofs.Common.{◌≡◌, ◌-◌, ◌∷◌, ℕ, List, true, false, get_or, inl, inr, ap, subst, sym}
+use Rattle.std.proofs.Common.{◌∙◌, arith, length, length-drop}
 use Rattle.std.specs.Prelude.{◌⊎◌}
 use Rattle.std.proofs.lemmas.Result.{err_from_is_err_and}
 use Rattle.sixel_base.specs.Fault.{Faults}
@@ -7,14 +8,19 @@ use Rattle.sixel_base.specs.Payload.{first_fault}
 use Rattle.sixel_base.specs.Bytes.{is_ignored, is_sixel, is_terminator}
 use Rattle.sixel_decoder.specs.declared.payload_parser.PayloadParser.{PayloadParser}
 use Rattle.sixel_decoder.specs.inside.Runs.{IsPrintable}
-use Rattle.sixel_decoder.proofs.ChunkReads.{feeds_refused, feeds_refused_end, feeds_refused_printable, feeds_terminated, feeds_whole}
-use Rattle.sixel_decoder.proofs.ChunkReads.{first_ahead, printable_from_sixel, reaches_ignored, reaches_pushed, reaches_read}
+use Rattle.sixel_decoder.proofs.ChunkReads.{feeds_refused, feeds_refused_end}
+use Rattle.sixel_decoder.proofs.ChunkReads.{feeds_refused_printable, feeds_terminated, feeds_whole}
+use Rattle.sixel_decoder.proofs.ChunkReads.{first_ahead, printable_from_sixel, reaches_ignored}
+use Rattle.sixel_decoder.proofs.ChunkReads.{reaches_pushed, reaches_read}
 use Rattle.sixel_decoder.proofs.ChunkReads.{reads_before, reads_whole, sixel_from_test, splits_at}
 use Rattle.sixel_decoder.proofs.ParserSteps.{refused_close}
 use Rattle.sixel_decoder.proofs.OpenCommands.{goes_on_numbered}
 use Rattle.sixel_decoder.proofs.SixelRuns.{Stands-run, goes_on_byte, refused_sixel}
 use Rattle.sixel_decoder.proofs.payload_parser.PayloadParser.read_chunk.Goals as goal
-use Rattle.sixel_decoder.proofs.payload_parser.PayloadParser.read_chunk.Goals.{then-not-is_ignored+in_ok-push, else-not-is_ignored}
+use Rattle.sixel_decoder.proofs.payload_parser.PayloadParser.read_chunk.Goals.{
+  then-not-is_ignored+in_ok-push,
+}
+use Rattle.sixel_decoder.proofs.payload_parser.PayloadParser.read_chunk.Goals.{else-not-is_ignored}
 
 -- a byte that opens a command with a number is printable
 numbered_printable : (byte : ℕ) → (byte ≡ 33) ⊎ (byte ≡ 35) → IsPrintable byte
@@ -55,8 +61,11 @@ returns-in_err-drawn c = λ o h stands.
     let test : is_sixel byte ≡ true = sym c.is_sixel.ensures ∙ c.if-is_sixel.true in
     let r = c.bytes.invariant.1 o h stands in
     let e = c.in_err-drawn.field-0.0 in
-    let refused = c.in_err-drawn.ensures.draws o r.now (c.in_ok-close.ensures.drawn o r.now r.stands) in
-    let p = err_from_is_err_and c.from_residual-in_err-drawn.result c.from_residual-in_err-drawn.ensures.1 in
+    let refused =
+    c.in_err-drawn.ensures.draws o r.now (c.in_ok-close.ensures.drawn o r.now r.stands) in
+    let p =
+    err_from_is_err_and c.from_residual-in_err-drawn.result
+    c.from_residual-in_err-drawn.ensures.1 in
     rw (p.1, p.2)
     (feeds_refused_printable _ o c.bytes.self h index piece c.bytes-test.true
     (printable_from_sixel byte test) r
@@ -76,13 +85,20 @@ bytes-preserved-then-is_sixel c =
       parameters = closed.parameters;
       painter = c.draw_front.new.self;
     } in (
-      omega (arith, is.within, c.bytes.invariant.0, ap length c.tail.ensures, length-drop c.bytes.index piece),
+      omega (
+        arith,
+        is.within,
+        c.bytes.invariant.0,
+        ap length c.tail.ensures,
+        length-drop c.bytes.index piece,
+      ),
       λ o h stands.
           let r = c.bytes.invariant.1 o h stands in
           let shows = is.draws o r.now (c.in_ok-close.ensures.drawn o r.now r.stands) in
           reaches_read o c.bytes.self new h c.bytes.index drawn piece rest c.tail.ensures
           (λ k lt. (omega (arith, is.sixels k lt), omega (arith, is.sixels k lt))) is.within r
-          (Stands-run o new r.now drawn rest c.in_ok-close.ensures.ground is.some is.within is.sixels shows),
+          (Stands-run o new r.now drawn rest c.in_ok-close.ensures.ground is.some is.within
+          is.sixels shows),
     )
 
 -- ---- a command with a number
@@ -104,7 +120,9 @@ returns-in_err-close-2 c = λ o h stands.
     let byte = get_or piece index 0 in
     let numbered = c.is_numbered.ensures.bytes c.if-is_numbered.true in
     let r = c.bytes.invariant.1 o h stands in
-    let p = err_from_is_err_and c.from_residual-in_err-close-2.result c.from_residual-in_err-close-2.ensures.1 in
+    let p =
+    err_from_is_err_and c.from_residual-in_err-close-2.result
+    c.from_residual-in_err-close-2.ensures.1 in
     rw (p.1, p.2)
     (feeds_refused_printable _ o c.bytes.self h index piece c.bytes-test.true
     (numbered_printable byte numbered) r
@@ -117,7 +135,13 @@ bytes-preserved-then-is_numbered c =
     let rest : List ℕ = c.tail-then-is_numbered.result.now in
     let read = c.open_numbered-read.result in
     let is = c.open_numbered-read.ensures in (
-      omega (arith, is.within, c.bytes.invariant.0, ap length c.tail-then-is_numbered.ensures, length-drop c.bytes.index piece),
+      omega (
+        arith,
+        is.within,
+        c.bytes.invariant.0,
+        ap length c.tail-then-is_numbered.ensures,
+        length-drop c.bytes.index piece,
+      ),
       λ o h stands.
           let r = c.bytes.invariant.1 o h stands in
           reaches_read o c.bytes.self c.open_numbered-read.new.self h c.bytes.index read piece rest
@@ -133,8 +157,12 @@ returns-in_err-close-3 c = λ o h stands.
     let index = c.bytes.index in
     let byte = get_or piece index 0 in
     let ends : is_terminator byte ≡ true = sym c.is_terminator.ensures ∙ c.if-is_terminator.true in
-    let read = reads_before o c.bytes.self h index piece byte (splits_at piece index c.bytes-test.true) ends (c.bytes.invariant.1 o h stands) in
-    let p = err_from_is_err_and c.from_residual-in_err-close-3.result c.from_residual-in_err-close-3.ensures.1 in
+    let read =
+    reads_before o c.bytes.self h index piece byte (splits_at piece index c.bytes-test.true) ends
+    (c.bytes.invariant.1 o h stands) in
+    let p =
+    err_from_is_err_and c.from_residual-in_err-close-3.result
+    c.from_residual-in_err-close-3.ensures.1 in
     rw (p.1, p.2)
     (feeds_refused_end _ o.pixel_limit h index piece c.bytes-test.true read.0
     (c.in_err-close-3.ensures.drawn o _ read.1))
@@ -145,7 +173,9 @@ returns-then-is_terminator c = λ o h stands.
     let index = c.bytes.index in
     let byte = get_or piece index 0 in
     let ends : is_terminator byte ≡ true = sym c.is_terminator.ensures ∙ c.if-is_terminator.true in
-    let read = reads_before o c.bytes.self h index piece byte (splits_at piece index c.bytes-test.true) ends (c.bytes.invariant.1 o h stands) in
+    let read =
+    reads_before o c.bytes.self h index piece byte (splits_at piece index c.bytes-test.true) ends
+    (c.bytes.invariant.1 o h stands) in
     feeds_terminated o _ h index piece c.bytes-test.true read.0 c.in_ok-close-3.ensures.ground
     (c.in_ok-close-3.ensures.drawn o _ read.1)
 
@@ -157,10 +187,14 @@ returns-in_err-push c = λ o h stands.
     let index = c.bytes.index in
     let byte = get_or piece index 0 in
     let r = c.bytes.invariant.1 o h stands in
-    let ends : is_terminator byte ≡ false = sym c.is_terminator.ensures ∙ c.if-is_terminator.false in
+    let ends : is_terminator byte ≡ false =
+    sym c.is_terminator.ensures ∙ c.if-is_terminator.false in
     let carries : is_ignored byte ≡ false = sym c.is_ignored.ensures ∙ c.if-not-is_ignored.true in
-    let p = err_from_is_err_and c.from_residual-in_err-push.result c.from_residual-in_err-push.ensures.1 in
-    rw (p.1, p.2) (feeds_refused _ o c.bytes.self h index piece byte (splits_at piece index c.bytes-test.true) ends carries r (c.in_err-push.ensures o r.now r.stands))
+    let p =
+    err_from_is_err_and c.from_residual-in_err-push.result c.from_residual-in_err-push.ensures.1 in
+    rw (p.1, p.2) (feeds_refused _ o c.bytes.self h index piece byte
+    (splits_at piece index c.bytes-test.true) ends carries r
+    (c.in_err-push.ensures o r.now r.stands))
 
 pub bytes-preserved : goal.bytes-preserved
 bytes-preserved c = (
@@ -171,13 +205,17 @@ bytes-preserved c = (
       let byte = get_or piece index 0 in
       let r = c.bytes.invariant.1 o h stands in
       let splits = splits_at piece index c.bytes-test.true in
-      let ends : is_terminator byte ≡ false = sym c.is_terminator.ensures ∙ c.if-is_terminator.false in
+      let ends : is_terminator byte ≡ false =
+      sym c.is_terminator.ensures ∙ c.if-is_terminator.false in
       elim c.if-not-is_ignored.branch [
         | then-not-is_ignored+in_ok-push w ↦
-            let carries : is_ignored byte ≡ false = sym c.is_ignored.ensures ∙ w.if-not-is_ignored.true in
-            reaches_pushed o c.bytes.self _ h index piece byte splits ends carries r (rw w.self-is (w.in_ok-push.ensures o r.now r.stands))
+            let carries : is_ignored byte ≡ false =
+            sym c.is_ignored.ensures ∙ w.if-not-is_ignored.true in
+            reaches_pushed o c.bytes.self _ h index piece byte splits ends carries r
+            (rw w.self-is (w.in_ok-push.ensures o r.now r.stands))
         | else-not-is_ignored w ↦
-            let ignored : is_ignored byte ≡ true = sym c.is_ignored.ensures ∙ w.if-not-is_ignored.false in
+            let ignored : is_ignored byte ≡ true =
+            sym c.is_ignored.ensures ∙ w.if-not-is_ignored.false in
             rw w.self-is (reaches_ignored o c.bytes.self h index piece byte splits ends ignored r)
       ],
 )
@@ -185,4 +223,5 @@ bytes-preserved c = (
 pub returns : goal.returns
 returns c = λ o h stands.
     feeds_whole o c.bytes.self h c.bytes.index c.args.chunk.now (omega (arith, c.bytes-test.false))
-    (reads_whole o c.bytes.self h c.bytes.index c.args.chunk.now (omega (arith, c.bytes-test.false)) (c.bytes.invariant.1 o h stands))
+    (reads_whole o c.bytes.self h c.bytes.index c.args.chunk.now (omega (arith, c.bytes-test.false))
+    (c.bytes.invariant.1 o h stands))

@@ -31,8 +31,10 @@ returns-clause-printable c = λ told. elim (c.is_numbered.ensures.bytes c.if-not
 
 pub returns-then-takes-clause-stands : goal.returns-then-takes-clause-stands
 returns-then-takes-clause-stands c = λ taken o h stands.
-    let goes : goes_on h c.args.byte ≡ true = sym (c.takes.ensures.takes o h stands) ∙ c.if-takes.true in
-    stands_goes_on c.args.self.now.command o h c.args.self.now c.push.new.self c.args.byte goes stands c.push.ensures
+    let goes : goes_on h c.args.byte ≡ true =
+    sym (c.takes.ensures.takes o h stands) ∙ c.if-takes.true in
+    stands_goes_on c.args.self.now.command o h c.args.self.now c.push.new.self c.args.byte goes
+    stands c.push.ensures
 
 pub returns-clause-stands : goal.returns-clause-stands
 returns-clause-stands c = grind arith

@@ -18,10 +18,14 @@ returns-clause-stands c = λ drawn o h stands.
     ] in
     let shows : Shows o now.painter h = elim c.match-self.branch [
       | in-Ground w ↦
-          let is : IsDrawn o old h = subst (λ (p : OpenCommand). StandsIn p o old h) w.in-Ground.is stands in
+          let is : IsDrawn o old h =
+          subst (λ (p : OpenCommand). StandsIn p o old h) w.in-Ground.is stands in
           rw w.self-is is.shows
       | in-InColor w ↦
-          let is : IsOpen Color o old h = subst (λ (p : OpenCommand). StandsIn p o old h) w.in-InColor.is stands in
-          rw w.self-is (subst (λ (k : History). Shows o w.select.new.self k) (sym is.newest) (w.select.ensures.shows o is.older is.text is.keeps is.shows))
+          let is : IsOpen Color o old h =
+          subst (λ (p : OpenCommand). StandsIn p o old h) w.in-InColor.is stands in
+          rw w.self-is (subst (λ (k : History). Shows o w.select.new.self k)
+          (sym is.newest) (w.select.ensures.shows o is.older is.text is.keeps is.shows))
     ] in
-    Stands-one o _ h (c.args.byte ∷ []) ground (omega arith) c.requires (c.draw_column.ensures o h shows)
+    Stands-one o _ h (c.args.byte ∷ []) ground (omega arith) c.requires
+    (c.draw_column.ensures o h shows)

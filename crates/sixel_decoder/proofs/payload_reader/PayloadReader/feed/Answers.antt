@@ -36,7 +36,8 @@ fed_by old new chunk fed was sound goes faultless origin bytes now =
       faultless = rw bytes faultless;
       sound = λ accepted. sound;
       over = λ t accepted some.
-          frame_over limit result old.bytes chunk (old.bytes ++ chunk) t some refl sound goes.0 goes.1 tt;
+          frame_over limit result old.bytes chunk (old.bytes ++ chunk) t some refl sound goes.0
+          goes.1 tt;
       consumed = rw bytes goes.0;
       within = omega (arith, goes.0, count-most old.bytes chunk);
       status = rw bytes goes.1;
@@ -55,7 +56,8 @@ invariant_of-self-in-Some-terminator c =
     let bytes : List ℕ = inside.log.bytes in
     let parser = c.in-Some.parser in
     let read : HasRead (Some parser) origin inside.terminator bytes =
-    subst (λ (w : Option PayloadParser). HasRead w origin inside.terminator bytes) c.in-Some.is c.self.invariant in
+    subst (λ (w : Option PayloadParser). HasRead w origin inside.terminator bytes)
+    c.in-Some.is c.self.invariant in
     let ended : HasRead (Some parser) origin (Some c.in-Some-terminator.byte) bytes =
     subst (λ (w : Option ℕ). HasRead (Some parser) origin w bytes) c.in-Some-terminator.is read in
     rw (c.extend.ensures, c.in-Some-terminator.is)
@@ -71,14 +73,16 @@ returns-in-Some-terminator c =
     let byte : ℕ = c.in-Some-terminator.byte in
     let fed : SixelFeedResult = record { consumed = 0; status = status_of (Some byte) } in
     let read : HasRead (Some parser) origin inside.terminator bytes =
-    subst (λ (w : Option PayloadParser). HasRead w origin inside.terminator bytes) c.in-Some.is c.self.invariant in
+    subst (λ (w : Option PayloadParser). HasRead w origin inside.terminator bytes)
+    c.in-Some.is c.self.invariant in
     let ended : HasRead (Some parser) origin (Some byte) bytes =
     subst (λ (w : Option ℕ). HasRead (Some parser) origin w bytes) c.in-Some-terminator.is read in
     let goes = ended_goes_on origin parser bytes chunk byte ended in
     let sound = read_sound inside.parser origin inside.terminator bytes c.self.invariant in
     let was : is_none inside.parser ≡ false = rw c.in-Some.is refl in
     rw (← c.self.view_is)
-    (fed_by (session_of inside) _ chunk fed was (sound was) (goes.0, goes.1) goes.3 refl c.extend.ensures refl)
+    (fed_by (session_of inside) _ chunk fed was (sound was) (goes.0, goes.1) goes.3 refl
+    c.extend.ensures refl)
 
 pub invariant_of-self-in-Ok : goal.invariant_of-self-in-Ok
 invariant_of-self-in-Ok c =
@@ -86,8 +90,11 @@ invariant_of-self-in-Ok c =
     let origin : Origin = (session_of inside).origin in
     let bytes : List ℕ = inside.log.bytes in
     let read : HasRead (Some c.in-Some.parser) origin inside.terminator bytes =
-    subst (λ (w : Option PayloadParser). HasRead w origin inside.terminator bytes) c.in-Some.is c.self.invariant in
-    let goes = open_goes_on (Ok c.in-Ok.fed) origin c.in-Some.parser c.feed.new.self inside.terminator bytes c.args.chunk.now
+    subst (λ (w : Option PayloadParser). HasRead w origin inside.terminator bytes)
+    c.in-Some.is c.self.invariant in
+    let goes =
+    open_goes_on (Ok c.in-Ok.fed) origin c.in-Some.parser c.feed.new.self inside.terminator bytes
+    c.args.chunk.now
     c.in-None.is read (c.in-Ok.ensures origin _) in
     let terminator = c.terminator-self-inside in
     let same = terminator_same terminator.result _ (sym terminator.ensures ∙ goes.1) in
@@ -99,13 +106,17 @@ returns-in-Ok c =
     let origin : Origin = (session_of inside).origin in
     let bytes : List ℕ = inside.log.bytes in
     let read : HasRead (Some c.in-Some.parser) origin inside.terminator bytes =
-    subst (λ (w : Option PayloadParser). HasRead w origin inside.terminator bytes) c.in-Some.is c.self.invariant in
-    let goes = open_goes_on (Ok c.in-Ok.fed) origin c.in-Some.parser c.feed.new.self inside.terminator bytes c.args.chunk.now
+    subst (λ (w : Option PayloadParser). HasRead w origin inside.terminator bytes)
+    c.in-Some.is c.self.invariant in
+    let goes =
+    open_goes_on (Ok c.in-Ok.fed) origin c.in-Some.parser c.feed.new.self inside.terminator bytes
+    c.args.chunk.now
     c.in-None.is read (c.in-Ok.ensures origin _) in
     let sound = read_sound inside.parser origin inside.terminator bytes c.self.invariant in
     let was : is_none inside.parser ≡ false = rw c.in-Some.is refl in
     rw (← c.self.view_is)
-    (fed_by (session_of inside) _ c.args.chunk.now c.in-Ok.fed was (sound was) (goes.0, goes.1) goes.3
+    (fed_by (session_of inside) _ c.args.chunk.now c.in-Ok.fed was (sound was) (goes.0, goes.1)
+    goes.3
     refl c.extend.ensures refl)
 
 pub returns-in-Err : goal.returns-in-Err
@@ -119,10 +130,12 @@ returns-in-Err c =
     let error : SixelError = c.in-Err.error in
     let fed : Result SixelFeedResult SixelError = Err error in
     let read : HasRead (Some c.in-Some.parser) origin inside.terminator bytes =
-    subst (λ (w : Option PayloadParser). HasRead w origin inside.terminator bytes) c.in-Some.is c.self.invariant in
+    subst (λ (w : Option PayloadParser). HasRead w origin inside.terminator bytes)
+    c.in-Some.is c.self.invariant in
     let grows : Bool = nat_lt (growths (settled bytes)) (growths (settled now)) in
     let told : Faults error grows (fed_fault limit now) =
-    open_goes_on fed origin c.in-Some.parser c.feed.new.self inside.terminator bytes chunk c.in-None.is read (c.in-Err.ensures origin _) in
+    open_goes_on fed origin c.in-Some.parser c.feed.new.self inside.terminator bytes chunk
+    c.in-None.is read (c.in-Err.ensures origin _) in
     let sound : is_none inside.parser ≡ false → fed_fault limit bytes ≡ None =
     read_sound inside.parser origin inside.terminator bytes c.self.invariant in
     record {

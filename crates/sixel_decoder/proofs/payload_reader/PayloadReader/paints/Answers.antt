@@ -14,7 +14,8 @@ returns c =
     let parser = c.in-Some.parser in
     let bytes : List ℕ = inside.log.bytes in
     let read : HasRead (Some parser) origin inside.terminator bytes =
-    subst (λ (w : Option PayloadParser). HasRead w origin inside.terminator bytes) c.in-Some.is c.self.invariant in
+    subst (λ (w : Option PayloadParser). HasRead w origin inside.terminator bytes)
+    c.in-Some.is c.self.invariant in
     let shows = shown_settled origin parser inside.terminator bytes read in
     rw (← c.self.view_is, c.in-Some.is, c.paints.ensures.value) (record {
       value = refl;

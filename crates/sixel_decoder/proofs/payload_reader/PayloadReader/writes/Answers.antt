@@ -14,9 +14,11 @@ returns-in-Some c =
     let parser = c.in-Some.parser in
     let bytes : List ℕ = inside.log.bytes in
     let read : HasRead (Some parser) origin inside.terminator bytes =
-    subst (λ (w : Option PayloadParser). HasRead w origin inside.terminator bytes) c.in-Some.is c.self.invariant in
+    subst (λ (w : Option PayloadParser). HasRead w origin inside.terminator bytes)
+    c.in-Some.is c.self.invariant in
     let shows = shown_settled origin parser inside.terminator bytes read in
-    let paid = canvas_paid parser.painter.canvas (settled bytes) c.writes.ensures.bounded shows.reached in
+    let paid =
+    canvas_paid parser.painter.canvas (settled bytes) c.writes.ensures.bounded shows.reached in
     rw (← c.self.view_is, c.in-Some.is, c.writes.ensures.value) (record {
       value = refl;
       at_least = λ accepted. paid.0;

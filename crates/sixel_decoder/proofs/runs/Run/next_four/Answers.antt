@@ -12,11 +12,18 @@ returns c =
     let left = length run - at in
     rw (
       bits_in_front bytes run at _ _ old.in_front old.are_sixels
-          (λ within. refl) (λ past. absurd (omega (arith, past, c.requires))) c.bits_if.ensures.sixel c.bits_if.ensures.other,
+          (λ within. refl) (λ past. absurd (omega (arith, past, c.requires)))
+          c.bits_if.ensures.sixel c.bits_if.ensures.other,
       bits_in_front bytes run (at + 1) _ _ old.in_front old.are_sixels
-          (λ within. lt-ltb 1 left (omega (arith, within))) (λ past. le-ltb 1 left (omega (arith, past))) c.bits_if-2.ensures.sixel c.bits_if-2.ensures.other,
+          (λ within. lt-ltb 1 left (omega (arith, within)))
+          (λ past. le-ltb 1 left (omega (arith, past)))
+          c.bits_if-2.ensures.sixel c.bits_if-2.ensures.other,
       bits_in_front bytes run (at + 2) _ _ old.in_front old.are_sixels
-          (λ within. lt-ltb 2 left (omega (arith, within))) (λ past. le-ltb 2 left (omega (arith, past))) c.bits_if-3.ensures.sixel c.bits_if-3.ensures.other,
+          (λ within. lt-ltb 2 left (omega (arith, within)))
+          (λ past. le-ltb 2 left (omega (arith, past)))
+          c.bits_if-3.ensures.sixel c.bits_if-3.ensures.other,
       bits_in_front bytes run (at + 3) _ _ old.in_front old.are_sixels
-          (λ within. lt-ltb 3 left (omega (arith, within))) (λ past. le-ltb 3 left (omega (arith, past))) c.bits_if-4.ensures.sixel c.bits_if-4.ensures.other,
+          (λ within. lt-ltb 3 left (omega (arith, within)))
+          (λ past. le-ltb 3 left (omega (arith, past)))
+          c.bits_if-4.ensures.sixel c.bits_if-4.ensures.other,
     ) (sym (four_at run at))

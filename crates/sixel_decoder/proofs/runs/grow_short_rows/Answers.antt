@@ -1,6 +1,6 @@
 use Rattle.std.proofs.lemmas.Result.{err_from_is_err_and}
 use Rattle.sixel_decoder.proofs.SixelRuns.{Holds-widened}
-use Rattle.sixel_decoder.proofs.runs.Run.grow_short_rows.Goals as goal
+use Rattle.sixel_decoder.proofs.runs.grow_short_rows.Goals as goal
 
 pub widen-requires-clause-within : goal.widen-requires-clause-within
 widen-requires-clause-within c = c.columns_of.ensures.few
@@ -28,8 +28,7 @@ returns-in_err-widen-clause-error c =
 pub returns-clause-grown : goal.returns-clause-grown
 returns-clause-grown c =
     let is = c.in_ok-widen.ensures in
-    let run = c.args.self.now in
-    Holds-widened c.args.canvas.now c.widen.new.self run.top run.column run.sixels.now
+    Holds-widened c.args.canvas.now c.widen.new.self c.args.top c.args.column c.args.run.now
     c.columns_of.result is.shown is.grown c.columns_of.ensures.value
 
 pub returns-clause-common : goal.returns-clause-common
