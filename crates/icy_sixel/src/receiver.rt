@@ -269,7 +269,8 @@ impl Default for SixelReceiver {
     ghost use Rattle.icy_sixel.specs.Receiver.{no_image};
     ghost use Rattle.sixel_base.specs.Decoder.{new_decoder};
 
-    ghost is_default = { λ receiver. receiver ≡ record { decoder = new_decoder; image = no_image } };
+    ghost is_default = { λ receiver.
+        receiver ≡ record { decoder = new_decoder; image = no_image } };
 
     fn default() -> Self {
         Self::new()

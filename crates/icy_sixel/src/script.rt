@@ -9,7 +9,8 @@ ghost use Rattle.sixel_base.specs.Color.{default_registers};
 ghost use Rattle.sixel_base.specs.Decoder.{limit_of};
 ghost use Rattle.sixel_base.specs.OneShot.{found, Payload};
 ghost use Rattle.icy_sixel.specs.Script.{AreOutcomes, IsOutcome};
-ghost use Rattle.icy_sixel.specs.Script.{IsDecoding, IsSessionOutcome, frame_meaning, string_meaning};
+ghost use Rattle.icy_sixel.specs.Script.{IsDecoding, IsSessionOutcome};
+ghost use Rattle.icy_sixel.specs.Script.{frame_meaning, string_meaning};
 
 mod session;
 
@@ -31,9 +32,9 @@ pub enum End {
 
 /// One thing to do with a decoder.
 ///
-/// The bytes of a payload or a DCS sequence are fed in chunks of the lengths in `cuts`. A length can
-/// be 0. A length past the end takes what is left, and what remains is the last chunk. After a status
-/// that ends the image no chunk is fed. The cuts have no effect on the outcome.
+/// The bytes of a payload or a DCS sequence are fed in chunks of the lengths in `cuts`. A length
+/// can be 0. A length past the end takes what is left, and what remains is the last chunk. After a
+/// status that ends the image no chunk is fed. The cuts have no effect on the outcome.
 #[derive(Clone, Copy)]
 pub enum Step<'a> {
     /// Resets the registers to those of a new decoder.
@@ -115,8 +116,8 @@ pub enum Outcome {
 /// ```
 ///
 /// A step that fails is an outcome too, and the next one starts from the decoder as it is. The only
-/// error is [`SixelError::OutOfMemory`]. It comes before the first step, because the list of outcomes
-/// is allocated first.
+/// error is [`SixelError::OutOfMemory`]. It comes before the first step, because the list of
+/// outcomes is allocated first.
 pub fn run(alloc: Global, decoder: &mut SixelDecoder, steps: &[Step<'_>]) -> Result<Vec<Outcome>>
     ensures outcomes { IfOk result (λ outcomes.
         AreOutcomes decoder.old steps.now outcomes.items decoder.new) }

@@ -1,9 +1,8 @@
-//! A filter over a terminal's stream, read from standard input: it passes the text on, and tells
-//! what each image in it is. What a multiplexer or a recorder of sessions starts from.
+//! A filter of a terminal's stream from standard input: it writes the text and a note of each image.
 //!
-//! `sixel_filter PIECE size` tells the size of each image, `sixel_filter PIECE colors COUNT` writes
-//! each anew in so many colors, and `sixel_filter PIECE refusals` leaves them out. Each tells why an
-//! image is refused. The input is read in pieces of up to `PIECE` bytes.
+//! `sixel_filter PIECE size` writes the size of each image, `sixel_filter PIECE colors COUNT`
+//! encodes each in so many colors, and `sixel_filter PIECE refusals` leaves them out. Each writes
+//! why an image is rejected. The input is read in chunks of up to `PIECE` bytes.
 #![tactic(auto)]
 
 mod engine;

@@ -5,7 +5,8 @@ ghost use Rattle.std.specs.Prelude.{false, not, ℕ, List, length, slice_index, 
 ghost use Rattle.sixel_base.specs.declared.error.SixelError.TheVariants.{OutOfMemory};
 ghost use Rattle.sixel_base.specs.Dcs.{Heading, stage, dcs_in_payload};
 ghost use Rattle.sixel_filter.specs.declared.filter.Place.TheVariants.{Text, Header};
-ghost use Rattle.sixel_filter.specs.inside.Standing.{IsSound, IsHeading, Starts, Leads, Writes, rank};
+ghost use Rattle.sixel_filter.specs.inside.Standing.{IsSound, IsHeading, Starts, Leads, Writes};
+ghost use Rattle.sixel_filter.specs.inside.Standing.{rank};
 
 use crate::filter::{DCS, ESC, Filter, Place};
 use icy_sixel::Result;
