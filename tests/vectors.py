@@ -27,7 +27,6 @@ def image_of(text):
     """The width, height, P1, P2 and pixels that a column spells."""
     size, ratio, mode, *runs = text.split(" ", 3)
     width, height = map(int, size.split("x"))
-    repeated = re.sub(r"(\d+)\*\(([^()]*)\)", lambda it: int(it[1]) * f"{it[2]} ", "".join(runs))
-    pairs = [it.split("*") for it in repeated.split()]
+    pairs = [it.split("*") for it in "".join(runs).split()]
     pixels = b"".join(int(count) * bytes.fromhex(color) for count, color in pairs)
     return width, height, RATIOS[ratio], MODES[mode], pixels

@@ -2,62 +2,54 @@
 
 ghost use Rattle.std.specs.Prelude.{◌<◌};
 
-use crate::image::size;
-use crate::notation::{bytes, equal, hexadecimal, number, numbers};
-use crate::session::{Form, Session, Start};
+use crate::notation::{bytes, numbers, rgba, size};
+use crate::session::{self, Form, Session};
 use anyhow::{Context, Result, bail, ensure};
+use icy_sixel::SixelStreamDecoder;
 use icy_sixel::canvas::{Row, fill_rgba_span};
 use icy_sixel::receiver::SixelReceiver;
 use std::alloc::Global;
 
 /// Checks a vector of `rows.tsv`.
-pub fn check_row(alloc: Global, [columns, pixels, capacities, writes]: [&str; 4]) -> Result<()> {
+pub fn write_row(alloc: Global, found: &mut String, columns: &[&str]) -> Result<()> {
     let mut row = Row::new(alloc, [0, 0, 0, 255]);
-    let mut counts = pixels
-        .split(' ')
-        .zip(capacities.split(' '))
-        .zip(writes.split(' '));
-    for word in columns.split(' ') {
-        let ((pixels, capacity), writes) = counts.next().context("too few counts")?;
-        row.reach(number(word)?.min(1_000_000))?;
+    for column in columns {
+        let (reached, _) = column.split_once(' ').context("no counts")?;
+        row.reach(reached.parse::<usize>()?.min(1_000_000))?;
         row.paint(0, row.len(), [255, 0, 0, 255]);
-        equal("pixels", &row.len(), &number(pixels)?)?;
-        equal("capacity", &row.room(), &number(capacity)?)?;
-        equal("writes", &row.writes(), &(number(writes)? as u64))?;
+        let (pixels, capacity, writes) = (row.len(), row.room(), row.writes());
+        write!(found, "\t{reached} {pixels} {capacity} {writes}")?;
     }
-    ensure!(counts.next().is_none(), "too many counts");
     Ok(())
 }
 
 /// Checks a vector of `spans.tsv`.
-pub fn check_span(alloc: Global, [lengths, offsets, color]: [&str; 3]) -> Result<()> {
-    let color = hexadecimal(color)?;
+pub fn check_spans(alloc: Global, [lengths, offsets, color]: [&str; 3]) -> Result<()> {
     let (lengths, offsets) = (numbers(alloc, lengths)?, numbers(alloc, offsets)?);
     let ([first, last], [low, high]) = (lengths.as_slice(), offsets.as_slice()) else {
         bail!("no lengths and offsets");
     };
     for length in *first..=*last {
         for offset in *low..=*high {
-            check_fill(alloc, length, offset, color)?;
+            check_span(alloc, length, offset, rgba(color)?)?;
         }
     }
     Ok(())
 }
 
 /// Fills a span, and checks its bytes and those around it.
-fn check_fill(alloc: Global, length: usize, offset: usize, color: [u8; 4]) -> Result<()> {
+fn check_span(alloc: Global, length: usize, offset: usize, color: [u8; 4]) -> Result<()> {
     let end = offset.saturating_add(length);
     let mut bytes = vec![in alloc; 9_u8; end.saturating_add(3)]?;
     fill_rgba_span(&mut bytes[offset..end], color);
     for (index, byte) in bytes.iter().enumerate() {
-        let expected = match offset <= index && index < end {
-            true => color[index.saturating_sub(offset) % 4],
-            false => 9,
+        let is_inside = offset <= index && index < end;
+        let expected = if is_inside {
+            color[index.saturating_sub(offset) % 4]
+        } else {
+            9
         };
-        ensure!(
-            *byte == expected,
-            "byte {index} of {length} bytes at {offset}"
-        );
+        ensure!(*byte == expected, "byte {index} of {length}");
     }
     Ok(())
 }
@@ -73,46 +65,28 @@ struct Work {
 }
 
 /// Checks a vector of `writes.tsv`.
-pub fn check_writes(
-    alloc: Global,
-    [settings, before, payload, columns, dimensions]: [&str; 5],
-) -> Result<()> {
-    let start = Start::parse(settings)?;
+pub fn check_work(alloc: Global, columns: [&str; 5]) -> Result<()> {
+    let [settings, before, payload, columns, dimensions] = columns;
+    let (form, mut decoder) = session::settings(settings)?;
     let work = Work {
         before: bytes(alloc, before)?,
         payload: bytes(alloc, payload)?,
         columns: if columns == "each" {
             None
         } else {
-            Some(number(columns)?)
+            Some(columns.parse::<usize>()?)
         },
         size: size(dimensions)?,
     };
-    let mut decoder = start.decoder.clone()?;
-    let mut receiver = SixelReceiver::new();
+    let mut receiver = SixelReceiver::with_decoder(decoder.clone()?);
     for length in [1, 7, 4096] {
-        work.check(Session::begin(alloc, &mut decoder, start.form)?, length)?;
-        work.check(Session::receive(alloc, &mut receiver, start.form), length)?;
+        work.check(Session::begin(alloc, &mut decoder, form)?, length)?;
+        work.check(Session::receive(alloc, &mut receiver, form), length)?;
     }
-    check_counted(alloc, &start, &work.payload)
-}
-
-/// Checks that `finish_counted` of a payload adds the packed pixels to the writes.
-fn check_counted(alloc: Global, start: &Start, payload: &[u8]) -> Result<()> {
-    let Form::Payload(settings) = start.form else {
-        return Ok(());
-    };
-    let mut decoder = start.decoder.clone()?;
-    let mut session = decoder.begin_frame(alloc, settings)?;
-    session.feed(payload)?;
-    let writes = session.canvas_writes();
-    let (image, counted) = session.finish_counted()?;
-    let packed = (image.pixels.len() / 4) as u64;
-    equal(
-        "counted writes",
-        &counted.checked_sub(writes),
-        &Some(packed),
-    )
+    match form {
+        Form::Payload(settings) => work.check_counted(decoder.begin_frame(alloc, settings)?),
+        Form::Dcs => Ok(()),
+    }
 }
 
 impl Work {
@@ -121,7 +95,7 @@ impl Work {
         requires { 0 < length }
     {
         session.feed(&self.before)?;
-        equal("work before the payload", &session.work(), &(0, 0))?;
+        ensure!(session.work() == (0, 0), "work before the payload");
         let (mut fed, mut sixels) = (0_usize, 0_u64);
         for chunk in self.payload.chunks(length) {
             session.feed(chunk)?;
@@ -133,14 +107,22 @@ impl Work {
             let most = (self.columns.unwrap_or(fed) as u64).saturating_mul(18);
             let is_bounded = self.columns.is_none() || fed == self.payload.len();
             let least = if is_bounded { most / 3 } else { 0 };
-            ensure!(
-                least <= writes && writes <= most,
-                "{writes} writes at byte {fed}"
-            );
+            ensure!((least..=most).contains(&writes), "{writes} writes");
             let most_paints = most.saturating_add(sixels.saturating_mul(4602));
-            ensure!(paints <= most_paints, "{paints} paints at byte {fed}");
+            ensure!(paints <= most_paints, "{paints} paints");
         }
         session.feed(b"\x9c")?;
-        equal("size", &session.finish()?.dimensions(), &self.size)
+        ensure!(session.finish()?.dimensions() == self.size, "size");
+        Ok(())
+    }
+
+    /// Checks that `finish_counted` adds the image's pixels to the writes.
+    fn check_counted(&self, mut session: SixelStreamDecoder<'_>) -> Result<()> {
+        session.feed(&self.payload)?;
+        let writes = session.canvas_writes();
+        let (image, counted) = session.finish_counted()?;
+        let packed = (image.pixels.len() / 4) as u64;
+        ensure!(counted.checked_sub(writes) == Some(packed), "counted");
+        Ok(())
     }
 }

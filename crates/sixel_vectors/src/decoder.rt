@@ -1,124 +1,135 @@
-//! Vectors of `images.tsv`, `strings.tsv`, `settings.tsv` and `registers.tsv`.
+//! Vectors of `images.tsv`, `strings.tsv`, `controls.tsv`, `beginnings.tsv` and `aborts.tsv`.
 
-use crate::image::{Outcome, mode, ratio};
-use crate::notation::{bytes, equal, hexadecimal, number, small_number};
-use crate::plan::Plan;
-use crate::session::{Form, Start, check_decoder};
-use anyhow::{Context, Result, bail};
-use icy_sixel::{
-    BackgroundMode, DcsSettings, PixelAspectRatio, SixelDecoder, SixelImage, sixel_decode,
-    sixel_decode_from_dcs,
-};
+use crate::chunks::Input;
+use crate::notation::{Outcome, bytes, push_outcome};
+use crate::session::{Form, Session, check_decoder};
+use anyhow::{Result, ensure};
+use icy_sixel::receiver::SixelReceiver;
+use icy_sixel::{SixelDecoder, SixelImage, sixel_decode, sixel_decode_from_dcs};
 use std::alloc::Global;
 
 /// Checks a vector of `images.tsv`.
-pub fn check_image(alloc: Global, [settings, text, outcome]: [&str; 3]) -> Result<()> {
-    let start = Start::parse(settings)?;
-    let (text, outcome) = (bytes(alloc, text)?, Outcome::parse(alloc, outcome)?);
-    let (decoded, after) = start.decode(alloc, &text)?;
-    outcome.check_same(&decoded)?;
-    decoded.check_clone(alloc)?;
-    check_copy(&start, &after)?;
-    check_calls(alloc, &start, &text, &outcome)?;
-    check_payload(alloc, Plan::new(&start, &text, &outcome, &after))
+pub fn write_image(alloc: Global, found: &mut String, settings: &str, text: &str) -> Result<()> {
+    let input = Input::parse(alloc, settings, text)?;
+    if let Form::Payload(_) = input.form {
+        write_whole(alloc, found, &input)?;
+    } else {
+        input.decode(alloc, found)?;
+    }
+    match check_decoder(&input.start, &SixelDecoder::new()) {
+        Ok(()) => check_calls(alloc, found, &input),
+        Err(_) => Ok(()),
+    }
 }
 
-/// Checks a copy of a decoder, and that it keeps crop and pixel limit where its palette is reset.
-fn check_copy(start: &Start, after: &SixelDecoder) -> Result<()> {
-    let mut copy = after.clone()?;
-    check_decoder(&copy, after)?;
+/// Checks a payload or a whole DCS sequence, at once and in chunks, and the decoder after it.
+pub fn write_whole(alloc: Global, found: &mut String, input: &Input) -> Result<()> {
+    let (output, area) = input.check_whole(alloc, found)?;
+    input.check_chunks(alloc, area, &output)?;
+    let mut copy = output.after.clone()?;
+    check_decoder(&copy, &output.after)?;
     copy.reset_palette();
-    check_decoder(&copy, &start.decoder)
+    check_decoder(&copy, &input.start)
 }
 
-/// Checks the sessions of a payload.
-fn check_payload(alloc: Global, plan: Plan<'_>) -> Result<()> {
-    match plan.start.form {
-        Form::Payload(_) => plan.check_all(alloc),
-        Form::Dcs => Ok(()),
-    }
-}
-
-/// Checks the calls that make a decoder of their own, which has no crop and the greatest limit.
-fn check_calls(alloc: Global, start: &Start, bytes: &[u8], outcome: &Outcome) -> Result<()> {
-    if check_decoder(&start.decoder, &SixelDecoder::new()).is_err() {
-        return Ok(());
-    }
-    if let Form::Payload(settings) = start.form {
-        outcome.check(alloc, SixelImage::decode_from_dcs(alloc, bytes, settings))?;
-        return outcome.check(alloc, sixel_decode_from_dcs(alloc, bytes, settings));
+/// Checks the calls that make a decoder of their own.
+fn check_calls(alloc: Global, expected: &str, input: &Input) -> Result<()> {
+    let bytes = input.bytes.as_slice();
+    if let Form::Payload(settings) = input.form {
+        let outcome = SixelImage::decode_from_dcs(alloc, bytes, settings);
+        check_outcome(alloc, expected, &outcome)?;
+        let outcome = sixel_decode_from_dcs(alloc, bytes, settings);
+        return check_outcome(alloc, expected, &outcome);
     }
     if let Ok(text) = str::from_utf8(bytes) {
-        outcome.check(alloc, SixelImage::from_str(alloc, text))?;
+        check_outcome(alloc, expected, &SixelImage::from_str(alloc, text))?;
     }
-    outcome.check(alloc, SixelImage::decode(alloc, bytes))?;
-    outcome.check(alloc, sixel_decode(alloc, bytes))
+    check_outcome(alloc, expected, &SixelImage::decode(alloc, bytes))?;
+    check_outcome(alloc, expected, &sixel_decode(alloc, bytes))
+}
+
+/// Fails if an outcome is not the expected one; an image is cloned first.
+pub fn check_outcome(alloc: Global, expected: &str, outcome: &Outcome) -> Result<()> {
+    let mut found = String::new(alloc);
+    match outcome {
+        Ok(image) => push_outcome(&mut found, &image.clone(alloc))?,
+        Err(_) => push_outcome(&mut found, outcome)?,
+    }
+    ensure!(found.as_str() == expected, "{found}");
+    Ok(())
 }
 
 /// Checks a vector of `strings.tsv`.
-pub fn check_string(alloc: Global, [text, consumed, status, outcome]: [&str; 4]) -> Result<()> {
-    let start = Start::parse("dcs")?;
-    let (text, outcome) = (bytes(alloc, text)?, Outcome::parse(alloc, outcome)?);
-    let mut after = SixelDecoder::new();
-    if !matches!(status, "more" | "rejected") {
-        outcome.check(alloc, after.decode(alloc, &text))?;
+pub fn write_string(alloc: Global, found: &mut String, text: &str) -> Result<()> {
+    let input = Input::parse(alloc, "dcs", text)?;
+    let (output, mut decoded) = (input.feed(alloc)?, String::new(alloc));
+    let (decoder, area) = input.decode(alloc, &mut decoded)?;
+    if !output.is_rejected() && !output.text.contains(" more\t") {
+        ensure!(output.text.ends_with(decoded.as_str()), "at once{decoded}");
+        check_decoder(&decoder, &output.after)?;
     }
-    let plan = Plan::new(&start, &text, &outcome, &after).with_end(number(consumed)?, status);
-    plan.check_all(alloc)?;
-    plan.check_pairs(alloc)
+    input.check_chunks(alloc, area, &output)?;
+    input.check_pairs(alloc, &output)?;
+    Ok(found.push_str(&output.text)?)
 }
 
-/// Checks a vector of `settings.tsv`.
-pub fn check_setting(columns: &[&str]) -> Result<()> {
-    let (setting, values) = columns.split_first().context("no setting")?;
-    match (setting.split_once('='), values) {
-        (Some(("p1", p1)), [shown, pad, p1_written]) => {
-            let (p1, written) = (small_number(p1)?, small_number(p1_written)?);
-            let ratio = ratio(shown)?;
-            let settings = DcsSettings::new(Some(p1), None, None);
-            let with_ratio = DcsSettings::default().with_pixel_aspect_ratio(ratio);
-            equal("from_p1", &PixelAspectRatio::from_p1(p1), &ratio)?;
-            equal("ratio", &settings.pixel_aspect_ratio(), &ratio)?;
-            equal("pan", &ratio.pan(), &1)?;
-            equal("pad", &ratio.pad(), &small_number(pad)?)?;
-            equal("square", &ratio.is_square(), &(*pad == "1"))?;
-            equal(
-                "settings",
-                &with_ratio,
-                &DcsSettings::new(Some(written), None, None),
-            )
+/// Checks a vector of `controls.tsv`: each ignored control at every place.
+pub fn check_controls(alloc: Global, columns: [&str; 5]) -> Result<()> {
+    let [settings, before, inside, after, image] = columns;
+    let (before, after) = (bytes(alloc, before)?, bytes(alloc, after)?);
+    let mut input = Input::parse(alloc, settings, inside)?;
+    let inside = bytes(alloc, inside)?;
+    for place in 0..=inside.len() {
+        let (left, right) = inside.split_at(place);
+        for control in 0..=0x7f {
+            if matches!(control, 0..=0x17 | 0x19 | 0x1c..=0x1f | 0x7f) {
+                input.bytes = [&before, left, &[control], right, &after].concat(alloc)?;
+                let mut found = String::new(alloc);
+                input.check_whole(alloc, &mut found)?;
+                ensure!(found.trim_start() == image, "{control}:{found}");
+            }
         }
-        (Some(("p2", p2)), [shown, p2_written]) => {
-            let (p2, written) = (small_number(p2)?, small_number(p2_written)?);
-            let mode = mode(shown)?;
-            let settings = DcsSettings::new(None, Some(p2), None).with_grid_size(3);
-            let with_mode = settings.with_background_mode(mode);
-            equal("from_p2", &BackgroundMode::from_p2(p2), &mode)?;
-            equal("mode", &settings.background_mode(), &mode)?;
-            equal("transparent", &mode.is_transparent(), &(*p2_written == "1"))?;
-            equal(
-                "settings",
-                &with_mode,
-                &DcsSettings::new(None, Some(written), Some(3)),
-            )
-        }
-        (Some(("limit", pixels)), [kept]) => {
-            let mut decoder = SixelDecoder::default();
-            equal("new limit", &decoder.pixel_limit(), &67_108_864)?;
-            decoder.set_pixel_limit(number(pixels)?);
-            equal("limit", &decoder.pixel_limit(), &number(kept)?)
-        }
-        _ => bail!("no setting: {setting}"),
     }
+    Ok(())
 }
 
-/// Checks a vector of `registers.tsv`.
-pub fn check_register([register, color]: [&str; 2]) -> Result<()> {
-    let (register, color) = (small_number(register)?, hexadecimal(color)?);
-    let mut decoder = SixelDecoder::new();
-    equal("color", &decoder.register(register), &color)?;
-    decoder.set_register(register, [1, 2, 3]);
-    equal("color that is set", &decoder.register(register), &[1, 2, 3])?;
-    decoder.reset_palette();
-    equal("color that is reset", &decoder.register(register), &color)
+/// Checks a vector of `beginnings.tsv`: each beginning with each byte after it.
+pub fn check_beginnings(alloc: Global, [settings, text, after]: [&str; 3]) -> Result<()> {
+    let (text, after) = (bytes(alloc, text)?, bytes(alloc, after)?);
+    let mut input = Input::parse(alloc, settings, "")?;
+    for place in 0..=text.len() {
+        let (beginning, _) = text.split_at(place);
+        for byte in 0..=0xff {
+            input.bytes = [beginning, &[byte], &after].concat(alloc)?;
+            input.check_whole(alloc, &mut String::new(alloc))?;
+        }
+    }
+    Ok(())
+}
+
+/// Checks a vector of `aborts.tsv`: aborted images, and one that defines every register.
+pub fn check_aborts(alloc: Global, [settings, count, text]: [&str; 3]) -> Result<()> {
+    let (input, text) = (Input::parse(alloc, settings, text)?, bytes(alloc, text)?);
+    let mut decoder = input.start.clone()?;
+    let mut receiver = SixelReceiver::with_decoder(input.start.clone()?);
+    for _ in 0..count.parse::<usize>()? {
+        abort(Session::begin(alloc, &mut decoder, input.form)?, &text)?;
+        abort(Session::receive(alloc, &mut receiver, input.form), &text)?;
+    }
+    check_decoder(&decoder, &input.start)?;
+    check_decoder(receiver.decoder(), &input.start)?;
+    let (after, _) = input.decode(alloc, &mut String::new(alloc))?;
+    for register in 0..=255 {
+        let is_defined = after.register(register) != decoder.register(register);
+        ensure!(is_defined, "register {register} is not defined");
+    }
+    Ok(())
+}
+
+/// Feeds a session and aborts it.
+fn abort(mut session: Session<'_>, text: &[u8]) -> Result<()> {
+    let fed = session.feed(text);
+    session.abort();
+    fed?;
+    Ok(())
 }

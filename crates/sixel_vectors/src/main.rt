@@ -4,19 +4,17 @@
 //! line a vector that fails, and then ends with status 1.
 #![tactic(auto)]
 
+mod calls;
 mod canvas;
+mod chunks;
 mod decoder;
 mod encoder;
-mod image;
 mod notation;
-mod palette;
-mod plan;
-mod receiver;
 mod session;
+mod settings;
 mod steps;
-mod variations;
 
-use anyhow::{Result, bail};
+use anyhow::{Result, bail, ensure};
 use std::alloc::Global;
 use std::fs;
 use std::process::ExitCode;
@@ -57,29 +55,37 @@ fn check_file(rt: &HostRuntime, name: &str) -> Result<bool> {
     Ok(have_passed)
 }
 
-/// Checks one vector.
+/// Checks one vector: its calls return what its last columns say.
 fn check_line(alloc: Global, name: &str, line: &str) -> Result<()> {
     let columns: Vec<&str> = line.split('\t').collect(alloc)?;
-    let columns = columns.as_slice();
-    match name {
-        "images" => decoder::check_image(alloc, columns.try_into()?),
-        "strings" => decoder::check_string(alloc, columns.try_into()?),
-        "sessions" => session::check(alloc, columns),
-        "steps" => steps::check(alloc, columns),
-        "receivers" => receiver::check(alloc, columns),
-        "controls" => variations::check_controls(alloc, columns.try_into()?),
-        "beginnings" => variations::check_beginnings(alloc, columns.try_into()?),
-        "aborts" => variations::check_aborts(alloc, columns.try_into()?),
-        "writes" => canvas::check_writes(alloc, columns.try_into()?),
-        "texts" => encoder::check_text(alloc, columns.try_into()?),
-        "trips" => encoder::check_trip(alloc, columns.try_into()?),
-        "palettes" => palette::check_palette(alloc, columns.try_into()?),
-        "witnesses" => palette::check_witnesses(alloc, columns.try_into()?),
-        "sizes" => encoder::check_size(alloc, columns.try_into()?),
-        "settings" => decoder::check_setting(columns),
-        "registers" => decoder::check_register(columns.try_into()?),
-        "rows" => canvas::check_row(alloc, columns.try_into()?),
-        "spans" => canvas::check_span(alloc, columns.try_into()?),
-        _ => bail!("no such file"),
+    let mut found = String::new(alloc);
+    write_results(alloc, &mut found, name, &columns)?;
+    let line = format!(in alloc; "\t{line}")?;
+    ensure!(line.ends_with(found.as_str()), "{found}");
+    Ok(())
+}
+
+/// Makes the calls of a vector, and writes the last columns or checks them.
+fn write_results(alloc: Global, found: &mut String, name: &str, line: &[&str]) -> Result<()> {
+    match (name, line) {
+        ("images", [settings, text, _]) => decoder::write_image(alloc, found, settings, text),
+        ("strings", [text, _, _]) => decoder::write_string(alloc, found, text),
+        ("sessions", columns) => calls::write_session(alloc, found, columns),
+        ("steps", columns) => steps::write(alloc, found, columns),
+        ("receivers", columns) => calls::write_receiver(alloc, found, columns),
+        ("controls", columns) => decoder::check_controls(alloc, columns.try_into()?),
+        ("beginnings", columns) => decoder::check_beginnings(alloc, columns.try_into()?),
+        ("aborts", columns) => decoder::check_aborts(alloc, columns.try_into()?),
+        ("writes", columns) => canvas::check_work(alloc, columns.try_into()?),
+        ("texts", columns) => encoder::check_text(alloc, columns.try_into()?),
+        ("trips", [colors, image, _]) => encoder::write_trip(alloc, found, colors, image),
+        ("palettes", columns) => encoder::check_palette(alloc, columns.try_into()?),
+        ("witnesses", columns) => encoder::check_witnesses(alloc, columns.try_into()?),
+        ("sizes", columns) => encoder::check_size(alloc, columns.try_into()?),
+        ("settings", [setting, ..]) => settings::write_setting(found, setting),
+        ("registers", [register, _]) => settings::write_register(found, register),
+        ("rows", columns) => canvas::write_row(alloc, found, columns),
+        ("spans", columns) => canvas::check_spans(alloc, columns.try_into()?),
+        _ => bail!("no such vector"),
     }
 }

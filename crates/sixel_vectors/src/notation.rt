@@ -1,110 +1,179 @@
-//! The notation of numbers, bytes and lists.
+//! The notation that `data/README.md` defines: parsers, and results as columns after their tabs.
 
-use anyhow::{Context, Result, bail, ensure};
+use anyhow::{Context, Result, bail};
+use icy_sixel::script::Status;
+use icy_sixel::{
+    BackgroundMode, PixelAspectRatio, SixelDcsFeedStatus, SixelError, SixelFeedStatus, SixelImage,
+};
 use std::alloc::Global;
-use std::fmt::Debug;
 
-/// Fails if a value is not the expected one.
-pub fn equal<T: PartialEq + Debug>(what: &str, value: &T, expected: &T) -> Result<()> {
-    ensure!(value == expected, "{what} {value:?}");
-    Ok(())
+/// What decoding gives.
+pub type Outcome = icy_sixel::Result<SixelImage>;
+
+/// The four bytes that hexadecimal digits write.
+pub fn rgba(text: &str) -> Result<[u8; 4]> {
+    Ok(u32::from_str_radix(text, 16)?.to_be_bytes())
 }
 
-/// The number that decimal digits write.
-pub fn number(text: &str) -> Result<usize> {
-    let are_digits = text.bytes().all(|byte| byte.is_ascii_digit());
-    ensure!(are_digits, "no number: {text}");
-    text.parse::<usize>().context("no number")
-}
-
-/// The number of a register, a parameter or an index.
-pub fn small_number<T: TryFrom<usize>>(text: &str) -> Result<T>
-where
-    T::Error: Drop,
-{
-    match T::try_from(number(text)?) {
-        Ok(small) => Ok(small),
-        Err(_) => bail!("too large: {text}"),
-    }
-}
-
-/// The answer that a word writes.
-pub fn flag(text: &str) -> Result<bool> {
-    match text {
-        "yes" | "on" => Ok(true),
-        "no" | "off" => Ok(false),
-        _ => bail!("no answer: {text}"),
-    }
-}
-
-/// The bytes that hexadecimal digits write, two digits each.
-pub fn hexadecimal<const N: usize>(text: &str) -> Result<[u8; N]> {
-    let mut bytes = [0; N];
-    ensure!(text.len() / 2 == N, "not {N} bytes: {text}");
-    for (byte, digits) in bytes.iter_mut().zip(text.as_bytes().chunks(2)) {
-        match digits {
-            [high, low] => *byte = digit(*high)? << 4 | digit(*low)?,
-            _ => bail!("half a byte: {text}"),
-        }
-    }
-    Ok(bytes)
-}
-
-/// The value of a hexadecimal digit.
-fn digit(byte: u8) -> Result<u8> {
-    match byte {
-        b'0'..=b'9' => Ok(byte - b'0'),
-        b'a'..=b'f' => Ok(byte - b'a' + 10),
-        _ => bail!("no hexadecimal digit"),
-    }
+/// The color that six hexadecimal digits write.
+pub fn color(text: &str) -> Result<[u8; 3]> {
+    let [_, red, green, blue] = rgba(text)?;
+    Ok([red, green, blue])
 }
 
 /// The bytes of a column.
 pub fn bytes(alloc: Global, text: &str) -> Result<Vec<u8>> {
-    ensure!(!text.is_empty(), "an empty column");
     let mut bytes = Vec::new(alloc);
     for (index, part) in text.split('<').enumerate() {
-        let mut plain = part;
-        if index != 0 {
-            let (token, rest) = part.split_once('>').context("a token without an end")?;
-            push_token(&mut bytes, token)?;
-            plain = rest;
-        }
-        push_plain(&mut bytes, plain)?;
+        let (token, plain) = match index {
+            0 => ("", part),
+            _ => part.split_once('>').context("a token without an end")?,
+        };
+        push_token(&mut bytes, token)?;
+        bytes.extend_from_slice(plain.as_bytes())?;
     }
     Ok(bytes)
 }
 
-/// Adds printable characters.
-fn push_plain(bytes: &mut Vec<u8>, plain: &str) -> Result<()> {
-    let is_printable = plain.bytes().all(|byte| matches!(byte, 0x20..=0x7e));
-    ensure!(is_printable, "an unprintable character");
-    bytes.extend_from_slice(plain.as_bytes())?;
-    Ok(())
-}
-
 /// Adds the bytes of a token between `<` and `>`.
 fn push_token(bytes: &mut Vec<u8>, token: &str) -> Result<()> {
-    match token.split_once('*') {
-        Some((count, text)) => {
-            for _ in 0..number(count)? {
-                push_plain(bytes, text)?;
-            }
+    if let Some((count, text)) = token.split_once('*') {
+        for _ in 0..count.parse::<usize>()? {
+            bytes.extend_from_slice(text.as_bytes())?;
         }
-        None if token.is_empty() => {}
-        None => bytes.extend_from_slice(&hexadecimal::<1>(token)?)?,
+    } else if !token.is_empty() {
+        bytes.push(u8::from_str_radix(token, 16)?)?;
     }
     Ok(())
 }
 
 /// The numbers of a list.
 pub fn numbers(alloc: Global, text: &str) -> Result<Vec<usize>> {
-    let words = text.split(' ').filter(|word| *word != "none");
-    words.map(|word| number(word)).try_collect(alloc)
+    let mut numbers = Vec::new(alloc);
+    for word in text.split(' ').filter(|word| *word != "none") {
+        numbers.push(word.parse::<usize>()?)?;
+    }
+    Ok(numbers)
 }
 
 /// The colors of a list.
 pub fn colors(alloc: Global, text: &str) -> Result<Vec<[u8; 3]>> {
     let words = text.split(' ').filter(|word| *word != "none");
-    words.map(|word| hexadecimal(word)).try_collect(alloc)
+    words.map(|word| color(word)).try_collect(alloc)
+}
+
+/// The pixels of runs.
+pub fn pixels(alloc: Global, text: &str) -> Result<Vec<u8>> {
+    let mut pixels = Vec::new(alloc);
+    for run in text.split(' ').filter(|run| *run != "none") {
+        let (count, color) = run.split_once('*').context("no run")?;
+        let color = rgba(color)?;
+        for _ in 0..count.parse::<usize>()? {
+            pixels.extend_from_slice(&color)?;
+        }
+    }
+    Ok(pixels)
+}
+
+/// An image, whose count of pixels may differ from its size.
+pub fn image(alloc: Global, text: &str) -> Result<SixelImage> {
+    let (dimensions, rest) = text.split_once(' ').context("no ratio")?;
+    let (shape, rest) = rest.split_once(' ').context("no mode")?;
+    let (background, runs) = rest.split_once(' ').unwrap_or((rest, "none"));
+    let ((width, height), ratio) = (size(dimensions)?, ratio(shape)?);
+    let mode = BackgroundMode::from_p2(u16::from(background == "transparent"));
+    let image = SixelImage::from_rgba(pixels(alloc, runs)?, width, height);
+    Ok(image.with_aspect_ratio(ratio).with_background_mode(mode))
+}
+
+/// A size; `none` is that of no image.
+pub fn size(text: &str) -> Result<(usize, usize)> {
+    let (width, height) = text.split_once('x').unwrap_or(("0", "0"));
+    Ok((width.parse::<usize>()?, height.parse::<usize>()?))
+}
+
+/// A pixel aspect ratio.
+pub fn ratio(text: &str) -> Result<PixelAspectRatio> {
+    match text {
+        "1:1" => Ok(PixelAspectRatio::Square),
+        "2:1" => Ok(PixelAspectRatio::Ratio2To1),
+        "3:1" => Ok(PixelAspectRatio::Ratio3To1),
+        "5:1" => Ok(PixelAspectRatio::Ratio5To1),
+        _ => bail!("no ratio: {text}"),
+    }
+}
+
+/// The word of a status, and its byte.
+pub fn word(status: Status) -> (&'static str, Option<u8>) {
+    match status {
+        Status::Payload(SixelFeedStatus::NeedMoreData) => ("more", None),
+        Status::Payload(SixelFeedStatus::Terminated(byte)) => ("terminated", Some(byte)),
+        Status::Dcs(SixelDcsFeedStatus::NeedMoreData) => ("more", None),
+        Status::Dcs(SixelDcsFeedStatus::Complete) => ("complete", None),
+        Status::Dcs(SixelDcsFeedStatus::Cancelled(byte)) => ("cancelled", Some(byte)),
+        Status::Dcs(SixelDcsFeedStatus::Interrupted(byte)) => ("interrupted", Some(byte)),
+    }
+}
+
+/// Writes consumed bytes and a status.
+pub fn push_fed(found: &mut String, consumed: usize, status: Status) -> Result<()> {
+    match word(status) {
+        (word, None) => write!(found, "\t{consumed} {word}")?,
+        (word, Some(byte)) => write!(found, "\t{consumed} {word} {byte:02x}")?,
+    }
+    Ok(())
+}
+
+/// Writes an error.
+pub fn push_error(found: &mut String, error: &SixelError) -> Result<()> {
+    Ok(write!(found, "\terror: {error}")?)
+}
+
+/// Writes an image or an error.
+pub fn push_outcome(found: &mut String, outcome: &Outcome) -> Result<()> {
+    match outcome {
+        Ok(image) => push_image(found, image),
+        Err(error) => push_error(found, error),
+    }
+}
+
+/// The word of a background mode.
+pub fn mode_word(mode: BackgroundMode) -> &'static str {
+    match mode {
+        BackgroundMode::Opaque => "opaque",
+        BackgroundMode::Transparent => "transparent",
+    }
+}
+
+/// Writes an image.
+pub fn push_image(found: &mut String, image: &SixelImage) -> Result<()> {
+    let ((width, height), pad) = (image.dimensions(), image.aspect_ratio.pad());
+    let mode = mode_word(image.background_mode);
+    write!(found, "\t{width}x{height} {pad}:1 {mode}")?;
+    let (mut count, mut last) = (0_usize, [].as_slice());
+    for pixel in image.pixels.chunks(4) {
+        if pixel != last {
+            push_run(found, count, last)?;
+            (count, last) = (0, pixel);
+        }
+        count = count.saturating_add(1);
+    }
+    push_run(found, count, last)
+}
+
+/// Writes a run of pixels.
+fn push_run(found: &mut String, count: usize, pixel: &[u8]) -> Result<()> {
+    if count == 0 {
+        return Ok(());
+    }
+    write!(found, " {count}*")?;
+    push_hexadecimal(found, pixel)
+}
+
+/// Writes two digits a byte.
+pub fn push_hexadecimal(found: &mut String, bytes: &[u8]) -> Result<()> {
+    for byte in bytes {
+        write!(found, "{byte:02x}")?;
+    }
+    Ok(())
 }

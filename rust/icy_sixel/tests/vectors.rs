@@ -58,24 +58,13 @@ fn bytes(mut text: &str) -> Vec<u8> {
     bytes
 }
 
-/// The pixels of runs. One in parentheses is repeated as a whole.
+/// The pixels of runs.
 fn pixels(text: &str) -> Vec<u8> {
     let mut pixels = Vec::new();
-    let mut rest = if text == "none" { "" } else { text };
-    while !rest.is_empty() {
-        let (count, run) = rest.split_once('*').unwrap();
-        let (run, next) = match run.strip_prefix('(') {
-            Some(inner) => {
-                let (inner, next) = inner.split_once(')').unwrap();
-                (self::pixels(inner), next.trim_start())
-            }
-            None => {
-                let (color, next) = run.split_once(' ').unwrap_or((run, ""));
-                (u32::from_str_radix(color, 16).unwrap().to_be_bytes().to_vec(), next)
-            }
-        };
-        pixels.extend(run.repeat(count.parse().unwrap()));
-        rest = next;
+    for run in words(text) {
+        let (count, color) = run.split_once('*').unwrap();
+        let color = u32::from_str_radix(color, 16).unwrap().to_be_bytes();
+        pixels.extend(color.repeat(count.parse().unwrap()));
     }
     pixels
 }
@@ -127,7 +116,7 @@ fn outcome(text: &str) -> Outcome {
     let (width, height) = size(parts.next().unwrap());
     let ratio = ratio(parts.next().unwrap());
     let mode = mode(parts.next().unwrap());
-    let pixels = pixels(parts.next().unwrap_or(""));
+    let pixels = pixels(parts.next().unwrap_or("none"));
     let image = SixelImage::from_rgba(pixels, width, height);
     Ok(image.with_aspect_ratio(ratio).with_background_mode(mode))
 }
@@ -305,8 +294,9 @@ fn images() {
 fn strings() {
     each_vector("strings.tsv", |columns| {
         let input = Input::new("dcs", columns[0]);
-        let outcome = outcome(columns[3]);
-        let (word, byte) = columns[2].split_once(' ').unwrap_or((columns[2], "0"));
+        let outcome = outcome(columns[2]);
+        let (consumed, status) = columns[1].split_once(' ').unwrap();
+        let (word, byte) = status.split_once(' ').unwrap_or((status, "0"));
         let byte = u8::from_str_radix(byte, 16).unwrap();
         let status = match word {
             "more" => Some(Dcs::NeedMoreData),
@@ -319,7 +309,7 @@ fn strings() {
         let registers =
             if outcome.is_ok() { input.decode(&outcome) } else { registers(&input.decoder) };
         input.feed_in_chunks(&Expected {
-            consumed: columns[1].parse().unwrap(),
+            consumed: consumed.parse().unwrap(),
             status: status.map(Status::Dcs),
             can_be_rejected: status.is_none(),
             outcome,

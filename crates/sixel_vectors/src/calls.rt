@@ -1,0 +1,122 @@
+//! Vectors of `sessions.tsv` and `receivers.tsv`: calls and their results.
+
+use crate::notation::{bytes, color, push_error, push_fed, push_hexadecimal, push_outcome};
+use crate::session::{Session, check_decoder, settings};
+use anyhow::{Context, Result, bail, ensure};
+use icy_sixel::SixelError;
+use icy_sixel::receiver::{Received, SixelReceiver};
+use std::alloc::Global;
+
+/// Checks a vector of `sessions.tsv`, by a session that borrows its decoder and by a receiver.
+pub fn write_session(alloc: Global, found: &mut String, columns: &[&str]) -> Result<()> {
+    let (start, calls) = columns.split_first().context("no settings")?;
+    let (form, mut decoder) = settings(start)?;
+    let mut receiver = SixelReceiver::with_decoder(decoder.clone()?);
+    let mut received = String::new(alloc);
+    let session = Session::begin(alloc, &mut decoder, form)?;
+    let is_finished = run(alloc, found, session, calls)?;
+    let session = Session::receive(alloc, &mut receiver, form);
+    run(alloc, &mut received, session, calls)?;
+    ensure!(received == *found, "receiver: {received}");
+    check_decoder(receiver.decoder(), &decoder)?;
+    if is_finished {
+        return Ok(());
+    }
+    check_decoder(&decoder, &settings(start)?.1)
+}
+
+/// Feeds chunks, ends the session, writes the results and returns whether there is an image.
+fn run(
+    alloc: Global,
+    found: &mut String,
+    mut session: Session<'_>,
+    calls: &[&str],
+) -> Result<bool> {
+    for call in calls.chunks(2) {
+        match call {
+            [chunk, _] => {
+                write!(found, "\t{chunk}")?;
+                push_received(found, session.feed(&bytes(alloc, chunk)?))?;
+            }
+            ["aborted"] => {
+                session.abort();
+                found.push_str("\taborted")?;
+                return Ok(false);
+            }
+            _ => {
+                let outcome = session.finish();
+                push_outcome(found, &outcome)?;
+                return Ok(outcome.is_ok());
+            }
+        }
+    }
+    bail!("no end")
+}
+
+/// Writes the result of a feed.
+fn push_received(found: &mut String, fed: icy_sixel::Result<Received>) -> Result<()> {
+    match fed {
+        Ok(received) => push_fed(found, received.consumed, received.status),
+        Err(error) => push_error(found, &error),
+    }
+}
+
+/// Checks a vector of `receivers.tsv`.
+pub fn write_receiver(alloc: Global, found: &mut String, columns: &[&str]) -> Result<()> {
+    let mut receiver = SixelReceiver::with_decoder(SixelReceiver::default().into_decoder());
+    for pair in columns.chunks(2) {
+        let call = pair.first().context("no call")?;
+        write!(found, "\t{call}")?;
+        make(alloc, found, &mut receiver, call)?;
+    }
+    Ok(())
+}
+
+/// Makes a call and writes its result, which most calls do not have.
+fn make(alloc: Global, found: &mut String, receiver: &mut SixelReceiver, call: &str) -> Result<()> {
+    let (word, argument) = call.split_once(' ').unwrap_or((call, ""));
+    match word {
+        "feed" => return push_received(found, receiver.feed(&bytes(alloc, argument)?)),
+        "finish" => return push_outcome(found, &receiver.finish()),
+        "state" => return push_state(found, receiver),
+        "register" => {
+            let register = argument.parse::<u8>()?;
+            let color = receiver.register(register);
+            ensure!(receiver.decoder().register(register) == color, "decoder");
+            found.push('\t')?;
+            return push_hexadecimal(found, &color);
+        }
+        "begin" => {
+            let _session = Session::receive(alloc, receiver, settings(argument)?.0);
+        }
+        "abort" => receiver.abort(),
+        "reset" => receiver.reset_palette(),
+        "crop" => receiver.set_raster_crop(argument == "on"),
+        "limit" => receiver.set_pixel_limit(argument.parse::<usize>()?),
+        "set" => {
+            let (register, value) = argument.split_once(' ').context("no color")?;
+            receiver.set_register(register.parse::<u8>()?, color(value)?);
+        }
+        _ => bail!("no call"),
+    }
+    Ok(found.push('\t')?)
+}
+
+/// Writes whether an image is open, and its size so far.
+fn push_state(found: &mut String, receiver: &mut SixelReceiver) -> Result<()> {
+    let size = receiver.size_so_far();
+    ensure!(receiver.in_payload() == size.is_some(), "payload");
+    match (receiver.is_receiving(), size) {
+        (true, Some((width, height))) => write!(found, "\t{width}x{height}")?,
+        (true, None) => found.push_str("\theader")?,
+        (false, _) => {
+            let failed = Some(SixelError::InvalidData("stream decoder has failed"));
+            let work = (receiver.canvas_writes(), receiver.canvas_paints());
+            ensure!(size.is_none() && work == (0, 0), "size or work");
+            ensure!(receiver.feed(b"~").err() == failed, "feed");
+            ensure!(receiver.finish().err() == failed, "finish");
+            found.push_str("\tidle")?;
+        }
+    }
+    Ok(())
+}

@@ -1,0 +1,55 @@
+//! Vectors of `settings.tsv` and `registers.tsv`.
+
+use crate::notation::{mode_word, push_hexadecimal};
+use anyhow::{Context, Result, bail, ensure};
+use icy_sixel::{BackgroundMode, DcsSettings, PixelAspectRatio, SixelDecoder};
+
+/// Checks a vector of `settings.tsv`.
+pub fn write_setting(found: &mut String, setting: &str) -> Result<()> {
+    let (default, mut decoder) = (DcsSettings::default(), SixelDecoder::default());
+    match setting.split_once('=').context("no value")? {
+        ("p1", value) => {
+            let p1 = value.parse::<u16>()?;
+            let ratio = PixelAspectRatio::from_p1(p1);
+            let (pad, written) = (ratio.pad(), ratio.to_p1_value());
+            let settings = DcsSettings::new(Some(u16::from(written)), None, None);
+            let shown = DcsSettings::new(Some(p1), None, None).pixel_aspect_ratio();
+            ensure!(shown == ratio, "pixel_aspect_ratio");
+            ensure!(default.with_pixel_aspect_ratio(ratio) == settings, "with");
+            ensure!(ratio.is_square() == (pad == 1), "is_square");
+            ensure!(ratio.pan() == 1, "pan");
+            write!(found, "\t{pad}:1\t{pad}\t{written}")?;
+        }
+        ("p2", value) => {
+            let p2 = value.parse::<u16>()?;
+            let mode = BackgroundMode::from_p2(p2);
+            let written = mode.to_p2_value();
+            let settings = DcsSettings::new(None, Some(u16::from(written)), Some(3));
+            let shown = DcsSettings::new(None, Some(p2), None).background_mode();
+            ensure!(shown == mode, "background_mode");
+            let with_mode = default.with_grid_size(3).with_background_mode(mode);
+            ensure!(with_mode == settings, "with_background_mode");
+            ensure!(mode.is_transparent() == (written == 1), "is_transparent");
+            write!(found, "\t{}\t{written}", mode_word(mode))?;
+        }
+        ("limit", value) => {
+            ensure!(decoder.pixel_limit() == 67_108_864, "new limit");
+            decoder.set_pixel_limit(value.parse::<usize>()?);
+            write!(found, "\t{}", decoder.pixel_limit())?;
+        }
+        _ => bail!("no setting"),
+    }
+    Ok(())
+}
+
+/// Checks a vector of `registers.tsv`.
+pub fn write_register(found: &mut String, register: &str) -> Result<()> {
+    let (register, mut decoder) = (register.parse::<u8>()?, SixelDecoder::new());
+    let color = decoder.register(register);
+    decoder.set_register(register, [1, 2, 3]);
+    ensure!(decoder.register(register) == [1, 2, 3], "color that is set");
+    decoder.reset_palette();
+    ensure!(decoder.register(register) == color, "color that is reset");
+    found.push('\t')?;
+    push_hexadecimal(found, &color)
+}
