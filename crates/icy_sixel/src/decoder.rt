@@ -10,6 +10,7 @@ ghost use Rattle.std.specs.Prelude.{OnOk, OnErr, IfOk, IfErr};
 ghost use Rattle.sixel_base.specs.Color.{default_registers};
 ghost use Rattle.sixel_base.specs.Decoder.{IsSetAs, limit_of, new_decoder, origin_of};
 ghost use Rattle.sixel_base.specs.Fault.{Faults};
+ghost use Rattle.sixel_base.specs.Limits.{area_limit};
 ghost use Rattle.sixel_base.specs.Payload.{payload_fault, payload_image};
 ghost use Rattle.sixel_base.specs.Payload.{payload_registers, payload_wants};
 ghost use Rattle.icy_sixel.specs.ImageView.{image_value};
@@ -129,7 +130,7 @@ impl SixelDecoder {
     pub fn pixel_limit(&self) -> usize
         ensures value { result ≡ self.now.pixel_limit }
         ensures some { 1 ≤ result }
-        ensures within { result ≤ 67108864 }
+        ensures within { result ≤ area_limit }
     {
         self.state.pixel_limit.pixels()
     }

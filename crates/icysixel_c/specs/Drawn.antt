@@ -1,4 +1,5 @@
--- The image whose text C asks for: its rows as they lie in the caller's memory, the shape of a pixel and the background by P1 and P2.
+-- The image whose text C asks for: its rows as they lie in the caller's memory, the shape of a
+-- pixel and the background by P1 and P2.
 use Rattle.std.specs.Prelude.{ℕ, ◌*◌, ℤ, negsuc, List}
 use Rattle.sixel_base.specs.Payload.{Image}
 use Rattle.sixel_base.specs.Settings.{Settings, ratio_of, mode_of}

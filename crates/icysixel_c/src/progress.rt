@@ -1,6 +1,7 @@
 //! What C calls to ask how far the image has come that is open.
 
 ghost use Rattle.std.specs.Prelude.{◌≡◌, ◌≢◌, ◌+◌, ◌*◌, ◌≤◌, Some, None, ℕ, true, false, cond};
+ghost use Rattle.sixel_decoder.specs.Paints.{most_sixel_paints};
 ghost use Rattle.icy_sixel.specs.Receiver.{in_payload, is_open, reached_area, sixels};
 ghost use Rattle.icy_sixel.specs.Receiver.{size as size_of};
 ghost use Rattle.icysixel_c.specs.declared.state.State.{State};
@@ -75,7 +76,7 @@ pub extern "C" fn icysixel_canvas_paints(slot: &mut Slot) -> u64
         → result ≡ state.receiver.image.paints }
     ensures at_most { (state : State) → slot.old.handle.state ≡ Some state
         → result ≤ 3 * reached_area state.receiver.image.form state.receiver.image.bytes
-        + 4602 * sixels state.receiver.image.form state.receiver.image.bytes }
+        + most_sixel_paints * sixels state.receiver.image.form state.receiver.image.bytes }
     ensures refused { (state : State) → slot.old.handle.state ≡ Some state
         → state.receiver.image.is_refused ≡ true → result ≡ 0 }
 {

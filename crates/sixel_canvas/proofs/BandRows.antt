@@ -1,8 +1,12 @@
 -- The six rows of a band in one block of pixels: what a run, eight sixels and a greater width do to
 -- a pixel.
-use Rattle.std.proofs.Common.{◌≡◌, ℕ, zero, suc, ◌+◌, ◌-◌, ◌*◌, ◌<◌, ◌≤◌, Bool, true, false, List, [], ◌∷◌, ◌++◌, length, get_or, take, drop, replicate, refl, sym, ap, ◌∙◌, inl, inr, eq-eqb, length-append, length-take, get_or-take, get_or-drop, take_all, arith}
+use Rattle.std.proofs.Common.{◌≡◌, ℕ, zero, suc, ◌+◌, ◌-◌, ◌*◌, ◌<◌, ◌≤◌, Bool, true, false, List}
+use Rattle.std.proofs.Common.{[], ◌∷◌, ◌++◌, length, get_or, take, drop, replicate, refl, sym, ap}
+use Rattle.std.proofs.Common.{◌∙◌, inl, inr, eq-eqb, length-append, length-take, get_or-take}
+use Rattle.std.proofs.Common.{get_or-drop, take_all, arith}
 use Rattle.std.specs.Prelude.{nat_le, nat_lt, ◌==◌, ◌&&◌, ◌||◌, if◌then◌else◌}
-use Rattle.std.proofs.lemmas.Bool.{cases_lt, cases_order, lt-ltb, le-ltb, lt-leb, le-leb, ne_eqb, eqb-true, leb-true, true≢false}
+use Rattle.std.proofs.lemmas.Bool.{cases_lt, cases_order, lt-ltb, le-ltb, lt-leb, le-leb, ne_eqb}
+use Rattle.std.proofs.lemmas.Bool.{eqb-true, leb-true, true≢false}
 use Rattle.std.proofs.lemmas.Nat.{row_fits}
 use Rattle.std.proofs.lemmas.List.{get_or_append_left, get_or-append_right, get_or_past}
 use Rattle.sixel_base.specs.Picture.{covers, is_set, is_struck}
@@ -18,16 +22,30 @@ ltb_shift c a b = grind arith
 -- a place lies between two columns of a row just where its row is that one, and its column is
 -- between them
 pub within_row : (wide from to bit column k : ℕ) → column < wide → from ≤ to → to ≤ wide →
-    (nat_le (bit * wide + from) (k * wide + column) && nat_lt (k * wide + column) (bit * wide + to)) ≡ (k == bit && (nat_le from column && nat_lt column to))
+    (nat_le (bit * wide + from) (k * wide + column) && nat_lt (k * wide + column) (bit * wide + to))
+    ≡ (k == bit && (nat_le from column && nat_lt column to))
 within_row wide from to bit column k inside order within =
     elim (cases_order k bit) [
-      | inl same ↦ rw (same, eq-eqb bit bit refl, leb_shift (bit * wide) from column, ltb_shift (bit * wide) column to) refl
+      | inl same ↦ rw (
+        same,
+        eq-eqb bit bit refl,
+        leb_shift (bit * wide) from column,
+        ltb_shift (bit * wide) column to,
+      ) refl
       | inr (inl above) ↦
           let row = row_fits k wide bit wide above (omega arith) in
-          rw (lt-leb (bit * wide + from) (k * wide + column) (omega (arith, row, inside)), ne_eqb k bit (λ e. omega (arith, e, above))) refl
+          rw (
+            lt-leb (bit * wide + from) (k * wide + column) (omega (arith, row, inside)),
+            ne_eqb k bit (λ e. omega (arith, e, above)),
+          ) refl
       | inr (inr below) ↦
           let row = row_fits bit wide k wide below (omega arith) in
-          rw (le-leb (bit * wide + from) (k * wide + column) (omega (arith, row, inside, order, within)), le-ltb (k * wide + column) (bit * wide + to) (omega (arith, row, within)), ne_eqb k bit (λ e. omega (arith, e, below))) refl
+          rw (
+            le-leb (bit * wide + from) (k * wide + column)
+                (omega (arith, row, inside, order, within)),
+            le-ltb (k * wide + column) (bit * wide + to) (omega (arith, row, within)),
+            ne_eqb k bit (λ e. omega (arith, e, below)),
+          ) refl
     ]
 
 -- what was drawn on the rows above one, and then on it
@@ -59,14 +77,24 @@ struck_here : (bits bit k : ℕ) → k < 6 → is_set bits bit ≡ true → (k =
 struck_here bits bit k six hit here = grind (arith, hit, eqb-true k bit here)
 
 -- one row of a sixel more
-pub struck_more : (px mid new : List (List ℕ)) (wide from to bits bit : ℕ) (color d : List ℕ) (column k : ℕ) →
+pub struck_more :
+    (px mid new : List (List ℕ)) (wide from to bits bit : ℕ) (color d : List ℕ) (column k : ℕ) →
     column < wide → k < 6 → from ≤ to → to ≤ wide → is_set bits bit ≡ true →
-    stored mid wide d column k ≡ (if nat_lt k bit && covers from to 0 bits column k then color else stored px wide d column k) →
-    ((i : ℕ) → get_or new i d ≡ filled (bit * wide + from) (bit * wide + to) color i (get_or mid i d)) →
-    stored new wide d column k ≡ (if nat_lt k (bit + 1) && covers from to 0 bits column k then color else stored px wide d column k)
-struck_more px mid new wide from to bits bit color d column k inside six order within hit before change =
-    more_rows _ _ _ (k == bit) (covers from to 0 bits column k) _ _ _ color (change (k * wide + column))
-    (within_row wide from to bit column k inside order within ∙ if_here (k == bit) (nat_le from column && nat_lt column to) (is_struck 0 bits k) (struck_here bits bit k six hit))
+    stored mid wide d column k
+    ≡ (if nat_lt k bit && covers from to 0 bits column k then color else stored px wide d column k)
+    →
+    ((i : ℕ)
+    → get_or new i d ≡ filled (bit * wide + from) (bit * wide + to) color i (get_or mid i d)) →
+    stored new wide d column k
+    ≡ (if nat_lt k (bit + 1) && covers from to 0 bits column k then color
+    else stored px wide d column k)
+struck_more px mid new wide from to bits bit color d column k inside six order within hit before
+    change =
+    more_rows _ _ _ (k == bit) (covers from to 0 bits column k) _ _ _ color
+    (change (k * wide + column))
+    (within_row wide from to bit column k inside order within
+    ∙ if_here (k == bit) (nat_le from column && nat_lt column to) (is_struck 0 bits k)
+    (struck_here bits bit k six hit))
     before (rows_up k bit)
 
 struck_not : (bits bit k : ℕ) → is_set bits bit ≡ false → (k == bit) ≡ true →
@@ -80,18 +108,25 @@ none_here true false set is = refl
 none_here true true set is = sym (is refl)
 
 -- or none, where the bit is not set
-pub struck_same : (px mid : List (List ℕ)) (wide from to bits bit : ℕ) (color d : List ℕ) (column k : ℕ) →
+pub struck_same :
+    (px mid : List (List ℕ)) (wide from to bits bit : ℕ) (color d : List ℕ) (column k : ℕ) →
     is_set bits bit ≡ false →
-    stored mid wide d column k ≡ (if nat_lt k bit && covers from to 0 bits column k then color else stored px wide d column k) →
-    stored mid wide d column k ≡ (if nat_lt k (bit + 1) && covers from to 0 bits column k then color else stored px wide d column k)
+    stored mid wide d column k
+    ≡ (if nat_lt k bit && covers from to 0 bits column k then color else stored px wide d column k)
+    →
+    stored mid wide d column k
+    ≡ (if nat_lt k (bit + 1) && covers from to 0 bits column k then color
+    else stored px wide d column k)
 struck_same px mid wide from to bits bit color d column k miss before =
     more_rows false _ _ (k == bit) (covers from to 0 bits column k) _ _ _ color refl
-    (none_here (k == bit) (nat_le from column && nat_lt column to) (is_struck 0 bits k) (struck_not bits bit k miss))
+    (none_here (k == bit) (nat_le from column && nat_lt column to) (is_struck 0 bits k)
+    (struck_not bits bit k miss))
     before (rows_up k bit)
 
 sixel_here : (sixels : List ℕ) (wide from bit column k : ℕ) → k < 6 → from ≤ column →
     (k == bit) ≡ true →
-    is_set (get_or sixels (k * wide + column - (bit * wide + from)) 0) bit ≡ is_struck 0 (get_or sixels (column - from) 0) k
+    is_set (get_or sixels (k * wide + column - (bit * wide + from)) 0) bit
+    ≡ is_struck 0 (get_or sixels (column - from) 0) k
 sixel_here sixels wide from bit column k six after here =
     let same = eqb-true k bit here in
     let place : k * wide + column - (bit * wide + from) ≡ column - from = rw same (omega arith) in
@@ -113,16 +148,29 @@ mixed_here true false s true false b t same is = refl
 mixed_here true false s true true false t same is = refl
 
 -- one row of eight sixels more
-pub mixed_more : (px mid new : List (List ℕ)) (wide from bit : ℕ) (sixels color d : List ℕ) (column k : ℕ) →
+pub mixed_more :
+    (px mid new : List (List ℕ)) (wide from bit : ℕ) (sixels color d : List ℕ) (column k : ℕ) →
     column < wide → k < 6 → from + 8 ≤ wide →
-    stored mid wide d column k ≡ (if nat_lt k bit && covers_block from sixels 0 column k then color else stored px wide d column k) →
+    stored mid wide d column k
+    ≡ (if nat_lt k bit && covers_block from sixels 0 column k then color
+    else stored px wide d column k) →
     ((i : ℕ) → get_or new i d ≡ mixed_at (bit * wide + from) sixels bit color i (get_or mid i d)) →
-    stored new wide d column k ≡ (if nat_lt k (bit + 1) && covers_block from sixels 0 column k then color else stored px wide d column k)
+    stored new wide d column k
+    ≡ (if nat_lt k (bit + 1) && covers_block from sixels 0 column k then color
+    else stored px wide d column k)
 mixed_more px mid new wide from bit sixels color d column k inside six within before change =
     let end : bit * wide + from + 8 ≡ bit * wide + (from + 8) = omega arith in
-    let placed = ap (λ e. nat_le (bit * wide + from) (k * wide + column) && nat_lt (k * wide + column) e) end ∙ within_row wide from (from + 8) bit column k inside (omega arith) within in
-    more_rows _ _ _ (k == bit) (covers_block from sixels 0 column k) _ _ _ color (change (k * wide + column))
-    (mixed_here (nat_le (bit * wide + from) (k * wide + column)) (nat_lt (k * wide + column) (bit * wide + from + 8)) (is_set (get_or sixels (k * wide + column - (bit * wide + from)) 0) bit) (k == bit) (nat_le from column) (nat_lt column (from + 8)) (is_struck 0 (get_or sixels (column - from) 0) k) placed (λ here after. sixel_here sixels wide from bit column k six (leb-true from column after) here))
+    let placed =
+    ap (λ e. nat_le (bit * wide + from) (k * wide + column) && nat_lt (k * wide + column) e) end
+    ∙ within_row wide from (from + 8) bit column k inside (omega arith) within in
+    more_rows _ _ _ (k == bit) (covers_block from sixels 0 column k) _ _ _ color
+    (change (k * wide + column))
+    (mixed_here (nat_le (bit * wide + from) (k * wide + column))
+    (nat_lt (k * wide + column) (bit * wide + from + 8))
+    (is_set (get_or sixels (k * wide + column - (bit * wide + from)) 0) bit) (k == bit)
+    (nat_le from column) (nat_lt column (from + 8))
+    (is_struck 0 (get_or sixels (column - from) 0) k) placed
+    (λ here after. sixel_here sixels wide from bit column k six (leb-true from column after) here))
     before (rows_up k bit)
 
 -- any place of a list of one value, and past its end
@@ -139,32 +187,46 @@ get_or-append_replicate (y ∷ ys) n zero x = refl
 get_or-append_replicate (y ∷ ys) n (suc i) x = get_or-append_replicate ys n i x
 
 -- one row more was copied, and filled up with background
-pub copied_more : (px new part mid next : List (List ℕ)) (held wide row extra : ℕ) (background : List ℕ) →
+pub copied_more :
+    (px new part mid next : List (List ℕ)) (held wide row extra : ℕ) (background : List ℕ) →
     held ≤ wide → length new ≡ row * wide → mid ≡ new ++ part →
     part ≡ take held (drop (row * held) px) →
     next ≡ take (row * wide + wide) mid ++ replicate extra background →
-    ((column k : ℕ) → column < wide → k < row → stored new wide background column k ≡ (if nat_lt column held then stored px held background column k else background)) →
+    ((column k : ℕ) → column < wide → k < row
+    → stored new wide background column k
+    ≡ (if nat_lt column held then stored px held background column k else background)) →
     (column k : ℕ) → column < wide → k < row + 1 →
-    stored next wide background column k ≡ (if nat_lt column held then stored px held background column k else background)
-copied_more px new part mid next held wide row extra background more long joined cut filled before column k inside up =
-    let few : length part ≤ held = rw cut (omega (arith, length-take held (drop (row * held) px))) in
-    let all : take (row * wide + wide) mid ≡ mid = take_all (row * wide + wide) mid (rw joined (omega (arith, length-append new part, few, long, more))) in
+    stored next wide background column k
+    ≡ (if nat_lt column held then stored px held background column k else background)
+copied_more px new part mid next held wide row extra background more long joined cut filled before
+    column k inside up =
+    let few : length part ≤ held =
+    rw cut (omega (arith, length-take held (drop (row * held) px))) in
+    let all : take (row * wide + wide) mid ≡ mid =
+    take_all (row * wide + wide) mid
+    (rw joined (omega (arith, length-append new part, few, long, more))) in
     let i = k * wide + column in
     let at : get_or next i background ≡ get_or mid i background =
     ap (λ xs. get_or xs i background) filled
     ∙ get_or-append_replicate (take (row * wide + wide) mid) extra i background
     ∙ ap (λ xs. get_or xs i background) all in
     at ∙ ap (λ xs. get_or xs i background) joined ∙ elim (cases_lt k row) [
-      | inl above ↦ get_or_append_left new part background i (omega (arith, long, inside, row_fits k wide row wide above (omega arith))) ∙ before column k inside above
+      | inl above ↦ get_or_append_left new part background i
+          (omega (arith, long, inside, row_fits k wide row wide above (omega arith)))
+          ∙ before column k inside above
       | inr here ↦
           let same : k ≡ row = omega (arith, here, up) in
           let first : row * wide + column - row * wide ≡ column = omega arith in
           rw same (
-          get_or-append_right new part (row * wide) (row * wide + column) background long (omega arith)
+          get_or-append_right new part (row * wide) (row * wide + column) background long
+          (omega arith)
           ∙ ap (λ n. get_or part n background) first
           ∙ elim (cases_lt column held) [
-            | inl kept ↦ rw (lt-ltb column held kept, cut) (get_or-take held (drop (row * held) px) column background kept ∙ get_or-drop (row * held) px column background)
-            | inr past ↦ rw (le-ltb column held past) (get_or_past part column background (omega (arith, few, past)))
+            | inl kept ↦ rw (lt-ltb column held kept, cut)
+                (get_or-take held (drop (row * held) px) column background kept
+                ∙ get_or-drop (row * held) px column background)
+            | inr past ↦ rw (le-ltb column held past)
+                (get_or_past part column background (omega (arith, few, past)))
           ]
           )
     ]

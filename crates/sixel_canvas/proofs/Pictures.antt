@@ -8,4 +8,9 @@ pub picture_same : (p q : ℕ → ℕ → List ℕ) (width height : ℕ) →
     picture p width height ≡ picture q width height
 unfolding picture
 picture_same p q width height same =
-    joined-same (λ row. joined (λ column. p column row) width) (λ row. joined (λ column. q column row) width) height (λ row _. joined-same (λ column. p column row) (λ column. q column row) width (λ column _. same column row))
+    joined-same (λ row. joined (λ column. p column row) width)
+    (λ row. joined (λ column. q column row) width)
+    height
+    (λ row _.
+    joined-same (λ column. p column row) (λ column. q column row) width
+    (λ column _. same column row))

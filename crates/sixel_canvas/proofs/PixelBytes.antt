@@ -1,5 +1,6 @@
 -- What the bytes of a row are once those of one pixel more were written to it.
-use Rattle.std.proofs.Common.{◌≡◌, ℕ, ◌+◌, ◌*◌, ◌/◌, ◌%◌, ◌<◌, ◌≤◌, List, length, get_or, refl, ◌∙◌, inl, inr, arith}
+use Rattle.std.proofs.Common.{◌≡◌, ℕ, ◌+◌, ◌*◌, ◌/◌, ◌%◌, ◌<◌, ◌≤◌, List, length, get_or, refl, ◌∙◌}
+use Rattle.std.proofs.Common.{inl, inr, arith}
 use Rattle.std.specs.Prelude.{slice_set}
 use Rattle.std.proofs.lemmas.Bool.{cases_lt}
 use Rattle.std.proofs.lemmas.Grind.{get_or-set_at}
@@ -8,20 +9,27 @@ use Rattle.std.proofs.lemmas.List.{get_or-set_other, length-set}
 -- the row with four bytes written from a place on
 abbrev pub put : List ℕ → ℕ → List ℕ → List ℕ
 put row at bytes =
-    slice_set (slice_set (slice_set (slice_set row at (get_or bytes 0 0)) (at + 1) (get_or bytes 1 0)) (at + 2) (get_or bytes 2 0)) (at + 3) (get_or bytes 3 0)
+    slice_set (slice_set
+    (slice_set (slice_set row at (get_or bytes 0 0)) (at + 1) (get_or bytes 1 0)) (at + 2)
+    (get_or bytes 2 0)) (at + 3) (get_or bytes 3 0)
 
 pub put_len : (row : List ℕ) (at : ℕ) (bytes : List ℕ) → length (put row at bytes) ≡ length row
 put_len row at bytes =
     let one = slice_set row at (get_or bytes 0 0) in
     let two = slice_set one (at + 1) (get_or bytes 1 0) in
     let three = slice_set two (at + 2) (get_or bytes 2 0) in
-    length-set three (at + 3) (get_or bytes 3 0) ∙ length-set two (at + 2) (get_or bytes 2 0) ∙ length-set one (at + 1) (get_or bytes 1 0) ∙ length-set row at (get_or bytes 0 0)
+    length-set three (at + 3) (get_or bytes 3 0) ∙ length-set two (at + 2) (get_or bytes 2 0)
+    ∙ length-set one (at + 1) (get_or bytes 1 0) ∙ length-set row at (get_or bytes 0 0)
 
-byte_at : (bytes : List ℕ) (f : ℕ → List ℕ) (column i j : ℕ) → bytes ≡ f column → i / 4 ≡ column → i % 4 ≡ j → get_or bytes j 0 ≡ get_or (f (i / 4)) (i % 4) 0
+byte_at : (bytes : List ℕ) (f : ℕ → List ℕ) (column i j : ℕ) → bytes ≡ f column → i / 4 ≡ column
+    → i % 4 ≡ j → get_or bytes j 0 ≡ get_or (f (i / 4)) (i % 4) 0
 byte_at bytes f column i j is quotient rest = rw (quotient, rest, is) refl
 
 -- the bytes of one pixel more
-pub put_more : (row bytes : List ℕ) (f : ℕ → List ℕ) (column : ℕ) → 4 * column + 4 ≤ length row → bytes ≡ f column → ((i : ℕ) → i < 4 * column → get_or row i 0 ≡ get_or (f (i / 4)) (i % 4) 0) → (i : ℕ) → i < 4 * (column + 1) → get_or (put row (4 * column) bytes) i 0 ≡ get_or (f (i / 4)) (i % 4) 0
+pub put_more : (row bytes : List ℕ) (f : ℕ → List ℕ) (column : ℕ) → 4 * column + 4 ≤ length row
+    → bytes ≡ f column → ((i : ℕ) → i < 4 * column → get_or row i 0 ≡ get_or (f (i / 4)) (i % 4) 0)
+    → (i : ℕ) → i < 4 * (column + 1)
+    → get_or (put row (4 * column) bytes) i 0 ≡ get_or (f (i / 4)) (i % 4) 0
 put_more row bytes f column fits is before i up =
     let at = 4 * column in
     let b0 = get_or bytes 0 0 in
@@ -34,27 +42,41 @@ put_more row bytes f column fits is before i up =
     elim (cases_lt i (at + 3)) [
       | inr last ↦
           let here : i ≡ at + 3 = omega (arith, last, up) in
-          get_or-set_at three (at + 3) i b3 0 here (omega (arith, fits, length-set two (at + 2) b2, length-set one (at + 1) b1, length-set row at b0))
+          get_or-set_at three (at + 3) i b3 0 here (omega (
+            arith,
+            fits,
+            length-set two (at + 2) b2,
+            length-set one (at + 1) b1,
+            length-set row at b0,
+          ))
           ∙ byte_at bytes f column i 3 is (omega (arith, here)) (omega (arith, here))
       | inl third ↦
-          get_or-set_other three (at + 3) i b3 0 (λ e. omega (arith, e, third)) ∙ elim (cases_lt i (at + 2)) [
+          get_or-set_other three (at + 3) i b3 0 (λ e. omega (arith, e, third))
+          ∙ elim (cases_lt i (at + 2)) [
             | inr last ↦
                 let here : i ≡ at + 2 = omega (arith, last, third) in
-                get_or-set_at two (at + 2) i b2 0 here (omega (arith, fits, length-set one (at + 1) b1, length-set row at b0))
+                get_or-set_at two (at + 2) i b2 0 here
+                (omega (arith, fits, length-set one (at + 1) b1, length-set row at b0))
                 ∙ byte_at bytes f column i 2 is (omega (arith, here)) (omega (arith, here))
             | inl second ↦
-                get_or-set_other two (at + 2) i b2 0 (λ e. omega (arith, e, second)) ∙ elim (cases_lt i (at + 1)) [
+                get_or-set_other two (at + 2) i b2 0 (λ e. omega (arith, e, second))
+                ∙ elim (cases_lt i (at + 1)) [
                   | inr last ↦
                       let here : i ≡ at + 1 = omega (arith, last, second) in
-                      get_or-set_at one (at + 1) i b1 0 here (omega (arith, fits, length-set row at b0))
+                      get_or-set_at one (at + 1) i b1 0 here
+                      (omega (arith, fits, length-set row at b0))
                       ∙ byte_at bytes f column i 1 is (omega (arith, here)) (omega (arith, here))
                   | inl first ↦
-                      get_or-set_other one (at + 1) i b1 0 (λ e. omega (arith, e, first)) ∙ elim (cases_lt i at) [
+                      get_or-set_other one (at + 1) i b1 0 (λ e. omega (arith, e, first))
+                      ∙ elim (cases_lt i at) [
                         | inr last ↦
                             let here : i ≡ at = omega (arith, last, first) in
                             get_or-set_at row at i b0 0 here (omega (arith, fits))
-                            ∙ byte_at bytes f column i 0 is (omega (arith, here)) (omega (arith, here))
-                        | inl inside ↦ get_or-set_other row at i b0 0 (λ e. omega (arith, e, inside)) ∙ before i inside
+                            ∙ byte_at bytes f column i 0 is (omega (arith, here))
+                            (omega (arith, here))
+                        | inl inside ↦
+                            get_or-set_other row at i b0 0 (λ e. omega (arith, e, inside))
+                            ∙ before i inside
                       ]
                 ]
           ]

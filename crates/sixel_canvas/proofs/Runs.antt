@@ -1,15 +1,19 @@
 -- What runs of one column each, and one run more, do to right edges, columns and counts.
-use Rattle.std.proofs.Common.{◌≡◌, ℕ, zero, suc, ◌+◌, ◌-◌, ◌*◌, ◌/◌, ◌<◌, ◌≤◌, max, Bool, true, false, List, [], ◌∷◌, length, take, refl, ◌∙◌, inl, inr, eq-eqb, length-take, arith}
+use Rattle.std.proofs.Common.{◌≡◌, ℕ, zero, suc, ◌+◌, ◌-◌, ◌*◌, ◌/◌, ◌<◌, ◌≤◌, max, Bool, true}
+use Rattle.std.proofs.Common.{false, List, [], ◌∷◌, length, take, refl, ◌∙◌, inl, inr, eq-eqb}
+use Rattle.std.proofs.Common.{length-take, arith}
 use Rattle.std.specs.Prelude.{nat_lt, ◌==◌, ◌&&◌, if◌then◌else◌}
 use Rattle.std.proofs.lemmas.Bool.{cases_lt, lt-ltb, le-ltb, ne_eqb}
 use Rattle.sixel_canvas.specs.inside.BandCanvas.{IsPaid}
-use Rattle.sixel_canvas.specs.inside.Drawn.{Run, band_edge, drawn_columns, right_edge, run, runs_paint, with_sixels}
+use Rattle.sixel_canvas.specs.inside.Drawn.{Run, band_edge, drawn_columns, right_edge, run}
+use Rattle.sixel_canvas.specs.inside.Drawn.{runs_paint, with_sixels}
 
 edge-sixels : (from : ℕ) (sixels : List ℕ) (top : ℕ) (runs : List Run) (edge : ℕ) →
     edge ≤ right_edge runs → edge ≤ right_edge (with_sixels from sixels top runs)
 edge-sixels from [] top runs edge le = le
 edge-sixels from (sixel ∷ sixels) top runs edge le =
-    edge-sixels (from + 1) sixels top (run from (from + 1) top sixel ∷ runs) edge (omega (arith, le))
+    edge-sixels (from + 1) sixels top (run from (from + 1) top sixel ∷ runs) edge
+    (omega (arith, le))
 
 last-sixels : (from : ℕ) (sixels : List ℕ) (top : ℕ) (runs : List Run) (len : ℕ) →
     len < length sixels →
@@ -17,7 +21,11 @@ last-sixels : (from : ℕ) (sixels : List ℕ) (top : ℕ) (runs : List Run) (le
 last-sixels from [] top runs len less = absurd (omega (arith, less))
 last-sixels from (sixel ∷ sixels) top runs zero less = omega arith
 last-sixels from (sixel ∷ sixels) top runs (suc len) less =
-    omega (arith, last-sixels (from + 1) sixels top (run from (from + 1) top sixel ∷ runs) len (omega (arith, less)))
+    omega (
+      arith,
+      last-sixels (from + 1) sixels top (run from (from + 1) top sixel ∷ runs) len
+          (omega (arith, less)),
+    )
 
 -- the right edge of some runs, and that of sixels after them
 edges : (from : ℕ) (sixels : List ℕ) (top : ℕ) (runs : List Run) (len : ℕ) → 0 < len →
@@ -25,7 +33,11 @@ edges : (from : ℕ) (sixels : List ℕ) (top : ℕ) (runs : List Run) (len : �
     max (right_edge runs) (from + len) ≤ right_edge (with_sixels from (take len sixels) top runs)
 edges from sixels top runs zero some few = absurd (omega (arith, some))
 edges from sixels top runs (suc len) some few =
-    omega (arith, edge-sixels from (take (suc len) sixels) top runs (right_edge runs) (omega arith), last-sixels from sixels top runs len (omega (arith, few)))
+    omega (
+      arith,
+      edge-sixels from (take (suc len) sixels) top runs (right_edge runs) (omega arith),
+      last-sixels from sixels top runs len (omega (arith, few)),
+    )
 
 -- one run more in the band from this row on, and in another one
 edge-here : (from to top bits : ℕ) (runs : List Run) →
@@ -56,7 +68,8 @@ pub paid-run : (cap cap' painted painted' reach reach' top from to bits : ℕ) (
     IsPaid cap painted reach top runs → 0 < bits → cap' ≤ max cap (2 * to + 16) →
     painted' ≤ painted + ((to - from) / 128 + 640) + (max reach to - reach) →
     reach' ≡ max reach to → IsPaid cap' painted' reach' top (run from to top bits ∷ runs)
-paid-run cap cap' painted painted' reach reach' top from to bits runs is some cap_is painted_is reach_is =
+paid-run cap cap' painted painted' reach reach' top from to bits runs is some cap_is painted_is
+    reach_is =
     let grown = edge-grown from to top bits runs some in
     record {
       narrow = omega (arith, is.narrow, cap_is);
@@ -79,29 +92,39 @@ paid-blank cap painted reach top from to runs is =
 
 -- sixels of one column each more
 edge-all : (from : ℕ) (sixels : List ℕ) (top : ℕ) (runs : List Run) →
-    band_edge (with_sixels from sixels top runs) top ≤ max (band_edge runs top) (from + length sixels)
+    band_edge (with_sixels from sixels top runs) top
+    ≤ max (band_edge runs top) (from + length sixels)
 edge-all from [] top runs = omega arith
 edge-all from (sixel ∷ sixels) top runs =
-    omega (arith, edge-all (from + 1) sixels top (run from (from + 1) top sixel ∷ runs), edge-here from (from + 1) top sixel runs)
+    omega (
+      arith,
+      edge-all (from + 1) sixels top (run from (from + 1) top sixel ∷ runs),
+      edge-here from (from + 1) top sixel runs,
+    )
 
 other-all : (from : ℕ) (sixels : List ℕ) (top : ℕ) (runs : List Run) (row : ℕ) → top < row →
     band_edge (with_sixels from sixels top runs) row ≡ band_edge runs row
 other-all from [] top runs row below = refl
 other-all from (sixel ∷ sixels) top runs row below =
-    other-all (from + 1) sixels top (run from (from + 1) top sixel ∷ runs) row below ∙ edge-other from (from + 1) top sixel runs row below
+    other-all (from + 1) sixels top (run from (from + 1) top sixel ∷ runs) row below
+    ∙ edge-other from (from + 1) top sixel runs row below
 
 spent-all : (from : ℕ) (sixels : List ℕ) (top : ℕ) (runs : List Run) →
-    drawn_columns runs + runs_paint runs + 640 * length sixels ≤ drawn_columns (with_sixels from sixels top runs) + runs_paint (with_sixels from sixels top runs)
+    drawn_columns runs + runs_paint runs + 640 * length sixels
+    ≤ drawn_columns (with_sixels from sixels top runs)
+    + runs_paint (with_sixels from sixels top runs)
 spent-all from [] top runs = omega arith
 spent-all from (sixel ∷ sixels) top runs =
     omega (arith, spent-all (from + 1) sixels top (run from (from + 1) top sixel ∷ runs))
 
-pub paid-sixels : (cap cap' painted painted' reach reach' top from len : ℕ) (sixels : List ℕ) (runs : List Run) →
+pub paid-sixels :
+    (cap cap' painted painted' reach reach' top from len : ℕ) (sixels : List ℕ) (runs : List Run) →
     IsPaid cap painted reach top runs → 0 < len → len ≤ length sixels →
     cap' ≤ max cap (2 * (from + len) + 16) → painted' ≤ painted + 264 →
     reach' ≡ max reach (from + len) →
     IsPaid cap' painted' reach' top (with_sixels from (take len sixels) top runs)
-paid-sixels cap cap' painted painted' reach reach' top from len sixels runs is some few cap_is painted_is reach_is =
+paid-sixels cap cap' painted painted' reach reach' top from len sixels runs is some few cap_is
+    painted_is reach_is =
     let drawn = take len sixels in
     let long : length drawn ≡ len = omega (arith, length-take len sixels, few) in
     record {

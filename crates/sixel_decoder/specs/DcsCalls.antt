@@ -13,7 +13,7 @@ use Rattle.sixel_base.specs.Fault.{Faults, IsFault, DcsStreamFailed}
 use Rattle.sixel_base.specs.OneShot.{found, found_fault, IsFoundImage, AreFoundRegisters}
 use Rattle.sixel_base.specs.OneShot.{IsDecodedAs}
 use Rattle.sixel_base.specs.Payload.{Image}
-use Rattle.sixel_decoder.specs.Paints.{dcs_sixels, dcs_least_count}
+use Rattle.sixel_decoder.specs.Paints.{dcs_sixels, dcs_least_count, most_sixel_paints}
 use Rattle.sixel_decoder.specs.Session.{DcsSession}
 
 -- a session that was fed nothing
@@ -122,7 +122,8 @@ pub record IsPaintCount (session : DcsSession) (paints : ℕ) : Type 0 where
   -- at least what the closed sixels count
   pub at_least : session.is_refused ≡ false → dcs_least_count session.bytes ≤ paints
   -- at most three times the painted area, and a constant for each closed sixel
-  pub at_most : paints ≤ 3 * dcs_reached_area session.bytes + 4602 * dcs_sixels session.bytes
+  pub at_most : paints ≤ 3 * dcs_reached_area session.bytes
+      + most_sixel_paints * dcs_sixels session.bytes
   -- a rejected session has no canvas
   pub refused : session.is_refused ≡ true → paints ≡ 0
 

@@ -18,6 +18,10 @@ sixels (_ ∷ older) = sixels older
 abbrev pub sixel_paints : ℕ → ℕ
 sixel_paints columns = min (6 * columns) (6 * (columns / 128 + 256))
 
+-- what a sixel is counted as at most, beside three times the painted area of the image
+abbrev pub most_sixel_paints : ℕ
+most_sixel_paints = 4602
+
 -- what the sixels are counted as at least, where one without a set pixel counts nothing
 abbrev pub least_paints : History → ℕ
 least_paints [] = 0

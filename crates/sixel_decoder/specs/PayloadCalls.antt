@@ -13,7 +13,7 @@ use Rattle.sixel_base.specs.Payload.{payload_fault, payload_wants, payload_image
 use Rattle.sixel_base.specs.Reach.{reached_area, size}
 use Rattle.sixel_base.specs.Status.{status_of}
 use Rattle.sixel_base.specs.Stroke.{Origin}
-use Rattle.sixel_decoder.specs.Paints.{sixels, least_count}
+use Rattle.sixel_decoder.specs.Paints.{sixels, least_count, most_sixel_paints}
 use Rattle.sixel_decoder.specs.Session.{Session}
 
 -- a session that was fed nothing
@@ -123,7 +123,7 @@ pub record IsPaintCount (session : Session) (paints : ℕ) : Type 0 where
   pub at_least : session.is_refused ≡ false → least_count (settled session.bytes) ≤ paints
   -- at most three times the painted area, and a constant for each closed sixel
   pub at_most : paints ≤ 3 * reached_area (settled session.bytes)
-      + 4602 * sixels (settled session.bytes)
+      + most_sixel_paints * sixels (settled session.bytes)
   -- a rejected session has no canvas
   pub refused : session.is_refused ≡ true → paints ≡ 0
 

@@ -2,6 +2,7 @@
 
 ghost use Rattle.std.specs.Prelude.{◌≡◌, ◌≢◌, ℕ, ◌+◌, ◌*◌, ◌^◌, ◌<◌, ◌≤◌, ◌++◌, IfOk, OnOk, string_bytes};
 ghost use Rattle.std.specs.Prelude.{true, false, length, slice_index};
+ghost use Rattle.sixel_base.specs.Limits.{side_limit};
 ghost use Rattle.sixel_base.specs.Picture.{joined};
 ghost use Rattle.sixel_encoder.specs.Text.{sixel_of, row_text, band_text};
 ghost use Rattle.sixel_encoder.specs.inside.Indexed.{IsIndexed, drawing_of, entry_of};
@@ -164,7 +165,7 @@ struct Line {
 
 /// Returns how many entries have rows at once: as many as fit, at least one.
 fn entries_at_once(width: usize, entries: usize) -> usize
-    requires { width ≤ 1000000 }
+    requires { width ≤ side_limit }
     ensures some { 0 < result }
     ensures few { 0 < entries → result ≤ entries }
     ensures capacity { result * (width + 1) ≤ 2097152 }

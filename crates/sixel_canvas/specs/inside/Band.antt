@@ -34,7 +34,8 @@ band_state background pixels cap reach =
 -- the pixel at a column of row k, and background outside the six rows
 abbrev pub cell : BandState → ℕ → ℕ → List ℕ
 cell band column k =
-    if nat_lt column band.cap && nat_lt k 6 then stored band.pixels band.cap band.background column k
+    if nat_lt column band.cap && nat_lt k 6
+    then stored band.pixels band.cap band.background column k
     else band.background
 
 -- what is true of every band

@@ -15,13 +15,13 @@ use Rattle.sixel_base.specs.Payload.{first_fault, image_of}
 use Rattle.sixel_decoder.specs.declared.decoded_payload.DecodedPayload.{DecodedPayload}
 use Rattle.sixel_decoder.specs.PictureView.{picture_value}
 use Rattle.sixel_base.specs.Reach.{row_reach}
-use Rattle.sixel_decoder.specs.Paints.{sixels, least_count}
+use Rattle.sixel_decoder.specs.Paints.{sixels, least_count, most_sixel_paints}
 
 -- The painter has drawn these tokens, none of which has a fault.
 pub record Shows (origin : Origin) (painter : Painter) (history : History) : Type 0 where
   pub pixels : (column row : ℕ) → shown painter.canvas column row ≡ pixel origin history column row
   pub reached : (row : ℕ) → reached painter.canvas row ≡ row_reach history row
-  pub paid : painter.canvas.paints ≤ painter.canvas.spread + 4602 * sixels history
+  pub paid : painter.canvas.paints ≤ painter.canvas.spread + most_sixel_paints * sixels history
   pub least : least_count history ≤ painter.canvas.paints
   pub registers : painter.registers ≡ registers origin.registers history
   pub color : painter.color ≡ color origin.registers history ++ 255 ∷ []

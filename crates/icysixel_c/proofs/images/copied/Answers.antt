@@ -14,22 +14,26 @@ copied_rows-requires c =
 
 pub returns-clause-bad_stride : goal.returns-clause-bad_stride
 returns-clause-bad_stride c =
-    let wide : 4 * c.args.image.now.width ≡ c.in-Some.row_len = omega (arith, c.in-Some.ensures.1) in
+    let wide : 4 * c.args.image.now.width ≡ c.in-Some.row_len =
+    omega (arith, c.in-Some.ensures.1) in
     rw (wide, ← c.stride_of-stride.ensures) c.copied_rows.ensures.bad_stride
 
 pub returns-clause-small : goal.returns-clause-small
 returns-clause-small c =
-    let wide : 4 * c.args.image.now.width ≡ c.in-Some.row_len = omega (arith, c.in-Some.ensures.1) in
+    let wide : 4 * c.args.image.now.width ≡ c.in-Some.row_len =
+    omega (arith, c.in-Some.ensures.1) in
     rw (wide, ← c.stride_of-stride.ensures) c.copied_rows.ensures.small
 
 pub returns-clause-bytes : goal.returns-clause-bytes
 returns-clause-bytes c =
-    let wide : 4 * c.args.image.now.width ≡ c.in-Some.row_len = omega (arith, c.in-Some.ensures.1) in
+    let wide : 4 * c.args.image.now.width ≡ c.in-Some.row_len =
+    omega (arith, c.in-Some.ensures.1) in
     rw (wide, ← c.stride_of-stride.ensures) c.copied_rows.ensures.bytes
 
 pub returns-clause-moved : goal.returns-clause-moved
 returns-clause-moved c =
-    let wide : 4 * c.args.image.now.width ≡ c.in-Some.row_len = omega (arith, c.in-Some.ensures.1) in
+    let wide : 4 * c.args.image.now.width ≡ c.in-Some.row_len =
+    omega (arith, c.in-Some.ensures.1) in
     rw (wide, ← c.stride_of-stride.ensures) c.copied_rows.ensures.moved
 
 pub returns-clause-pixels : goal.returns-clause-pixels
@@ -37,10 +41,12 @@ returns-clause-pixels c = grind arith
 
 pub returns-clause-gaps : goal.returns-clause-gaps
 returns-clause-gaps c =
-    let wide : 4 * c.args.image.now.width ≡ c.in-Some.row_len = omega (arith, c.in-Some.ensures.1) in
+    let wide : 4 * c.args.image.now.width ≡ c.in-Some.row_len =
+    omega (arith, c.in-Some.ensures.1) in
     rw (wide, ← c.stride_of-stride.ensures) c.copied_rows.ensures.gaps
 
 pub returns-clause-rest : goal.returns-clause-rest
 returns-clause-rest c =
-    let wide : 4 * c.args.image.now.width ≡ c.in-Some.row_len = omega (arith, c.in-Some.ensures.1) in
+    let wide : 4 * c.args.image.now.width ≡ c.in-Some.row_len =
+    omega (arith, c.in-Some.ensures.1) in
     rw (wide, ← c.stride_of-stride.ensures) c.copied_rows.ensures.rest

@@ -18,4 +18,7 @@ invariant-handed l =
     × (l.rows.width ≡ l.initial.rows.width)
     × (4 * ((l.top + 6) * l.rows.width) ≤ l.rows.room)
     × (l.rows.background ≡ l.fn.rows.background)
-    × ((column row : ℕ) → final l.rows column row ≡ (if nat_lt row l.top then final l.fn.rows column row else if nat_lt row (l.top + l.k) then cell l.band.pixels column (row - l.top) else l.fn.rows.background))
+    × ((column row : ℕ)
+    → final l.rows column row
+    ≡ (if nat_lt row l.top then final l.fn.rows column row else if nat_lt row (l.top + l.k)
+    then cell l.band.pixels column (row - l.top) else l.fn.rows.background))

@@ -9,7 +9,8 @@ copied-preserved c =
     let before = c.copied.invariant in
     let column = c.copied.column in
     let row = c.copied.row in
-    let f = λ (k : ℕ). in_order c.args.order (slice_index_or c.args.pixels.now k c.args.background) in
+    let f = λ (k : ℕ).
+    in_order c.args.order (slice_index_or c.args.pixels.now k c.args.background) in
     let fits : 4 * column + 4 ≤ length row = omega (arith, before.0, c.copied-test.true) in
     let is = c.of-bytes.ensures ∙ ap (in_order c.args.order) c.pixel_or.ensures in (
       put_len row (4 * column) c.of-bytes.result ∙ before.0,

@@ -10,4 +10,7 @@ invariant-rows l =
     × (l.pixels.cap ≡ l.fn.pixels.cap)
     × (l.pixels.reach ≡ l.fn.pixels.reach)
     × IsBand l.pixels
-    × ((column k : ℕ) → cell l.pixels column k ≡ (if nat_le (l.block * 128) column && nat_lt column (l.block * 128 + 128) && nat_lt k l.k then under (cell l.tags l.block k) (cell l.fn.pixels column k) else cell l.fn.pixels column k))
+    × ((column k : ℕ)
+    → cell l.pixels column k
+    ≡ (if nat_le (l.block * 128) column && nat_lt column (l.block * 128 + 128) && nat_lt k l.k
+    then under (cell l.tags l.block k) (cell l.fn.pixels column k) else cell l.fn.pixels column k))

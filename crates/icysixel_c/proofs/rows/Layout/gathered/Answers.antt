@@ -1,4 +1,5 @@
-use Rattle.std.proofs.Common.{◌≡◌, ◌+◌, ◌-◌, ◌*◌, ◌++◌, Result, Ok, Err, IfOk, IsErr, length, drop, ap, sym, ◌∙◌, arith, length-append, length-take, length-drop}
+use Rattle.std.proofs.Common.{◌≡◌, ◌+◌, ◌-◌, ◌*◌, ◌++◌, Result, Ok, Err, IfOk, IsErr, length, drop}
+use Rattle.std.proofs.Common.{ap, sym, ◌∙◌, arith, length-append, length-take, length-drop}
 use Rattle.std.proofs.lemmas.Bool.{false≢true}
 use Rattle.std.specs.Prelude.{slice_range}
 use Rattle.icysixel_c.proofs.Spread.{row_inside, rows_more}
@@ -6,7 +7,12 @@ use Rattle.icysixel_c.proofs.rows.Layout.gathered.Goals as goal
 
 pub row_of-requires : goal.row_of-requires
 row_of-requires c =
-    omega (arith, row_inside c.args.self.stride c.args.self.row_len c.args.self.height c.loop-row.row c.loop-row-test.true, c.requires.room)
+    omega (
+      arith,
+      row_inside c.args.self.stride c.args.self.row_len c.args.self.height c.loop-row.row
+          c.loop-row-test.true,
+      c.requires.room,
+    )
 
 pub loop-row-preserved : goal.loop-row-preserved
 loop-row-preserved c =
@@ -19,8 +25,19 @@ loop-row-preserved c =
     let slice = slice_range bytes start (start + wide) in
     let inside = row_inside stride wide c.args.self.height row c.loop-row-test.true in
     let pushed = rw c.row_of.ensures.rows at c.in_ok-extend_from_slice.ensures.items in (
-      pushed ∙ (ap (λ xs. xs ++ slice) c.loop-row.invariant.0 ∙ sym (rows_more stride wide row bytes)),
-      omega (arith, inside, c.requires.room, ap length pushed, length-append rows slice, length-take (start + wide - start) (drop start bytes), length-drop start bytes, c.loop-row.invariant.1),
+      pushed
+          ∙ (ap (λ xs. xs ++ slice) c.loop-row.invariant.0
+          ∙ sym (rows_more stride wide row bytes)),
+      omega (
+        arith,
+        inside,
+        c.requires.room,
+        ap length pushed,
+        length-append rows slice,
+        length-take (start + wide - start) (drop start bytes),
+        length-drop start bytes,
+        c.loop-row.invariant.1,
+      ),
     )
 
 -- what is said of rows holds where there are none

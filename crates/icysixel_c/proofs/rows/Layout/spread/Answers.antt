@@ -1,4 +1,5 @@
-use Rattle.std.proofs.Common.{◌≡◌, ◌+◌, ◌-◌, ◌*◌, ◌≤◌, length, drop, ◌∙◌, arith, length-take, length-drop}
+use Rattle.std.proofs.Common.{◌≡◌, ◌+◌, ◌-◌, ◌*◌, ◌≤◌, length, drop, ◌∙◌, arith, length-take}
+use Rattle.std.proofs.Common.{length-drop}
 use Rattle.std.proofs.lemmas.Grind.{common_steps}
 use Rattle.sixel_base.specs.Picture.{joined}
 use Rattle.icysixel_c.proofs.Spread.{row_inside, row_more, gap_kept, rest_kept}
@@ -10,18 +11,33 @@ loop-row-init c = grind (arith, common_steps)
 
 pub overflow_mul-to : goal.overflow_mul-to
 overflow_mul-to c =
-    omega (arith, row_inside c.args.self.stride c.args.self.row_len c.args.self.height c.loop-row.row c.loop-row-test.true, c.requires.room)
+    omega (
+      arith,
+      row_inside c.args.self.stride c.args.self.row_len c.args.self.height c.loop-row.row
+          c.loop-row-test.true,
+      c.requires.room,
+    )
 
 pub overflow_mul-from : goal.overflow_mul-from
 overflow_mul-from c = grind arith
 
 pub overflow_add-to : goal.overflow_add-to
 overflow_add-to c =
-    omega (arith, row_inside c.args.self.stride c.args.self.row_len c.args.self.height c.loop-row.row c.loop-row-test.true, c.requires.room)
+    omega (
+      arith,
+      row_inside c.args.self.stride c.args.self.row_len c.args.self.height c.loop-row.row
+          c.loop-row-test.true,
+      c.requires.room,
+    )
 
 pub slice_bounds-copy_from_slice-end : goal.slice_bounds-copy_from_slice-end
 slice_bounds-copy_from_slice-end c =
-    omega (arith, row_inside c.args.self.stride c.args.self.row_len c.args.self.height c.loop-row.row c.loop-row-test.true, c.requires.room)
+    omega (
+      arith,
+      row_inside c.args.self.stride c.args.self.row_len c.args.self.height c.loop-row.row
+          c.loop-row-test.true,
+      c.requires.room,
+    )
 
 pub overflow_add-from : goal.overflow_add-from
 overflow_add-from c = grind arith
@@ -35,10 +51,25 @@ loop-row-preserved c =
     let written = c.copy_from_slice.new.self in
     let k = row * stride + wide - row * stride in
     let inside : row * stride + wide ≤ length room =
-    omega (arith, row_inside stride wide c.args.self.height row c.loop-row-test.true, c.requires.room, c.loop-row.auto.room) in
+    omega (
+      arith,
+      row_inside stride wide c.args.self.height row c.loop-row-test.true,
+      c.requires.room,
+      c.loop-row.auto.room,
+    ) in
     let long : length written ≡ wide =
-    omega (arith, inside, c.copy_from_slice.ensures.len, length-take k (drop (row * stride) room), length-drop (row * stride) room) in (
-      row_more stride wide row k room written c.args.rows.now c.requires.stride inside (omega arith) long c.copy_from_slice.ensures.after c.loop-row.invariant.0,
-      (λ at. gap_kept stride wide row k at room written c.requires.stride inside (omega arith) long ∙ c.loop-row.invariant.1 at),
-      rest_kept stride wide row k room written c.args.room.now c.requires.stride inside (omega arith) long c.loop-row.invariant.2,
+    omega (
+      arith,
+      inside,
+      c.copy_from_slice.ensures.len,
+      length-take k (drop (row * stride) room),
+      length-drop (row * stride) room,
+    ) in (
+      row_more stride wide row k room written c.args.rows.now c.requires.stride inside (omega arith)
+          long c.copy_from_slice.ensures.after c.loop-row.invariant.0,
+      (λ at.
+          gap_kept stride wide row k at room written c.requires.stride inside (omega arith) long
+          ∙ c.loop-row.invariant.1 at),
+      rest_kept stride wide row k room written c.args.room.now c.requires.stride inside
+          (omega arith) long c.loop-row.invariant.2,
     )

@@ -15,8 +15,11 @@ returns-clause-copied c = λ i inside.
     let row = get_or c.row.result.now in
     let down : all.top + k - all.top ≡ k = omega arith in
     let below : all.top ≤ all.top + k = omega arith in
-    let seen : band_canvas_shown c.args.self.now column (c.args.self.now.top + k) ≡ tagged_cell all.band column k =
+    let seen : band_canvas_shown c.args.self.now column (c.args.self.now.top + k)
+    ≡ tagged_cell all.band column k =
     ap (λ (s : BandCanvasState). band_canvas_shown s column (s.top + k)) (sym c.self.view_is)
     ∙ rw (le-ltb (all.top + k) all.top below, down) refl in
-    let pixel = ap (row column) c.background-background.ensures ∙ c.row.ensures.pixels column ∙ c.settle_all.ensures.shown column k ∙ sym seen in
+    let pixel =
+    ap (row column) c.background-background.ensures ∙ c.row.ensures.pixels column
+    ∙ c.settle_all.ensures.shown column k ∙ sym seen in
     c.copy_row.ensures.copied i inside ∙ ap (λ p. slice_index (in_order order p) (i % 4)) pixel

@@ -14,11 +14,20 @@ returns-clause-drawn c = λ column row.
     let from = c.args.from in
     let sixels = c.args.sixels in
     let color = c.args.color in
-    let shown = ap (λ (s : BandCanvasState). band_canvas_shown s column row) c.self.view_is ∙ c.in_ok-hold.ensures.shown column row in
+    let shown =
+    ap (λ (s : BandCanvasState). band_canvas_shown s column row) c.self.view_is
+    ∙ c.in_ok-hold.ensures.shown column row in
     let top = ap (λ (s : BandCanvasState). s.top) c.self.view_is ∙ c.in_ok-hold.ensures.top in
-    canvas_over (nat_le from column) (nat_lt column (from + 8)) (get_or sixels (column - from) 0) all.top row (final all.rows column row) (tagged_cell all.band column (row - all.top)) (tagged_cell c.block.new.self column (row - all.top)) color (c.block.ensures.drawn column (row - all.top))
+    canvas_over (nat_le from column) (nat_lt column (from + 8)) (get_or sixels (column - from) 0)
+    all.top row (final all.rows column row) (tagged_cell all.band column (row - all.top))
+    (tagged_cell c.block.new.self column (row - all.top)) color
+    (c.block.ensures.drawn column (row - all.top))
     ∙ ap (λ pixel. if covers_block from sixels all.top column row then color else pixel) shown
-    ∙ ap (λ row_of. if covers_block from sixels row_of column row then color else band_canvas_shown c.args.self.now column row) top
+    ∙ ap
+    (λ row_of.
+    if covers_block from sixels row_of column row then color
+    else band_canvas_shown c.args.self.now column row)
+    top
 
 pub returns-clause-paid : goal.returns-clause-paid
 returns-clause-paid c = λ runs before.
@@ -27,11 +36,19 @@ returns-clause-paid c = λ runs before.
     let right = c.args.from + c.args.len in
     let long : length c.args.sixels ≡ 8 = search rules in
     let few : c.args.len ≤ length c.args.sixels = omega (arith, long, c.requires.few) in
-    let same_top : c.self.inside.top ≡ now.top = ap (λ (s : BandCanvasState). s.top) c.self.view_is ∙ c.in_ok-hold.ensures.top in
+    let same_top : c.self.inside.top ≡ now.top =
+    ap (λ (s : BandCanvasState). s.top) c.self.view_is ∙ c.in_ok-hold.ensures.top in
     let held_cap = ap (λ (s : BandCanvasState). s.band.pixels.cap) c.self.view_is in
-    let held_painted = ap (λ (s : BandCanvasState). s.band.painted) c.self.view_is ∙ c.in_ok-hold.ensures.painted in
-    let held_reach = ap (λ (s : BandCanvasState). s.band.pixels.reach) c.self.view_is ∙ c.in_ok-hold.ensures.reach in
-    let cap : band.pixels.cap ≤ max now.band.pixels.cap (2 * right + 16) = omega (arith, c.block.ensures.cap, held_cap, c.in_ok-hold.ensures.cap) in
-    let painted : band.painted ≤ now.band.painted + 264 = omega (arith, c.block.ensures.painted, held_painted) in
-    let reach : band.pixels.reach ≡ max now.band.pixels.reach right = omega (arith, c.block.ensures.reach, held_reach) in
-    rw same_top (paid-sixels now.band.pixels.cap band.pixels.cap now.band.painted band.painted now.band.pixels.reach band.pixels.reach now.top c.args.from c.args.len c.args.sixels runs before c.requires.some few cap painted reach)
+    let held_painted =
+    ap (λ (s : BandCanvasState). s.band.painted) c.self.view_is ∙ c.in_ok-hold.ensures.painted in
+    let held_reach =
+    ap (λ (s : BandCanvasState). s.band.pixels.reach) c.self.view_is ∙ c.in_ok-hold.ensures.reach in
+    let cap : band.pixels.cap ≤ max now.band.pixels.cap (2 * right + 16) =
+    omega (arith, c.block.ensures.cap, held_cap, c.in_ok-hold.ensures.cap) in
+    let painted : band.painted ≤ now.band.painted + 264 =
+    omega (arith, c.block.ensures.painted, held_painted) in
+    let reach : band.pixels.reach ≡ max now.band.pixels.reach right =
+    omega (arith, c.block.ensures.reach, held_reach) in
+    rw same_top (paid-sixels now.band.pixels.cap band.pixels.cap now.band.painted band.painted
+    now.band.pixels.reach band.pixels.reach now.top c.args.from c.args.len c.args.sixels runs before
+    c.requires.some few cap painted reach)

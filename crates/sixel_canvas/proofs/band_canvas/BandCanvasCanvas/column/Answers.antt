@@ -15,6 +15,13 @@ returns-clause-drawn c = λ column row.
     let color = c.args.color in
     let shown = ap (λ (s : BandCanvasState). band_canvas_shown s column row) c.self.view_is in
     let top = ap (λ (s : BandCanvasState). s.top) c.self.view_is in
-    canvas_over (nat_le at column) (nat_lt column (at + 1)) bits all.top row (final all.rows column row) (tagged_cell all.band column (row - all.top)) (tagged_cell c.draw.new.self column (row - all.top)) color (c.draw.ensures.drawn column (row - all.top))
+    canvas_over (nat_le at column) (nat_lt column (at + 1)) bits all.top row
+    (final all.rows column row) (tagged_cell all.band column (row - all.top))
+    (tagged_cell c.draw.new.self column (row - all.top)) color
+    (c.draw.ensures.drawn column (row - all.top))
     ∙ ap (λ pixel. if covers at (at + 1) all.top bits column row then color else pixel) shown
-    ∙ ap (λ row_of. if covers at (at + 1) row_of bits column row then color else band_canvas_shown c.args.self.now column row) top
+    ∙ ap
+    (λ row_of.
+    if covers at (at + 1) row_of bits column row then color
+    else band_canvas_shown c.args.self.now column row)
+    top

@@ -14,8 +14,17 @@ returns-clause-drawn c = λ column row.
     let to = c.args.to in
     let bits = c.args.bits in
     let color = c.args.color in
-    let shown = ap (λ (s : BandCanvasState). band_canvas_shown s column row) c.self.view_is ∙ c.in_ok-hold.ensures.shown column row in
+    let shown =
+    ap (λ (s : BandCanvasState). band_canvas_shown s column row) c.self.view_is
+    ∙ c.in_ok-hold.ensures.shown column row in
     let top = ap (λ (s : BandCanvasState). s.top) c.self.view_is ∙ c.in_ok-hold.ensures.top in
-    canvas_over (nat_le from column) (nat_lt column to) bits all.top row (final all.rows column row) (tagged_cell all.band column (row - all.top)) (tagged_cell c.draw.new.self column (row - all.top)) color (c.draw.ensures.drawn column (row - all.top))
+    canvas_over (nat_le from column) (nat_lt column to) bits all.top row (final all.rows column row)
+    (tagged_cell all.band column (row - all.top))
+    (tagged_cell c.draw.new.self column (row - all.top)) color
+    (c.draw.ensures.drawn column (row - all.top))
     ∙ ap (λ pixel. if covers from to all.top bits column row then color else pixel) shown
-    ∙ ap (λ row_of. if covers from to row_of bits column row then color else band_canvas_shown c.args.self.now column row) top
+    ∙ ap
+    (λ row_of.
+    if covers from to row_of bits column row then color
+    else band_canvas_shown c.args.self.now column row)
+    top

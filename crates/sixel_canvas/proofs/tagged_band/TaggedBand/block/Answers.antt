@@ -12,5 +12,8 @@ returns-clause-drawn c = λ column k.
     let hit = covers_block from sixels 0 column k in
     let settled = rw (← c.self.view_is) at c.settle.ensures.settled in
     let shown = rw (← c.self.view_is) at c.settle.ensures.shown in
-    over_settled hit (cell c.self.inside.tags (column / 128) k) (cell c.self.inside.pixels column k) (cell c.block.new.self column k) c.args.color (λ is. settled column k (block_from from sixels column k is) (block_to from sixels column k is)) (c.block.ensures.drawn column k)
+    over_settled hit (cell c.self.inside.tags (column / 128) k) (cell c.self.inside.pixels column k)
+    (cell c.block.new.self column k) c.args.color
+    (λ is. settled column k (block_from from sixels column k is) (block_to from sixels column k is))
+    (c.block.ensures.drawn column k)
     ∙ ap (λ pixel. if hit then c.args.color else pixel) (shown column k)

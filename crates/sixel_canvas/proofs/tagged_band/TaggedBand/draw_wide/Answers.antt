@@ -9,4 +9,6 @@ returns-clause-drawn c = λ column k.
     let after : c.args.from ≤ first * 128 = omega (arith, c.div_ceil-first.ensures) in
     let order : first * 128 ≤ last * 128 = omega (arith, c.if-first-last.false) in
     let before : last * 128 ≤ c.args.to = omega (arith, c.min-last.ensures) in
-    three_parts c.args.from (first * 128) (last * 128) c.args.to c.args.bits column k _ _ _ _ c.args.color after order before (c.paint-2.ensures.drawn column k) (c.tag.ensures.drawn column k) (c.paint-3.ensures.drawn column k)
+    three_parts c.args.from (first * 128) (last * 128) c.args.to c.args.bits column k _ _ _ _
+    c.args.color after order before (c.paint-2.ensures.drawn column k)
+    (c.tag.ensures.drawn column k) (c.paint-3.ensures.drawn column k)

@@ -10,8 +10,11 @@ returns-clause-shown c = λ column k.
     let settled = rw (← c.self-2.view_is) at c.settle_blocks.ensures.settled in
     let others = rw (← c.self-2.view_is, ← c.self.view_is) at c.settle_blocks.ensures.others in
     let shown = rw (← c.self-2.view_is) at c.settle_blocks.ensures.shown in
-    let none = all_settled c.self.inside.tags after.tags c.reach-tagged.result (column / 128) k settled others c.reach-tagged.ensures.clean c.self.invariant.clear in
-    sym (under_none (cell after.tags (column / 128) k) (cell after.pixels column k) none) ∙ shown column k
+    let none =
+    all_settled c.self.inside.tags after.tags c.reach-tagged.result (column / 128) k settled others
+    c.reach-tagged.ensures.clean c.self.invariant.clear in
+    sym (under_none (cell after.tags (column / 128) k) (cell after.pixels column k) none)
+    ∙ shown column k
 
 pub returns-clause-same : goal.returns-clause-same
 returns-clause-same c = λ column k.

@@ -7,7 +7,8 @@ use Rattle.sixel_canvas.proofs.tagged_band.TaggedBand.settle_blocks.Given as goa
 abbrev pub invariant-each : goal.invariant-each
 invariant-each l =
     ((column k : ℕ) → tagged_cell l.self column k ≡ tagged_cell l.fn.self column k)
-    × ((block k : ℕ) → l.first ≤ block → block < l.block → is_tag (cell l.self.tags block k) ≡ false)
+    ×
+    ((block k : ℕ) → l.first ≤ block → block < l.block → is_tag (cell l.self.tags block k) ≡ false)
     × ((block k : ℕ) → l.last ≤ block → cell l.self.tags block k ≡ cell l.fn.self.tags block k)
     × (l.self.pixels.background ≡ l.fn.self.pixels.background)
     × (l.self.pixels.cap ≡ l.fn.self.pixels.cap)
