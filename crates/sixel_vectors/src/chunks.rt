@@ -191,7 +191,8 @@ fn follows(before: Status, chunk: &[u8], fed: Received) -> bool {
         ("more", _) => fed.consumed == chunk.len(),
         ("complete", _) => last.is_some(),
         ("cancelled", byte) => last == byte,
-        (_, byte) => chunk.get(fed.consumed).copied() == byte,
+        ("terminated", byte) => chunk.get(fed.consumed).copied() == byte,
+        _ => fed.consumed < chunk.len(),
     }
 }
 
