@@ -21,6 +21,7 @@ use Rattle.sixel_base.specs.OneShot.{Found, Payload, NoPayload}
 use Rattle.sixel_base.specs.OneShot as one_shot
 use Rattle.sixel_base.specs.Reach as reach
 use Rattle.sixel_decoder.specs.Paints as paints
+pub use Rattle.sixel_decoder.specs.Paints.{most_sixel_paints}
 
 -- what is received: nothing, a payload that is read with these settings, or a control string
 pub data Form : Type 0 where

@@ -10,7 +10,6 @@ use Rattle.sixel_base.specs.Fault.{Faults, IsFault}
 use Rattle.sixel_base.specs.OneShot.{found_fault, IsFoundImage, AreFoundRegisters, IsDecodedAs}
 use Rattle.sixel_base.specs.Payload.{payload_fault, payload_wants}
 use Rattle.sixel_base.specs.Settings.{Settings}
-use Rattle.sixel_decoder.specs.Paints.{most_sixel_paints}
 use Rattle.icy_sixel.specs.ImageView.{image_value}
 use Rattle.icy_sixel.specs.Receiver.{Form, Receiver, Reception, OfPayload, OfString, no_image}
 use Rattle.icy_sixel.specs.Receiver as receivers
@@ -168,7 +167,7 @@ pub record IsPaintCount (image : Reception) (paints : ℕ) : Type 0 where
       → receivers.least_count image.form image.bytes ≤ paints
   -- at most three times the painted area, and a constant for each closed sixel
   pub at_most : paints ≤ 3 * receivers.reached_area image.form image.bytes
-      + most_sixel_paints * receivers.sixels image.form image.bytes
+      + receivers.most_sixel_paints * receivers.sixels image.form image.bytes
   -- a rejected image has no canvas
   pub refused : image.is_refused ≡ true → paints ≡ 0
 

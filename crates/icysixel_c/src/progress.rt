@@ -1,8 +1,8 @@
 //! What C calls to ask how far the image has come that is open.
 
 ghost use Rattle.std.specs.Prelude.{◌≡◌, ◌≢◌, ◌+◌, ◌*◌, ◌≤◌, Some, None, ℕ, true, false, cond};
-ghost use Rattle.sixel_decoder.specs.Paints.{most_sixel_paints};
 ghost use Rattle.icy_sixel.specs.Receiver.{in_payload, is_open, reached_area, sixels};
+ghost use Rattle.icy_sixel.specs.Receiver.{most_sixel_paints};
 ghost use Rattle.icy_sixel.specs.Receiver.{size as size_of};
 ghost use Rattle.icysixel_c.specs.declared.state.State.{State};
 

@@ -1,40 +1,42 @@
--- The whole text as a control string: its parameters are the drawing's, and its payload is what
--- follows them.
-use Rattle.std.proofs.Common.{◌≡◌, ℕ, ◌*◌, ◌≤◌, min, nat_lt, true, false, cond, List, [], ◌∷◌, ◌++◌}
-use Rattle.std.proofs.Common.{length, get_or, refl, ap, sym, subst, ◌∙◌, arith, append_assoc}
-use Rattle.std.proofs.Common.{length-append}
-use Rattle.std.specs.Prelude.{IsTrue, decimal, Option, Some, None, is_some, codes}
+-- A text as a DCS sequence: its parameters are the drawing's, and its payload is what follows them.
 use Rattle.std.specs.List.{list_all}
+use Rattle.std.specs.Prelude.{IsTrue, None, Option, Some, codes, decimal, is_some}
+use Rattle.std.proofs.Common.{List, [], ap, append_assoc, arith, cond, false, get_or, length}
+use Rattle.std.proofs.Common.{length-append, min, nat_lt, refl, subst, sym, true, ℕ, ◌*◌, ◌++◌, ◌∙◌}
+use Rattle.std.proofs.Common.{◌∷◌, ◌≡◌, ◌≤◌}
+use Rattle.std.proofs.lemmas.Bool.Decides.{nat_tests}
 use Rattle.std.proofs.lemmas.Fmt.{decimal_digit}
 use Rattle.std.proofs.lemmas.Grind.{common_steps}
-use Rattle.std.proofs.lemmas.Bool.Decides.{nat_tests}
+use Rattle.sixel_base.specs.Bytes.{carrying, first_terminator, front, is_ignored}
+use Rattle.sixel_base.specs.Bytes.{is_parameter}
+use Rattle.sixel_base.specs.Dcs.{Entered, Reading, after_terminator, end_count, end_status}
+use Rattle.sixel_base.specs.Dcs.{payload_count, payload_count_by, payload_status, payload_status_by}
+use Rattle.sixel_base.specs.Dcs.{stage, stage_after, stage_by, stage_count, stage_fault}
+use Rattle.sixel_base.specs.Dcs.{stage_status}
+use Rattle.sixel_base.specs.Header.{Begun, headed, headed_by, header_front, header_rest}
+use Rattle.sixel_base.specs.Header.{header_text, is_header, settings_of}
+use Rattle.sixel_base.specs.History.{history_of}
+use Rattle.sixel_base.specs.OneShot.{Found, IsFoundImage, Payload, found, found_by, found_fault}
+use Rattle.sixel_base.specs.OneShot.{found_in}
+use Rattle.sixel_base.specs.Payload.{closed, first_fault}
+use Rattle.sixel_base.specs.Settings.{Settings, p1_of, p2_of}
+use Rattle.sixel_base.specs.Size.{banded}
 use Rattle.sixel_base.specs.declared.settings.BackgroundMode.{BackgroundMode}
 use Rattle.sixel_base.specs.declared.settings.BackgroundMode.TheVariants.{Opaque, Transparent}
 use Rattle.sixel_base.specs.declared.settings.PixelAspectRatio.{PixelAspectRatio}
-use Rattle.sixel_base.specs.declared.settings.PixelAspectRatio.TheVariants.{Ratio5To1, Ratio3To1}
-use Rattle.sixel_base.specs.declared.settings.PixelAspectRatio.TheVariants.{Ratio2To1, Square}
-use Rattle.sixel_base.specs.Bytes.{is_parameter, is_ignored, carrying, front, first_terminator}
-use Rattle.sixel_base.specs.Size.{banded}
+use Rattle.sixel_base.specs.declared.settings.PixelAspectRatio.TheVariants.{Ratio2To1, Ratio3To1}
+use Rattle.sixel_base.specs.declared.settings.PixelAspectRatio.TheVariants.{Ratio5To1, Square}
 use Rattle.sixel_base.specs.declared.state.DecoderState.{DecoderState}
-use Rattle.sixel_base.specs.History.{history_of}
-use Rattle.sixel_base.specs.Payload.{closed, first_fault}
-use Rattle.sixel_base.specs.Settings.{Settings, p1_of, p2_of}
-use Rattle.sixel_base.specs.Header.{is_header, header_front, header_rest, header_text, settings_of}
-use Rattle.sixel_base.specs.Header.{Begun, headed, headed_by}
-use Rattle.sixel_base.specs.OneShot.{Found, Payload, found, found_in, found_by, found_fault}
-use Rattle.sixel_base.specs.OneShot.{IsFoundImage}
-use Rattle.sixel_base.specs.Dcs.{Entered, Reading, stage, stage_by, stage_after, stage_status}
-use Rattle.sixel_base.specs.Dcs.{stage_count, stage_fault, after_terminator, end_status, end_count}
-use Rattle.sixel_base.specs.Dcs.{payload_status, payload_status_by, payload_count, payload_count_by}
 use Rattle.sixel_base.specs.declared.status.SixelDcsFeedStatus.TheVariants.{Complete}
-use Rattle.sixel_encoder.specs.Text.{Drawing, text_of, parameters_text, raster_text, palette_text}
-use Rattle.sixel_encoder.specs.Text.{bands_text}
-use Rattle.sixel_encoder.specs.Trip.{IsWritable, CanRead, payload_text, drawing_settings, trip}
-use Rattle.sixel_encoder.specs.Trip.{IsReadAs, IsOneString}
-use Rattle.sixel_encoder.proofs.Digits.{numbers, AreFields, fields-numbers, all_parameters-numbers}
-use Rattle.sixel_encoder.proofs.TextHistory.{text_of-parts, payload-own, payload-ended}
-use Rattle.sixel_encoder.proofs.TextHistory.{payload-rest}
-use Rattle.sixel_encoder.proofs.RoundTrip.{payload-trip, payload-sound}
+use Rattle.sixel_base.proofs.Reading.{carries}
+use Rattle.sixel_encoder.specs.Marks.{IsDrawnText, marks_payload}
+use Rattle.sixel_encoder.specs.Text.{Drawing, parameters_text}
+use Rattle.sixel_encoder.specs.Trip.{CanRead, IsOneString, IsReadAs, IsWritable, drawing_settings}
+use Rattle.sixel_encoder.specs.Trip.{trip}
+use Rattle.sixel_encoder.proofs.Digits.{AreFields, all_parameters-numbers, fields-numbers, numbers}
+use Rattle.sixel_encoder.proofs.RoundTrip.{payload-sound, payload-trip}
+use Rattle.sixel_encoder.proofs.TextHistory.{after_terminator-carrying, before_terminator-carrying}
+use Rattle.sixel_encoder.proofs.TextHistory.{carries-payload, first_terminator-carrying}
 
 -- ---- a header of parameters before its `q`
 
@@ -122,27 +124,35 @@ settings-numbers drawing =
     ∙ (ap (λ n. made (Some n) (Some (min p2 65535)) (Some 0)) first
     ∙ ap (λ n. made (Some p1) (Some n) (Some 0)) second)
 
--- ---- the text
+-- ---- any payload with the parameters of a drawing
+
+-- a payload and the string terminator
+abbrev ended_payload : List ℕ → List ℕ
+ended_payload payload = payload ++ 27 ∷ codes "\\"
+
+-- the DCS sequence of a payload
+abbrev sequence_of : Drawing → List ℕ → List ℕ
+sequence_of drawing payload = parameters_text drawing ++ ended_payload payload
 
 -- the parts of a text in one order of joining
-parts-joined : (a b r c w e : List ℕ)
-    → a ++ (59 ∷ []) ++ b ++ (59 ∷ 48 ∷ 113 ∷ []) ++ r ++ c ++ w ++ e
-    ≡ (a ++ (59 ∷ (b ++ (59 ∷ 48 ∷ [])))) ++ (113 ∷ (r ++ c ++ w ++ e))
-parts-joined a b r c w e = simp append_assoc
+parts-joined : (a b p e : List ℕ)
+    → a ++ (59 ∷ []) ++ b ++ (59 ∷ 48 ∷ 113 ∷ []) ++ (p ++ e)
+    ≡ (a ++ (59 ∷ (b ++ (59 ∷ 48 ∷ [])))) ++ (113 ∷ (p ++ e))
+parts-joined a b p e = simp append_assoc
 
 -- what follows the introducer
-introduced_by : (drawing : Drawing)
+introduced_by : (drawing : Drawing) (payload : List ℕ)
     → decimal (p1_of drawing.aspect_ratio) ++ (59 ∷ []) ++ decimal (p2_of drawing.background_mode)
-    ++ (59 ∷ 48 ∷ 113 ∷ []) ++ raster_text drawing ++ palette_text drawing ++ bands_text drawing
-    ++ 27 ∷ codes "\\" ≡ parameters drawing ++ 113 ∷ (payload_text drawing ++ 27 ∷ codes "\\")
-introduced_by drawing =
+    ++ (59 ∷ 48 ∷ 113 ∷ []) ++ ended_payload payload
+    ≡ parameters drawing ++ 113 ∷ ended_payload payload
+introduced_by drawing payload =
     parts-joined (decimal (p1_of drawing.aspect_ratio)) (decimal (p2_of drawing.background_mode))
-    (raster_text drawing) (palette_text drawing) (bands_text drawing) (27 ∷ codes "\\")
+    payload (27 ∷ codes "\\")
     ∙ ap
     (λ zero_text.
     (decimal (p1_of drawing.aspect_ratio)
     ++ (59 ∷ (decimal (p2_of drawing.background_mode) ++ (59 ∷ zero_text)))) ++ 113
-    ∷ (payload_text drawing ++ 27 ∷ codes "\\"))
+    ∷ ended_payload payload)
     (sym (decimal_digit 0 (omega arith)))
 
 -- the header is read as the drawing's settings
@@ -158,81 +168,101 @@ headed-text : (drawing : Drawing) (rest : List ℕ)
 headed-text drawing rest =
     ap headed_by (header_rest-parameters (parameters drawing) rest (all_parameters drawing))
 
--- the data of the text and the string terminator
-abbrev ended_payload : Drawing → List ℕ
-ended_payload drawing = payload_text drawing ++ 27 ∷ codes "\\"
+-- it has this payload, with the drawing's settings
+pub found-sequence : (drawing : Drawing) (payload : List ℕ)
+    → found (sequence_of drawing payload)
+    ≡ Payload (drawing_settings drawing) (ended_payload payload)
+found-sequence drawing payload =
+    ap (λ bytes. found_in (sequence_of drawing payload) (Some bytes))
+    (introduced_by drawing payload)
+    ∙ (ap (found_by (parameters drawing ++ 113 ∷ ended_payload payload))
+    (headed-text drawing (ended_payload payload))
+    ∙ ap (λ s. Payload s (ended_payload payload)) (settings-text drawing (ended_payload payload)))
 
--- the text holds one payload, with the drawing's settings
-pub found-text : (drawing : Drawing)
-    → found (text_of drawing) ≡ Payload (drawing_settings drawing) (ended_payload drawing)
-found-text drawing =
-    ap (λ bytes. found_in (text_of drawing) (Some bytes)) (introduced_by drawing)
-    ∙ (ap (found_by (parameters drawing ++ 113 ∷ ended_payload drawing))
-    (headed-text drawing (ended_payload drawing))
-    ∙ ap (λ s. Payload s (ended_payload drawing)) (settings-text drawing (ended_payload drawing)))
+-- fed to a session it is read as this payload
+pub stage-sequence : (drawing : Drawing) (payload : List ℕ)
+    → stage (sequence_of drawing payload)
+    ≡ Reading (drawing_settings drawing) (ended_payload payload)
+stage-sequence drawing payload =
+    ap (λ bytes. stage_by (Entered bytes)) (introduced_by drawing payload)
+    ∙ (ap (stage_after (parameters drawing ++ 113 ∷ ended_payload payload))
+    (headed-text drawing (ended_payload payload))
+    ∙ ap (λ s. Reading s (ended_payload payload)) (settings-text drawing (ended_payload payload)))
+
+-- its payload ends with the text
+payload-complete : (payload : List ℕ) → IsTrue (list_all carries payload)
+    → payload_status (ended_payload payload) ≡ Complete
+payload-complete payload all =
+    ap (λ t. payload_status_by t (after_terminator (ended_payload payload)))
+    (first_terminator-carrying payload (codes "\\") all)
+    ∙ ap (end_status 27) (after_terminator-carrying payload (codes "\\") all)
+
+-- all of its bytes are counted
+payload-counted : (payload : List ℕ) → IsTrue (list_all carries payload)
+    → payload_count (ended_payload payload) ≡ length (ended_payload payload)
+payload-counted payload all =
+    let own = ap length (before_terminator-carrying payload (codes "\\") all) in
+    let end : payload_count_by (first_terminator (ended_payload payload))
+    (after_terminator (ended_payload payload)) ≡ 2 =
+    ap (λ t. payload_count_by t (after_terminator (ended_payload payload)))
+    (first_terminator-carrying payload (codes "\\") all)
+    ∙ ap (end_count 27) (after_terminator-carrying payload (codes "\\") all) in
+    omega (arith, own, end, length-append payload (27 ∷ codes "\\"))
+
+-- a payload without a fault makes one DCS sequence
+IsOneString-sequence : (limit : ℕ) (drawing : Drawing) (payload : List ℕ)
+    → IsTrue (list_all carries payload)
+    → first_fault limit (history_of (front (ended_payload payload))) ≡ None
+    → IsOneString limit (sequence_of drawing payload)
+IsOneString-sequence limit drawing payload all sound =
+    let total = length-append (parameters_text drawing) (ended_payload payload) in
+    let counted = payload-counted payload all in
+    let count : stage_count (sequence_of drawing payload)
+    (Reading (drawing_settings drawing) (ended_payload payload))
+    ≡ length (sequence_of drawing payload) = omega arith in
+    record {
+      status = ap stage_status (stage-sequence drawing payload) ∙ payload-complete payload all;
+      count =
+          ap (stage_count (sequence_of drawing payload)) (stage-sequence drawing payload) ∙ count;
+      sound = ap (stage_fault limit) (stage-sequence drawing payload)
+          ∙ (ap
+          (λ t.
+          first_fault limit (cond (is_some t) (history_of (front (ended_payload payload)))
+          (closed (history_of (front (ended_payload payload))))))
+          (first_terminator-carrying payload (codes "\\") all)
+          ∙ sound);
+    }
+
+-- ---- a text of marks
+
+-- each text of a drawing is one DCS sequence, all of it, with no fault
+pub IsOneString-drawn : (limit : ℕ) (drawing : Drawing) (text : List ℕ) → IsWritable drawing
+    → IsDrawnText drawing text → drawing.width * banded drawing.height ≤ limit
+    → IsOneString limit text
+IsOneString-drawn limit drawing text is drawn room =
+    let definitions = drawn.0 in
+    let marks = drawn.1 in
+    let payload : List ℕ = marks_payload drawing definitions marks in
+    subst (IsOneString limit) (sym drawn.3)
+    (IsOneString-sequence limit drawing payload
+    (carries-payload drawing definitions marks is drawn.2)
+    (payload-sound limit drawing definitions marks (codes "\\") is drawn.2 room))
 
 -- a decoder that can read it does so as the trip
-pub text-trip : (decoder : DecoderState) (drawing : Drawing) → IsWritable drawing
-    → CanRead decoder drawing.width drawing.height
-    → IsReadAs decoder (text_of drawing) (trip decoder.raster_crop drawing)
-text-trip decoder drawing is reads =
+pub IsReadAs-drawn : (decoder : DecoderState) (drawing : Drawing) (text : List ℕ)
+    → IsWritable drawing → IsDrawnText drawing text → CanRead decoder drawing.width drawing.height
+    → IsReadAs decoder text (trip decoder.raster_crop drawing)
+IsReadAs-drawn decoder drawing text is drawn reads =
+    let definitions = drawn.0 in
+    let marks = drawn.1 in
+    let payload : List ℕ = marks_payload drawing definitions marks in
     let trip_of : Found → Type 0 = λ f.
     (found_fault decoder.pixel_limit f ≡ None)
     × IsFoundImage decoder f (trip decoder.raster_crop drawing) in
-    subst trip_of (sym (found-text drawing)) (
-      payload-sound decoder.pixel_limit drawing (codes "\\") is reads.room,
-      sym (payload-trip decoder drawing (codes "\\") is reads.registers),
-    )
-
--- ---- fed to a session
-
--- the text is one control string of this payload
-pub stage-text : (drawing : Drawing)
-    → stage (text_of drawing) ≡ Reading (drawing_settings drawing) (ended_payload drawing)
-stage-text drawing =
-    ap (λ bytes. stage_by (Entered bytes)) (introduced_by drawing)
-    ∙ (ap (stage_after (parameters drawing ++ 113 ∷ ended_payload drawing))
-    (headed-text drawing (ended_payload drawing))
-    ∙ ap (λ s. Reading s (ended_payload drawing)) (settings-text drawing (ended_payload drawing)))
-
--- its payload ends with the text
-payload-complete : (drawing : Drawing) → IsWritable drawing
-    → payload_status (ended_payload drawing) ≡ Complete
-payload-complete drawing is =
-    ap (λ t. payload_status_by t (after_terminator (ended_payload drawing)))
-    (payload-ended drawing (codes "\\") is)
-    ∙ ap (end_status 27) (payload-rest drawing (codes "\\") is)
-
--- all of its bytes are counted
-payload-counted : (drawing : Drawing) → IsWritable drawing
-    → payload_count (ended_payload drawing) ≡ length (ended_payload drawing)
-payload-counted drawing is =
-    let own = ap length (payload-own drawing (codes "\\") is) in
-    let end : payload_count_by (first_terminator (ended_payload drawing))
-    (after_terminator (ended_payload drawing)) ≡ 2 =
-    ap (λ t. payload_count_by t (after_terminator (ended_payload drawing)))
-    (payload-ended drawing (codes "\\") is)
-    ∙ ap (end_count 27) (payload-rest drawing (codes "\\") is) in
-    omega (arith, own, end, length-append (payload_text drawing) (27 ∷ codes "\\"))
-
--- the text is one control string, all of it, with no fault
-pub IsOneString-text : (limit : ℕ) (drawing : Drawing) → IsWritable drawing
-    → drawing.width * banded drawing.height ≤ limit → IsOneString limit (text_of drawing)
-IsOneString-text limit drawing is room =
-    let whole = ap length (text_of-parts drawing) in
-    let total = length-append (parameters_text drawing) (ended_payload drawing) in
-    let counted = payload-counted drawing is in
-    let count :
-    stage_count (text_of drawing) (Reading (drawing_settings drawing) (ended_payload drawing))
-    ≡ length (text_of drawing) = omega arith in
-    record {
-      status = ap stage_status (stage-text drawing) ∙ payload-complete drawing is;
-      count = ap (stage_count (text_of drawing)) (stage-text drawing) ∙ count;
-      sound = ap (stage_fault limit) (stage-text drawing)
-          ∙ (ap
-          (λ t.
-          first_fault limit (cond (is_some t) (history_of (front (ended_payload drawing)))
-          (closed (history_of (front (ended_payload drawing))))))
-          (payload-ended drawing (codes "\\") is)
-          ∙ payload-sound limit drawing (codes "\\") is room);
-    }
+    subst (λ (bytes : List ℕ). IsReadAs decoder bytes (trip decoder.raster_crop drawing))
+    (sym drawn.3)
+    (subst trip_of (sym (found-sequence drawing payload)) (
+      payload-sound decoder.pixel_limit drawing definitions marks (codes "\\") is drawn.2
+          reads.room,
+      sym (payload-trip decoder drawing definitions marks (codes "\\") is drawn.2 reads.registers),
+    ))

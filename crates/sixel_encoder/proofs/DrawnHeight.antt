@@ -1,129 +1,31 @@
 -- How high the tokens of a text make the picture: to the end of the last band that is used.
-use Rattle.std.proofs.Common.{◌≡◌, ℕ, zero, suc, ◌+◌, ◌*◌, ◌<◌, ◌≤◌, max, Bool, true, false, cond}
-use Rattle.std.proofs.Common.{nat_lt, decimal, List, [], ◌∷◌, length, refl, ap, sym, ◌∙◌, arith}
-use Rattle.std.proofs.Common.{inl, inr}
+use Rattle.std.specs.Prelude.{None, Option, decimal, is_some, ◌/◌}
+use Rattle.std.proofs.Common.{Bool, List, [], ap, arith, cond, false, inl, inr, length, max, nat_lt}
+use Rattle.std.proofs.Common.{refl, subst, suc, sym, true, zero, ℕ, ◌*◌, ◌+◌, ◌<◌, ◌∙◌, ◌∷◌, ◌≡◌}
+use Rattle.std.proofs.Common.{◌≤◌}
+use Rattle.std.proofs.lemmas.Bool.{cases_Bool, cases_eq, cases_lt, cond-false, cond-true}
 use Rattle.std.proofs.lemmas.Bool.Decides.{nat_tests}
-use Rattle.std.proofs.lemmas.Bool.{cases_Bool, cases_eq, cond-true, cond-false}
-use Rattle.sixel_base.specs.History.{Sixel, Repeat, Color, History}
-use Rattle.sixel_base.specs.Place.{height, raster_height}
+use Rattle.sixel_base.specs.History.{History, Repeat, Sixel}
 use Rattle.sixel_base.specs.Payload.{image_height}
+use Rattle.sixel_base.specs.Place.{height, raster_height}
 use Rattle.sixel_base.specs.Stroke.{registers}
-use Rattle.sixel_encoder.specs.RunTokens.{RunToken, One, Many, row_tokens}
-use Rattle.sixel_encoder.specs.Text.{Drawing, row_of, has_dot, bands}
-use Rattle.sixel_encoder.specs.Trip.{IsWritable, is_used, bands_up_to, trip_height}
+use Rattle.sixel_encoder.specs.Marks.{AreAllowed, Back, Definition, Draw, Draws}
+use Rattle.sixel_encoder.specs.Marks.{IsAllowed, IsRow, Mark, Next, Pen, Pick, covered, first_pen}
+use Rattle.sixel_encoder.specs.Marks.{is_lit, moved, painted}
+use Rattle.sixel_encoder.specs.RunTokens.{Many, One, RunToken, row_tokens, sixels}
+use Rattle.sixel_encoder.specs.Text.{Drawing, bands}
+use Rattle.sixel_encoder.specs.Trip.{IsWritable, bands_up_to, is_used, trip_height}
+use Rattle.sixel_encoder.proofs.Extent.{height-run_tokens}
+use Rattle.sixel_encoder.proofs.PenSteps.{Follows, Follows-mark}
+use Rattle.sixel_encoder.proofs.RowPixels.{is_lit-past}
 use Rattle.sixel_encoder.proofs.ShortestRows.{spells}
-use Rattle.sixel_encoder.proofs.Digits.{numbers}
-use Rattle.sixel_encoder.proofs.Steps.{steps_keep, steps_same}
-use Rattle.sixel_encoder.proofs.Tokens.{with_run_tokens, with_row, with_entry, with_band}
-use Rattle.sixel_encoder.proofs.Tokens.{with_palette, tokens}
-use Rattle.sixel_encoder.proofs.TextHistory.{AreSound-row, row_of-small}
-use Rattle.sixel_encoder.proofs.Extent.{height-row}
-use Rattle.sixel_encoder.proofs.BetweenRows.{Stands, Stands-entry, Stands-band, length-row_of}
-use Rattle.sixel_encoder.proofs.TextPalette.{Stands-palette, height-palette, raster_height-palette}
-use Rattle.sixel_encoder.proofs.UsedBands.{unused-dots, used-dot}
+use Rattle.sixel_encoder.proofs.TextHistory.{AreSound-row}
+use Rattle.sixel_encoder.proofs.TextPalette.{Follows-palette, height-palette, raster_height-palette}
+use Rattle.sixel_encoder.proofs.Tokens.{tokens, with_mark, with_marks, with_palette}
+use Rattle.sixel_encoder.proofs.Tokens.{with_run_tokens}
+use Rattle.sixel_encoder.proofs.UsedBands.{used-pixel}
 
--- an entry with a dot makes the picture as high as its band
-height-entry : (drawing : Drawing) (start palette : List (List ℕ)) (band entry : ℕ) (h : History)
-    → IsWritable drawing → Stands drawing start palette (6 * band) h
-    → height (with_entry drawing band entry h)
-    ≡ cond (has_dot (row_of drawing band entry)) (max (height h) (6 * band + 6)) (height h)
-height-entry drawing start palette band entry h is stands =
-    let row = row_of drawing band entry in
-    (elim (has_dot row) as
-    (λ b.
-    height (cond b (with_row entry (row_tokens row) h) h)
-    ≡ cond b (max (height h) (6 * band + 6)) (height h)) [
-      | true ↦
-          height-row entry (row_tokens row) h (AreSound-row row (row_of-small drawing band entry))
-          stands.single
-          (omega
-          (arith, ap length (spells row).joined, length-row_of drawing band entry, is.some_width))
-          ∙ ap (λ n. max (height h) (n + 6)) stands.level
-      | false ↦ refl
-    ])
-
--- between two entries of a band: how high the picture is, once a dot has been met
-record Rises (drawing : Drawing) (start palette : List (List ℕ)) (band before dotted k : ℕ)
-    (h : History) : Type 0 where
-  stands : Stands drawing start palette (6 * band) h
-  least : before ≤ height h
-  greatest : height h ≤ max before (6 * band + 6)
-  met : dotted < k → 6 * band + 6 ≤ height h
-
--- the greater of two numbers or the less, by a test
-cond-bounds : (b : Bool) (m n : ℕ) → n ≤ m → (n ≤ cond b m n) × (cond b m n ≤ m)
-cond-bounds true m n h = omega arith
-cond-bounds false m n h = omega arith
-
--- an entry leads to the next
-Rises-entry :
-    (drawing : Drawing) (start palette : List (List ℕ)) (band before dotted k : ℕ) (h : History)
-    → IsWritable drawing → k < length drawing.colors → band < bands drawing.height
-    → has_dot (row_of drawing band dotted) ≡ true
-    → Rises drawing start palette band before dotted k h
-    → Rises drawing start palette band before dotted (k + 1) (with_entry drawing band k h)
-Rises-entry drawing start palette band before dotted k h is lk lower dot rises =
-    let few = is.few in
-    let now = height-entry drawing start palette band k h is rises.stands in
-    let bounds =
-    cond-bounds (has_dot (row_of drawing band k)) (max (height h) (6 * band + 6)) (height h)
-    (omega arith) in
-    record {
-      stands =
-          Stands-entry drawing start palette (6 * band) band k h is (omega arith) (omega arith)
-          rises.stands;
-      least = omega (arith, now, bounds.0, rises.least);
-      greatest = omega (arith, now, bounds.1, rises.greatest);
-      met = λ l. elim (cases_eq dotted k) [
-        | inl same ↦
-            let hit :
-            cond (has_dot (row_of drawing band k)) (max (height h) (6 * band + 6)) (height h)
-            ≡ max (height h) (6 * band + 6) =
-            cond-true (has_dot (row_of drawing band k)) (max (height h) (6 * band + 6)) (height h)
-            (ap (λ e. has_dot (row_of drawing band e)) (sym same) ∙ dot) in
-            omega (arith, now, hit)
-        | inr apart ↦ omega (arith, now, bounds.0, rises.met (omega arith))
-      ];
-    }
-
--- a band that is used makes the picture as high as its end
-height-used : (drawing : Drawing) (start palette : List (List ℕ)) (band : ℕ) (h : History)
-    → IsWritable drawing → band < bands drawing.height → Stands drawing start palette (6 * band) h
-    → is_used drawing band ≡ true
-    → height (with_band drawing band h) ≡ max (height h) (6 * band + 6)
-height-used drawing start palette band h is lower stands used =
-    let dot = used-dot drawing band is used in
-    let first : Rises drawing start palette band (height h) dot.0 0 h = record {
-      stands = stands;
-      least = omega arith;
-      greatest = omega arith;
-      met = λ l. absurd (omega arith);
-    } in
-    let last =
-    steps_keep (λ k g. Rises drawing start palette band (height h) dot.0 k g)
-    (with_entry drawing band) (length drawing.colors)
-    (λ k g lk at. Rises-entry drawing start palette band (height h) dot.0 k g is lk lower dot.2 at)
-    h first in
-    omega (arith, last.least, last.greatest, last.met dot.1)
-
--- any other band keeps the height
-height-unused : (drawing : Drawing) (start palette : List (List ℕ)) (band : ℕ) (h : History)
-    → IsWritable drawing → band < bands drawing.height → Stands drawing start palette (6 * band) h
-    → is_used drawing band ≡ false → height (with_band drawing band h) ≡ height h
-height-unused drawing start palette band h is lower stands unused =
-    let few = is.few in
-    steps_same (λ k g. Stands drawing start palette (6 * band) g)
-    (with_entry drawing band) (length drawing.colors)
-    (λ k g l at.
-    Stands-entry drawing start palette (6 * band) band k g is (omega arith) (omega arith) at)
-    height
-    (λ k g l at.
-    height-entry drawing start palette band k g is at
-    ∙ cond-false (has_dot (row_of drawing band k)) (max (height g) (6 * band + 6)) (height g)
-    (unused-dots drawing band k unused))
-    h stands
-
--- ---- the whole text
+-- ---- the last band that passes a test
 
 -- of no band
 pub bands_up_to-none : (test : ℕ → Bool) → bands_up_to test 0 ≡ 0
@@ -148,52 +50,198 @@ bands_up_to-le test (suc n) =
     cond_le true x y z hx hy = hx
     cond_le false x y z hx hy = hy
 
--- before a band: how high the bands above it have made the picture
-record Reaches (drawing : Drawing) (start palette : List (List ℕ)) (n : ℕ) (h : History)
-    : Type 0 where
-  stands : Stands drawing start palette (6 * n) h
-  high : height h ≡ max drawing.height (6 * bands_up_to (is_used drawing) n)
-
--- a band leads to the next
-Reaches-band : (drawing : Drawing) (start palette : List (List ℕ)) (n : ℕ) (h : History)
-    → IsWritable drawing → n < bands drawing.height → Reaches drawing start palette n h
-    → Reaches drawing start palette (n + 1) (with_band drawing n h)
-Reaches-band drawing start palette n h is lower reaches =
-    let next = bands_up_to-more (is_used drawing) n in
-    let below = bands_up_to-le (is_used drawing) n in
-    record {
-      stands = Stands-band drawing start palette n h is lower reaches.stands;
-      high = elim (cases_Bool (is_used drawing n)) [
-        | inl used ↦ omega (
+-- a band that passes the test is among those up to the last that does
+bands_up_to-passed : (test : ℕ → Bool) (n band : ℕ) → band < n → test band ≡ true
+    → band + 1 ≤ bands_up_to test n
+bands_up_to-passed test zero band l passed = absurd (omega arith)
+bands_up_to-passed test (suc n) band l passed =
+    let e : n + 1 ≡ suc n = omega arith in
+    subst (λ (m : ℕ). band + 1 ≤ bands_up_to test m) e
+    (elim (cases_eq band n) [
+      | inl same ↦ omega (
+        arith,
+        bands_up_to-more test n,
+        cond-true (test n) (n + 1) (bands_up_to test n) (ap test (sym same) ∙ passed),
+      )
+      | inr apart ↦ elim (cases_Bool (test n)) [
+        | inl passes ↦ omega
+            (arith, bands_up_to-more test n, cond-true (test n) (n + 1) (bands_up_to test n) passes)
+        | inr fails ↦ omega (
           arith,
-          height-used drawing start palette n h is lower reaches.stands used,
-          reaches.high,
-          next,
-          cond-true (is_used drawing n) (n + 1) (bands_up_to (is_used drawing) n) used,
+          bands_up_to-more test n,
+          cond-false (test n) (n + 1) (bands_up_to test n) fails,
+          bands_up_to-passed test n band (omega arith) passed,
         )
-        | inr unused ↦ omega (
-          arith,
-          height-unused drawing start palette n h is lower reaches.stands unused,
-          reaches.high,
-          next,
-          cond-false (is_used drawing n) (n + 1) (bands_up_to (is_used drawing) n) unused,
-        )
-      ];
-    }
+      ]
+    ])
 
--- the tokens make the picture as high as the trip
-pub height-tokens : (drawing : Drawing) → IsWritable drawing
-    → height (tokens drawing) ≡ trip_height false drawing
-height-tokens drawing is =
-    let first : Reaches drawing [] (registers [] (with_palette drawing)) 0 (with_palette drawing) =
-    record {
-      stands = Stands-palette [] drawing is;
-      high = omega (arith, height-palette drawing is, bands_up_to-none (is_used drawing));
-    } in
-    (steps_keep (λ k g. Reaches drawing [] (registers [] (with_palette drawing)) k g)
-    (with_band drawing) (bands drawing.height)
-    (λ k g lk at. Reaches-band drawing [] (registers [] (with_palette drawing)) k g is lk at)
-    (with_palette drawing) first).high
+-- the last band that passes the test, if there is one
+bands_up_to-last : (test : ℕ → Bool) (n : ℕ) → 0 < bands_up_to test n
+    → (band : ℕ) × (bands_up_to test n ≡ band + 1) × (test band ≡ true)
+bands_up_to-last test zero some = absurd (omega (arith, bands_up_to-none test))
+bands_up_to-last test (suc n) some =
+    let e : n + 1 ≡ suc n = omega arith in
+    let more : bands_up_to test (suc n) ≡ cond (test n) (n + 1) (bands_up_to test n) =
+    ap (bands_up_to test) (sym e) ∙ bands_up_to-more test n in
+    elim (cases_Bool (test n)) [
+      | inl passes ↦ (n, more ∙ cond-true (test n) (n + 1) (bands_up_to test n) passes, passes)
+      | inr fails ↦
+          let same = more ∙ cond-false (test n) (n + 1) (bands_up_to test n) fails in
+          let last = bands_up_to-last test n (omega (arith, same)) in
+          (last.0, same ∙ last.1, last.2)
+    ]
+
+-- ---- one mark
+
+-- a row of no sixel changes nothing
+empty-row : (row : List ℕ) (h : History) → length row ≡ 0
+    → height (with_run_tokens (row_tokens row) h) ≡ height h
+unfolding sixels
+empty-row [] h none = refl
+empty-row (b ∷ row) h none = absurd (omega arith)
+
+-- A row makes the picture no lower, and no higher than to the end of its band. If it has a sixel,
+-- the picture reaches to there.
+height-row :
+    (drawing : Drawing) (start palette : List (List ℕ)) (pen : Pen) (row : List ℕ) (h : History)
+    → IsRow drawing pen row → Follows drawing start palette pen h
+    → (height h ≤ height (with_run_tokens (row_tokens row) h))
+    × (height (with_run_tokens (row_tokens row) h) ≤ max (height h) (6 * pen.band + 6))
+    × (0 < length row → 6 * pen.band + 6 ≤ height (with_run_tokens (row_tokens row) h))
+height-row drawing start palette pen row h may follows =
+    let level = follows.level in
+    elim (cases_lt 0 (length row)) [
+      | inl some ↦
+          let high =
+          height-run_tokens (row_tokens row) h (AreSound-row row may.small) follows.single
+          (omega (arith, ap length (spells row).joined)) in
+          (omega (arith, high), omega (arith, high), λ l. omega (arith, high))
+      | inr none ↦
+          let same = empty-row row h (omega arith) in
+          (omega (arith, same), omega (arith, same), λ l. absurd (omega arith))
+    ]
+
+-- a row that sets a pixel has a sixel, and the pixel is in its band
+lit-row : (row : List ℕ) (from top column line : ℕ) → is_lit row from top column line ≡ true
+    → (0 < length row) × (top ≤ line) × (line < top + 6)
+lit-row row from top column line lit = (some, low, high)
+  where
+    some : 0 < length row
+    some = elim (cases_lt column (from + length row)) [
+      | inl inside ↦ elim (cases_lt column from) [
+        | inl before ↦ absurd (grind (arith, nat_tests))
+        | inr since ↦ omega arith
+      ]
+      | inr past ↦ let none = is_lit-past row from top column line past in absurd cc
+    ]
+
+    low : top ≤ line
+    low = grind (arith, nat_tests)
+
+    high : line < top + 6
+    high = grind (arith, nat_tests)
+
+-- how high the trip is without crop
+abbrev uncropped_height : Drawing → ℕ
+uncropped_height drawing =
+    max drawing.height (6 * bands_up_to (is_used drawing) (bands drawing.height))
+
+-- The picture is at least as high as the drawing, and no higher than the trip. If the pixel is
+-- drawn in a register, the picture reaches to the end of its band.
+record Reaches (drawing : Drawing) (line : ℕ) (place : Option ℕ) (h : History) : Type 0 where
+  least : drawing.height ≤ height h
+  greatest : height h ≤ uncropped_height drawing
+  reached : is_some place ≡ true → 6 * (line / 6) + 6 ≤ height h
+
+-- a mark keeps that
+Reaches-mark : (drawing : Drawing) (start palette : List (List ℕ)) (pen : Pen) (mark : Mark)
+    (before : Option ℕ) (h : History) (column line : ℕ) → IsAllowed drawing pen mark
+    → Follows drawing start palette pen h → Reaches drawing line before h
+    → Reaches drawing line (covered pen mark before column line) (with_mark mark h)
+Reaches-mark drawing start palette pen (Pick register) before h column line may follows was =
+    record { least = was.least; greatest = was.greatest; reached = was.reached }
+Reaches-mark drawing start palette pen (Draw row) before h column line may follows was = record {
+  least = omega (arith, was.least, now.0);
+  greatest = omega (
+    arith,
+    was.greatest,
+    now.1,
+    bands_up_to-passed (is_used drawing) (bands drawing.height) pen.band may.lower may.used,
+  );
+  reached = go (is_lit row pen.column (6 * pen.band) column line) refl;
+}
+  where
+    new : ℕ
+    new = height (with_run_tokens (row_tokens row) h)
+
+    now : (height h ≤ new) × (new ≤ max (height h) (6 * pen.band + 6))
+        × (0 < length row → 6 * pen.band + 6 ≤ new)
+    now = height-row drawing start palette pen row h may follows
+
+    go : (b : Bool) → is_lit row pen.column (6 * pen.band) column line ≡ b
+        → is_some (cond b pen.register before) ≡ true → 6 * (line / 6) + 6 ≤ new
+    go true lit some =
+        let in_row = lit-row row pen.column (6 * pen.band) column line lit in
+        let low : 6 * pen.band ≤ line = in_row.1 in
+        let high : line < 6 * pen.band + 6 = in_row.2 in
+        omega (arith, now.2 in_row.0)
+    go false lit some = omega (arith, was.reached some, now.0)
+Reaches-mark drawing start palette pen Back before h column line may follows was =
+    record { least = was.least; greatest = was.greatest; reached = was.reached }
+Reaches-mark drawing start palette pen Next before h column line may follows was =
+    record { least = was.least; greatest = was.greatest; reached = was.reached }
+
+-- ---- all marks
+
+-- marks keep it too
+Reaches-marks : (drawing : Drawing) (start palette : List (List ℕ)) (pen : Pen) (marks : List Mark)
+    (before : Option ℕ) (h : History) (column line : ℕ) → IsWritable drawing
+    → AreAllowed drawing pen marks → Follows drawing start palette pen h
+    → Reaches drawing line before h
+    → Reaches drawing line (painted marks pen before column line) (with_marks marks h)
+Reaches-marks drawing start palette pen [] before h column line is may follows was = was
+Reaches-marks drawing start palette pen (mark ∷ marks) before h column line is may follows was =
+    Reaches-marks drawing start palette (moved pen mark) marks (covered pen mark before column line)
+    (with_mark mark h) column line is may.1
+    (Follows-mark drawing start palette pen mark h is may.0 follows)
+    (Reaches-mark drawing start palette pen mark before h column line may.0 follows was)
+
+-- the marks make the picture as high as the trip
+height-tokens : (drawing : Drawing) (definitions : List Definition) (marks : List Mark)
+    → IsWritable drawing → Draws drawing definitions marks
+    → height (tokens drawing definitions marks) ≡ uncropped_height drawing
+height-tokens drawing definitions marks is draws =
+    elim (cases_lt 0 (bands_up_to (is_used drawing) (bands drawing.height))) [
+      | inr none ↦ let all = reaches 0 0 in omega (arith, all.least, all.greatest)
+      | inl some ↦
+          let last = bands_up_to-last (is_used drawing) (bands drawing.height) some in
+          let at = used-pixel drawing last.0 is last.2 in
+          let count : bands_up_to (is_used drawing) (bands drawing.height) ≡ last.0 + 1 = last.1 in
+          let band : at.1 / 6 ≡ last.0 = at.5 in
+          let all = reaches at.0 at.1 in
+          omega (
+            arith,
+            all.least,
+            all.greatest,
+            all.reached (ap is_some (draws.opaque at.0 at.1 at.2 at.3 at.4 at.6).1),
+          )
+    ]
+  where
+    start_height : height (with_palette drawing definitions) ≡ drawing.height
+    start_height = height-palette drawing definitions is
+
+    reaches : (column line : ℕ)
+        → Reaches drawing line (painted marks first_pen None column line)
+        (tokens drawing definitions marks)
+    reaches column line =
+        Reaches-marks drawing [] (registers [] (with_palette drawing definitions)) first_pen marks
+        None (with_palette drawing definitions) column line is draws.allowed
+        (Follows-palette [] drawing definitions is)
+        record {
+          least = omega (arith, start_height);
+          greatest = omega (arith, start_height);
+          reached = λ some. absurd cc;
+        }
 
 -- ---- the height that raster attributes name
 
@@ -205,45 +253,31 @@ raster_height-run_tokens (One bits ∷ tokens) h = raster_height-run_tokens toke
 raster_height-run_tokens (Many count bits ∷ tokens) h =
     raster_height-run_tokens tokens (Sixel bits ∷ Repeat (decimal count) ∷ h)
 
--- nor does an entry
-raster_height-entry : (drawing : Drawing) (band entry : ℕ) (h : History)
-    → raster_height (with_entry drawing band entry h) ≡ raster_height h
-raster_height-entry drawing band entry h =
-    let row = row_of drawing band entry in
-    (elim (has_dot row) as
-    (λ b. raster_height (cond b (with_row entry (row_tokens row) h) h) ≡ raster_height h) [
-      | true ↦ raster_height-run_tokens (row_tokens row) (Color (numbers entry []) ∷ h)
-      | false ↦ refl
-    ])
-
--- nor a band
-raster_height-band : (drawing : Drawing) (band : ℕ) (h : History)
-    → raster_height (with_band drawing band h) ≡ raster_height h
-raster_height-band drawing band h =
-    steps_same (λ k g. Unit {0}) (with_entry drawing band) (length drawing.colors) (λ k g l is. tt)
-    raster_height
-    (λ k g l is. raster_height-entry drawing band k g)
-    h tt
-
--- so the last height that the tokens name is the drawing's
-raster_height-tokens : (drawing : Drawing) → IsWritable drawing
-    → raster_height (tokens drawing) ≡ drawing.height
-raster_height-tokens drawing is =
-    steps_same (λ k g. Unit {0}) (with_band drawing) (bands drawing.height) (λ k g l at. tt)
-    raster_height
-    (λ k g l at. raster_height-band drawing k g)
-    (with_palette drawing) tt
-    ∙ raster_height-palette drawing is
+-- nor does a mark
+raster_height-marks : (marks : List Mark) (h : History)
+    → raster_height (with_marks marks h) ≡ raster_height h
+raster_height-marks [] h = refl
+raster_height-marks (Pick register ∷ marks) h =
+    raster_height-marks marks (with_mark (Pick register) h)
+raster_height-marks (Draw row ∷ marks) h =
+    raster_height-marks marks (with_mark (Draw row) h) ∙ raster_height-run_tokens (row_tokens row) h
+raster_height-marks (Back ∷ marks) h = raster_height-marks marks (with_mark Back h)
+raster_height-marks (Next ∷ marks) h = raster_height-marks marks (with_mark Next h)
 
 -- a height that is named is the one, whatever the other
 height-cropped : (n other : ℕ) → 1 ≤ n → cond (nat_lt 0 n) n other ≡ n
 height-cropped n other some = grind (arith, nat_tests)
 
 -- the image of the tokens is as high as the trip
-pub image_height-tokens : (crop : Bool) (drawing : Drawing) → IsWritable drawing
-    → image_height crop (tokens drawing) ≡ trip_height crop drawing
-image_height-tokens true drawing is =
-    let named = raster_height-tokens drawing is in
-    height-cropped (raster_height (tokens drawing)) (height (tokens drawing))
-    (omega (arith, named, is.some_height)) ∙ named
-image_height-tokens false drawing is = height-tokens drawing is
+pub image_height-tokens :
+    (crop : Bool) (drawing : Drawing) (definitions : List Definition) (marks : List Mark)
+    → IsWritable drawing → Draws drawing definitions marks
+    → image_height crop (tokens drawing definitions marks) ≡ trip_height crop drawing
+image_height-tokens true drawing definitions marks is draws =
+    let named : raster_height (tokens drawing definitions marks) ≡ drawing.height =
+    raster_height-marks marks (with_palette drawing definitions)
+    ∙ raster_height-palette drawing definitions is in
+    height-cropped (raster_height (tokens drawing definitions marks))
+    (height (tokens drawing definitions marks)) (omega (arith, named, is.some_height)) ∙ named
+image_height-tokens false drawing definitions marks is draws =
+    height-tokens drawing definitions marks is draws

@@ -1,22 +1,21 @@
--- How far the rows of a text reach: within the width, within the bands, and so without a fault.
-use Rattle.std.proofs.Common.{◌≡◌, ℕ, ◌+◌, ◌*◌, ◌<◌, ◌≤◌, max, List, [], ◌∷◌, length, refl, ap, ◌∙◌}
-use Rattle.std.proofs.Common.{arith, length-append}
-use Rattle.std.specs.Prelude.{decimal, flat_map, Option, Some, None}
+-- How far the tokens of a text reach: within the width, within the bands, and so without a fault.
 use Rattle.std.specs.Option.{option_or}
+use Rattle.std.specs.Prelude.{None, Option, Some, decimal, flat_map}
+use Rattle.std.proofs.Common.{List, [], ap, arith, length, length-append, max, refl, ℕ, ◌*◌, ◌+◌}
+use Rattle.std.proofs.Common.{◌<◌, ◌∙◌, ◌∷◌, ◌≡◌, ◌≤◌}
 use Rattle.std.proofs.lemmas.Bool.Decides.{nat_tests}
-use Rattle.std.proofs.lemmas.Nat.{mul-le}
 use Rattle.std.proofs.lemmas.List.{length-replicate}
-use Rattle.sixel_base.specs.History.{Token, Sixel, Repeat, Raster, Color, Return, Newline, Skip}
-use Rattle.sixel_base.specs.History.{History}
+use Rattle.std.proofs.lemmas.Nat.{mul-le}
 use Rattle.sixel_base.specs.Fault.{Fault}
 use Rattle.sixel_base.specs.Fields.{field}
-use Rattle.sixel_base.specs.Place.{span, across, down, width, height}
+use Rattle.sixel_base.specs.History.{Color, History, Newline, Raster, Repeat, Return, Sixel, Skip}
+use Rattle.sixel_base.specs.History.{Token}
 use Rattle.sixel_base.specs.Payload.{extent_fault, fault_of, first_fault}
-use Rattle.sixel_encoder.specs.RunTokens.{RunToken, One, Many, sixels}
-use Rattle.sixel_encoder.proofs.Digits.{numbers}
-use Rattle.sixel_encoder.proofs.Tokens.{with_run_token, with_run_tokens, with_row}
-use Rattle.sixel_encoder.proofs.TextHistory.{IsSound, AreSound}
+use Rattle.sixel_base.specs.Place.{across, down, height, span, width}
+use Rattle.sixel_encoder.specs.RunTokens.{Many, One, RunToken, sixels}
 use Rattle.sixel_encoder.proofs.RowSteps.{Moved-run_token, field-decimal}
+use Rattle.sixel_encoder.proofs.TextHistory.{AreSound, IsSound}
+use Rattle.sixel_encoder.proofs.Tokens.{with_run_token, with_run_tokens}
 
 -- a size that is within the limits
 pub record IsWithinLimits (limit w h : ℕ) : Type 0 where
@@ -43,13 +42,14 @@ area-within limit w h history small wide high =
     omega (arith, small.area, mul-le (width history) (height history) w h (omega arith) high)
 
 -- a token without a fault adds none
-first_fault-more : (limit : ℕ) (token : Token) (older : History) → first_fault limit older ≡ None
+pub first_fault-more : (limit : ℕ) (token : Token) (older : History)
+    → first_fault limit older ≡ None
     → fault_of limit token older ≡ None → first_fault limit (token ∷ older) ≡ None
 first_fault-more limit token older before now =
     ap (λ f. option_or f (fault_of limit token older)) before ∙ now
 
 -- a sixel within the sizes
-pub Fits-sixel : (limit w h bits : ℕ) (history : History) → IsWithinLimits limit w h
+Fits-sixel : (limit w h bits : ℕ) (history : History) → IsWithinLimits limit w h
     → across history + span history ≤ w → down history + 6 ≤ h → Fits limit w h history
     → Fits limit w h (Sixel bits ∷ history)
 Fits-sixel limit w h bits history small right lower fits =
@@ -108,28 +108,6 @@ Fits-run_tokens limit w h (token ∷ tokens) history small are one right lower f
     Fits-run_tokens limit w h tokens (with_run_token token history) small are.1 moved.single
     (omega (arith, moved.place, both)) (omega (arith, moved.level))
     (Fits-run_token limit w h token history small are.0 one (omega (arith, both)) lower fits)
-
--- a row stays within the width and the bands
-pub Fits-row : (limit w h entry : ℕ) (tokens : List RunToken) (history : History)
-    → IsWithinLimits limit w h → AreSound tokens → span history ≡ 1
-    → across history + length (flat_map sixels tokens) ≤ w → down history + 6 ≤ h
-    → Fits limit w h history → Fits limit w h (with_row entry tokens history)
-Fits-row limit w h entry tokens history small are one right lower fits =
-    let named : Fits limit w h (Color (numbers entry []) ∷ history) = record {
-      wide = fits.wide;
-      high = fits.high;
-      sound = first_fault-more limit (Color (numbers entry [])) history fits.sound refl;
-    } in
-    let drawn =
-    Fits-run_tokens limit w h tokens (Color (numbers entry []) ∷ history) small are one right lower
-    named in
-    record {
-      wide = drawn.wide;
-      high = drawn.high;
-      sound =
-          first_fault-more limit Return
-          (with_run_tokens tokens (Color (numbers entry []) ∷ history)) drawn.sound refl;
-    }
 
 -- a new line within the limits is no fault
 newline-sound : (limit : ℕ) (history : History) → down history + 6 ≤ 1000000
@@ -207,7 +185,7 @@ first_fault-other limit other (token ∷ older) is small =
     (first_fault-other limit other older both.0 (omega (arith, area-older token older, small)))
     (fault_of-other limit other token older both.1 small)
 
--- ---- how high a row makes the picture
+-- ---- how high run-length tokens make the picture
 
 -- a run-length token reaches to the end of its band
 height-run_token : (token : RunToken) (history : History)
@@ -228,17 +206,16 @@ height-kept (token ∷ tokens) history are one h =
       height-run_token token history,
     )
 
--- a row with a sixel reaches to the end of its band
-pub height-row : (entry : ℕ) (tokens : List RunToken) (history : History) → AreSound tokens
-    → span history ≡ 1 → 0 < length (flat_map sixels tokens)
-    → height (with_row entry tokens history) ≡ max (height history) (down history + 6)
-height-row entry [] history are one some = absurd (omega arith)
-height-row entry (token ∷ tokens) history are one some =
-    let named : History = Color (numbers entry []) ∷ history in
-    let moved = Moved-run_token token named are.0 one in
+-- run-length tokens with a sixel reach to the end of their band
+pub height-run_tokens : (tokens : List RunToken) (h : History) → AreSound tokens → span h ≡ 1
+    → 0 < length (flat_map sixels tokens)
+    → height (with_run_tokens tokens h) ≡ max (height h) (down h + 6)
+height-run_tokens [] h are one some = absurd (omega arith)
+height-run_tokens (token ∷ tokens) h are one some =
+    let went = Moved-run_token token h are.0 one in
     omega (
       arith,
-      height-kept tokens (with_run_token token named) are.1 moved.single
-          (omega (arith, moved.level, height-run_token token named)),
-      height-run_token token named,
+      height-kept tokens (with_run_token token h) are.1 went.single
+          (omega (arith, went.level, height-run_token token h)),
+      height-run_token token h,
     )

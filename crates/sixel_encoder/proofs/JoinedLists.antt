@@ -2,7 +2,9 @@
 -- on no list past the end.
 use Rattle.std.proofs.Common.{◌≡◌, ℕ, zero, suc, ◌+◌, ◌<◌, ◌≤◌, List, [], ◌++◌, append_assoc, refl}
 use Rattle.std.proofs.Common.{ap, sym, ◌∙◌, inl, inr, arith}
+use Rattle.std.specs.Prelude.{flat_map}
 use Rattle.std.proofs.lemmas.Bool.{cases_lt}
+use Rattle.std.proofs.lemmas.Grind.{flat_map-append}
 use Rattle.std.proofs.lemmas.List.{append-nil}
 use Rattle.sixel_base.specs.Picture.{joined}
 
@@ -46,3 +48,14 @@ joined-past f n (suc m) l none =
       | inr above ↦ ap (λ xs. joined f m ++ xs) (none m above)
           ∙ (append-nil (joined f m) ∙ joined-past f n m above none)
     ]
+
+-- what each list becomes, joined
+pub flat_map-joined : {X A : Type 0} (f : X → List A) (step : ℕ → List X) (text : ℕ → List A)
+    → ((k : ℕ) → flat_map f (step k) ≡ text k) → (n : ℕ)
+    → flat_map f (joined step n) ≡ joined text n
+unfolding joined
+flat_map-joined f step text each zero = refl
+flat_map-joined f step text each (suc n) =
+    flat_map-append f (joined step n) (step n)
+    ∙ (ap (λ s. s ++ flat_map f (step n)) (flat_map-joined f step text each n)
+    ∙ ap (λ s. joined text n ++ s) (each n))

@@ -24,6 +24,7 @@ pub mod DrawnHeight
 pub mod RoundTrip
 pub mod RowPixels
 pub mod SixBits
+pub mod RasterAttributes
 pub mod TextPalette
 pub mod TextHistory
 pub mod TextPixels
@@ -31,8 +32,12 @@ pub mod Percentages
 pub mod RowSteps
 pub mod TripPixels
 pub mod Sizes
-pub mod BetweenRows
-pub mod Steps
+pub mod PenSteps
+pub mod EntryRows
+pub mod MarkSteps
+pub mod PlainPayload
+pub mod PlainMarks
+pub mod PlainText
 pub mod Tokens
 pub mod UsedBands
 pub mod EncodedText

@@ -1,36 +1,39 @@
--- The round trip: what the payload of a drawing's text means is the drawing's trip, without a
--- fault.
-use Rattle.std.proofs.Common.{◌≡◌, ℕ, ◌+◌, ◌*◌, ◌<◌, ◌≤◌, Bool, List, [], ◌∷◌, ◌++◌, length, refl}
-use Rattle.std.proofs.Common.{ap, sym, subst, ◌∙◌, arith, inl, inr}
-use Rattle.std.specs.Prelude.{Option, Some, None, IfSome, slice_index_or}
+-- The round trip: what the payload of marks that draw a drawing means is the drawing's trip,
+-- without a fault.
+use Rattle.std.specs.Prelude.{None, Option, Some, slice_index_or}
+use Rattle.std.proofs.Common.{Bool, List, [], ap, arith, inl, inr, length, refl, sym, ℕ, ◌*◌, ◌++◌}
+use Rattle.std.proofs.Common.{◌+◌, ◌<◌, ◌∙◌, ◌∷◌, ◌≡◌, ◌≤◌}
 use Rattle.std.proofs.lemmas.Bool.{cases_lt}
-use Rattle.std.proofs.lemmas.Nat.{mul-add-lt, mul-le}
 use Rattle.std.proofs.lemmas.List.{get_or_past}
-use Rattle.std.proofs.lemmas.List.FromFn.{length-map-range_with_len, get_or-map-range_with_len}
+use Rattle.std.proofs.lemmas.List.FromFn.{get_or-map-range_with_len, length-map-range_with_len}
+use Rattle.std.proofs.lemmas.Nat.{mul-le}
+use Rattle.sixel_base.specs.Color.{default_color, default_registers}
+use Rattle.sixel_base.specs.Decoder.{origin_of}
+use Rattle.sixel_base.specs.History.{History}
+use Rattle.sixel_base.specs.Payload.{Image, area_limit, first_fault, image_height, image_of}
+use Rattle.sixel_base.specs.Payload.{payload_fault, payload_image}
+use Rattle.sixel_base.specs.Picture.{joined, picture}
+use Rattle.sixel_base.specs.Place.{height, width}
+use Rattle.sixel_base.specs.Settings.{mode_of, mode_of_p2, p2_of, ratio_of}
+use Rattle.sixel_base.specs.Size.{banded}
+use Rattle.sixel_base.specs.Stroke.{Origin, background, background_of, pixel, registers}
 use Rattle.sixel_base.specs.declared.settings.BackgroundMode.{BackgroundMode}
 use Rattle.sixel_base.specs.declared.settings.BackgroundMode.TheVariants.{Opaque, Transparent}
 use Rattle.sixel_base.specs.declared.settings.PixelAspectRatio.{PixelAspectRatio}
-use Rattle.sixel_base.specs.Color.{default_color, default_registers}
-use Rattle.sixel_base.specs.Settings.{mode_of, ratio_of, p2_of, mode_of_p2}
-use Rattle.sixel_base.specs.Picture.{joined, picture}
-use Rattle.sixel_base.specs.Place.{width, height}
-use Rattle.sixel_base.specs.Stroke.{Origin, registers, background, background_of, pixel}
-use Rattle.sixel_base.specs.Size.{banded}
-use Rattle.sixel_base.specs.Decoder.{origin_of}
 use Rattle.sixel_base.specs.declared.state.DecoderState.{DecoderState}
-use Rattle.sixel_base.specs.Payload.{Image, image_height, image_of, payload_image, payload_fault}
-use Rattle.sixel_base.specs.Payload.{area_limit, first_fault}
-use Rattle.sixel_encoder.specs.Text.{Drawing, entry_at, bands}
-use Rattle.sixel_encoder.specs.Trip.{IsWritable, payload_text, drawing_settings, blank, trip_pixel}
-use Rattle.sixel_encoder.specs.Trip.{trip_height, trip}
-use Rattle.sixel_base.proofs.Joined.{joined-same}
-use Rattle.sixel_encoder.proofs.Tokens.{with_palette, tokens}
-use Rattle.sixel_encoder.proofs.TextHistory.{payload-read}
-use Rattle.sixel_encoder.proofs.BetweenRows.{Stands, Stands-bands}
-use Rattle.sixel_encoder.proofs.TextPalette.{Stands-palette, IsDefined-palette}
-use Rattle.sixel_encoder.proofs.TextPixels.{pixel-none, pixel-some}
+use Rattle.sixel_encoder.specs.Marks.{Definition, Draws, Mark, first_pen, marks_payload}
+use Rattle.sixel_encoder.specs.Marks.{painted}
+use Rattle.sixel_encoder.specs.Text.{Drawing, entry_at}
+use Rattle.sixel_encoder.specs.Trip.{IsWritable, blank, drawing_settings, trip, trip_height}
+use Rattle.sixel_encoder.specs.Trip.{trip_pixel}
 use Rattle.sixel_encoder.proofs.DrawnHeight.{image_height-tokens}
 use Rattle.sixel_encoder.proofs.Extent.{first_fault-other}
+use Rattle.sixel_encoder.proofs.JoinedLists.{joined-same}
+use Rattle.sixel_encoder.proofs.PenSteps.{Follows, Follows-marks, moved_by}
+use Rattle.sixel_encoder.proofs.TextHistory.{payload-read}
+use Rattle.sixel_encoder.proofs.TextPalette.{Follows-palette, pixel-palette, register-palette}
+use Rattle.sixel_encoder.proofs.TextPixels.{pixel-marks, color_in}
+use Rattle.sixel_encoder.proofs.Tokens.{tokens, with_palette}
 
 -- a picture depends on its pixels alone
 pub picture-same : (p q : ℕ → ℕ → List ℕ) (w h : ℕ)
@@ -46,18 +49,10 @@ picture-same p q w h same =
     (λ column lc. same column row lc lr))
 
 -- an origin at which a drawing's text can be read: enough registers, and the drawing's background
-pub record IsOrigin (drawing : Drawing) (origin : Origin) : Type 0 where
-  pub size : length origin.registers ≡ 256
-  pub mode : mode_of origin.settings ≡ drawing.background_mode
-  pub ground : background origin ≡ blank drawing.background_mode
-
--- after the last band
-Stands-tokens : (drawing : Drawing) (start : List (List ℕ)) → IsWritable drawing
-    → Stands drawing start (registers start (with_palette drawing)) (6 * bands drawing.height)
-    (tokens drawing)
-Stands-tokens drawing start is =
-    Stands-bands drawing start (registers start (with_palette drawing)) (bands drawing.height)
-    (with_palette drawing) is (omega arith) (Stands-palette start drawing is)
+record IsOrigin (drawing : Drawing) (origin : Origin) : Type 0 where
+  size : length origin.registers ≡ 256
+  mode : mode_of origin.settings ≡ drawing.background_mode
+  ground : background origin ≡ blank drawing.background_mode
 
 -- below the drawing there is no entry
 entry_at-below : (drawing : Drawing) (column line : ℕ) → IsWritable drawing → drawing.height ≤ line
@@ -67,37 +62,58 @@ entry_at-below drawing column line is below =
     (omega
     (arith, is.pixels, mul-le drawing.height drawing.width line drawing.width below (omega arith)))
 
--- an entry that occurs is one of the drawing's, and within its lines
-known_entry : (drawing : Drawing) (column line entry : ℕ) → IsWritable drawing
-    → column < drawing.width → line < drawing.height → entry_at drawing column line ≡ Some entry
-    → entry < length drawing.colors
-known_entry drawing column line entry is lc ll e =
-    subst (λ (v : Option ℕ). IfSome v (λ n. n < length drawing.colors)) e
-    (is.known (line * drawing.width + column) None
-    (omega (arith, is.pixels, mul-add-lt line drawing.width column drawing.height ll lc)))
+-- after the last mark
+Follows-tokens :
+    (drawing : Drawing) (definitions : List Definition) (marks : List Mark) (start : List (List ℕ))
+    → IsWritable drawing → Draws drawing definitions marks
+    → Follows drawing start (registers start (with_palette drawing definitions))
+    (moved_by marks first_pen) (tokens drawing definitions marks)
+Follows-tokens drawing definitions marks start is draws =
+    Follows-marks drawing start (registers start (with_palette drawing definitions)) first_pen marks
+    (with_palette drawing definitions) is draws.allowed
+    (Follows-palette start drawing definitions is)
 
 -- each pixel is that of the trip
-pixel-trip : (drawing : Drawing) (origin : Origin) (column line : ℕ) → IsWritable drawing
+pixel-trip : (drawing : Drawing) (definitions : List Definition) (marks : List Mark)
+    (origin : Origin) (column line : ℕ) → IsWritable drawing → Draws drawing definitions marks
     → IsOrigin drawing origin → column < drawing.width
-    → pixel origin (tokens drawing) column line ≡ trip_pixel drawing (entry_at drawing column line)
-pixel-trip drawing origin column line is from lc = go (entry_at drawing column line) refl
+    → pixel origin (tokens drawing definitions marks) column line
+    ≡ trip_pixel drawing (entry_at drawing column line)
+pixel-trip drawing definitions marks origin column line is draws from lc =
+    go (entry_at drawing column line) refl
   where
+    palette : List (List ℕ)
+    palette = registers origin.registers (with_palette drawing definitions)
+
+    last : pixel origin (tokens drawing definitions marks) column line
+        ≡ color_in palette (background origin) (painted marks first_pen None column line)
+    last =
+        pixel-marks drawing origin palette (background origin) first_pen marks None
+        (with_palette drawing definitions) column line is draws.allowed
+        (Follows-palette origin.registers drawing definitions is)
+        (pixel-palette drawing definitions origin column line)
+
     nothing : entry_at drawing column line ≡ None
-        → pixel origin (tokens drawing) column line ≡ trip_pixel drawing None
-    nothing e = pixel-none drawing origin column line is lc e ∙ from.ground
+        → pixel origin (tokens drawing definitions marks) column line ≡ trip_pixel drawing None
+    nothing e =
+        last
+        ∙ (ap (color_in palette (background origin)) (draws.transparent column line lc e)
+        ∙ from.ground)
 
     go : (place : Option ℕ) → entry_at drawing column line ≡ place
-        → pixel origin (tokens drawing) column line
+        → pixel origin (tokens drawing definitions marks) column line
         ≡ trip_pixel drawing (entry_at drawing column line)
     go None e = nothing e ∙ ap (trip_pixel drawing) (sym e)
     go (Some entry) e =
         elim (cases_lt line drawing.height) [
           | inl inside ↦
-              let known = known_entry drawing column line entry is lc inside e in
-              pixel-some drawing origin column line entry is lc inside e known
+              let has = draws.opaque column line entry lc inside e in
+              last
+              ∙ (ap (color_in palette (background origin)) has.1
               ∙ (ap (λ c. c ++ 255 ∷ [])
-              ((IsDefined-palette origin.registers drawing is from.size).rounds entry known)
-              ∙ ap (trip_pixel drawing) (sym e))
+              (register-palette origin.registers drawing definitions has.0 entry is draws.defined
+              from.size has.2)
+              ∙ ap (trip_pixel drawing) (sym e)))
           | inr below ↦
               let none = entry_at-below drawing column line is below in
               nothing none ∙ ap (trip_pixel drawing) (sym none)
@@ -115,25 +131,28 @@ image-same a b pixels wide high shape mode =
     parts
 
 -- the image of the tokens is the trip
-pub image-tokens : (drawing : Drawing) (origin : Origin) → IsWritable drawing
-    → IsOrigin drawing origin → image_of origin (tokens drawing) ≡ trip origin.raster_crop drawing
-image-tokens drawing origin is from =
+image-tokens :
+    (drawing : Drawing) (definitions : List Definition) (marks : List Mark) (origin : Origin)
+    → IsWritable drawing → Draws drawing definitions marks → IsOrigin drawing origin
+    → image_of origin (tokens drawing definitions marks) ≡ trip origin.raster_crop drawing
+image-tokens drawing definitions marks origin is draws from =
     let crop : Bool = origin.raster_crop in
-    let stands = Stands-tokens drawing origin.registers is in
-    let wide = stands.fits.wide in
-    let high = image_height-tokens crop drawing is in
-    let pixels : picture (pixel origin (tokens drawing)) (width (tokens drawing))
-    (image_height crop (tokens drawing))
+    let h : History = tokens drawing definitions marks in
+    let follows = Follows-tokens drawing definitions marks origin.registers is draws in
+    let wide = follows.fits.wide in
+    let high = image_height-tokens crop drawing definitions marks is draws in
+    let pixels : picture (pixel origin h) (width h) (image_height crop h)
     ≡ picture (λ column row. trip_pixel drawing (entry_at drawing column row))
     drawing.width (trip_height crop drawing) =
-    ap (λ w. picture (pixel origin (tokens drawing)) w (image_height crop (tokens drawing))) wide
-    ∙ (ap (picture (pixel origin (tokens drawing)) drawing.width) high
-    ∙ picture-same (pixel origin (tokens drawing))
+    ap (λ w. picture (pixel origin h) w (image_height crop h)) wide
+    ∙ (ap (picture (pixel origin h) drawing.width) high
+    ∙ picture-same (pixel origin h)
     (λ column row. trip_pixel drawing (entry_at drawing column row))
     drawing.width (trip_height crop drawing)
-    (λ column line lc ll. pixel-trip drawing origin column line is from lc)) in
-    image-same (image_of origin (tokens drawing)) (trip crop drawing) pixels wide high
-    (stands.shape (ratio_of origin.settings)) from.mode
+    (λ column line lc ll.
+    pixel-trip drawing definitions marks origin column line is draws from lc)) in
+    image-same (image_of origin h) (trip crop drawing) pixels wide high
+    (follows.shape (ratio_of origin.settings)) from.mode
 
 -- ---- a new decoder with the text's settings
 
@@ -158,7 +177,7 @@ unfolding default_registers
 length-default_registers = length-map-range_with_len default_color 0 256
 
 -- so a decoder with the registers of a new one can read the text
-pub IsOrigin-new : (decoder : DecoderState) (drawing : Drawing)
+IsOrigin-new : (decoder : DecoderState) (drawing : Drawing)
     → decoder.registers ≡ default_registers
     → IsOrigin drawing (origin_of decoder (drawing_settings drawing))
 IsOrigin-new decoder drawing new = record {
@@ -170,24 +189,25 @@ IsOrigin-new decoder drawing new = record {
 }
 
 -- the payload is read as the trip
-pub payload-trip : (decoder : DecoderState) (drawing : Drawing) (rest : List ℕ) → IsWritable drawing
+pub payload-trip : (decoder : DecoderState) (drawing : Drawing) (definitions : List Definition)
+    (marks : List Mark) (rest : List ℕ) → IsWritable drawing → Draws drawing definitions marks
     → decoder.registers ≡ default_registers
-    →
-    payload_image (origin_of decoder (drawing_settings drawing)) (payload_text drawing ++ 27 ∷ rest)
-    ≡ trip decoder.raster_crop drawing
-payload-trip decoder drawing rest is new =
+    → payload_image (origin_of decoder (drawing_settings drawing))
+    (marks_payload drawing definitions marks ++ 27 ∷ rest) ≡ trip decoder.raster_crop drawing
+payload-trip decoder drawing definitions marks rest is draws new =
     let origin : Origin = origin_of decoder (drawing_settings drawing) in
-    ap (image_of origin) (payload-read drawing rest is)
-    ∙ image-tokens drawing origin is (IsOrigin-new decoder drawing new)
+    ap (image_of origin) (payload-read drawing definitions marks rest is draws)
+    ∙ image-tokens drawing definitions marks origin is draws (IsOrigin-new decoder drawing new)
 
 -- and has no fault within a limit that has room for it in whole bands
-pub payload-sound : (limit : ℕ) (drawing : Drawing) (rest : List ℕ) → IsWritable drawing
+pub payload-sound : (limit : ℕ) (drawing : Drawing) (definitions : List Definition)
+    (marks : List Mark) (rest : List ℕ) → IsWritable drawing → Draws drawing definitions marks
     → drawing.width * banded drawing.height ≤ limit
-    → payload_fault limit (payload_text drawing ++ 27 ∷ rest) ≡ None
-payload-sound limit drawing rest is room =
-    let fits = (Stands-tokens drawing [] is).fits in
-    let h = tokens drawing in
-    ap (first_fault limit) (payload-read drawing rest is)
+    → payload_fault limit (marks_payload drawing definitions marks ++ 27 ∷ rest) ≡ None
+payload-sound limit drawing definitions marks rest is draws room =
+    let fits = (Follows-tokens drawing definitions marks [] is draws).fits in
+    let h = tokens drawing definitions marks in
+    ap (first_fault limit) (payload-read drawing definitions marks rest is draws)
     ∙ first_fault-other area_limit limit h fits.sound
     (omega (
       arith,

@@ -1,6 +1,6 @@
 -- Which pixels a row of sixels sets: a run of equal sixels covers a span, and of two rows that
 -- follow one another the later covers its own columns.
-use Rattle.std.proofs.Common.{◌≡◌, ℕ, ◌+◌, ◌-◌, ◌^◌, ◌<◌, ◌≤◌, Bool, false, cond, List, [], ◌++◌}
+use Rattle.std.proofs.Common.{◌≡◌, ℕ, ◌+◌, ◌-◌, ◌^◌, ◌<◌, ◌≤◌, false, cond, List, [], ◌++◌}
 use Rattle.std.proofs.Common.{length, replicate, refl, ap, sym, ◌∙◌, arith, inl, inr}
 use Rattle.std.specs.Prelude.{◌/◌, ◌%◌, nat_le, ◌&&◌, slice_index}
 use Rattle.std.proofs.lemmas.Bool.{cases_lt, cond-false, and_right}
@@ -8,11 +8,7 @@ use Rattle.std.proofs.lemmas.Bool.Decides.{nat_tests}
 use Rattle.std.proofs.lemmas.List.{get_or-replicate, get_or_past, get_or_append_left}
 use Rattle.std.proofs.lemmas.List.{get_or-append-add, length-replicate}
 use Rattle.sixel_base.specs.Picture.{is_struck, covers}
-
--- whether a row of sixels that is drawn from a column on sets the pixel
-abbrev pub is_lit : List ℕ → ℕ → ℕ → ℕ → ℕ → Bool
-is_lit row from top column line =
-    nat_le from column && is_struck top (slice_index row (column - from)) line
+use Rattle.sixel_encoder.specs.Marks.{is_lit}
 
 -- a sixel with no bit sets nothing
 pub is_struck-zero : (top line : ℕ) → is_struck top 0 line ≡ false

@@ -33,7 +33,7 @@ use Rattle.sixel_encoder.proofs.UsedBands.{window-some, window-any}
 use Rattle.sixel_encoder.proofs.DrawnHeight.{bands_up_to-none, bands_up_to-more, bands_up_to-le}
 use Rattle.sixel_encoder.proofs.TripLimits.{IsWritable-drawn, area-drawn, CanRead-drawn}
 use Rattle.sixel_encoder.proofs.TripLimits.{image_fault-trip, bytes-trip, bands-trip}
-use Rattle.sixel_encoder.proofs.DcsText.{text-trip, IsOneString-text}
+use Rattle.sixel_encoder.proofs.PlainText.{text-trip, IsOneString-text}
 use Rattle.sixel_encoder.proofs.TripPixels.{entry_in, known_in, rounded_entry, length-trip}
 use Rattle.sixel_encoder.proofs.TripPixels.{alpha-some, color-some, alpha-none, shown-among}
 

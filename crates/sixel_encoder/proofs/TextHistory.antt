@@ -1,39 +1,36 @@
--- The tokens of a drawing's text are its history, and the text's front is the whole of it.
-use Rattle.std.proofs.Common.{◌≡◌, ℕ, zero, suc, ◌+◌, ◌*◌, ◌<◌, ◌≤◌, true, false, cond, List, []}
-use Rattle.std.proofs.Common.{◌∷◌, ◌++◌, length, replicate, refl, ap, sym, subst, ◌∙◌, arith}
-use Rattle.std.proofs.Common.{length-append, append_assoc}
-use Rattle.std.specs.Prelude.{IsTrue, decimal, All, flat_map, Some, slice_index, slice_index_or}
-use Rattle.std.specs.Prelude.{codes}
-use Rattle.std.specs.List.{list_all, range_with_len}
-use Rattle.std.proofs.lemmas.List.{get_or-append-add}
-use Rattle.std.proofs.lemmas.List.Elements.{All-head, All-tail, All-map, All-same}
-use Rattle.std.proofs.lemmas.Grind.{common_steps}
+-- The tokens of a text of marks are its history, and the text's front is the whole of it.
+use Rattle.std.specs.List.{list_all}
+use Rattle.std.specs.Prelude.{All, IsTrue, Some, decimal, flat_map, slice_index, slice_index_or}
+use Rattle.std.proofs.Common.{List, [], ap, arith, false, length, length-append, refl, replicate}
+use Rattle.std.proofs.Common.{subst, suc, sym, true, zero, ℕ, ◌++◌, ◌+◌, ◌<◌, ◌∙◌, ◌∷◌, ◌≡◌, ◌≤◌}
 use Rattle.std.proofs.lemmas.Bool.Decides.{nat_tests}
-use Rattle.sixel_base.specs.Bytes.{is_digit, is_parameter, is_ignored, is_terminator}
-use Rattle.sixel_base.specs.Bytes.{before_terminator, carrying, front, first_terminator, count}
-use Rattle.sixel_base.specs.History.{Token, Sixel, Repeat, Raster, Color, Return, Newline, Skip}
-use Rattle.sixel_base.specs.History.{History, spelling, spellings, IsToken, AreTokens, IsHistory}
-use Rattle.sixel_base.specs.History.{history_of}
+use Rattle.std.proofs.lemmas.Grind.{common_steps}
+use Rattle.std.proofs.lemmas.List.{get_or-append-add}
+use Rattle.std.proofs.lemmas.List.Elements.{All-head, All-same, All-tail}
+use Rattle.sixel_base.specs.Bytes.{before_terminator, carrying, count, first_terminator, front}
+use Rattle.sixel_base.specs.Bytes.{is_digit, is_ignored, is_parameter, is_terminator}
+use Rattle.sixel_base.specs.Dcs.{after_terminator}
+use Rattle.sixel_base.specs.History.{AreTokens, Color, History, IsHistory, IsToken, Newline, Raster}
+use Rattle.sixel_base.specs.History.{Repeat, Return, Sixel, Skip, Token, history_of, spelling}
+use Rattle.sixel_base.specs.History.{spellings}
 use Rattle.sixel_base.specs.Settings.{pad_of}
 use Rattle.sixel_base.specs.declared.settings.PixelAspectRatio.{PixelAspectRatio}
-use Rattle.sixel_base.specs.declared.settings.PixelAspectRatio.TheVariants.{Ratio5To1, Ratio3To1}
-use Rattle.sixel_base.specs.declared.settings.PixelAspectRatio.TheVariants.{Ratio2To1, Square}
+use Rattle.sixel_base.specs.declared.settings.PixelAspectRatio.TheVariants.{Ratio2To1, Ratio3To1}
+use Rattle.sixel_base.specs.declared.settings.PixelAspectRatio.TheVariants.{Ratio5To1, Square}
 use Rattle.sixel_base.proofs.Reading.{carries, history_unique}
-use Rattle.sixel_encoder.specs.RunTokens.{RunToken, One, Many, sixels, IsRunToken, row_tokens}
-use Rattle.sixel_encoder.specs.Text.{Drawing, row_of, sixel_of, has_dot, percent, bands, is_entry}
-use Rattle.sixel_encoder.specs.Text.{entry_at, parameters_text, raster_text, palette_text}
-use Rattle.sixel_encoder.specs.Text.{bands_text, text_of}
-use Rattle.sixel_base.specs.Dcs.{after_terminator}
-use Rattle.sixel_encoder.specs.Trip.{payload_text, IsColor, IsWritable}
+use Rattle.sixel_encoder.specs.Marks.{AreAllowed, AreDefinitions, Back, Definition, Draw, Draws}
+use Rattle.sixel_encoder.specs.Marks.{IsAllowed, Mark, Next, Pen, Pick, first_pen, marks_payload}
+use Rattle.sixel_encoder.specs.Marks.{moved}
+use Rattle.sixel_encoder.specs.RunTokens.{IsRunToken, Many, One, RunToken, row_tokens, sixels}
+use Rattle.sixel_encoder.specs.Text.{Drawing, percent}
+use Rattle.sixel_encoder.specs.Trip.{IsColor, IsWritable}
+use Rattle.sixel_encoder.proofs.Digits.{AreFields, all_digits-decimal, all_parameters-numbers}
+use Rattle.sixel_encoder.proofs.Digits.{numbers}
 use Rattle.sixel_encoder.proofs.ShortestRows.{spells}
-use Rattle.sixel_encoder.proofs.Digits.{numbers, AreFields, all_digits-decimal}
-use Rattle.sixel_encoder.proofs.Digits.{all_parameters-numbers}
-use Rattle.sixel_encoder.proofs.SixBits.{mask-small}
-use Rattle.sixel_encoder.proofs.Steps.{after, steps_keep}
-use Rattle.sixel_encoder.proofs.Tokens.{token-more, AreTokens-sixel, with_run_token}
-use Rattle.sixel_encoder.proofs.Tokens.{with_run_tokens, with_row, with_entry, with_band}
-use Rattle.sixel_encoder.proofs.Tokens.{with_definition, with_palette, percentages, sizes, tokens}
-use Rattle.sixel_encoder.proofs.Tokens.{spellings-tokens}
+use Rattle.sixel_encoder.proofs.Tokens.{AreTokens-sixel, percentages, raster_of, sizes}
+use Rattle.sixel_encoder.proofs.Tokens.{spellings-tokens, token-more, tokens, with_definition}
+use Rattle.sixel_encoder.proofs.Tokens.{with_definitions, with_mark, with_marks, with_palette}
+use Rattle.sixel_encoder.proofs.Tokens.{with_run_token, with_run_tokens}
 
 -- a run-length token of six bits whose count can be written
 abbrev pub IsSound : RunToken → Type 0
@@ -80,16 +77,6 @@ AreSound-row row all =
     AreSound-spelled (row_tokens row) (spells row).each
     (All-same (λ b. b < 64) (flat_map sixels (row_tokens row)) row (spells row).joined all)
 
--- a row of an entry has six bits in each column
-pub row_of-small : (drawing : Drawing) (band entry : ℕ)
-    → All (λ b. b < 64) (row_of drawing band entry)
-row_of-small drawing band entry =
-    All-map (λ b. b < 64) (sixel_of drawing band entry) (range_with_len 0 drawing.width)
-    (λ k d lt.
-    mask-small (λ bit.
-    is_entry entry
-    (entry_at drawing (slice_index_or (range_with_len 0 drawing.width) k d) (6 * band + bit))))
-
 -- ---- each token may stand where it stands
 
 -- a run-length token may follow any token
@@ -107,38 +94,27 @@ AreTokens-run_tokens [] h is are = are
 AreTokens-run_tokens (token ∷ tokens) h is are =
     AreTokens-run_tokens tokens (with_run_token token h) is.1 (AreTokens-run_token token h is.0 are)
 
--- so may a row
-AreTokens-row : (entry : ℕ) (tokens : List RunToken) (h : History) → entry < 256 → AreSound tokens
-    → AreTokens h → AreTokens (with_row entry tokens h)
-AreTokens-row entry tokens h small is are =
-    let named =
-    token-more (Color (numbers entry [])) h (all_parameters-numbers entry [] (omega arith) tt) refl
-    are in
-    token-more Return (with_run_tokens tokens (Color (numbers entry []) ∷ h)) tt refl
-    (AreTokens-run_tokens tokens (Color (numbers entry []) ∷ h) is named)
+-- so may a mark
+AreTokens-mark : (drawing : Drawing) (pen : Pen) (mark : Mark) (h : History)
+    → IsAllowed drawing pen mark → AreTokens h → AreTokens (with_mark mark h)
+AreTokens-mark drawing pen (Pick register) h is are =
+    token-more (Color (numbers register [])) h (all_parameters-numbers register [] (omega arith) tt)
+    refl are
+AreTokens-mark drawing pen (Draw row) h is are =
+    AreTokens-run_tokens (row_tokens row) h (AreSound-row row is.small) are
+AreTokens-mark drawing pen Back h is are = token-more Return h tt refl are
+AreTokens-mark drawing pen Next h is are = token-more Newline h tt refl are
 
--- an entry's row, or nothing
-AreTokens-entry : (drawing : Drawing) (band entry : ℕ) (h : History) → entry < 256 → AreTokens h
-    → AreTokens (with_entry drawing band entry h)
-AreTokens-entry drawing band entry h small are =
-    let row = row_of drawing band entry in
-    (elim (has_dot row) as (λ b. AreTokens (cond b (with_row entry (row_tokens row) h) h)) [
-      | true ↦ AreTokens-row entry (row_tokens row) h small
-          (AreSound-row row (row_of-small drawing band entry)) are
-      | false ↦ are
-    ])
-
--- the rows of a band
-AreTokens-band : (drawing : Drawing) (band : ℕ) (h : History) → length drawing.colors ≤ 256
-    → AreTokens h → AreTokens (with_band drawing band h)
-AreTokens-band drawing band h few are =
-    token-more Newline (after (with_entry drawing band) (length drawing.colors) h) tt refl
-    (steps_keep (λ k g. AreTokens g) (with_entry drawing band) (length drawing.colors)
-    (λ k g l is. AreTokens-entry drawing band k g (omega arith) is)
-    h are)
+-- so may marks
+AreTokens-marks : (drawing : Drawing) (pen : Pen) (marks : List Mark) (h : History)
+    → AreAllowed drawing pen marks → AreTokens h → AreTokens (with_marks marks h)
+AreTokens-marks drawing pen [] h is are = are
+AreTokens-marks drawing pen (mark ∷ marks) h is are =
+    AreTokens-marks drawing (moved pen mark) marks (with_mark mark h) is.1
+    (AreTokens-mark drawing pen mark h is.0 are)
 
 -- a byte is at most 100 percent
-pub percent-byte : (c : ℕ) → c < 256 → percent c ≤ 100
+percent-byte : (c : ℕ) → c < 256 → percent c ≤ 100
 percent-byte c h = omega arith
 
 -- a channel of a color is a byte
@@ -158,15 +134,18 @@ AreFields-percentages color is = (
   ),
 )
 
--- a definition may follow any token
-AreTokens-definition : (drawing : Drawing) (entry : ℕ) (h : History) → IsWritable drawing
-    → entry < length drawing.colors → AreTokens h → AreTokens (with_definition drawing entry h)
-AreTokens-definition drawing entry h is l are =
-    let color = slice_index_or drawing.colors entry [] in
-    let few = is.few in
-    token-more (Color (numbers entry (percentages color))) h
-    (all_parameters-numbers entry (percentages color) (omega arith)
-    (AreFields-percentages color (is.colors entry [] l))) refl are
+-- definitions may follow any token
+AreTokens-definitions : (drawing : Drawing) (definitions : List Definition) (h : History)
+    → IsWritable drawing → AreDefinitions drawing definitions → AreTokens h
+    → AreTokens (with_definitions drawing definitions h)
+AreTokens-definitions drawing [] h is known are = are
+AreTokens-definitions drawing (definition ∷ definitions) h is known are =
+    let color : List ℕ = slice_index_or drawing.colors definition.entry [] in
+    let small : definition.register < 256 = known.0.0 in
+    AreTokens-definitions drawing definitions (with_definition drawing definition h) is known.1
+    (token-more (Color (numbers definition.register (percentages color))) h
+    (all_parameters-numbers definition.register (percentages color) (omega arith)
+    (AreFields-percentages color (is.colors definition.entry [] known.0.1))) refl are)
 
 -- a pixel's height has one digit
 pub pad-small : (ratio : PixelAspectRatio) → pad_of ratio ≤ 5
@@ -179,22 +158,16 @@ pad-small Square = omega arith
 pub AreFields-sizes : (drawing : Drawing) → IsWritable drawing → AreFields (sizes drawing)
 AreFields-sizes drawing is = (omega arith, (omega (arith, is.wide), (omega (arith, is.high), tt)))
 
--- the raster attributes and the definitions
-AreTokens-palette : (drawing : Drawing) → IsWritable drawing → AreTokens (with_palette drawing)
-AreTokens-palette drawing is =
-    let raster = Raster (numbers (pad_of drawing.aspect_ratio) (sizes drawing)) in
-    steps_keep (λ k g. AreTokens g) (with_definition drawing) (length drawing.colors)
-    (λ k g l are. AreTokens-definition drawing k g is l are)
-    (raster ∷ [])
-    (token-more raster [] (all_parameters-numbers (pad_of drawing.aspect_ratio) (sizes drawing)
-    (omega (arith, pad-small drawing.aspect_ratio)) (AreFields-sizes drawing is)) refl tt)
-
 -- all tokens of the text
-pub AreTokens-tokens : (drawing : Drawing) → IsWritable drawing → AreTokens (tokens drawing)
-AreTokens-tokens drawing is =
-    steps_keep (λ k g. AreTokens g) (with_band drawing) (bands drawing.height)
-    (λ k g l are. AreTokens-band drawing k g is.few are)
-    (with_palette drawing) (AreTokens-palette drawing is)
+AreTokens-tokens : (drawing : Drawing) (definitions : List Definition) (marks : List Mark)
+    → IsWritable drawing → Draws drawing definitions marks
+    → AreTokens (tokens drawing definitions marks)
+AreTokens-tokens drawing definitions marks is draws =
+    AreTokens-marks drawing first_pen marks (with_palette drawing definitions) draws.allowed
+    (AreTokens-definitions drawing definitions (raster_of drawing ∷ []) is draws.defined
+    (token-more (raster_of drawing) [] (all_parameters-numbers (pad_of drawing.aspect_ratio)
+    (sizes drawing) (omega (arith, pad-small drawing.aspect_ratio)) (AreFields-sizes drawing is))
+    refl tt))
 
 -- ---- and all of their bytes carry meaning
 
@@ -251,7 +224,7 @@ carries-spellings (token ∷ older) are =
     (carries-token token are.0)
 
 -- what carries meaning goes on up to the terminator
-before_terminator-carrying : (bytes rest : List ℕ) → IsTrue (list_all carries bytes)
+pub before_terminator-carrying : (bytes rest : List ℕ) → IsTrue (list_all carries bytes)
     → before_terminator (bytes ++ 27 ∷ rest) ≡ bytes
 before_terminator-carrying [] rest all = refl
 before_terminator-carrying (b ∷ bytes) rest all =
@@ -268,7 +241,7 @@ carrying-all (b ∷ bytes) all =
     rw first (ap (λ bs. b ∷ bs) (carrying-all bytes others))
 
 -- the terminator after it is the first
-first_terminator-carrying : (bytes rest : List ℕ) → IsTrue (list_all carries bytes)
+pub first_terminator-carrying : (bytes rest : List ℕ) → IsTrue (list_all carries bytes)
     → first_terminator (bytes ++ 27 ∷ rest) ≡ Some 27
 first_terminator-carrying [] rest all = refl
 first_terminator-carrying (b ∷ bytes) rest all =
@@ -277,7 +250,7 @@ first_terminator-carrying (b ∷ bytes) rest all =
     rw first (first_terminator-carrying bytes rest others)
 
 -- what follows that terminator
-after_terminator-carrying : (bytes rest : List ℕ) → IsTrue (list_all carries bytes)
+pub after_terminator-carrying : (bytes rest : List ℕ) → IsTrue (list_all carries bytes)
     → after_terminator (bytes ++ 27 ∷ rest) ≡ rest
 after_terminator-carrying [] rest all = refl
 after_terminator-carrying (b ∷ bytes) rest all =
@@ -285,59 +258,35 @@ after_terminator-carrying (b ∷ bytes) rest all =
     let others : IsTrue (list_all carries bytes) = grind (arith, common_steps) in
     rw first (after_terminator-carrying bytes rest others)
 
+-- ---- the payload
+
 -- all bytes of the payload carry meaning
-carries-payload : (drawing : Drawing) → IsWritable drawing
-    → IsTrue (list_all carries (payload_text drawing))
-carries-payload drawing is =
+pub carries-payload : (drawing : Drawing) (definitions : List Definition) (marks : List Mark)
+    → IsWritable drawing → Draws drawing definitions marks
+    → IsTrue (list_all carries (marks_payload drawing definitions marks))
+carries-payload drawing definitions marks is draws =
     subst (λ (bytes : List ℕ). IsTrue (list_all carries bytes))
-    (spellings-tokens drawing) (carries-spellings (tokens drawing) (AreTokens-tokens drawing is))
+    (spellings-tokens drawing definitions marks)
+    (carries-spellings (tokens drawing definitions marks)
+    (AreTokens-tokens drawing definitions marks is draws))
 
--- ---- what follows
+-- bytes that carry meaning are their own front, up to the terminator
+pub front-carrying : (bytes rest : List ℕ) → IsTrue (list_all carries bytes)
+    → front (bytes ++ 27 ∷ rest) ≡ bytes
+front-carrying bytes rest all =
+    ap carrying (before_terminator-carrying bytes rest all) ∙ carrying-all bytes all
 
--- the parts of a text in one order of joining
-payload-joined : (p r c b e : List ℕ) → p ++ r ++ c ++ b ++ e ≡ p ++ ((r ++ c ++ b) ++ e)
-payload-joined p r c b e = simp append_assoc
-
--- the payload stands between the parameters and the terminator
-pub text_of-parts : (drawing : Drawing)
-    → text_of drawing ≡ parameters_text drawing ++ (payload_text drawing ++ 27 ∷ codes "\\")
-text_of-parts drawing =
-    payload-joined (parameters_text drawing) (raster_text drawing) (palette_text drawing)
-    (bands_text drawing) (27 ∷ codes "\\")
-
--- the tokens are a history of the payload
-pub payload-history : (drawing : Drawing) → IsWritable drawing
-    → IsHistory (payload_text drawing) (tokens drawing)
-payload-history drawing is = (spellings-tokens drawing, AreTokens-tokens drawing is)
-
--- all of the payload is its own, up to the terminator
-pub payload-own : (drawing : Drawing) (rest : List ℕ) → IsWritable drawing
-    → before_terminator (payload_text drawing ++ 27 ∷ rest) ≡ payload_text drawing
-payload-own drawing rest is =
-    before_terminator-carrying (payload_text drawing) rest (carries-payload drawing is)
-
--- so it is its own front
-pub payload-front : (drawing : Drawing) (rest : List ℕ) → IsWritable drawing
-    → front (payload_text drawing ++ 27 ∷ rest) ≡ payload_text drawing
-payload-front drawing rest is =
-    ap carrying (payload-own drawing rest is)
-    ∙ carrying-all (payload_text drawing) (carries-payload drawing is)
-
--- it ends at the terminator
-pub payload-ended : (drawing : Drawing) (rest : List ℕ) → IsWritable drawing
-    → first_terminator (payload_text drawing ++ 27 ∷ rest) ≡ Some 27
-payload-ended drawing rest is =
-    first_terminator-carrying (payload_text drawing) rest (carries-payload drawing is)
-
--- and this follows
-pub payload-rest : (drawing : Drawing) (rest : List ℕ) → IsWritable drawing
-    → after_terminator (payload_text drawing ++ 27 ∷ rest) ≡ rest
-payload-rest drawing rest is =
-    after_terminator-carrying (payload_text drawing) rest (carries-payload drawing is)
-
--- its history is the drawing's tokens
-pub payload-read : (drawing : Drawing) (rest : List ℕ) → IsWritable drawing
-    → history_of (front (payload_text drawing ++ 27 ∷ rest)) ≡ tokens drawing
-payload-read drawing rest is =
-    ap history_of (payload-front drawing rest is)
-    ∙ sym (history_unique (payload_text drawing) (tokens drawing) (payload-history drawing is))
+-- the history of the payload is its tokens
+pub payload-read :
+    (drawing : Drawing) (definitions : List Definition) (marks : List Mark) (rest : List ℕ)
+    → IsWritable drawing → Draws drawing definitions marks
+    → history_of (front (marks_payload drawing definitions marks ++ 27 ∷ rest))
+    ≡ tokens drawing definitions marks
+payload-read drawing definitions marks rest is draws =
+    let payload : List ℕ = marks_payload drawing definitions marks in
+    let whole : IsHistory payload (tokens drawing definitions marks) = (
+      spellings-tokens drawing definitions marks,
+      AreTokens-tokens drawing definitions marks is draws,
+    ) in
+    ap history_of (front-carrying payload rest (carries-payload drawing definitions marks is draws))
+    ∙ sym (history_unique payload (tokens drawing definitions marks) whole)

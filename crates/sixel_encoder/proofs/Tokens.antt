@@ -1,23 +1,20 @@
--- The tokens of a text, newest first, and that they spell it.
-use Rattle.std.proofs.Common.{◌≡◌, ℕ, ◌+◌, ◌<◌, true, false, cond, List, [], ◌∷◌, ◌++◌, length}
-use Rattle.std.proofs.Common.{refl, ap, sym, ◌∙◌, arith, append_assoc}
+-- The tokens of definitions and marks, newest first, and that they spell the text.
 use Rattle.std.specs.Prelude.{decimal, slice_index, slice_index_or}
-use Rattle.std.proofs.lemmas.List.{append-nil}
-use Rattle.std.proofs.lemmas.Fmt.{decimal_digit}
+use Rattle.std.proofs.Common.{List, [], ap, append_assoc, arith, false, refl, sym, ℕ, ◌++◌, ◌+◌}
+use Rattle.std.proofs.Common.{◌<◌, ◌∙◌, ◌∷◌, ◌≡◌}
 use Rattle.std.proofs.lemmas.Bool.Decides.{nat_tests}
-use Rattle.sixel_base.specs.Bytes.{is_parameter}
-use Rattle.sixel_base.specs.History.{Token, Sixel, Repeat, Raster, Color, Return, Newline, Skip}
-use Rattle.sixel_base.specs.History.{History, start, spellings, IsToken, goes_on, AreTokens}
-use Rattle.sixel_base.specs.Picture.{joined}
-use Rattle.sixel_encoder.specs.RunTokens.{RunToken, One, Many, spelling as run_token_spelling}
-use Rattle.sixel_encoder.specs.RunTokens.{written, row_tokens}
-use Rattle.sixel_encoder.specs.Text.{Drawing, row_of, has_dot, percent, raster_text}
-use Rattle.sixel_encoder.specs.Text.{color_definition, definition_text, row_text, entry_text}
-use Rattle.sixel_encoder.specs.Text.{band_text, palette_text, bands_text, bands}
+use Rattle.std.proofs.lemmas.Fmt.{decimal_digit}
+use Rattle.std.proofs.lemmas.List.{append-nil}
+use Rattle.sixel_base.specs.Bytes.{count, is_parameter}
+use Rattle.sixel_base.specs.History.{AreTokens, Color, History, IsToken, Newline, Raster, Repeat}
+use Rattle.sixel_base.specs.History.{Return, Sixel, Skip, Token, goes_on, spellings, start}
 use Rattle.sixel_base.specs.Settings.{pad_of}
-use Rattle.sixel_encoder.specs.Trip.{payload_text}
+use Rattle.sixel_encoder.specs.Marks.{Back, Definition, Draw, Mark, Next, Pick, definitions_text}
+use Rattle.sixel_encoder.specs.Marks.{mark_text, marks_payload, marks_text, register_definition}
+use Rattle.sixel_encoder.specs.RunTokens.{Many, One, RunToken, row_tokens}
+use Rattle.sixel_encoder.specs.RunTokens.{spelling as run_token_spelling, written}
+use Rattle.sixel_encoder.specs.Text.{Drawing, color_definition, percent, raster_text}
 use Rattle.sixel_encoder.proofs.Digits.{numbers}
-use Rattle.sixel_encoder.proofs.Steps.{after, spellings-after}
 
 -- a byte that no text takes begins a token after any
 goes_on-apart : (h : History) (byte : ℕ) → is_parameter byte ≡ false → goes_on h byte ≡ false
@@ -54,19 +51,17 @@ abbrev pub with_run_tokens : List RunToken → History → History
 with_run_tokens [] h = h
 with_run_tokens (token ∷ tokens) h = with_run_tokens tokens (with_run_token token h)
 
--- a row selects its entry, draws its run-length tokens and returns
-abbrev pub with_row : ℕ → List RunToken → History → History
-with_row entry tokens h = Return ∷ with_run_tokens tokens (Color (numbers entry []) ∷ h)
+-- a mark is a color introducer of one number, a row of run-length tokens, a return or a new line
+abbrev pub with_mark : Mark → History → History
+with_mark (Pick register) h = Color (numbers register []) ∷ h
+with_mark (Draw row) h = with_run_tokens (row_tokens row) h
+with_mark Back h = Return ∷ h
+with_mark Next h = Newline ∷ h
 
--- an entry has a row where it has a dot
-abbrev pub with_entry : Drawing → ℕ → ℕ → History → History
-with_entry drawing band entry h =
-    cond (has_dot (row_of drawing band entry))
-    (with_row entry (row_tokens (row_of drawing band entry)) h) h
-
--- a band has the rows of its entries
-abbrev pub with_band : Drawing → ℕ → History → History
-with_band drawing band h = Newline ∷ after (with_entry drawing band) (length drawing.colors) h
+-- the marks, one after the other
+abbrev pub with_marks : List Mark → History → History
+with_marks [] h = h
+with_marks (mark ∷ marks) h = with_marks marks (with_mark mark h)
 
 -- the numbers of a color's definition after its entry
 abbrev pub percentages : List ℕ → List ℕ
@@ -74,24 +69,34 @@ percentages color =
     2 ∷ percent (slice_index color 0) ∷ percent (slice_index color 1)
     ∷ percent (slice_index color 2) ∷ []
 
--- the definition of an entry
-abbrev pub with_definition : Drawing → ℕ → History → History
-with_definition drawing entry h =
-    Color (numbers entry (percentages (slice_index_or drawing.colors entry []))) ∷ h
+-- a definition of a register
+abbrev pub with_definition : Drawing → Definition → History → History
+with_definition drawing definition h =
+    Color
+    (numbers definition.register (percentages (slice_index_or drawing.colors definition.entry [])))
+    ∷ h
+
+-- the definitions, one after the other
+abbrev pub with_definitions : Drawing → List Definition → History → History
+with_definitions drawing [] h = h
+with_definitions drawing (definition ∷ definitions) h =
+    with_definitions drawing definitions (with_definition drawing definition h)
 
 -- the numbers of the raster attributes after the first
 abbrev pub sizes : Drawing → List ℕ
 sizes drawing = 1 ∷ drawing.width ∷ drawing.height ∷ []
 
--- the raster attributes, then the definitions
-abbrev pub with_palette : Drawing → History
-with_palette drawing =
-    after (with_definition drawing) (length drawing.colors)
-    (Raster (numbers (pad_of drawing.aspect_ratio) (sizes drawing)) ∷ [])
+-- the token of the raster attributes
+abbrev pub raster_of : Drawing → Token
+raster_of drawing = Raster (numbers (pad_of drawing.aspect_ratio) (sizes drawing))
 
--- the tokens of the whole text
-abbrev pub tokens : Drawing → History
-tokens drawing = after (with_band drawing) (bands drawing.height) (with_palette drawing)
+-- the raster attributes, then the definitions
+abbrev pub with_palette : Drawing → List Definition → History
+with_palette drawing definitions = with_definitions drawing definitions (raster_of drawing ∷ [])
+
+-- the tokens of the whole payload
+abbrev pub tokens : Drawing → List Definition → List Mark → History
+tokens drawing definitions marks = with_marks marks (with_palette drawing definitions)
 
 -- ---- they spell the text
 
@@ -111,40 +116,22 @@ spellings-run_tokens (token ∷ tokens) h =
     ∙ (ap (λ s. s ++ written tokens) (spellings-run_token token h)
     ∙ append_assoc (spellings h) (run_token_spelling token) (written tokens))
 
--- a row's bytes in one order of joining
-row-joined : (s d w : List ℕ) → s ++ (35 ∷ d) ++ w ++ (36 ∷ []) ≡ s ++ ((35 ∷ d) ++ w ++ (36 ∷ []))
-row-joined s d w = simp append_assoc
+-- a mark appends its text
+spellings-mark : (mark : Mark) (h : History)
+    → spellings (with_mark mark h) ≡ spellings h ++ mark_text mark
+spellings-mark (Pick register) h = refl
+spellings-mark (Draw row) h = spellings-run_tokens (row_tokens row) h
+spellings-mark Back h = refl
+spellings-mark Next h = refl
 
--- a row appends its text
-spellings-row : (entry : ℕ) (row : List ℕ) (h : History)
-    → spellings (with_row entry (row_tokens row) h) ≡ spellings h ++ row_text entry row
-spellings-row entry row h =
-    ap (λ s. s ++ (36 ∷ [])) (spellings-run_tokens (row_tokens row) (Color (decimal entry) ∷ h))
-    ∙ row-joined (spellings h) (decimal entry) (written (row_tokens row))
-
--- an entry appends its text
-spellings-entry : (drawing : Drawing) (band entry : ℕ) (h : History)
-    → spellings (with_entry drawing band entry h) ≡ spellings h ++ entry_text drawing band entry
-spellings-entry drawing band entry h =
-    let row = row_of drawing band entry in
-    (elim (has_dot row) as
-    (λ b.
-    spellings (cond b (with_row entry (row_tokens row) h) h)
-    ≡ spellings h ++ cond b (row_text entry row) []) [
-      | true ↦ spellings-row entry row h
-      | false ↦ sym (append-nil (spellings h))
-    ])
-
--- a band appends its text
-spellings-band : (drawing : Drawing) (band : ℕ) (h : History)
-    → spellings (with_band drawing band h) ≡ spellings h ++ band_text drawing band
-spellings-band drawing band h =
-    ap (λ s. s ++ (45 ∷ [])) (spellings-after (with_entry drawing band) (entry_text drawing band)
-    (length drawing.colors)
-    (λ k g. spellings-entry drawing band k g)
-    h)
-    ∙ append_assoc (spellings h) (joined (entry_text drawing band) (length drawing.colors))
-    (45 ∷ [])
+-- marks append theirs
+spellings-marks : (marks : List Mark) (h : History)
+    → spellings (with_marks marks h) ≡ spellings h ++ marks_text marks
+spellings-marks [] h = sym (append-nil (spellings h))
+spellings-marks (mark ∷ marks) h =
+    spellings-marks marks (with_mark mark h)
+    ∙ (ap (λ s. s ++ marks_text marks) (spellings-mark mark h)
+    ∙ append_assoc (spellings h) (mark_text mark) (marks_text marks))
 
 -- a definition's bytes in one order of joining
 definition-joined : (e r g b : List ℕ)
@@ -166,11 +153,18 @@ spelling-definition entry color =
     ∙ definition-joined (decimal entry) (decimal (percent (slice_index color 0)))
     (decimal (percent (slice_index color 1))) (decimal (percent (slice_index color 2)))
 
--- and appends its text
-spellings-definition : (drawing : Drawing) (entry : ℕ) (h : History)
-    → spellings (with_definition drawing entry h) ≡ spellings h ++ definition_text drawing entry
-spellings-definition drawing entry h =
-    ap (λ s. spellings h ++ s) (spelling-definition entry (slice_index_or drawing.colors entry []))
+-- definitions append their text
+spellings-definitions : (drawing : Drawing) (definitions : List Definition) (h : History)
+    → spellings (with_definitions drawing definitions h)
+    ≡ spellings h ++ definitions_text drawing definitions
+spellings-definitions drawing [] h = sym (append-nil (spellings h))
+spellings-definitions drawing (definition ∷ definitions) h =
+    spellings-definitions drawing definitions (with_definition drawing definition h)
+    ∙ (ap
+    (λ s. (spellings h ++ s) ++ definitions_text drawing definitions)
+    (spelling-definition definition.register (slice_index_or drawing.colors definition.entry []))
+    ∙ append_assoc (spellings h) (register_definition drawing definition)
+    (definitions_text drawing definitions))
 
 -- the bytes of the raster attributes in one order of joining
 raster-joined : (p w h : List ℕ)
@@ -191,13 +185,10 @@ spelling-raster drawing =
     (decimal drawing.height)
 
 -- the tokens spell the payload
-pub spellings-tokens : (drawing : Drawing) → spellings (tokens drawing) ≡ payload_text drawing
-spellings-tokens drawing =
-    spellings-after (with_band drawing) (band_text drawing) (bands drawing.height)
-    (λ k g. spellings-band drawing k g)
-    (with_palette drawing)
-    ∙ ap (λ s. s ++ bands_text drawing)
-    (spellings-after (with_definition drawing) (definition_text drawing) (length drawing.colors)
-    (λ k g. spellings-definition drawing k g)
-    (Raster (numbers (pad_of drawing.aspect_ratio) (sizes drawing)) ∷ [])
-    ∙ ap (λ s. s ++ palette_text drawing) (spelling-raster drawing))
+pub spellings-tokens : (drawing : Drawing) (definitions : List Definition) (marks : List Mark)
+    → spellings (tokens drawing definitions marks) ≡ marks_payload drawing definitions marks
+spellings-tokens drawing definitions marks =
+    spellings-marks marks (with_palette drawing definitions)
+    ∙ ap (λ s. s ++ marks_text marks) (spellings-definitions drawing definitions
+    (raster_of drawing ∷ [])
+    ∙ ap (λ s. s ++ definitions_text drawing definitions) (spelling-raster drawing))

@@ -1,23 +1,19 @@
--- Which bands of a drawing are used: those with a dot of some entry.
-use Rattle.std.proofs.Common.{◌≡◌, ℕ, zero, suc, ◌+◌, ◌*◌, ◌^◌, ◌<◌, Bool, true, false, cond, not}
-use Rattle.std.proofs.Common.{List, length, take, drop, get_or, refl, ap, sym, subst, ◌∙◌, arith}
-use Rattle.std.proofs.Common.{inl, inr}
-use Rattle.std.specs.Prelude.{◌==◌, ◌/◌, ◌%◌, Option, Some, None, is_some, IfSome, slice_index}
+-- Which bands of a drawing are used: those with a pixel that has an entry.
 use Rattle.std.specs.List.{list_any}
-use Rattle.std.proofs.lemmas.Bool.{cases_lt, both_ways, ne_eqb}
-use Rattle.std.proofs.lemmas.Bool.Decides.{nat_tests}
-use Rattle.std.proofs.lemmas.Nat.{mul-add-lt, div-add-mod', div_below, mod_below}
-use Rattle.std.proofs.lemmas.List.{get_or-take, get_or-drop, get_or_past, get_or_default}
-use Rattle.std.proofs.lemmas.List.{length-take, length-drop}
+use Rattle.std.specs.Prelude.{None, Option, Some, is_some, ◌/◌, ◌==◌}
+use Rattle.std.proofs.Common.{Bool, List, ap, arith, cond, drop, false, get_or, inl, inr, length}
+use Rattle.std.proofs.Common.{not, refl, suc, sym, take, true, zero, ℕ, ◌%◌, ◌*◌, ◌+◌, ◌<◌, ◌^◌}
+use Rattle.std.proofs.Common.{◌∙◌, ◌≡◌}
+use Rattle.std.proofs.lemmas.Bool.{both_ways, cases_lt}
+use Rattle.std.proofs.lemmas.List.{get_or-drop, get_or-take, get_or_default, get_or_past}
+use Rattle.std.proofs.lemmas.List.{length-drop, length-take}
 use Rattle.std.proofs.lemmas.List.Elements.{All-from_get_or}
-use Rattle.std.proofs.lemmas.List.Folds.{list_any_at, list_any_none, Any-from_list_any}
+use Rattle.std.proofs.lemmas.List.Folds.{Any-from_list_any, list_any_at, list_any_none}
 use Rattle.std.proofs.lemmas.List.FromFn.{get_or-map-range_with_len}
-use Rattle.sixel_base.specs.Picture.{is_struck}
-use Rattle.sixel_encoder.specs.Text.{Drawing, entry_at, is_entry, mask, sixel_of, row_of, has_dot}
+use Rattle.std.proofs.lemmas.Nat.{div-add-mod', div_below, mod_below, mul-add-lt, mul-le}
+use Rattle.sixel_encoder.specs.Text.{Drawing, entry_at, has_dot, is_entry, mask, row_of, sixel_of}
 use Rattle.sixel_encoder.specs.Trip.{IsWritable, is_used}
-use Rattle.sixel_encoder.proofs.RowPixels.{is_struck-zero}
-use Rattle.sixel_encoder.proofs.BetweenRows.{length-row_of}
-use Rattle.sixel_encoder.proofs.TextPixels.{IsInBand, struck-inside}
+use Rattle.sixel_encoder.proofs.EntryRows.{length-row_of}
 
 -- ---- where a part of a list has a value
 
@@ -112,53 +108,35 @@ unused-dots drawing band entry none =
     6
     (λ bit lb. ap (is_entry entry) (unused-places drawing band bit column none lb lc)))))
 
--- an entry is itself
-itself : (entry : ℕ) → entry == entry ≡ true
-itself entry = grind (arith, nat_tests)
+-- a pixel within the area is within the height
+row-below : (row width column height : ℕ) → row * width + column < width * height → row < height
+row-below row width column height l = elim (cases_lt row height) [
+  | inl below ↦ below
+  | inr above ↦ absurd (omega (arith, mul-le height width row width above (omega arith)))
+]
 
--- a sixel that sets a pixel is a dot of its row
-dot_from_pixel : (drawing : Drawing) (band entry column bit : ℕ) → column < drawing.width → bit < 6
-    → entry_at drawing column (6 * band + bit) ≡ Some entry
-    → has_dot (row_of drawing band entry) ≡ true
-dot_from_pixel drawing band entry column bit lc lb here =
-    let inside : IsInBand band (6 * band + bit) = record {
-      since = omega arith;
-      before = omega arith;
-    } in
-    let bits : ℕ = slice_index (row_of drawing band entry) column in
-    let struck : is_struck (6 * band) bits (6 * band + bit) ≡ true =
-    struck-inside drawing band entry column (6 * band + bit) lc inside
-    ∙ (ap (is_entry entry) here ∙ itself entry) in
-    let some : bits == 0 ≡ false =
-    ne_eqb bits 0
-    (λ e.
-    both_ways (is_struck (6 * band) bits (6 * band + bit))
-    (ap (λ b. is_struck (6 * band) b (6 * band + bit)) e
-    ∙ is_struck-zero (6 * band) (6 * band + bit)) struck) in
-    list_any_at (λ b. not (b == 0)) (row_of drawing band entry) column 0
-    (omega (arith, length-row_of drawing band entry)) (ap not some)
-
--- a dot of an entry of the drawing in a band that is used
-pub used-dot : (drawing : Drawing) (band : ℕ) → IsWritable drawing → is_used drawing band ≡ true
-    → (entry : ℕ) × (entry < length drawing.colors) × (has_dot (row_of drawing band entry) ≡ true)
-used-dot drawing band is used =
+-- a band that is used has a pixel with an entry
+pub used-pixel : (drawing : Drawing) (band : ℕ) → IsWritable drawing → is_used drawing band ≡ true
+    → (column : ℕ) × (line : ℕ) × (entry : ℕ) × (column < drawing.width) × (line < drawing.height)
+    × (line / 6 ≡ band) × (entry_at drawing column line ≡ Some entry)
+used-pixel drawing band is used =
     let found = window-some drawing.entries (6 * band * drawing.width) (6 * drawing.width) used in
     let i : ℕ = found.0 in
-    let entry : ℕ = found.3.0 in
-    let at : get_or drawing.entries (6 * band * drawing.width + i) None ≡ Some entry = found.3.1 in
+    let inside : 6 * band * drawing.width + i < length drawing.entries = found.2 in
+    let at : get_or drawing.entries (6 * band * drawing.width + i) None ≡ Some found.3.0 =
+    found.3.1 in
     let w : 0 < drawing.width = omega (arith, is.some_width) in
-    let column : i % drawing.width < drawing.width = mod_below i drawing.width w in
     let bit : i / drawing.width < 6 = div_below i drawing.width 6 w found.1 in
     let place : (6 * band + i / drawing.width) * drawing.width + i % drawing.width
     ≡ 6 * band * drawing.width + i =
     place-in_band band (i / drawing.width) drawing.width (i % drawing.width)
-    ∙ ap (λ n. 6 * band * drawing.width + n) (div-add-mod' i drawing.width) in
-    let here : entry_at drawing (i % drawing.width) (6 * band + i / drawing.width) ≡ Some entry =
-    ap (λ n. get_or drawing.entries n None) place ∙ at in
-    let known : entry < length drawing.colors =
-    subst (λ (v : Option ℕ). IfSome v (λ e. e < length drawing.colors))
-    at (is.known (6 * band * drawing.width + i) None found.2) in (
-      entry,
-      known,
-      dot_from_pixel drawing band entry (i % drawing.width) (i / drawing.width) column bit here,
+    ∙ ap (λ n. 6 * band * drawing.width + n) (div-add-mod' i drawing.width) in (
+      i % drawing.width,
+      6 * band + i / drawing.width,
+      found.3.0,
+      mod_below i drawing.width w,
+      row-below (6 * band + i / drawing.width) drawing.width (i % drawing.width) drawing.height
+          (omega (arith, place, inside, is.pixels)),
+      omega arith,
+      ap (λ n. get_or drawing.entries n None) place ∙ at,
     )

@@ -3,3 +3,4 @@ pub mod Text
 pub mod inside
 pub mod Encoding
 pub mod Trip
+pub mod Marks

@@ -14,6 +14,7 @@ ghost use Rattle.sixel_encoder.specs.Text.{Drawing, percent, parameters_text, te
 ghost use Rattle.sixel_encoder.specs.Encoding.{image_fault, IsDrawing, IsText};
 ghost use Rattle.sixel_base.specs.Dcs.{Reading, stage};
 ghost use Rattle.sixel_base.specs.OneShot.{Payload, found};
+ghost use Rattle.sixel_encoder.specs.Marks.{IsDrawnText};
 ghost use Rattle.sixel_encoder.specs.Trip.{IsWritable, payload_text, drawing_settings};
 ghost use Rattle.sixel_encoder.specs.Trip.{rounded, trip, CanRead, IsTrip, IsReadAs, IsOneString};
 
@@ -60,6 +61,22 @@ pub fn one_control_string()
         → IsReadAs decoder (text_of drawing) (trip decoder.raster_crop drawing) }
 {}
 
+/// States that each text of marks that draw a drawing means the drawing's trip.
+///
+/// Such a text is one DCS sequence. A decoder that can read it returns the trip. The output for a
+/// drawing is such a text.
+pub fn drawn_text()
+    ensures whole { (limit : ℕ) (drawing : Drawing) (text : List ℕ) → IsWritable drawing
+        → IsDrawnText drawing text → drawing.width * banded drawing.height ≤ limit
+        → IsOneString limit text }
+    ensures read_back { (decoder : DecoderState) (drawing : Drawing) (text : List ℕ)
+        → IsWritable drawing → IsDrawnText drawing text
+        → CanRead decoder drawing.width drawing.height
+        → IsReadAs decoder text (trip decoder.raster_crop drawing) }
+    ensures plain { (drawing : Drawing) → IsWritable drawing
+        → IsDrawnText drawing (text_of drawing) }
+{}
+
 /// States that a percentage survives the conversion to a byte.
 ///
 /// So a second round trip does not round a channel again.
@@ -70,8 +87,8 @@ pub fn rounding()
 
 /// States that the output of an image means the trip of its drawing.
 ///
-/// The output is one DCS sequence. Each decoder that can read it, as a new one can, returns that trip. The trip is again an image
-/// that can be encoded.
+/// The output is one DCS sequence. Each decoder that can read it, as a new one can, returns that
+/// trip. The trip is again an image that can be encoded.
 pub fn image_trip()
     ensures writable { (image : Image) (max_colors : ℕ) (drawing : Drawing)
         → image_fault image ≡ None → All (λ byte. byte < 256) image.pixels

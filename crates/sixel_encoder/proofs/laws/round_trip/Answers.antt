@@ -1,8 +1,8 @@
-use Rattle.sixel_encoder.proofs.RoundTrip.{payload-trip, payload-sound}
+use Rattle.sixel_encoder.proofs.PlainText.{plain-trip, plain-sound}
 use Rattle.sixel_encoder.proofs.laws.round_trip.Goals as goal
 
 pub returns-clause-sound : goal.returns-clause-sound
-returns-clause-sound c = λ limit drawing rest is room. payload-sound limit drawing rest is room
+returns-clause-sound c = λ limit drawing rest is room. plain-sound limit drawing rest is room
 
 pub returns-clause-image : goal.returns-clause-image
-returns-clause-image c = λ decoder drawing rest is new. payload-trip decoder drawing rest is new
+returns-clause-image c = λ decoder drawing rest is new. plain-trip decoder drawing rest is new

@@ -1,0 +1,138 @@
+-- What marks do to the place, the colors and the sizes: the history is where the pen is.
+use Rattle.std.specs.Prelude.{Some, nat_le, ◌&&◌, ◌==◌, ◌||◌}
+use Rattle.std.proofs.Common.{List, [], ap, arith, false, get_or, length, refl, ℕ, ◌*◌, ◌<◌, ◌∙◌}
+use Rattle.std.proofs.Common.{◌∷◌, ◌≡◌}
+use Rattle.sixel_base.specs.Fields.{field}
+use Rattle.sixel_base.specs.History.{Color, History, Return}
+use Rattle.sixel_base.specs.Payload.{area_limit}
+use Rattle.sixel_base.specs.Place.{across, down, span}
+use Rattle.sixel_base.specs.Stroke.{is_definition, named_by, ratio, registers, selected}
+use Rattle.sixel_base.specs.declared.settings.PixelAspectRatio.{PixelAspectRatio}
+use Rattle.sixel_encoder.specs.Marks.{AreAllowed, Back, Draw, IsAllowed, Mark, Next, Pen, Pick}
+use Rattle.sixel_encoder.specs.Marks.{moved}
+use Rattle.sixel_encoder.specs.RunTokens.{row_tokens}
+use Rattle.sixel_encoder.specs.Text.{Drawing, bands}
+use Rattle.sixel_encoder.specs.Trip.{IsWritable}
+use Rattle.sixel_encoder.proofs.Digits.{fields-numbers, numbers}
+use Rattle.sixel_encoder.proofs.Extent.{Fits, Fits-color, Fits-newline, Fits-run_tokens}
+use Rattle.sixel_encoder.proofs.Extent.{IsWithinLimits, first_fault-more}
+use Rattle.sixel_encoder.proofs.RowSteps.{Moved-row}
+use Rattle.sixel_encoder.proofs.ShortestRows.{spells}
+use Rattle.sixel_encoder.proofs.TextHistory.{AreSound-row}
+use Rattle.sixel_encoder.proofs.Tokens.{with_mark, with_marks}
+
+-- a drawing's sizes are within the limits
+IsWithinLimits-drawing : (drawing : Drawing) → IsWritable drawing
+    → IsWithinLimits area_limit drawing.width (6 * bands drawing.height)
+IsWithinLimits-drawing drawing is = record { wide = is.wide; high = is.high; area = is.area }
+
+-- ---- a color introducer of one number
+
+-- it selects its register
+selects : (entry : ℕ) → entry < 256 → named_by (numbers entry []) ≡ entry
+selects entry h =
+    let first : field (numbers entry []) 0 ≡ entry =
+    ap (λ ns. get_or ns 0 0) (fields-numbers entry [] (omega arith) tt) in
+    omega arith
+
+-- one number defines no color
+defines_none : (entry : ℕ) → entry < 256 → is_definition (numbers entry []) ≡ false
+defines_none entry h =
+    ap (λ ns. nat_le 5 (length ns) && (get_or ns 1 0 == 1 || get_or ns 1 0 == 2))
+    (fields-numbers entry [] (omega arith) tt)
+
+-- so it keeps the registers
+keeps_registers : (entry : ℕ) (h : History) (start : List (List ℕ)) → entry < 256
+    → registers start (Color (numbers entry []) ∷ h) ≡ registers start h
+keeps_registers entry h start small = rw (defines_none entry small) refl
+
+-- ---- marks
+
+-- a history is where the pen is, with this palette, within the drawing's sizes
+pub record Follows (drawing : Drawing) (start palette : List (List ℕ)) (pen : Pen)
+    (history : History) : Type 0 where
+  pub single : span history ≡ 1
+  pub place : across history ≡ pen.column
+  pub level : down history ≡ 6 * pen.band
+  pub named : (register : ℕ) → pen.register ≡ Some register → selected history ≡ register
+  pub defined : registers start history ≡ palette
+  pub shape : (other : PixelAspectRatio) → ratio other history ≡ drawing.aspect_ratio
+  pub fits : Fits area_limit drawing.width (6 * bands drawing.height) history
+
+-- two options with a value are equal only if the values are
+same_some : (m n : ℕ) → Some m ≡ Some n → m ≡ n
+same_some m n e = cc
+
+-- a history follows the pen over a mark
+pub Follows-mark :
+    (drawing : Drawing) (start palette : List (List ℕ)) (pen : Pen) (mark : Mark) (h : History)
+    → IsWritable drawing → IsAllowed drawing pen mark → Follows drawing start palette pen h
+    → Follows drawing start palette (moved pen mark) (with_mark mark h)
+Follows-mark drawing start palette pen (Pick register) h is may follows = record {
+  single = follows.single;
+  place = follows.place;
+  level = follows.level;
+  named = λ n e. selects register may ∙ same_some register n e;
+  defined = keeps_registers register h start may ∙ follows.defined;
+  shape = follows.shape;
+  fits =
+      Fits-color area_limit drawing.width (6 * bands drawing.height) (numbers register []) h
+      follows.fits;
+}
+Follows-mark drawing start palette pen (Draw row) h is may follows =
+    let went = Moved-row row h may.small follows.single in
+    let lower = may.lower in
+    record {
+      single = went.single;
+      place = omega (arith, went.place, follows.place);
+      level = went.level ∙ follows.level;
+      named = λ n e. went.named ∙ follows.named n e;
+      defined = went.kept start ∙ follows.defined;
+      shape = λ other. went.shape other ∙ follows.shape other;
+      fits =
+          Fits-run_tokens area_limit drawing.width (6 * bands drawing.height) (row_tokens row) h
+          (IsWithinLimits-drawing drawing is) (AreSound-row row may.small) follows.single
+          (omega (arith, follows.place, ap length (spells row).joined, may.inside))
+          (omega (arith, follows.level, lower)) follows.fits;
+    }
+Follows-mark drawing start palette pen Back h is may follows = record {
+  single = follows.single;
+  place = refl;
+  level = follows.level;
+  named = follows.named;
+  defined = follows.defined;
+  shape = follows.shape;
+  fits = record {
+    wide = follows.fits.wide;
+    high = follows.fits.high;
+    sound = first_fault-more area_limit Return h follows.fits.sound refl;
+  };
+}
+Follows-mark drawing start palette pen Next h is may follows =
+    let lower : pen.band < bands drawing.height = may in
+    record {
+      single = follows.single;
+      place = refl;
+      level = omega (arith, follows.level);
+      named = follows.named;
+      defined = follows.defined;
+      shape = follows.shape;
+      fits =
+          Fits-newline area_limit drawing.width (6 * bands drawing.height) h
+          (omega (arith, follows.level, is.high, lower)) follows.fits;
+    }
+
+-- the pen after all marks
+abbrev pub moved_by : List Mark → Pen → Pen
+moved_by [] pen = pen
+moved_by (mark ∷ marks) pen = moved_by marks (moved pen mark)
+
+-- and over all marks
+pub Follows-marks : (drawing : Drawing) (start palette : List (List ℕ)) (pen : Pen)
+    (marks : List Mark) (h : History) → IsWritable drawing → AreAllowed drawing pen marks
+    → Follows drawing start palette pen h
+    → Follows drawing start palette (moved_by marks pen) (with_marks marks h)
+Follows-marks drawing start palette pen [] h is may follows = follows
+Follows-marks drawing start palette pen (mark ∷ marks) h is may follows =
+    Follows-marks drawing start palette (moved pen mark) marks (with_mark mark h) is may.1
+    (Follows-mark drawing start palette pen mark h is may.0 follows)

@@ -1,0 +1,249 @@
+-- The plain definitions and marks draw the drawing: entry by entry, and band by band.
+use Rattle.std.specs.Prelude.{IfSome, None, Option, Some, is_some, ◌==◌}
+use Rattle.std.proofs.Common.{Bool, List, [], ap, arith, cond, false, inl, inr, length, refl, subst}
+use Rattle.std.proofs.Common.{suc, sym, true, zero, ℕ, ◌*◌, ◌++◌, ◌+◌, ◌<◌, ◌∙◌, ◌∷◌, ◌≡◌, ◌≢◌, ◌≤◌}
+use Rattle.std.proofs.lemmas.Bool.{both_ways, cases_Bool, cases_eq, cases_lt}
+use Rattle.std.proofs.lemmas.Bool.Decides.{nat_tests}
+use Rattle.std.proofs.lemmas.List.{get_or_past}
+use Rattle.sixel_base.specs.Picture.{joined}
+use Rattle.sixel_encoder.specs.Marks.{AreDefinitions, Back, Definition, Draw, Draws, Mark, Next}
+use Rattle.sixel_encoder.specs.Marks.{Pen, Pick, first_pen, is_lit, register_entry}
+use Rattle.sixel_encoder.specs.Text.{Drawing, bands, entry_at, has_dot, row_of}
+use Rattle.sixel_encoder.specs.Trip.{IsWritable, is_used}
+use Rattle.sixel_encoder.proofs.EntryRows.{IsInBand, length-row_of, lit-own, no_dot-own, own-lit}
+use Rattle.sixel_encoder.proofs.EntryRows.{row_of-small}
+use Rattle.sixel_encoder.proofs.MarkSteps.{Leads, Leads-append, Leads-joined, Places, painted-place}
+use Rattle.sixel_encoder.proofs.UsedBands.{unused-dots}
+use Rattle.sixel_encoder.proofs.PlainPayload.{plain_entry, plain_band, plain_marks}
+use Rattle.sixel_encoder.proofs.PlainPayload.{plain_definition, plain_definitions}
+
+-- the entry of a pixel is one of the drawing's
+known_entry : (drawing : Drawing) (column line entry : ℕ) → IsWritable drawing
+    → entry_at drawing column line ≡ Some entry → entry < length drawing.colors
+known_entry drawing column line entry is e =
+    elim (cases_lt (line * drawing.width + column) (length drawing.entries)) [
+      | inl inside ↦ subst (λ (v : Option ℕ). IfSome v (λ n. n < length drawing.colors))
+          e (is.known (line * drawing.width + column) None inside)
+      | inr past ↦
+          absurd (both_ways (is_some (entry_at drawing column line))
+          (ap is_some (get_or_past drawing.entries (line * drawing.width + column) None past))
+          (ap is_some e))
+    ]
+
+-- The pen is at the left of a band. No transparent pixel is set. The pixels of the bands above and,
+-- in this band, of the entries before this one are drawn in their own registers.
+record IsDrawnTo (drawing : Drawing) (band entry : ℕ) (pen : Pen) (place : Places) : Type 0 where
+  left : pen.column ≡ 0
+  level : pen.band ≡ band
+  transparent : (column line : ℕ) → column < drawing.width → entry_at drawing column line ≡ None
+      → place column line ≡ None
+  above : (column line other : ℕ) → column < drawing.width → line < 6 * band
+      → entry_at drawing column line ≡ Some other → place column line ≡ Some other
+  drawn : (column line other : ℕ) → column < drawing.width → IsInBand band line
+      → entry_at drawing column line ≡ Some other → other < entry → place column line ≡ Some other
+
+-- the row of an entry leads to the next entry
+Leads-row : (drawing : Drawing) (band entry : ℕ) (pen : Pen) (place : Places) → entry < 256
+    → band < bands drawing.height → has_dot (row_of drawing band entry) ≡ true
+    → IsDrawnTo drawing band entry pen place
+    → Leads drawing (IsDrawnTo drawing band (entry + 1)) pen place
+    (Pick entry ∷ Draw (row_of drawing band entry) ∷ Back ∷ [])
+Leads-row drawing band entry pen place small lower dot at = record {
+  allowed = (
+    small,
+    (
+      record {
+        small = row_of-small drawing band entry;
+        inside = omega (arith, at.left, length-row_of drawing band entry);
+        lower = omega (arith, at.level, lower);
+        used = ap (is_used drawing) at.level ∙ used;
+        selected = refl;
+      },
+      (tt, tt),
+    ),
+  );
+  state = record {
+    left = refl;
+    level = at.level;
+    transparent = λ column line lc none.
+        shows column line (is_lit row pen.column (6 * pen.band) column line) refl None
+        (λ lit. let own = lit-own drawing band entry column line lit in sym own ∙ none)
+        (λ unlit. at.transparent column line lc none);
+    above = λ column line other lc over e.
+        shows column line (is_lit row pen.column (6 * pen.band) column line) refl (Some other)
+        (λ lit. let own = lit-own drawing band entry column line lit in sym own ∙ e)
+        (λ unlit. at.above column line other lc over e);
+    drawn = λ column line other lc in_it e l.
+        shows column line (is_lit row pen.column (6 * pen.band) column line) refl (Some other)
+        (λ lit. let own = lit-own drawing band entry column line lit in sym own ∙ e)
+        (λ unlit. elim (cases_eq other entry) [
+          | inl same ↦ absurd (both_ways (is_lit row 0 (6 * band) column line) unlit
+              (own-lit drawing band entry column line lc in_it (e ∙ ap Some same)))
+          | inr apart ↦ at.drawn column line other lc in_it e (omega arith)
+        ]);
+  };
+}
+  where
+    row : List ℕ
+    row = row_of drawing band entry
+
+    used : is_used drawing band ≡ true
+    used = elim (cases_Bool (is_used drawing band)) [
+      | inl is ↦ is
+      | inr not_used ↦
+          absurd (both_ways (has_dot row) (unused-dots drawing band entry not_used) dot)
+    ]
+
+    here : (column line : ℕ)
+        → is_lit row pen.column (6 * pen.band) column line ≡ is_lit row 0 (6 * band) column line
+    here column line =
+        ap (λ n. is_lit row n (6 * pen.band) column line) at.left
+        ∙ ap (λ n. is_lit row 0 (6 * n) column line) at.level
+
+    shows : (column line : ℕ) (b : Bool) → is_lit row pen.column (6 * pen.band) column line ≡ b
+        → (x : Option ℕ) → (is_lit row 0 (6 * band) column line ≡ true → Some entry ≡ x)
+        → (is_lit row 0 (6 * band) column line ≡ false → place column line ≡ x)
+        → cond b (Some entry) (place column line) ≡ x
+    shows column line true lit x on off = on (sym (here column line) ∙ lit)
+    shows column line false lit x on off = off (sym (here column line) ∙ lit)
+
+-- so does an entry, with a row or without
+Leads-entry : (drawing : Drawing) (band entry : ℕ) (pen : Pen) (place : Places) → entry < 256
+    → band < bands drawing.height → IsDrawnTo drawing band entry pen place
+    → Leads drawing (IsDrawnTo drawing band (entry + 1)) pen place (plain_entry drawing band entry)
+Leads-entry drawing band entry pen place small lower at =
+    go (has_dot (row_of drawing band entry)) refl
+  where
+    go : (b : Bool) → has_dot (row_of drawing band entry) ≡ b
+        → Leads drawing (IsDrawnTo drawing band (entry + 1)) pen place
+        (cond b (Pick entry ∷ Draw (row_of drawing band entry) ∷ Back ∷ []) [])
+    go true dot = Leads-row drawing band entry pen place small lower dot at
+    go false none = record {
+      allowed = tt;
+      state = record {
+        left = at.left;
+        level = at.level;
+        transparent = at.transparent;
+        above = at.above;
+        drawn = λ column line other lc in_it e l. elim (cases_eq other entry) [
+          | inl same ↦
+              absurd (no_dot-own drawing band entry column line lc in_it none (e ∙ ap Some same))
+          | inr apart ↦ at.drawn column line other lc in_it e (omega arith)
+        ];
+      };
+    }
+
+-- a band leads to the next band
+Leads-band : (drawing : Drawing) (band : ℕ) (pen : Pen) (place : Places) → IsWritable drawing
+    → band < bands drawing.height → IsDrawnTo drawing band 0 pen place
+    → Leads drawing (IsDrawnTo drawing (band + 1) 0) pen place (plain_band drawing band)
+Leads-band drawing band pen place is lower at =
+    let few = is.few in
+    let rows : List Mark = joined (plain_entry drawing band) (length drawing.colors) in
+    let first =
+    Leads-joined drawing (IsDrawnTo drawing band) (plain_entry drawing band) (length drawing.colors)
+    (λ k p d l is_at. Leads-entry drawing band k p d (omega arith) lower is_at) pen place at in
+    let state = first.state in
+    Leads-append drawing (IsDrawnTo drawing band (length drawing.colors))
+    (IsDrawnTo drawing (band + 1) 0) pen place rows (Next ∷ []) first record {
+      allowed = (omega (arith, state.level, lower), tt);
+      state = record {
+        left = refl;
+        level = omega (arith, state.level);
+        transparent = state.transparent;
+        above = λ column line other lc below e. elim (cases_lt line (6 * band)) [
+          | inl higher ↦ state.above column line other lc higher e
+          | inr since ↦ state.drawn column line other lc record {
+            since = since;
+            before = omega arith;
+          } e (known_entry drawing column line other is e)
+        ];
+        drawn = λ column line other lc in_it e l. absurd (omega arith);
+      };
+    }
+
+-- the entry of a register after definitions, and then more
+register_entry-append : (a b : List Definition) (before : Option ℕ) (register : ℕ)
+    → register_entry (a ++ b) before register
+    ≡ register_entry b (register_entry a before register) register
+register_entry-append [] b before register = refl
+register_entry-append (definition ∷ a) b before register =
+    register_entry-append a b
+    (cond (definition.register == register) (Some definition.entry) before) register
+
+-- each register has the entry of its number
+register_entry-plain : (n entry : ℕ) → entry < n
+    → register_entry (joined plain_definition n) None entry ≡ Some entry
+unfolding joined
+register_entry-plain zero entry l = absurd (omega arith)
+register_entry-plain (suc n) entry l =
+    register_entry-append (joined plain_definition n) (plain_definition n) None entry
+    ∙ elim (cases_eq entry n) [
+      | inl same ↦ hit same
+      | inr apart ↦ other apart (register_entry (joined plain_definition n) None entry)
+          ∙ register_entry-plain n entry (omega arith)
+    ]
+  where
+    hit : entry ≡ n
+        → register_entry (plain_definition n)
+        (register_entry (joined plain_definition n) None entry) entry ≡ Some entry
+    hit same =
+        let test : n == entry ≡ true = grind (arith, nat_tests) in rw test (ap Some (sym same))
+
+    other : entry ≢ n → (before : Option ℕ)
+        → register_entry (plain_definition n) before entry ≡ before
+    other apart before = let test : n == entry ≡ false = grind (arith, nat_tests) in rw test refl
+
+-- definitions, and then more
+AreDefinitions-append : (drawing : Drawing) (a b : List Definition) → AreDefinitions drawing a
+    → AreDefinitions drawing b → AreDefinitions drawing (a ++ b)
+AreDefinitions-append drawing [] b first then = then
+AreDefinitions-append drawing (definition ∷ a) b first then = (
+  first.0,
+  AreDefinitions-append drawing a b first.1 then,
+)
+
+-- there is a register for each entry
+AreDefinitions-plain : (drawing : Drawing) (n : ℕ) → length drawing.colors ≤ 256
+    → n ≤ length drawing.colors → AreDefinitions drawing (joined plain_definition n)
+unfolding joined
+AreDefinitions-plain drawing zero few l = tt
+AreDefinitions-plain drawing (suc n) few l =
+    AreDefinitions-append drawing (joined plain_definition n) (plain_definition n)
+    (AreDefinitions-plain drawing n few (omega arith)) ((omega arith, omega arith), tt)
+
+-- the registers before the first mark
+abbrev nothing_drawn : Places
+nothing_drawn column line = None
+
+-- the plain definitions and marks draw the drawing
+pub Draws-plain : (drawing : Drawing) → IsWritable drawing
+    → Draws drawing (plain_definitions drawing) (plain_marks drawing)
+Draws-plain drawing is =
+    let leads : Leads drawing (IsDrawnTo drawing (bands drawing.height) 0) first_pen nothing_drawn
+    (plain_marks drawing) =
+    Leads-joined drawing
+    (λ band. IsDrawnTo drawing band 0)
+    (plain_band drawing) (bands drawing.height)
+    (λ k p d l at. Leads-band drawing k p d is l at) first_pen nothing_drawn
+    record {
+      left = refl;
+      level = refl;
+      transparent = λ column line lc none. refl;
+      above = λ column line other lc over e. absurd (omega arith);
+      drawn = λ column line other lc in_it e l. absurd (omega arith);
+    } in
+    record {
+      defined = AreDefinitions-plain drawing (length drawing.colors) is.few (omega arith);
+      allowed = leads.allowed;
+      transparent = λ column line lc e.
+          painted-place (plain_marks drawing) first_pen nothing_drawn column line
+          ∙ leads.state.transparent column line lc e;
+      opaque = λ column line entry lc ll e. (
+        entry,
+        painted-place (plain_marks drawing) first_pen nothing_drawn column line
+            ∙ leads.state.above column line entry lc (omega arith) e,
+        register_entry-plain (length drawing.colors) entry
+            (known_entry drawing column line entry is e),
+      );
+    }
