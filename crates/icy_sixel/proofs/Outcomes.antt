@@ -13,8 +13,7 @@ use Rattle.sixel_base.specs.Payload.{Image, image_of, payload_fault}
 use Rattle.sixel_base.specs.Stroke.{registers}
 use Rattle.sixel_base.specs.Dcs.{dcs_status, dcs_fault, dcs_growths, has_ended}
 use Rattle.sixel_base.specs.Dcs as strings
-use Rattle.sixel_base.specs.OneShot.{Found, IsDecodedAs, found_fault, found_wants, IsFoundImage}
-use Rattle.sixel_base.specs.OneShot.{AreFoundRegisters}
+use Rattle.sixel_base.specs.OneShot.{Found, IsDecodedAs, IsFoundImage, AreFoundRegisters}
 use Rattle.sixel_base.specs.OneShot as one_shot
 use Rattle.icy_sixel.specs.declared.script.End.{End}
 use Rattle.icy_sixel.specs.declared.script.End.TheVariants.{Finish, Abort}
@@ -28,6 +27,7 @@ use Rattle.icy_sixel.specs.Receiver.{found_followed, end_fault, end_wants}
 use Rattle.icy_sixel.specs.Receiver as images
 use Rattle.icy_sixel.specs.Script.{IsDecoding, IsSessionOutcome}
 use Rattle.icy_sixel.specs.inside.Session.{IsWhole, meaning, whole_fault}
+use Rattle.sixel_decoder.specs.OneShotCalls.{IsDecoded}
 use Rattle.sixel_decoder.proofs.ParserSteps.{Faults-along}
 use Rattle.sixel_decoder.proofs.ChunkReads.{payload_refused, or_right}
 use Rattle.icy_sixel.proofs.Chunks.{same, front_whole}
@@ -166,15 +166,11 @@ finishes (Err e) outcome before after form fed bytes consumed status is whole so
 pub decodes : (answer : Result SixelImage SixelError) (outcome : Outcome)
     (before after : DecoderState) (payload : Found)
     → MatchResult answer (λ image. outcome ≡ Decoded image) (λ e. outcome ≡ Failed e)
-    → IfOk answer (λ image. IsFoundImage before payload (image_value image))
+    → IsDecoded image_value before payload answer
     → OnOk answer (AreFoundRegisters before payload after.registers)
-    → OnOk answer (found_fault before.pixel_limit payload ≡ None)
-    → IfErr answer
-    (λ e.
-    Faults e (found_wants before.pixel_limit payload) (found_fault before.pixel_limit payload))
     → IsSetAs before after → OnErr answer (after ≡ before) → IsDecoding before payload outcome after
-decodes (Ok image) outcome before after payload is drawn defined faultless refused set kept =
+decodes (Ok image) outcome before after payload is decoded defined set kept =
     subst (λ (o : Outcome). IsDecoding before payload o after)
-    (sym is) (faultless, drawn, defined, set)
-decodes (Err e) outcome before after payload is drawn defined faultless refused set kept =
-    subst (λ (o : Outcome). IsDecoding before payload o after) (sym is) (refused, kept)
+    (sym is) (decoded.faultless, decoded.image, defined, set)
+decodes (Err e) outcome before after payload is decoded defined set kept =
+    subst (λ (o : Outcome). IsDecoding before payload o after) (sym is) (decoded.refused, kept)

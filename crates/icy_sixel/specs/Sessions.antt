@@ -11,7 +11,7 @@ use Rattle.icy_sixel.specs.declared.decoder.dcs_session.SixelDcsStreamDecoder.{
 
 -- what a payload session was fed
 abbrev pub payload : SixelStreamDecoder Session → Session
-payload session = session.intake
+payload session = session.reader
 
 -- the decoder that it borrows
 abbrev pub payload_owner : {F : Type 0} → SixelStreamDecoder F → MutBor DecoderState
@@ -19,7 +19,7 @@ payload_owner session = session.owner
 
 -- what a DCS session was fed
 abbrev pub sequence : SixelDcsStreamDecoder DcsSession → DcsSession
-sequence session = session.progress
+sequence session = session.reader
 
 -- the decoder that it borrows
 abbrev pub sequence_owner : {P : Type 0} → SixelDcsStreamDecoder P → MutBor DecoderState

@@ -4,19 +4,16 @@
 //! of a payload is in `sixel_base`, by the list of its sixels and commands: which bytes these are
 //! (`History`), what they draw (`Place`, `Stroke`), and when they are refused (`Payload`).
 
-ghost use Rattle.std.specs.Prelude.{◌≡◌, ◌*◌, ◌≤◌, [], length, slice_index_or, slice_set, IsOk};
-ghost use Rattle.std.specs.Prelude.{None};
-ghost use Rattle.std.specs.Prelude.{OnOk, OnErr, IfOk, IfErr};
+ghost use Rattle.std.specs.Prelude.{◌≡◌, ◌≤◌, [], length, slice_index_or, slice_set, IsOk};
+ghost use Rattle.std.specs.Prelude.{OnOk, OnErr, IfOk};
 ghost use Rattle.sixel_base.specs.Color.{default_registers};
 ghost use Rattle.sixel_base.specs.Decoder.{IsSetAs, limit_of, new_decoder, origin_of};
-ghost use Rattle.sixel_base.specs.Fault.{Faults};
 ghost use Rattle.sixel_base.specs.Limits.{area_limit};
-ghost use Rattle.sixel_base.specs.Payload.{payload_fault, payload_image};
-ghost use Rattle.sixel_base.specs.Payload.{payload_registers, payload_wants};
+ghost use Rattle.sixel_base.specs.OneShot.{found, Payload, AreFoundRegisters};
+ghost use Rattle.sixel_base.specs.Payload.{payload_registers};
 ghost use Rattle.icy_sixel.specs.ImageView.{image_value};
-ghost use Rattle.sixel_base.specs.OneShot.{found, found_fault, found_wants, IsFoundImage};
-ghost use Rattle.sixel_base.specs.OneShot.{AreFoundRegisters};
 ghost use Rattle.sixel_decoder.specs.DcsCalls.{begun as begun_dcs};
+ghost use Rattle.sixel_decoder.specs.OneShotCalls.{IsDecoded};
 ghost use Rattle.sixel_decoder.specs.PayloadCalls.{begun};
 
 mod dcs_session;
@@ -156,19 +153,9 @@ impl SixelDecoder {
     /// [`SixelError::InvalidData`](crate::SixelError::InvalidData) for a header that is faulty or
     /// does not end; after any of them the registers are those before.
     pub fn decode(&mut self, alloc: Global, bytes: &[u8]) -> Result<SixelImage>
-        ensures image { IfOk result (λ image.
-            IsFoundImage self.old (found bytes.now) (image_value image)) }
+        ensures decoded { IsDecoded image_value self.old (found bytes.now) result }
         ensures registers { OnOk result
             (AreFoundRegisters self.old (found bytes.now) self.new.registers) }
-        ensures faultless { OnOk result
-            (found_fault self.old.pixel_limit (found bytes.now) ≡ None) }
-        ensures refused { IfErr result (λ error. Faults error
-            (found_wants self.old.pixel_limit (found bytes.now))
-            (found_fault self.old.pixel_limit (found bytes.now))) }
-        ensures area { IfOk result (λ image.
-            image.width * image.height ≤ self.old.pixel_limit) }
-        ensures pixels { IfOk result (λ image.
-            length image.pixels.items ≡ 4 * (image.width * image.height)) }
         ensures set { IsSetAs self.old self.new }
         ensures kept { OnErr result (self.new ≡ self.old) }
     {
@@ -244,18 +231,9 @@ impl SixelDecoder {
         bytes: &[u8],
         settings: DcsSettings,
     ) -> Result<SixelImage>
-        ensures image { IfOk result (λ image. image_value image ≡ payload_image
-            (origin_of self.old settings) bytes.now) }
+        ensures decoded { IsDecoded image_value self.old (Payload settings bytes.now) result }
         ensures registers { OnOk result (self.new.registers ≡ payload_registers
             (origin_of self.old settings) bytes.now) }
-        ensures faultless { OnOk result (payload_fault self.old.pixel_limit bytes.now ≡ None) }
-        ensures refused { IfErr result (λ error. Faults error
-            (payload_wants self.old.pixel_limit bytes.now)
-            (payload_fault self.old.pixel_limit bytes.now)) }
-        ensures area { IfOk result (λ image.
-            image.width * image.height ≤ self.old.pixel_limit) }
-        ensures pixels { IfOk result (λ image.
-            length image.pixels.items ≡ 4 * (image.width * image.height)) }
         ensures set { IsSetAs self.old self.new }
         ensures kept { OnErr result (self.new ≡ self.old) }
     {
@@ -267,14 +245,7 @@ impl SixelDecoder {
 
 /// As [`SixelImage::decode`].
 pub fn sixel_decode(alloc: Global, bytes: &[u8]) -> Result<SixelImage>
-    ensures image { IfOk result
-        (λ image. IsFoundImage new_decoder (found bytes.now) (image_value image)) }
-    ensures pixels { IfOk result (λ image.
-        length image.pixels.items ≡ 4 * (image.width * image.height)) }
-    ensures faultless { OnOk result (found_fault new_decoder.pixel_limit (found bytes.now) ≡ None) }
-    ensures refused { IfErr result (λ error. Faults error
-        (found_wants new_decoder.pixel_limit (found bytes.now))
-        (found_fault new_decoder.pixel_limit (found bytes.now))) }
+    ensures { IsDecoded image_value new_decoder (found bytes.now) result }
 {
     SixelImage::decode(alloc, bytes)
 }
@@ -285,14 +256,7 @@ pub fn sixel_decode_from_dcs(
     bytes: &[u8],
     settings: DcsSettings,
 ) -> Result<SixelImage>
-    ensures image { IfOk result (λ image. image_value image ≡ payload_image
-        (origin_of new_decoder settings) bytes.now) }
-    ensures pixels { IfOk result (λ image.
-        length image.pixels.items ≡ 4 * (image.width * image.height)) }
-    ensures faultless { OnOk result (payload_fault new_decoder.pixel_limit bytes.now ≡ None) }
-    ensures refused { IfErr result (λ error. Faults error
-        (payload_wants new_decoder.pixel_limit bytes.now)
-        (payload_fault new_decoder.pixel_limit bytes.now)) }
+    ensures { IsDecoded image_value new_decoder (Payload settings bytes.now) result }
 {
     SixelImage::decode_from_dcs(alloc, bytes, settings)
 }

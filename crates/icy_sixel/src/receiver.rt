@@ -114,8 +114,8 @@ impl SixelReceiver {
     pub fn begin_frame(&mut self, alloc: Global, settings: DcsSettings)
         ensures { IsBegun self.old self.new (OfPayload settings) }
     {
-        let intake = PayloadReader::new(alloc, self.decoder.state, settings);
-        self.replace_open(Open::Payload(intake));
+        let reader = PayloadReader::new(alloc, self.decoder.state, settings);
+        self.replace_open(Open::Payload(reader));
     }
 
     /// Begins a control string, from the registers, the crop and the limit that the decoder has.
@@ -124,8 +124,8 @@ impl SixelReceiver {
     pub fn begin_dcs(&mut self, alloc: Global)
         ensures { IsBegun self.old self.new OfString }
     {
-        let progress = DcsReader::new(alloc, self.decoder.state);
-        self.replace_open(Open::ControlString(progress));
+        let reader = DcsReader::new(alloc, self.decoder.state);
+        self.replace_open(Open::ControlString(reader));
     }
 
     /// Reads a piece of the image that is open; what stands after it is left to the caller.
@@ -142,8 +142,8 @@ impl SixelReceiver {
     {
         match &mut self.open {
             Open::Nothing => Err(SixelError::stream_failed()),
-            Open::Payload(intake) => Ok(of_payload(intake.feed(piece)?)),
-            Open::ControlString(progress) => Ok(of_string(progress.feed(piece)?)),
+            Open::Payload(reader) => Ok(of_payload(reader.feed(piece)?)),
+            Open::ControlString(reader) => Ok(of_string(reader.feed(piece)?)),
         }
     }
 
@@ -157,8 +157,8 @@ impl SixelReceiver {
         let open = mem::replace(&mut self.open, Open::Nothing);
         let picture = match open {
             Open::Nothing => Err(SixelError::stream_failed()),
-            Open::Payload(intake) => intake.finish(),
-            Open::ControlString(progress) => progress.finish(),
+            Open::Payload(reader) => reader.finish(),
+            Open::ControlString(reader) => reader.finish(),
         }?;
         self.decoder.state.registers = picture.registers;
         Ok(SixelImage::from_picture(picture))
@@ -189,8 +189,8 @@ impl SixelReceiver {
     {
         match &self.open {
             Open::Nothing => 0,
-            Open::Payload(intake) => intake.writes(),
-            Open::ControlString(progress) => progress.writes(),
+            Open::Payload(reader) => reader.writes(),
+            Open::ControlString(reader) => reader.writes(),
         }
     }
 
@@ -204,8 +204,8 @@ impl SixelReceiver {
     {
         match &self.open {
             Open::Nothing => 0,
-            Open::Payload(intake) => intake.paints(),
-            Open::ControlString(progress) => progress.paints(),
+            Open::Payload(reader) => reader.paints(),
+            Open::ControlString(reader) => reader.paints(),
         }
     }
 
@@ -220,8 +220,8 @@ impl SixelReceiver {
     {
         match &self.open {
             Open::Nothing => false,
-            Open::Payload(intake) => intake.size_so_far().is_some(),
-            Open::ControlString(progress) => progress.in_payload(),
+            Open::Payload(reader) => reader.size_so_far().is_some(),
+            Open::ControlString(reader) => reader.in_payload(),
         }
     }
 
@@ -233,8 +233,8 @@ impl SixelReceiver {
     {
         match &self.open {
             Open::Nothing => None,
-            Open::Payload(intake) => intake.size_so_far(),
-            Open::ControlString(progress) => progress.size_so_far(),
+            Open::Payload(reader) => reader.size_so_far(),
+            Open::ControlString(reader) => reader.size_so_far(),
         }
     }
 }

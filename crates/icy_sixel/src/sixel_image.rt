@@ -1,7 +1,7 @@
 //! An image as its pixels, sizes, pixel shape and background.
 
 ghost use Rattle.std.specs.Prelude.{◌≡◌, ℕ, ◌+◌, ◌*◌, ◌<◌, ◌≤◌, ◌↔◌, length};
-ghost use Rattle.std.specs.Prelude.{slice_index, IsTrue, None, OnOk, IfErr, IfOk};
+ghost use Rattle.std.specs.Prelude.{slice_index, IsTrue};
 ghost use Rattle.std.specs.Prelude.{MatchOption, MatchResult};
 ghost use Rattle.std.specs.Option.{option_or};
 ghost use Rattle.sixel_base.specs.Settings.{pad_of};
@@ -33,11 +33,10 @@ pub struct SixelImage {
 }
 
 impl SixelImage {
-    ghost use Rattle.sixel_base.specs.Decoder.{new_decoder, origin_of};
-    ghost use Rattle.sixel_base.specs.Fault.{Faults};
-    ghost use Rattle.sixel_base.specs.Payload.{payload_fault, payload_image, payload_wants};
-    ghost use Rattle.sixel_base.specs.OneShot.{found, found_fault, found_wants, IsFoundImage};
+    ghost use Rattle.sixel_base.specs.Decoder.{new_decoder};
+    ghost use Rattle.sixel_base.specs.OneShot.{found, Payload};
     ghost use Rattle.icy_sixel.specs.ImageView.{image_value};
+    ghost use Rattle.sixel_decoder.specs.OneShotCalls.{IsDecoded};
     ghost use Rattle.sixel_decoder.specs.PictureView.{picture_value};
 
     /// Decodes the first control string in the bytes, or all of them as a payload if there is none,
@@ -49,44 +48,21 @@ impl SixelImage {
     /// let has_transparency = image.has_transparency();
     /// ```
     pub fn decode(alloc: Global, bytes: &[u8]) -> Result<Self>
-        ensures image { IfOk result
-            (λ image. IsFoundImage new_decoder (found bytes.now) (image_value image)) }
-        ensures pixels { IfOk result (λ image.
-            length image.pixels.items ≡ 4 * (image.width * image.height)) }
-        ensures faultless { OnOk result
-            (found_fault new_decoder.pixel_limit (found bytes.now) ≡ None) }
-        ensures refused { IfErr result (λ error. Faults error
-            (found_wants new_decoder.pixel_limit (found bytes.now))
-            (found_fault new_decoder.pixel_limit (found bytes.now))) }
+        ensures { IsDecoded image_value new_decoder (found bytes.now) result }
     {
         SixelDecoder::new().decode(alloc, bytes)
     }
 
     /// Decodes one payload, as [`SixelDecoder::decode_from_dcs`] of a new decoder does.
     pub fn decode_from_dcs(alloc: Global, bytes: &[u8], settings: DcsSettings) -> Result<Self>
-        ensures image { IfOk result (λ image. image_value image ≡ payload_image
-            (origin_of new_decoder settings) bytes.now) }
-        ensures pixels { IfOk result (λ image.
-            length image.pixels.items ≡ 4 * (image.width * image.height)) }
-        ensures faultless { OnOk result (payload_fault new_decoder.pixel_limit bytes.now ≡ None) }
-        ensures refused { IfErr result (λ error. Faults error
-            (payload_wants new_decoder.pixel_limit bytes.now)
-            (payload_fault new_decoder.pixel_limit bytes.now)) }
+        ensures { IsDecoded image_value new_decoder (Payload settings bytes.now) result }
     {
         SixelDecoder::new().decode_from_dcs(alloc, bytes, settings)
     }
 
     /// As [`decode`](Self::decode) of a text's bytes.
     pub fn from_str(alloc: Global, text: &str) -> Result<Self>
-        ensures image { IfOk result
-            (λ image. IsFoundImage new_decoder (found text.now) (image_value image)) }
-        ensures pixels { IfOk result (λ image.
-            length image.pixels.items ≡ 4 * (image.width * image.height)) }
-        ensures faultless { OnOk result
-            (found_fault new_decoder.pixel_limit (found text.now) ≡ None) }
-        ensures refused { IfErr result (λ error. Faults error
-            (found_wants new_decoder.pixel_limit (found text.now))
-            (found_fault new_decoder.pixel_limit (found text.now))) }
+        ensures { IsDecoded image_value new_decoder (found text.now) result }
     {
         Self::decode(alloc, text.as_bytes())
     }

@@ -153,26 +153,26 @@ fn feed_pieces(
 ) -> Result<SixelDcsFeedResult, SixelError>
     requires pieces { 0 < piece_len }
     requires some { 0 < length bytes.now }
-    requires fresh { session.old.progress.bytes ≡ [] }
-    requires accepted { session.old.progress.is_refused ≡ false }
+    requires fresh { session.old.reader.bytes ≡ [] }
+    requires accepted { session.old.reader.is_refused ≡ false }
     ensures owner { session.new.owner.ghost_name ≡ session.old.owner.ghost_name }
     ensures kept { session.new.owner.now ≡ session.old.owner.now }
-    ensures start { session.new.progress.decoder ≡ session.old.progress.decoder }
-    ensures accepts { OnOk result (session.new.progress.is_refused ≡ false) }
+    ensures start { session.new.reader.decoder ≡ session.old.reader.decoder }
+    ensures accepts { OnOk result (session.new.reader.is_refused ≡ false) }
     ensures pieces { OnOk result
-        (IsFedInPieces piece_len bytes.now session.new.progress.bytes) }
+        (IsFedInPieces piece_len bytes.now session.new.reader.bytes) }
     ensures consumed { IfOk result (λ fed.
-        fed.consumed ≡ dcs_count session.new.progress.bytes) }
-    ensures status { IfOk result (λ fed. fed.status ≡ dcs_status session.new.progress.bytes) }
+        fed.consumed ≡ dcs_count session.new.reader.bytes) }
+    ensures status { IfOk result (λ fed. fed.status ≡ dcs_status session.new.reader.bytes) }
     ensures within { IfOk result (λ fed.
-        fed.consumed ≤ length session.new.progress.bytes) }
+        fed.consumed ≤ length session.new.reader.bytes) }
     ensures over { IfOk result (λ fed. has_ended fed.status ≡ true
-        → IsSameString session.old.progress.decoder.pixel_limit
-        session.new.progress.bytes bytes.now) }
+        → IsSameString session.old.reader.decoder.pixel_limit
+        session.new.reader.bytes bytes.now) }
     ensures faultless { OnOk result
-        (dcs_fault session.old.progress.decoder.pixel_limit session.new.progress.bytes ≡ None) }
+        (dcs_fault session.old.reader.decoder.pixel_limit session.new.reader.bytes ≡ None) }
     ensures refused { IfErr result (λ error. Faults error true
-        (string_fault session.old.progress.decoder.pixel_limit bytes.now)) }
+        (string_fault session.old.reader.decoder.pixel_limit bytes.now)) }
 {
     let mut rest = bytes;
     let mut fed = SixelDcsFeedResult {

@@ -2,7 +2,7 @@
 use Rattle.std.proofs.Common.{◌≡◌, ℕ, zero, suc, ◌+◌, ◌<◌, ◌≤◌, Bool, true, false, cond, List, []}
 use Rattle.std.proofs.Common.{◌∷◌, ◌++◌, refl, ap, sym, ◌∙◌, subst, arith, Some, None, Result, Ok}
 use Rattle.std.proofs.Common.{Err, length, take, drop, drop-cons, get_or, get_or-drop, add-one}
-use Rattle.std.specs.Prelude.{IfOk, IsTrue, nat_lt, fold, ◌||◌, is_none}
+use Rattle.std.specs.Prelude.{IsTrue, nat_lt, fold, ◌||◌, is_none}
 use Rattle.std.proofs.lemmas.Bool.Decides.{nat_tests}
 use Rattle.std.proofs.lemmas.List.{drop-drop, drop_all}
 use Rattle.std.proofs.lemmas.List.Sums.{fold-append}
@@ -14,7 +14,7 @@ use Rattle.sixel_base.specs.History.{Token, Sixel, Repeat, Raster, Color, Return
 use Rattle.sixel_base.specs.History.{History, begun, longer, goes_on, read, history_of}
 use Rattle.sixel_base.specs.Stroke.{Origin}
 use Rattle.sixel_base.specs.Payload.{first_fault, closed, growths, settled, payload_fault}
-use Rattle.sixel_base.specs.Payload.{payload_wants, payload_image}
+use Rattle.sixel_base.specs.Payload.{payload_wants}
 use Rattle.sixel_decoder.specs.declared.payload_parser.PayloadParser.{PayloadParser}
 use Rattle.sixel_decoder.specs.declared.payload_parser.OpenCommand.TheVariants.{Ground}
 use Rattle.sixel_base.specs.Status.{status_of}
@@ -23,7 +23,6 @@ use Rattle.sixel_decoder.specs.inside.PayloadParser.{Stands, StandsAfter, Decode
 use Rattle.sixel_decoder.specs.inside.PayloadParser.{settled_after}
 use Rattle.sixel_decoder.specs.inside.Painter.{Shows, Ends}
 use Rattle.sixel_decoder.specs.declared.decoded_payload.DecodedPayload.{DecodedPayload}
-use Rattle.sixel_decoder.specs.PictureView.{picture_value}
 use Rattle.sixel_decoder.specs.inside.Runs.{IsPrintable, IsSixelByte}
 use Rattle.sixel_decoder.proofs.ParserSteps.{Faults-along, fault_stays, growths-closed}
 
@@ -461,10 +460,3 @@ payload_ends (Err e) o bytes refused =
     (λ may.
     or_left (is_none (payload_fault o.pixel_limit bytes)) (nat_lt 0 (growths (settled bytes))) may)
     (λ f is. is) refused
-
--- the image of a payload that is not refused
-pub decoded_image : (result : Result DecodedPayload SixelError) (o : Origin) (bytes : List ℕ)
-    → Decodes result o bytes
-    → IfOk result (λ picture. picture_value picture ≡ payload_image o bytes)
-decoded_image (Ok picture) o bytes is = is.1
-decoded_image (Err e) o bytes is = tt

@@ -1,13 +1,11 @@
 //! Decoding in one call: a payload, or the first DCS sequence in some bytes.
 
-ghost use Rattle.std.specs.Prelude.{◌≡◌, ◌*◌, ◌≤◌, OnOk, IfOk, IfErr, None, []};
+ghost use Rattle.std.specs.Prelude.{◌≡◌, IfOk, []};
 ghost use Rattle.sixel_base.specs.Decoder.{origin_of};
-ghost use Rattle.sixel_base.specs.Fault.{Faults};
-ghost use Rattle.sixel_base.specs.OneShot.{found, found_fault, found_wants, IsFoundImage};
-ghost use Rattle.sixel_base.specs.OneShot.{AreFoundRegisters};
-ghost use Rattle.sixel_base.specs.Payload.{payload_fault, payload_image};
-ghost use Rattle.sixel_base.specs.Payload.{payload_registers, payload_wants};
+ghost use Rattle.sixel_base.specs.OneShot.{found, Payload, AreFoundRegisters};
+ghost use Rattle.sixel_base.specs.Payload.{payload_registers};
 ghost use Rattle.sixel_base.specs.Stroke.{Origin};
+ghost use Rattle.sixel_decoder.specs.OneShotCalls.{IsDecoded};
 ghost use Rattle.sixel_decoder.specs.PictureView.{picture_value};
 ghost use Rattle.sixel_decoder.specs.inside.PayloadParser.{Stands, Decodes};
 
@@ -22,16 +20,9 @@ use std::alloc::Global;
 
 /// Decodes the first DCS sequence in the bytes, or all of them as a payload if there is none.
 pub fn decode_found(alloc: Global, decoder: DecoderState, bytes: &[u8]) -> Result<DecodedPayload>
-    ensures image { IfOk result (λ picture.
-        IsFoundImage decoder (found bytes.now) (picture_value picture)) }
+    ensures decoded { IsDecoded picture_value decoder (found bytes.now) result }
     ensures registers { IfOk result (λ picture.
         AreFoundRegisters decoder (found bytes.now) picture.registers) }
-    ensures area { IfOk result (λ picture.
-        picture.width * picture.height ≤ decoder.pixel_limit) }
-    ensures faultless { OnOk result (found_fault decoder.pixel_limit (found bytes.now) ≡ None) }
-    ensures refused { IfErr result (λ error. Faults error
-        (found_wants decoder.pixel_limit (found bytes.now))
-        (found_fault decoder.pixel_limit (found bytes.now))) }
 {
     let Some(start) = introducer_end(bytes) else {
         return decode_payload(alloc, decoder, bytes, DcsSettings::default());
@@ -50,16 +41,9 @@ pub fn decode_payload(
     bytes: &[u8],
     settings: DcsSettings,
 ) -> Result<DecodedPayload>
-    ensures image { IfOk result (λ picture. picture_value picture ≡ payload_image
-        (origin_of decoder settings) bytes.now) }
+    ensures decoded { IsDecoded picture_value decoder (Payload settings bytes.now) result }
     ensures registers { IfOk result (λ picture. picture.registers ≡ payload_registers
         (origin_of decoder settings) bytes.now) }
-    ensures area { IfOk result (λ picture.
-        picture.width * picture.height ≤ decoder.pixel_limit) }
-    ensures faultless { OnOk result (payload_fault decoder.pixel_limit bytes.now ≡ None) }
-    ensures refused { IfErr result (λ error. Faults error
-        (payload_wants decoder.pixel_limit bytes.now)
-        (payload_fault decoder.pixel_limit bytes.now)) }
 {
     read_whole(PayloadParser::new(alloc, decoder, settings), bytes)
 }

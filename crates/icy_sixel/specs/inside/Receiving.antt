@@ -7,27 +7,27 @@ use Rattle.icy_sixel.specs.declared.receiver.SixelReceiver.TheInside.{Inside}
 
 abbrev pub reception_of : Open → Reception
 reception_of opened.Nothing = no_image
-reception_of (opened.Payload intake) = record {
-  form = OfPayload intake.origin.settings;
+reception_of (opened.Payload reader) = record {
+  form = OfPayload reader.origin.settings;
   start = record {
-    registers = intake.origin.registers;
-    raster_crop = intake.origin.raster_crop;
-    pixel_limit = intake.origin.pixel_limit;
+    registers = reader.origin.registers;
+    raster_crop = reader.origin.raster_crop;
+    pixel_limit = reader.origin.pixel_limit;
   };
-  bytes = intake.bytes;
-  is_refused = intake.is_refused;
-  writes = intake.writes;
-  room = intake.room;
-  paints = intake.paints;
+  bytes = reader.bytes;
+  is_refused = reader.is_refused;
+  writes = reader.writes;
+  room = reader.room;
+  paints = reader.paints;
 }
-reception_of (opened.ControlString progress) = record {
+reception_of (opened.ControlString reader) = record {
   form = OfString;
-  start = progress.decoder;
-  bytes = progress.bytes;
-  is_refused = progress.is_refused;
-  writes = progress.writes;
-  room = progress.room;
-  paints = progress.paints;
+  start = reader.decoder;
+  bytes = reader.bytes;
+  is_refused = reader.is_refused;
+  writes = reader.writes;
+  room = reader.room;
+  paints = reader.paints;
 }
 
 abbrev pub receiver_of : Inside → Receiver

@@ -21,7 +21,7 @@ use std::alloc::Global;
 /// change by a successful [`finish`](Self::finish) alone.
 pub struct SixelDcsStreamDecoder<'a, P = DcsReader> {
     owner: &'a mut SixelDecoder,
-    progress: P,
+    reader: P,
 }
 
 impl<'a, P: Drop> Drop for SixelDcsStreamDecoder<'a, P> {
@@ -32,7 +32,7 @@ impl<'a, P: Drop> Drop for SixelDcsStreamDecoder<'a, P> {
     {
         let SixelDcsStreamDecoder {
             owner: _,
-            progress: _,
+            reader: _,
         } = self;
     }
 }
@@ -49,7 +49,7 @@ impl<'a> SixelDcsStreamDecoder<'a> {
         let state = owner.state;
         SixelDcsStreamDecoder {
             owner,
-            progress: DcsReader::new(alloc, state),
+            reader: DcsReader::new(alloc, state),
         }
     }
 
@@ -66,7 +66,7 @@ impl<'a> SixelDcsStreamDecoder<'a> {
         ensures registers { (sequence_owner self.new).now ≡ (sequence_owner self.old).now }
         ensures fed { IsFed (sequence self.old) (sequence self.new) piece.now result }
     {
-        self.progress.feed(piece)
+        self.reader.feed(piece)
     }
 
     /// How many pixels were copied or filled so far, to grow the rows of the payload's canvas; 0
@@ -77,7 +77,7 @@ impl<'a> SixelDcsStreamDecoder<'a> {
     pub fn canvas_writes(&self) -> u64
         ensures { IsWriteCount (sequence self.now) result }
     {
-        self.progress.writes()
+        self.reader.writes()
     }
 
     /// How many pixels sixels of the payload have painted so far, at most; 0 before the payload and
@@ -88,7 +88,7 @@ impl<'a> SixelDcsStreamDecoder<'a> {
     pub fn canvas_paints(&self) -> u64
         ensures { IsPaintCount (sequence self.now) result }
     {
-        self.progress.paints()
+        self.reader.paints()
     }
 
     /// Whether the header is read and the payload has begun; `false` after a refusal.
@@ -100,7 +100,7 @@ impl<'a> SixelDcsStreamDecoder<'a> {
             → result ≡ dcs_in_payload (sequence self.now).bytes }
         ensures refused { (sequence self.now).is_refused ≡ true → result ≡ false }
     {
-        self.progress.in_payload()
+        self.reader.in_payload()
     }
 
     /// The width and the height that the image has so far, as of a payload session, by
@@ -109,7 +109,7 @@ impl<'a> SixelDcsStreamDecoder<'a> {
     pub fn size_so_far(&self) -> Option<(usize, usize)>
         ensures { IsSizeSoFar (sequence self.now) result }
     {
-        self.progress.size_so_far()
+        self.reader.size_so_far()
     }
 
     /// Gives the image of a control string that has ended, and then gives the decoder the registers
@@ -125,8 +125,8 @@ impl<'a> SixelDcsStreamDecoder<'a> {
         ensures set { IsSetAs (sequence_owner self.entry).now self.exit.0.now }
         ensures kept { OnErr result (self.exit.0.now ≡ (sequence_owner self.entry).now) }
     {
-        let SixelDcsStreamDecoder { owner, progress } = self;
-        let picture = progress.finish()?;
+        let SixelDcsStreamDecoder { owner, reader } = self;
+        let picture = reader.finish()?;
         owner.state.registers = picture.registers;
         Ok(SixelImage::from_picture(picture))
     }

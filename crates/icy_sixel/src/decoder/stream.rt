@@ -21,7 +21,7 @@ use std::alloc::Global;
 /// change by a successful [`finish`](Self::finish) alone.
 pub struct SixelStreamDecoder<'a, F = PayloadReader> {
     owner: &'a mut SixelDecoder,
-    intake: F,
+    reader: F,
 }
 
 impl<'a, F: Drop> Drop for SixelStreamDecoder<'a, F> {
@@ -32,7 +32,7 @@ impl<'a, F: Drop> Drop for SixelStreamDecoder<'a, F> {
     {
         let SixelStreamDecoder {
             owner: _,
-            intake: _,
+            reader: _,
         } = self;
     }
 }
@@ -49,7 +49,7 @@ impl<'a> SixelStreamDecoder<'a> {
         let state = owner.state;
         SixelStreamDecoder {
             owner,
-            intake: PayloadReader::new(alloc, state, settings),
+            reader: PayloadReader::new(alloc, state, settings),
         }
     }
 
@@ -65,7 +65,7 @@ impl<'a> SixelStreamDecoder<'a> {
         ensures registers { (payload_owner self.new).now ≡ (payload_owner self.old).now }
         ensures fed { IsFed (payload self.old) (payload self.new) piece.now result }
     {
-        self.intake.feed(piece)
+        self.reader.feed(piece)
     }
 
     /// How many pixels were copied or filled so far, to grow the rows of the canvas; 0 after a
@@ -77,7 +77,7 @@ impl<'a> SixelStreamDecoder<'a> {
     pub fn canvas_writes(&self) -> u64
         ensures { IsWriteCount (payload self.now) result }
     {
-        self.intake.writes()
+        self.reader.writes()
     }
 
     /// How many pixels sixels have painted so far, at most, where a wide one over pixels that are
@@ -91,7 +91,7 @@ impl<'a> SixelStreamDecoder<'a> {
     pub fn canvas_paints(&self) -> u64
         ensures { IsPaintCount (payload self.now) result }
     {
-        self.intake.paints()
+        self.reader.paints()
     }
 
     /// The width and the height that the image has so far: of the closed sixels and raster
@@ -101,7 +101,7 @@ impl<'a> SixelStreamDecoder<'a> {
     pub fn size_so_far(&self) -> Option<(usize, usize)>
         ensures { IsSizeSoFar (payload self.now) result }
     {
-        self.intake.size_so_far()
+        self.reader.size_so_far()
     }
 
     /// Ends the payload, gives its image, and then gives the decoder the registers that it defined.
@@ -114,8 +114,8 @@ impl<'a> SixelStreamDecoder<'a> {
         ensures set { IsSetAs (payload_owner self.entry).now self.exit.0.now }
         ensures kept { OnErr result (self.exit.0.now ≡ (payload_owner self.entry).now) }
     {
-        let SixelStreamDecoder { owner, intake } = self;
-        let picture = intake.finish()?;
+        let SixelStreamDecoder { owner, reader } = self;
+        let picture = reader.finish()?;
         owner.state.registers = picture.registers;
         Ok(SixelImage::from_picture(picture))
     }

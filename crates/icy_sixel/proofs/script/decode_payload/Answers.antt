@@ -6,4 +6,4 @@ pub returns : goal.returns
 returns c =
     let by = c.decode_from_dcs.ensures in
     decodes c.decode_from_dcs.result _ _ _ (Payload c.args.settings c.args.bytes.now)
-    c.decoded.ensures by.image by.registers by.faultless by.refused by.set by.kept
+    c.decoded.ensures by.decoded by.registers by.set by.kept

@@ -50,7 +50,7 @@ pub returns-clause-refused : goal.returns-clause-refused
 returns-clause-refused c = λ before is refused.
     let same : c.replace_decoder-decoder.result ≡ before.receiver.decoder =
     grind (arith, c.state-state.ensures.value) in
-    rw (← same) (c.keep_answer.ensures.code _ _ refused c.decode-answer.ensures.refused)
+    rw (← same) (c.keep_answer.ensures.code _ _ refused c.decode-answer.ensures.decoded.refused)
 
 pub returns-clause-told : goal.returns-clause-told
 returns-clause-told c = grind arith

@@ -25,7 +25,7 @@ keep_answer-requires-clause-known c =
     result_known c.decode_from_dcs-answer.result
     (λ error. Faults error wants fault)
     (λ error. found_known error wants fault)
-    c.decode_from_dcs-answer.ensures.refused
+    c.decode_from_dcs-answer.ensures.decoded.refused
 
 pub returns-clause-held : goal.returns-clause-held
 returns-clause-held c = grind arith
@@ -40,7 +40,8 @@ pub returns-clause-refused : goal.returns-clause-refused
 returns-clause-refused c = λ before is refused.
     let same : c.replace_decoder-decoder.result ≡ before.receiver.decoder =
     grind (arith, c.state-state.ensures.value) in
-    rw (← same) (c.keep_answer.ensures.code _ _ refused c.decode_from_dcs-answer.ensures.refused)
+    let decoded = c.decode_from_dcs-answer.ensures.decoded in
+    rw (← same) (c.keep_answer.ensures.code _ _ refused decoded.refused)
 
 pub returns-clause-closed : goal.returns-clause-closed
 returns-clause-closed c = grind arith
@@ -59,8 +60,8 @@ returns-clause-image c = λ before after image is is_now kept.
     (λ image.
     image_value image
     ≡ payload_image (origin_of c.replace_decoder-decoder.result c.settings.result) bytes)
-    c.decode_from_dcs-answer.ensures.image c.keep_answer.ensures.image c.keep_answer.ensures.dropped
-    image now
+    c.decode_from_dcs-answer.ensures.decoded.image c.keep_answer.ensures.image
+    c.keep_answer.ensures.dropped image now
     ∙ (ap (λ decoder. payload_image (origin_of decoder c.settings.result) bytes) same
     ∙ ap (λ settings. payload_image (origin_of before.receiver.decoder settings) bytes) settings)
 

@@ -38,13 +38,13 @@ returns-in_err-feed-clause-refused c =
     let fed = c.in_err-feed.ensures.fed in
     let waits =
     sym c.pieces.invariant.known ∙ goes_on c.pieces.fed.status c.if-not-has_ended.ensures in
-    let cut : Cut c.args.piece_len c.args.bytes.now c.feed.new.self.progress.bytes
+    let cut : Cut c.args.piece_len c.args.bytes.now c.feed.new.self.reader.bytes
     c.split_piece.result.1.now =
     cut_more _ _ _ _ _ _ _ c.split_piece.ensures.piece c.split_piece.ensures.after
     fed.bytes waits c.pieces.invariant.cut in
     let refused = fed.refused_for_good c.in_err-feed.field-0.0 c.split_piece.result.1.now refl
     c.pieces.invariant.accepted in
-    rw (p.1, p.2) (refused_early _ _ c.args.session.now.progress.decoder.pixel_limit
+    rw (p.1, p.2) (refused_early _ _ c.args.session.now.reader.decoder.pixel_limit
     c.args.bytes.now c.requires.some
     (rw (cut_joined _ _ _ _ cut, c.pieces.invariant.start) at refused))
 
@@ -53,7 +53,7 @@ together-fed-requires c =
     let fed = c.in_ok-feed.ensures.fed in
     let waits =
     sym c.pieces.invariant.known ∙ goes_on c.pieces.fed.status c.if-not-has_ended.ensures in
-    let cut : Cut c.args.piece_len c.args.bytes.now c.feed.new.self.progress.bytes
+    let cut : Cut c.args.piece_len c.args.bytes.now c.feed.new.self.reader.bytes
     c.split_piece.result.1.now =
     cut_more _ _ _ _ _ _ _ c.split_piece.ensures.piece c.split_piece.ensures.after
     fed.bytes waits c.pieces.invariant.cut in
@@ -62,8 +62,8 @@ together-fed-requires c =
       c.pieces.invariant.within,
       fed.within,
       ap length fed.bytes,
-      length-append c.pieces.session.progress.bytes c.split_piece.result.0.now,
-      begins_fits c.feed.new.self.progress.bytes c.args.bytes.now (cut_begins _ _ _ _ cut),
+      length-append c.pieces.session.reader.bytes c.split_piece.result.0.now,
+      begins_fits c.feed.new.self.reader.bytes c.args.bytes.now (cut_begins _ _ _ _ cut),
     )
 
 pub pieces-preserved : goal.pieces-preserved
@@ -71,11 +71,11 @@ pieces-preserved c =
     let before = c.pieces.invariant in
     let told = c.in_ok-feed.ensures in
     let s = told.fed in
-    let fed : List ℕ = c.feed.new.self.progress.bytes in
+    let fed : List ℕ = c.feed.new.self.reader.bytes in
     let after : List ℕ = c.split_piece.result.1.now in
     let waits =
     sym c.pieces.invariant.known ∙ goes_on c.pieces.fed.status c.if-not-has_ended.ensures in
-    let cut : Cut c.args.piece_len c.args.bytes.now c.feed.new.self.progress.bytes
+    let cut : Cut c.args.piece_len c.args.bytes.now c.feed.new.self.reader.bytes
     c.split_piece.result.1.now =
     cut_more _ _ _ _ _ _ _ c.split_piece.ensures.piece c.split_piece.ensures.after
     s.bytes waits c.pieces.invariant.cut in
@@ -96,10 +96,10 @@ pieces-preserved c =
             before.within,
             s.within,
             ap length s.bytes,
-            length-append c.pieces.session.progress.bytes c.split_piece.result.0.now,
+            length-append c.pieces.session.reader.bytes c.split_piece.result.0.now,
           );
       over = λ ended.
-          subst (λ (w : List ℕ). IsSameString c.args.session.now.progress.decoder.pixel_limit fed w)
+          subst (λ (w : List ℕ). IsSameString c.args.session.now.reader.decoder.pixel_limit fed w)
           (cut_joined _ _ fed after cut)
           (rw before.start at (s.over_for_good after (ap has_ended (sym all.status) ∙ ended)));
       known = all.status ∙ s.status;

@@ -9,15 +9,15 @@ abbrev pub invariant-pieces : goal.invariant-pieces
 invariant-pieces l = record {
   owner : l.session.owner.ghost_name ≡ l.fn.session.owner.ghost_name;
   kept : l.session.owner.now ≡ l.fn.session.owner.now;
-  start : l.session.progress.decoder ≡ l.fn.session.progress.decoder;
-  accepted : l.session.progress.is_refused ≡ false;
-  cut : Cut l.piece_len l.bytes l.session.progress.bytes l.rest;
-  faultless : dcs_fault l.fn.session.progress.decoder.pixel_limit l.session.progress.bytes ≡ None;
-  counted : l.fed.consumed ≡ dcs_count l.session.progress.bytes;
-  within : l.fed.consumed ≤ length l.session.progress.bytes;
+  start : l.session.reader.decoder ≡ l.fn.session.reader.decoder;
+  accepted : l.session.reader.is_refused ≡ false;
+  cut : Cut l.piece_len l.bytes l.session.reader.bytes l.rest;
+  faultless : dcs_fault l.fn.session.reader.decoder.pixel_limit l.session.reader.bytes ≡ None;
+  counted : l.fed.consumed ≡ dcs_count l.session.reader.bytes;
+  within : l.fed.consumed ≤ length l.session.reader.bytes;
   over : has_ended l.fed.status ≡ true
-      → IsSameString l.fn.session.progress.decoder.pixel_limit l.session.progress.bytes l.bytes;
-  known : l.fed.status ≡ dcs_status l.session.progress.bytes;
+      → IsSameString l.fn.session.reader.decoder.pixel_limit l.session.reader.bytes l.bytes;
+  known : l.fed.status ≡ dcs_status l.session.reader.bytes;
 }
 
 abbrev pub decreases-pieces : goal.decreases-pieces

@@ -21,7 +21,7 @@ returns-in_err-image c = grind arith
 
 -- the bytes that were fed are the string that all begin with
 same : (c : goal.In_ok-image)
-    → IsSameString c.args.decoder.now.pixel_limit c.feed_pieces.new.session.progress.bytes
+    → IsSameString c.args.decoder.now.pixel_limit c.feed_pieces.new.session.reader.bytes
     c.args.bytes.now
 same c =
     let fed = c.in_ok-fed.ensures in

@@ -1,9 +1,9 @@
-use Rattle.std.proofs.Common.{◌≡◌, Some, None, sym, ◌∙◌, ap, subst}
-use Rattle.std.specs.Prelude.{IfOk, OnOk}
+use Rattle.std.proofs.Common.{◌≡◌, Some, sym, ◌∙◌, ap, subst}
+use Rattle.std.specs.Prelude.{IfOk}
 use Rattle.sixel_base.specs.Header.{Begun, headed}
+use Rattle.sixel_decoder.specs.OneShotCalls.{IsDecoded}
 use Rattle.sixel_decoder.specs.PictureView.{picture_value}
-use Rattle.sixel_base.specs.OneShot.{Found, Payload, IsFoundImage, AreFoundRegisters}
-use Rattle.sixel_base.specs.OneShot.{after_introducer, found, found_fault}
+use Rattle.sixel_base.specs.OneShot.{Found, Payload, AreFoundRegisters, after_introducer, found}
 use Rattle.sixel_decoder.proofs.FoundPayloads.{found_refused, found_payload}
 use Rattle.sixel_decoder.proofs.one_shot.decode_found.Goals as goal
 
@@ -18,12 +18,11 @@ is_payload c =
     found_payload c.args.bytes.now c.tail-string.result.now _ c.in-Ok.header.0 begins heads
     c.in-Ok.ensures.settings
 
-pub returns-in-Ok-clause-image : goal.returns-in-Ok-clause-image
-returns-in-Ok-clause-image c =
+pub returns-in-Ok-clause-decoded : goal.returns-in-Ok-clause-decoded
+returns-in-Ok-clause-decoded c =
     subst (λ (w : Found).
-    IfOk c.decode_payload-in-Ok.result
-    (λ picture. IsFoundImage c.args.decoder w (picture_value picture)))
-    (sym (is_payload c)) c.decode_payload-in-Ok.ensures.image
+    IsDecoded picture_value c.args.decoder w c.decode_payload-in-Ok.result)
+    (sym (is_payload c)) c.decode_payload-in-Ok.ensures.decoded
 
 pub returns-in-Ok-clause-registers : goal.returns-in-Ok-clause-registers
 returns-in-Ok-clause-registers c =
@@ -32,15 +31,16 @@ returns-in-Ok-clause-registers c =
     (λ picture. AreFoundRegisters c.args.decoder w picture.registers))
     (sym (is_payload c)) c.decode_payload-in-Ok.ensures.registers
 
-pub returns-in-Ok-clause-faultless : goal.returns-in-Ok-clause-faultless
-returns-in-Ok-clause-faultless c =
-    subst (λ (w : Found).
-    OnOk c.decode_payload-in-Ok.result (found_fault c.args.decoder.pixel_limit w ≡ None))
-    (sym (is_payload c)) c.decode_payload-in-Ok.ensures.faultless
-
-pub returns-in-Err-clause-refused : goal.returns-in-Err-clause-refused
-returns-in-Err-clause-refused c =
+pub returns-in-Err-clause-decoded : goal.returns-in-Err-clause-decoded
+returns-in-Err-clause-decoded c =
     let begins : after_introducer c.args.bytes.now ≡ Some c.tail-string.result.now =
     c.in-Some.ensures.found ∙ ap Some (sym c.tail-string.ensures) in
-    found_refused c.in-Err.error c.args.decoder.pixel_limit c.args.bytes.now _ begins
-    c.in-Err.ensures.error
+    record {
+      image = tt;
+      area = tt;
+      pixels = tt;
+      faultless = tt;
+      refused =
+          found_refused c.in-Err.error c.args.decoder.pixel_limit c.args.bytes.now _ begins
+          c.in-Err.ensures.error;
+    }

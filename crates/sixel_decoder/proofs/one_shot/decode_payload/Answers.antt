@@ -1,9 +1,36 @@
+use Rattle.std.proofs.Common.{Ok, Err, Result, List, ℕ}
+use Rattle.sixel_base.specs.declared.error.SixelError.{SixelError}
+use Rattle.sixel_base.specs.declared.state.DecoderState.{DecoderState}
 use Rattle.sixel_base.specs.Decoder.{origin_of}
-use Rattle.sixel_decoder.proofs.ChunkReads.{decoded_image}
+use Rattle.sixel_base.specs.OneShot.{Payload}
+use Rattle.sixel_base.specs.Settings.{Settings}
+use Rattle.sixel_decoder.specs.OneShotCalls.{IsDecoded}
+use Rattle.sixel_decoder.specs.PictureView.{picture_value}
+use Rattle.sixel_decoder.specs.declared.decoded_payload.DecodedPayload.{DecodedPayload}
+use Rattle.sixel_decoder.specs.inside.PayloadParser.{Decodes}
 use Rattle.sixel_decoder.proofs.one_shot.decode_payload.Goals as goal
 
-pub returns-clause-image : goal.returns-clause-image
-returns-clause-image c =
+-- decoding in one call, by what the parser read
+decoded_by : (result : Result DecodedPayload SixelError) (decoder : DecoderState)
+    (settings : Settings) (bytes : List ℕ) → Decodes result (origin_of decoder settings) bytes
+    → IsDecoded picture_value decoder (Payload settings bytes) result
+decoded_by (Ok picture) decoder settings bytes is = record {
+  image = is.1;
+  area = is.3;
+  pixels = picture.whole;
+  faultless = is.0;
+  refused = tt;
+}
+decoded_by (Err e) decoder settings bytes is = record {
+  image = tt;
+  area = tt;
+  pixels = tt;
+  faultless = tt;
+  refused = is;
+}
+
+pub returns-clause-decoded : goal.returns-clause-decoded
+returns-clause-decoded c =
     let origin = origin_of c.args.decoder c.args.settings in
-    decoded_image c.read_whole.result origin c.args.bytes.now
+    decoded_by c.read_whole.result c.args.decoder c.args.settings c.args.bytes.now
     (c.read_whole.ensures origin c.new.ensures.stands)

@@ -20,11 +20,11 @@ Decoded result more image =
     IfOk result (λ picture. IsDecodedAs image.start (found_followed image.form image.bytes more)
     (picture_value picture) picture.registers)
 
-payload_decoded : (result : Result DecodedPayload SixelError) (intake : Session) (more : List ℕ)
-    → IsFinished picture_value (λ picture. picture.registers) intake result
-    → Decoded result more (reception_of (opened.Payload intake))
-payload_decoded (Ok picture) intake more is = (is.faultless, is.image, is.registers)
-payload_decoded (Err e) intake more is = tt
+payload_decoded : (result : Result DecodedPayload SixelError) (session : Session) (more : List ℕ)
+    → IsFinished picture_value (λ picture. picture.registers) session result
+    → Decoded result more (reception_of (opened.Payload session))
+payload_decoded (Ok picture) session more is = (is.faultless, is.image, is.registers)
+payload_decoded (Err e) session more is = tt
 
 pub returns : goal.returns
 returns c =
@@ -40,7 +40,7 @@ returns c =
       | in-Payload w ↦
           rw w.branch'-is
           (subst (Decoded w.finish.result more) (sym (ap reception_of w.in-Payload.is) ∙ held)
-          (payload_decoded w.finish.result w.in-Payload.intake more w.finish.ensures))
+          (payload_decoded w.finish.result w.in-Payload.reader more w.finish.ensures))
       | in-ControlString w ↦
           let done = w.finish-in-ControlString in
           rw w.branch'-is

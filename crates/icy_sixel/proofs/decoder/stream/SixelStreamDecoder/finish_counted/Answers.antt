@@ -27,7 +27,7 @@ few limit bytes sound =
 
 pub with_packed-count-requires : goal.with_packed-count-requires
 with_packed-count-requires c =
-    let session = c.args.self.intake in
+    let session = c.args.self.reader in
     let done = c.in_ok-image.ensures.finished in
     omega (
       arith,
@@ -39,7 +39,7 @@ with_packed-count-requires c =
 
 pub returns-clause-at_most : goal.returns-clause-at_most
 returns-clause-at_most c =
-    let session = c.args.self.intake in
+    let session = c.args.self.reader in
     omega (
       arith,
       fewer _ session.origin session.bytes c.in_ok-image.ensures.finished.image,
