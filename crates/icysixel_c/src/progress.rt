@@ -67,7 +67,7 @@ pub extern "C" fn icysixel_canvas_writes(slot: &mut Slot) -> u64
     slot.state().receiver.canvas_writes()
 }
 
-/// How many pixels sixels of the image that is open have painted so far, at most: 0 where no image is.
+/// Returns how many pixels the sixels of the open image have painted at most, or 0 without one.
 #[unsafe(no_mangle)]
 pub extern "C" fn icysixel_canvas_paints(slot: &mut Slot) -> u64
     ensures same { slot.new.handle.state ≡ slot.old.handle.state }

@@ -6,5 +6,6 @@ ghost use Rattle.sixel_base.specs.History.{History, IsHistory, history_of};
 /// exactly one history of sixels and commands: the one that reading it byte by byte gives.
 pub fn one_history()
     ensures some { (bytes : List ℕ) → IsHistory (front bytes) (history_of (front bytes)) }
-    ensures only { (bytes : List ℕ) (g h : History) → IsHistory bytes g → IsHistory bytes h → g ≡ h }
+    ensures only { (bytes : List ℕ) (g h : History) → IsHistory bytes g → IsHistory bytes h
+        → g ≡ h }
 {}

@@ -78,8 +78,9 @@ impl Digits {
     }
 }
 
-// The value of the digits at the front and how many they are, with the byte at this index if it is the
-// next of them. Both are chosen without a branch: few numbers are as long as the one before.
+/// The value of the digits at the front and their number, with the byte at `at` if it is the next.
+///
+/// Both are chosen without a branch: few numbers are as long as the one before.
 #[inline(always)]
 fn with_digit_at(bytes: &[u8], at: usize, value: u32, len: usize) -> (u32, usize)
     requires inside { at < length bytes.now }

@@ -30,8 +30,10 @@ impl Model for Registers {
 }
 
 impl Registers {
-    /// The registers of a terminal that has just been switched on: DEC's sixteen colors, then a color
-    /// cube in steps of 20 percent, and 24 greys in even steps from black to white.
+    /// The registers of a new terminal.
+    ///
+    /// They are DEC's sixteen colors, then a color cube in steps of 20 percent, and 24 greys in even
+    /// steps from black to white.
     pub fn new() -> Self
         ensures colors { result ≡ default_registers }
         ensures size { length result ≡ 256 }

@@ -4,7 +4,7 @@ use icy_sixel::script::{End, Outcome, Step, run};
 use icy_sixel::{Result, SixelDecoder};
 use std::alloc::Global;
 
-/// Plays what was recorded: a control string as it came in pieces of 4 bytes, and one that was given up.
+/// Replays a recording: a DCS sequence in chunks of 4 bytes, and one that was aborted.
 pub fn replay(alloc: Global, decoder: &mut SixelDecoder, string: &[u8]) -> Result<Vec<Outcome>> {
     let steps = [
         Step::Dcs {

@@ -9,8 +9,9 @@ pub enum Came {
     Part,
     /// The image has ended, and so many bytes were its own.
     Whole(SixelImage, usize),
-    /// It was cut short, by a cancel, by a key that was hit, by another sequence. What came of it is
-    /// an image too; so many bytes were its own, and the rest is for the pane.
+    /// The sequence was cancelled or interrupted: the image so far, and the bytes that were its own.
+    ///
+    /// The rest is for the pane.
     CutShort(SixelImage, usize),
 }
 

@@ -1,4 +1,4 @@
-//! A filter of a terminal's stream from standard input: it writes the text and a note of each image.
+//! A filter of a terminal's stream: it writes the text, and a note or an image for each image.
 //!
 //! `sixel_filter PIECE size` writes the size of each image, `sixel_filter PIECE colors COUNT`
 //! encodes each in so many colors, and `sixel_filter PIECE refusals` leaves them out. Each writes
