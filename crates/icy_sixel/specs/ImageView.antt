@@ -1,10 +1,9 @@
--- What a decoder answers, apart from where its bytes lie: the pixels, sizes, pixel shape and
--- background mode of an image. Which image that is, by DEC's manual, is defined in Payload of
--- sixel_base.
+-- The image that a decoder returns, apart from where its bytes are stored: pixels, sizes, pixel
+-- shape and background mode. Which image that is, by DEC's manual, is in Payload of sixel_base.
 use Rattle.sixel_base.specs.Payload.{Image}
 use Rattle.icy_sixel.specs.declared.sixel_image.SixelImage.{SixelImage}
 
--- an image apart from where its bytes lie
+-- an image apart from where its bytes are stored
 abbrev pub image_value : SixelImage → Image
 image_value image = record {
   pixels = image.pixels.items;

@@ -1,6 +1,5 @@
--- What contracts see of a decoder that owns the image it is receiving: the decoder, and the image
--- that is open. What the bytes of an image mean is told by the words of both sessions, of a
--- payload's and of a control string's; how the bytes were cut occurs nowhere in it.
+-- What contracts see of a receiver: its decoder, and the image that is open. The bytes of an image
+-- mean what they mean in a session, of a payload or of a DCS sequence. Chunks are not mentioned.
 use Rattle.std.specs.Prelude.{ℕ, Bool, true, false, List, [], ◌++◌, Option, Some, None, is_none}
 use Rattle.sixel_base.specs.Bytes.{first_terminator, is_terminated}
 use Rattle.sixel_base.specs.Fault.{Fault, StreamFailed, DcsStreamFailed}
@@ -23,15 +22,15 @@ use Rattle.sixel_base.specs.Reach as reach
 use Rattle.sixel_decoder.specs.Paints as paints
 pub use Rattle.sixel_decoder.specs.Paints.{most_sixel_paints}
 
--- what is received: nothing, a payload that is read with these settings, or a control string
+-- what is received: nothing, a payload that is read with these settings, or a DCS sequence
 pub data Form : Type 0 where
   Nothing : Form
   OfPayload : Settings → Form
   OfString : Form
 
--- The image that is open: its form, what the decoder kept that it began from, the bytes that it was
--- fed, whether a feed was refused, how many pixels were written to grow its canvas, for how many
--- the rows of the canvas have room, and how many sixels have painted, at most.
+-- The image that is open: its form, the decoder that it began from, the bytes fed, whether a feed
+-- was rejected, the pixels written to grow its canvas, the capacity of the rows in pixels, and how
+-- many pixels sixels have painted at most.
 pub record Reception : Type 0 where
   pub form : Form
   pub start : DecoderState
@@ -46,7 +45,7 @@ pub record Receiver : Type 0 where
   pub decoder : DecoderState
   pub image : Reception
 
--- where none is open, all is refused
+-- if none is open, every call fails
 abbrev pub no_image : Reception
 no_image = record {
   form = Nothing;
@@ -74,13 +73,13 @@ abbrev pub is_open : Form → Bool
 is_open Nothing = false
 is_open form = true
 
--- how many bytes are the image's own
+-- how many bytes belong to the image
 abbrev pub count : Form → List ℕ → ℕ
 count Nothing bytes = 0
 count (OfPayload settings) bytes = own.count bytes
 count OfString bytes = dcs_count bytes
 
--- how it stands
+-- its status
 abbrev pub status : Form → List ℕ → Status
 status Nothing bytes = statuses.Payload NeedMoreData
 status (OfPayload settings) bytes = statuses.Payload (status_of (first_terminator bytes))
@@ -104,7 +103,7 @@ growths Nothing bytes = 0
 growths (OfPayload settings) bytes = payloads.growths (settled bytes)
 growths OfString bytes = dcs_growths bytes
 
--- how far the closed sixels reach
+-- the painted area of the closed sixels
 abbrev pub reached_area : Form → List ℕ → ℕ
 reached_area Nothing bytes = 0
 reached_area (OfPayload settings) bytes = reach.reached_area (settled bytes)
@@ -140,25 +139,25 @@ found Nothing bytes = NoPayload StreamFailed
 found (OfPayload settings) bytes = Payload settings bytes
 found OfString bytes = one_shot.found bytes
 
--- and where more bytes follow those of a control string
+-- and if more bytes follow those of a DCS sequence
 abbrev pub found_followed : Form → List ℕ → List ℕ → Found
 found_followed Nothing bytes more = NoPayload StreamFailed
 found_followed (OfPayload settings) bytes more = Payload settings bytes
 found_followed OfString bytes more = one_shot.found (bytes ++ more)
 
--- what its image is refused for, where no feed was
+-- why its image is rejected, if no feed was
 abbrev pub end_fault : ℕ → Form → List ℕ → Option Fault
 end_fault limit Nothing bytes = Some StreamFailed
 end_fault limit (OfPayload settings) bytes = payload_fault limit bytes
 end_fault limit OfString bytes = strings.end_fault (dcs_status bytes)
 
--- whether its image may want memory
+-- whether its image can fail because an allocation fails
 abbrev pub end_wants : ℕ → Form → List ℕ → Bool
 end_wants limit Nothing bytes = false
 end_wants limit (OfPayload settings) bytes = is_none (payload_fault limit bytes)
 end_wants limit OfString bytes = has_ended (dcs_status bytes)
 
--- the answer of each call after a refusal
+-- the error of each call after an error
 abbrev pub failed : Form → Fault
 failed Nothing = StreamFailed
 failed (OfPayload settings) = StreamFailed

@@ -175,5 +175,5 @@ pub record IsPaintCount (image : Reception) (paints : ℕ) : Type 0 where
 pub record IsSizeSoFar (image : Reception) (answer : Option (ℕ × ℕ)) : Type 0 where
   -- width and height of the closed sixels and raster attributes, once the payload has begun
   pub accepted : image.is_refused ≡ false → answer ≡ receivers.size image.form image.bytes
-  -- a rejected image is never returned
+  -- a rejected image has none
   pub refused : image.is_refused ≡ true → answer ≡ None

@@ -1,6 +1,6 @@
 -- What a list of steps on one decoder comes to, by the meaning of the bytes of each step. A step
 -- relates the decoder before it to an outcome and the decoder after it, and a run joins steps. This
--- library's own: how bytes are cut into pieces occurs nowhere in it.
+-- library's own: it does not mention chunks.
 use Rattle.std.specs.Prelude.{ℕ, ◌≡◌, Bool, nat_lt, ◌||◌, List, [], ◌∷◌, Option, None, is_none}
 use Rattle.std.specs.Option.{option_or}
 use Rattle.sixel_base.specs.Bytes.{count, first_terminator}
@@ -25,9 +25,9 @@ use Rattle.icy_sixel.specs.ImageView.{image_value}
 use Rattle.sixel_base.specs.OneShot.{Found, Payload, found, found_fault, found_wants, IsFoundImage}
 use Rattle.sixel_base.specs.OneShot.{AreFoundRegisters}
 
--- What bytes mean that are fed to a session: how many of them are its own, how they stand, what is
--- wrong with them while it goes on and once it is finished, whether their payload has a closed
--- sixel or raster attributes, and which payload is drawn.
+-- What bytes mean that are fed to a session: how many of them belong to it, their status, their
+-- fault while the session goes on and when it is finished, whether their payload has a closed sixel
+-- or raster attributes, and which payload is drawn.
 pub record Meaning : Type 0 where
   pub consumed : ℕ
   pub status : Status
@@ -56,10 +56,10 @@ string_meaning limit bytes = record {
   drawn = found bytes;
 }
 
--- A session of these bytes that is given up is refused by what is wrong with them so far, and
--- changes nothing. One that is finished gives the image and the registers of its payload, or is
--- refused by what is wrong then, and changes nothing else. Memory may be wanted where the payload
--- grows, and for an image.
+-- A session of these bytes that is aborted fails with the fault of the bytes so far, and changes
+-- nothing. One that is finished returns the image of its payload and leaves its registers, or fails
+-- with the fault at its end, and changes nothing else. An allocation can fail if the payload grows
+-- the canvas, and for an image.
 abbrev pub IsSessionOutcome : DecoderState → Meaning → End → Outcome → DecoderState → Type 0
 IsSessionOutcome before bytes Abort (Aborted consumed status) after =
     (bytes.fed_fault ≡ None) × (consumed ≡ bytes.consumed) × (status ≡ bytes.status)
@@ -75,8 +75,8 @@ IsSessionOutcome before bytes Finish (Failed error) after =
     Faults error (is_none bytes.end_fault || bytes.grows) bytes.end_fault × (after ≡ before)
 IsSessionOutcome before bytes ending outcome after = ⊥
 
--- A payload that is decoded at once gives its image and its registers, or is refused, and changes
--- nothing else.
+-- A payload that is decoded in one call returns its image and leaves its registers, or fails, and
+-- changes nothing else.
 abbrev pub IsDecoding : DecoderState → Found → Outcome → DecoderState → Type 0
 IsDecoding before payload (Decoded image) after =
     (found_fault before.pixel_limit payload ≡ None)

@@ -1,8 +1,9 @@
-//! Decoding: of a payload or a control string, in one piece or as it comes.
+//! The decoder of payloads and DCS sequences, in one call or in chunks.
 //!
-//! A payload is what stands between a control string's `q` and its terminator. The specification
-//! of a payload is in `sixel_base`, by the list of its sixels and commands: which bytes these are
-//! (`History`), what they draw (`Place`, `Stroke`), and when they are refused (`Payload`).
+//! A payload is the data between the `q` and the terminator of a DCS sequence. Its specification is
+//! in `sixel_base`, by the list of its sixels and commands: which bytes these are (`History`), what
+//! they draw (`Place`, `Stroke`), and when they are rejected (`Payload`). The contract of decoding
+//! in one call is the record of `OneShotCalls` in `sixel_decoder`.
 
 ghost use Rattle.std.specs.Prelude.{◌≡◌, ◌≤◌, [], length, slice_index_or, slice_set, IsOk};
 ghost use Rattle.std.specs.Prelude.{OnOk, OnErr, IfOk};
@@ -33,12 +34,11 @@ use std::alloc::Global;
 use std::marker::Model;
 pub use stream::SixelStreamDecoder;
 
-/// A decoder, which keeps the 256 color registers from one image to the next, and what its host has
-/// set: whether images are cropped, and how many pixels one may have.
+/// A decoder: 256 color registers from image to image, and the host's settings.
 ///
-/// A register keeps what it was set to, or what an image that was decoded defined; a refusal
-/// changes none. What the host has set of crop and limit holds for each image and each session
-/// that is begun after it, until it is set again.
+/// A register has the color that the host set or a decoded image defined. An error changes no
+/// register. The settings are whether images are cropped, and how many pixels an image can have.
+/// They apply to each image and session that is begun afterwards.
 #[derive(Clone, Debug, Drop)]
 pub struct SixelDecoder {
     pub(crate) state: DecoderState,
@@ -67,8 +67,9 @@ impl Default for SixelDecoder {
 impl SixelDecoder {
     ghost use Rattle.icy_sixel.specs.Sessions.{payload, payload_owner, sequence, sequence_owner};
 
-    /// A decoder with the registers of a terminal that has just been switched on, which crops no
-    /// image and has the limit of 67,108,864 pixels.
+    /// Creates a decoder with the registers that a terminal has when it is switched on.
+    ///
+    /// It crops no image, and its limit is 67,108,864 pixels.
     pub fn new() -> Self
         ensures { result ≡ new_decoder }
     {
@@ -77,7 +78,7 @@ impl SixelDecoder {
         }
     }
 
-    /// The color of a register: red, green and blue, a byte each.
+    /// Returns the color of a register: red, green and blue, a byte each.
     pub fn register(&self, register: u8) -> [u8; 3]
         ensures color { result ≡ slice_index_or self.now.registers register [] }
         ensures size { length self.now.registers ≡ 256 }
@@ -85,9 +86,9 @@ impl SixelDecoder {
         self.state.registers.get(register)
     }
 
-    /// Gives a register this color: red, green and blue, a byte each.
+    /// Sets the color of a register: red, green and blue, a byte each.
     ///
-    /// A terminal has a palette of its own, and register 0 is the background of an opaque image.
+    /// A terminal has a palette of its own. Register 0 is the background of an opaque image.
     pub fn set_register(&mut self, register: u8, color: [u8; 3])
         ensures { self.new
             ≡ record self.old { registers = slice_set self.old.registers register color } }
@@ -95,16 +96,16 @@ impl SixelDecoder {
         self.state.registers.set(register, color);
     }
 
-    /// Makes the registers those of a new decoder, and keeps crop and limit.
+    /// Resets the registers to those of a new decoder, without changing crop and limit.
     ///
-    /// An image does not: it leaves the registers that it defined to the next one.
+    /// An image does not reset them, so the next one starts with the registers that it defined.
     pub fn reset_palette(&mut self)
         ensures { self.new ≡ record self.old { registers = default_registers } }
     {
         self.state.registers = Registers::new();
     }
 
-    /// Whether images are cropped to their raster attributes; off in a new decoder.
+    /// Whether images are cropped to their raster attributes: off in a new decoder.
     pub fn raster_crop(&self) -> bool
         ensures { result ≡ self.now.raster_crop }
     {
@@ -113,17 +114,19 @@ impl SixelDecoder {
 
     /// Sets whether images are cropped to their raster attributes.
     ///
-    /// Sixels come in bands of six rows, so that an image whose height is no multiple of six is
-    /// read with rows that it does not have. With crop its height is the last height above zero
-    /// that raster attributes name, where they name one; width, pixels of the rows that are left,
-    /// registers and refusals are as without.
+    /// A sixel band has six rows, so an image whose height is no multiple of six is decoded with
+    /// extra rows. With crop its height is the last height above zero in its raster attributes, if
+    /// they have one. Crop does not change the width, the pixels of the remaining rows, the
+    /// registers and the errors.
     pub fn set_raster_crop(&mut self, on: bool)
         ensures { self.new ≡ record self.old { raster_crop = on } }
     {
         self.state.raster_crop = on;
     }
 
-    /// How many pixels an image may have; 67,108,864 in a new decoder, and never more.
+    /// Returns how many pixels an image can have.
+    ///
+    /// The limit is 67,108,864 in a new decoder, and never more.
     pub fn pixel_limit(&self) -> usize
         ensures value { result ≡ self.now.pixel_limit }
         ensures some { 1 ≤ result }
@@ -132,26 +135,27 @@ impl SixelDecoder {
         self.state.pixel_limit.pixels()
     }
 
-    /// Sets how many pixels an image may have: at least 1, and at most 67,108,864.
+    /// Sets how many pixels an image can have: at least 1, and at most 67,108,864.
     ///
-    /// It is the extent of all sixels and raster attributes that counts, also where the image is
-    /// cropped, and it is refused as soon as it passes the limit. Encoding has no part in this.
+    /// The extent of all sixels and raster attributes counts, also if the image is cropped. An
+    /// image is rejected as soon as its extent is above the limit. Encoding has no such limit.
     pub fn set_pixel_limit(&mut self, pixels: usize)
         ensures { self.new ≡ record self.old { pixel_limit = limit_of pixels } }
     {
         self.state.pixel_limit = PixelLimit::new(pixels);
     }
 
-    /// Decodes the first control string in the bytes, or all of them as a payload if there is none.
+    /// Decodes the first DCS sequence in the bytes, or all of them as a payload.
     ///
     /// ```rust
     /// decoder.decode(alloc, bytes)
     /// ```
     ///
-    /// Bytes before the introducer are passed over, and what follows the payload has no effect.
-    /// The refusals are those of [`decode_from_dcs`](Self::decode_from_dcs), and
-    /// [`SixelError::InvalidData`](crate::SixelError::InvalidData) for a header that is faulty or
-    /// does not end; after any of them the registers are those before.
+    /// Without a DCS sequence all bytes are the payload. Bytes before the introducer and after the
+    /// payload have no effect. The errors are those of
+    /// [`decode_from_dcs`](Self::decode_from_dcs), and
+    /// [`SixelError::InvalidData`](crate::SixelError::InvalidData) for a header that is invalid or
+    /// does not end. After an error the registers are unchanged.
     pub fn decode(&mut self, alloc: Global, bytes: &[u8]) -> Result<SixelImage>
         ensures decoded { IsDecoded image_value self.old (found bytes.now) result }
         ensures registers { OnOk result
@@ -164,18 +168,18 @@ impl SixelDecoder {
         Ok(SixelImage::from_picture(picture))
     }
 
-    /// Begins a payload that is decoded as it comes.
+    /// Begins a payload that is decoded in chunks.
     ///
     /// ```rust
     /// let mut session = decoder.begin_frame(alloc, DcsSettings::default())?;
     /// session.feed(b"#1!1")?;
-    /// // 2 bytes are consumed, and the status is Terminated(0x1b): a terminator is the caller's.
+    /// // 2 bytes are consumed, and the status is Terminated(0x1b): the terminator is left.
     /// session.feed(b"2~\x1b\\")?;
     /// session.finish()
     /// ```
     ///
-    /// It takes no memory and is always `Ok`. The session borrows this decoder until it ends, and
-    /// starts from the registers, the crop and the limit that the decoder has now.
+    /// The call does not allocate and is always `Ok`. The session borrows this decoder until it
+    /// ends, and starts with the decoder's current registers, crop and limit.
     pub fn begin_frame(
         &mut self,
         alloc: Global,
@@ -191,19 +195,19 @@ impl SixelDecoder {
         Ok(SixelStreamDecoder::begin(alloc, self, settings))
     }
 
-    /// Begins a control string that is decoded as it comes, from its introducer to its end.
+    /// Begins a DCS sequence that is decoded in chunks, from its introducer to its end.
     ///
     /// ```rust
     /// let mut session = decoder.begin_dcs(alloc);
-    /// // A piece may end anywhere, also inside a number.
+    /// // A chunk can end anywhere, also inside a number.
     /// session.feed(b"\x1bP9;1q#1;2;100;0;0!1")?;
-    /// // 4 bytes are consumed, and the status is Complete: the rest is the caller's.
+    /// // 4 bytes are consumed, and the status is Complete: the rest is left.
     /// session.feed(b"2~\x1b\\the terminal's own")?;
-    /// // 12x6 pixels, all red. The decoder now knows register 1.
+    /// // 12x6 pixels, all red. The decoder now has register 1.
     /// session.finish()
     /// ```
     ///
-    /// It takes no memory.
+    /// The call does not allocate.
     pub fn begin_dcs(&mut self, alloc: Global) -> SixelDcsStreamDecoder<'_>
         ensures owner { (sequence_owner result).ghost_name ≡ self.entry.ghost_name }
         ensures registers { (sequence_owner result).now ≡ self.old }
@@ -212,19 +216,20 @@ impl SixelDecoder {
         SixelDcsStreamDecoder::begin(alloc, self)
     }
 
-    /// Decodes one payload: the sixel data between a control string's `q` and its terminator.
+    /// Decodes one payload: the data between a DCS sequence's `q` and its terminator.
     ///
     /// ```rust
     /// let settings = DcsSettings::new(Some(9), Some(1), None);
     /// decoder.decode_from_dcs(alloc, payload, settings)
     /// ```
     ///
-    /// What stands from the first terminator on has no effect, and an empty payload is an image of
-    /// one pixel. The refusals are [`SixelError::InvalidData`](crate::SixelError::InvalidData) for
-    /// a repeat above 65,535, a side above 1,000,000 or an area above
-    /// [`pixel_limit`](Self::pixel_limit),
-    /// `IntegerOverflow` for more new lines than a row number holds, and `OutOfMemory`; after any
-    /// of them the registers are those before.
+    /// Bytes from the first terminator on have no effect. An empty payload is an image of one
+    /// pixel. After an error the registers are unchanged. The errors are:
+    ///
+    /// - [`SixelError::InvalidData`](crate::SixelError::InvalidData) for a repeat above 65,535, a
+    ///   side above 1,000,000 or an area above [`pixel_limit`](Self::pixel_limit);
+    /// - `IntegerOverflow` for more new lines than a row number can count;
+    /// - `OutOfMemory` if an allocation fails.
     pub fn decode_from_dcs(
         &mut self,
         alloc: Global,
@@ -243,14 +248,14 @@ impl SixelDecoder {
     }
 }
 
-/// As [`SixelImage::decode`].
+/// Does what [`SixelImage::decode`] does.
 pub fn sixel_decode(alloc: Global, bytes: &[u8]) -> Result<SixelImage>
     ensures { IsDecoded image_value new_decoder (found bytes.now) result }
 {
     SixelImage::decode(alloc, bytes)
 }
 
-/// As [`SixelImage::decode_from_dcs`].
+/// Does what [`SixelImage::decode_from_dcs`] does.
 pub fn sixel_decode_from_dcs(
     alloc: Global,
     bytes: &[u8],

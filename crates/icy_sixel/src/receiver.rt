@@ -1,4 +1,4 @@
-//! A decoder that owns the image that it is receiving, for a host that keeps both in one struct.
+//! A decoder and its open image, for a host that stores both in one struct.
 //!
 //! The contracts of its calls are the records of `ReceiverCalls`.
 
@@ -23,9 +23,9 @@ use std::mem;
 /// What a feed of a receiver did.
 #[derive(Clone, Copy, Debug, PartialEq, Eq)]
 pub struct Received {
-    /// How many bytes of the piece are the image's own.
+    /// How many bytes of the chunk belong to the image.
     pub consumed: usize,
-    /// What the caller does next, as a session of that form answers it.
+    /// What the caller does next, as a session of that form returns it.
     pub status: Status,
 }
 
@@ -40,8 +40,9 @@ enum Open {
 /// A decoder, and at most one image that it is receiving.
 ///
 /// The calls are those of the decoder and of its two sessions, [`SixelStreamDecoder`] and
-/// [`SixelDcsStreamDecoder`]. These borrow a decoder; a receiver can be kept in a struct from piece
-/// to piece. An image changes the registers by a successful [`finish`](Self::finish) alone.
+/// [`SixelDcsStreamDecoder`]. The sessions borrow a decoder. A receiver owns it, and can be stored
+/// in a struct between chunks. An image changes registers only by a successful
+/// [`finish`](Self::finish).
 ///
 /// ```rust
 /// let mut receiver = SixelReceiver::new();
@@ -69,14 +70,14 @@ impl Model for SixelReceiver {
 }
 
 impl SixelReceiver {
-    /// A receiver with a new decoder, and no image open.
+    /// Creates a receiver with a new decoder and no open image.
     pub fn new() -> Self
         ensures { result ≡ record { decoder = new_decoder; image = no_image } }
     {
         Self::with_decoder(SixelDecoder::new())
     }
 
-    /// A receiver with this decoder, and no image open.
+    /// Creates a receiver with this decoder and no open image.
     pub fn with_decoder(decoder: SixelDecoder) -> Self
         ensures { result ≡ record { decoder = decoder; image = no_image } }
     {
@@ -86,7 +87,7 @@ impl SixelReceiver {
         }
     }
 
-    /// The decoder. An image that is open is given up.
+    /// Returns the decoder, and aborts an open image.
     pub fn into_decoder(self) -> SixelDecoder
         ensures { result ≡ self.decoder }
     {
@@ -94,23 +95,23 @@ impl SixelReceiver {
         decoder
     }
 
-    /// The decoder, with the registers that the last finished image left.
+    /// Returns the decoder, with the registers that the last finished image left.
     pub fn decoder(&self) -> &SixelDecoder
         ensures { result.now ≡ self.now.decoder }
     {
         &self.decoder
     }
 
-    /// Whether an image is open: it was begun, and neither finished nor given up.
+    /// Whether an image is open: it was begun, and neither finished nor aborted.
     pub fn is_receiving(&self) -> bool
         ensures { result ≡ is_open self.now.image.form }
     {
         !matches!(self.open, Open::Nothing)
     }
 
-    /// Begins a payload, from the registers, the crop and the limit that the decoder has now.
+    /// Begins a payload with the decoder's current registers, crop and limit.
     ///
-    /// An image that is open is given up. It takes no memory.
+    /// An open image is aborted. The call does not allocate.
     pub fn begin_frame(&mut self, alloc: Global, settings: DcsSettings)
         ensures { IsBegun self.old self.new (OfPayload settings) }
     {
@@ -118,9 +119,9 @@ impl SixelReceiver {
         self.replace_open(Open::Payload(reader));
     }
 
-    /// Begins a control string, from the registers, the crop and the limit that the decoder has.
+    /// Begins a DCS sequence with the decoder's current registers, crop and limit.
     ///
-    /// An image that is open is given up. It takes no memory.
+    /// An open image is aborted. The call does not allocate.
     pub fn begin_dcs(&mut self, alloc: Global)
         ensures { IsBegun self.old self.new OfString }
     {
@@ -128,11 +129,11 @@ impl SixelReceiver {
         self.replace_open(Open::ControlString(reader));
     }
 
-    /// Reads a piece of the image that is open; what stands after it is left to the caller.
+    /// Reads a chunk of the open image, and does not consume what follows the image.
     ///
-    /// The answers are those of the sessions, by [`SixelStreamDecoder::feed`] and
-    /// [`SixelDcsStreamDecoder::feed`]: how the bytes are cut has no effect, and a refusal is kept
-    /// until another image is begun. Where none is open, the answer is
+    /// The results are those of the sessions, by [`SixelStreamDecoder::feed`] and
+    /// [`SixelDcsStreamDecoder::feed`]. Chunk boundaries have no effect. After an error each feed
+    /// fails until another image is begun. If no image is open, the error is
     /// `SixelError::InvalidData("stream decoder has failed")`.
     ///
     /// [`SixelStreamDecoder::feed`]: crate::SixelStreamDecoder::feed
@@ -147,10 +148,10 @@ impl SixelReceiver {
         }
     }
 
-    /// Closes the image, and gives it; the decoder then has the registers that it left.
+    /// Closes the image, returns it, and stores its registers in the decoder.
     ///
-    /// A refusal closes it too, and leaves the decoder as it was. The refusals are those of the
-    /// sessions, and where none is open that of [`feed`](Self::feed).
+    /// An error closes the image too, and leaves the decoder unchanged. The errors are those of the
+    /// sessions. If no image is open, the error is that of [`feed`](Self::feed).
     pub fn finish(&mut self) -> Result<SixelImage>
         ensures { IsFinished self.old self.new result }
     {
@@ -164,14 +165,14 @@ impl SixelReceiver {
         Ok(SixelImage::from_picture(picture))
     }
 
-    /// Gives up the image that is open, if one is. The decoder stays as it is.
+    /// Aborts the open image, if there is one. The decoder is unchanged.
     pub fn abort(&mut self)
         ensures { IsAborted self.old self.new }
     {
         self.replace_open(Open::Nothing);
     }
 
-    /// Gives up the image that is open, if one is, and has this one in its place.
+    /// Replaces the open image, and aborts the one before.
     fn replace_open(&mut self, image: Open)
         ensures decoder { self.new.decoder ≡ self.old.decoder }
         ensures image { self.new.image ≡ reception_of image }
@@ -179,8 +180,9 @@ impl SixelReceiver {
         self.open = image;
     }
 
-    /// How many pixels were copied or filled so far, to grow the rows of the canvas; 0 where no
-    /// image is open. It takes no memory.
+    /// Returns how many pixels were copied or filled to grow the rows of the canvas.
+    ///
+    /// It is 0 if no image is open. The call does not allocate.
     ///
     /// The bounds are those of the sessions, by
     /// [`canvas_writes`](crate::SixelStreamDecoder::canvas_writes).
@@ -194,8 +196,9 @@ impl SixelReceiver {
         }
     }
 
-    /// How many pixels sixels have painted so far, at most; 0 where no image is open. It takes no
-    /// memory.
+    /// Returns how many pixels sixels have painted at most.
+    ///
+    /// It is 0 if no image is open. The call does not allocate.
     ///
     /// The bounds are those of the sessions, by
     /// [`canvas_paints`](crate::SixelStreamDecoder::canvas_paints).
@@ -209,10 +212,10 @@ impl SixelReceiver {
         }
     }
 
-    /// Whether the payload of the image that is open has begun: at once where a payload is
-    /// received, and after the header of a control string.
+    /// Whether the payload of the open image has begun and no feed has failed.
     ///
-    /// `false` after a refusal, and where no image is open.
+    /// A payload has begun at once, and a DCS sequence's payload begins after the header. It is
+    /// `false` if no image is open.
     pub fn in_payload(&self) -> bool
         ensures accepted { self.now.image.is_refused ≡ false
             → result ≡ in_payload self.now.image.form self.now.image.bytes }
@@ -225,9 +228,10 @@ impl SixelReceiver {
         }
     }
 
-    /// The width and the height that the image has so far, as of a payload session, by
-    /// [`size_so_far`](crate::SixelStreamDecoder::size_so_far). `None` before the payload, after a
-    /// refusal, and where no image is open. It takes no memory.
+    /// Returns the width and the height of the image so far, as a payload session does.
+    ///
+    /// See [`size_so_far`](crate::SixelStreamDecoder::size_so_far). It is `None` before the
+    /// payload, after an error, and if no image is open. The call does not allocate.
     pub fn size_so_far(&self) -> Option<(usize, usize)>
         ensures { IsSizeSoFar self.now.image result }
     {
@@ -239,7 +243,7 @@ impl SixelReceiver {
     }
 }
 
-/// What a feed of a payload did, as of an image.
+/// Converts the result of feeding a payload.
 fn of_payload(fed: SixelFeedResult) -> Received
     ensures { result ≡ record {
       consumed = fed.consumed;
@@ -252,7 +256,7 @@ fn of_payload(fed: SixelFeedResult) -> Received
     }
 }
 
-/// What a feed of a control string did, as of an image.
+/// Converts the result of feeding a DCS sequence.
 fn of_string(fed: SixelDcsFeedResult) -> Received
     ensures { result ≡ record {
       consumed = fed.consumed;

@@ -1,4 +1,4 @@
-//! Lists of steps on one decoder: images in chunks or in one call, resets, crop and limits.
+//! Lists of steps on one decoder: images, resets, crop and limits.
 //!
 //! The outcome of a step depends on its bytes. The specification does not mention chunks.
 
@@ -39,8 +39,7 @@ pub enum End {
 pub enum Step<'a> {
     /// Resets the registers to those of a new decoder.
     Reset,
-    /// Sets whether images are cropped to their raster attributes, as by
-    /// [`SixelDecoder::set_raster_crop`].
+    /// Sets whether images are cropped, as by [`SixelDecoder::set_raster_crop`].
     RasterCrop(bool),
     /// Sets how many pixels an image may have, as by [`SixelDecoder::set_pixel_limit`].
     PixelLimit(usize),
@@ -87,7 +86,9 @@ pub enum Outcome {
         status: Status,
         image: SixelImage,
     },
-    /// A session consumed so many bytes, had this status, and was aborted. No register changed.
+    /// A session consumed so many bytes, had this status, and was aborted.
+    ///
+    /// No register changed.
     Aborted {
         consumed: usize,
         status: Status,
@@ -129,7 +130,7 @@ pub fn run(alloc: Global, decoder: &mut SixelDecoder, steps: &[Step<'_>]) -> Res
     Ok(outcomes)
 }
 
-/// Runs the steps in order, and stores the outcomes in capacity that is allocated already.
+/// Runs the steps in order, and stores the outcomes in allocated capacity.
 ///
 /// So it never fails: where an allocation of a step fails, that is the outcome of the step.
 fn take_steps(

@@ -1,4 +1,4 @@
-//! An image as its pixels, sizes, pixel shape and background.
+//! An image: its pixels, sizes, pixel shape and background.
 
 ghost use Rattle.std.specs.Prelude.{◌≡◌, ℕ, ◌+◌, ◌*◌, ◌<◌, ◌≤◌, ◌↔◌, length};
 ghost use Rattle.std.specs.Prelude.{slice_index, IsTrue};
@@ -16,8 +16,9 @@ use sixel_base::{Result, SixelError};
 use sixel_decoder::DecodedPayload;
 use std::alloc::Global;
 
-/// An image: four bytes a pixel (red, green, blue, alpha), row by row from the top, each row from
-/// the left.
+/// An image of four bytes a pixel: red, green, blue, alpha.
+///
+/// The rows are stored from the top, and each row from the left.
 #[derive(Debug, Drop)]
 pub struct SixelImage {
     /// The pixels, `4 * width * height` bytes.
@@ -28,7 +29,7 @@ pub struct SixelImage {
     pub height: usize,
     /// The shape of a pixel.
     pub aspect_ratio: PixelAspectRatio,
-    /// What stands where nothing was drawn.
+    /// Whether pixels that were not drawn are opaque or transparent.
     pub background_mode: BackgroundMode,
 }
 
@@ -39,8 +40,9 @@ impl SixelImage {
     ghost use Rattle.sixel_decoder.specs.OneShotCalls.{IsDecoded};
     ghost use Rattle.sixel_decoder.specs.PictureView.{picture_value};
 
-    /// Decodes the first control string in the bytes, or all of them as a payload if there is none,
-    /// as [`SixelDecoder::decode`] of a new decoder does.
+    /// Decodes the first DCS sequence in the bytes, or all of them as a payload.
+    ///
+    /// It does what [`SixelDecoder::decode`] of a new decoder does.
     ///
     /// ```rust
     /// let image = SixelImage::decode(alloc, bytes)?;
@@ -60,14 +62,14 @@ impl SixelImage {
         SixelDecoder::new().decode_from_dcs(alloc, bytes, settings)
     }
 
-    /// As [`decode`](Self::decode) of a text's bytes.
+    /// Decodes the bytes of a text, as [`decode`](Self::decode) does.
     pub fn from_str(alloc: Global, text: &str) -> Result<Self>
         ensures { IsDecoded image_value new_decoder (found text.now) result }
     {
         Self::decode(alloc, text.as_bytes())
     }
 
-    /// The image of a payload that was decoded.
+    /// Creates the image of a decoded payload.
     pub(crate) fn from_picture(picture: DecodedPayload) -> Self
         ensures image { image_value result ≡ picture_value picture }
         ensures pixels { length result.pixels.items ≡ 4 * (result.width * result.height) }
@@ -81,8 +83,9 @@ impl SixelImage {
         }
     }
 
-    /// An image of these pixels, with square pixels and a transparent background. Nothing is
-    /// checked.
+    /// Creates an image with square pixels and a transparent background.
+    ///
+    /// Nothing is checked.
     pub fn from_rgba(pixels: Vec<u8>, width: usize, height: usize) -> Self
         ensures { result ≡ record {
           pixels = pixels;
@@ -101,10 +104,9 @@ impl SixelImage {
         }
     }
 
-    /// As [`from_rgba`](Self::from_rgba), for sizes that are not zero and can be counted in bytes,
-    /// and as many bytes.
+    /// Creates an image as [`from_rgba`](Self::from_rgba), if the sizes are valid.
     ///
-    /// A refusal drops the pixels: a zero size is `InvalidDimensions`, bytes above `usize::MAX` are
+    /// An error drops the pixels. A zero size is `InvalidDimensions`, bytes above `usize::MAX` are
     /// `IntegerOverflow`, and another number of bytes is `BufferSizeMismatch`, in this order.
     pub fn try_from_rgba(pixels: Vec<u8>, width: usize, height: usize) -> Result<Self>
         ensures { MatchOption
@@ -123,7 +125,7 @@ impl SixelImage {
         Ok(Self::from_rgba(pixels, width, height))
     }
 
-    /// This image with another pixel shape.
+    /// Returns this image with another pixel shape.
     pub fn with_aspect_ratio(self, ratio: PixelAspectRatio) -> Self
         ensures { result ≡ record self { aspect_ratio = ratio } }
     {
@@ -133,7 +135,7 @@ impl SixelImage {
         }
     }
 
-    /// This image with another background.
+    /// Returns this image with another background.
     pub fn with_background_mode(self, mode: BackgroundMode) -> Self
         ensures { result ≡ record self { background_mode = mode } }
     {
@@ -143,14 +145,14 @@ impl SixelImage {
         }
     }
 
-    /// Width and height in pixels.
+    /// Returns width and height in pixels.
     pub fn dimensions(&self) -> (usize, usize)
         ensures { result ≡ (self.now.width, self.now.height) }
     {
         (self.width, self.height)
     }
 
-    /// Width and height as shown, in units of a pixel's width.
+    /// Returns width and height on the screen, in units of a pixel's width.
     pub fn corrected_dimensions(&self) -> (usize, usize)
         requires { self.now.height * pad_of self.now.aspect_ratio ≤ usize.MAX }
         ensures { result ≡ (self.now.width, self.now.height * pad_of self.now.aspect_ratio) }
@@ -161,7 +163,7 @@ impl SixelImage {
         )
     }
 
-    /// Whether some pixel is hidden: its alpha, the last of its four bytes, is below 128.
+    /// Whether some pixel is transparent: its alpha, the last byte, is below 128.
     pub fn has_transparency(&self) -> bool
         ensures { IsTrue result ↔ ((pixel : ℕ) × (4 * pixel + 3 < length self.now.pixels.items)
             × (slice_index self.now.pixels.items (4 * pixel + 3) < 128)) }
@@ -175,7 +177,7 @@ impl SixelImage {
         false
     }
 
-    /// A copy of this image.
+    /// Returns a copy of this image.
     pub fn clone(&self, alloc: Global) -> Result<Self>
         ensures { MatchResult result
             (λ image. image_value image ≡ image_value self.now) (λ e. e ≡ SixelError.OutOfMemory) }

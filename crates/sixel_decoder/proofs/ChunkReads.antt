@@ -1,4 +1,4 @@
--- How far a parser has come in a piece, and what stays true of the whole piece's history.
+-- How much of a chunk a parser has read, and what stays true of the chunk's whole history.
 use Rattle.std.proofs.Common.{◌≡◌, ℕ, zero, suc, ◌+◌, ◌<◌, ◌≤◌, Bool, true, false, cond, List, []}
 use Rattle.std.proofs.Common.{◌∷◌, ◌++◌, refl, ap, sym, ◌∙◌, subst, arith, Some, None, Result, Ok}
 use Rattle.std.proofs.Common.{Err, length, take, drop, drop-cons, get_or, get_or-drop, add-one}
@@ -26,7 +26,7 @@ use Rattle.sixel_decoder.specs.declared.decoded_payload.DecodedPayload.{DecodedP
 use Rattle.sixel_decoder.specs.inside.Runs.{IsPrintable, IsSixelByte}
 use Rattle.sixel_decoder.proofs.ParserSteps.{Faults-along, fault_stays, growths-closed}
 
--- ---- what is refused stays refused
+-- ---- what is rejected stays rejected
 
 -- a fault of the tokens that are closed is one of all
 pub whole_fault : (limit : ℕ) (h : History) (f : Fault) → first_fault limit (closed h) ≡ Some f
@@ -95,7 +95,7 @@ growths-fold h (byte ∷ bytes) = omega (arith, growths-read h byte, growths-fol
 
 -- ---- how far a parser has come
 
--- Of a piece the bytes before this index were read, and the parser stands in the history so far.
+-- The bytes of a chunk before this index were read, and the parser is in the history so far.
 pub record Reaches (o : Origin) (parser : PayloadParser) (h : History) (index : ℕ) (piece : List ℕ)
     : Type 0 where
   pub now : History
@@ -110,7 +110,7 @@ pub splits_at : (piece : List ℕ) (index : ℕ) → index < length piece
     → drop index piece ≡ get_or piece index 0 ∷ drop (index + 1) piece
 splits_at piece index h = rw (add-one, drop-cons piece index 0) refl
 
--- what a byte at the front does to the words of a piece
+-- what a byte at the front does to the facts of a chunk
 front-ignored : (byte : ℕ) (rest : List ℕ) → is_terminator byte ≡ false → is_ignored byte ≡ true
     → front (byte ∷ rest) ≡ front rest
 front-ignored byte rest ends is = rw (ends, is) refl
@@ -175,7 +175,7 @@ printable_from_sixel byte test =
     let is = sixel_from_test byte test in
     (omega (arith, is.0), is.1)
 
--- what printable bytes at the front do to the words of a piece
+-- what printable bytes at the front do to the facts of a chunk
 front-run : (n : ℕ) (bytes : List ℕ) → ((k : ℕ) → k < n → IsPrintable (get_or bytes k 0))
     → n ≤ length bytes → front bytes ≡ take n bytes ++ front (drop n bytes)
 front-run zero bytes are le = refl
@@ -255,7 +255,7 @@ count_most (byte ∷ bytes) =
       | false ↦ omega (arith, count_most bytes)
     ]
 
--- the bytes of a piece that were read up to its end
+-- the bytes of a chunk that were read up to its end
 pub reads_whole : (o : Origin) (parser : PayloadParser) (h : History) (index : ℕ) (piece : List ℕ)
     → length piece ≤ index → Reaches o parser h index piece
     → (index ≡ count piece) × Stands o parser (after h piece)
@@ -283,7 +283,7 @@ reads_before o parser h index piece byte splits ends r =
       subst (λ (w : History). Stands o parser w) whole r.stands,
     )
 
--- a piece that has no byte after those has no terminator
+-- a chunk that has no byte after those has no terminator
 no_terminator : (piece : List ℕ) → length piece ≤ count piece → first_terminator piece ≡ None
 no_terminator [] all = refl
 no_terminator (byte ∷ piece) all =
@@ -308,7 +308,7 @@ terminator_after (byte ∷ piece) more =
       | false ↦ λ some. terminator_after piece (omega (arith, some))
     ]) more
 
--- a piece with no terminator
+-- a chunk with no terminator
 pub feeds_whole : (o : Origin) (parser : PayloadParser) (h : History) (read : ℕ) (piece : List ℕ)
     → length piece ≤ read → (read ≡ count piece) × Stands o parser (after h piece)
     → (read ≡ count piece) × (NeedMoreData ≡ status_of (first_terminator piece))
@@ -317,14 +317,14 @@ feeds_whole o parser h read piece past is =
     let none = no_terminator piece (omega (arith, past, is.0)) in
     (is.0, rw none refl, rw none is.1)
 
--- the first terminator of a piece with bytes after those that were read
+-- the first terminator of a chunk with bytes after those that were read
 ending : (read : ℕ) (piece : List ℕ) → read < length piece → read ≡ count piece
     → first_terminator piece ≡ Some (get_or piece read 0)
 ending read piece more is =
     terminator_after piece (omega (arith, more, is))
     ∙ ap (λ (k : ℕ). Some (get_or piece k 0)) (sym is)
 
--- a piece that ends at its terminator, which ends the open command
+-- a chunk that ends at its terminator, which ends the open command
 pub feeds_terminated :
     (o : Origin) (parser : PayloadParser) (h : History) (read : ℕ) (piece : List ℕ)
     → read < length piece → read ≡ count piece
@@ -335,7 +335,7 @@ feeds_terminated o parser h read piece more is ground shows =
     let some = ending read piece more is in
     (is, rw some refl, rw some (ground, shows))
 
--- what the open command is refused for there
+-- why the open command is rejected there
 pub feeds_refused_end : (e : SixelError) (limit : ℕ) (h : History) (read : ℕ) (piece : List ℕ)
     → read < length piece → read ≡ count piece
     → Faults e false (first_fault limit (after h piece))
@@ -347,7 +347,7 @@ feeds_refused_end e limit h read piece more is refused =
     (first_fault limit (settled_after h piece))
     (λ never. absurd cc) (λ f found. ap (first_fault limit) whole ∙ found) refused
 
--- What is refused on the way to the end of a piece is what its tokens are refused for there.
+-- An error before the end of a chunk is the error of its tokens there.
 refused_settled : (e : SixelError) (limit : ℕ) (h now next : History) (rest : List ℕ)
     (piece : List ℕ)
     → fold read next rest ≡ after h piece → growths (closed h) ≤ growths (closed now)
@@ -379,7 +379,7 @@ refused_settled e limit h now next rest piece whole grown refused =
           (λ may. grind (arith, nat_tests)) kept refused
     ])
 
--- what is refused at a byte is what the whole piece is refused for
+-- an error at a byte is the error of the whole chunk
 pub feeds_refused : (e : SixelError) (o : Origin) (parser : PayloadParser) (h : History) (index : ℕ)
     (piece : List ℕ) (byte : ℕ)
     → drop index piece ≡ byte ∷ drop (index + 1) piece → is_terminator byte ≡ false
@@ -421,7 +421,7 @@ first_ahead index piece bytes is =
     ap (λ (bs : List ℕ). get_or bs 0 0) is ∙ get_or-drop index piece 0 0
     ∙ ap (λ (k : ℕ). get_or piece k 0) place
 
--- what a whole payload is refused for while it is fed is what it is refused for at its end
+-- an error of a payload while it is fed is its error at the end
 settled_fault : (limit : ℕ) (bytes : List ℕ) (f : Fault)
     → first_fault limit (settled bytes) ≡ Some f → payload_fault limit bytes ≡ Some f
 settled_fault limit bytes f is =
@@ -450,7 +450,7 @@ payload_refused e limit bytes refused =
     (λ may. or_right (is_none (payload_fault limit bytes)) (nat_lt 0 (growths (settled bytes))) may)
     (λ f is. settled_fault limit bytes f is) refused
 
--- what is refused at the end of a payload
+-- what is rejected at the end of a payload
 pub payload_ends : (result : Result DecodedPayload SixelError) (o : Origin) (bytes : List ℕ)
     → Ends result o (history_of (front bytes)) → Decodes result o bytes
 payload_ends (Ok picture) o bytes is = is

@@ -1,4 +1,4 @@
--- What the bytes before a piece and the piece are together.
+-- What the bytes before a chunk and the chunk are together.
 use Rattle.std.proofs.Common.{◌≡◌, ℕ, ◌+◌, Bool, true, false, cond, List, [], ◌∷◌, ◌++◌, refl, ap}
 use Rattle.std.proofs.Common.{sym, ◌∙◌, subst, arith, Option, Some, None, Result, Ok, Err, length}
 use Rattle.std.proofs.Common.{length-append}
@@ -165,7 +165,7 @@ settled_whole before piece none =
     (closed (history_of (front (before ++ piece)))))
     (sym (first_terminator-append before piece none))
 
--- what a parser read of a piece, it read after the bytes before
+-- what a parser read of a chunk, it read after the bytes before
 pub feeds_goes_on : (result : Result SixelFeedResult SixelError) (o : Origin)
     (parser : PayloadParser) (before piece : List ℕ) → first_terminator before ≡ None
     → Feeds result o parser (history_of (front before)) piece → GoesOn result o parser before piece

@@ -1,4 +1,4 @@
--- How a control string goes on, once its payload has or where a payload begins.
+-- How a DCS sequence goes on in its payload, or up to where the payload begins.
 use Rattle.std.proofs.Common.{◌≡◌, ℕ, ◌+◌, ◌-◌, ◌≤◌, suc, Bool, true, false, cond, List, [], ◌∷◌}
 use Rattle.std.proofs.Common.{◌++◌, refl, ap, sym, ◌∙◌, subst, arith, Option, None, Ok, length}
 use Rattle.std.proofs.Common.{take, drop, append_assoc, length-append}
@@ -136,7 +136,7 @@ stage_refuses e may limit Heading is = absurd is
 stage_refuses e may limit (Failing fault) is = Faults-named e may fault is
 stage_refuses e may limit (Reading settings payload) is = absurd is
 
--- all of the piece stands before the payload
+-- all of the chunk stands before the payload
 pub head_follows : (state : DcsState) (decoder : DecoderState) (ended : Option SixelDcsFeedStatus)
     (before piece : List ℕ) (start : ℕ)
     → stage before ≡ Heading → is_failed state ≡ false → is_head state ≡ true → start ≡ length piece
@@ -161,7 +161,7 @@ head_follows state decoder ended before piece start from fine head all is =
       ap (stage_fault decoder.pixel_limit) heads.0,
     )
 
--- ---- the payload begins within a piece
+-- ---- the payload begins within a chunk
 
 header_rest-fits : (bytes : List ℕ) → length (header_rest bytes) ≤ length bytes
 header_rest-fits [] = omega arith

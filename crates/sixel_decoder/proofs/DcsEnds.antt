@@ -1,4 +1,4 @@
--- What more of a payload's piece is the control string's own, once its terminator has come.
+-- Which bytes of a payload's chunk belong to the DCS sequence after its terminator.
 use Rattle.std.proofs.Common.{◌≡◌, ℕ, ◌+◌, ◌≤◌, suc, true, false, cond, List, [], ◌∷◌, ◌++◌, refl}
 use Rattle.std.proofs.Common.{ap, sym, ◌∙◌, arith, Option, Some, None, length, drop}
 use Rattle.std.specs.Prelude.{◌==◌}
@@ -28,7 +28,7 @@ count-fits (byte ∷ bytes) =
       | false ↦ omega (arith, count-fits bytes)
     ]
 
--- a piece adds at most its bytes
+-- a chunk adds at most its bytes
 pub count-most : (bytes piece : List ℕ) → count (bytes ++ piece) ≤ count bytes + length piece
 count-most [] piece = omega (arith, count-fits piece)
 count-most (byte ∷ bytes) piece =
@@ -113,7 +113,7 @@ goes_open payload piece consumed ended is none counted =
           ∙ sym (ap (λ o. ended_by o (after_terminator (payload ++ piece))) none)),
     )
 
--- the terminator comes in the piece, and the bytes after it are these
+-- the terminator comes in the chunk, and the bytes after it are these
 pub goes_to_end :
     (payload piece rest : List ℕ) (t start consumed more : ℕ) (status : SixelDcsFeedStatus)
     → None ≡ ended_with payload
@@ -151,7 +151,7 @@ escape_ends t rest is =
     let e : t ≡ 27 = grind (arith, nat_tests) in
     (ap (λ n. end_count n rest) e, ap (λ n. end_status n rest) e)
 
--- ESC was the last byte before the piece
+-- ESC was the last byte before the chunk
 goes_after_escape : (payload piece : List ℕ) (t consumed more : ℕ) (status : SixelDcsFeedStatus)
     → Some NeedMoreData ≡ ended_with payload
     → first_terminator (payload ++ piece) ≡ Some t
@@ -179,7 +179,7 @@ goes_after_escape payload piece t consumed more status ended first counted count
       stands ∙ sym (status_at (payload ++ piece) piece was.0 now after ∙ then.1),
     )
 
--- the string had ended before the piece
+-- the string had ended before the chunk
 goes_ended : (payload piece : List ℕ) (consumed more : ℕ) (before status : SixelDcsFeedStatus)
     → Some before ≡ ended_with payload
     → (before ≡ NeedMoreData → ⊥) → count payload + consumed ≡ count (payload ++ piece)
@@ -207,7 +207,7 @@ goes_ended payload piece consumed more before status ended over counted same =
           (status_at (payload ++ piece) (after_terminator payload ++ piece) was.0 now after))),
     )
 
--- a terminator had come before the piece
+-- a terminator had come before the chunk
 pub goes_later : (payload piece : List ℕ) (t consumed more : ℕ) (was status : SixelDcsFeedStatus)
     → Some was ≡ ended_with payload
     → first_terminator (payload ++ piece) ≡ Some t

@@ -1,4 +1,4 @@
--- Where a control string stands once more bytes have come.
+-- The stage of a DCS sequence after further bytes.
 use Rattle.std.proofs.Common.{◌≡◌, ℕ, true, false, cond, List, [], ◌∷◌, ◌++◌, refl, ap, sym, ◌∙◌}
 use Rattle.std.proofs.Common.{subst, Some, None}
 use Rattle.std.specs.Prelude.{◌==◌, IsSomeAnd}
@@ -181,7 +181,7 @@ refused_stage e rest byte fault =
           [ true ↦ λ is. is | false ↦ λ is. is ]
     ]) fault
 
--- any other byte is refused
+-- any other byte is rejected
 pub header_refuses : (e : SixelError) (header : headers.Header) (before : List ℕ) (byte : ℕ)
     (h : IsInHeader header before) → is_header byte ≡ false
     → IsSomeAnd (command_fault byte) (IsFault e) → IsStageFault e (stage (before ++ byte ∷ []))

@@ -1,4 +1,4 @@
--- The payload of a control string is what decoding its bytes at once finds.
+-- The payload of a DCS sequence is that of decoding its bytes in one call.
 use Rattle.std.proofs.Common.{◌≡◌, ℕ, true, false, cond, List, [], ◌∷◌, refl, ap, sym, ◌∙◌, subst}
 use Rattle.std.proofs.Common.{Option, Some, Result, Ok, Err}
 use Rattle.std.specs.Prelude.{◌==◌, ◌&&◌, IfOk}

@@ -1,4 +1,4 @@
--- What has ended or is refused stays so, whatever bytes come after it.
+-- What has ended or is rejected stays so, whatever bytes follow.
 use Rattle.std.proofs.Common.{◌≡◌, ℕ, ◌≤◌, true, false, cond, List, [], ◌++◌, refl, ap, sym, ◌∙◌}
 use Rattle.std.proofs.Common.{subst, arith, Option, Some, None, length, length-append}
 use Rattle.std.specs.Prelude.{fold, is_some}
@@ -80,7 +80,7 @@ fault_by limit bytes more f None none is =
 fault_by limit bytes more f (Some t) some is =
     ap (first_fault limit) (settled_ended bytes more t some) ∙ is
 
--- a payload that was refused stays refused
+-- a payload that was rejected stays rejected
 pub fed_fault_stays : (limit : ℕ) (bytes more : List ℕ) (f : Fault) → fed_fault limit bytes ≡ Some f
     → fed_fault limit (bytes ++ more) ≡ Some f
 fed_fault_stays limit bytes more f is = fault_by limit bytes more f (first_terminator bytes) refl is
@@ -120,7 +120,7 @@ registers_more : (origin : Origin) (bytes more : List ℕ) (t : ℕ) → first_t
 registers_more origin bytes more t is =
     ap (λ w. registers origin.registers (history_of w)) (front_ended bytes more t is)
 
--- ---- a control string
+-- ---- a DCS sequence
 
 -- a payload at whose terminator the string has ended
 record Ends (payload : List ℕ) : Type 0 where
@@ -262,7 +262,7 @@ fault_in limit bytes more f (Reading s payload) is some =
     ap (stage_fault limit) (stage_reading bytes more s payload is)
     ∙ fed_fault_stays limit payload more f some
 
--- a control string that was refused stays refused
+-- a DCS sequence that was rejected stays rejected
 pub dcs_fault_stays : (limit : ℕ) (bytes more : List ℕ) (f : Fault) → dcs_fault limit bytes ≡ Some f
     → dcs_fault limit (bytes ++ more) ≡ Some f
 dcs_fault_stays limit bytes more f is = fault_in limit bytes more f (stage bytes) refl is

@@ -1,4 +1,4 @@
--- What an answer to a whole control string means.
+-- The meaning of the result for a whole DCS sequence.
 use Rattle.std.proofs.Common.{◌≡◌, ◌+◌, ◌-◌, ◌≤◌, Bool, true, false, List, [], ◌∷◌, ℕ, Option, Some}
 use Rattle.std.proofs.Common.{ap, refl, sym, ◌∙◌, subst, length, get_or, take, drop, take_all}
 use Rattle.std.proofs.Common.{length-drop, arith}

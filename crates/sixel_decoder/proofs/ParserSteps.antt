@@ -96,7 +96,7 @@ stands_goes_on InRaster o h parser ps byte goes is pushed =
 stands_goes_on InColor o h parser ps byte goes is pushed =
     goes_on_open Color o h parser ps byte (λ text older. refl) goes is pushed
 
--- where the open command is refused as the next byte comes, so are the tokens up to that byte
+-- if the open command is rejected at the next byte, so are the tokens up to that byte
 pub refused_close : (e : SixelError) (limit : ℕ) (h : History) (byte : ℕ) → goes_on h byte ≡ false
     → Faults e false (first_fault limit h)
     → Faults e (nat_lt (growths (closed h)) (growths (closed (read h byte))))

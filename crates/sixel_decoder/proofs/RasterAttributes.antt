@@ -1,4 +1,4 @@
--- What raster attributes do to what was drawn, and where they are refused.
+-- What raster attributes do to what was drawn, and when they are rejected.
 use Rattle.std.proofs.Common.{◌≡◌, ℕ, ◌*◌, ◌<◌, ◌≤◌, ◌⊎◌, List, ◌∷◌, None, false, max, inl, inr}
 use Rattle.std.proofs.Common.{refl, arith}
 use Rattle.std.proofs.lemmas.Bool.{le-ltb}

@@ -58,7 +58,7 @@ use Rattle.sixel_decoder.proofs.DcsPayloads.{found_reading}
 use Rattle.sixel_decoder.proofs.ParserSteps.{Faults-along}
 use Rattle.sixel_decoder.proofs.DcsEnds.{count-fits, count_open, count_at, status_at}
 
--- nothing is refused where there is neither a fault nor a want of memory
+-- nothing is rejected without a fault or a failed allocation
 never_refused : (e : SixelError) (may : Bool) → may ≡ false → Faults e may None → ⊥
 never_refused (InvalidDimensions w h) may not is = is
 never_refused (BufferSizeMismatch w h) may not is = is
@@ -78,7 +78,7 @@ MatchBool-from_each false P Q held failed = failed refl
 
 -- ---- a payload
 
--- an reader that was not refused has read bytes without a fault
+-- a reader that was not rejected has read bytes without a fault
 pub read_sound :
     (parser : Option PayloadParser) (o : Origin) (terminator : Option ℕ) (bytes : List ℕ)
     → HasRead parser o terminator bytes → is_none parser ≡ false
@@ -92,7 +92,7 @@ read_sound (Some parser) o terminator bytes is accepted =
     (shown_after (is_some (first_terminator bytes)) o parser (history_of (front bytes))
     stands).faultless
 
--- a feed after the terminator takes no byte and tells it again
+-- a feed after the terminator consumes no byte and reports it again
 pub frame_over :
     (limit : ℕ) (result : Result SixelFeedResult SixelError) (fed piece fed' : List ℕ) (t : ℕ)
     → first_terminator fed ≡ Some t → fed' ≡ fed ++ piece
@@ -114,7 +114,7 @@ frame_over limit (Err e) fed piece fed' t some joined sound counted stands refus
     (subst (λ f. Faults e (nat_lt (growths (settled fed)) (growths (settled fed'))) f)
     fine refused))
 
--- what a beginning is refused for is what all bytes are refused for
+-- all bytes are rejected with the error of a beginning
 pub frame_refused : (e : SixelError) (limit : ℕ) (fed left bytes : List ℕ) (n : ℕ)
     → fed ++ left ≡ bytes → Faults e (nat_lt n (growths (settled fed))) (fed_fault limit fed)
     → Faults e (nat_lt 0 (growths (settled bytes))) (fed_fault limit bytes)
@@ -125,7 +125,7 @@ frame_refused e limit fed left bytes n joined refused =
     (λ may. grind (arith, nat_tests, growths_stay fed left))
     (fed_fault_stays limit fed left) refused)
 
--- so decoding all bytes in one call is refused with the error of a feed
+-- so decoding all bytes in one call fails with the error of a feed
 pub frame_refused_with : (limit n : ℕ) (result : Result SixelFeedResult SixelError)
     (fed left bytes : List ℕ) → fed ++ left ≡ bytes
     → IfErr result (λ e. Faults e (nat_lt n (growths (settled fed))) (fed_fault limit fed))
@@ -134,9 +134,9 @@ pub frame_refused_with : (limit n : ℕ) (result : Result SixelFeedResult SixelE
 frame_refused_with limit n result fed left bytes joined refused e is =
     payload_refused e limit bytes (frame_refused e limit fed left bytes n joined (rw is at refused))
 
--- ---- a control string
+-- ---- a DCS sequence
 
--- a reader that was not refused has followed bytes without a fault
+-- a reader that was not rejected has followed bytes without a fault
 pub followed_sound :
     (state : DcsState) (decoder : DecoderState) (ended : Option SixelDcsFeedStatus) (bytes : List ℕ)
     → HasFollowed state decoder ended bytes
@@ -234,13 +234,13 @@ count_most_by bytes piece (Reading s payload) false is not =
       length-append bytes piece,
     )
 
--- a piece adds at most its bytes
+-- a chunk adds at most its bytes
 pub dcs_count-most : (bytes piece : List ℕ)
     → dcs_count (bytes ++ piece) ≤ dcs_count bytes + length piece
 dcs_count-most bytes piece =
     count_most_by bytes piece (stage bytes) (has_ended (dcs_status bytes)) refl refl
 
--- a feed after the end takes no byte and tells the end again
+-- a feed after the end consumes no byte and reports the end again
 pub string_over :
     (limit : ℕ) (result : Result SixelDcsFeedResult SixelError) (fed piece fed' : List ℕ)
     → has_ended (dcs_status fed) ≡ true → fed' ≡ fed ++ piece
@@ -288,7 +288,7 @@ string_same limit (Ok r) fed more stands = λ ended.
     same_string limit fed more (ap has_ended (sym stands) ∙ ended)
 string_same limit (Err e) fed more stands = tt
 
--- what a beginning is refused for is what all bytes are refused for
+-- all bytes are rejected with the error of a beginning
 pub string_refused : (e : SixelError) (limit : ℕ) (fed left bytes : List ℕ) (n : ℕ)
     → fed ++ left ≡ bytes → Faults e (nat_lt n (dcs_growths fed)) (dcs_fault limit fed)
     → Faults e (nat_lt 0 (dcs_growths bytes)) (dcs_fault limit bytes)
@@ -335,7 +335,7 @@ sound_by limit payload rest (Some t) is come sound =
     (if is_some w then history_of (front payload) else closed (history_of (front payload))))
     (sym is) ∙ sound
 
--- then its image is refused for want of memory alone
+-- then its image fails only if an allocation fails
 pub string_refused_at_end : (result : Result DecodedPayload SixelError) (reader : Session)
     (decoder : DecoderState) (ended : Option SixelDcsFeedStatus) (bytes : List ℕ)
     → IsInPayload reader decoder ended bytes → has_come ended ≡ true

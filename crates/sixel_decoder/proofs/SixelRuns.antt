@@ -80,7 +80,7 @@ pub length-bits_of : (run : List ℕ) → length (bits_of run) ≡ length run
 length-bits_of [] = refl
 length-bits_of (byte ∷ run) = ap suc (length-bits_of run)
 
--- ---- where the dots of a run end in a row
+-- ---- where the set pixels of a run end in a row
 
 pos_end : (has : Bool) (end : ℕ) → 0 < end → next_end has end ≡ suc end
 pos_end has end pos = rw (lt-ltb 0 end pos) refl
@@ -178,7 +178,7 @@ columns_most from end most le =
       | inr none ↦ rw (le-ltb 0 end none) (omega arith)
     ]
 
--- where each row was made to hold as many columns as the run's last dot there is to have
+-- each row has as many columns as the run's last set pixel there needs
 pub Holds-widened : (old new : CanvasState) (top from : ℕ) (run columns : List ℕ)
     → ((column row : ℕ) → shown new column row ≡ shown old column row)
     → ((row : ℕ)
@@ -218,7 +218,7 @@ Holds-held canvas top from run held = record {
   apart = λ row past. refl;
 }
 
--- the dots of the run stand on columns that are held
+-- the set pixels of the run are on columns that exist
 pub held_dots : (old new : CanvasState) (top from : ℕ) (run : List ℕ) → Holds old new top from run
     → (k j : ℕ) → k < 6 → j < length run → is_set (get_or run j 0 - 63) k ≡ true
     → from + j < reached new (top + k)
@@ -308,7 +308,7 @@ four_at run at =
     get_or-drop at run 0 0 ∙ ap (λ (k : ℕ). get_or run k 0) place in
     rw (first, get_or-drop at run 1 0, get_or-drop at run 2 0, get_or-drop at run 3 0) refl
 
--- the bits at a place of bytes that begin with the run, where a test tells whether it is of the run
+-- the bits at an index of bytes that begin with the run, by a test whether it is in the run
 pub bits_in_front : (bytes run : List ℕ) (place bits : ℕ) (test : Bool)
     → run ≡ take (length run) bytes → IsRun run
     → (place < length run → test ≡ true) → (length run ≤ place → test ≡ false)
@@ -398,7 +398,7 @@ four_is run sixels done j is lt =
     (λ k. get_or four k 0 ≡ get_or run (done + k) 0 - 63)
     (ap (λ (k : ℕ). get_or run k 0 - 63) (omega arith)) refl refl refl j lt
 
--- the dots of four sixels stand on held columns
+-- the set pixels of four sixels are on columns that exist
 pub four_held : (canvas : CanvasState) (top from : ℕ) (run sixels : List ℕ) (done : ℕ)
     → sixels ≡ four_of (drop done run)
     → ((k j : ℕ) → k < 6 → j < length run → is_set (get_or run j 0 - 63) k ≡ true
@@ -824,7 +824,7 @@ Stands-one o new h bytes ground some sixel shows =
     (sym (fold_one h bytes some sixel))
     (subst (λ (p : OpenCommand). StandsIn p o new after) (sym ground) is)
 
--- what a sixel may be refused for
+-- why a sixel can be rejected
 pub refused_sixel : (e : SixelError) (limit : ℕ) (h : History) (byte : ℕ) → IsSixelByte byte
     → Faults e true (first_fault limit (Sixel (byte - 63) ∷ h))
     → Faults e (nat_lt (growths (closed h)) (growths (closed (read h byte))))

@@ -1,4 +1,4 @@
--- What a sixel does to what was drawn, and where one is refused.
+-- What a sixel does to what was drawn, and when it is rejected.
 use Rattle.std.proofs.Common.{◌≡◌, ℕ, ◌+◌, ◌*◌, ◌-◌, ◌<◌, ◌≤◌, ◌⊎◌, true, List, [], ◌∷◌, ◌++◌, max}
 use Rattle.std.proofs.Common.{length, get_or, length-append, Some, Result, Ok, Err, refl, ap, ◌∙◌}
 use Rattle.std.proofs.Common.{inl, inr, arith}
@@ -144,7 +144,7 @@ Shows-drawn o h old wide new bits right shows is ends four narrow area drawn gro
       ) refl;
     }
 
--- what is drawn unless memory is refused
+-- what is drawn unless an allocation fails
 pub draws_unless : {A : Type 0}
     → (result : Result A SixelError) (o : Origin) (painter : Painter) (h : History)
     (drawn grown rises : Type 0)

@@ -141,7 +141,7 @@ pub stage_reading : (bytes more : List ℕ) (s : Settings) (payload : List ℕ)
 stage_reading bytes more s payload is =
     stage_reading_by bytes more (introduced bytes) s payload refl is
 
--- ---- what is refused before a payload stays refused
+-- ---- what is rejected before a payload stays rejected
 
 introduced-absent : (bytes more : List ℕ) → introduced bytes ≡ Absent
     → introduced (bytes ++ more) ≡ Absent
@@ -217,7 +217,7 @@ pub refused_stays : (e : SixelError) (bytes more : List ℕ) → IsStageFault e 
 refused_stays e bytes more refused =
     refused_by e (stage bytes) (stage (bytes ++ more)) (failing_stays bytes more) refused
 
--- the bytes before a piece, a beginning of the piece and the next byte, and the rest of it
+-- the bytes before a chunk, a beginning of the chunk and the next byte, and the rest of it
 pub pieces_join : (before piece : List ℕ) (index : ℕ) → index < length piece
     → ((before ++ take index piece) ++ (get_or piece index 0 ∷ [])) ++ drop (index + 1) piece
     ≡ before ++ piece
@@ -230,7 +230,7 @@ pieces_join before piece index within =
     ∙ (append_assoc before (take index piece) (drop index piece)
     ∙ ap (λ w. before ++ w) (take-append-drop index piece)))
 
--- the bytes before a piece, a beginning of the piece and the next byte
+-- the bytes before a chunk, a beginning of the chunk and the next byte
 pub pieces_step : (before piece : List ℕ) (index : ℕ) → index < length piece
     → (before ++ take index piece) ++ (get_or piece index 0 ∷ []) ≡ before ++ take (index + 1) piece
 pieces_step before piece index within =

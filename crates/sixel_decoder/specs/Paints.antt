@@ -33,7 +33,7 @@ least_paints (_ ∷ older) = least_paints older
 abbrev pub least_count : History → ℕ
 least_count history = min (least_paints history) 0xffff_ffff_ffff_ffff
 
--- how many closed sixels the payload of a control string has
+-- how many closed sixels the payload of a DCS sequence has
 abbrev pub stage_sixels : Stage → ℕ
 stage_sixels Heading = 0
 stage_sixels (Failing fault) = 0

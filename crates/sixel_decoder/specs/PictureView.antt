@@ -1,5 +1,5 @@
--- The image of a picture, apart from where its bytes lie: pixels, sizes, pixel shape and background
--- mode. Which image a payload has, by DEC's manual, is defined in Payload of sixel_base.
+-- The image of a decoded payload, apart from where its bytes are stored: pixels, sizes, pixel shape
+-- and background mode. Which image that is, by DEC's manual, is in Payload of sixel_base.
 use Rattle.sixel_base.specs.Payload.{Image}
 use Rattle.sixel_decoder.specs.declared.decoded_payload.DecodedPayload.{DecodedPayload}
 

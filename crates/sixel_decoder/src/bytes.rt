@@ -1,4 +1,4 @@
-//! The classes of the bytes of a DCS sequence, from DEC's account of the C0 and C1 controls.
+//! The classes of the bytes of a DCS sequence, by DEC's C0 and C1 controls.
 //!
 //! Each class tests for printable bytes first, because nearly all bytes of a payload are printable.
 

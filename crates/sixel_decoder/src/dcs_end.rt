@@ -1,4 +1,4 @@
-//! The end of a DCS sequence: how it ends after its payload, and how many bytes are its own.
+//! The end of a DCS sequence after its payload, and how many bytes belong to it.
 
 ghost use Rattle.std.specs.Prelude.{◌≡◌, ◌+◌, ◌≤◌, ◌++◌, List, ℕ, length, Some};
 ghost use Rattle.sixel_base.specs.Bytes.{count, first_terminator};
@@ -10,7 +10,7 @@ ghost use Rattle.sixel_decoder.specs.inside.DcsParser.{GoesTo};
 use crate::bytes::tail;
 use sixel_base::status::{SixelDcsFeedResult, SixelDcsFeedStatus};
 
-/// Returns the result of a feed whose payload has ended: `consumed` bytes of the chunk are its own.
+/// Returns the result of a feed whose payload has ended after `consumed` bytes.
 pub fn end_now(
     ended: Option<SixelDcsFeedStatus>,
     terminator: u8,

@@ -40,7 +40,9 @@ impl DcsState {
         }
     }
 
-    /// Drops what was read. Out of line: inlined, LLVM clears the moved value on every feed.
+    /// Drops what was read.
+    ///
+    /// Out of line: inlined, LLVM clears the moved value on every feed.
     #[cold]
     #[inline(never)]
     pub fn fail(&mut self)
@@ -114,7 +116,7 @@ impl DcsParser {
         }
     }
 
-    /// Reads a chunk up to where the payload begins, and returns how many bytes that are.
+    /// Reads a chunk up to the payload, and returns how many bytes that are.
     fn read_head(&mut self, chunk: &[u8]) -> Result<usize>
         ensures decoder { self.new.decoder ≡ self.old.decoder }
         ensures ended { self.new.ended ≡ self.old.ended }

@@ -1,4 +1,4 @@
-//! The reader of a DCS sequence in chunks: the bytes so far, and the parser that has read them.
+//! The reader of a DCS sequence in chunks: the bytes so far, and their parser.
 //!
 //! The contracts of its calls are the records of `DcsCalls`.
 

@@ -55,7 +55,9 @@ impl Header {
     }
 }
 
-/// Reads the header at the front of the bytes, and returns its settings and its length with `q`.
+/// Reads the header at the front of the bytes, up to its `q`.
+///
+/// It returns the settings and the length of the header with `q`.
 ///
 /// Bytes that end before the `q` are rejected.
 pub fn read_header(bytes: &[u8]) -> Result<(DcsSettings, usize)>
@@ -75,7 +77,9 @@ pub fn read_header(bytes: &[u8]) -> Result<(DcsSettings, usize)>
     Err(SixelError::missing_command())
 }
 
-/// Returns where the bytes after the first introducer begin: DCS as one byte, or as ESC and `P`.
+/// Returns where the bytes after the first introducer begin.
+///
+/// The introducer is DCS as one byte, or as ESC and `P`.
 pub fn introducer_end(bytes: &[u8]) -> Option<usize>
     ensures within { IfSome result (λ start. start ≤ length bytes.now) }
     ensures found { IfSome result (λ start.
@@ -92,7 +96,9 @@ pub fn introducer_end(bytes: &[u8]) -> Option<usize>
     None
 }
 
-/// Returns the settings of a header's parameters P1, P2 and P3. Further ones have no effect.
+/// Returns the settings of a header's parameters P1, P2 and P3.
+///
+/// Further parameters have no effect.
 fn settings(parameters: &Parameters) -> DcsSettings
     ensures { (text : List ℕ) → Keeps parameters.now text → result ≡ settings_of text }
 {

@@ -1,4 +1,4 @@
-//! SIXEL decoding: the readers of a payload and of a DCS sequence, and the painter that they feed.
+//! SIXEL decoding: the readers of payloads and DCS sequences, and their painter.
 //!
 //! The decoder's registers from one image to the next are stored by `icy_sixel`.
 #![tactic(auto)]

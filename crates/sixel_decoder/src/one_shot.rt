@@ -1,4 +1,6 @@
-//! Decoding in one call: a payload, or the first DCS sequence in some bytes.
+//! The decoding of a payload, or of the first DCS sequence in bytes, in one call.
+//!
+//! The contracts of both calls are the record of `OneShotCalls`.
 
 ghost use Rattle.std.specs.Prelude.{◌≡◌, IfOk, []};
 ghost use Rattle.sixel_base.specs.Decoder.{origin_of};
@@ -18,7 +20,7 @@ use sixel_base::settings::DcsSettings;
 use sixel_base::state::DecoderState;
 use std::alloc::Global;
 
-/// Decodes the first DCS sequence in the bytes, or all of them as a payload if there is none.
+/// Decodes the first DCS sequence in the bytes, or all of them as a payload.
 pub fn decode_found(alloc: Global, decoder: DecoderState, bytes: &[u8]) -> Result<DecodedPayload>
     ensures decoded { IsDecoded picture_value decoder (found bytes.now) result }
     ensures registers { IfOk result (λ picture.

@@ -202,7 +202,9 @@ impl Painter {
         self.across += 1;
     }
 
-    /// Sets the span of the next sixel, where 0 means 1. Other commands do not change it.
+    /// Sets the span of the next sixel, where 0 means 1.
+    ///
+    /// Other commands do not change it.
     #[inline(never)]
     pub fn repeat(&mut self, parameters: &Parameters) -> Result<()>
         ensures { (o : Origin) (h : History) (text : List ℕ) → Keeps parameters.now text

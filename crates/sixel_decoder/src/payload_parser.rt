@@ -1,4 +1,4 @@
-//! The parser of a payload's bytes: the command that is open, and its parameters so far.
+//! The parser of a payload: the open command, and its parameters so far.
 //!
 //! A command takes effect when it is closed: by the next byte that does not continue it, by the
 //! terminator, or by the end. So a chunk may end within a command.
@@ -92,7 +92,9 @@ impl PayloadParser {
         self.read_chunk(chunk)
     }
 
-    /// Reads a byte that cannot fail, and returns whether it is one. Any other changes nothing.
+    /// Reads a byte that cannot fail, and returns whether it is one.
+    ///
+    /// Any other byte changes nothing.
     ///
     /// It continues the open command, opens one, or is a sixel in a column that all six rows have.
     #[inline(always)]
@@ -117,7 +119,9 @@ impl PayloadParser {
         true
     }
 
-    /// Draws a sixel that cannot fail, and returns whether it is one. Any other changes nothing.
+    /// Draws a sixel that cannot fail, and returns whether it is one.
+    ///
+    /// Any other byte changes nothing.
     ///
     /// An open color command is closed first.
     #[inline(always)]
@@ -213,7 +217,7 @@ impl PayloadParser {
         }
     }
 
-    /// Opens the command at the front, and returns how many bytes it has with its digits.
+    /// Opens the command at the front, and returns its length with its digits.
     #[inline(always)]
     fn open_numbered(&mut self, bytes: &[u8]) -> usize
         requires some { 0 < length bytes.now }

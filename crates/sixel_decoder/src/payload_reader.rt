@@ -1,4 +1,4 @@
-//! The reader of a payload in chunks: the bytes so far, and the parser that has read them.
+//! The reader of a payload in chunks: the bytes so far, and their parser.
 //!
 //! The contracts of its calls are the records of `PayloadCalls`.
 
@@ -55,7 +55,9 @@ impl PayloadReader {
         }
     }
 
-    /// Reads a chunk up to the first terminator of all chunks. After an error every feed fails.
+    /// Reads a chunk up to the first terminator of all chunks.
+    ///
+    /// After an error every feed fails.
     #[inline(always)]
     pub fn feed(&mut self, chunk: &[u8]) -> Result<SixelFeedResult>
         ensures { IsFed self.old self.new chunk.now result }
@@ -124,7 +126,9 @@ impl PayloadReader {
     }
 }
 
-/// Drops what was read. Out of line: inlined, LLVM clears the moved value on every feed.
+/// Drops what was read.
+///
+/// Out of line: inlined, LLVM clears the moved value on every feed.
 #[cold]
 #[inline(never)]
 fn drop_parser(parser: &mut Option<PayloadParser>)

@@ -1,4 +1,4 @@
-//! What raster attributes change: the pixel aspect ratio, the height to crop to, and the extent.
+//! Raster attributes: the pixel aspect ratio, the height to crop to, and the extent.
 
 ghost use Rattle.std.specs.Prelude.{◌≡◌, ◌*◌, ◌≤◌, List, ℕ, length, max};
 ghost use Rattle.std.specs.Prelude.{nat_le, nat_lt, if◌then◌else◌, MatchResult};
@@ -12,7 +12,9 @@ use sixel_base::parameters::Parameters;
 use sixel_base::settings::PixelAspectRatio;
 use sixel_base::{Result, SixelError};
 
-/// Returns the pixel aspect ratio after raster attributes: `now` if they have one field.
+/// Returns the pixel aspect ratio after raster attributes.
+///
+/// It is `now` if they have one field.
 pub fn shape(
     parameters: &Parameters,
     now: PixelAspectRatio,
@@ -28,7 +30,9 @@ pub fn shape(
     ratio_from(other, parameters.get(0).max(1), parameters.get(1).max(1))
 }
 
-/// Returns the ratio of a pixel's height to its width, or `other` for any but the four.
+/// Returns the ratio of a pixel's height to its width.
+///
+/// It is `other` unless the ratio is one of the four.
 fn ratio_from(other: PixelAspectRatio, vertical: u32, horizontal: u32) -> PixelAspectRatio
     ensures { result ≡ shape_from other vertical horizontal }
 {

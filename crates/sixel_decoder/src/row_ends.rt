@@ -1,4 +1,4 @@
-//! How far each of six rows must extend for a run of sixels: to the run's last set pixel there.
+//! The ends of a run of sixels: its last set pixel in each of six rows.
 
 ghost use Rattle.std.specs.Prelude.{◌≡◌, ℕ, ◌+◌, ◌-◌, ◌<◌, ◌≤◌, length, slice_index};
 ghost use Rattle.std.specs.Prelude.{if◌then◌else◌};
@@ -8,7 +8,7 @@ ghost use Rattle.sixel_decoder.specs.inside.Runs.{IsSixelByte, IsRun, end_of, co
 /// The most sixels of a short run, of which each is looked at.
 const SHORT_RUN: usize = 12;
 
-/// Returns how many columns each of the six rows needs for a run that begins at a column.
+/// Returns how many columns each row needs for a run that begins at a column.
 pub fn columns_of(run: &[u8], from: usize) -> [usize; 6]
     requires sixels { IsRun run.now }
     requires within { from + length run.now ≤ 1000000 }
@@ -24,7 +24,7 @@ pub fn columns_of(run: &[u8], from: usize) -> [usize; 6]
     columns
 }
 
-/// Returns for each bit one more than the index of the last sixel that has it, or 0.
+/// Returns for each bit the index after the last sixel that has it, or 0.
 fn ends_of(run: &[u8]) -> [usize; 6]
     requires { IsRun run.now }
     ensures ends { (bit : ℕ) → bit < 6 → slice_index result bit ≡ end_of bit run.now }
@@ -97,7 +97,7 @@ fn has_bit(sixel: u8, bit: usize) -> bool
     ((sixel - 0x3f) >> bit) % 2 == 1
 }
 
-/// Returns how many columns a row needs for a run that begins at a column and has this end.
+/// Returns how many columns a row needs for a run with this start and this end.
 #[inline(always)]
 fn column_of(from: usize, end: usize) -> usize
     requires { from + end ≤ 1000000 }

@@ -1,4 +1,4 @@
-//! Runs of sixels of one column each, which are drawn at once, four sixels at a time.
+//! Runs of sixels of one column each, which are drawn four sixels at a time.
 
 ghost use Rattle.std.specs.Prelude.{◌≡◌, ℕ, ◌+◌, ◌-◌, ◌*◌, ◌<◌, ◌≤◌, IsTrue, IfOk, IfErr, OnOk};
 ghost use Rattle.std.specs.Prelude.{true, false, length, slice_index, take, drop};
@@ -38,7 +38,9 @@ pub struct Run<'a> {
 }
 
 impl Run<'_> {
-    /// Grows each of the six rows to its last set pixel, and returns how many columns all six have.
+    /// Grows each of the six rows to its last set pixel.
+    ///
+    /// It returns how many columns all six rows have.
     #[inline(always)]
     pub fn grow_rows(&self, canvas: &mut Canvas) -> Result<usize>
         ensures grown { OnOk result
@@ -57,7 +59,9 @@ impl Run<'_> {
         grow_short_rows(canvas, self.top, self.column, self.sixels)
     }
 
-    /// Draws the run on a canvas whose rows have its set pixels, and all six so many columns.
+    /// Draws the run on a canvas whose rows are long enough for its set pixels.
+    ///
+    /// All six rows have at least the given number of columns.
     #[inline(always)]
     pub fn draw(&self, canvas: &mut Canvas, common: usize)
         requires common { (k : ℕ) → k < 6 → common ≤ reached canvas.old (self.now.top + k) }
@@ -77,8 +81,8 @@ impl Run<'_> {
     {
         let by_four = self.columns_by_four(common);
         let mut done = 0;
-        // Only where many follow: short runs are left to the second loop, so that the branch
-        // predictor sees the end of one loop alone.
+        // Only if many sixels follow: the second loop draws short runs, because the branch
+        // predictor then sees the end of one loop alone.
         'fours: while done + 8 <= by_four {
             canvas.block(self.column + done, self.top, self.four_at(done), self.color);
             done += 4;
@@ -225,7 +229,9 @@ pub fn run_len(bytes: &[u8]) -> usize
     len
 }
 
-/// Returns how many of sixteen bytes from an index on are sixels before the first that is none.
+/// Returns how many of sixteen bytes from an index on are sixels.
+///
+/// It counts up to the first byte that is none.
 #[inline(always)]
 fn sixels_in_lanes(bytes: &[u8], at: usize) -> usize
     requires { at + 16 ≤ length bytes.now }

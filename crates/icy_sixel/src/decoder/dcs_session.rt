@@ -1,4 +1,4 @@
-//! The session that decodes one control string as it comes.
+//! The session that decodes one DCS sequence in chunks.
 //!
 //! The contracts of its calls are the records of `DcsCalls` in `sixel_decoder`.
 
@@ -15,10 +15,10 @@ use sixel_base::{Result, SixelError};
 use sixel_decoder::DcsReader;
 use std::alloc::Global;
 
-/// A control string that is decoded as it comes.
+/// A DCS sequence that is decoded in chunks.
 ///
-/// It borrows its decoder until it is finished, aborted or dropped, and the decoder's registers
-/// change by a successful [`finish`](Self::finish) alone.
+/// The session borrows its decoder until it is finished, aborted or dropped. Only a successful
+/// [`finish`](Self::finish) changes the decoder's registers.
 pub struct SixelDcsStreamDecoder<'a, P = DcsReader> {
     owner: &'a mut SixelDecoder,
     reader: P,
@@ -40,7 +40,7 @@ impl<'a, P: Drop> Drop for SixelDcsStreamDecoder<'a, P> {
 impl<'a> SixelDcsStreamDecoder<'a> {
     ghost use Rattle.icy_sixel.specs.Sessions.{sequence, sequence_owner};
 
-    /// A session that was fed nothing.
+    /// Creates a session that was fed nothing.
     pub(crate) fn begin(alloc: Global, owner: &'a mut SixelDecoder) -> Self
         ensures owner { (sequence_owner result).ghost_name ≡ owner.entry.ghost_name }
         ensures registers { (sequence_owner result).now ≡ owner.old }
@@ -53,13 +53,15 @@ impl<'a> SixelDcsStreamDecoder<'a> {
         }
     }
 
-    /// Reads a piece as far as the control string goes; what stands after it is left to the caller.
+    /// Reads a chunk up to the end of the DCS sequence, and consumes no byte after it.
     ///
-    /// A piece may end anywhere. Once the string has ended, each later feed consumes nothing and
-    /// gives the same status. A refusal is
-    /// [`SixelError::NoSixelData`](crate::SixelError::NoSixelData) where the string does not begin
-    /// with DCS, as one byte or as ESC and `P`, or what is wrong with its header or payload; after
-    /// it each feed answers `SixelError::InvalidData("DCS stream decoder has failed")`.
+    /// A chunk can end anywhere. After the end of the sequence each later feed consumes nothing and
+    /// returns the same status.
+    ///
+    /// The error is [`SixelError::NoSixelData`](crate::SixelError::NoSixelData) if the bytes do not
+    /// begin with DCS, as one byte or as ESC and `P`. Else it is the first error of the header or
+    /// the payload. After an error each later feed returns
+    /// `SixelError::InvalidData("DCS stream decoder has failed")`.
     pub fn feed(&mut self, piece: &[u8]) -> Result<SixelDcsFeedResult>
         ensures owner { (sequence_owner self.new).ghost_name
             ≡ (sequence_owner self.old).ghost_name }
@@ -69,8 +71,9 @@ impl<'a> SixelDcsStreamDecoder<'a> {
         self.reader.feed(piece)
     }
 
-    /// How many pixels were copied or filled so far, to grow the rows of the payload's canvas; 0
-    /// before the payload and after a refusal. It takes no memory.
+    /// Returns how many pixels were copied or filled to grow the rows of the canvas.
+    ///
+    /// It is 0 before the payload and after an error. The call does not allocate.
     ///
     /// The bounds are those of a payload session, by
     /// [`canvas_writes`](crate::SixelStreamDecoder::canvas_writes).
@@ -80,8 +83,9 @@ impl<'a> SixelDcsStreamDecoder<'a> {
         self.reader.writes()
     }
 
-    /// How many pixels sixels of the payload have painted so far, at most; 0 before the payload and
-    /// after a refusal. It takes no memory.
+    /// Returns how many pixels sixels of the payload have painted at most.
+    ///
+    /// It is 0 before the payload and after an error. The call does not allocate.
     ///
     /// The bounds are those of a payload session, by
     /// [`canvas_paints`](crate::SixelStreamDecoder::canvas_paints).
@@ -91,10 +95,10 @@ impl<'a> SixelDcsStreamDecoder<'a> {
         self.reader.paints()
     }
 
-    /// Whether the header is read and the payload has begun; `false` after a refusal.
+    /// Whether the payload has begun and no feed has failed.
     ///
-    /// A string that is refused before that, as one with another command than `q`, has no SIXEL
-    /// data.
+    /// A sequence that is rejected before its payload, as one with another command than `q`, has
+    /// no SIXEL data.
     pub fn in_payload(&self) -> bool
         ensures accepted { (sequence self.now).is_refused ≡ false
             → result ≡ dcs_in_payload (sequence self.now).bytes }
@@ -103,22 +107,23 @@ impl<'a> SixelDcsStreamDecoder<'a> {
         self.reader.in_payload()
     }
 
-    /// The width and the height that the image has so far, as of a payload session, by
-    /// [`size_so_far`](crate::SixelStreamDecoder::size_so_far). `None` before the payload and after
-    /// a refusal. It takes no memory.
+    /// Returns the width and the height of the image so far, as a payload session does.
+    ///
+    /// See [`size_so_far`](crate::SixelStreamDecoder::size_so_far). It is `None` before the payload
+    /// and after an error. The call does not allocate.
     pub fn size_so_far(&self) -> Option<(usize, usize)>
         ensures { IsSizeSoFar (sequence self.now) result }
     {
         self.reader.size_so_far()
     }
 
-    /// Gives the image of a control string that has ended, and then gives the decoder the registers
-    /// that its payload defined.
+    /// Returns the image of a sequence that has ended, and stores its registers.
     ///
-    /// Before the end it is refused with
-    /// `SixelError::InvalidData("incomplete SIXEL DCS sequence")`. A string that was cut short has
-    /// the image of the payload that came: as [`decode`](SixelDecoder::decode) of the bytes that were
-    /// fed, whatever comes after them. A refusal leaves the decoder as it was.
+    /// The registers are stored in the decoder, because the next image starts with them.
+    /// Before the end the error is `SixelError::InvalidData("incomplete SIXEL DCS sequence")`. An
+    /// interrupted sequence has the image of its payload so far: [`decode`](SixelDecoder::decode)
+    /// of the bytes fed returns the same image, whatever bytes follow. After an error the decoder
+    /// is unchanged.
     pub fn finish(self) -> Result<SixelImage>
         ensures finished { IsFinished image_value (λ _. self.exit.0.now.registers)
             (sequence self.entry) result }
@@ -131,7 +136,7 @@ impl<'a> SixelDcsStreamDecoder<'a> {
         Ok(SixelImage::from_picture(picture))
     }
 
-    /// Ends the session, and changes nothing, as dropping it does.
+    /// Ends the session without changing the decoder, as dropping it does.
     pub fn abort(self)
         ensures { self.exit.0.now ≡ (sequence_owner self.entry).now }
     {

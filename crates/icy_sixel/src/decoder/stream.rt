@@ -1,4 +1,4 @@
-//! The session that decodes one payload as it comes.
+//! The session that decodes one payload in chunks.
 //!
 //! The contracts of its calls are the records of `PayloadCalls` in `sixel_decoder`.
 
@@ -15,10 +15,10 @@ use sixel_base::{Result, SixelError};
 use sixel_decoder::PayloadReader;
 use std::alloc::Global;
 
-/// A payload that is decoded as it comes.
+/// A payload that is decoded in chunks.
 ///
-/// It borrows its decoder until it is finished, aborted or dropped, and the decoder's registers
-/// change by a successful [`finish`](Self::finish) alone.
+/// The session borrows its decoder until it is finished, aborted or dropped. Only a successful
+/// [`finish`](Self::finish) changes the decoder's registers.
 pub struct SixelStreamDecoder<'a, F = PayloadReader> {
     owner: &'a mut SixelDecoder,
     reader: F,
@@ -40,7 +40,7 @@ impl<'a, F: Drop> Drop for SixelStreamDecoder<'a, F> {
 impl<'a> SixelStreamDecoder<'a> {
     ghost use Rattle.icy_sixel.specs.Sessions.{payload, payload_owner};
 
-    /// A session that was fed nothing.
+    /// Creates a session that was fed nothing.
     pub(crate) fn begin(alloc: Global, owner: &'a mut SixelDecoder, settings: DcsSettings) -> Self
         ensures owner { (payload_owner result).ghost_name ≡ owner.entry.ghost_name }
         ensures registers { (payload_owner result).now ≡ owner.old }
@@ -53,12 +53,13 @@ impl<'a> SixelStreamDecoder<'a> {
         }
     }
 
-    /// Reads a piece up to its first terminator, which is left to the caller.
+    /// Reads a chunk up to its first terminator, which it does not consume.
     ///
-    /// A piece may end anywhere, also within a number: how the payload is cut has no effect on what
-    /// it means. After a terminator each later feed consumes nothing and gives the same status. A
-    /// piece is refused as soon as the bytes so far are, for the same reasons as by
-    /// [`decode_from_dcs`](SixelDecoder::decode_from_dcs); after a refusal each later feed answers
+    /// A chunk can end anywhere, also inside a number. The chunk boundaries have no effect on the
+    /// image. After a terminator each later feed consumes nothing and returns the same status.
+    ///
+    /// A feed fails as soon as the bytes so far are rejected. The errors are those of
+    /// [`decode_from_dcs`](SixelDecoder::decode_from_dcs). After an error each later feed returns
     /// `SixelError::InvalidData("stream decoder has failed")`.
     pub fn feed(&mut self, piece: &[u8]) -> Result<SixelFeedResult>
         ensures owner { (payload_owner self.new).ghost_name ≡ (payload_owner self.old).ghost_name }
@@ -68,46 +69,49 @@ impl<'a> SixelStreamDecoder<'a> {
         self.reader.feed(piece)
     }
 
-    /// How many pixels were copied or filled so far, to grow the rows of the canvas; 0 after a
-    /// refusal. Painting over pixels doesn't count. It takes no memory.
+    /// Returns how many pixels were copied or filled to grow the rows of the canvas.
     ///
-    /// It is from once to three times the area that the closed sixels reach, which is the sum over
-    /// all rows of the greatest right edge of a sixel that covers a pixel of the row. The rows
-    /// together have room for at most twice that area.
+    /// It is 0 after an error. Painting over pixels does not count. The call does not allocate.
+    ///
+    /// The number is from once to three times the painted area of the closed sixels. That area is
+    /// the sum over all rows of the greatest right edge of a sixel that covers a pixel of the row.
+    /// The rows together have capacity for at most twice that area.
     pub fn canvas_writes(&self) -> u64
         ensures { IsWriteCount (payload self.now) result }
     {
         self.reader.writes()
     }
 
-    /// How many pixels sixels have painted so far, at most, where a wide one over pixels that are
-    /// there may be kept as the colors of its blocks; 0 after a refusal. It takes no memory.
+    /// Returns how many pixels sixels have painted at most.
+    ///
+    /// It is 0 after an error. The call does not allocate. A wide sixel over pixels that exist can
+    /// be stored as the colors of its blocks.
     ///
     /// Each closed sixel with a set pixel counts at least six for each of its columns. One of more
-    /// than 258 columns may count less: six for each whole 128 columns, and 1536 for two ends.
-    /// The number is at most three times the area that the closed sixels reach and 4602 for each of
-    /// them, which is two ends and 511 blocks in six rows. At the greatest number it stays. Where
-    /// memory for the colors of blocks was refused, a sixel is counted as if it had them.
+    /// than 258 columns can count less: six for each whole 128 columns, and 1536 for two ends.
+    /// The number is at most three times the painted area of the closed sixels, and 4602 for each
+    /// of them, which is two ends and 511 blocks in six rows. It saturates. If an allocation for
+    /// the colors of blocks failed, a sixel is counted as if it had them.
     pub fn canvas_paints(&self) -> u64
         ensures { IsPaintCount (payload self.now) result }
     {
         self.reader.paints()
     }
 
-    /// The width and the height that the image has so far: of the closed sixels and raster
-    /// attributes, at least 1 each. `None` after a refusal. It takes no memory.
+    /// Returns the width and the height of the image so far, unless a feed has failed.
     ///
-    /// The image of the whole payload is at least as large.
+    /// They are those of the closed sixels and raster attributes, at least 1 each. The image of the
+    /// whole payload is at least as large. The call does not allocate.
     pub fn size_so_far(&self) -> Option<(usize, usize)>
         ensures { IsSizeSoFar (payload self.now) result }
     {
         self.reader.size_so_far()
     }
 
-    /// Ends the payload, gives its image, and then gives the decoder the registers that it defined.
+    /// Ends the payload, returns its image, and stores its registers in the decoder.
     ///
-    /// It need not have met a terminator; an open command then ends here, and may be refused. A
-    /// refusal leaves the decoder as it was.
+    /// No terminator is required. An open command ends here, and can be rejected. After an error
+    /// the decoder is unchanged.
     pub fn finish(self) -> Result<SixelImage>
         ensures finished { IsFinished image_value (λ _. self.exit.0.now.registers)
             (payload self.entry) result }
@@ -120,11 +124,10 @@ impl<'a> SixelStreamDecoder<'a> {
         Ok(SixelImage::from_picture(picture))
     }
 
-    /// As [`finish`](Self::finish), with the number of pixels that were copied or filled for the
-    /// image: [`canvas_writes`](Self::canvas_writes), and the image's own as they are packed.
+    /// Finishes as [`finish`](Self::finish) does, and returns the pixel writes too.
     ///
-    /// It is at most four times the number of pixels of the extent, which an image has that is not
-    /// cropped.
+    /// The number is [`canvas_writes`](Self::canvas_writes), plus the pixels of the image as they
+    /// are packed. It is at most four times the number of pixels of the uncropped image.
     pub fn finish_counted(self) -> Result<(SixelImage, u64)>
         ensures finished { IsFinished (λ counted. image_value counted.0)
             (λ _. self.exit.0.now.registers) (payload self.entry) result }
@@ -141,7 +144,7 @@ impl<'a> SixelStreamDecoder<'a> {
         Ok((image, count))
     }
 
-    /// Ends the session, and changes nothing, as dropping it does.
+    /// Ends the session without changing the decoder, as dropping it does.
     pub fn abort(self)
         ensures { self.exit.0.now ≡ (payload_owner self.entry).now }
     {
@@ -149,7 +152,7 @@ impl<'a> SixelStreamDecoder<'a> {
     }
 }
 
-/// A number of pixels that were written, and an image's own as they are packed.
+/// Adds the pixels of an image, as they are packed, to a number of pixel writes.
 fn with_packed(writes: u64, image: &SixelImage) -> u64
     requires { writes + image.now.width * image.now.height < 18446744073709551616 }
     ensures { result ≡ writes + image.now.width * image.now.height }

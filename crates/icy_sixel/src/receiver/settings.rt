@@ -7,7 +7,7 @@ ghost use Rattle.sixel_base.specs.Decoder.{limit_of};
 use crate::receiver::SixelReceiver;
 
 impl SixelReceiver {
-    /// The color of a register of the decoder: red, green and blue, a byte each.
+    /// Returns the color of a register of the decoder: red, green and blue, a byte each.
     pub fn register(&self, register: u8) -> [u8; 3]
         ensures { result ≡ slice_index_or self.now.decoder.registers register [] }
     {
@@ -37,9 +37,9 @@ impl SixelReceiver {
         self.decoder.reset_palette();
     }
 
-    /// Sets whether the decoder crops images, as
-    /// [`SixelDecoder::set_raster_crop`](crate::SixelDecoder::set_raster_crop) does.
+    /// Sets whether the decoder crops images.
     ///
+    /// It does what [`SixelDecoder::set_raster_crop`](crate::SixelDecoder::set_raster_crop) does.
     /// An open image keeps the setting that it began with.
     pub fn set_raster_crop(&mut self, on: bool)
         ensures decoder { self.new.decoder ≡ record self.old.decoder { raster_crop = on } }
@@ -48,9 +48,9 @@ impl SixelReceiver {
         self.decoder.set_raster_crop(on);
     }
 
-    /// Sets how many pixels an image may have, as
-    /// [`SixelDecoder::set_pixel_limit`](crate::SixelDecoder::set_pixel_limit) does.
+    /// Sets how many pixels an image can have.
     ///
+    /// It does what [`SixelDecoder::set_pixel_limit`](crate::SixelDecoder::set_pixel_limit) does.
     /// An open image keeps the setting that it began with.
     pub fn set_pixel_limit(&mut self, pixels: usize)
         ensures decoder { self.new.decoder

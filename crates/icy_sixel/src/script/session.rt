@@ -34,7 +34,7 @@ impl<'a> Session<'a> {
         }
     }
 
-    /// Plays the session on the image that a receiver has begun, and stores its decoder.
+    /// Plays the session on the open image of a receiver, and stores its decoder.
     pub fn play(&self, mut receiver: SixelReceiver, decoder: &mut SixelDecoder) -> Outcome
         requires begun { receiver.image ≡ begun receiver.image.form receiver.decoder }
         requires open { is_open receiver.image.form ≡ true }
@@ -61,7 +61,7 @@ impl<'a> Session<'a> {
         }
     }
 
-    /// Feeds the chunks up to the end of the image, and returns the sum of what they consumed.
+    /// Feeds the chunks up to the end of the image, and returns the bytes consumed.
     fn feed(&self, receiver: &mut SixelReceiver) -> Result<Received>
         requires open { is_open receiver.old.image.form ≡ true }
         requires fresh { receiver.old.image.bytes ≡ [] }

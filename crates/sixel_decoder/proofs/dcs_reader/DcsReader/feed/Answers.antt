@@ -10,7 +10,7 @@ use Rattle.sixel_decoder.proofs.Sessions.{MatchBool-from_each, followed_sound, s
 use Rattle.sixel_decoder.proofs.Sessions.{string_refused_with, string_same, string_within}
 use Rattle.sixel_decoder.proofs.dcs_reader.DcsReader.feed.Goals as goal
 
--- a session that a feed did not refuse was accepted before it
+-- a session that a feed did not reject was accepted before it
 accepted : (c : goal.In-Ok) → is_failed c.self.inside.parser.state ≡ false
 accepted c = false_from_ne_true (is_failed c.self.inside.parser.state) c.in-Ok.ensures.failed
 
