@@ -7,11 +7,11 @@ use std::alloc::Global;
 pub fn decode_pieces(alloc: Global) -> Result<SixelImage> {
     let mut decoder = SixelDecoder::new();
     let mut session = decoder.begin_dcs(alloc);
-    // A piece may end anywhere, also inside a number.
+    // A chunk can end anywhere, also inside a number.
     session.feed(b"\x1bP9;1q#1;2;100;0;0!1")?;
-    // 4 bytes are consumed, and the status is Complete: the rest is the caller's.
+    // 4 bytes are consumed, and the status is Complete: the rest is left.
     session.feed(b"2~\x1b\\the terminal's own")?;
-    // 12x6 pixels, all red. The decoder now knows register 1.
+    // 12x6 pixels, all red. The decoder now has register 1.
     session.finish()
 }
 
@@ -19,7 +19,7 @@ pub fn decode_pieces(alloc: Global) -> Result<SixelImage> {
 pub fn decode_payload_pieces(alloc: Global, decoder: &mut SixelDecoder) -> Result<SixelImage> {
     let mut session = decoder.begin_frame(alloc, DcsSettings::default())?;
     session.feed(b"#1!1")?;
-    // 2 bytes are consumed, and the status is Terminated(0x1b): a terminator is the caller's.
+    // 2 bytes are consumed, and the status is Terminated(0x1b): the terminator is left.
     session.feed(b"2~\x1b\\")?;
     session.finish()
 }
