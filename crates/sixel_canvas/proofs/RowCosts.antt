@@ -11,12 +11,12 @@ use Rattle.sixel_canvas.specs.inside.Canvas.{IsBounded, reached}
 use Rattle.sixel_canvas.specs.inside.Drawn.{Run, run}
 use Rattle.sixel_canvas.specs.inside.Paints.{counted, ends_and_tags}
 use Rattle.sixel_canvas.specs.inside.RowCanvas.{RowCanvasState, HasCost, IsDrawnBy, row_edge}
-use Rattle.sixel_canvas.specs.inside.RowCanvas.{runs_most}
+use Rattle.sixel_canvas.specs.inside.RowCanvas.{row_canvas_work, runs_most}
 use Rattle.sixel_canvas.proofs.Totals.{total-past, total-same}
 
 -- What a canvas has cost follows from its runs.
 pub drawn_cost : (canvas : RowCanvasState) (runs : List Run) (n : ℕ) → IsDrawnBy canvas runs
-    → ((row : ℕ) → n ≤ row → row_edge runs row ≡ 0) → HasCost canvas runs n
+    → ((row : ℕ) → n ≤ row → row_edge runs row ≡ 0) → HasCost (row_canvas_work canvas) runs n
 drawn_cost canvas runs n is none =
     let rows = max (length canvas.sheet.rows) n in
     let same = total-same (reached canvas.sheet) (row_edge runs) rows is.edges in
@@ -31,7 +31,7 @@ drawn_cost canvas runs n is none =
     }
 
 -- So a canvas that nothing was drawn on has cost nothing.
-pub no_cost : (canvas : RowCanvasState) → IsDrawnBy canvas [] → HasCost canvas [] 0
+pub no_cost : (canvas : RowCanvasState) → IsDrawnBy canvas [] → HasCost (row_canvas_work canvas) [] 0
 no_cost canvas is = drawn_cost canvas [] 0 is (λ row _. refl)
 
 -- Runs of at most this many columns are counted as at most two ends and their tags, each.

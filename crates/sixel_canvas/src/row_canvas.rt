@@ -1,8 +1,6 @@
 //! A canvas of rows that grow as far as they are drawn on.
 ghost use Rattle.std.specs.Prelude.{◌≡◌, ◌≤◌};
-ghost use Rattle.sixel_canvas.specs.inside.Canvas.{IsBounded};
-ghost use Rattle.sixel_canvas.specs.inside.RowCanvas.{IsDrawnBy, row_canvas_paints};
-ghost use Rattle.sixel_canvas.specs.inside.RowCanvas.{row_canvas_shown, row_canvas_writes};
+ghost use Rattle.sixel_canvas.specs.inside.RowCanvas.{IsDrawnBy, row_canvas_shown, row_canvas_work};
 
 use crate::drawing::Canvas;
 use crate::tagged::TaggedCanvas;
@@ -38,6 +36,8 @@ impl Canvas for RowCanvas {
     ghost top = { λ canvas. canvas.top };
 
     ghost held = { λ canvas. canvas.held };
+
+    ghost work = { row_canvas_work };
 
     ghost paid = { IsDrawnBy };
 
@@ -96,7 +96,7 @@ impl RowCanvas {
     ///
     /// Painting does not count, nor does packing.
     pub fn writes(&self) -> u64
-        ensures value { result ≡ row_canvas_writes self.now }
+        ensures value { result ≡ (row_canvas_work self.now).writes }
         ensures at_most { result ≤ 3000000000000 }
     {
         self.sheet.writes()
@@ -106,7 +106,7 @@ impl RowCanvas {
     ///
     /// The number saturates. If an allocation for tags failed, a run counts as if it had them.
     pub fn paints(&self) -> u64
-        ensures { result ≡ row_canvas_paints self.now }
+        ensures { result ≡ (row_canvas_work self.now).paints }
     {
         self.sheet.paints()
     }

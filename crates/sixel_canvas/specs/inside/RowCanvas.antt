@@ -6,7 +6,7 @@ use Rattle.std.specs.Prelude.{List, [], ◌∷◌}
 use Rattle.sixel_base.specs.Picture.{is_struck, total}
 use Rattle.sixel_canvas.specs.inside.Canvas.{CanvasState, IsBounded, canvas_room, canvas_writes}
 use Rattle.sixel_canvas.specs.inside.Canvas.{reached, shown}
-use Rattle.sixel_canvas.specs.inside.Drawn.{Run}
+use Rattle.sixel_canvas.specs.inside.Drawn.{Run, Work}
 use Rattle.sixel_canvas.specs.inside.Paints.{counted, ends_and_tags, least_painted}
 
 -- the rows, the first one of the band, and how many columns of it are drawn on without an
@@ -24,17 +24,14 @@ row_canvas_state sheet top held = record { sheet = sheet; top = top; held = held
 abbrev pub row_canvas_shown : RowCanvasState → ℕ → ℕ → List ℕ
 row_canvas_shown canvas = shown canvas.sheet
 
--- how many pixels were copied or filled to grow the rows
-abbrev pub row_canvas_writes : RowCanvasState → ℕ
-row_canvas_writes canvas = canvas_writes canvas.sheet
-
--- for how many pixels the rows have capacity
-abbrev pub row_canvas_room : RowCanvasState → ℕ
-row_canvas_room canvas = canvas_room canvas.sheet
-
--- how many pixels and tags were painted, at most
-abbrev pub row_canvas_paints : RowCanvasState → ℕ
-row_canvas_paints canvas = canvas.sheet.paints
+-- what it has cost: pixels that were copied or filled to grow the rows, their capacity, and pixels
+-- and tags that were painted, at most
+abbrev pub row_canvas_work : RowCanvasState → Work
+row_canvas_work canvas = record {
+  writes = canvas_writes canvas.sheet;
+  room = canvas_room canvas.sheet;
+  paints = canvas.sheet.paints;
+}
 
 -- what is true of every canvas of rows: no block of the columns that are drawn on without an
 -- allocation has a tag
@@ -70,12 +67,12 @@ pub record IsDrawnBy (canvas : RowCanvasState) (runs : List Run) : Type 0 where
   pub least : counted 0 (runs_least runs) ≤ canvas.sheet.paints
   pub most : canvas.sheet.paints ≤ canvas.sheet.spread + runs_most runs
 
--- What this canvas has cost, by these runs, of which none sets a pixel from row n on: its rows have
--- copied or filled from once to three times the area of their right edges, they have capacity for
--- at most twice that area, and at most three times that area was painted beside the runs' own.
-pub record HasCost (canvas : RowCanvasState) (runs : List Run) (n : ℕ) : Type 0 where
-  pub at_least : total (row_edge runs) n ≤ row_canvas_writes canvas
-  pub at_most : row_canvas_writes canvas ≤ 3 * total (row_edge runs) n
-  pub room : row_canvas_room canvas ≤ 2 * total (row_edge runs) n
-  pub least : counted 0 (runs_least runs) ≤ row_canvas_paints canvas
-  pub most : row_canvas_paints canvas ≤ 3 * total (row_edge runs) n + runs_most runs
+-- What these runs have cost, of which none sets a pixel from row n on: the rows have copied or
+-- filled from once to three times the area of their right edges, they have capacity for at most
+-- twice that area, and at most three times that area was painted beside what the runs count.
+pub record HasCost (work : Work) (runs : List Run) (n : ℕ) : Type 0 where
+  pub at_least : total (row_edge runs) n ≤ work.writes
+  pub at_most : work.writes ≤ 3 * total (row_edge runs) n
+  pub room : work.room ≤ 2 * total (row_edge runs) n
+  pub least : counted 0 (runs_least runs) ≤ work.paints
+  pub most : work.paints ≤ 3 * total (row_edge runs) n + runs_most runs
