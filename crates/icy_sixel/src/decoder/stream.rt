@@ -12,6 +12,7 @@ ghost use Rattle.icy_sixel.specs.ImageView.{image_value};
 use crate::decoder::{DcsSettings, SixelDecoder, SixelFeedResult, SixelFeedStatus};
 use crate::sixel_image::SixelImage;
 use sixel_base::{Result, SixelError};
+use sixel_canvas::row_canvas::RowCanvas;
 use sixel_decoder::PayloadReader;
 use std::alloc::Global;
 
@@ -19,7 +20,7 @@ use std::alloc::Global;
 ///
 /// The session borrows its decoder until it is finished, aborted or dropped. Only a successful
 /// [`finish`](Self::finish) changes the decoder's registers.
-pub struct SixelStreamDecoder<'a, F = PayloadReader> {
+pub struct SixelStreamDecoder<'a, F = PayloadReader<RowCanvas>> {
     owner: &'a mut SixelDecoder,
     reader: F,
 }

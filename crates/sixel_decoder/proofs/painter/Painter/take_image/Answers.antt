@@ -2,6 +2,7 @@ use Rattle.std.proofs.Common.{arith, ◌≡◌, ℕ, ◌≤◌, List, ap, ◌∙
 use Rattle.std.specs.Prelude.{nat_lt, ◌&&◌, if◌then◌else◌}
 use Rattle.sixel_decoder.specs.declared.painter.Painter.{Painter}
 use Rattle.std.proofs.Math.Nat.{mul-le-mul_left}
+use Rattle.std.proofs.lemmas.Result.{err_from_is_err_and}
 use Rattle.sixel_base.specs.Payload.{Image, image_height}
 use Rattle.sixel_base.specs.Picture.{joined, picture}
 use Rattle.sixel_base.specs.Place.{width}
@@ -10,11 +11,11 @@ use Rattle.sixel_base.specs.declared.settings.BackgroundMode.{BackgroundMode}
 use Rattle.sixel_base.specs.declared.settings.PixelAspectRatio.{PixelAspectRatio}
 use Rattle.sixel_base.proofs.Joined.{joined-same}
 use Rattle.sixel_base.specs.Stroke.{pixel, ratio}
-use Rattle.sixel_canvas.specs.inside.Canvas.{shown}
-use Rattle.sixel_decoder.proofs.painter.Painter.pack.Goals as goal
+use Rattle.sixel_canvas.specs.declared.drawing.Canvas.{Ghosts}
+use Rattle.sixel_decoder.proofs.painter.Painter.take_image.Goals as goal
 
 -- no image is higher than its painter's picture
-low : (painter : Painter) (height : ℕ)
+low : {C : Type 0} {canvas : Ghosts C} (painter : Painter C canvas) (height : ℕ)
     → height
     ≡ (if painter.raster_crop && nat_lt 0 painter.raster_height then painter.raster_height
     else painter.height)
@@ -56,19 +57,19 @@ image_of-parts : (pixels pixels' : List ℕ) (width width' height height' : ℕ)
     → image_from pixels width height ratio mode ≡ image_from pixels' width' height' ratio' mode'
 image_of-parts pixels pixels' width width' height height' ratio ratio' mode mode' a b c d e = cc
 
-pub returns-in-Ok : goal.returns-in-Ok
-returns-in-Ok c = λ o h shows.
+pub returns : goal.returns
+returns g c = λ o h shows.
     let painter = c.args.self.now in
     let height = c.image_height-height.result in
     let tall : height ≡ image_height o.raster_crop h =
     c.image_height-height.ensures ∙ rw (shows.crop, shows.raster_height, shows.height) refl in
     let pixels =
-    c.in-Ok.ensures.ok
-    ∙ picture-same (shown painter.canvas) (pixel o h) painter.width height shows.pixels
+    c.in_ok-pixels.ensures.ok
+    ∙ picture-same (g.C.Canvas.shown painter.canvas) (pixel o h) painter.width height shows.pixels
     ∙ ap (λ w. picture (pixel o h) w height) shows.width
     ∙ ap (picture (pixel o h) (width h)) tall in (
       shows.faultless,
-      image_of-parts c.in-Ok.pixels.items
+      image_of-parts c.in_ok-pixels.pixels.items
           (picture (pixel o h) (width h) (image_height o.raster_crop h)) painter.width (width h)
           height (image_height o.raster_crop h)
           painter.ratio (ratio (ratio_of o.settings) h) c.background_mode.result
@@ -83,5 +84,7 @@ returns-in-Ok c = λ o h shows.
       ),
     )
 
-pub returns-in-Err : goal.returns-in-Err
-returns-in-Err c = λ o h shows. rw (c.in-Err.ensures.error, shows.faultless) refl
+pub returns-in_err-pixels : goal.returns-in_err-pixels
+returns-in_err-pixels g c = λ o h shows.
+    let p = err_from_is_err_and c.from_residual.result c.from_residual.ensures.1 in
+    rw (p.1, p.2, shows.faultless) refl
