@@ -18,3 +18,7 @@ pub mod Finality
 pub mod Sessions
 pub mod Lanes
 pub mod SixelRuns
+pub mod RowEnds
+pub mod RunPixels
+pub mod RunPositions
+pub mod PaintedRuns

@@ -1,6 +1,6 @@
 use Rattle.std.proofs.Common.{◌≡◌, ℕ, ◌-◌, get_or, sym, ap, ◌∙◌, arith}
 use Rattle.sixel_base.specs.Picture.{is_set}
-use Rattle.sixel_decoder.proofs.SixelRuns.{end_is}
+use Rattle.sixel_decoder.proofs.RowEnds.{end_is}
 use Rattle.sixel_decoder.proofs.row_ends.run_end.Goals as goal
 
 pub returns-then-has_bit-clause-end : goal.returns-then-has_bit-clause-end

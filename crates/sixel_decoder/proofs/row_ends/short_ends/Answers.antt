@@ -1,7 +1,7 @@
 use Rattle.std.proofs.Common.{ℕ, ◌+◌, ◌-◌, take, length-take, get_or, sym, ap, ◌∙◌, arith}
 use Rattle.std.specs.Prelude.{if◌then◌else◌}
 use Rattle.sixel_base.specs.Picture.{is_set}
-use Rattle.sixel_decoder.proofs.SixelRuns.{end_most, end_of-next}
+use Rattle.sixel_decoder.proofs.RowEnds.{end_most, end_of-next}
 use Rattle.sixel_decoder.proofs.row_ends.short_ends.Goals as goal
 
 pub sixels-preserved : goal.sixels-preserved

@@ -1,5 +1,5 @@
 use Rattle.std.proofs.lemmas.Result.{err_from_is_err_and}
-use Rattle.sixel_decoder.proofs.SixelRuns.{Holds-widened}
+use Rattle.sixel_decoder.proofs.RowEnds.{Holds-widened}
 use Rattle.sixel_decoder.proofs.runs.grow_short_rows.Goals as goal
 
 pub widen-requires-clause-within : goal.widen-requires-clause-within

@@ -4,8 +4,10 @@ use Rattle.std.proofs.lemmas.Result.{err_from_is_err_and}
 use Rattle.sixel_base.specs.History.{History, read}
 use Rattle.sixel_decoder.specs.inside.Runs.{bits_of}
 use Rattle.sixel_decoder.specs.inside.Painter.{Shows}
-use Rattle.sixel_decoder.proofs.SixelRuns.{IsRun-front, length-front, Shows-run, fold_one, fold_run}
-use Rattle.sixel_decoder.proofs.SixelRuns.{held_dots, with_sixels}
+use Rattle.sixel_decoder.proofs.SixelRuns.{IsRun-front, length-front, fold_one, fold_run}
+use Rattle.sixel_decoder.proofs.PaintedRuns.{Shows-run}
+use Rattle.sixel_decoder.proofs.RowEnds.{held_dots}
+use Rattle.sixel_decoder.proofs.SixelRuns.{with_sixels}
 use Rattle.sixel_decoder.proofs.painter.Painter.draw_front.Goals as goal
 
 pub draw-requires-clause-dots : goal.draw-requires-clause-dots

@@ -1,6 +1,6 @@
 use Rattle.std.proofs.Common.{◌+◌, ◌<◌, ◌≤◌, length, ◌∙◌, arith}
 use Rattle.sixel_decoder.proofs.PaintCounts.{least-four}
-use Rattle.sixel_decoder.proofs.SixelRuns.{drawn_by_four, drawn_whole, four_held}
+use Rattle.sixel_decoder.proofs.RunPixels.{drawn_by_four, drawn_whole, four_held}
 use Rattle.sixel_decoder.proofs.runs.Run.draw.Goals as goal
 
 pub fours-preserved : goal.fours-preserved

@@ -2,7 +2,7 @@ use Rattle.std.proofs.Common.{◌≡◌, ℕ, ◌+◌, ◌-◌, ◌<◌, ◌≤�
 use Rattle.sixel_canvas.specs.inside.Canvas.{CanvasState, reached}
 use Rattle.sixel_canvas.specs.inside.Paints.{counted}
 use Rattle.sixel_decoder.specs.declared.runs.Run.{Run}
-use Rattle.sixel_decoder.proofs.SixelRuns.{IsDrawnTo}
+use Rattle.sixel_decoder.proofs.RunPixels.{IsDrawnTo}
 use Rattle.sixel_decoder.proofs.runs.Run.draw.Given as goal
 
 -- so many sixels of the run were drawn, on rows that end where they did

@@ -1,5 +1,5 @@
 use Rattle.std.proofs.Common.{arith}
-use Rattle.sixel_decoder.proofs.SixelRuns.{Holds-held}
+use Rattle.sixel_decoder.proofs.RowEnds.{Holds-held}
 use Rattle.sixel_decoder.proofs.runs.Run.grow_rows.Goals as goal
 
 pub returns-then-self-common-clause-grown : goal.returns-then-self-common-clause-grown

@@ -1,5 +1,5 @@
 use Rattle.std.proofs.Common.{sym}
-use Rattle.sixel_decoder.proofs.SixelRuns.{four_at}
+use Rattle.sixel_decoder.proofs.RunPixels.{four_at}
 use Rattle.sixel_decoder.proofs.runs.Run.last_four.Goals as goal
 
 pub returns : goal.returns

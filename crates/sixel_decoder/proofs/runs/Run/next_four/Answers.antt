@@ -1,6 +1,6 @@
 use Rattle.std.proofs.Common.{◌+◌, ◌-◌, length, refl, sym, arith}
 use Rattle.std.proofs.lemmas.Bool.{lt-ltb, le-ltb}
-use Rattle.sixel_decoder.proofs.SixelRuns.{bits_in_front, four_at}
+use Rattle.sixel_decoder.proofs.RunPixels.{bits_in_front, four_at}
 use Rattle.sixel_decoder.proofs.runs.Run.next_four.Goals as goal
 
 pub returns : goal.returns
