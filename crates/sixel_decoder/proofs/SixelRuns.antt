@@ -11,7 +11,7 @@ use Rattle.sixel_base.specs.Payload.{first_fault, closed, growths}
 use Rattle.sixel_base.specs.Fault.{Faults}
 use Rattle.sixel_base.specs.declared.error.SixelError.{SixelError}
 use Rattle.sixel_base.specs.Stroke.{Origin}
-use Rattle.sixel_base.proofs.Reading.{fold-spelling}
+use Rattle.sixel_base.proofs.Histories.{fold-spelling}
 use Rattle.sixel_decoder.specs.inside.Painter.{Shows}
 use Rattle.sixel_decoder.specs.declared.payload_parser.PayloadParser.{PayloadParser}
 use Rattle.sixel_decoder.specs.declared.payload_parser.OpenCommand.{OpenCommand}

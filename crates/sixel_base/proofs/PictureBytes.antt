@@ -1,3 +1,4 @@
+-- The bytes of a picture: its pixels, joined row by row.
 use Rattle.std.proofs.Common.{◌≡◌, ℕ, zero, suc, ◌+◌, ◌*◌, ◌<◌, List, ◌++◌, length, refl, sym, ap}
 use Rattle.std.proofs.Common.{◌∙◌, append_assoc, append-nil, length-append, add-zero, add-suc}
 use Rattle.std.proofs.Common.{arith}
