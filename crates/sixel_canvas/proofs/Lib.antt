@@ -11,6 +11,7 @@ pub mod Pixels
 pub mod Results
 pub mod RowBytes
 pub mod Runs
+pub mod RowCosts
 mod RowStates
 pub mod Spans
 pub mod Spread

@@ -21,6 +21,21 @@ unfolding total
 total-front f zero = omega arith
 total-front f (suc n) = omega (arith, total-front f n)
 
+-- zeros add nothing
+pub total-past : (f : ℕ → ℕ) (m n : ℕ) → ((k : ℕ) → m ≤ k → f k ≡ 0) → m ≤ n
+    → total f n ≡ total f m
+unfolding total
+total-past f m zero past le =
+    let none : zero ≡ m = omega arith in
+    ap (total f) none
+total-past f m (suc n) past le =
+    elim (cases_lt n m) [
+      | inl last ↦
+          let whole : suc n ≡ m = omega arith in
+          ap (total f) whole
+      | inr more ↦ omega (arith, total-past f m n past more, past n more)
+    ]
+
 -- nothing but zeros
 pub total-zero : (n : ℕ) → total (λ _. 0) n ≡ 0
 unfolding total

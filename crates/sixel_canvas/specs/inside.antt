@@ -8,5 +8,6 @@ pub mod Drawn
 pub mod FinalRows
 pub mod Loan
 pub mod Paints
+pub mod RowCanvas
 pub mod TaggedBand
 pub mod Tags

@@ -47,6 +47,12 @@ impl Canvas for BandCanvas {
 
     ghost held = { λ canvas. canvas.held };
 
+    ghost work = { λ canvas. record {
+      writes = 0;
+      room = 6 * canvas.band.pixels.cap;
+      paints = canvas.band.painted;
+    } };
+
     ghost paid = { λ canvas runs. IsPaid canvas.band.pixels.cap canvas.band.painted
         canvas.band.pixels.reach canvas.top runs };
 

@@ -1,8 +1,10 @@
 //! The trait of everything that a SIXEL decoder draws on.
 ghost use Rattle.std.specs.Prelude.{◌≡◌, ℕ, ◌+◌, ◌*◌, ◌^◌, ◌≤◌, ◌<◌, List, [], ◌∷◌, length, take};
 ghost use Rattle.std.specs.Prelude.{true, slice_index_or, IfOk, OnOk, if◌then◌else◌};
+ghost use Rattle.sixel_base.specs.Limits.{area_limit, side_limit};
 ghost use Rattle.sixel_base.specs.Picture.{covers, picture};
 ghost use Rattle.sixel_canvas.specs.inside.Drawn.{Run, run, with_sixels, covers_block};
+ghost use Rattle.sixel_canvas.specs.inside.Drawn.{Work, no_work};
 ghost use Rattle.sixel_canvas.specs.inside.Tags.{is_tag};
 
 use std::alloc::{AllocError, Global};
@@ -21,6 +23,9 @@ pub trait Canvas {
     /// So many columns of the band are drawn on without an allocation.
     ghost held: { Self → ℕ };
 
+    /// What it has cost: pixels written as it grew, capacity, and pixels painted.
+    ghost work: { Self → Work };
+
     /// Its counts and its capacity are within its bounds for these runs, the newest first.
     ghost paid: { Self → List Run → Type 0 };
 
@@ -28,6 +33,7 @@ pub trait Canvas {
     fn new(alloc: Global, background: [u8; 4]) -> Self
         ensures shown { (column row : ℕ) → shown result column row ≡ background }
         ensures top { top result ≡ 0 }
+        ensures work { work result ≡ no_work }
         ensures paid { paid result [] };
 
     /// Returns the first row of the band.
@@ -48,8 +54,8 @@ pub trait Canvas {
     /// Draws a sixel over the columns from `from` up to before `to` of the band.
     fn draw(&mut self, from: usize, to: usize, bits: u8, color: [u8; 4]) -> Result<(), AllocError>
         requires ordered { from < to }
-        requires within { to ≤ 1000000 }
-        requires above_bottom { top self.old + 6 ≤ 1000000 }
+        requires within { to ≤ side_limit }
+        requires above_bottom { top self.old + 6 ≤ side_limit }
         requires six { bits < 64 }
         requires visible { is_tag color ≡ true }
         ensures drawn { OnOk result ((column row : ℕ) → shown self.new column row
@@ -62,8 +68,8 @@ pub trait Canvas {
     /// Draws a sixel of one column, for which there is memory.
     fn column(&mut self, at: usize, bits: u8, color: [u8; 4])
         requires held { at < held self.old }
-        requires within { at < 1000000 }
-        requires above_bottom { top self.old + 6 ≤ 1000000 }
+        requires within { at < side_limit }
+        requires above_bottom { top self.old + 6 ≤ side_limit }
         requires six { bits < 64 }
         requires visible { is_tag color ≡ true }
         ensures drawn { (column row : ℕ) → shown self.new column row
@@ -83,8 +89,8 @@ pub trait Canvas {
     ) -> Result<(), AllocError>
         requires some { 0 < len }
         requires few { len ≤ 8 }
-        requires within { from + len ≤ 1000000 }
-        requires above_bottom { top self.old + 6 ≤ 1000000 }
+        requires within { from + len ≤ side_limit }
+        requires above_bottom { top self.old + 6 ≤ side_limit }
         requires six { (j : ℕ) → slice_index_or sixels j 0 < 64 }
         requires visible { is_tag color ≡ true }
         requires blank { (j : ℕ) → len ≤ j → slice_index_or sixels j 0 ≡ 0 }
@@ -110,9 +116,9 @@ pub trait Canvas {
 
     /// Returns the bytes of the picture of this size, and leaves the canvas without it.
     fn take_picture(&mut self, width: usize, height: usize) -> Result<Vec<u8>, AllocError>
-        requires narrow { width ≤ 1000000 }
-        requires few { height ≤ 1000000 }
-        requires small { width * height ≤ 67108864 }
+        requires narrow { width ≤ side_limit }
+        requires few { height ≤ side_limit }
+        requires small { width * height ≤ area_limit }
         ensures ok { IfOk result (λ bytes. bytes.items ≡ picture (shown self.old) width height) }
         ensures len { IfOk result (λ bytes. length bytes.items ≡ 4 * (width * height)) };
 }

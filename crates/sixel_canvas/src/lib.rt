@@ -11,6 +11,7 @@ pub mod final_rows;
 mod line;
 mod pixel_row;
 mod row;
+pub mod row_canvas;
 mod span;
 mod tagged;
 pub mod tagged_band;

@@ -156,6 +156,7 @@ impl TaggedCanvas {
         ensures least { counted self.old.paints (if nat_lt 0 bits then 6 else 0) ≤ self.new.paints }
         ensures most { self.new.paints ≤ self.old.paints + 6 }
         ensures spread { self.new.spread ≡ self.old.spread }
+        ensures tags { self.new.tagged ≡ self.old.tagged }
         ensures bounded { IsBounded self.new }
     {
         self.paints = with_sixel(self.paints, bits);

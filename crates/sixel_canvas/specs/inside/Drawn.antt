@@ -15,6 +15,17 @@ pub record Run : Type 0 where
 abbrev pub run : ℕ → ℕ → ℕ → ℕ → Run
 run from to top bits = record { from = from; to = to; top = top; bits = bits }
 
+-- what a canvas has cost: how many pixels it wrote as it grew, for how many it has capacity, and how
+-- many runs have painted at most
+pub record Work : Type 0 where
+  pub writes : ℕ
+  pub room : ℕ
+  pub paints : ℕ
+
+-- the work of a canvas that nothing was drawn on
+abbrev pub no_work : Work
+no_work = record { writes = 0; room = 0; paints = 0 }
+
 -- these runs, newest first, and after them sixels of one column each, the first at column from
 abbrev pub with_sixels : ℕ → List ℕ → ℕ → List Run → List Run
 with_sixels from [] top runs = runs
