@@ -2,7 +2,7 @@
 -- that its sizes or lengths determine, or a palette or an index that SIXEL has no registers for. The
 -- two texts are this library's own.
 use Rattle.std.specs.Prelude.{◌≡◌, ℕ, ◌==◌, ◌||◌, nat_lt, if◌then◌else◌, List, codes, Option, Some}
-use Rattle.std.specs.Prelude.{None, Result, IfErr, MatchResult}
+use Rattle.std.specs.Prelude.{None, Result, Ok, IfErr, MatchResult}
 use Rattle.sixel_base.specs.declared.error.SixelError.{SixelError}
 use Rattle.sixel_base.specs.declared.error.SixelError.TheVariants.{InvalidDimensions}
 use Rattle.sixel_base.specs.declared.error.SixelError.TheVariants.{BufferSizeMismatch, InvalidData}
@@ -34,6 +34,11 @@ IsCallFault error IndexRange = HasText error (codes "palette index out of range"
 abbrev pub FailsBy : {X : Type 0} → Option CallFault → Result X SixelError → Type 0
 FailsBy None result = IfErr result (λ e. e ≡ OutOfMemory)
 FailsBy (Some fault) result = MatchResult result (λ _. ⊥) (λ e. IsCallFault e fault)
+
+-- a test of this fault passes if there is none, and otherwise fails by it
+abbrev pub IsVerdict : Option CallFault → Result (Unit {0}) SixelError → Type 0
+IsVerdict None result = result ≡ Ok tt
+IsVerdict (Some fault) result = MatchResult result (λ _. ⊥) (λ e. IsCallFault e fault)
 
 -- what is wrong with a palette of so many colors
 abbrev pub color_count_fault : ℕ → Option CallFault
