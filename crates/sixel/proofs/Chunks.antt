@@ -8,7 +8,7 @@ use Rattle.std.proofs.Math.Seq.{take-add}
 use Rattle.sixel_base.specs.declared.status.SixelDcsFeedStatus.TheVariants.{NeedMoreData}
 use Rattle.sixel_base.specs.Dcs.{dcs_status}
 use Rattle.sixel.specs.Strings.{IsFedInPieces}
-use Rattle.sixel.proofs.Stringing.{Begins}
+use Rattle.sixel.proofs.DcsSequences.{Begins}
 
 -- Whole pieces were fed, each of them since the string had not ended, and the rest follows.
 pub record Cut (piece_len : ℕ) (bytes fed rest : List ℕ) : Type 0 where

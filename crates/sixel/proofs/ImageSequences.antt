@@ -25,7 +25,7 @@ use Rattle.sixel.specs.Strings.{string_fault, is_cut_short, AreAnswered, Over, B
 use Rattle.sixel.specs.Strings.{Followed}
 use Rattle.sixel_io.specs.Output.{Writes}
 use Rattle.sixel.specs.Answer.{IsImageAnswer, Begins, Serves}
-use Rattle.sixel.proofs.Counting.{complete_counts}
+use Rattle.sixel.proofs.ByteCounts.{complete_counts}
 
 -- The images before the rest were written, and an answer to the rest completes the answer to all.
 pub record Leads (start : DecoderState) (bytes : List ℕ) (now : DecoderState) (rest : List ℕ)
@@ -114,7 +114,8 @@ begins_by now after bytes image (Interrupted byte) is string =
 -- nothing is written where memory is wanting
 refused_image : (now after : DecoderState) (bytes text : List ℕ) (image : Image) (e : SixelError)
     → HasEnded now bytes image after
-    → IsImageAnswer None (λ i. i ≡ image) text (Refused e) → AreAnswered now bytes text (Refused e)
+    → IsImageAnswer image_form None (λ i. i ≡ image) text (Refused e)
+    → AreAnswered now bytes text (Refused e)
 refused_image now after bytes text image e string (nothing, why) =
     let here : data_fault.Faults e true (string_fault now.pixel_limit bytes) =
     subst (λ f. data_fault.Faults e true f) (sym string.faultless) why in
@@ -125,7 +126,7 @@ refused_image now after bytes text image e string (nothing, why) =
 begun_image :
     (now after : DecoderState) (bytes text left : List ℕ) (image : Image) (ending : Ending)
     → HasEnded now bytes image after
-    → IsImageAnswer None (λ i. i ≡ image) (text ++ left) ending
+    → IsImageAnswer image_form None (λ i. i ≡ image) (text ++ left) ending
     → Begins (AreAnswered now bytes) text
 begun_image now after bytes text left image Done string (_, (i, same, form)) =
     let b = begins_by now after bytes image (dcs_status bytes) refl string in
@@ -141,7 +142,7 @@ begun_image now after bytes text left image (Refused e) string is = (
 -- an image that could not be written whole ends the answer
 pub Serves-broken : (A B : Type 0) (fault : Fault) (now after : DecoderState) (bytes : List ℕ)
     (image : Image) (a b : Option (List ℕ)) → HasEnded now bytes image after
-    → Serves {A = A} (Err fault) (IsImageAnswer None (λ i. i ≡ image)) a b
+    → Serves {A = A} (Err fault) (IsImageAnswer image_form None (λ i. i ≡ image)) a b
     → Serves {A = B} (Err fault) (AreAnswered now bytes) a b
 Serves-broken A B (Sixel e) now after bytes image a b string (text, is, grown) = (
   text,
@@ -176,7 +177,7 @@ leads_more start bytes now after rest tail image a b c string whole follows l gr
 
 -- what is written where a string's image is
 pub writes_image : (IsImage : Image → Type 0) (image : Image) (a b : Option (List ℕ))
-    → IsImage image → Writes (λ text. IsImageAnswer None (λ i. i ≡ image) text Done) a b
+    → IsImage image → Writes (λ text. IsImageAnswer image_form None (λ i. i ≡ image) text Done) a b
     → (shown : Image) × IsImage shown × Appends a b (image_form shown)
 writes_image IsImage image a b is (text, (_, (i, same, form)), grown) = (
   image,
@@ -196,7 +197,7 @@ Serves-stopped A B Output IsText a b served = served
 -- an image is written where all is well
 pub OnOk-image : {A : Type 0} (IsImage : Image → Type 0) (image : Image) (result : Result A Fault)
     (a b : Option (List ℕ)) → IsImage image
-    → Serves result (IsImageAnswer None (λ i. i ≡ image)) a b
+    → Serves result (IsImageAnswer image_form None (λ i. i ≡ image)) a b
     → OnOk result ((shown : Image) × IsImage shown × Appends a b (image_form shown))
 OnOk-image IsImage image (Ok _) a b is served = writes_image IsImage image a b is served
 OnOk-image IsImage image (Err _) a b is served = tt
@@ -204,7 +205,7 @@ OnOk-image IsImage image (Err _) a b is served = tt
 -- and ends the answer elsewhere
 pub OnErr-broken : {A : Type 0} (result : Result A Fault) (now after : DecoderState)
     (bytes : List ℕ) (image : Image) (a b : Option (List ℕ)) → HasEnded now bytes image after
-    → Serves result (IsImageAnswer None (λ i. i ≡ image)) a b
+    → Serves result (IsImageAnswer image_form None (λ i. i ≡ image)) a b
     → OnErr result (Serves result (AreAnswered now bytes) a b)
 OnErr-broken (Ok _) now after bytes image a b string served = tt
 OnErr-broken {A} (Err fault) now after bytes image a b string served =

@@ -1,3 +1,4 @@
+-- What the program writes: outputs in parts, images in their forms, texts.
 use Rattle.std.proofs.Common.{◌≡◌, ℕ, List, ◌++◌, [], take, drop, ap, sym, subst, refl, true, ◌∙◌}
 use Rattle.std.proofs.Common.{append_assoc, append-nil, take-append-drop, Option, None, Some}
 use Rattle.std.proofs.Common.{Result, Ok, Err, OnOk, OnErr, IfErr, IfSome, inl, inr, ◌⊎◌}
@@ -13,8 +14,9 @@ use Rattle.sixel_base.specs.Fault as data_fault
 use Rattle.sixel_io.specs.declared.fault.Fault.{Fault}
 use Rattle.sixel_io.specs.declared.fault.Fault.TheVariants.{Sixel, Input, Output}
 use Rattle.sixel.specs.declared.words.Word.{Word}
-use Rattle.sixel.specs.declared.words.Word.TheVariants.{Payload, Decode, Frames, Encode}
-use Rattle.sixel.specs.Form.{line_end, image_line, image_form}
+use Rattle.sixel.specs.declared.words.Word.TheVariants.{Payload, Decode, Pam, Frames, Encode}
+use Rattle.sixel.specs.Form.{line_end, image_line, image_form, pam_header}
+use Rattle.sixel.specs.Form.{pam_form}
 use Rattle.sixel.specs.Ending.{Ending, Done, Refused}
 use Rattle.sixel.specs.Strings.{Broken}
 use Rattle.sixel_io.specs.Output.{Writes}
@@ -74,6 +76,7 @@ Serves-last {A} (Err f) IsText a b c front bytes whole before all part is_output
 wanting : (word : Word) (bytes : List ℕ) → IsAnswer word bytes [] (Refused OutOfMemory)
 wanting Payload bytes = (refl, refl)
 wanting Decode bytes = (refl, refl)
+wanting Pam bytes = (refl, refl)
 wanting (Frames length) bytes = Broken new_decoder bytes OutOfMemory refl
 wanting (Encode width height colors) bytes = (refl, inl refl)
 
@@ -104,6 +107,12 @@ image_form-parts image line pixels is_line are_pixels =
     ap (λ l. (l ++ pixels) ++ line_end) is_line
     ∙ ap (λ l. (image_line image ++ l) ++ line_end) are_pixels
 
+-- what makes up a PAM file
+pub pam_form-parts : (image : Image) (header pixels : List ℕ) → header ≡ pam_header image
+    → pixels ≡ image.pixels → header ++ pixels ≡ pam_form image
+pam_form-parts image header pixels is_header are_pixels =
+    ap (λ l. l ++ pixels) is_header ∙ ap (λ l. pam_header image ++ l) are_pixels
+
 -- an answer that is also an answer of another kind
 Serves-weaker : {A : Type 0} (result : Result A Fault) (P Q : List ℕ → Ending → Type 0)
     (a b : Option (List ℕ))
@@ -123,24 +132,25 @@ Serves-weaker (Err Output) P Q a b also (text, (rest, ending, is), grown) = (
 )
 
 -- an image is an answer where nothing is wrong
-IsImageAnswer-of : (fault : Option data_fault.Fault) (IsImage : Image → Type 0) (image : Image)
-    → fault ≡ None → IsImage image
-    → (text : List ℕ) (ending : Ending) → IsImageAnswer None (λ i. i ≡ image) text ending
-    → IsImageAnswer fault IsImage text ending
-IsImageAnswer-of fault IsImage image none is text Done (_, (i, same, form)) = (
+IsImageAnswer-of : (form : Image → List ℕ) (fault : Option data_fault.Fault)
+    (IsImage : Image → Type 0) (image : Image) → fault ≡ None → IsImage image
+    → (text : List ℕ) (ending : Ending) → IsImageAnswer form None (λ i. i ≡ image) text ending
+    → IsImageAnswer form fault IsImage text ending
+IsImageAnswer-of form fault IsImage image none is text Done (_, (i, same, written)) = (
   none,
-  (image, is, form ∙ ap image_form same),
+  (image, is, written ∙ ap form same),
 )
-IsImageAnswer-of fault IsImage image none is text (Refused error) (nothing, why) =
+IsImageAnswer-of form fault IsImage image none is text (Refused error) (nothing, why) =
     (nothing, subst (λ f. data_fault.Faults error true f) (sym none) why)
 
 -- the image that was decoded is written
-pub Serves-image : {A : Type 0} (result : Result A Fault) (fault : Option data_fault.Fault)
-    (IsImage : Image → Type 0) (image : Image) (a b : Option (List ℕ))
-    → fault ≡ None → IsImage image → Serves result (IsImageAnswer None (λ i. i ≡ image)) a b
-    → Serves result (IsImageAnswer fault IsImage) a b
-Serves-image result fault IsImage image a b none is =
-    Serves-weaker result _ _ a b (IsImageAnswer-of fault IsImage image none is)
+pub Serves-image : {A : Type 0} (result : Result A Fault) (form : Image → List ℕ)
+    (fault : Option data_fault.Fault) (IsImage : Image → Type 0) (image : Image)
+    (a b : Option (List ℕ)) → fault ≡ None → IsImage image
+    → Serves result (IsImageAnswer form None (λ i. i ≡ image)) a b
+    → Serves result (IsImageAnswer form fault IsImage) a b
+Serves-image result form fault IsImage image a b none is =
+    Serves-weaker result _ _ a b (IsImageAnswer-of form fault IsImage image none is)
 
 -- ---- texts
 
