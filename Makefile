@@ -13,9 +13,9 @@ program = crates/sixel/out/sixel
 # The programs that tests run; `rt ci` alone runs sixel_vectors.
 programs = $(foreach name,$(filter-out sixel_vectors,$(patsubst crates/%/src/main.rt,%,\
 	$(wildcard crates/*/src/main.rt))),crates/$(name)/out/$(name))
-crate = crates/icysixel_c
-archive = $(crate)/out/libicysixel_c.a
-archive_by_rattle = $(crate)/out/libicysixel_c.by-rattle.a
+crate = crates/icysixel
+archive = $(crate)/out/libicysixel.a
+archive_by_rattle = $(crate)/out/libicysixel.by-rattle.a
 library = out/libicysixel.a out/icysixel.h out/icysixel.pc
 installed = $(DESTDIR)$(or $(PREFIX),/usr/local)
 
@@ -73,7 +73,7 @@ $(programs): $$(call sources,$$(@F))
 	$(end)
 
 # `rt lib` writes either archive to the same file.
-$(archive_by_rattle): $$(call sources,icysixel_c)
+$(archive_by_rattle): $$(call sources,icysixel)
 	$(start)
 	cd $(crate) && rt lib --backend rattle >&2
 	mv $(archive) $@

@@ -13,7 +13,7 @@ from build import ARCHIVES, DATA, HEADERS, ROOT, needs, run
 
 HERE = ROOT / "tests/c"
 EXAMPLES = ROOT / "examples"
-MEMORY = ROOT / "crates/icysixel_c/memory/icysixel_memory.c"
+MEMORY = ROOT / "crates/icysixel/memory/icysixel_memory.c"
 FILTER = ROOT / "crates/sixel_filter/out/sixel_filter"
 
 C11 = ["gcc", "-std=c11", "-Wall", "-Wextra", "-Werror", f"-I{HEADERS}"]

@@ -10,7 +10,7 @@ from build import ARCHIVES, DATA, HEADERS, ROOT, needs, run
 from rust.declared import comparison
 
 CRATE = ROOT / "rust/icy_sixel"
-MEMORY = ROOT / "crates/icysixel_c/memory/icysixel_memory.c"
+MEMORY = ROOT / "crates/icysixel/memory/icysixel_memory.c"
 MEMCHECK = ["valgrind", "-q", "--leak-check=full", "--show-leak-kinds=definite,indirect"]
 MEMCHECK += ["--errors-for-leak-kinds=definite,indirect", "--error-exitcode=9"]
 STRING = b"text\x1bP9;1q#1;2;100;0;0@\x1b\\text"
