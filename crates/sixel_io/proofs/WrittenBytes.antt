@@ -1,3 +1,4 @@
+-- What a writer has after a write of some bytes and then of the rest.
 use Rattle.std.proofs.Common.{ℕ, ◌+◌, ◌-◌, List, ◌++◌, length, take, drop, ap, sym, subst, ◌∙◌}
 use Rattle.std.proofs.Common.{take-add, Option}
 use Rattle.std.proofs.lemmas.List.{take_rest}
