@@ -16,7 +16,7 @@ from vectors import bytes_of, image_of, vectors
 RESULT = re.compile(r"(.*?)(?:(usage )?error: (.*))?")
 # The values that stand for N and X in the arguments of runs.tsv.
 NO_NUMBERS = ["", "+1", "-1", "1.0", "1e3", "0x1", " 1", "1 ", "x", str(2**64), 23 * "9"]
-VALUES = {"N": ["1", "2", "3", "1000"], "X": NO_NUMBERS}
+VALUES = {"N": ["1", "2", "13", "65536"], "X": NO_NUMBERS}
 
 # Arguments and redirections of the shell, and the error of the one that fails.
 FAILING = {
@@ -40,26 +40,6 @@ MEMORY = [
     ("payload", b'"1;1;8192;8192', (1, b"", b"out of memory\n")),
     ("encode 8190 8190 16", bytes(4), (1, b"", TOO_FEW)),
 ]
-
-# The recorded stream has text, titles and other DCS sequences, four images in the forms of several
-# programs, of which one is interrupted, one rejected image, and one without an end.
-RECORDED = (ROOT / "crates/sixel_filter/stdin").read_bytes()
-RECORDED_OUTPUT = b"".join([
-    b"\x1b]0;session\x07$ sixel a.six\r\n%s\r\n$ cat \xd0\x90q \xf0\x9f\x90\x90;\r\n%s",
-    b'\x1bP$q"p\x1b\\\x1bPtmux;x\x1b\\%s\x1b[0m\r\n',
-    b"[image refused: invalid SIXEL data: malformed SIXEL data]%s\r\n$ \x1bP1;2\x18\r\n",
-    b"[image refused: invalid SIXEL data: incomplete SIXEL DCS sequence]",
-])
-RECORDED_IMAGES = {
-    "size": (b"[image 3x6]", b"[image 2x12]", b"[image 3x6]", b"[image 1x6]"),
-    "refusals": 4 * (b"",),
-    "colors 2": (
-        b'\x1bP9;1;0q"1;1;3;6#0;2;0;0;0#1;2;100;100;100#0@@?$#1??@$-\x1b\\',
-        b'\x1bP9;0;0q"1;1;2;12#0;2;0;0;0#1;2;100;0;0#1~~$-#0~~$-\x1b\\',
-        b'\x1bP9;1;0q"1;1;3;6#0;2;100;0;0#0@@@$-\x1b\\',
-        b'\x1bP9;0;0q"1;1;1;6#0;2;0;0;0#0~$-\x1b\\',
-    ),
-}
 
 # A folder of files of other programs, with expected.tsv, whose first line has the titles.
 SAMPLES = os.environ.get("SAMPLES")
@@ -92,9 +72,11 @@ class TestPrograms(ProgramTest):
     def test_runs(self):
         for place, (command, text, result) in vectors(Path(__file__).with_name("runs.tsv")):
             self.name, *words = shlex.split(command)
+            kind, _, path = text.partition(":")
+            stdin = (ROOT / path).read_bytes() if kind == "file" else bytes_of(text)
             for arguments in itertools.product(*(VALUES.get(it, [it]) for it in words)):
                 with self.subTest(place=place):
-                    self.ends(arguments, bytes_of(text), outcome(result))
+                    self.ends(arguments, stdin, outcome(result))
 
     def test_failing_descriptors_and_arguments(self):
         for self.name, rows in FAILING.items():
@@ -104,12 +86,6 @@ class TestPrograms(ProgramTest):
     def test_memory(self):
         for arguments, stdin, expected in MEMORY:
             self.ends(arguments.split(), stdin, expected, memory=200_000)
-
-    def test_recorded_stream(self):
-        self.name = "sixel_filter"
-        for (words, images), length in itertools.product(RECORDED_IMAGES.items(), (1, 13, 65536)):
-            arguments = [str(length), *words.split()]
-            self.ends(arguments, RECORDED, (0, RECORDED_OUTPUT % images, b""))
 
     @unittest.skipUnless(SAMPLES, "SAMPLES does not name a folder of samples")
     def test_samples(self):
