@@ -13,7 +13,7 @@ from build import ARCHIVES, DATA, HEADERS, ROOT, needs, run
 
 HERE = ROOT / "tests/c"
 EXAMPLES = ROOT / "examples"
-MEMORY = ROOT / "crates/icysixel_c/memory/icysixel_memory.c"
+MEMORY = ROOT / "crates/icysixel/memory/icysixel_memory.c"
 FILTER = ROOT / "crates/sixel_filter/out/sixel_filter"
 
 C11 = ["gcc", "-std=c11", "-Wall", "-Wextra", "-Werror", f"-I{HEADERS}"]
@@ -167,13 +167,3 @@ class TestC(unittest.TestCase):
             with self.subTest(text=text[:40]):
                 self.assertEqual(shows_same(text), text == adapted)
                 self.assertTrue(adapted is None or shows_same(adapted))
-
-    @needs("pkg-config")
-    def test_installation(self):
-        """`./lib install` installs a library that pkg-config finds."""
-        self.succeeds(ROOT / "lib", "install", self.folder / "prefix")
-        found = os.environ | {"PKG_CONFIG_PATH": str(self.folder / "prefix/lib/pkgconfig")}
-        flags = self.succeeds("pkg-config", "--cflags", "--libs", "icysixel", env=found)
-        program, words = self.folder / "installed", flags.decode().split()
-        self.succeeds("gcc", "-std=c11", EXAMPLES / "decode.c", *words, "-o", program)
-        self.assertEqual(self.succeeds(program, stdin=RED), RED_PIXELS)

@@ -10,22 +10,11 @@ from build import ARCHIVES, DATA, HEADERS, ROOT, needs, run
 from rust.declared import comparison
 
 CRATE = ROOT / "rust/icy_sixel"
-MEMORY = ROOT / "crates/icysixel_c/memory/icysixel_memory.c"
+MEMORY = ROOT / "crates/icysixel/memory/icysixel_memory.c"
 MEMCHECK = ["valgrind", "-q", "--leak-check=full", "--show-leak-kinds=definite,indirect"]
 MEMCHECK += ["--errors-for-leak-kinds=definite,indirect", "--error-exitcode=9"]
 STRING = b"text\x1bP9;1q#1;2;100;0;0@\x1b\\text"
 IMAGE = b"image 1 6 9 1\n\xff\0\0\xff" + bytes(20) + b"\n"
-USER = """
-[package]
-name = "user"
-version = "0.1.0"
-edition = "2021"
-[dependencies]
-icy_sixel = { path = "../icy_sixel" }
-[profile.release]
-lto = true
-panic = "abort"
-"""
 
 
 def version(text):
@@ -110,7 +99,7 @@ class TestRust(unittest.TestCase):
         self.assertEqual(run("gcc", "-fPIC", "-c", MEMORY, "-o", hooks)[0], 0)
         self.assertEqual(run("ar", "rs", library / "libicysixel.a", hooks)[0], 0)
         (user / "src").mkdir(parents=True)
-        (user / "Cargo.toml").write_text(USER)
+        shutil.copy(Path(__file__).with_name("user.toml"), user / "Cargo.toml")
         shutil.copy(CRATE / "examples/decode.rs", user / "src/main.rs")
         self.cargo("build", "--release", crate="user", library="with_memory")
         for words in [], ["1"]:

@@ -14,8 +14,8 @@ use Rattle.sixel_io.specs.declared.fault.Fault.{Fault}
 use Rattle.sixel_io.specs.declared.fault.Fault.TheVariants.{Sixel, Input, Output}
 use Rattle.sixel_io.specs.Output.{Writes}
 use Rattle.sixel.specs.declared.words.Word.{Word}
-use Rattle.sixel.specs.declared.words.Word.TheVariants.{Payload, Decode, Frames, Encode}
-use Rattle.sixel.specs.Form.{image_form}
+use Rattle.sixel.specs.declared.words.Word.TheVariants.{Payload, Decode, Pam, Frames, Encode}
+use Rattle.sixel.specs.Form.{image_form, pam_form}
 use Rattle.sixel.specs.Ending.{Ending, Done, Refused}
 use Rattle.sixel.specs.Strings.{AreAnswered}
 
@@ -23,11 +23,13 @@ use Rattle.sixel.specs.Strings.{AreAnswered}
 abbrev pub fresh : Origin
 fresh = origin_of new_decoder no_settings
 
--- an image of this kind, or the refusal by this fault with nothing written
-abbrev pub IsImageAnswer : Option data_fault.Fault → (Image → Type 0) → List ℕ → Ending → Type 0
-IsImageAnswer fault IsImage text Done =
-    (fault ≡ None) × ((image : Image) × IsImage image × (text ≡ image_form image))
-IsImageAnswer fault IsImage text (Refused error) = (text ≡ []) × data_fault.Faults error true fault
+-- an image of this kind in this form, or the error of this fault with nothing written
+abbrev pub IsImageAnswer : (Image → List ℕ) → Option data_fault.Fault → (Image → Type 0)
+    → List ℕ → Ending → Type 0
+IsImageAnswer form fault IsImage text Done =
+    (fault ≡ None) × ((image : Image) × IsImage image × (text ≡ form image))
+IsImageAnswer form fault IsImage text (Refused error) =
+    (text ≡ []) × data_fault.Faults error true fault
 
 -- the text of square pixels on a transparent background, or its refusal with nothing written
 abbrev pub IsTextAnswer : Image → ℕ → List ℕ → Ending → Type 0
@@ -35,14 +37,19 @@ IsTextAnswer image colors text Done = (image_fault image ≡ None) × IsText ima
 IsTextAnswer image colors text (Refused error) =
     (text ≡ []) × ((error ≡ OutOfMemory) ⊎ (image_fault image ≡ Some error))
 
+-- the image that the bytes are found to have, in this form, or its error with nothing written
+abbrev pub IsFoundAnswer : (Image → List ℕ) → List ℕ → List ℕ → Ending → Type 0
+IsFoundAnswer form bytes =
+    IsImageAnswer form (found_fault new_decoder.pixel_limit (found bytes))
+    (IsFoundImage new_decoder (found bytes))
+
 -- the text that a word writes for these bytes, and how it ends
 abbrev pub IsAnswer : Word → List ℕ → List ℕ → Ending → Type 0
 IsAnswer Payload bytes =
-    IsImageAnswer (payload_fault fresh.pixel_limit bytes)
+    IsImageAnswer image_form (payload_fault fresh.pixel_limit bytes)
     (λ image. image ≡ payload_image fresh bytes)
-IsAnswer Decode bytes =
-    IsImageAnswer (found_fault new_decoder.pixel_limit (found bytes))
-    (IsFoundImage new_decoder (found bytes))
+IsAnswer Decode bytes = IsFoundAnswer image_form bytes
+IsAnswer Pam bytes = IsFoundAnswer pam_form bytes
 IsAnswer (Frames length) bytes = AreAnswered new_decoder bytes
 IsAnswer (Encode width height colors) bytes = IsTextAnswer (square_value bytes width height) colors
 

@@ -4,8 +4,10 @@ use Rattle.std.specs.Prelude.{◌≡◌, ◌^◌, ◌<◌, ◌∷◌, [], List, 
 use Rattle.std.specs.Prelude.{String, string_bytes}
 use Rattle.std.specs.declared.alloc.Global.{Global}
 use Rattle.std.specs.Str.Parse.{IsNumeral, digits_value}
+use Rattle.sixel.specs.declared.notice.Notice.{Notice}
+use Rattle.sixel.specs.declared.notice.Notice.TheVariants.{Help, Version}
 use Rattle.sixel.specs.declared.words.Word.{Word}
-use Rattle.sixel.specs.declared.words.Word.TheVariants.{Payload, Decode, Frames, Encode}
+use Rattle.sixel.specs.declared.words.Word.TheVariants.{Payload, Decode, Pam, Frames, Encode}
 
 -- the text is this number in decimal digits
 abbrev pub IsNumber : List ℕ → ℕ → Type 0
@@ -25,6 +27,7 @@ IsServable _ = Unit {0}
 abbrev pub Asks : Word → List ℕ → Option (List ℕ) → Option (List ℕ) → Option (List ℕ) → Type 0
 Asks Payload word a b c = (word ≡ codes "payload") × (a ≡ None) × (b ≡ None) × (c ≡ None)
 Asks Decode word a b c = (word ≡ codes "decode") × (a ≡ None) × (b ≡ None) × (c ≡ None)
+Asks Pam word a b c = (word ≡ codes "pam") × (a ≡ None) × (b ≡ None) × (c ≡ None)
 Asks (Frames length) word a b c =
     (word ≡ codes "frames") × (Gives a length × (length < 2 ^ 64)) × (0 < length) × (b ≡ None)
     × (c ≡ None)
@@ -39,6 +42,11 @@ IsAskedBy (word ∷ a ∷ []) asked = Asks asked word (Some a) None None
 IsAskedBy (word ∷ a ∷ b ∷ []) asked = Asks asked word (Some a) (Some b) None
 IsAskedBy (word ∷ a ∷ b ∷ c ∷ []) asked = Asks asked word (Some a) (Some b) (Some c)
 IsAskedBy _ asked = ⊥
+
+-- the words after the program's own name ask for this notice, whatever the input is
+abbrev pub IsNoticeFor : List (List ℕ) → Notice → Type 0
+IsNoticeFor words Help = words ≡ codes "--help" ∷ []
+IsNoticeFor words Version = words ≡ codes "--version" ∷ []
 
 -- the bytes of each word
 abbrev pub words_of : List (String Global) → List (List ℕ)

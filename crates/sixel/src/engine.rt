@@ -2,13 +2,14 @@ ghost use Rattle.std.specs.Prelude.{◌≡◌, OnOk, IfSome};
 ghost use Rattle.std.specs.Io.KnownBytes.{Keeps, IsAtEnd};
 ghost use Rattle.sixel_base.specs.declared.error.SixelError.{SixelError};
 ghost use Rattle.sixel_io.specs.declared.fault.Fault.TheVariants.{Sixel, Input, Output};
-ghost use Rattle.sixel.specs.declared.words.Word.TheVariants.{Payload, Decode, Encode};
+ghost use Rattle.sixel.specs.declared.words.Word.TheVariants.{Payload, Decode, Pam, Encode};
 ghost use Rattle.sixel.specs.Words.{IsServable};
 ghost use Rattle.sixel.specs.Ending.{Done, Refused};
 ghost use Rattle.sixel.specs.Answer.{IsAnswer, Begins, Serves};
 ghost use Rattle.sixel_io.specs.Output.{Writes};
 
 use crate::images::write_image;
+use crate::pam::write_pam;
 use crate::strings::write_strings;
 use crate::words::Word;
 use icy_sixel::{DcsSettings, EncodeOptions, SixelImage, sixel_encode};
@@ -51,7 +52,7 @@ pub fn serve<R: Read, O: Write>(
 fn input_len(word: Word) -> usize {
     match word {
         Word::Encode(width, height, _) => width.saturating_mul(height).saturating_mul(4),
-        Word::Payload | Word::Decode | Word::Frames(_) => 0,
+        Word::Payload | Word::Decode | Word::Pam | Word::Frames(_) => 0,
     }
 }
 
@@ -64,6 +65,7 @@ fn answer<O: Write>(alloc: Global, word: Word, bytes: &[u8], output: &mut O) -> 
     match word {
         Word::Payload => payload(alloc, bytes, output),
         Word::Decode => decode(alloc, bytes, output),
+        Word::Pam => pam(alloc, bytes, output),
         Word::Frames(length) => write_strings(alloc, length, bytes, output),
         Word::Encode(width, height, colors) => encode(
             alloc,
@@ -92,6 +94,15 @@ fn decode<O: Write>(alloc: Global, bytes: &[u8], output: &mut O) -> Result<(), F
 {
     let image = SixelImage::decode(alloc, bytes)?;
     write_image(alloc, &image, output)
+}
+
+/// Writes the same image as a PAM file.
+fn pam<O: Write>(alloc: Global, bytes: &[u8], output: &mut O) -> Result<(), Fault>
+    ensures { Serves result (IsAnswer Pam bytes.now) (O.contents output.old)
+        (O.contents output.new) }
+{
+    let image = SixelImage::decode(alloc, bytes)?;
+    write_pam(alloc, &image, output)
 }
 
 /// Writes the text of raw pixels of this width and height, in at most so many colors.

@@ -77,7 +77,7 @@ pub fn respond<R: Read, O: Write>(
 }
 
 /// How the program ends whose work came to this.
-fn response_of(outcome: Result<(), Fault>) -> Response
+pub fn response_of(outcome: Result<(), Fault>) -> Response
     ensures asked { result ≢ Usage }
     ensures done { result ≡ Done → is_ok outcome ≡ true }
     ensures failed { (fault : Fault) → result ≡ Failed fault → outcome ≡ Err fault }

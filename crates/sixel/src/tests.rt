@@ -118,6 +118,9 @@ fn runs(rt: HostRuntime) -> Result<(), Fail> {
         blue,
         "",
     );
+    let pam = b"P7\nWIDTH 1\nHEIGHT 6\nDEPTH 4\nMAXVAL 255\nTUPLTYPE RGB_ALPHA\nENDHDR\n\
+        33\xcc\xff33\xcc\xff33\xcc\xff33\xcc\xff33\xcc\xff33\xcc\xff";
+    check(&rt, outcome(alloc, Word::Pam, b"\x1bPq#1~\x1b\\")?, pam, "");
     let header = "invalid SIXEL data: invalid SIXEL DCS header";
     check(&rt, outcome(alloc, Word::Decode, b"\x1bPbad")?, b"", header);
     check(&rt, outcome(alloc, Word::Frames(1), b"")?, b"", "");

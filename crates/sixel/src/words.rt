@@ -9,6 +9,8 @@ pub enum Word {
     Payload,
     /// Decode the first control string, or all bytes as a payload, and write the image.
     Decode,
+    /// Decode the same, and write the image as a PAM file.
+    Pam,
     /// Decode control strings that follow one another on one decoder, each fed in pieces of so many
     /// bytes from its first on, and write their images.
     Frames(usize),
@@ -60,6 +62,7 @@ pub fn read_word(word: &str, a: Option<&str>, b: Option<&str>, c: Option<&str>) 
     match word {
         "payload" => alone(Word::Payload, a, b, c),
         "decode" => alone(Word::Decode, a, b, c),
+        "pam" => alone(Word::Pam, a, b, c),
         "frames" => frames_with(a, b, c),
         "encode" => encode_with(a, b, c),
         _ => None,

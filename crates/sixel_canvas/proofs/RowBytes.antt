@@ -11,7 +11,7 @@ use Rattle.std.specs.List.{flat_map}
 use Rattle.std.proofs.lemmas.Bool.{cases_lt, cases_order, lt-ltb, le-ltb, ne_eqb, true≢false}
 use Rattle.std.proofs.lemmas.Nat.{mul-le, row_fits}
 use Rattle.sixel_base.specs.Picture.{joined, picture}
-use Rattle.sixel_base.proofs.Joined.{joined-add, joined-front, length-joined}
+use Rattle.sixel_base.proofs.PictureBytes.{joined-add, joined-front, length-joined}
 use Rattle.sixel_canvas.specs.inside.FinalRows.{final, pixel_at, rows_state}
 use Rattle.sixel_canvas.proofs.Pixels.{joined-row}
 

@@ -2,16 +2,19 @@
 ghost use Rattle.std.specs.Prelude.{◌≡◌, ℕ, ◌+◌, ◌*◌, ◌≤◌, ◌<◌, List, length, max, min};
 ghost use Rattle.std.specs.Prelude.{false, nat_le, nat_lt, ◌&&◌, ◌==◌, slice_index_or};
 ghost use Rattle.std.specs.Prelude.{IfOk, OnErr, OnOk, if◌then◌else◌};
-ghost use Rattle.sixel_base.specs.Picture.{covers};
+ghost use Rattle.sixel_base.specs.Picture.{covers, is_set};
 ghost use Rattle.sixel_canvas.specs.inside.Band.{cell, stored, IsBand};
 ghost use Rattle.sixel_canvas.specs.inside.Drawn.{covers_block};
 
-use crate::pixel_row::{fill, mix};
+use crate::pixel_row::{fill, fill_eight, mix};
 use std::alloc::{AllocError, Global};
 use std::marker::Model;
 
 /// The most columns that a band has memory for: those of an image, and seven blank ones.
 const MAX_CAP: usize = 1_000_008;
+
+/// Up to how many columns a run is drawn eight columns at once.
+const NARROW: usize = 48;
 
 /// Six rows of `cap` columns each, which are background from `reach` on.
 ///
@@ -119,7 +122,7 @@ impl Band {
         ensures reach { self.new.reach ≡ max self.old.reach to }
         ensures whole { IsBand self.new }
     {
-        fill_rows(&mut self.pixels, self.cap, from, to, bits, color);
+        draw_rows(&mut self.pixels, self.cap, from, to, bits, color);
         self.reach = self.reach.max(to);
     }
 
@@ -190,6 +193,74 @@ impl Band {
 }
 
 /// Draws a sixel over the columns from `from` up to before `to` of six rows.
+#[inline(always)]
+fn draw_rows(pixels: &mut [[u8; 4]], cap: usize, from: usize, to: usize, bits: u8, color: [u8; 4])
+    requires ordered { from ≤ to }
+    requires within { to ≤ cap }
+    requires few { cap ≤ 1000008 }
+    requires fits { length pixels.old ≡ 6 * cap }
+    ensures len { length pixels.new ≡ length pixels.old }
+    ensures drawn { (d : List ℕ) (column k : ℕ) → column < cap → k < 6
+        → stored pixels.new cap d column k
+        ≡ (if covers from to 0 bits column k then color else stored pixels.old cap d column k) }
+{
+    if to - from > NARROW || to + 8 > cap {
+        fill_rows(pixels, cap, from, to, bits, color);
+    } else if to - from <= 8 {
+        draw_eight(pixels, cap, from, to, bits, color);
+    } else {
+        draw_narrow(pixels, cap, from, to, bits, color);
+    }
+}
+
+/// Does so eight columns at once. The last eight may go past the run, where nothing changes.
+#[inline(never)]
+fn draw_narrow(pixels: &mut [[u8; 4]], cap: usize, from: usize, to: usize, bits: u8, color: [u8; 4])
+    requires ordered { from ≤ to }
+    requires within { to + 8 ≤ cap }
+    requires few { cap ≤ 1000008 }
+    requires fits { length pixels.old ≡ 6 * cap }
+    ensures len { length pixels.new ≡ length pixels.old }
+    ensures drawn { (d : List ℕ) (column k : ℕ) → column < cap → k < 6
+        → stored pixels.new cap d column k
+        ≡ (if covers from to 0 bits column k then color else stored pixels.old cap d column k) }
+{
+    'drawn: for i in 0..(to - from).div_ceil(8) {
+        let start = from + 8 * i;
+        draw_eight(pixels, cap, start, to.min(start + 8), bits, color);
+    }
+}
+
+/// Draws a sixel over at most eight columns of six rows, without a branch.
+#[inline(always)]
+fn draw_eight(pixels: &mut [[u8; 4]], cap: usize, from: usize, to: usize, bits: u8, color: [u8; 4])
+    requires ordered { from ≤ to }
+    requires narrow { to ≤ from + 8 }
+    requires within { from + 8 ≤ cap }
+    requires few { cap ≤ 1000008 }
+    requires fits { length pixels.old ≡ 6 * cap }
+    ensures len { length pixels.new ≡ length pixels.old }
+    ensures drawn { (d : List ℕ) (column k : ℕ) → column < cap → k < 6
+        → stored pixels.new cap d column k
+        ≡ (if covers from to 0 bits column k then color else stored pixels.old cap d column k) }
+{
+    'drawn: for bit in 0..6 {
+        let count = counted(bits, bit, to - from);
+        fill_eight(pixels, bit * cap + from, count, color);
+    }
+}
+
+/// Returns how many columns of the row of this bit a sixel colors.
+#[inline(always)]
+fn counted(bits: u8, bit: usize, columns: usize) -> usize
+    requires { bit < 6 }
+    ensures { result ≡ (if is_set bits bit then columns else 0) }
+{
+    if (bits >> bit) % 2 == 1 { columns } else { 0 }
+}
+
+/// Draws a sixel row by row.
+#[inline(never)]
 fn fill_rows(pixels: &mut [[u8; 4]], cap: usize, from: usize, to: usize, bits: u8, color: [u8; 4])
     requires ordered { from ≤ to }
     requires within { to ≤ cap }

@@ -11,7 +11,7 @@ use Rattle.sixel_base.specs.History.{Sixel, Repeat, Raster, Color, Return, Newli
 use Rattle.sixel_base.specs.History.{goes_on, read}
 use Rattle.sixel_base.specs.Stroke.{Origin}
 use Rattle.sixel_base.specs.inside.Parameters.{IsDigit, Keeps}
-use Rattle.sixel_base.proofs.Reading.{fold-spelling}
+use Rattle.sixel_base.proofs.Histories.{fold-spelling}
 use Rattle.sixel_canvas.specs.declared.drawing.Canvas.{Ghosts}
 use Rattle.sixel_decoder.specs.declared.payload_parser.PayloadParser.{PayloadParser}
 use Rattle.sixel_decoder.specs.declared.payload_parser.OpenCommand.{OpenCommand}

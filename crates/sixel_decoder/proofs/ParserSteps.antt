@@ -20,7 +20,7 @@ use Rattle.sixel_base.specs.Stroke.{Origin}
 use Rattle.sixel_base.specs.Payload.{first_fault, closed, growths}
 use Rattle.sixel_decoder.specs.inside.PayloadParser.{IsOpen, StandsIn}
 use Rattle.sixel_decoder.specs.inside.Painter.{Shows}
-use Rattle.sixel_base.proofs.Reading.{read_goes_on, read_ends}
+use Rattle.sixel_base.proofs.Histories.{read_goes_on, read_ends}
 
 named_along : (e : SixelError) (found found' : Option Fault)
     → ((f : Fault) → found ≡ Some f → found' ≡ Some f)

@@ -16,7 +16,7 @@ use Rattle.sixel_base.specs.Picture.{covers, is_struck}
 use Rattle.sixel_base.specs.Place.{span, across, down, width, height, raster_height}
 use Rattle.sixel_base.specs.Settings.{ratio_of}
 use Rattle.sixel_base.specs.Stroke.{Origin, pixel, registers, color, ratio}
-use Rattle.sixel_base.proofs.Reading.{fold-spelling}
+use Rattle.sixel_base.proofs.Histories.{fold-spelling}
 use Rattle.sixel_base.proofs.Sixels.{blank_set}
 use Rattle.sixel_canvas.specs.declared.drawing.Canvas.{Ghosts}
 use Rattle.sixel_decoder.specs.declared.painter.Painter.{Painter}

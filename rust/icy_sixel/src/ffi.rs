@@ -5,7 +5,7 @@
 //! bytes and numbers and for any handle that it left; none has a further condition. What is trusted
 //! beside that proof is this file, and the compilers on both sides.
 
-use crate::codes::{DONE, OUT_OF_MEMORY};
+use crate::codes::{OK, OUT_OF_MEMORY};
 use std::alloc::{Layout, alloc, dealloc, realloc};
 use std::cell::RefCell;
 use std::ffi::c_void;
@@ -41,8 +41,8 @@ pub(crate) struct Shape {
     pub(crate) width: usize,
     pub(crate) height: usize,
     pub(crate) bytes: usize,
-    pub(crate) pan: u16,
-    pub(crate) pad: u16,
+    pub(crate) pixel_width: u16,
+    pub(crate) pixel_height: u16,
     pub(crate) p1: u8,
     pub(crate) p2: u8,
 }
@@ -50,9 +50,9 @@ pub(crate) struct Shape {
 /// Bytes in a block that the library has handed over.
 #[repr(C)]
 struct Bytes {
-    at: *mut u8,
+    data: *mut u8,
     length: usize,
-    room: usize,
+    capacity: usize,
 }
 
 /// A color.
@@ -82,13 +82,13 @@ unsafe extern "C" {
     safe fn icysixel_begin(handle: &mut Raw) -> u32;
     safe fn icysixel_begin_payload(handle: &mut Raw, p1: i32, p2: i32, grid: i32) -> u32;
     safe fn icysixel_in_payload(handle: &mut Raw) -> u8;
-    safe fn icysixel_size_so_far(handle: &mut Raw, size: &mut Size) -> u32;
-    safe fn icysixel_canvas_writes(handle: &mut Raw) -> u64;
-    safe fn icysixel_canvas_paints(handle: &mut Raw) -> u64;
+    safe fn icysixel_get_size_so_far(handle: &mut Raw, size: &mut Size) -> u32;
+    safe fn icysixel_get_canvas_writes(handle: &mut Raw) -> u64;
+    safe fn icysixel_get_canvas_paints(handle: &mut Raw) -> u64;
     safe fn icysixel_finish(handle: &mut Raw, shape: &mut Shape) -> u32;
     safe fn icysixel_take_pixels(handle: &mut Raw, pixels: &mut Bytes) -> u32;
     safe fn icysixel_abort(handle: &mut Raw) -> u32;
-    safe fn icysixel_register(handle: &mut Raw, number: u8, color: &mut Color) -> u32;
+    safe fn icysixel_get_register(handle: &mut Raw, number: u8, color: &mut Color) -> u32;
     safe fn icysixel_set_register(
         handle: &mut Raw,
         number: u8,
@@ -96,10 +96,10 @@ unsafe extern "C" {
         green: u8,
         blue: u8,
     ) -> u32;
-    safe fn icysixel_reset(handle: &mut Raw) -> u32;
-    safe fn icysixel_crop(handle: &mut Raw) -> u8;
+    safe fn icysixel_reset_registers(handle: &mut Raw) -> u32;
+    safe fn icysixel_get_crop(handle: &mut Raw) -> u8;
     safe fn icysixel_set_crop(handle: &mut Raw, on: u8) -> u32;
-    safe fn icysixel_limit(handle: &mut Raw) -> usize;
+    safe fn icysixel_get_limit(handle: &mut Raw) -> usize;
     safe fn icysixel_set_limit(handle: &mut Raw, pixels: usize) -> u32;
 
     fn icysixel_feed(handle: &mut Raw, piece: *const u8, length: usize, fed: &mut Fed) -> u32;
@@ -126,10 +126,10 @@ unsafe extern "C" {
         max_colors: u16,
         text_length: &mut usize,
     ) -> u32;
-    fn icysixel_take_text(
+    fn icysixel_copy_text(
         handle: &mut Raw,
-        room: *mut u8,
-        length: usize,
+        buf: *mut u8,
+        size: usize,
         wanted: &mut usize,
     ) -> u32;
     fn icysixel_choose_palette(
@@ -137,11 +137,11 @@ unsafe extern "C" {
         length: usize,
         max_colors: u16,
         colors: *mut Color,
-        color_room: usize,
+        color_capacity: usize,
         witnesses: *mut Color,
-        witness_room: usize,
+        witness_capacity: usize,
         indices: *mut u8,
-        index_room: usize,
+        index_capacity: usize,
         palette: &mut Palette,
     ) -> u32;
 }
@@ -151,7 +151,7 @@ pub(crate) type Answer<T> = Result<T, u32>;
 
 /// What a code and what was written beside it say together.
 fn answer<T>(code: u32, value: T) -> Answer<T> {
-    if code == DONE { Ok(value) } else { Err(code) }
+    if code == OK { Ok(value) } else { Err(code) }
 }
 
 /// The parameters of a control string as C has them, where -1 is an absent one.
@@ -217,17 +217,17 @@ impl Handle {
     /// The size that the image that is open has so far.
     pub(crate) fn size_so_far(&mut self) -> Answer<Size> {
         let mut size = Size::default();
-        answer(icysixel_size_so_far(&mut self.0, &mut size), size)
+        answer(icysixel_get_size_so_far(&mut self.0, &mut size), size)
     }
 
     /// How many pixels were copied or filled so far for the image that is open.
     pub(crate) fn canvas_writes(&mut self) -> u64 {
-        icysixel_canvas_writes(&mut self.0)
+        icysixel_get_canvas_writes(&mut self.0)
     }
 
     /// How many pixels sixels of the image that is open have painted so far, at most.
     pub(crate) fn canvas_paints(&mut self) -> u64 {
-        icysixel_canvas_paints(&mut self.0)
+        icysixel_get_canvas_paints(&mut self.0)
     }
 
     /// Closes the image that is open, and gives its shape and its pixels.
@@ -268,28 +268,28 @@ impl Handle {
         call: impl FnOnce(&mut Raw, &mut Shape) -> u32,
     ) -> Answer<(Shape, Vec<u8>)> {
         let mut shape = Shape::default();
-        let mut pixels = Bytes { at: std::ptr::null_mut(), length: 0, room: 0 };
+        let mut pixels = Bytes { data: std::ptr::null_mut(), length: 0, capacity: 0 };
         BARE.with_borrow_mut(Bare::open);
         let mut code = call(&mut self.0, &mut shape);
-        if code == DONE {
+        if code == OK {
             code = icysixel_take_pixels(&mut self.0, &mut pixels);
         }
-        let size = BARE.with_borrow_mut(|bare| bare.close(pixels.at));
-        let Bytes { at, length, room } = answer(code, pixels)?;
-        assert!(length <= room && size.is_none_or(|size| room <= size));
+        let size = BARE.with_borrow_mut(|bare| bare.close(pixels.data));
+        let Bytes { data, length, capacity } = answer(code, pixels)?;
+        assert!(length <= capacity && size.is_none_or(|size| capacity <= size));
         let pixels = match size {
             // SAFETY: the block has no head, so it was had for so many bytes at an alignment of 1;
             // the library has given it up, with its first bytes written.
-            Some(size) => unsafe { Vec::from_raw_parts(at, length, size) },
+            Some(size) => unsafe { Vec::from_raw_parts(data, length, size) },
             // SAFETY: the library has given the block up, with its first bytes written.
-            None => unsafe { copied(at, length) }?,
+            None => unsafe { copied(data, length) }?,
         };
         Ok((shape, pixels))
     }
 
     pub(crate) fn register(&mut self, number: u8) -> [u8; 3] {
         let mut color = Color::default();
-        icysixel_register(&mut self.0, number, &mut color);
+        icysixel_get_register(&mut self.0, number, &mut color);
         [color.red, color.green, color.blue]
     }
 
@@ -298,11 +298,11 @@ impl Handle {
     }
 
     pub(crate) fn reset(&mut self) {
-        icysixel_reset(&mut self.0);
+        icysixel_reset_registers(&mut self.0);
     }
 
     pub(crate) fn crop(&mut self) -> bool {
-        icysixel_crop(&mut self.0) != 0
+        icysixel_get_crop(&mut self.0) != 0
     }
 
     pub(crate) fn set_crop(&mut self, on: bool) {
@@ -310,7 +310,7 @@ impl Handle {
     }
 
     pub(crate) fn limit(&mut self) -> usize {
-        icysixel_limit(&mut self.0)
+        icysixel_get_limit(&mut self.0)
     }
 
     pub(crate) fn set_limit(&mut self, pixels: usize) {
@@ -341,18 +341,17 @@ impl Handle {
         answer(code, bytes)
     }
 
-    /// Appends the text that is kept, and keeps it no more. A refusal keeps it.
+    /// Appends the stored text and releases it. After an error it is still stored.
     pub(crate) fn take_text(&mut self, text: &mut Vec<u8>) -> Answer<()> {
-        append(text, |room, length, wanted| {
-            // SAFETY: the pointer and the length are those of the vector's own spare room, which is
-            // only written to.
-            unsafe { icysixel_take_text(&mut self.0, room, length, wanted) }
+        append(text, |buf, size, wanted| {
+            // SAFETY: the pointer and the size are those of the vector's own spare capacity, which
+            // is only written to.
+            unsafe { icysixel_copy_text(&mut self.0, buf, size, wanted) }
         })
     }
 }
 
-/// Writes the palette of these pixels and its witnesses into their rooms, and appends a byte for
-/// each pixel to the indices.
+/// Writes the palette of pixels and its witnesses, and appends the index of each pixel.
 pub(crate) fn choose_palette(
     pixels: &[u8],
     max_colors: u16,
@@ -361,10 +360,10 @@ pub(crate) fn choose_palette(
     indices: &mut Vec<u8>,
 ) -> Answer<Palette> {
     let mut palette = Palette::default();
-    append(indices, |room, length, written| {
+    append(indices, |buf, size, written| {
         *written = pixels.len() / 4;
         // SAFETY: the pointers and the lengths are those of slices, the first of which is only
-        // read, and of the vector's own spare room, which is only written to.
+        // read, and of the vector's own spare capacity, which is only written to.
         unsafe {
             icysixel_choose_palette(
                 pixels.as_ptr(),
@@ -374,8 +373,8 @@ pub(crate) fn choose_palette(
                 colors.len(),
                 witnesses.as_mut_ptr(),
                 witnesses.len(),
-                room,
-                length,
+                buf,
+                size,
                 &mut palette,
             )
         }
@@ -401,15 +400,15 @@ unsafe fn copied(block: *mut u8, length: usize) -> Answer<Vec<u8>> {
     had.map(|()| bytes).map_err(|_| OUT_OF_MEMORY)
 }
 
-/// Appends what a call writes to the spare room of a vector, and what it tells the number of.
+/// Appends the bytes that a call writes to the spare capacity of a vector and counts.
 fn append(bytes: &mut Vec<u8>, call: impl FnOnce(*mut u8, usize, &mut usize) -> u32) -> Answer<()> {
-    let room = bytes.spare_capacity_mut();
+    let spare = bytes.spare_capacity_mut();
     let mut written = 0;
-    answer(call(room.as_mut_ptr().cast(), room.len(), &mut written), ())?;
-    assert!(written <= room.len());
+    answer(call(spare.as_mut_ptr().cast(), spare.len(), &mut written), ())?;
+    assert!(written <= spare.len());
     let length = bytes.len() + written;
-    // SAFETY: the call was done, so it has written so many bytes from the start of the spare room,
-    // which was seen to have them.
+    // SAFETY: the call succeeded, so it has written so many bytes from the start of the spare
+    // capacity, which has them by the check above.
     unsafe { bytes.set_len(length) };
     Ok(())
 }

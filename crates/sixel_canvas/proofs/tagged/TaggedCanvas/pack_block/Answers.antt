@@ -1,6 +1,6 @@
 use Rattle.std.proofs.Common.{◌≡◌, ℕ, ◌+◌, ◌*◌, ◌/◌, ◌<◌, ◌++◌, false, true, sym, ap, ◌∙◌, arith}
 use Rattle.std.proofs.lemmas.Result.{on_ok_weaker}
-use Rattle.sixel_base.proofs.Joined.{joined-same}
+use Rattle.sixel_base.proofs.PictureBytes.{joined-same}
 use Rattle.sixel_canvas.specs.inside.Canvas.{CanvasState, shown}
 use Rattle.sixel_canvas.specs.inside.Tags.{is_tag}
 use Rattle.sixel_canvas.proofs.Tags.{shown-tagged, under-none, under-tag}

@@ -1,6 +1,6 @@
 use Rattle.std.proofs.Common.{◌+◌, ◌/◌, ◌++◌, ℕ, sym, ap, ◌∙◌, arith}
 use Rattle.std.proofs.lemmas.Result.{on_ok_weaker}
-use Rattle.sixel_base.proofs.Joined.{joined-same}
+use Rattle.sixel_base.proofs.PictureBytes.{joined-same}
 use Rattle.sixel_canvas.specs.inside.Canvas.{CanvasState, shown}
 use Rattle.sixel_canvas.proofs.Tags.{shown-tagged, under-none}
 use Rattle.sixel_canvas.proofs.Tagging.{none_past_rows}

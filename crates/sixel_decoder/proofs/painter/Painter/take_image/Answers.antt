@@ -9,7 +9,7 @@ use Rattle.sixel_base.specs.Place.{width}
 use Rattle.sixel_base.specs.Settings.{mode_of, ratio_of}
 use Rattle.sixel_base.specs.declared.settings.BackgroundMode.{BackgroundMode}
 use Rattle.sixel_base.specs.declared.settings.PixelAspectRatio.{PixelAspectRatio}
-use Rattle.sixel_base.proofs.Joined.{joined-same}
+use Rattle.sixel_base.proofs.PictureBytes.{joined-same}
 use Rattle.sixel_base.specs.Stroke.{pixel, ratio}
 use Rattle.sixel_canvas.specs.declared.drawing.Canvas.{Ghosts}
 use Rattle.sixel_decoder.proofs.painter.Painter.take_image.Goals as goal
