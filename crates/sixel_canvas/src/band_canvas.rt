@@ -124,6 +124,13 @@ impl Canvas for BandCanvas {
 }
 
 impl BandCanvas {
+    /// Returns how many columns and tags were painted so far, at most. The number saturates.
+    pub fn paints(&self) -> u64
+        ensures { result ≡ self.now.band.painted }
+    {
+        self.band.painted()
+    }
+
     /// Writes row `k` of the band, as it shows now, to a row of the caller's.
     pub fn copy_row(&mut self, k: usize, order: ChannelOrder, out: &mut [u8])
         requires { k < 6 }
