@@ -9,7 +9,6 @@ uint32_t (*const feed)(icysixel *, const uint8_t *, size_t, icysixel_fed *) = ic
 uint8_t (*const is_receiving)(icysixel *) = icysixel_is_receiving;
 uint8_t (*const in_payload)(icysixel *) = icysixel_in_payload;
 uint32_t (*const get_size_so_far)(icysixel *, icysixel_size *) = icysixel_get_size_so_far;
-uint64_t (*const get_canvas_writes)(icysixel *) = icysixel_get_canvas_writes;
 uint64_t (*const get_canvas_paints)(icysixel *) = icysixel_get_canvas_paints;
 uint32_t (*const finish)(icysixel *, icysixel_shape *) = icysixel_finish;
 uint32_t (*const abort_image)(icysixel *) = icysixel_abort;
