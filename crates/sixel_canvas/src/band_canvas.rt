@@ -1,13 +1,13 @@
 //! A canvas of one band: the rows above it are final, and stored as those of the image.
 ghost use Rattle.std.specs.Prelude.{◌≡◌, ℕ, ◌+◌, ◌*◌, ◌^◌, ◌≤◌, ◌<◌, List, max, OnErr, OnOk};
-ghost use Rattle.std.specs.Prelude.{◌-◌, ◌/◌, ◌%◌, length, slice_index, nat_lt, if◌then◌else◌};
+ghost use Rattle.std.specs.Prelude.{◌-◌, length, nat_lt, if◌then◌else◌};
+ghost use Rattle.sixel_canvas.specs.Layout.{AreCopied, AreRowsIn};
 ghost use Rattle.sixel_canvas.specs.inside.Band.{cell};
 ghost use Rattle.sixel_canvas.specs.inside.BandCanvas.{band_canvas_shown, IsHeld, IsPaid};
-ghost use Rattle.sixel_canvas.specs.inside.Channels.{in_order};
 ghost use Rattle.sixel_canvas.specs.inside.FinalRows.{final};
 ghost use Rattle.sixel_canvas.specs.inside.TaggedBand.{tagged_cell};
 
-use crate::channels::{ChannelOrder, copy_row};
+use crate::channels::RowLayout;
 use crate::drawing::Canvas;
 use crate::final_rows::FinalRows;
 use crate::tagged_band::TaggedBand;
@@ -124,24 +124,26 @@ impl Canvas for BandCanvas {
 }
 
 impl BandCanvas {
-    /// Writes row `k` of the band, as it shows now, to a row of the caller's.
-    pub fn copy_row(&mut self, k: usize, order: ChannelOrder, out: &mut [u8])
-        requires { k < 6 }
+    /// Copies so many final rows from row `first` on to a caller's memory.
+    pub fn copy_rows(&self, first: usize, rows: usize, layout: RowLayout, out: &mut [u8])
+        requires above { first + rows ≤ self.now.top }
+        requires fits { AreRowsIn layout rows (length out.old) }
         ensures len { length out.new ≡ length out.old }
-        ensures copied { (i : ℕ) → i < 4 * (length out.old / 4) → slice_index out.new i
-            ≡ slice_index (in_order order
-            (band_canvas_shown self.old (i / 4) (self.old.top + k))) (i % 4) }
-        ensures shown { (column row : ℕ) → band_canvas_shown self.new column row
-            ≡ band_canvas_shown self.old column row }
-        ensures top { self.new.top ≡ self.old.top }
-        ensures held { self.new.held ≡ self.old.held }
-        ensures cap { self.new.band.pixels.cap ≡ self.old.band.pixels.cap }
-        ensures reach { self.new.band.pixels.reach ≡ self.old.band.pixels.reach }
-        ensures painted { self.new.band.painted ≡ self.old.band.painted }
+        ensures copied { AreCopied (band_canvas_shown self.now) first rows layout out.old out.new }
     {
-        self.band.settle_all();
-        let background = self.band.background();
-        copy_row(self.band.row(k), background, order, out);
+        // The proof reads the top for the range of its type.
+        let _top = self.top;
+        self.rows.copy(first, rows, layout, out);
+    }
+
+    /// Copies the picture of so many rows to a caller's memory. All that was drawn is final then.
+    pub fn copy_picture(&mut self, rows: usize, layout: RowLayout, out: &mut [u8])
+        requires { AreRowsIn layout rows (length out.old) }
+        ensures len { length out.new ≡ length out.old }
+        ensures copied { AreCopied (band_canvas_shown self.old) 0 rows layout out.old out.new }
+    {
+        self.finish_rows();
+        self.rows.copy(0, rows, layout, out);
     }
 
     /// Makes memory for so many columns of the band, and for its rows among the final ones.
