@@ -5,7 +5,7 @@ ghost use Rattle.sixel_canvas.specs.Layout.{AreCopied, AreRowsIn};
 ghost use Rattle.sixel_canvas.specs.inside.Band.{cell};
 ghost use Rattle.sixel_canvas.specs.inside.BandCanvas.{band_canvas_shown, IsHeld, IsPaid};
 ghost use Rattle.sixel_canvas.specs.inside.FinalRows.{final};
-ghost use Rattle.sixel_canvas.specs.inside.TaggedBand.{tagged_cell};
+ghost use Rattle.sixel_canvas.specs.inside.TaggedBand.{capacity, tagged_cell};
 
 use crate::channels::RowLayout;
 use crate::drawing::Canvas;
@@ -49,11 +49,11 @@ impl Canvas for BandCanvas {
 
     ghost work = { λ canvas. record {
       writes = 0;
-      room = 6 * canvas.band.pixels.cap;
+      room = 6 * capacity canvas.band;
       paints = canvas.band.painted;
     } };
 
-    ghost paid = { λ canvas runs. IsPaid canvas.band.pixels.cap canvas.band.painted
+    ghost paid = { λ canvas runs. IsPaid (capacity canvas.band) canvas.band.painted
         canvas.band.pixels.reach canvas.top runs };
 
     fn new(alloc: Global, background: [u8; 4]) -> BandCanvas {
@@ -156,8 +156,8 @@ impl BandCanvas {
         ensures shown { OnOk result ((column row : ℕ) → band_canvas_shown self.new column row
             ≡ band_canvas_shown self.old column row) }
         ensures top { OnOk result (self.new.top ≡ self.old.top) }
-        ensures cap { OnOk result (self.new.band.pixels.cap
-            ≤ max self.old.band.pixels.cap (2 * columns + 16)) }
+        ensures capacity { OnOk result (capacity self.new.band
+            ≤ max (capacity self.old.band) (2 * columns + 16)) }
         ensures reach { OnOk result (self.new.band.pixels.reach ≡ self.old.band.pixels.reach) }
         ensures painted { OnOk result (self.new.band.painted ≡ self.old.band.painted) }
     {
@@ -178,8 +178,8 @@ impl BandCanvas {
         ensures shown { OnOk result ((column row : ℕ) → band_canvas_shown self.new column row
             ≡ band_canvas_shown self.old column row) }
         ensures top { OnOk result (self.new.top ≡ self.old.top) }
-        ensures cap { OnOk result (self.new.band.pixels.cap
-            ≤ max self.old.band.pixels.cap (2 * columns + 16)) }
+        ensures capacity { OnOk result (capacity self.new.band
+            ≤ max (capacity self.old.band) (2 * columns + 16)) }
         ensures reach { OnOk result (self.new.band.pixels.reach ≡ self.old.band.pixels.reach) }
         ensures painted { OnOk result (self.new.band.painted ≡ self.old.band.painted) }
     {
@@ -201,7 +201,7 @@ impl BandCanvas {
         ensures empty { (column k : ℕ) → tagged_cell self.new.band column k
             ≡ self.new.rows.background }
         ensures reach { self.new.band.pixels.reach ≡ 0 }
-        ensures cap { self.new.band.pixels.cap ≡ self.old.band.pixels.cap }
+        ensures capacity { capacity self.new.band ≡ capacity self.old.band }
         ensures top { self.new.top ≤ self.old.top + 6 }
         ensures held { self.new.held ≡ 0 }
         ensures painted { self.new.band.painted ≡ self.old.band.painted }
@@ -229,7 +229,7 @@ fn hand_out(rows: &mut FinalRows, band: &mut TaggedBand, top: usize, expected_wi
     ensures cleared { (column k : ℕ) → tagged_cell band.new column k ≡ band.old.pixels.background }
     ensures background { band.new.pixels.background ≡ band.old.pixels.background }
     ensures reach { band.new.pixels.reach ≡ 0 }
-    ensures cap { band.new.pixels.cap ≡ band.old.pixels.cap }
+    ensures capacity { capacity band.new ≡ capacity band.old }
     ensures painted { band.new.painted ≡ band.old.painted }
 {
     band.settle_all();
