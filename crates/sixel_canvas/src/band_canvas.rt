@@ -124,6 +124,13 @@ impl Canvas for BandCanvas {
 }
 
 impl BandCanvas {
+    /// Returns how many columns and tags were painted so far, at most. The number saturates.
+    pub fn paints(&self) -> u64
+        ensures { result ≡ self.now.band.painted }
+    {
+        self.band.painted()
+    }
+
     /// Copies so many final rows from row `first` on to a caller's memory.
     pub fn copy_rows(&self, first: usize, rows: usize, layout: RowLayout, out: &mut [u8])
         requires above { first + rows ≤ self.now.top }

@@ -5,7 +5,7 @@
 ghost use Rattle.std.specs.Prelude.{◌≡◌, true, false};
 ghost use Rattle.sixel_base.specs.Dcs.{dcs_in_payload, has_come};
 ghost use Rattle.sixel_decoder.specs.DcsCalls.{begun, IsFed, IsFinished, IsSizeSoFar};
-ghost use Rattle.sixel_decoder.specs.DcsCalls.{IsWriteCount, IsPaintCount};
+ghost use Rattle.sixel_decoder.specs.DcsCalls.{IsWriteCount, IsPaintCount, IsBandPaintCount};
 ghost use Rattle.sixel_decoder.specs.PictureView.{picture_value};
 
 use crate::dcs_parser::{DcsParser, DcsState};
@@ -14,6 +14,7 @@ use crate::log::Log;
 use sixel_base::state::DecoderState;
 use sixel_base::status::{SixelDcsFeedResult, SixelDcsFeedStatus};
 use sixel_base::{Result, SixelError};
+use sixel_canvas::band_canvas::BandCanvas;
 use sixel_canvas::drawing::Canvas;
 use sixel_canvas::row_canvas::RowCanvas;
 use std::alloc::Global;
@@ -117,6 +118,18 @@ impl DcsReader<RowCanvas> {
     /// Returns how many pixels sixels of the payload have painted at most.
     pub fn paints(&self) -> u64
         ensures { IsPaintCount self.now result }
+    {
+        let DcsState::Payload(reader) = &self.parser.state else {
+            return 0;
+        };
+        reader.paints()
+    }
+}
+
+impl DcsReader<BandCanvas> {
+    /// Returns how many columns and tags sixels of the payload have painted at most.
+    pub fn paints(&self) -> u64
+        ensures { IsBandPaintCount self.now result }
     {
         let DcsState::Payload(reader) = &self.parser.state else {
             return 0;

@@ -5,7 +5,7 @@
 ghost use Rattle.std.specs.Prelude.{◌≡◌, None, Some};
 ghost use Rattle.sixel_base.specs.Decoder.{origin_of};
 ghost use Rattle.sixel_decoder.specs.PayloadCalls.{begun, IsFed, IsFinished, IsSizeSoFar};
-ghost use Rattle.sixel_decoder.specs.PayloadCalls.{IsWriteCount, IsPaintCount};
+ghost use Rattle.sixel_decoder.specs.PayloadCalls.{IsWriteCount, IsPaintCount, IsBandPaintCount};
 ghost use Rattle.sixel_decoder.specs.PictureView.{picture_value};
 
 use crate::decoded_payload::DecodedPayload;
@@ -15,6 +15,7 @@ use sixel_base::settings::DcsSettings;
 use sixel_base::state::DecoderState;
 use sixel_base::status::{SixelFeedResult, SixelFeedStatus};
 use sixel_base::{Result, SixelError};
+use sixel_canvas::band_canvas::BandCanvas;
 use sixel_canvas::drawing::Canvas;
 use sixel_canvas::row_canvas::RowCanvas;
 use std::alloc::Global;
@@ -122,6 +123,18 @@ impl PayloadReader<RowCanvas> {
     /// Returns how many pixels sixels have painted at most.
     pub fn paints(&self) -> u64
         ensures { IsPaintCount self.now result }
+    {
+        let Some(parser) = &self.parser else {
+            return 0;
+        };
+        parser.painter.canvas.paints()
+    }
+}
+
+impl PayloadReader<BandCanvas> {
+    /// Returns how many columns and tags sixels have painted at most.
+    pub fn paints(&self) -> u64
+        ensures { IsBandPaintCount self.now result }
     {
         let Some(parser) = &self.parser else {
             return 0;
