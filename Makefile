@@ -37,8 +37,8 @@ program_files = $(foreach name,sixel sixel_filter,755:crates/$(name)/out/$(name)
 library_files = 644:out/libicysixel.a:lib/libicysixel.a 644:out/icysixel.h:include/icysixel.h \
 	755:$(shared):lib/libicysixel.so.$(version) 644:man/icysixel.3:share/man/man3/icysixel.3 \
 	$(foreach path,$(wildcard examples/*.c examples/python/*),644:$(path):share/doc/icysixel/$(path))
-links = $(installed)/lib/$(soname) $(installed)/lib/libicysixel.so
-described = $(installed)/lib/pkgconfig/icysixel.pc
+links = lib/$(soname) lib/libicysixel.so
+described = lib/pkgconfig/icysixel.pc
 
 all: program lib
 
@@ -64,13 +64,14 @@ install-program: program
 
 install-lib: lib
 	$(call copy,$(library_files))
-	$(foreach link,$(links),ln -sf libicysixel.so.$(version) "$(link)" &&) :
-	mkdir -p "$(dir $(described))"
-	$(call describe,$(prefix),/lib,/include) >"$(described)"
+	$(foreach link,$(links),ln -sf libicysixel.so.$(version) "$(installed)/$(link)" &&) :
+	mkdir -p "$(installed)/lib/pkgconfig"
+	$(call describe,$(prefix),/lib,/include) >"$(installed)/$(described)"
 
 uninstall:
-	rm -rf $(foreach file,$(program_files) $(library_files),"$(installed)/$(call part,3)") \
-		$(foreach file,$(links) $(described) $(installed)/share/doc/icysixel,"$(file)")
+	rm -f $(foreach file,$(program_files) $(library_files),"$(installed)/$(call part,3)")
+	rm -f $(foreach file,$(links) $(described),"$(installed)/$(file)")
+	rm -rf "$(installed)/share/doc/icysixel"
 
 clean:
 	rm -rf out crates/*/out
@@ -98,7 +99,7 @@ unique = $(if $1,$(firstword $1) $(call unique,$(filter-out $(firstword $1),$1))
 sources = crates.txt $(wildcard out/cpu) $(shell find $(wildcard $(foreach name,\
 	$(call unique,$(call below,$1)),$(foreach folder,src specs proofs,crates/$(name)/$(folder)))))
 
-# The processor of the last build, if one was chosen. A file that is newer than a build repeats it.
+# The processor that was chosen last, if one was. out/cpu counts as a source of each build.
 chosen := $(shell cat out/cpu 2>&-)
 ifneq ($(CPU),)
 ifneq ($(CPU),$(chosen))

@@ -84,9 +84,9 @@ class TestInstall(unittest.TestCase):
     @needs("gcc", "nm")
     def test_memory_hooks(self):
         """Another shared library that contains the archive does not export the memory hooks."""
-        archive, library = self.folder / "lib/libicysixel.a", self.folder / "other.so"
-        linked = ["-Wl,--whole-archive", archive, "-Wl,--no-whole-archive", "-o", library]
-        self.assertEqual(run("gcc", "-shared", *linked), (0, b"", b""))
+        library = Path(self.enterContext(tempfile.TemporaryDirectory())) / "other.so"
+        whole = f"-Wl,--whole-archive,{self.folder}/lib/libicysixel.a,--no-whole-archive"
+        self.assertEqual(run("gcc", "-shared", whole, "-o", library), (0, b"", b""))
         names = run("nm", "-D", library)[1]
         self.assertIn(b" icysixel_new", names)
         self.assertNotIn(b"rattle_", names)

@@ -1,4 +1,4 @@
--- What the words after the program's own name ask for, by their places.
+-- What the arguments after the program's own name ask for, by their places.
 use Rattle.std.proofs.Common.{◌≡◌, ◌<◌, ◌≤◌, ℕ, List, [], ◌∷◌, length, get_or, refl, ap, sym, ◌∙◌}
 use Rattle.std.proofs.Common.{arith, Option, None, Some, IfSome, IfNone, option_map, slice_get}
 use Rattle.std.proofs.Common.{string_bytes, String}
@@ -8,7 +8,7 @@ use Rattle.std.proofs.lemmas.Option.{slice_get_past}
 use Rattle.sixel.specs.declared.words.Word.{Word}
 use Rattle.sixel.specs.Words.{Asks, IsAskedBy, words_of}
 
--- a word that is there
+-- an argument that is there
 pub word_there : (words : List (String Global)) (place : ℕ) (word : String Global)
     → place < length words → word ≡ get_or words place word
     → slice_get (words_of words) place ≡ Some (string_bytes word)
@@ -23,7 +23,7 @@ no_word words place past =
     slice_get-map string_bytes words place
     ∙ ap (option_map string_bytes) (slice_get_past words place past)
 
--- The first word, and what is at the three places after it, of at most four words.
+-- The first argument, and what is at the three places after it, of at most four arguments.
 pub record Places (words : List (List ℕ)) (word : List ℕ) (a b c : Option (List ℕ)) : Type 0 where
   pub first : slice_get words 0 ≡ Some word
   pub second : a ≡ slice_get words 1
@@ -75,7 +75,7 @@ none_there words word a b c None p none = λ asked by.
     none asked (there_asks words word a b c asked p by)
 none_there words word a b c (Some asked) p none = tt
 
--- what was written for a word that was asked for
+-- what was written for work that was asked for
 pub asked-for : (IsAsked : Word → Type 0) (IsWritten : Word → List ℕ → Type 0)
     (remaining : Option (List ℕ)) (word : Word) → IsAsked word
     → IfSome remaining (IsWritten word)

@@ -1,4 +1,4 @@
--- A control string that is complete has bytes of its own.
+-- How many bytes of a list belong to a complete DCS sequence.
 use Rattle.std.proofs.Common.{◌≡◌, ℕ, ◌+◌, ◌<◌, Bool, true, false, cond, List, [], ◌∷◌, arith}
 use Rattle.std.proofs.Common.{Option, Some, None}
 use Rattle.std.specs.Prelude.{◌==◌, ◌||◌}
@@ -36,6 +36,6 @@ stage_counts bytes (Failing fault) is = absurd cc
 stage_counts bytes (Reading s payload) is =
     omega (arith, payload_counts payload (first_terminator payload) is)
 
--- a string that is complete has bytes of its own
+-- a sequence that is complete has bytes of its own
 pub complete_counts : (bytes : List ℕ) → dcs_status bytes ≡ Complete → 0 < dcs_count bytes
 complete_counts bytes whole = stage_counts bytes (stage bytes) whole

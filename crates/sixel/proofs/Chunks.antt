@@ -1,4 +1,4 @@
--- The pieces of a string that were fed, and the bytes after them.
+-- The chunks of a DCS sequence that were fed, and the bytes after them.
 use Rattle.std.proofs.Common.{◌≡◌, ℕ, ◌+◌, ◌*◌, ◌<◌, List, ◌++◌, refl, ap, sym, ◌∙◌, arith, take}
 use Rattle.std.proofs.Common.{drop, true, false}
 use Rattle.std.specs.Prelude.{nat_lt}
@@ -10,7 +10,7 @@ use Rattle.sixel_base.specs.Dcs.{dcs_status}
 use Rattle.sixel.specs.Strings.{IsFedInPieces}
 use Rattle.sixel.proofs.DcsSequences.{Begins}
 
--- Whole pieces were fed, each of them since the string had not ended, and the rest follows.
+-- Whole chunks were fed, each because the sequence had not ended, and the rest follows.
 pub record Cut (piece_len : ℕ) (bytes fed rest : List ℕ) : Type 0 where
   pub pieces : ℕ
   pub whole : fed ≡ take (pieces * piece_len) bytes
@@ -18,16 +18,19 @@ pub record Cut (piece_len : ℕ) (bytes fed rest : List ℕ) : Type 0 where
   pub needed : (fewer : ℕ) → fewer < pieces
       → dcs_status (take (fewer * piece_len) bytes) ≡ NeedMoreData
 
+-- the chunks that were fed begin the bytes
 pub cut_begins : (n : ℕ) (bytes fed rest : List ℕ) → Cut n bytes fed rest → Begins fed bytes
 cut_begins n bytes fed rest c = record {
   rest = rest;
   joined = rw (c.whole, c.left) (take-append-drop (c.pieces * n) bytes);
 }
 
+-- the bytes are those that were fed and the rest
 pub cut_joined : (n : ℕ) (bytes fed rest : List ℕ) → Cut n bytes fed rest → fed ++ rest ≡ bytes
 unfolding cut_begins
 cut_joined n bytes fed rest c = (cut_begins n bytes fed rest c).joined
 
+-- the bytes of a sequence that was fed begin all bytes
 pub pieces_begin : (n : ℕ) (bytes fed : List ℕ) → IsFedInPieces n bytes fed → Begins fed bytes
 pieces_begin n bytes fed p = record {
   rest = drop (p.pieces * n) bytes;
@@ -47,7 +50,7 @@ needed_more n pieces bytes needed waits fewer less =
           ap (λ k. dcs_status (take (k * n) bytes)) same ∙ waits
     ]) refl
 
--- and one piece more, where the string has not ended
+-- and one chunk more, if the sequence has not ended
 pub cut_more : (n : ℕ) (bytes fed rest fed' piece after : List ℕ) → piece ≡ take n rest
     → after ≡ drop n rest → fed' ≡ fed ++ piece → dcs_status fed ≡ NeedMoreData
     → Cut n bytes fed rest → Cut n bytes fed' after

@@ -1,4 +1,4 @@
--- What a session that was fed a beginning of the bytes says about the string that they begin with.
+-- What a session that was fed some of the bytes shows about the DCS sequence at their start.
 use Rattle.std.proofs.Common.{◌≡◌, ℕ, ◌<◌, ◌≤◌, Bool, true, false, List, [], ◌∷◌, ◌++◌, refl, ap}
 use Rattle.std.proofs.Common.{sym, ◌∙◌, subst, arith, length, length-append, Option, Some, None}
 use Rattle.std.specs.Prelude.{◌==◌, IsSomeAnd}
@@ -17,6 +17,7 @@ use Rattle.sixel_base.specs.declared.status.SixelDcsFeedStatus.TheVariants.{Canc
 use Rattle.sixel_base.specs.Dcs.{dcs_status, dcs_fault, has_ended, end_fault}
 use Rattle.sixel.specs.Strings.{string_fault}
 
+-- a list whose length is 0 is empty
 pub no_bytes : (bytes : List ℕ) → true ≡ (length bytes == 0) → bytes ≡ []
 no_bytes [] is = refl
 no_bytes (byte ∷ bytes) is = absurd (grind (arith, nat_tests))
@@ -26,11 +27,12 @@ pub some_bytes : (bytes : List ℕ) → false ≡ (length bytes == 0) → 0 < le
 some_bytes [] is = absurd (false≢true is)
 some_bytes (byte ∷ bytes) is = omega arith
 
--- With the bytes that follow them, those that were fed are the string.
+-- With the bytes that follow them, those that were fed are the sequence.
 pub record Begins (fed bytes : List ℕ) : Type 0 where
   pub rest : List ℕ
   pub joined : fed ++ rest ≡ bytes
 
+-- a beginning of the bytes is not longer than they are
 pub begins_fits : (fed bytes : List ℕ) → Begins fed bytes → length fed ≤ length bytes
 begins_fits fed bytes b = omega (arith, length-append fed b.rest, ap length b.joined)
 
@@ -46,7 +48,7 @@ named_along e None found' stays is = absurd is
 named_along e (Some f) found' stays is =
     subst (λ w. IsSomeAnd w (IsFault e)) (sym (stays f refl)) is
 
--- a refusal goes on along a fault that stays
+-- an error of a fault is one of any fault that contains it
 Faults-weaker : (e : SixelError) (may : Bool) (found found' : Option Fault)
     → ((f : Fault) → found ≡ Some f → found' ≡ Some f) → Faults e may found
     → Faults e true found'
@@ -61,7 +63,7 @@ Faults-weaker IntegerOverflow may found found' stays is =
     named_along IntegerOverflow found found' stays is
 Faults-weaker OutOfMemory may found found' stays is = refl
 
--- what is wrong with the bytes is the string's fault
+-- what is wrong with the bytes is the sequence's fault
 pub refused_early : (e : SixelError) (may : Bool) (limit : ℕ) (bytes : List ℕ) → 0 < length bytes
     → Faults e may (dcs_fault limit bytes) → Faults e true (string_fault limit bytes)
 refused_early e may limit bytes some is =
@@ -70,7 +72,7 @@ refused_early e may limit bytes some is =
     string_fault-some limit bytes some ∙ ap (λ o. option_or o (end_fault (dcs_status bytes))) found)
     is
 
--- a string that has not ended waits for more
+-- a sequence that has not ended waits for more
 pub goes_on : (status : SixelDcsFeedStatus) → false ≡ has_ended status → status ≡ NeedMoreData
 goes_on NeedMoreData going = refl
 goes_on Complete going = absurd (false≢true going)
@@ -83,7 +85,7 @@ no_end_fault Complete ended = refl
 no_end_fault (Cancelled byte) ended = refl
 no_end_fault (Interrupted byte) ended = refl
 
--- a string that has ended without a fault has none
+-- a sequence that has ended without a fault has none
 pub ended_faultless : (limit : ℕ) (bytes : List ℕ) → 0 < length bytes
     → has_ended (dcs_status bytes) ≡ true → dcs_fault limit bytes ≡ None
     → string_fault limit bytes ≡ None

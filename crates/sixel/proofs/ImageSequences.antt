@@ -1,4 +1,4 @@
--- The answer to control strings, image by image.
+-- The output for DCS sequences, image by image.
 use Rattle.std.proofs.Common.{◌≡◌, ◌⊎◌, inl, inr, ℕ, ◌<◌, List, [], ◌++◌, refl, ap, sym, ◌∙◌, subst}
 use Rattle.std.proofs.Common.{arith, length, length-drop, append_assoc, append-nil, drop, Option}
 use Rattle.std.proofs.Common.{None, true, Result, Ok, Err}
@@ -27,7 +27,7 @@ use Rattle.sixel_io.specs.Output.{Writes}
 use Rattle.sixel.specs.Answer.{IsImageAnswer, Begins, Serves}
 use Rattle.sixel.proofs.ByteCounts.{complete_counts}
 
--- The images before the rest were written, and an answer to the rest completes the answer to all.
+-- The images before the rest were written, and an output for the rest completes that for all.
 pub record Leads (start : DecoderState) (bytes : List ℕ) (now : DecoderState) (rest : List ℕ)
     (a b : Option (List ℕ)) : Type 0 where
   pub text : List ℕ
@@ -35,7 +35,7 @@ pub record Leads (start : DecoderState) (bytes : List ℕ) (now : DecoderState) 
   pub completes : (more : List ℕ) (ending : Ending) → AreAnswered now rest more ending
       → AreAnswered start bytes (text ++ more) ending
 
--- an answer to the rest is the end of the answer to all
+-- an output for the rest is the end of that for all
 pub Serves-led : {A : Type 0} (result : Result A Fault) (start : DecoderState) (bytes : List ℕ)
     (now : DecoderState) (rest : List ℕ) (a b c : Option (List ℕ))
     → Leads start bytes now rest a b → Serves result (AreAnswered now rest) b c
@@ -57,7 +57,7 @@ Serves-led (Err Output) start bytes now rest a b c l (more, (left, ending, is), 
     (sym (append_assoc l.text more left)) (l.completes (more ++ left) ending is) in
     (l.text ++ more, (left, ending, whole), Appends-trans a b c _ _ l.written grown)
 
--- no string is left
+-- no sequence is left
 pub writes_none : (now : DecoderState) (rest : List ℕ) (a : Option (List ℕ)) → rest ≡ []
     → Writes (λ text. AreAnswered now rest text Done) a a
 writes_none now rest a none = (
@@ -66,9 +66,9 @@ writes_none now rest a none = (
   Appends-nil a,
 )
 
--- ---- a string that has ended
+-- ---- a sequence that has ended
 
--- The string that the bytes begin with has ended, with this image, and leaves this decoder.
+-- The sequence that the bytes begin with has ended, with this image, and leaves this decoder.
 pub record HasEnded (now : DecoderState) (bytes : List ℕ) (image : Image) (after : DecoderState)
     : Type 0 where
   pub ended : has_ended (dcs_status bytes) ≡ true
@@ -77,7 +77,7 @@ pub record HasEnded (now : DecoderState) (bytes : List ℕ) (image : Image) (aft
   pub leaves : AreFoundRegisters now (found bytes) after.registers
   pub set : IsSetAs now after
 
--- an answer that begins with an image
+-- an output that begins with an image
 abbrev BeginsWith : DecoderState → List ℕ → Image → Type 0
 BeginsWith now bytes image =
     (more : List ℕ) × (ending : Ending) × AreAnswered now bytes (image_form image ++ more) ending
@@ -111,7 +111,7 @@ begins_by now after bytes image (Cancelled byte) is string =
 begins_by now after bytes image (Interrupted byte) is string =
     begins_last now after bytes image string (ap is_cut_short is)
 
--- nothing is written where memory is wanting
+-- nothing is written if an allocation fails
 refused_image : (now after : DecoderState) (bytes text : List ℕ) (image : Image) (e : SixelError)
     → HasEnded now bytes image after
     → IsImageAnswer image_form None (λ i. i ≡ image) text (Refused e)
@@ -122,7 +122,7 @@ refused_image now after bytes text image e string (nothing, why) =
     subst (λ (t : List ℕ). AreAnswered now bytes t (Refused e))
     (sym nothing) (Broken now bytes e here)
 
--- what is written before a writer fails is a beginning of the answer
+-- what is written before a writer fails is a beginning of the output
 begun_image :
     (now after : DecoderState) (bytes text left : List ℕ) (image : Image) (ending : Ending)
     → HasEnded now bytes image after
@@ -139,7 +139,7 @@ begun_image now after bytes text left image (Refused e) string is = (
   refused_image now after bytes (text ++ left) image e string is,
 )
 
--- an image that could not be written whole ends the answer
+-- an image that could not be written whole ends the output
 pub Serves-broken : (A B : Type 0) (fault : Fault) (now after : DecoderState) (bytes : List ℕ)
     (image : Image) (a b : Option (List ℕ)) → HasEnded now bytes image after
     → Serves {A = A} (Err fault) (IsImageAnswer image_form None (λ i. i ≡ image)) a b
@@ -156,7 +156,7 @@ Serves-broken A B Output now after bytes image a b string (text, (left, ending, 
   grown,
 )
 
--- the image of a complete string leads to the bytes after it
+-- the image of a complete sequence leads to the bytes after it
 leads_more : (start : DecoderState) (bytes : List ℕ) (now after : DecoderState) (rest tail : List ℕ)
     (image : Image) (a b c : Option (List ℕ))
     → HasEnded now rest image after → dcs_status rest ≡ Complete → tail ≡ drop (dcs_count rest) rest
@@ -175,7 +175,7 @@ leads_more start bytes now after rest tail image a b c string whole follows l gr
       (l.completes (image_form image ++ more) ending here);
 }
 
--- what is written where a string's image is
+-- the image of a sequence was written
 pub writes_image : (IsImage : Image → Type 0) (image : Image) (a b : Option (List ℕ))
     → IsImage image → Writes (λ text. IsImageAnswer image_form None (λ i. i ≡ image) text Done) a b
     → (shown : Image) × IsImage shown × Appends a b (image_form shown)
@@ -185,7 +185,7 @@ writes_image IsImage image a b is (text, (_, (i, same, form)), grown) = (
   subst (Appends a b) (form ∙ ap image_form same) grown,
 )
 
--- what stops an answer stops it whatever it would have returned
+-- what stops an output stops it whatever it would have returned
 pub Serves-stopped :
     (A B : Type 0) (fault : Fault) (IsText : List ℕ → Ending → Type 0) (a b : Option (List ℕ))
     → Serves {A = A} (Err fault) IsText a b
@@ -194,7 +194,7 @@ Serves-stopped A B (Sixel e) IsText a b served = served
 Serves-stopped A B Input IsText a b served = served
 Serves-stopped A B Output IsText a b served = served
 
--- an image is written where all is well
+-- an image is written if nothing fails
 pub OnOk-image : {A : Type 0} (IsImage : Image → Type 0) (image : Image) (result : Result A Fault)
     (a b : Option (List ℕ)) → IsImage image
     → Serves result (IsImageAnswer image_form None (λ i. i ≡ image)) a b
@@ -202,7 +202,7 @@ pub OnOk-image : {A : Type 0} (IsImage : Image → Type 0) (image : Image) (resu
 OnOk-image IsImage image (Ok _) a b is served = writes_image IsImage image a b is served
 OnOk-image IsImage image (Err _) a b is served = tt
 
--- and ends the answer elsewhere
+-- and ends the output otherwise
 pub OnErr-broken : {A : Type 0} (result : Result A Fault) (now after : DecoderState)
     (bytes : List ℕ) (image : Image) (a b : Option (List ℕ)) → HasEnded now bytes image after
     → Serves result (IsImageAnswer image_form None (λ i. i ≡ image)) a b
@@ -211,9 +211,9 @@ OnErr-broken (Ok _) now after bytes image a b string served = tt
 OnErr-broken {A} (Err fault) now after bytes image a b string served =
     Serves-broken A A fault now after bytes image a b string served
 
--- ---- strings one after another
+-- ---- sequences one after another
 
--- The images before the rest were written, or all were and no byte is left to answer.
+-- The images before the rest were written, or all were and no byte is left.
 pub data Stands (start : DecoderState) (bytes : List ℕ) (now : DecoderState) (rest : List ℕ)
     (a b : Option (List ℕ)) : Type 0 where
   Leading : Leads start bytes now rest a b → Stands start bytes now rest a b
@@ -231,7 +231,7 @@ stands_first start now bytes a same =
           subst (λ (d : DecoderState). AreAnswered d bytes more ending) same is;
     }
 
--- as long as bytes are left, they are to be answered
+-- as long as bytes are left, more is to be written
 pub still_leads : (start : DecoderState) (bytes : List ℕ) (now : DecoderState) (rest : List ℕ)
     (a b : Option (List ℕ)) → 0 < length rest → Stands start bytes now rest a b
     → Leads start bytes now rest a b
@@ -239,7 +239,7 @@ still_leads start bytes now rest a b some (Leading l) = l
 still_leads start bytes now rest a b some (Answered none written) =
     absurd (omega (arith, some, ap length none))
 
--- and once none is left, the answer is whole
+-- and once none is left, the output is whole
 pub stands_last : (start : DecoderState) (bytes : List ℕ) (now : DecoderState) (rest : List ℕ)
     (a b : Option (List ℕ)) → rest ≡ [] → Stands start bytes now rest a b
     → Writes (λ text. AreAnswered start bytes text Done) a b
@@ -247,7 +247,7 @@ stands_last start bytes now rest a b none (Leading l) =
     Serves-led {A = Unit {0}} (Ok tt) start bytes now rest a b b l (writes_none now rest b none)
 stands_last start bytes now rest a b none (Answered _ written) = written
 
--- a string that has ended is complete or was cut short
+-- a sequence that has ended is complete or ended early
 abbrev EndsBy : SixelDcsFeedStatus → Type 0
 EndsBy status = (status ≡ Complete) ⊎ (is_cut_short status ≡ true)
 
@@ -257,7 +257,7 @@ ends_by Complete ended = inl refl
 ends_by (Cancelled byte) ended = inr refl
 ends_by (Interrupted byte) ended = inr refl
 
--- the bytes to be answered after a string: none where it was cut short
+-- the bytes to read after a sequence: none if it ended early
 pub record Follows (bytes after : List ℕ) : Type 0 where
   pub complete : dcs_status bytes ≡ Complete → after ≡ drop (dcs_count bytes) bytes
   pub cut_short : is_cut_short (dcs_status bytes) ≡ true → after ≡ []
@@ -291,7 +291,7 @@ stands_by start bytes now next rest after image a b c (inr cut) string f grown l
     Answered (f.cut_short cut) (Serves-led {A = Unit {0}} (Ok tt) start bytes now rest a b c l
     (image_form image, CutShort now rest image string.faultless cut string.shows, grown))
 
--- a string more, whose image is written
+-- a sequence more, whose image is written
 pub stands_more : (start : DecoderState) (bytes : List ℕ) (now next : DecoderState)
     (rest after : List ℕ) (image : Image) (a b c : Option (List ℕ))
     → HasEnded now rest image next → Follows rest after → Appends b c (image_form image)

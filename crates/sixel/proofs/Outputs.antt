@@ -22,7 +22,7 @@ use Rattle.sixel.specs.Strings.{Broken}
 use Rattle.sixel_io.specs.Output.{Writes}
 use Rattle.sixel.specs.Answer.{IsAnswer, IsImageAnswer, Begins, Serves}
 
--- ---- an answer that is written in parts
+-- ---- an output that is written in parts
 
 -- a beginning of the bytes, where these stand between a front and a rest
 take-between : (front bytes rest : List ℕ) (count : ℕ)
@@ -33,7 +33,7 @@ take-between front bytes rest count =
     ∙ append_assoc (take count bytes) (drop count bytes) rest)
     ∙ sym (append_assoc front (take count bytes) (drop count bytes ++ rest))
 
--- an answer whose bytes so far stop among these
+-- an output whose bytes so far stop among these
 Begins-part :
     (IsText : List ℕ → Ending → Type 0) (a b c : Option (List ℕ)) (front bytes rest : List ℕ)
     → IsText ((front ++ bytes) ++ rest) Done
@@ -72,7 +72,7 @@ Serves-last {A} (Err f) IsText a b c front bytes whole before all part is_output
     let same = subst (λ t. IsText t Done) (sym (append-nil (front ++ bytes))) whole in
     Serves-part {A = A} (Err f) f IsText a b c front bytes [] same refl is_output before part
 
--- memory may be wanting before anything is written, whatever was asked for
+-- out of memory is an ending of any work
 wanting : (word : Word) (bytes : List ℕ) → IsAnswer word bytes [] (Refused OutOfMemory)
 wanting Payload bytes = (refl, refl)
 wanting Decode bytes = (refl, refl)
@@ -80,6 +80,7 @@ wanting Pam bytes = (refl, refl)
 wanting (Frames length) bytes = Broken new_decoder bytes OutOfMemory refl
 wanting (Encode width height colors) bytes = (refl, inl refl)
 
+-- an allocation can fail before anything is written
 pub Writes-wanting : (word : Word) (remaining held : Option (List ℕ)) (error : SixelError)
     → (Sixel error ≡ Input) ⊎ (Sixel error ≡ Sixel OutOfMemory)
     → IfSome remaining
@@ -113,7 +114,7 @@ pub pam_form-parts : (image : Image) (header pixels : List ℕ) → header ≡ p
 pam_form-parts image header pixels is_header are_pixels =
     ap (λ l. l ++ pixels) is_header ∙ ap (λ l. pam_header image ++ l) are_pixels
 
--- an answer that is also an answer of another kind
+-- an output that is also an output of another kind
 Serves-weaker : {A : Type 0} (result : Result A Fault) (P Q : List ℕ → Ending → Type 0)
     (a b : Option (List ℕ))
     → ((text : List ℕ) (ending : Ending) → P text ending → Q text ending) → Serves result P a b
@@ -131,7 +132,7 @@ Serves-weaker (Err Output) P Q a b also (text, (rest, ending, is), grown) = (
   grown,
 )
 
--- an image is an answer where nothing is wrong
+-- an image is an output if nothing is wrong
 IsImageAnswer-of : (form : Image → List ℕ) (fault : Option data_fault.Fault)
     (IsImage : Image → Type 0) (image : Image) → fault ≡ None → IsImage image
     → (text : List ℕ) (ending : Ending) → IsImageAnswer form None (λ i. i ≡ image) text ending
@@ -154,7 +155,7 @@ Serves-image result form fault IsImage image a b none is =
 
 -- ---- texts
 
--- a call that was not refused had no fault
+-- a call that did not fail had no fault
 pub no_fault : {A E : Type 0} (fault : Option E) (result : Result A E) (x : A) (P : Type 0)
     → result ≡ Ok x → MatchOption fault P (λ e. result ≡ Err e)
     → fault ≡ None

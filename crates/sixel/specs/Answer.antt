@@ -1,6 +1,6 @@
--- What the program writes for a word and the bytes of its input, and how it ends: as the
--- definitions of the data's meaning say, or for want of memory, which may come before any image.
--- The order of the two is this program's own: an image is written once it is whole.
+-- What the program writes for its work and the bytes of its input, and how it ends: as the
+-- definitions of the data's meaning say, or with out of memory, which may come before any image.
+-- The order is this program's own: an image is written once it is whole.
 use Rattle.std.specs.Prelude.{◌≡◌, ◌⊎◌, ℕ, true, List, [], ◌++◌, Option, None, Some, Result, Ok}
 use Rattle.std.specs.Prelude.{Err}
 use Rattle.sixel_base.specs.declared.error.SixelError.TheVariants.{OutOfMemory}
@@ -31,7 +31,7 @@ IsImageAnswer form fault IsImage text Done =
 IsImageAnswer form fault IsImage text (Refused error) =
     (text ≡ []) × data_fault.Faults error true fault
 
--- the text of square pixels on a transparent background, or its refusal with nothing written
+-- the SIXEL output of square pixels on a transparent background, or its error with nothing written
 abbrev pub IsTextAnswer : Image → ℕ → List ℕ → Ending → Type 0
 IsTextAnswer image colors text Done = (image_fault image ≡ None) × IsText image colors text
 IsTextAnswer image colors text (Refused error) =
@@ -43,7 +43,7 @@ IsFoundAnswer form bytes =
     IsImageAnswer form (found_fault new_decoder.pixel_limit (found bytes))
     (IsFoundImage new_decoder (found bytes))
 
--- the text that a word writes for these bytes, and how it ends
+-- the output of this work on these bytes, and how it ends
 abbrev pub IsAnswer : Word → List ℕ → List ℕ → Ending → Type 0
 IsAnswer Payload bytes =
     IsImageAnswer image_form (payload_fault fresh.pixel_limit bytes)
@@ -53,12 +53,12 @@ IsAnswer Pam bytes = IsFoundAnswer pam_form bytes
 IsAnswer (Frames length) bytes = AreAnswered new_decoder bytes
 IsAnswer (Encode width height colors) bytes = IsTextAnswer (square_value bytes width height) colors
 
--- an answer, whatever its ending, begins with this text
+-- an output, whatever its ending, begins with this text
 abbrev pub Begins : (List ℕ → Ending → Type 0) → List ℕ → Type 0
 Begins IsText text = (rest : List ℕ) × (ending : Ending) × IsText (text ++ rest) ending
 
--- What a writer holds grew by an answer as far as it came: the whole of it, that before the
--- refusal, or a beginning where the writer failed.
+-- A writer's contents grew by an output: the whole of it, that before an error in the data, or a
+-- beginning if the writer failed.
 abbrev pub Serves : {A : Type 0} → Result A Fault → (List ℕ → Ending → Type 0) → Option (List ℕ)
     → Option (List ℕ) → Type 0
 Serves (Ok _) IsText old new = Writes (λ text. IsText text Done) old new

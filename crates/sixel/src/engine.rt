@@ -1,3 +1,5 @@
+//! The work of the program: it reads the input, decodes or encodes it, and writes the output.
+
 ghost use Rattle.std.specs.Prelude.{◌≡◌, OnOk, IfSome};
 ghost use Rattle.std.specs.Io.KnownBytes.{Keeps, IsAtEnd};
 ghost use Rattle.sixel_base.specs.declared.error.SixelError.{SixelError};
@@ -17,12 +19,12 @@ use sixel_io::{Fault, read_to_end, write_all};
 use std::alloc::Global;
 use std::io::{Read, Write};
 
-/// Reads the input to its end, does the work of the word, and writes the output.
+/// Reads the input to its end, does the work of the argument, and writes the output.
 ///
-/// The chunks of [`Word::Frames`] have at least one byte, as `read_word` sees to.
+/// The chunks of [`Word::Frames`] have at least one byte, as those of `read_word` have.
 ///
-/// The clauses on bytes hold where the reader reports the bytes that it has left, and the writer
-/// those that it contains.
+/// The clauses on bytes hold if the reader reports the bytes that it has left, and the writer those
+/// that it contains.
 pub fn serve<R: Read, O: Write>(
     alloc: Global,
     word: Word,
@@ -46,7 +48,7 @@ pub fn serve<R: Read, O: Write>(
     answer(alloc, word, &bytes, output)
 }
 
-/// The number of bytes that the input of the word is to have, or 0 where any number will do.
+/// The number of bytes that the input is to have, or 0 if it can have any.
 ///
 /// Raw pixels have four bytes each.
 fn input_len(word: Word) -> usize {
@@ -56,7 +58,7 @@ fn input_len(word: Word) -> usize {
     }
 }
 
-/// Does what the word asks for with these bytes.
+/// Does the work on these bytes.
 fn answer<O: Write>(alloc: Global, word: Word, bytes: &[u8], output: &mut O) -> Result<(), Fault>
     requires { IsServable word }
     ensures { Serves result (IsAnswer word bytes.now) (O.contents output.old)
@@ -87,7 +89,7 @@ fn payload<O: Write>(alloc: Global, bytes: &[u8], output: &mut O) -> Result<(), 
     write_image(alloc, &image, output)
 }
 
-/// Writes the image of the first control string, or of all the bytes as one payload.
+/// Writes the image of the first DCS sequence, or of all bytes as one payload.
 fn decode<O: Write>(alloc: Global, bytes: &[u8], output: &mut O) -> Result<(), Fault>
     ensures { Serves result (IsAnswer Decode bytes.now) (O.contents output.old)
         (O.contents output.new) }
@@ -105,7 +107,7 @@ fn pam<O: Write>(alloc: Global, bytes: &[u8], output: &mut O) -> Result<(), Faul
     write_pam(alloc, &image, output)
 }
 
-/// Writes the text of raw pixels of this width and height, in at most so many colors.
+/// Writes the SIXEL output of raw pixels of this width and height, in at most so many colors.
 fn encode<O: Write>(
     alloc: Global,
     pixels: &[u8],

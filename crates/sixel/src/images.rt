@@ -1,3 +1,5 @@
+//! Images in the program's own form: a line of numbers, then the raw pixels.
+
 ghost use Rattle.std.specs.Prelude.{◌≡◌, None, IfOk, IfErr, string_bytes};
 ghost use Rattle.sixel_base.specs.declared.error.SixelError.TheVariants.{OutOfMemory};
 ghost use Rattle.icy_sixel.specs.ImageView.{image_value};

@@ -49,7 +49,7 @@ fn arguments(rt: &HostRuntime) -> Result<Vec<String>, Fault> {
     Ok(words)
 }
 
-/// Writes a line to standard error where something is wrong.
+/// Writes a line to standard error if something is wrong.
 fn tell(rt: &impl Eprint, response: &Response) -> io::Result<()> {
     match response {
         Response::Done => Ok(()),

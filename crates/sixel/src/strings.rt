@@ -32,7 +32,7 @@ struct ControlString {
     status: SixelDcsFeedStatus,
 }
 
-/// Writes the image of each DCS sequence, until one is cut short or no byte is left.
+/// Writes the image of each DCS sequence, until one ends early or no byte is left.
 ///
 /// Each is fed in chunks of `piece_len` bytes, from its own first byte on.
 pub fn write_strings<O: Write>(
@@ -103,7 +103,7 @@ fn write_read<'a, O: Write>(
     }
 }
 
-/// The bytes to read after a DCS sequence of `len` bytes: none if it was cut short.
+/// The bytes to read after a DCS sequence of `len` bytes: none if it ended early.
 fn bytes_after(status: SixelDcsFeedStatus, len: usize, bytes: &[u8]) -> &[u8]
     requires { len ≤ length bytes.now }
     ensures complete { status ≡ Complete → result.now ≡ drop len bytes.now }

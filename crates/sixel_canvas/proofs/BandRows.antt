@@ -49,7 +49,7 @@ within_row wide from to bit column k inside order within =
     ]
 
 -- what was drawn on the rows above one, and then on it
-more_rows : (hit above up here covered : Bool) (x y z color : List ℕ) →
+pub more_rows : {X : Type 0} (hit above up here covered : Bool) (x y z color : X) →
     z ≡ (if hit then color else y) → hit ≡ (here && covered) →
     y ≡ (if above && covered then color else x) → up ≡ (above || here) →
     z ≡ (if up && covered then color else x)
@@ -63,7 +63,7 @@ more_rows hit false up false true x y z color at is before all = rw (at, is, all
 more_rows hit false up false false x y z color at is before all = rw (at, is, all) before
 
 -- a row is above the next one where it is above this one, or is this one
-rows_up : (k bit : ℕ) → nat_lt k (bit + 1) ≡ (nat_lt k bit || k == bit)
+pub rows_up : (k bit : ℕ) → nat_lt k (bit + 1) ≡ (nat_lt k bit || k == bit)
 rows_up k bit = grind arith
 
 if_here : (here between set : Bool) → (here ≡ true → set ≡ true) →

@@ -1,6 +1,7 @@
 pub mod BandRows
 pub mod BandStates
 pub mod BandTags
+pub mod CopiedRows
 pub mod HandedRows
 pub mod Loans
 pub mod Mixing

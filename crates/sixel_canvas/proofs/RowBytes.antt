@@ -123,6 +123,14 @@ pixels_picture p bytes width (suc height) len same =
     ∙ same column height inside (omega arith)) in
     sym parts ∙ ap (λ xs. xs ++ last) is_front ∙ ap (λ xs. picture p width height ++ xs) is_last
 
+-- the pixel that stands in a row at a column
+pub final_stored : (background bytes : List ℕ) (width rows room column row : ℕ) → column < width →
+    row < rows →
+    pixel_at bytes (row * width + column)
+    ≡ final (rows_state background bytes width rows room) column row
+final_stored background bytes width rows room column row inside above =
+    rw (lt-ltb column width inside, lt-ltb row rows above) refl
+
 -- so many background pixels, or those of a row and background to their right
 background-pixel : (background : List ℕ) (n i : ℕ) → length background ≡ 4 → i < n →
     pixel_at (joined (λ _. background) n) i ≡ background

@@ -3,7 +3,6 @@ pub mod Band
 pub mod BandCanvas
 pub mod Block
 pub mod Canvas
-pub mod Channels
 pub mod Drawn
 pub mod FinalRows
 pub mod Loan

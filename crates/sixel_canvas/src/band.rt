@@ -1,7 +1,7 @@
 //! Six rows of pixels in one block, in which an image's bands are drawn one after another.
 ghost use Rattle.std.specs.Prelude.{◌≡◌, ℕ, ◌+◌, ◌*◌, ◌≤◌, ◌<◌, List, length, max, min};
 ghost use Rattle.std.specs.Prelude.{false, nat_le, nat_lt, ◌&&◌, ◌==◌, slice_index_or};
-ghost use Rattle.std.specs.Prelude.{IfOk, OnErr, OnOk, if◌then◌else◌};
+ghost use Rattle.std.specs.Prelude.{IfOk, if◌then◌else◌};
 ghost use Rattle.sixel_base.specs.Picture.{covers, is_set};
 ghost use Rattle.sixel_canvas.specs.inside.Band.{cell, stored, IsBand};
 ghost use Rattle.sixel_canvas.specs.inside.Drawn.{covers_block};
@@ -10,8 +10,8 @@ use crate::pixel_row::{fill, fill_eight, mix};
 use std::alloc::{AllocError, Global};
 use std::marker::Model;
 
-/// The most columns that a band has memory for: those of an image, and seven blank ones.
-const MAX_CAP: usize = 1_000_008;
+/// The most columns that a band has memory for: those of an image, and eight blank ones.
+pub const MAX_CAP: usize = 1_000_008;
 
 /// Up to how many columns a run is drawn eight columns at once.
 const NARROW: usize = 48;
@@ -85,29 +85,26 @@ impl Band {
         self.background
     }
 
-    /// Makes memory for so many columns, and at least doubles it where it is too small.
+    /// Returns a copy of the band with memory for so many columns.
     #[inline(never)]
-    pub fn widen(&mut self, columns: usize) -> Result<(), AllocError>
-        requires within { columns ≤ 1000008 }
-        ensures held { OnOk result (columns ≤ self.new.cap) }
-        ensures no_more { OnOk result (self.new.cap ≤ max columns (2 * self.old.cap)) }
-        ensures shown { OnOk result ((column k : ℕ) → cell self.new column k
-            ≡ cell self.old column k) }
-        ensures background { self.new.background ≡ self.old.background }
-        ensures reach { self.new.reach ≡ self.old.reach }
-        ensures refused { OnErr result (self.new ≡ self.old) }
-        ensures whole { IsBand self.new }
+    pub fn wider(&self, cap: usize) -> Result<Band, AllocError>
+        requires more { self.now.cap ≤ cap }
+        requires few { cap ≤ 1000008 }
+        ensures cap { IfOk result (λ new. new.cap ≡ cap) }
+        ensures shown { IfOk result (λ new. (column k : ℕ) → cell new column k
+            ≡ cell self.now column k) }
+        ensures background { IfOk result (λ new. new.background ≡ self.now.background) }
+        ensures reach { IfOk result (λ new. new.reach ≡ self.now.reach) }
+        ensures whole { IfOk result (λ new. IsBand new) }
     {
-        let cap = columns.max(MAX_CAP.min(2 * self.cap));
-        self.pixels = widened(
-            *self.pixels.allocator(),
-            &self.pixels,
-            self.cap,
+        let alloc = *self.pixels.allocator();
+        let pixels = widened(alloc, &self.pixels, self.cap, cap, self.background)?;
+        Ok(Band {
+            pixels,
             cap,
-            self.background,
-        )?;
-        self.cap = cap;
-        Ok(())
+            reach: self.reach,
+            background: self.background,
+        })
     }
 
     /// Draws a sixel over the columns from `from` up to before `to`, for which there is memory.

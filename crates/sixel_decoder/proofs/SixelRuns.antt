@@ -168,10 +168,6 @@ IsRun-take n bytes le are k lt =
     subst IsSixelByte (sym (get_or-take n bytes k 0 (omega (arith, lt, length-take n bytes))))
     (are k (omega (arith, lt, length-take n bytes)))
 
-pub IsRun-front : (run bytes : List ℕ) (len : ℕ) → run ≡ take len bytes → len ≤ length bytes
-    → ((k : ℕ) → k < len → IsSixelByte (get_or bytes k 0)) → IsRun run
-IsRun-front run bytes len is le are = subst IsRun (sym is) (IsRun-take len bytes le are)
-
 pub length-front : (run bytes : List ℕ) (len : ℕ) → run ≡ take len bytes → len ≤ length bytes
     → length run ≡ len
 length-front run bytes len is le = omega (arith, ap length is, length-take len bytes, le)

@@ -55,8 +55,8 @@ band_columns (_ ∷ older) = band_columns older
 abbrev pub most_run_paints : ℕ
 most_run_paints = 1151
 
--- for how many pixels a canvas of one band has capacity at most beside the image: six rows of twice
--- the width and 16 columns
+-- for how many pixels and tags a canvas of one band has capacity at most beside the image: six rows
+-- of twice the width and 16 columns
 abbrev pub band_room : History → ℕ
 band_room history = 12 * width history + 96
 

@@ -23,7 +23,8 @@ use Rattle.sixel_filter.specs.Stream.{IsFiltered, Over}
 use Rattle.sixel_filter.specs.inside.Standing.{IsSound, IsSoundAt, IsHeading, IsReading, IsRestAt}
 use Rattle.sixel_filter.specs.inside.Standing.{Leads, Passes}
 use Rattle.sixel_filter.proofs.Header.{passed_held}
-use Rattle.sixel_filter.proofs.Leading.{closed_refused, ends_image}
+use Rattle.sixel_filter.proofs.ClosedImages.{closed_refused}
+use Rattle.sixel_filter.proofs.FilterSteps.{ends_image}
 
 -- ---- a filter can end its stream at any time
 
@@ -93,6 +94,7 @@ lifted f written bytes text l = record {
   joined = ap (λ (t : List ℕ). written ++ t) l.joined;
 }
 
+-- a filter that took no byte has written nothing
 pub passes_none : (f : Filter) (a : Option (List ℕ)) → Passes f f [] a a
 passes_none f a = record { written = []; appended = Appends-nil a; leads = λ more whole l. l }
 
@@ -106,6 +108,7 @@ passes_made f g chunk made a b appended leads = record {
   leads = leads;
 }
 
+-- chunks one after another are one chunk
 pub passes_on : (e f g : Filter) (read chunk : List ℕ) (a b c : Option (List ℕ))
     → Passes e f read a b → Passes f g chunk b c → Passes e g (read ++ chunk) a c
 passes_on e f g read chunk a b c p q = record {
@@ -298,6 +301,7 @@ stopped_along (Err fault) P Q input input' a b along (bytes, eaten, s) = (
   stops_along P Q fault bytes a b along s,
 )
 
+-- where a chunk stops the program, the chunks before it were written
 pub stopped_on : {A : Type 0} (result : Result A Fault) (e f : Filter) (read chunk : List ℕ)
     (input input' a b c : Option (List ℕ)) → Consumes input input' (read ++ chunk)
     → Passes e f read a b
@@ -320,6 +324,7 @@ pub eaten_none : (a b c : Option (List ℕ)) (bytes buffer : List ℕ) (count : 
 eaten_none a b c bytes buffer count none p q =
     Consumes-trans a b c bytes [] p (subst (λ n. Consumes b c (take n buffer)) none q)
 
+-- a read of no bytes consumes nothing
 pub eaten_all : (a b c : Option (List ℕ)) (bytes buffer : List ℕ) (count : ℕ) → count ≡ 0
     → Consumes a b bytes → Consumes b c (take count buffer)
     → Consumes a c bytes

@@ -133,6 +133,7 @@ stays_in bytes more reading =
     let here = is_in bytes reading in
     ap stage_in_payload (stage_reading bytes more here.settings here.payload here.is)
 
+-- an image begins where its bytes have reached a payload
 pub begins : (c : Bool) (bytes more : List ℕ) → Starts c bytes → dcs_in_payload bytes ≡ true
     → begins_image c (bytes ++ more) ≡ true
 begins c [] more starts reading = absurd starts
@@ -279,6 +280,7 @@ after_refused e limit bytes piece more reading sound refused =
 
 -- ---- an image in its place
 
+-- what is written of an image, and then of what follows it, is written of its bytes
 pub made_rest :
     (work : Work) (c : Bool) (decoder after : DecoderState) (bytes written now whole : List ℕ)
     → begins_image c bytes ≡ true
