@@ -41,3 +41,12 @@ pub mod PlainText
 pub mod Tokens
 pub mod UsedBands
 pub mod EncodedText
+pub mod Serpentine
+pub mod DiffusionErrors
+pub mod DiffusionLaws
+pub mod PaletteText
+pub mod SameDithering
+pub mod Verdicts
+pub mod DitheredIndices
+pub mod DiffusionVisit
+pub mod IndexedText

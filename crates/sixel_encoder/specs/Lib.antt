@@ -4,3 +4,5 @@ pub mod inside
 pub mod Encoding
 pub mod Trip
 pub mod Marks
+pub mod Dithering
+pub mod IndexedDrawing
