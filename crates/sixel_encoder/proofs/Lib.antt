@@ -41,8 +41,20 @@ pub mod PlainText
 pub mod Tokens
 pub mod UsedBands
 pub mod EncodedText
+<<<<<<< HEAD
 pub mod GreedyFill
 pub mod PaintedMarks
 pub mod RegisterNumbers
 pub mod SegmentOrder
 pub mod CompactText
+=======
+pub mod Serpentine
+pub mod DiffusionErrors
+pub mod DiffusionLaws
+pub mod PaletteText
+pub mod SameDithering
+pub mod Verdicts
+pub mod DitheredIndices
+pub mod DiffusionVisit
+pub mod IndexedText
+>>>>>>> h_dither
