@@ -41,13 +41,11 @@ pub mod PlainText
 pub mod Tokens
 pub mod UsedBands
 pub mod EncodedText
-<<<<<<< HEAD
 pub mod GreedyFill
 pub mod PaintedMarks
 pub mod RegisterNumbers
 pub mod SegmentOrder
 pub mod CompactText
-=======
 pub mod Serpentine
 pub mod DiffusionErrors
 pub mod DiffusionLaws
@@ -57,4 +55,3 @@ pub mod Verdicts
 pub mod DitheredIndices
 pub mod DiffusionVisit
 pub mod IndexedText
->>>>>>> h_dither
