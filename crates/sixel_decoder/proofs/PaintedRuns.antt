@@ -1,34 +1,23 @@
 -- What a painter shows once sixels of one column each were drawn on its canvas: the pixels that they
 -- cover, and the runs that they are.
-use Rattle.std.proofs.Common.{◌≡◌, ℕ, zero, suc, ◌+◌, ◌*◌, ◌<◌, ◌≤◌, ◌-◌, Bool, true, false}
-use Rattle.std.proofs.Common.{List, [], ◌∷◌, ◌++◌, length, set, get_or, take, length-take}
+use Rattle.std.proofs.Common.{◌≡◌, ℕ, suc, ◌+◌, ◌≤◌, ◌-◌, Bool, true, false}
+use Rattle.std.proofs.Common.{List, [], ◌∷◌, ◌++◌, length, get_or, take}
 use Rattle.std.proofs.Common.{get_or-take, subst, refl}
-use Rattle.std.proofs.Common.{sym, ap, ◌∙◌, inl, inr, None, arith}
-use Rattle.std.specs.Prelude.{fold, nat_lt, nat_le, ◌&&◌, if◌then◌else◌}
-use Rattle.std.proofs.lemmas.List.{get_or_past, get_or-set_same, get_or-set_other}
+use Rattle.std.proofs.Common.{sym, ap, ◌∙◌, inl, inr, arith}
+use Rattle.std.specs.Prelude.{nat_lt, nat_le, ◌&&◌, if◌then◌else◌}
+use Rattle.std.proofs.lemmas.List.{get_or_past}
 use Rattle.std.proofs.lemmas.Bool.{cases_lt, le-ltb, lt-leb, le-leb, lt-ltb}
-use Rattle.sixel_base.specs.History.{Sixel, Repeat, Raster, Color, Return, Newline, Skip, History}
-use Rattle.sixel_base.specs.History.{goes_on, read}
-use Rattle.sixel_base.specs.Payload.{first_fault, closed, growths}
-use Rattle.sixel_base.specs.Fault.{Faults}
-use Rattle.sixel_base.specs.declared.error.SixelError.{SixelError}
+use Rattle.sixel_base.specs.History.{Sixel, History}
 use Rattle.sixel_base.specs.Picture.{covers, is_struck}
-use Rattle.sixel_base.specs.Place.{span, across, down, width, height, raster_height}
-use Rattle.sixel_base.specs.Settings.{ratio_of}
-use Rattle.sixel_base.specs.Stroke.{Origin, pixel, registers, color, ratio}
-use Rattle.sixel_base.proofs.Histories.{fold-spelling}
+use Rattle.sixel_base.specs.Place.{span, across, down}
+use Rattle.sixel_base.specs.Stroke.{Origin, pixel, color}
 use Rattle.sixel_base.proofs.Sixels.{blank_set}
 use Rattle.sixel_canvas.specs.declared.drawing.Canvas.{Ghosts}
 use Rattle.sixel_decoder.specs.declared.painter.Painter.{Painter}
 use Rattle.sixel_decoder.specs.inside.Painter.{FitsColumn, Shows}
-use Rattle.sixel_decoder.specs.declared.payload_parser.PayloadParser.{PayloadParser}
-use Rattle.sixel_decoder.specs.declared.payload_parser.OpenCommand.{OpenCommand}
-use Rattle.sixel_decoder.specs.declared.payload_parser.OpenCommand.TheVariants.{Ground}
-use Rattle.sixel_decoder.specs.inside.PayloadParser.{IsDrawn, Stands, StandsIn}
-use Rattle.sixel_decoder.specs.inside.Runs.{IsSixelByte, IsRun, bits_of, runs_of}
+use Rattle.sixel_decoder.specs.inside.Runs.{runs_of}
 use Rattle.sixel_canvas.specs.inside.Drawn.{Run, run, covers_block}
 use Rattle.sixel_canvas.specs.inside.Drawn.{with_sixels as with_runs}
-use Rattle.sixel_decoder.proofs.ParserSteps.{growths-closed}
 use Rattle.sixel_decoder.proofs.SixelRuns.{with_sixels, IsInside, IsPassed-sixels}
 
 -- whether some of these sixels of one column each covers the pixel
