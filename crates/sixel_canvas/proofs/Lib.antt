@@ -7,16 +7,20 @@ pub mod Mixing
 pub mod OneRow
 pub mod Pictures
 pub mod PixelBytes
+pub mod PixelLists
 pub mod Pixels
 pub mod Results
 pub mod RowBytes
 pub mod Runs
 pub mod RowCosts
+pub mod RowPixels
 mod RowStates
 pub mod Spans
 pub mod Spread
 pub mod Strokes
+pub mod StruckRows
 pub mod Tagging
+pub mod TaggedRows
 pub mod Tags
 pub mod Totals
 pub mod Underway

@@ -8,6 +8,8 @@ pub mod Drawn
 pub mod FinalRows
 pub mod Loan
 pub mod Paints
+pub mod Pixels
 pub mod RowCanvas
 pub mod TaggedBand
+pub mod TaggedRow
 pub mod Tags

@@ -11,7 +11,8 @@ ghost use Rattle.sixel_canvas.specs.inside.Canvas.{IsBounded, IsRowOf};
 ghost use Rattle.sixel_canvas.specs.inside.Loan.{IsLent, IsRoomy, given_back, len_at, lent_to, room_at, share};
 ghost use Rattle.sixel_canvas.specs.inside.Tags.{lies_in};
 
-use crate::line::{AllocResult, Line, add_pixels};
+use crate::line::{AllocResult, Line};
+use crate::span::add_pixels;
 use std::alloc::Global;
 use std::marker::Model;
 

@@ -6,7 +6,7 @@ ghost use Rattle.std.specs.Prelude.{vec_len, vec_capacity};
 ghost use Rattle.sixel_base.specs.Picture.{joined, picture};
 ghost use Rattle.sixel_canvas.specs.inside.FinalRows.{final, pixel_at};
 
-use crate::line::add_pixels;
+use crate::span::add_pixels;
 use std::alloc::{AllocError, Global};
 use std::marker::Model;
 use std::mem;

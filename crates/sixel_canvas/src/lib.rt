@@ -15,6 +15,7 @@ pub mod row_canvas;
 mod span;
 mod tagged;
 pub mod tagged_band;
+mod tagged_row;
 
 pub use row::Row;
 pub use span::fill_rgba_span;

@@ -8,7 +8,7 @@ ghost use Rattle.sixel_canvas.specs.inside.Loan.{IsRoomy, given_back, lent_to, r
 ghost use Rattle.sixel_canvas.specs.inside.Block.{mixed_from};
 
 use crate::block::{dot_from, mix_from, mix_one};
-use crate::span::fill_rgba_span;
+use crate::span::add_pixels;
 use sixel_base::limits::MAX_SIDE;
 use std::alloc::{AllocError, Global};
 use std::marker::Model;
@@ -367,29 +367,4 @@ fn fill_past(pixels: &mut Vec<[u8; 4]>, columns: usize, end: usize, color: [u8; 
 {
     let _grown = pixels.resize(end, color);
     pixels.truncate(columns);
-}
-
-// Appends `count` pixels of one color.
-pub(super) fn add_pixels(bytes: &mut Vec<u8>, count: usize, color: [u8; 4]) -> AllocResult<()>
-    requires { vec_len bytes.old + 4 * count < 2 ^ 63 }
-    ensures ok { OnOk result (bytes.new.items ≡ bytes.old.items ++ joined (λ _. color) count) }
-    ensures len { OnOk result (vec_len bytes.new ≡ vec_len bytes.old + 4 * count) }
-    ensures within_capacity { vec_len bytes.old + 4 * count ≤ vec_capacity bytes.old → IsOk result }
-    ensures refused { OnErr result (bytes.new.items ≡ bytes.old.items) }
-    ensures capacity { vec_capacity bytes.old ≤ vec_capacity bytes.new }
-{
-    if count == 1 {
-        return bytes.extend_from_slice(&color);
-    }
-    let start = bytes.len();
-    bytes.resize(start + 4 * count, 0)?;
-    fill_from(bytes, start, count, color);
-    Ok(())
-}
-
-fn fill_from(bytes: &mut [u8], start: usize, count: usize, color: [u8; 4])
-    requires { start + 4 * count ≡ length bytes.old }
-    ensures { bytes.new ≡ take start bytes.old ++ joined (λ _. color) count }
-{
-    fill_rgba_span(&mut bytes[start..], color);
 }

@@ -11,7 +11,8 @@ ghost use Rattle.sixel_canvas.specs.inside.Paints.{least_painted, IsSpread};
 ghost use Rattle.sixel_canvas.specs.inside.Tags.{is_tag, IsTagged};
 
 use crate::canvas::Canvas;
-use crate::line::{AllocResult, add_pixels};
+use crate::line::AllocResult;
+use crate::span::add_pixels;
 use crate::tagged::blocks::{BLOCK, NO_TAG, can_be_seen, clear_block, strike_rows};
 use crate::tagged::cost::{Band, FOUR_SIXELS, price, with_four_sixels, with_sixel, with_stroke};
 use sixel_base::limits::MAX_SIDE;

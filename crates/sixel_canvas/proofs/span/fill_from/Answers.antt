@@ -1,6 +1,6 @@
 use Rattle.std.proofs.Common.{arith}
 use Rattle.sixel_canvas.proofs.Pixels.{put_mid-colored}
-use Rattle.sixel_canvas.proofs.line.fill_from.Goals as goal
+use Rattle.sixel_canvas.proofs.span.fill_from.Goals as goal
 
 pub returns : goal.returns
 returns c =

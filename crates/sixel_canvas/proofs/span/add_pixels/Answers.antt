@@ -1,6 +1,6 @@
 use Rattle.sixel_base.specs.Picture.{joined}
 use Rattle.sixel_canvas.proofs.Results.{on_ok_left}
-use Rattle.sixel_canvas.proofs.line.add_pixels.Goals as goal
+use Rattle.sixel_canvas.proofs.span.add_pixels.Goals as goal
 
 pub returns-then-count-eq1-clause-ok : goal.returns-then-count-eq1-clause-ok
 unfolding joined
