@@ -51,7 +51,7 @@ int main(int argc, char **argv)
     want(icysixel_new(&handle));
     icysixel_bytes decoded = {0};
     if (!is_raw) decoded = decode(&handle, bytes, length, &shape, times, turns);
-    encode(&handle, is_raw ? bytes : decoded.at, is_raw ? length : decoded.length, &shape, colors,
+    encode(&handle, is_raw ? bytes : decoded.data, is_raw ? length : decoded.length, &shape, colors,
            times, turns);
     icysixel_free_bytes(&decoded);
     icysixel_free(&handle);

@@ -7,8 +7,8 @@
 static void want(uint32_t code)
 {
     char text[64];
-    if (code == ICYSIXEL_DONE) return;
-    icysixel_text(code, (uint8_t *)text, sizeof text);
+    if (code == ICYSIXEL_OK) return;
+    icysixel_strerror(code, text, sizeof text);
     fprintf(stderr, "%s\n", text);
     exit(1);
 }

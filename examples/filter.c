@@ -8,17 +8,17 @@
 /* The bytes of the open DCS sequence, in case they have to be copied. */
 typedef struct {
     uint8_t *bytes;
-    size_t length, room;
+    size_t length, capacity;
 } kept;
 
 static int keep(kept *string, uint8_t byte)
 {
-    if (string->length == string->room) {
-        size_t room = string->room ? 2 * string->room : 4096;
-        uint8_t *bytes = realloc(string->bytes, room);
+    if (string->length == string->capacity) {
+        size_t capacity = string->capacity ? 2 * string->capacity : 4096;
+        uint8_t *bytes = realloc(string->bytes, capacity);
         if (bytes == NULL) return 0;
         string->bytes = bytes;
-        string->room = room;
+        string->capacity = capacity;
     }
     string->bytes[string->length++] = byte;
     return 1;
@@ -34,13 +34,14 @@ static void pass_on(kept *string)
 static void finish(icysixel *decoder, kept *string)
 {
     icysixel_shape shape;
-    if (icysixel_finish(decoder, &shape) == ICYSIXEL_DONE) {
-        printf("[image of %zu x %zu pixels]", shape.width, shape.height * shape.pad / shape.pan);
+    if (icysixel_finish(decoder, &shape) == ICYSIXEL_OK) {
+        size_t height = shape.height * shape.pixel_height / shape.pixel_width;
+        printf("[image of %zu x %zu pixels]", shape.width, height);
         string->length = 0;
     } else {
         pass_on(string);
     }
-    icysixel_drop(decoder);
+    icysixel_discard_image(decoder);
 }
 
 /* Reads a byte outside of DCS sequences, which 0x1b and `P` begin. */
@@ -49,7 +50,7 @@ static void outside(icysixel *decoder, kept *string, uint8_t byte)
     if (byte == 0x1b) pass_on(string);
     if (!keep(string, byte)) exit(3);
     if (byte == 0x1b) return;
-    if (string->length == 2 && byte == 'P' && icysixel_begin(decoder) == ICYSIXEL_DONE) {
+    if (string->length == 2 && byte == 'P' && icysixel_begin(decoder) == ICYSIXEL_OK) {
         icysixel_fed fed;
         icysixel_feed(decoder, string->bytes, string->length, &fed);
         return;
@@ -61,7 +62,7 @@ static void outside(icysixel *decoder, kept *string, uint8_t byte)
 static int inside(icysixel *decoder, kept *string, uint8_t byte)
 {
     icysixel_fed fed = {0};
-    if (icysixel_feed(decoder, &byte, 1, &fed) != ICYSIXEL_DONE) {
+    if (icysixel_feed(decoder, &byte, 1, &fed) != ICYSIXEL_OK) {
         icysixel_abort(decoder);
         pass_on(string);
         return 0;
@@ -82,7 +83,7 @@ int main(void)
     icysixel decoder = {0};
     kept string = {0};
     int byte;
-    if (icysixel_new(&decoder) != ICYSIXEL_DONE) return 3;
+    if (icysixel_new(&decoder) != ICYSIXEL_OK) return 3;
     while ((byte = getchar()) != EOF)
         if (!icysixel_is_receiving(&decoder) || !inside(&decoder, &string, (uint8_t)byte))
             outside(&decoder, &string, (uint8_t)byte);

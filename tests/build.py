@@ -8,9 +8,9 @@ from pathlib import Path
 
 ROOT = Path(__file__).resolve().parent.parent
 DATA = ROOT / "crates/sixel_vectors/data"
-HEADERS = ROOT / "crates/icysixel_c/include"
+HEADERS = ROOT / "crates/icysixel/include"
 # The library for C, as LLVM and as Rattle's own compiler build it.
-ARCHIVES = [ROOT / f"crates/icysixel_c/out/libicysixel_c{it}.a" for it in ("", ".by-rattle")]
+ARCHIVES = [ROOT / f"crates/icysixel/out/libicysixel{it}.a" for it in ("", ".by-rattle")]
 
 
 def builds_of(program):

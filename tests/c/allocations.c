@@ -29,8 +29,8 @@ struct call {
 static uint32_t with_image(icysixel *h, uint32_t code, icysixel_shape shape, struct bytes *made)
 {
     size_t wanted;
-    CHECK(code == ICYSIXEL_DONE || icysixel_pixels(h, NULL, 0, 0, &wanted) == ICYSIXEL_NO_IMAGE);
-    if (code == ICYSIXEL_DONE)
+    CHECK(code == ICYSIXEL_OK || icysixel_copy_pixels(h, NULL, 0, 0, &wanted) == ICYSIXEL_NO_IMAGE);
+    if (code == ICYSIXEL_OK)
         *made = (struct bytes){outcome_of(h, code, shape).pixels, shape.bytes};
     return code;
 }
@@ -54,10 +54,10 @@ static uint32_t make_session(icysixel *h, struct bytes input, uint32_t failed, s
 {
     icysixel_fed fed = {0};
     icysixel_shape shape = {0};
-    uint32_t code = ICYSIXEL_DONE;
-    for (size_t at = 0; code == ICYSIXEL_DONE && at < input.length; at += 7)
+    uint32_t code = ICYSIXEL_OK;
+    for (size_t at = 0; code == ICYSIXEL_OK && at < input.length; at += 7)
         code = icysixel_feed(h, input.at + at, part(input, at, 7).length, &fed);
-    if (code == ICYSIXEL_DONE) code = icysixel_finish(h, &shape);
+    if (code == ICYSIXEL_OK) code = icysixel_finish(h, &shape);
     else check_failed(h, failed);
     CHECK(icysixel_is_receiving(h) == 0);
     return with_image(h, code, shape, made);
@@ -65,14 +65,14 @@ static uint32_t make_session(icysixel *h, struct bytes input, uint32_t failed, s
 
 static uint32_t make_string_session(icysixel *h, struct bytes *made)
 {
-    CHECK(icysixel_begin(h) == ICYSIXEL_DONE);
+    CHECK(icysixel_begin(h) == ICYSIXEL_OK);
     struct bytes input = {(uint8_t *)string, sizeof string - 1};
     return make_session(h, input, ICYSIXEL_DCS_STREAM_FAILED, made);
 }
 
 static uint32_t make_payload_session(icysixel *h, struct bytes *made)
 {
-    CHECK(icysixel_begin_payload(h, 9, 1, -1) == ICYSIXEL_DONE);
+    CHECK(icysixel_begin_payload(h, 9, 1, -1) == ICYSIXEL_OK);
     struct bytes input = {(uint8_t *)payload, sizeof payload - 1};
     return make_session(h, input, ICYSIXEL_STREAM_FAILED, made);
 }
@@ -82,11 +82,11 @@ static uint32_t make_encode(icysixel *h, struct bytes *made)
 {
     size_t length, wanted;
     uint32_t code = icysixel_encode(h, pixels, sizeof pixels, 128, 31, 40, 9, 1, 16, &length);
-    if (code == ICYSIXEL_DONE)
+    if (code == ICYSIXEL_OK)
         code = icysixel_encode(h, pixels, sizeof pixels, 128, 31, 40, 9, 1, 64, &length);
-    if (code == ICYSIXEL_DONE) *made = (struct bytes){malloc(length), length};
-    CHECK(icysixel_take_text(h, made->at, made->length, &wanted)
-          == (code == ICYSIXEL_DONE ? ICYSIXEL_DONE : ICYSIXEL_NO_TEXT));
+    if (code == ICYSIXEL_OK) *made = (struct bytes){malloc(length), length};
+    CHECK(icysixel_copy_text(h, made->at, made->length, &wanted)
+          == (code == ICYSIXEL_OK ? ICYSIXEL_OK : ICYSIXEL_NO_TEXT));
     return code;
 }
 
@@ -98,8 +98,8 @@ static uint32_t make_palette(icysixel *h, struct bytes *made)
     uint8_t indices[sizeof pixels / 4] = {0};
     uint32_t code = icysixel_choose_palette(pixels, sizeof pixels, 16, colors, 16, witnesses, 17,
                                             indices, sizeof indices, &palette);
-    CHECK(palette.colors == (code == ICYSIXEL_DONE ? 16 : 0));
-    append(made, indices, code == ICYSIXEL_DONE ? sizeof indices : 0);
+    CHECK(palette.colors == (code == ICYSIXEL_OK ? 16 : 0));
+    append(made, indices, code == ICYSIXEL_OK ? sizeof indices : 0);
     return code;
 }
 
@@ -107,9 +107,9 @@ static uint32_t make_palette(icysixel *h, struct bytes *made)
 static uint32_t make_new(icysixel *h, struct bytes *made)
 {
     uint32_t code = icysixel_new(h);
-    CHECK(icysixel_abort(h) == (code == ICYSIXEL_DONE ? ICYSIXEL_DONE : ICYSIXEL_NO_HANDLE));
-    CHECK(icysixel_limit(h) == (code == ICYSIXEL_DONE ? 67108864 : 0));
-    append(made, "new", code == ICYSIXEL_DONE ? 3 : 0);
+    CHECK(icysixel_abort(h) == (code == ICYSIXEL_OK ? ICYSIXEL_OK : ICYSIXEL_NO_HANDLE));
+    CHECK(icysixel_get_limit(h) == (code == ICYSIXEL_OK ? 67108864 : 0));
+    append(made, "new", code == ICYSIXEL_OK ? 3 : 0);
     return code;
 }
 
@@ -129,10 +129,10 @@ static icysixel full_decoder(void)
     icysixel h = {0};
     icysixel_shape shape;
     size_t length;
-    CHECK(icysixel_new(&h) == ICYSIXEL_DONE);
-    CHECK(icysixel_decode(&h, (const uint8_t *)"#1;2;9;9;9!9~", 13, &shape) == ICYSIXEL_DONE);
-    CHECK(icysixel_encode(&h, pixels, 4, 0, 1, 1, 9, 1, 256, &length) == ICYSIXEL_DONE);
-    CHECK(icysixel_set_register(&h, 200, 1, 2, 3) == ICYSIXEL_DONE);
+    CHECK(icysixel_new(&h) == ICYSIXEL_OK);
+    CHECK(icysixel_decode(&h, (const uint8_t *)"#1;2;9;9;9!9~", 13, &shape) == ICYSIXEL_OK);
+    CHECK(icysixel_encode(&h, pixels, 4, 0, 1, 1, 9, 1, 256, &length) == ICYSIXEL_OK);
+    CHECK(icysixel_set_register(&h, 200, 1, 2, 3) == ICYSIXEL_OK);
     return h;
 }
 
@@ -146,10 +146,10 @@ static bool meets_failure(const struct call *call, size_t failing, const struct 
     uint32_t code = call->make(&h, &made);
     bool has_failed = memory.requests >= failing;
     memory.failing = 0;
-    CHECK(code == (has_failed ? ICYSIXEL_OUT_OF_MEMORY : ICYSIXEL_DONE));
+    CHECK(code == (has_failed ? ICYSIXEL_OUT_OF_MEMORY : ICYSIXEL_OK));
     if (has_failed) {
         CHECK(call->make == make_new || has_registers(&h, &before));
-        CHECK(call->make(&h, &made) == ICYSIXEL_DONE);
+        CHECK(call->make(&h, &made) == ICYSIXEL_OK);
     }
     CHECK(made.length == expected->length && memcmp(made.at, expected->at, made.length) == 0);
     free(made.at);
@@ -164,7 +164,7 @@ static void test_each_allocation(const struct call *call)
     struct bytes expected = {0};
     size_t failing = 1;
     subject = call->name, line_number = 0;
-    CHECK(call->make(&h, &expected) == ICYSIXEL_DONE && expected.length > 0);
+    CHECK(call->make(&h, &expected) == ICYSIXEL_OK && expected.length > 0);
     icysixel_free(&h);
     while (line_number = failing, meets_failure(call, failing, &expected)) failing++;
     CHECK(failing > 1);
@@ -172,10 +172,9 @@ static void test_each_allocation(const struct call *call)
     free(expected.at);
 }
 
-/* Wide runs over drawn pixels set tags. If their allocation fails, the run is painted instead. */
+/* Wide runs over drawn pixels set tags. If an allocation for them fails, so does the call. */
 static void test_tags(void)
 {
-    size_t painted = 0;
     struct outcome expected = {0};
     struct bytes wide = {0};
     subject = "tags", line_number = 0;
@@ -189,18 +188,17 @@ static void test_tags(void)
         bool has_failed = line_number > 0 && memory.requests >= line_number;
         is_last = line_number > 0 && !has_failed;
         memory.failing = 0;
-        CHECK(code == ICYSIXEL_DONE || (code == ICYSIXEL_OUT_OF_MEMORY && has_failed));
+        CHECK(code == (has_failed ? ICYSIXEL_OUT_OF_MEMORY : ICYSIXEL_OK));
         CHECK(has_registers(&h, &before));
         struct outcome outcome = outcome_of(&h, code, shape);
-        CHECK(line_number == 0 || code != ICYSIXEL_DONE || is_same(&outcome, &expected));
-        painted += has_failed && code == ICYSIXEL_DONE;
+        CHECK(line_number == 0 || code != ICYSIXEL_OK || is_same(&outcome, &expected));
         if (line_number == 0) expected = outcome;
         else free(outcome.pixels);
         icysixel_free(&h);
         CHECK(memory.blocks == 0);
     }
-    CHECK(expected.shape.width == 65535 && painted > 0);
-    printf("tags: %zu allocations, %zu of them for tags\n", line_number - 2, painted);
+    CHECK(expected.shape.width == 65535);
+    printf("tags: %zu allocations\n", line_number - 2);
     free(expected.pixels), free(wide.at);
 }
 
@@ -217,28 +215,29 @@ static void test_no_allocation(void)
     size_t wanted;
     subject = "calls that do not allocate", line_number = 0;
     memory.requests = 0, memory.all_fail = true;
-    CHECK(icysixel_pixels(&h, buffer, sizeof buffer, 0, &wanted) == ICYSIXEL_DONE);
-    CHECK(icysixel_take_text(&h, buffer, sizeof buffer, &wanted) == ICYSIXEL_DONE);
-    CHECK(icysixel_set_register(&h, 1, 1, 2, 3) == ICYSIXEL_DONE);
-    CHECK(icysixel_register(&h, 1, &color) == ICYSIXEL_DONE && color.green == 2);
-    CHECK(icysixel_reset(&h) == ICYSIXEL_DONE);
-    CHECK(icysixel_set_crop(&h, 1) == ICYSIXEL_DONE && icysixel_crop(&h) == 1);
-    CHECK(icysixel_set_limit(&h, 99) == ICYSIXEL_DONE && icysixel_limit(&h) == 99);
-    CHECK(icysixel_begin(&h) == ICYSIXEL_DONE);
-    CHECK(icysixel_feed(&h, (const uint8_t *)"P9;1q#1;2;9;9;9$-!", 19, &fed) == ICYSIXEL_DONE);
-    CHECK(icysixel_size_so_far(&h, &size) == ICYSIXEL_DONE && icysixel_in_payload(&h) == 1);
-    CHECK(icysixel_canvas_writes(&h) == 0 && icysixel_canvas_paints(&h) == 0);
-    CHECK(icysixel_abort(&h) == ICYSIXEL_DONE && icysixel_is_receiving(&h) == 0);
-    CHECK(icysixel_begin_payload(&h, 9, 1, -1) == ICYSIXEL_DONE);
-    CHECK(icysixel_feed(&h, (const uint8_t *)"!65536", 6, &fed) == ICYSIXEL_DONE);
+    CHECK(icysixel_copy_pixels(&h, buffer, sizeof buffer, 0, &wanted) == ICYSIXEL_OK);
+    CHECK(icysixel_copy_text(&h, buffer, sizeof buffer, &wanted) == ICYSIXEL_OK);
+    CHECK(icysixel_set_register(&h, 1, 1, 2, 3) == ICYSIXEL_OK);
+    CHECK(icysixel_get_register(&h, 1, &color) == ICYSIXEL_OK && color.green == 2);
+    CHECK(icysixel_reset_registers(&h) == ICYSIXEL_OK);
+    CHECK(icysixel_set_registers(&h, 2, registers_of(&h).colors, 9) == ICYSIXEL_OK);
+    CHECK(icysixel_set_crop(&h, 1) == ICYSIXEL_OK && icysixel_get_crop(&h) == 1);
+    CHECK(icysixel_set_limit(&h, 99) == ICYSIXEL_OK && icysixel_get_limit(&h) == 99);
+    CHECK(icysixel_begin(&h) == ICYSIXEL_OK);
+    CHECK(icysixel_feed(&h, (const uint8_t *)"P9;1q#1;2;9;9;9$-!", 19, &fed) == ICYSIXEL_OK);
+    CHECK(icysixel_get_size_so_far(&h, &size) == ICYSIXEL_OK && icysixel_in_payload(&h) == 1);
+    CHECK(icysixel_get_canvas_writes(&h) == 0 && icysixel_get_canvas_paints(&h) == 0);
+    CHECK(icysixel_abort(&h) == ICYSIXEL_OK && icysixel_is_receiving(&h) == 0);
+    CHECK(icysixel_begin_payload(&h, 9, 1, -1) == ICYSIXEL_OK);
+    CHECK(icysixel_feed(&h, (const uint8_t *)"!65536", 6, &fed) == ICYSIXEL_OK);
     CHECK(icysixel_feed(&h, (const uint8_t *)"~", 1, &fed) == ICYSIXEL_MALFORMED);
-    CHECK(icysixel_text(ICYSIXEL_MALFORMED, buffer, sizeof buffer) == 20);
-    CHECK(icysixel_drop(&h) == ICYSIXEL_DONE && memory.requests == 0);
+    CHECK(icysixel_strerror(ICYSIXEL_MALFORMED, (char *)buffer, sizeof buffer) == 20);
+    CHECK(icysixel_discard_image(&h) == ICYSIXEL_OK && memory.requests == 0);
     memory.all_fail = false;
-    CHECK(icysixel_set_limit(&h, SIZE_MAX) == ICYSIXEL_DONE);
-    CHECK(icysixel_decode(&h, string, sizeof string - 1, &shape) == ICYSIXEL_DONE);
+    CHECK(icysixel_set_limit(&h, SIZE_MAX) == ICYSIXEL_OK);
+    CHECK(icysixel_decode(&h, string, sizeof string - 1, &shape) == ICYSIXEL_OK);
     memory.requests = 0, memory.all_fail = true;
-    CHECK(icysixel_take_pixels(&h, &block) == ICYSIXEL_DONE && block.length == shape.bytes);
+    CHECK(icysixel_take_pixels(&h, &block) == ICYSIXEL_OK && block.length == shape.bytes);
     icysixel_free(&h);
     icysixel_free_bytes(&block);
     CHECK(memory.requests == 0 && memory.blocks == 0 && memory.bytes == 0);

@@ -27,24 +27,27 @@ static void test_empty_handle(icysixel *h)
     CHECK(icysixel_begin_payload(h, 9, 1, -1) == ICYSIXEL_NO_HANDLE);
     CHECK(icysixel_feed(h, BYTES("~"), &fed) == ICYSIXEL_NO_HANDLE && fed.consumed == 7);
     CHECK(icysixel_finish(h, &shape) == ICYSIXEL_NO_HANDLE);
-    CHECK(icysixel_abort(h) == ICYSIXEL_NO_HANDLE && icysixel_drop(h) == ICYSIXEL_NO_HANDLE);
+    CHECK(icysixel_abort(h) == ICYSIXEL_NO_HANDLE);
+    CHECK(icysixel_discard_image(h) == ICYSIXEL_NO_HANDLE);
     CHECK(icysixel_is_receiving(h) == 0 && icysixel_in_payload(h) == 0);
-    CHECK(icysixel_canvas_writes(h) == 0 && icysixel_canvas_paints(h) == 0);
-    CHECK(icysixel_size_so_far(h, &size) == ICYSIXEL_NO_HANDLE && size.width == 7);
+    CHECK(icysixel_get_canvas_writes(h) == 0 && icysixel_get_canvas_paints(h) == 0);
+    CHECK(icysixel_get_size_so_far(h, &size) == ICYSIXEL_NO_HANDLE && size.width == 7);
     CHECK(icysixel_decode(h, BYTES(red), &shape) == ICYSIXEL_NO_HANDLE);
     CHECK(icysixel_decode_payload(h, BYTES("~"), 9, 1, -1, &shape) == ICYSIXEL_NO_HANDLE);
     CHECK(shape.width == 7 && shape.height == 0);
-    CHECK(icysixel_pixels(h, NULL, 0, 0, &wanted) == ICYSIXEL_NO_HANDLE && wanted == 0);
+    CHECK(icysixel_copy_pixels(h, NULL, 0, 0, &wanted) == ICYSIXEL_NO_HANDLE && wanted == 0);
     CHECK(icysixel_take_pixels(h, &block) == ICYSIXEL_NO_HANDLE && block.length == 7);
-    CHECK(icysixel_register(h, 1, &color) == ICYSIXEL_NO_HANDLE && color.red == 7);
+    CHECK(icysixel_get_register(h, 1, &color) == ICYSIXEL_NO_HANDLE && color.red == 7);
     CHECK(icysixel_set_register(h, 1, 2, 3, 4) == ICYSIXEL_NO_HANDLE);
-    CHECK(icysixel_reset(h) == ICYSIXEL_NO_HANDLE);
-    CHECK(icysixel_crop(h) == 0 && icysixel_set_crop(h, 1) == ICYSIXEL_NO_HANDLE);
-    CHECK(icysixel_limit(h) == 0 && icysixel_set_limit(h, 1) == ICYSIXEL_NO_HANDLE);
+    CHECK(icysixel_get_registers(h, 1, &color, 1) == ICYSIXEL_NO_HANDLE && color.red == 7);
+    CHECK(icysixel_set_registers(h, 1, &color, 1) == ICYSIXEL_NO_HANDLE);
+    CHECK(icysixel_reset_registers(h) == ICYSIXEL_NO_HANDLE);
+    CHECK(icysixel_get_crop(h) == 0 && icysixel_set_crop(h, 1) == ICYSIXEL_NO_HANDLE);
+    CHECK(icysixel_get_limit(h) == 0 && icysixel_set_limit(h, 1) == ICYSIXEL_NO_HANDLE);
     CHECK(icysixel_encode(h, BYTES("rgba"), 0, 1, 1, 9, 1, 9, &length) == ICYSIXEL_NO_HANDLE);
     CHECK(length == 7 && wanted == 0);
     wanted = 7;
-    CHECK(icysixel_take_text(h, NULL, 0, &wanted) == ICYSIXEL_NO_HANDLE && wanted == 0);
+    CHECK(icysixel_copy_text(h, NULL, 0, &wanted) == ICYSIXEL_NO_HANDLE && wanted == 0);
     icysixel_free(h);
 }
 
@@ -56,19 +59,19 @@ static void test_session(icysixel *h)
     icysixel_size size = {0};
     size_t at = 0;
     subject = "session";
-    CHECK(icysixel_begin(h) == ICYSIXEL_DONE && icysixel_is_receiving(h) == 1);
-    CHECK(icysixel_in_payload(h) == 0 && icysixel_size_so_far(h, &size) == ICYSIXEL_NO_SIZE);
-    CHECK(icysixel_canvas_writes(h) == 0 && icysixel_canvas_paints(h) == 0);
+    CHECK(icysixel_begin(h) == ICYSIXEL_OK && icysixel_is_receiving(h) == 1);
+    CHECK(icysixel_in_payload(h) == 0 && icysixel_get_size_so_far(h, &size) == ICYSIXEL_NO_SIZE);
+    CHECK(icysixel_get_canvas_writes(h) == 0 && icysixel_get_canvas_paints(h) == 0);
     for (; fed.status == ICYSIXEL_MORE; at += fed.consumed)
-        CHECK(icysixel_feed(h, (const uint8_t *)red + at, 1, &fed) == ICYSIXEL_DONE);
+        CHECK(icysixel_feed(h, (const uint8_t *)red + at, 1, &fed) == ICYSIXEL_OK);
     CHECK(fed.status == ICYSIXEL_COMPLETE && fed.byte == 0 && at == sizeof red - 5);
-    CHECK(icysixel_in_payload(h) == 1 && icysixel_size_so_far(h, &size) == ICYSIXEL_DONE);
+    CHECK(icysixel_in_payload(h) == 1 && icysixel_get_size_so_far(h, &size) == ICYSIXEL_OK);
     CHECK(size.width == 12 && size.height == 6);
-    CHECK(icysixel_canvas_writes(h) >= 72 && icysixel_canvas_writes(h) <= 3 * 72);
-    CHECK(icysixel_canvas_paints(h) >= 72 && icysixel_canvas_paints(h) <= 3 * 72 + 4602);
-    CHECK(icysixel_finish(h, &shape) == ICYSIXEL_DONE && icysixel_is_receiving(h) == 0);
+    CHECK(icysixel_get_canvas_writes(h) >= 72 && icysixel_get_canvas_writes(h) <= 3 * 72);
+    CHECK(icysixel_get_canvas_paints(h) >= 72 && icysixel_get_canvas_paints(h) <= 3 * 72 + 4602);
+    CHECK(icysixel_finish(h, &shape) == ICYSIXEL_OK && icysixel_is_receiving(h) == 0);
     CHECK(shape.width == 12 && shape.height == 6 && shape.bytes == 288);
-    CHECK(shape.pan == 1 && shape.pad == 1 && shape.p1 == 9 && shape.p2 == 1);
+    CHECK(shape.pixel_width == 1 && shape.pixel_height == 1 && shape.p1 == 9 && shape.p2 == 1);
 }
 
 /* Pixels are copied row by row with a stride, only into a buffer that is large enough, and once. */
@@ -77,20 +80,22 @@ static void test_pixels(icysixel *h)
     uint8_t buffer[6 * 64];
     size_t wanted;
     subject = "pixels";
-    CHECK(icysixel_pixels(h, buffer, 287, 0, &wanted) == ICYSIXEL_SMALL_ROOM && wanted == 288);
-    CHECK(icysixel_pixels(h, NULL, 0, 0, &wanted) == ICYSIXEL_SMALL_ROOM && wanted == 288);
-    CHECK(icysixel_pixels(h, buffer, sizeof buffer, 47, &wanted) == ICYSIXEL_BAD_STRIDE);
+    CHECK(icysixel_copy_pixels(h, buffer, 287, 0, &wanted) == ICYSIXEL_BUFFER_TOO_SMALL);
+    CHECK(wanted == 288);
+    CHECK(icysixel_copy_pixels(h, NULL, 0, 0, &wanted) == ICYSIXEL_BUFFER_TOO_SMALL);
+    CHECK(wanted == 288);
+    CHECK(icysixel_copy_pixels(h, buffer, sizeof buffer, 47, &wanted) == ICYSIXEL_BAD_STRIDE);
     CHECK(wanted == 0);
-    CHECK(icysixel_pixels(h, buffer, 5 * 64 + 47, 64, &wanted) == ICYSIXEL_SMALL_ROOM);
+    CHECK(icysixel_copy_pixels(h, buffer, 5 * 64 + 47, 64, &wanted) == ICYSIXEL_BUFFER_TOO_SMALL);
     CHECK(wanted == 5 * 64 + 48);
     memset(buffer, 7, sizeof buffer);
-    CHECK(icysixel_pixels(h, buffer, 5 * 64 + 48, 64, &wanted) == ICYSIXEL_DONE);
+    CHECK(icysixel_copy_pixels(h, buffer, 5 * 64 + 48, 64, &wanted) == ICYSIXEL_OK);
     CHECK(wanted == 5 * 64 + 48);
     for (size_t row = 0; row < 6; row++) {
         CHECK(is_red(buffer + 64 * row, 12));
         for (size_t gap = 48; gap < 64; gap++) CHECK(buffer[64 * row + gap] == 7);
     }
-    CHECK(icysixel_pixels(h, NULL, 0, 0, &wanted) == ICYSIXEL_NO_IMAGE && wanted == 0);
+    CHECK(icysixel_copy_pixels(h, NULL, 0, 0, &wanted) == ICYSIXEL_NO_IMAGE && wanted == 0);
 }
 
 /* The library's own block belongs to the caller, and outlives later images and the handle. */
@@ -101,22 +106,23 @@ static void test_take_pixels(icysixel *h)
     uint8_t buffer[288];
     size_t wanted;
     subject = "take_pixels";
-    CHECK(icysixel_decode(h, BYTES(red), &shape) == ICYSIXEL_DONE);
-    CHECK(icysixel_take_pixels(h, &first) == ICYSIXEL_DONE);
-    CHECK(first.length == 288 && first.room >= 288 && is_red(first.at, 72));
+    CHECK(icysixel_decode(h, BYTES(red), &shape) == ICYSIXEL_OK);
+    CHECK(icysixel_take_pixels(h, &first) == ICYSIXEL_OK);
+    CHECK(first.length == 288 && first.capacity >= 288 && is_red(first.data, 72));
     CHECK(icysixel_take_pixels(h, &second) == ICYSIXEL_NO_IMAGE);
-    CHECK(second.at == NULL && second.length == 0 && second.room == 0);
-    CHECK(icysixel_pixels(h, buffer, sizeof buffer, 0, &wanted) == ICYSIXEL_NO_IMAGE);
-    CHECK(icysixel_decode(h, BYTES("\033P9;1q!5~\033\\"), &shape) == ICYSIXEL_DONE);
-    CHECK(icysixel_take_pixels(h, &second) == ICYSIXEL_DONE && second.length == 120);
-    CHECK(icysixel_drop(h) == ICYSIXEL_DONE && is_red(first.at, 72));
-    memset(first.at, 7, first.room);
+    CHECK(second.data == NULL && second.length == 0 && second.capacity == 0);
+    CHECK(icysixel_copy_pixels(h, buffer, sizeof buffer, 0, &wanted) == ICYSIXEL_NO_IMAGE);
+    CHECK(icysixel_decode(h, BYTES("\033P9;1q!5~\033\\"), &shape) == ICYSIXEL_OK);
+    CHECK(icysixel_take_pixels(h, &second) == ICYSIXEL_OK && second.length == 120);
+    CHECK(icysixel_discard_image(h) == ICYSIXEL_OK && is_red(first.data, 72));
+    memset(first.data, 7, first.capacity);
     for (int again = 0; again < 2; again++) {
         icysixel_free_bytes(&first);
-        CHECK(first.at == NULL && first.length == 0 && first.room == 0 && second.length == 120);
+        CHECK(first.data == NULL && first.length == 0 && first.capacity == 0);
+        CHECK(second.length == 120);
     }
     icysixel_free(h);
-    CHECK(memcmp(second.at, "\0\0\0\377", 4) == 0);
+    CHECK(memcmp(second.data, "\0\0\0\377", 4) == 0);
     icysixel_free_bytes(&second);
 }
 
@@ -129,21 +135,21 @@ static void test_new_on_full_handle(icysixel *h)
     size_t length;
     subject = "new on a full handle";
     for (line_number = 0; line_number < 3; line_number++) {
-        CHECK(icysixel_new(h) == ICYSIXEL_DONE && icysixel_is_receiving(h) == 0);
-        CHECK(icysixel_register(h, 1, &color) == ICYSIXEL_DONE && color.red == 51);
-        CHECK(icysixel_take_text(h, NULL, 0, &length) == ICYSIXEL_NO_TEXT);
-        CHECK(icysixel_pixels(h, NULL, 0, 0, &length) == ICYSIXEL_NO_IMAGE);
-        CHECK(icysixel_limit(h) == 67108864 && icysixel_crop(h) == 0);
-        CHECK(icysixel_decode(h, BYTES(red), &shape) == ICYSIXEL_DONE);
-        CHECK(icysixel_register(h, 1, &color) == ICYSIXEL_DONE && color.red == 255);
-        CHECK(icysixel_encode(h, BYTES("rgb\377"), 0, 1, 1, 9, 1, 256, &length) == ICYSIXEL_DONE);
-        CHECK(icysixel_set_limit(h, 99) == ICYSIXEL_DONE);
-        CHECK(icysixel_set_crop(h, 1) == ICYSIXEL_DONE);
-        CHECK(icysixel_begin_payload(h, 9, 1, -1) == ICYSIXEL_DONE);
-        if (line_number > 0) CHECK(icysixel_feed(h, BYTES("!7~"), &fed) == ICYSIXEL_DONE);
+        CHECK(icysixel_new(h) == ICYSIXEL_OK && icysixel_is_receiving(h) == 0);
+        CHECK(icysixel_get_register(h, 1, &color) == ICYSIXEL_OK && color.red == 51);
+        CHECK(icysixel_copy_text(h, NULL, 0, &length) == ICYSIXEL_NO_TEXT);
+        CHECK(icysixel_copy_pixels(h, NULL, 0, 0, &length) == ICYSIXEL_NO_IMAGE);
+        CHECK(icysixel_get_limit(h) == 67108864 && icysixel_get_crop(h) == 0);
+        CHECK(icysixel_decode(h, BYTES(red), &shape) == ICYSIXEL_OK);
+        CHECK(icysixel_get_register(h, 1, &color) == ICYSIXEL_OK && color.red == 255);
+        CHECK(icysixel_encode(h, BYTES("rgb\377"), 0, 1, 1, 9, 1, 256, &length) == ICYSIXEL_OK);
+        CHECK(icysixel_set_limit(h, 99) == ICYSIXEL_OK);
+        CHECK(icysixel_set_crop(h, 1) == ICYSIXEL_OK);
+        CHECK(icysixel_begin_payload(h, 9, 1, -1) == ICYSIXEL_OK);
+        if (line_number > 0) CHECK(icysixel_feed(h, BYTES("!7~"), &fed) == ICYSIXEL_OK);
         if (line_number > 1) CHECK(icysixel_feed(h, BYTES("!65536~"), &fed) == ICYSIXEL_MALFORMED);
     }
-    CHECK(icysixel_new(h) == ICYSIXEL_DONE);
+    CHECK(icysixel_new(h) == ICYSIXEL_OK);
 }
 
 /* An error is kept until the session is closed, and leaves no image. */
@@ -155,21 +161,46 @@ static void test_errors(icysixel *h)
     subject = "errors";
     CHECK(icysixel_feed(h, BYTES("~"), &fed) == ICYSIXEL_NO_SESSION);
     CHECK(icysixel_finish(h, &shape) == ICYSIXEL_NO_SESSION);
-    CHECK(icysixel_decode(h, BYTES(red), &shape) == ICYSIXEL_DONE);
-    CHECK(icysixel_begin_payload(h, -1, -1, -1) == ICYSIXEL_DONE);
+    CHECK(icysixel_decode(h, BYTES(red), &shape) == ICYSIXEL_OK);
+    CHECK(icysixel_begin_payload(h, -1, -1, -1) == ICYSIXEL_OK);
     CHECK(icysixel_feed(h, BYTES("!9~!65536~"), &fed) == ICYSIXEL_MALFORMED);
     CHECK(icysixel_in_payload(h) == 0 && icysixel_is_receiving(h) == 1);
     CHECK(icysixel_finish(h, &shape) == ICYSIXEL_STREAM_FAILED);
-    CHECK(icysixel_pixels(h, NULL, 0, 0, &wanted) == ICYSIXEL_NO_IMAGE);
-    CHECK(icysixel_begin(h) == ICYSIXEL_DONE);
+    CHECK(icysixel_copy_pixels(h, NULL, 0, 0, &wanted) == ICYSIXEL_NO_IMAGE);
+    CHECK(icysixel_begin(h) == ICYSIXEL_OK);
     CHECK(icysixel_feed(h, BYTES("\033Pq!65536~"), &fed) == ICYSIXEL_MALFORMED);
-    CHECK(icysixel_abort(h) == ICYSIXEL_DONE && icysixel_is_receiving(h) == 0);
-    CHECK(icysixel_decode(h, BYTES(red), &shape) == ICYSIXEL_DONE);
+    CHECK(icysixel_abort(h) == ICYSIXEL_OK && icysixel_is_receiving(h) == 0);
+    CHECK(icysixel_decode(h, BYTES(red), &shape) == ICYSIXEL_OK);
     CHECK(icysixel_decode(h, BYTES("!65536~"), &shape) == ICYSIXEL_MALFORMED);
-    CHECK(icysixel_pixels(h, NULL, 0, 0, &wanted) == ICYSIXEL_NO_IMAGE);
+    CHECK(icysixel_copy_pixels(h, NULL, 0, 0, &wanted) == ICYSIXEL_NO_IMAGE);
 }
 
-/* Registers, crop and limit are set and reported. */
+/* Registers are set and read together: not past the last one, and not past the buffer. */
+static void test_registers(icysixel *h)
+{
+    static const icysixel_color three[] = {{1, 2, 3}, {4, 5, 6}, {7, 8, 9}};
+    icysixel_color colors[257] = {0}, one;
+    subject = "registers";
+    CHECK(icysixel_reset_registers(h) == ICYSIXEL_OK);
+    CHECK(icysixel_set_registers(h, 1, three, 2) == ICYSIXEL_OK);
+    CHECK(icysixel_set_registers(h, 254, three, 3) == ICYSIXEL_OK);
+    CHECK(icysixel_set_registers(h, 9, NULL, 0) == ICYSIXEL_OK);
+    colors[256].red = 7;
+    CHECK(icysixel_get_registers(h, 0, colors, 257) == ICYSIXEL_OK && colors[256].red == 7);
+    CHECK(memcmp(colors, "\0\0\0\1\2\3\4\5\6\x33\xcc\x33", 12) == 0);
+    CHECK(memcmp(colors + 253, "\xe8\xe8\xe8\1\2\3\4\5\6", 9) == 0);
+    for (line_number = 0; line_number < 256; line_number++) {
+        CHECK(icysixel_get_register(h, (uint8_t)line_number, &one) == ICYSIXEL_OK);
+        CHECK(memcmp(&one, &colors[line_number], 3) == 0);
+    }
+    CHECK(icysixel_get_registers(h, 2, colors, 1) == ICYSIXEL_OK);
+    CHECK(memcmp(colors, "\4\5\6\1\2\3", 6) == 0);
+    CHECK(icysixel_get_registers(h, 255, colors, 2) == ICYSIXEL_OK);
+    CHECK(memcmp(colors, "\4\5\6\1\2\3", 6) == 0);
+    CHECK(icysixel_get_registers(h, 0, NULL, 0) == ICYSIXEL_OK);
+}
+
+/* Crop and limit, and a register, are set and reported. */
 static void test_settings(icysixel *h)
 {
     icysixel_shape shape = {0};
@@ -177,19 +208,19 @@ static void test_settings(icysixel *h)
     uint8_t buffer[24];
     size_t wanted;
     subject = "settings";
-    CHECK(icysixel_set_register(h, 1, 255, 1, 2) == ICYSIXEL_DONE);
-    CHECK(icysixel_register(h, 1, &color) == ICYSIXEL_DONE);
+    CHECK(icysixel_set_register(h, 1, 255, 1, 2) == ICYSIXEL_OK);
+    CHECK(icysixel_get_register(h, 1, &color) == ICYSIXEL_OK);
     CHECK(color.red == 255 && color.green == 1 && color.blue == 2);
-    CHECK(icysixel_decode(h, BYTES("..\033P0;1q#1@\033\\"), &shape) == ICYSIXEL_DONE);
-    CHECK(icysixel_pixels(h, buffer, sizeof buffer, 0, &wanted) == ICYSIXEL_DONE);
+    CHECK(icysixel_decode(h, BYTES("..\033P0;1q#1@\033\\"), &shape) == ICYSIXEL_OK);
+    CHECK(icysixel_copy_pixels(h, buffer, sizeof buffer, 0, &wanted) == ICYSIXEL_OK);
     CHECK(memcmp(buffer, "\377\1\2\377\0\0\0\0", 8) == 0);
-    CHECK(icysixel_reset(h) == ICYSIXEL_DONE);
-    CHECK(icysixel_register(h, 1, &color) == ICYSIXEL_DONE && color.red == 51);
-    CHECK(icysixel_set_crop(h, 2) == ICYSIXEL_DONE && icysixel_crop(h) == 1);
-    CHECK(icysixel_set_crop(h, 0) == ICYSIXEL_DONE && icysixel_crop(h) == 0);
-    CHECK(icysixel_set_limit(h, 71) == ICYSIXEL_DONE && icysixel_limit(h) == 71);
-    CHECK(icysixel_set_limit(h, 0) == ICYSIXEL_DONE && icysixel_limit(h) == 1);
-    CHECK(icysixel_set_limit(h, SIZE_MAX) == ICYSIXEL_DONE && icysixel_limit(h) == 67108864);
+    CHECK(icysixel_reset_registers(h) == ICYSIXEL_OK);
+    CHECK(icysixel_get_register(h, 1, &color) == ICYSIXEL_OK && color.red == 51);
+    CHECK(icysixel_set_crop(h, 2) == ICYSIXEL_OK && icysixel_get_crop(h) == 1);
+    CHECK(icysixel_set_crop(h, 0) == ICYSIXEL_OK && icysixel_get_crop(h) == 0);
+    CHECK(icysixel_set_limit(h, 71) == ICYSIXEL_OK && icysixel_get_limit(h) == 71);
+    CHECK(icysixel_set_limit(h, 0) == ICYSIXEL_OK && icysixel_get_limit(h) == 1);
+    CHECK(icysixel_set_limit(h, SIZE_MAX) == ICYSIXEL_OK && icysixel_get_limit(h) == 67108864);
 }
 
 /* Pixels that do not fit are rejected. A text is copied once, into a large enough buffer. */
@@ -200,20 +231,20 @@ static void test_encode(icysixel *h)
     size_t length = 7, wanted = 7;
     uint8_t text[64];
     subject = "encode";
-    CHECK(icysixel_take_text(h, NULL, 0, &wanted) == ICYSIXEL_NO_TEXT && wanted == 0);
+    CHECK(icysixel_copy_text(h, NULL, 0, &wanted) == ICYSIXEL_NO_TEXT && wanted == 0);
     CHECK(icysixel_encode(h, rgba, 8, 3, 1, 2, 9, 1, 256, &length) == ICYSIXEL_BAD_STRIDE);
     CHECK(icysixel_encode(h, rgba, 8, 5, 1, 2, 9, 1, 256, &length) == ICYSIXEL_BUFFER_MISMATCH);
     CHECK(length == 7);
-    CHECK(icysixel_encode(h, rgba, 8, 4, 1, 2, 9, 1, 256, &length) == ICYSIXEL_DONE);
+    CHECK(icysixel_encode(h, rgba, 8, 4, 1, 2, 9, 1, 256, &length) == ICYSIXEL_OK);
     CHECK(length == sizeof expected - 1);
-    CHECK(icysixel_take_text(h, text, length - 1, &wanted) == ICYSIXEL_SMALL_ROOM);
+    CHECK(icysixel_copy_text(h, text, length - 1, &wanted) == ICYSIXEL_BUFFER_TOO_SMALL);
     CHECK(wanted == length);
-    CHECK(icysixel_take_text(h, text, length, &wanted) == ICYSIXEL_DONE && wanted == length);
+    CHECK(icysixel_copy_text(h, text, length, &wanted) == ICYSIXEL_OK && wanted == length);
     CHECK(memcmp(text, expected, length) == 0);
-    CHECK(icysixel_take_text(h, text, sizeof text, &wanted) == ICYSIXEL_NO_TEXT && wanted == 0);
-    CHECK(icysixel_encode(h, rgba, 4, 0, 1, 1, 2, 0, 2, &length) == ICYSIXEL_DONE);
-    CHECK(icysixel_drop(h) == ICYSIXEL_DONE);
-    CHECK(icysixel_take_text(h, text, sizeof text, &wanted) == ICYSIXEL_NO_TEXT);
+    CHECK(icysixel_copy_text(h, text, sizeof text, &wanted) == ICYSIXEL_NO_TEXT && wanted == 0);
+    CHECK(icysixel_encode(h, rgba, 4, 0, 1, 1, 2, 0, 2, &length) == ICYSIXEL_OK);
+    CHECK(icysixel_discard_image(h) == ICYSIXEL_OK);
+    CHECK(icysixel_copy_text(h, text, sizeof text, &wanted) == ICYSIXEL_NO_TEXT);
 }
 
 /* Buffers of a palette: those that are too small, and what is left of larger ones. */
@@ -225,13 +256,14 @@ static void test_palette(void)
     icysixel_palette p = {7, 7, 7};
     subject = "palette";
     memset(c, 7, sizeof c), memset(w, 7, sizeof w);
+    static const size_t small[][3] = {{1, 257, 5}, {256, 2, 5}, {256, 257, 3}};
+    for (const size_t(*n)[3] = small; n < small + 3; n++)
+        CHECK(icysixel_choose_palette(rgba, 16, 2, c, (*n)[0], w, (*n)[1], i, (*n)[2], &p)
+              == ICYSIXEL_BUFFER_TOO_SMALL);
     CHECK(icysixel_choose_palette(rgba, 15, 2, c, 256, w, 257, i, 5, &p)
           == ICYSIXEL_BUFFER_MISMATCH);
-    CHECK(icysixel_choose_palette(rgba, 16, 2, c, 1, w, 257, i, 5, &p) == ICYSIXEL_SMALL_ROOM);
-    CHECK(icysixel_choose_palette(rgba, 16, 2, c, 256, w, 2, i, 5, &p) == ICYSIXEL_SMALL_ROOM);
-    CHECK(icysixel_choose_palette(rgba, 16, 2, c, 256, w, 257, i, 3, &p) == ICYSIXEL_SMALL_ROOM);
     CHECK(p.colors == 7 && p.error == 7 && i[0] == 7 && c[0].red == 7 && w[0].red == 7);
-    CHECK(icysixel_choose_palette(rgba, 16, 2, c, 2, w, 3, i, 4, &p) == ICYSIXEL_DONE);
+    CHECK(icysixel_choose_palette(rgba, 16, 2, c, 2, w, 3, i, 4, &p) == ICYSIXEL_OK);
     CHECK(p.colors == 2 && p.witnesses == 3 && p.error == 100);
     CHECK(memcmp(c, "\0\0\0\377\377\377\7", 7) == 0 && memcmp(i, "\1\0\0\0\7", 5) == 0);
     CHECK(memcmp(w, "\0\0\0\377\377\377\n\0\0\7", 10) == 0);
@@ -244,11 +276,11 @@ static void test_text(void)
     subject = "text";
     for (line_number = 0; line_number <= 20; line_number++) {
         uint32_t code = (uint32_t)line_number;
-        size_t length = icysixel_text(code, (uint8_t *)buffer, sizeof buffer);
+        size_t length = icysixel_strerror(code, buffer, sizeof buffer);
         CHECK(length > 0 && length < sizeof buffer && strlen(buffer) == length);
         CHECK((strcmp(buffer, "unknown code") == 0) == (code > ICYSIXEL_DCS_STREAM_FAILED));
-        CHECK(icysixel_text(code, (uint8_t *)buffer, length) == length && buffer[0] == 0);
-        CHECK(icysixel_text(code, (uint8_t *)buffer, length + 1) == length);
+        CHECK(icysixel_strerror(code, buffer, length) == length && buffer[0] == 0);
+        CHECK(icysixel_strerror(code, buffer, length + 1) == length);
         CHECK(strlen(buffer) == length);
     }
 }
@@ -257,12 +289,13 @@ int main(void)
 {
     icysixel h = {0};
     test_empty_handle(&h);
-    CHECK(icysixel_new(&h) == ICYSIXEL_DONE);
+    CHECK(icysixel_new(&h) == ICYSIXEL_OK);
     test_session(&h);
     test_pixels(&h);
     test_errors(&h);
     test_take_pixels(&h);
     test_new_on_full_handle(&h);
+    test_registers(&h);
     test_settings(&h);
     test_encode(&h);
     icysixel_free(&h);

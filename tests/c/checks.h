@@ -54,8 +54,7 @@ struct registers { icysixel_color colors[256]; };
 static inline struct registers registers_of(icysixel *decoder)
 {
     struct registers registers;
-    for (int i = 0; i < 256; i++)
-        CHECK(icysixel_register(decoder, (uint8_t)i, &registers.colors[i]) == ICYSIXEL_DONE);
+    CHECK(icysixel_get_registers(decoder, 0, registers.colors, 256) == ICYSIXEL_OK);
     return registers;
 }
 
@@ -73,8 +72,8 @@ static inline void check_failed(icysixel *decoder, uint32_t failed)
     icysixel_size size;
     CHECK(icysixel_feed(decoder, NULL, 0, &fed) == failed);
     CHECK(icysixel_feed(decoder, (const uint8_t *)"~", 1, &fed) == failed);
-    CHECK(icysixel_canvas_writes(decoder) == 0 && icysixel_canvas_paints(decoder) == 0);
-    CHECK(icysixel_size_so_far(decoder, &size) == ICYSIXEL_NO_SIZE);
+    CHECK(icysixel_get_canvas_writes(decoder) == 0 && icysixel_get_canvas_paints(decoder) == 0);
+    CHECK(icysixel_get_size_so_far(decoder, &size) == ICYSIXEL_NO_SIZE);
     CHECK(icysixel_finish(decoder, &shape) == failed);
 }
 
@@ -90,10 +89,10 @@ static inline struct outcome outcome_of(icysixel *decoder, uint32_t code, icysix
 {
     struct outcome outcome = {code, shape, NULL};
     size_t wanted = 0;
-    if (code != ICYSIXEL_DONE) return outcome;
+    if (code != ICYSIXEL_OK) return outcome;
     CHECK(shape.bytes == 4 * shape.width * shape.height);
     outcome.pixels = malloc(shape.bytes);
-    CHECK(icysixel_pixels(decoder, outcome.pixels, shape.bytes, 0, &wanted) == ICYSIXEL_DONE);
+    CHECK(icysixel_copy_pixels(decoder, outcome.pixels, shape.bytes, 0, &wanted) == ICYSIXEL_OK);
     CHECK(wanted == shape.bytes);
     return outcome;
 }
@@ -101,9 +100,10 @@ static inline struct outcome outcome_of(icysixel *decoder, uint32_t code, icysix
 static inline bool is_same(const struct outcome *one, const struct outcome *other)
 {
     const icysixel_shape *a = &one->shape, *b = &other->shape;
-    if (one->code != other->code || one->code != ICYSIXEL_DONE) return one->code == other->code;
-    return a->width == b->width && a->height == b->height && a->pan == b->pan && a->pad == b->pad
-        && a->p1 == b->p1 && a->p2 == b->p2 && memcmp(one->pixels, other->pixels, a->bytes) == 0;
+    if (one->code != other->code || one->code != ICYSIXEL_OK) return one->code == other->code;
+    return a->width == b->width && a->height == b->height && a->pixel_width == b->pixel_width
+        && a->pixel_height == b->pixel_height && a->p1 == b->p1 && a->p2 == b->p2
+        && memcmp(one->pixels, other->pixels, a->bytes) == 0;
 }
 
 #endif

@@ -83,11 +83,11 @@ static struct bytes make_text(struct bytes pixels, icysixel_size size, bool is_r
         append_text(&text, raster);
         return text;
     }
-    CHECK(icysixel_new(&h) == ICYSIXEL_DONE);
+    CHECK(icysixel_new(&h) == ICYSIXEL_OK);
     CHECK(icysixel_encode(&h, pixels.at, pixels.length, 0, size.width, size.height, 9, 1, 256,
-                          &text.length) == ICYSIXEL_DONE);
+                          &text.length) == ICYSIXEL_OK);
     text.at = malloc(text.length);
-    CHECK(icysixel_take_text(&h, text.at, text.length, &wanted) == ICYSIXEL_DONE);
+    CHECK(icysixel_copy_text(&h, text.at, text.length, &wanted) == ICYSIXEL_OK);
     icysixel_free(&h);
     return text;
 }
@@ -101,20 +101,20 @@ static size_t peak_of(int way, struct bytes text, struct bytes pixels, icysixel_
     size_t length;
     CHECK(memory.bytes == 0);
     memory.peak = 0;
-    CHECK(icysixel_new(&h) == ICYSIXEL_DONE);
+    CHECK(icysixel_new(&h) == ICYSIXEL_OK);
     if (way == DECODE) {
-        CHECK(icysixel_decode(&h, text.at, text.length, &shape) == ICYSIXEL_DONE);
+        CHECK(icysixel_decode(&h, text.at, text.length, &shape) == ICYSIXEL_OK);
     } else if (way == SESSION) {
-        CHECK(icysixel_begin(&h) == ICYSIXEL_DONE);
+        CHECK(icysixel_begin(&h) == ICYSIXEL_OK);
         for (size_t at = 0; fed.status == ICYSIXEL_MORE; at += fed.consumed) {
             struct bytes chunk = part(text, at, 4096);
-            CHECK(icysixel_feed(&h, chunk.at, chunk.length, &fed) == ICYSIXEL_DONE);
+            CHECK(icysixel_feed(&h, chunk.at, chunk.length, &fed) == ICYSIXEL_OK);
         }
-        CHECK(icysixel_finish(&h, &shape) == ICYSIXEL_DONE);
+        CHECK(icysixel_finish(&h, &shape) == ICYSIXEL_OK);
     } else {
         uint16_t colors = way == ENCODE_256 ? 256 : 16;
         CHECK(icysixel_encode(&h, pixels.at, pixels.length, 0, size.width, size.height, 9, 1,
-                              colors, &length) == ICYSIXEL_DONE);
+                              colors, &length) == ICYSIXEL_OK);
     }
     CHECK(shape.width == size.width && shape.height == size.height);
     icysixel_free(&h);

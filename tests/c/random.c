@@ -28,7 +28,7 @@ static void add_outcome(icysixel *decoder, const struct outcome *outcome)
     uint64_t numbers[] = {outcome->code, shape->width, shape->height, shape->p1, shape->p2};
     struct registers registers = registers_of(decoder);
     add(numbers, sizeof numbers);
-    add(outcome->pixels, outcome->code == ICYSIXEL_DONE ? shape->bytes : 0);
+    add(outcome->pixels, outcome->code == ICYSIXEL_OK ? shape->bytes : 0);
     add(&registers, sizeof registers);
 }
 
@@ -61,8 +61,8 @@ static void try_data(bool is_string)
     icysixel_shape shape = {0};
     icysixel_fed fed = {0};
     int32_t p1 = (int32_t)below(12) - 1, p2 = (int32_t)below(4) - 1;
-    uint32_t code = ICYSIXEL_DONE;
-    CHECK(icysixel_new(&whole) == ICYSIXEL_DONE && icysixel_new(&parts) == ICYSIXEL_DONE);
+    uint32_t code = ICYSIXEL_OK;
+    CHECK(icysixel_new(&whole) == ICYSIXEL_OK && icysixel_new(&parts) == ICYSIXEL_OK);
     icysixel_set_limit(&whole, 20000), icysixel_set_limit(&parts, 20000);
     struct outcome at_once = outcome_of(&whole, is_string
         ? icysixel_decode(&whole, data.at, data.length, &shape)
@@ -70,7 +70,7 @@ static void try_data(bool is_string)
     at_once.shape = shape;
     add_outcome(&whole, &at_once);
     is_string ? icysixel_begin(&parts) : icysixel_begin_payload(&parts, p1, p2, -1);
-    for (size_t at = 0; code == ICYSIXEL_DONE && at < data.length;) {
+    for (size_t at = 0; code == ICYSIXEL_OK && at < data.length;) {
         struct bytes chunk = part(data, at, below(30)), copy = {0};
         append(&copy, chunk.at, chunk.length);
         code = icysixel_feed(&parts, copy.at, copy.length, &fed);
@@ -79,7 +79,7 @@ static void try_data(bool is_string)
         at += copy.length;
         free(copy.at);
     }
-    if (code == ICYSIXEL_DONE) code = icysixel_finish(&parts, &shape);
+    if (code == ICYSIXEL_OK) code = icysixel_finish(&parts, &shape);
     struct outcome fed_outcome = outcome_of(&parts, code, shape);
     add_outcome(&parts, &fed_outcome);
     CHECK(is_string || is_same(&fed_outcome, &at_once));
@@ -104,17 +104,17 @@ static void try_pixels(void)
         append(&pixels, rgba, 4);
     }
     CHECK(icysixel_choose_palette(pixels.at, pixels.length, colors, entries, 256, witnesses, 257,
-                                  indices.at, indices.length, &palette) == ICYSIXEL_DONE);
+                                  indices.at, indices.length, &palette) == ICYSIXEL_OK);
     add(entries, 3 * palette.colors), add(witnesses, 3 * palette.witnesses);
     add(&palette.error, 4), add(indices.at, indices.length);
-    CHECK(icysixel_new(&h) == ICYSIXEL_DONE);
+    CHECK(icysixel_new(&h) == ICYSIXEL_OK);
     CHECK(icysixel_encode(&h, pixels.at, pixels.length, 0, width, height, (int32_t)below(10),
-                          (int32_t)below(2), colors, &text.length) == ICYSIXEL_DONE);
+                          (int32_t)below(2), colors, &text.length) == ICYSIXEL_OK);
     text.at = malloc(text.length);
-    CHECK(icysixel_take_text(&h, text.at, text.length, &wanted) == ICYSIXEL_DONE);
+    CHECK(icysixel_copy_text(&h, text.at, text.length, &wanted) == ICYSIXEL_OK);
     add(text.at, text.length);
-    CHECK(icysixel_decode(&h, text.at, text.length, &shape) == ICYSIXEL_DONE);
-    struct outcome outcome = outcome_of(&h, ICYSIXEL_DONE, shape);
+    CHECK(icysixel_decode(&h, text.at, text.length, &shape) == ICYSIXEL_OK);
+    struct outcome outcome = outcome_of(&h, ICYSIXEL_OK, shape);
     add_outcome(&h, &outcome);
     free(pixels.at), free(indices.at), free(text.at), free(outcome.pixels);
     icysixel_free(&h);

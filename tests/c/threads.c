@@ -17,16 +17,16 @@ static void *work(void *handle)
         icysixel_shape shape = {0};
         uint8_t pixels[4 * SIDE * SIDE], again[4 * SIDE * SIDE], text[1024];
         size_t length = 0, wanted, size = sizeof pixels;
-        CHECK(icysixel_begin(h) == ICYSIXEL_DONE);
+        CHECK(icysixel_begin(h) == ICYSIXEL_OK);
         for (size_t at = 0; fed.status == ICYSIXEL_MORE; at++)
-            CHECK(icysixel_feed(h, (const uint8_t *)string + at, 1, &fed) == ICYSIXEL_DONE);
-        CHECK(icysixel_finish(h, &shape) == ICYSIXEL_DONE && shape.bytes == size);
-        CHECK(icysixel_pixels(h, pixels, size, 0, &wanted) == ICYSIXEL_DONE);
+            CHECK(icysixel_feed(h, (const uint8_t *)string + at, 1, &fed) == ICYSIXEL_OK);
+        CHECK(icysixel_finish(h, &shape) == ICYSIXEL_OK && shape.bytes == size);
+        CHECK(icysixel_copy_pixels(h, pixels, size, 0, &wanted) == ICYSIXEL_OK);
         CHECK(memcmp(pixels + 20, "\377\0\0\377", 4) == 0);
-        CHECK(icysixel_encode(h, pixels, size, 0, SIDE, SIDE, 9, 1, 256, &length) == ICYSIXEL_DONE);
-        CHECK(icysixel_take_text(h, text, sizeof text, &wanted) == ICYSIXEL_DONE);
-        CHECK(icysixel_decode(h, text, length, &shape) == ICYSIXEL_DONE && shape.bytes == size);
-        CHECK(icysixel_pixels(h, again, size, 0, &wanted) == ICYSIXEL_DONE);
+        CHECK(icysixel_encode(h, pixels, size, 0, SIDE, SIDE, 9, 1, 256, &length) == ICYSIXEL_OK);
+        CHECK(icysixel_copy_text(h, text, sizeof text, &wanted) == ICYSIXEL_OK);
+        CHECK(icysixel_decode(h, text, length, &shape) == ICYSIXEL_OK && shape.bytes == size);
+        CHECK(icysixel_copy_pixels(h, again, size, 0, &wanted) == ICYSIXEL_OK);
         CHECK(memcmp(pixels, again, size) == 0);
     }
     return NULL;
@@ -36,7 +36,7 @@ int main(void)
 {
     icysixel handles[THREADS] = {0};
     pthread_t threads[THREADS];
-    for (int i = 0; i < THREADS; i++) CHECK(icysixel_new(&handles[i]) == ICYSIXEL_DONE);
+    for (int i = 0; i < THREADS; i++) CHECK(icysixel_new(&handles[i]) == ICYSIXEL_OK);
     for (int round = 0; round < 2; round++) {
         for (int i = 0; i < THREADS; i++) {
             void *handle = &handles[(i + round) % THREADS];

@@ -116,9 +116,9 @@ static void parse_settings(char *text, struct vector *vector)
 static bool is_error(uint32_t code, const char *error, const char *detail)
 {
     char text[160] = "";
-    if (error == NULL || code == ICYSIXEL_DONE) return false;
+    if (error == NULL || code == ICYSIXEL_OK) return false;
     if (code >= ICYSIXEL_MALFORMED) strcpy(text, PREFIX);
-    icysixel_text(code, (uint8_t *)text + strlen(text), 64);
+    icysixel_strerror(code, text + strlen(text), 64);
     return strcmp(strcat(text, detail), error) == 0;
 }
 
@@ -127,10 +127,11 @@ static bool is_expected(struct outcome outcome, const struct expected *expected)
 {
     static const uint8_t pad_of_p1[] = {[9] = 1, [0] = 2, [3] = 3, [2] = 5};
     const icysixel_shape *shape = &outcome.shape;
-    if (outcome.code != ICYSIXEL_DONE) return is_error(outcome.code, expected->error, "");
+    if (outcome.code != ICYSIXEL_OK) return is_error(outcome.code, expected->error, "");
     bool is_same = expected->error == NULL && shape->width == expected->width
         && shape->height == expected->height && shape->p1 == expected->p1
-        && shape->p2 == expected->p2 && shape->pan == 1 && shape->pad == pad_of_p1[expected->p1]
+        && shape->p2 == expected->p2 && shape->pixel_width == 1
+        && shape->pixel_height == pad_of_p1[expected->p1]
         && shape->bytes == expected->pixels.length
         && memcmp(outcome.pixels, expected->pixels.at, shape->bytes) == 0;
     free(outcome.pixels);
@@ -140,9 +141,9 @@ static bool is_expected(struct outcome outcome, const struct expected *expected)
 static icysixel decoder_of(const struct vector *vector)
 {
     icysixel decoder = {0};
-    CHECK(icysixel_new(&decoder) == ICYSIXEL_DONE);
-    CHECK(icysixel_set_crop(&decoder, vector->is_cropped) == ICYSIXEL_DONE);
-    CHECK(icysixel_set_limit(&decoder, vector->limit) == ICYSIXEL_DONE);
+    CHECK(icysixel_new(&decoder) == ICYSIXEL_OK);
+    CHECK(icysixel_set_crop(&decoder, vector->is_cropped) == ICYSIXEL_OK);
+    CHECK(icysixel_set_limit(&decoder, vector->limit) == ICYSIXEL_OK);
     return decoder;
 }
 
@@ -158,7 +159,7 @@ static struct registers decode(const struct vector *vector)
         ? icysixel_decode_payload(&decoder, in->at, in->length, p1, p2, p3, &shape)
         : icysixel_decode(&decoder, in->at, in->length, &shape);
     CHECK(is_expected(outcome_of(&decoder, code, shape), &vector->expected));
-    CHECK(code == ICYSIXEL_DONE || has_registers(&decoder, &before));
+    CHECK(code == ICYSIXEL_OK || has_registers(&decoder, &before));
     after = registers_of(&decoder);
     icysixel_free(&decoder);
     return after;
@@ -181,7 +182,7 @@ static uint32_t feed(icysixel *decoder, const struct vector *vector, size_t from
     append(&chunk, vector->input.at + from, length);
     uint32_t code = icysixel_feed(decoder, chunk.at, length, &fed);
     free(chunk.at);
-    if (code != ICYSIXEL_DONE) {
+    if (code != ICYSIXEL_OK) {
         CHECK(vector->fails_at == SIZE_MAX || to > vector->fails_at);
         return code;
     }
@@ -189,7 +190,7 @@ static uint32_t feed(icysixel *decoder, const struct vector *vector, size_t from
     CHECK(fed.consumed == least(to, consumed) - least(from, consumed));
     CHECK(fed.status == (to >= vector->ends_after ? vector->end.status : ICYSIXEL_MORE));
     CHECK(fed.byte == (to >= vector->ends_after ? vector->end.byte : 0));
-    return ICYSIXEL_DONE;
+    return ICYSIXEL_OK;
 }
 
 /* Decodes by a session, and checks the result and the registers. */
@@ -202,17 +203,17 @@ static void try_session(const struct vector *vector, struct cuts cuts,
     uint32_t failed = vector->is_payload ? ICYSIXEL_STREAM_FAILED : ICYSIXEL_DCS_STREAM_FAILED;
     CHECK((vector->is_payload
                ? icysixel_begin_payload(&decoder, vector->p1, vector->p2, vector->p3)
-               : icysixel_begin(&decoder)) == ICYSIXEL_DONE);
+               : icysixel_begin(&decoder)) == ICYSIXEL_OK);
     uint32_t code = feed(&decoder, vector, 0, least(cuts.first, vector->input.length));
-    for (size_t at = cuts.first; code == ICYSIXEL_DONE && at < vector->input.length;) {
+    for (size_t at = cuts.first; code == ICYSIXEL_OK && at < vector->input.length;) {
         cuts.seed = cuts.seed * 1664525 + 1013904223;
         size_t length = cuts.others ? cuts.others : 1 + cuts.seed % 97;
         length = least(length, vector->input.length - at);
         code = feed(&decoder, vector, at, 0);
-        if (code == ICYSIXEL_DONE) code = feed(&decoder, vector, at, length);
+        if (code == ICYSIXEL_OK) code = feed(&decoder, vector, at, length);
         at += length;
     }
-    if (code == ICYSIXEL_DONE) {
+    if (code == ICYSIXEL_OK) {
         code = icysixel_finish(&decoder, &shape);
         CHECK(vector->fails_at >= vector->input.length);
     } else {
@@ -220,7 +221,7 @@ static void try_session(const struct vector *vector, struct cuts cuts,
     }
     CHECK(icysixel_is_receiving(&decoder) == 0);
     CHECK(is_expected(outcome_of(&decoder, code, shape), &vector->expected));
-    CHECK(has_registers(&decoder, code == ICYSIXEL_DONE ? after : &before));
+    CHECK(has_registers(&decoder, code == ICYSIXEL_OK ? after : &before));
     icysixel_free(&decoder);
 }
 
@@ -301,17 +302,17 @@ static void encode(const struct expected *image, uint16_t colors, size_t stride,
     const struct bytes *pixels = &image->pixels;
     size_t length = 0, wanted = 0, rows = 4 * image->width * image->height;
     char detail[120] = "";
-    CHECK(found != NULL && icysixel_new(&encoder) == ICYSIXEL_DONE);
+    CHECK(found != NULL && icysixel_new(&encoder) == ICYSIXEL_OK);
     uint32_t code = icysixel_encode(&encoder, pixels->at, pixels->length, stride, image->width,
                                     image->height, image->p1, image->p2, colors, &length);
     if (code == ICYSIXEL_BAD_DIMENSIONS) sprintf(detail, ": %zux%zu", image->width, image->height);
     if (code == ICYSIXEL_BUFFER_MISMATCH)
         sprintf(detail, ": expected %zu bytes, got %zu", rows, pixels->length);
     if (strncmp(column, "error: ", 7) != 0) {
-        CHECK(code == ICYSIXEL_DONE && length == text.length);
-        CHECK(icysixel_take_text(&encoder, found, length, &wanted) == ICYSIXEL_DONE);
+        CHECK(code == ICYSIXEL_OK && length == text.length);
+        CHECK(icysixel_copy_text(&encoder, found, length, &wanted) == ICYSIXEL_OK);
         CHECK(memcmp(found, text.at, length) == 0);
-    } else if (code == ICYSIXEL_DONE) {
+    } else if (code == ICYSIXEL_OK) {
         /* Bytes after the last row are no error in C. */
         CHECK(strstr(column, "buffer size mismatch") != NULL && pixels->length > rows);
     } else {

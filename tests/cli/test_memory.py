@@ -10,12 +10,14 @@ from build import ROOT, builds_of, needs, run
 PAYLOAD = b"#1~$!300~"
 DCS = b"\x1bPq" + PAYLOAD + b"\x1b\\"
 IMAGE = b"image 300 6 9 0\n" + 1800 * b"\x33\x33\xcc\xff" + b"\n"
+PAM = b"P7\nWIDTH 300\nHEIGHT 6\nDEPTH 4\nMAXVAL 255\nTUPLTYPE RGB_ALPHA\nENDHDR\n" + IMAGE[16:-1]
 PIXELS = bytes.fromhex("000000ff 0a0000ff ffffffff")
 TEXT = b'\x1bP9;1;0q"1;1;3;1#0;2;0;0;0#1;2;100;100;100#0@@?$#1??@$-\x1b\\'
 # Arguments of sixel, its input, its output, and what it writes before allocations that fail.
 SIXEL = [
     ("payload", PAYLOAD, IMAGE, [b""]),
     ("decode", b"text" + DCS + b"text", IMAGE, [b""]),
+    ("pam", DCS, PAM, [b""]),
     ("frames 7", 2 * DCS, 2 * IMAGE, [b"", IMAGE]),
     ("encode 3 1 2", PIXELS, TEXT, [b""]),
 ]
@@ -23,10 +25,9 @@ RUN, RUNS = "a run: out of memory", "runs over a run: out of memory"
 SESSIONS = ["decode", "decode_from_dcs", "payload session", "DCS session"]
 OTHERS = ["encode_with", "to_display_string", "to_display_string of an error", "clone"]
 OTHERS += ["from_str", "choose_palette", "Row::reach"]
-# The lines of sixel_allocations that differ, in the order of the allocations of one pass. The
-# canvas draws without tags if an allocation of tags fails, so no line differs then.
+# The lines of sixel_allocations that differ, in the order of the allocations of one pass.
 CALLS = [f"{it}: out of memory" for it in SESSIONS]
-CALLS += [RUN, RUNS, None, RUNS, "script::run: out of memory"]
+CALLS += [RUN, RUNS, "script::run: out of memory"]
 CALLS += [f"failed step: Some({it})" for it in range(5)]
 CALLS += [f"{it}: out of memory" for it in OTHERS]
 

@@ -1,11 +1,16 @@
-"""Tests the shell scripts: shellcheck accepts each, and `./lib` reads its arguments."""
+"""Tests the shell scripts and the Makefile: shellcheck accepts them, and errors say what to do."""
+import os
+import tempfile
 import unittest
+from pathlib import Path
 
-from build import ARCHIVES, ROOT, needs, run
+from build import ROOT, needs, run
 
 FILES = [*ROOT.glob("*"), *ROOT.glob(".ci/*"), *ROOT.glob("scripts/*")]
 SHELLS = (b"#!/bin/sh\n", b"#!/usr/bin/env bash\n")
-USAGE = [[""], ["-x"], ["install"], ["install", ""], ["install", "-x"], ["a", "b"]]
+SYSTEM = "/usr/bin:/bin"
+# Commands that fail, for a disk without space.
+FAKES = {"rt": "exit 1", "df": "echo; echo disk 9 9 0"}
 
 
 class TestShell(unittest.TestCase):
@@ -16,19 +21,19 @@ class TestShell(unittest.TestCase):
         status, output, _ = run("shellcheck", *scripts)
         self.assertEqual(status, 0, output.decode())
 
-    def test_lib_usage_errors(self):
-        usage = b"usage: ./lib [PREFIX] | ./lib install PREFIX\n"
-        for arguments in [*USAGE, ["install", "a", "b"]]:
-            with self.subTest(arguments=arguments):
-                self.assertEqual(run(ROOT / "lib", *arguments), (2, b"", usage))
-
-    @unittest.skipUnless(ARCHIVES[0].exists(), "the library is not built")
-    @needs("pkg-config")
-    def test_lib_describes_itself(self):
-        """icysixel.pc names PREFIX, or its own folder, which is the last that is written."""
-        out = ROOT / "out"
-        for words, flags in ((["/x"], "-I/x/include -L/x/lib"), ([], f"-I{out} -L{out}")):
-            with self.subTest(words=words):
-                self.assertEqual(run(ROOT / "lib", *words)[:2], (0, b""))
-                found = run("pkg-config", "--cflags", "--libs", out / "icysixel.pc")[1]
-                self.assertEqual(found.decode().split(), [*flags.split(), "-licysixel"])
+    def test_build_errors(self):
+        """A missing tool and a full disk are reported in one line, before the line of make."""
+        with tempfile.TemporaryDirectory() as room:
+            for name, text in FAKES.items():
+                (Path(room) / name).write_text(f"#!/bin/sh\n{text}\n")
+                (Path(room) / name).chmod(0o755)
+            for path, target, told in (
+                (SYSTEM, "crates/sixel/out/sixel", b"rt is missing: put "),
+                (f"{room}:{SYSTEM}", "crates/sixel/out/sixel", b"less than 1 GB of disk is free: "),
+                (SYSTEM, "out/icysixel_memory.o", b"no-compiler is missing: install "),
+            ):
+                with self.subTest(told=told):
+                    words = ["make", "-s", "-B", "-C", ROOT, target, "CC=no-compiler"]
+                    status, output, errors = run(*words, env=os.environ | {"PATH": path})
+                    self.assertEqual((status, output, errors.count(b"\n")), (2, b"", 2))
+                    self.assertTrue(errors.startswith(told), errors)

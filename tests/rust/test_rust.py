@@ -7,25 +7,14 @@ import unittest
 from pathlib import Path
 
 from build import ARCHIVES, DATA, HEADERS, ROOT, needs, run
-from rust.declared import comparison
+from rust.declared import of_header, of_rust
 
 CRATE = ROOT / "rust/icy_sixel"
-MEMORY = ROOT / "crates/icysixel_c/memory/icysixel_memory.c"
+MEMORY = ROOT / "crates/icysixel/memory/icysixel_memory.c"
 MEMCHECK = ["valgrind", "-q", "--leak-check=full", "--show-leak-kinds=definite,indirect"]
 MEMCHECK += ["--errors-for-leak-kinds=definite,indirect", "--error-exitcode=9"]
 STRING = b"text\x1bP9;1q#1;2;100;0;0@\x1b\\text"
 IMAGE = b"image 1 6 9 1\n\xff\0\0\xff" + bytes(20) + b"\n"
-USER = """
-[package]
-name = "user"
-version = "0.1.0"
-edition = "2021"
-[dependencies]
-icy_sixel = { path = "../icy_sixel" }
-[profile.release]
-lto = true
-panic = "abort"
-"""
 
 
 def version(text):
@@ -64,12 +53,10 @@ class TestRust(unittest.TestCase):
         sources = (CRATE / "src").rglob("*.rs")
         found = [it.name for it in sources if re.search(r"\bunsafe\b", it.read_text())]
         self.assertEqual(found, ["ffi.rs"])
-        declared = ((CRATE / f"src/{it}.rs").read_text() for it in ("ffi", "codes"))
-        text, counts = comparison("".join(declared))
-        self.assertEqual(counts, (24, 7, 17))
-        (self.folder / "declared.c").write_text(text)
-        flags = ["-std=c11", "-Wall", "-Wextra", "-Werror", f"-I{HEADERS}", "-fsyntax-only"]
-        self.assertEqual(run("gcc", *flags, self.folder / "declared.c"), (0, b"", b""))
+        declared = of_rust("".join((CRATE / f"src/{it}.rs").read_text() for it in ("ffi", "codes")))
+        header = of_header((HEADERS / "icysixel.h").read_text())
+        self.assertEqual(len(declared), 50)
+        self.assertEqual(declared, {name: header.get(name) for name in declared})
 
     def test_missing_archive(self):
         """Without the archive the build reports how to make it."""
@@ -110,7 +97,7 @@ class TestRust(unittest.TestCase):
         self.assertEqual(run("gcc", "-fPIC", "-c", MEMORY, "-o", hooks)[0], 0)
         self.assertEqual(run("ar", "rs", library / "libicysixel.a", hooks)[0], 0)
         (user / "src").mkdir(parents=True)
-        (user / "Cargo.toml").write_text(USER)
+        shutil.copy(Path(__file__).with_name("user.toml"), user / "Cargo.toml")
         shutil.copy(CRATE / "examples/decode.rs", user / "src/main.rs")
         self.cargo("build", "--release", crate="user", library="with_memory")
         for words in [], ["1"]:

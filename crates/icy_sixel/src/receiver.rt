@@ -15,6 +15,7 @@ use crate::decoder::{DcsSettings, SixelDcsFeedResult, SixelDecoder, SixelFeedRes
 use crate::script::Status;
 use crate::sixel_image::SixelImage;
 use sixel_base::{Result, SixelError};
+use sixel_canvas::row_canvas::RowCanvas;
 use sixel_decoder::{DcsReader, PayloadReader};
 use std::alloc::Global;
 use std::marker::Model;
@@ -33,8 +34,8 @@ pub struct Received {
 #[derive(Drop)]
 enum Open {
     Nothing,
-    Payload(PayloadReader),
-    ControlString(DcsReader),
+    Payload(PayloadReader<RowCanvas>),
+    ControlString(DcsReader<RowCanvas>),
 }
 
 /// A decoder, and at most one image that it is receiving.

@@ -1,7 +1,6 @@
-pub mod Counting
-pub mod Leading
-mod Pieces
-pub mod Responding
-pub mod Serving
-pub mod Stringing
-pub mod Wording
+pub mod ArgumentPlaces
+pub mod ByteCounts
+mod Chunks
+pub mod DcsSequences
+pub mod ImageSequences
+pub mod Outputs

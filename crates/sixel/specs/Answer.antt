@@ -1,6 +1,6 @@
--- What the program writes for a word and the bytes of its input, and how it ends: as the
--- definitions of the data's meaning say, or for want of memory, which may come before any image.
--- The order of the two is this program's own: an image is written once it is whole.
+-- What the program writes for its work and the bytes of its input, and how it ends: as the
+-- definitions of the data's meaning say, or with out of memory, which may come before any image.
+-- The order is this program's own: an image is written once it is whole.
 use Rattle.std.specs.Prelude.{◌≡◌, ◌⊎◌, ℕ, true, List, [], ◌++◌, Option, None, Some, Result, Ok}
 use Rattle.std.specs.Prelude.{Err}
 use Rattle.sixel_base.specs.declared.error.SixelError.TheVariants.{OutOfMemory}
@@ -14,8 +14,8 @@ use Rattle.sixel_io.specs.declared.fault.Fault.{Fault}
 use Rattle.sixel_io.specs.declared.fault.Fault.TheVariants.{Sixel, Input, Output}
 use Rattle.sixel_io.specs.Output.{Writes}
 use Rattle.sixel.specs.declared.words.Word.{Word}
-use Rattle.sixel.specs.declared.words.Word.TheVariants.{Payload, Decode, Frames, Encode}
-use Rattle.sixel.specs.Form.{image_form}
+use Rattle.sixel.specs.declared.words.Word.TheVariants.{Payload, Decode, Pam, Frames, Encode}
+use Rattle.sixel.specs.Form.{image_form, pam_form}
 use Rattle.sixel.specs.Ending.{Ending, Done, Refused}
 use Rattle.sixel.specs.Strings.{AreAnswered}
 
@@ -23,35 +23,42 @@ use Rattle.sixel.specs.Strings.{AreAnswered}
 abbrev pub fresh : Origin
 fresh = origin_of new_decoder no_settings
 
--- an image of this kind, or the refusal by this fault with nothing written
-abbrev pub IsImageAnswer : Option data_fault.Fault → (Image → Type 0) → List ℕ → Ending → Type 0
-IsImageAnswer fault IsImage text Done =
-    (fault ≡ None) × ((image : Image) × IsImage image × (text ≡ image_form image))
-IsImageAnswer fault IsImage text (Refused error) = (text ≡ []) × data_fault.Faults error true fault
+-- an image of this kind in this form, or the error of this fault with nothing written
+abbrev pub IsImageAnswer : (Image → List ℕ) → Option data_fault.Fault → (Image → Type 0)
+    → List ℕ → Ending → Type 0
+IsImageAnswer form fault IsImage text Done =
+    (fault ≡ None) × ((image : Image) × IsImage image × (text ≡ form image))
+IsImageAnswer form fault IsImage text (Refused error) =
+    (text ≡ []) × data_fault.Faults error true fault
 
--- the text of square pixels on a transparent background, or its refusal with nothing written
+-- the SIXEL output of square pixels on a transparent background, or its error with nothing written
 abbrev pub IsTextAnswer : Image → ℕ → List ℕ → Ending → Type 0
 IsTextAnswer image colors text Done = (image_fault image ≡ None) × IsText image colors text
 IsTextAnswer image colors text (Refused error) =
     (text ≡ []) × ((error ≡ OutOfMemory) ⊎ (image_fault image ≡ Some error))
 
--- the text that a word writes for these bytes, and how it ends
+-- the image that the bytes are found to have, in this form, or its error with nothing written
+abbrev pub IsFoundAnswer : (Image → List ℕ) → List ℕ → List ℕ → Ending → Type 0
+IsFoundAnswer form bytes =
+    IsImageAnswer form (found_fault new_decoder.pixel_limit (found bytes))
+    (IsFoundImage new_decoder (found bytes))
+
+-- the output of this work on these bytes, and how it ends
 abbrev pub IsAnswer : Word → List ℕ → List ℕ → Ending → Type 0
 IsAnswer Payload bytes =
-    IsImageAnswer (payload_fault fresh.pixel_limit bytes)
+    IsImageAnswer image_form (payload_fault fresh.pixel_limit bytes)
     (λ image. image ≡ payload_image fresh bytes)
-IsAnswer Decode bytes =
-    IsImageAnswer (found_fault new_decoder.pixel_limit (found bytes))
-    (IsFoundImage new_decoder (found bytes))
+IsAnswer Decode bytes = IsFoundAnswer image_form bytes
+IsAnswer Pam bytes = IsFoundAnswer pam_form bytes
 IsAnswer (Frames length) bytes = AreAnswered new_decoder bytes
 IsAnswer (Encode width height colors) bytes = IsTextAnswer (square_value bytes width height) colors
 
--- an answer, whatever its ending, begins with this text
+-- an output, whatever its ending, begins with this text
 abbrev pub Begins : (List ℕ → Ending → Type 0) → List ℕ → Type 0
 Begins IsText text = (rest : List ℕ) × (ending : Ending) × IsText (text ++ rest) ending
 
--- What a writer holds grew by an answer as far as it came: the whole of it, that before the
--- refusal, or a beginning where the writer failed.
+-- A writer's contents grew by an output: the whole of it, that before an error in the data, or a
+-- beginning if the writer failed.
 abbrev pub Serves : {A : Type 0} → Result A Fault → (List ℕ → Ending → Type 0) → Option (List ℕ)
     → Option (List ℕ) → Type 0
 Serves (Ok _) IsText old new = Writes (λ text. IsText text Done) old new

@@ -1,6 +1,7 @@
--- How the program writes an image: a line `image W H P1 P2` of its sizes, its pixel shape and its
--- background, the raw pixels, a line end. The form is this program's own; P1 and P2 are the
--- parameters that a SIXEL control string gives a shape and a background.
+-- How the program writes an image, in two forms. The program's own is a line `image W H P1 P2` of
+-- its sizes, its pixel shape and its background, the raw pixels, a line end; P1 and P2 are the
+-- parameters that a DCS sequence gives a shape and a background. The other is PAM, netpbm's format
+-- for raw channels: lines that name the sizes, from `P7` to `ENDHDR`, and the pixels.
 use Rattle.std.specs.Prelude.{ℕ, List, [], ◌∷◌, ◌++◌, codes, decimal}
 use Rattle.sixel_base.specs.Settings.{p1_of, p2_of}
 use Rattle.sixel_base.specs.Payload.{Image}
@@ -22,3 +23,26 @@ image_line image =
 -- an image as it is written
 abbrev pub image_form : Image → List ℕ
 image_form image = image_line image ++ image.pixels ++ line_end
+
+-- these lines, each with its end
+abbrev pub lines : List (List ℕ) → List ℕ
+lines [] = []
+lines (line ∷ rest) = line ++ (line_end ++ lines rest)
+
+-- the header of a PAM file, whose pixels have four channels of one byte
+abbrev pub pam_header : Image → List ℕ
+pam_header image =
+    lines (
+    codes "P7"
+    ∷ (codes "WIDTH" ++ spaced image.width)
+    ∷ (codes "HEIGHT" ++ spaced image.height)
+    ∷ codes "DEPTH 4"
+    ∷ codes "MAXVAL 255"
+    ∷ codes "TUPLTYPE RGB_ALPHA"
+    ∷ codes "ENDHDR"
+    ∷ []
+    )
+
+-- an image as a PAM file
+abbrev pub pam_form : Image → List ℕ
+pam_form image = pam_header image ++ image.pixels

@@ -1,7 +1,7 @@
--- What the program writes for control strings that follow one another on one decoder: the image of
--- each, until one is cut short or no byte is left. From the meaning of control strings; how their
--- bytes are cut into pieces occurs nowhere in it. The order is this program's own: each image is
--- written before the next string is read, and stays written where that one is refused.
+-- What the program writes for DCS sequences that follow one another on one decoder: the image of
+-- each, until one ends early or no byte is left. It follows from the meaning of DCS sequences, and
+-- does not mention chunks. The order is this program's own: each image is written before the next
+-- sequence is read, and stays written if that one is rejected.
 use Rattle.std.specs.Prelude.{◌≡◌, ◌<◌, ◌*◌, ℕ, Bool, true, false, List, [], ◌∷◌, ◌++◌, take, drop}
 use Rattle.std.specs.Prelude.{Option, None}
 use Rattle.std.specs.Option.{option_or}
@@ -18,16 +18,16 @@ use Rattle.sixel_base.specs.OneShot.{found, IsFoundImage, AreFoundRegisters}
 use Rattle.sixel.specs.Form.{image_form}
 use Rattle.sixel.specs.Ending.{Ending, Done, Refused}
 
--- what the string is refused for that the bytes begin with, where no more come after them: a fault,
--- or an end that is missing
+-- why the sequence is rejected that the bytes begin with, if no more come after them: a fault, or
+-- an end that is missing
 abbrev pub string_fault : ℕ → List ℕ → Option Fault
 string_fault limit [] = None
 string_fault limit (byte ∷ bytes) =
     option_or (dcs_fault limit (byte ∷ bytes)) (end_fault (dcs_status (byte ∷ bytes)))
 
--- A string was fed in pieces of this length, counted from its own first byte, and in no more of
--- them than it took to end; the last byte of all may cut the last piece short. Where it has not
--- ended, all bytes were fed.
+-- A sequence was fed in chunks of this length, counted from its own first byte, and in no more of
+-- them than it took to end. The last chunk can be shorter if no byte is left. If the sequence has
+-- not ended, all bytes were fed.
 pub record IsFedInPieces (piece_len : ℕ) (bytes fed : List ℕ) : Type 0 where
   pub pieces : ℕ
   pub whole : fed ≡ take (pieces * piece_len) bytes
@@ -35,27 +35,27 @@ pub record IsFedInPieces (piece_len : ℕ) (bytes fed : List ℕ) : Type 0 where
       → dcs_status (take (fewer * piece_len) bytes) ≡ NeedMoreData
   pub enough : dcs_status fed ≡ NeedMoreData → fed ≡ bytes
 
--- whether a string ended before its terminator
+-- whether a sequence ended before its terminator
 abbrev pub is_cut_short : SixelDcsFeedStatus → Bool
 is_cut_short NeedMoreData = false
 is_cut_short Complete = false
 is_cut_short (Cancelled byte) = true
 is_cut_short (Interrupted byte) = true
 
--- By this decoder, these bytes are answered by this text, and so it ends.
+-- By this decoder, this is the output for these bytes, and so it ends.
 pub data AreAnswered : DecoderState → List ℕ → List ℕ → Ending → Type 0 where
-  -- no string is left
+  -- no sequence is left
   Over : (decoder : DecoderState) → AreAnswered decoder [] [] Done
-  -- the first string is refused, or memory is
+  -- the first sequence is rejected, or an allocation fails
   Broken : (decoder : DecoderState) (bytes : List ℕ) (error : SixelError)
       → Faults error true (string_fault decoder.pixel_limit bytes)
       → AreAnswered decoder bytes [] (Refused error)
-  -- the first string was cut short: its image is the last
+  -- the first sequence ended early: its image is the last
   CutShort : (decoder : DecoderState) (bytes : List ℕ) (image : Image)
       → string_fault decoder.pixel_limit bytes ≡ None → is_cut_short (dcs_status bytes) ≡ true
       → IsFoundImage decoder (found bytes) image → AreAnswered decoder bytes (image_form image) Done
-  -- the first string is complete: its image, and the answer to the bytes after it, by the decoder
-  -- after it
+  -- the first sequence is complete: its image, and the output for the bytes after it, by the
+  -- decoder after it
   Followed : (decoder after : DecoderState) (bytes text : List ℕ) (image : Image) (ending : Ending)
       → string_fault decoder.pixel_limit bytes ≡ None
       → dcs_status bytes ≡ Complete → IsFoundImage decoder (found bytes) image

@@ -1,30 +1,33 @@
--- Which words on the command line ask for which work. The words are this program's own; a number is
+-- Which arguments ask for which work, or for a notice. They are this program's own. A number is
 -- written in decimal digits alone.
 use Rattle.std.specs.Prelude.{◌≡◌, ◌^◌, ◌<◌, ◌∷◌, [], List, ℕ, codes, map, Option, None, Some}
 use Rattle.std.specs.Prelude.{String, string_bytes}
 use Rattle.std.specs.declared.alloc.Global.{Global}
 use Rattle.std.specs.Str.Parse.{IsNumeral, digits_value}
+use Rattle.sixel.specs.declared.notice.Notice.{Notice}
+use Rattle.sixel.specs.declared.notice.Notice.TheVariants.{Help, Version}
 use Rattle.sixel.specs.declared.words.Word.{Word}
-use Rattle.sixel.specs.declared.words.Word.TheVariants.{Payload, Decode, Frames, Encode}
+use Rattle.sixel.specs.declared.words.Word.TheVariants.{Payload, Decode, Pam, Frames, Encode}
 
 -- the text is this number in decimal digits
 abbrev pub IsNumber : List ℕ → ℕ → Type 0
 IsNumber text number = IsNumeral 10 text × (digits_value 10 text ≡ number)
 
--- a word is there, and is this number
+-- an argument is there, and is this number
 abbrev pub Gives : Option (List ℕ) → ℕ → Type 0
 Gives None number = ⊥
 Gives (Some text) number = IsNumber text number
 
--- work that can be done: pieces have at least one byte
+-- work that can be done: chunks have at least one byte
 abbrev pub IsServable : Word → Type 0
 IsServable (Frames length) = 0 < length
 IsServable _ = Unit {0}
 
--- the work that a word asks for, where up to three more may follow it
+-- the work that an argument asks for, with up to three more after it
 abbrev pub Asks : Word → List ℕ → Option (List ℕ) → Option (List ℕ) → Option (List ℕ) → Type 0
 Asks Payload word a b c = (word ≡ codes "payload") × (a ≡ None) × (b ≡ None) × (c ≡ None)
 Asks Decode word a b c = (word ≡ codes "decode") × (a ≡ None) × (b ≡ None) × (c ≡ None)
+Asks Pam word a b c = (word ≡ codes "pam") × (a ≡ None) × (b ≡ None) × (c ≡ None)
 Asks (Frames length) word a b c =
     (word ≡ codes "frames") × (Gives a length × (length < 2 ^ 64)) × (0 < length) × (b ≡ None)
     × (c ≡ None)
@@ -32,7 +35,7 @@ Asks (Encode width height colors) word a b c =
     (word ≡ codes "encode") × (Gives a width × (width < 2 ^ 64))
     × (Gives b height × (height < 2 ^ 64)) × (Gives c colors × (colors < 2 ^ 16))
 
--- the work that the words after the program's own name ask for: one, and up to three more
+-- the work that the arguments after the program's own name ask for: one, and up to three more
 abbrev pub IsAskedBy : List (List ℕ) → Word → Type 0
 IsAskedBy (word ∷ []) asked = Asks asked word None None None
 IsAskedBy (word ∷ a ∷ []) asked = Asks asked word (Some a) None None
@@ -40,6 +43,11 @@ IsAskedBy (word ∷ a ∷ b ∷ []) asked = Asks asked word (Some a) (Some b) No
 IsAskedBy (word ∷ a ∷ b ∷ c ∷ []) asked = Asks asked word (Some a) (Some b) (Some c)
 IsAskedBy _ asked = ⊥
 
--- the bytes of each word
+-- the arguments after the program's own name ask for this notice, whatever the input is
+abbrev pub IsNoticeFor : List (List ℕ) → Notice → Type 0
+IsNoticeFor words Help = words ≡ codes "--help" ∷ []
+IsNoticeFor words Version = words ≡ codes "--version" ∷ []
+
+-- the bytes of each argument
 abbrev pub words_of : List (String Global) → List (List ℕ)
 words_of words = map string_bytes words

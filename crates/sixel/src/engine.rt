@@ -1,14 +1,17 @@
+//! The work of the program: it reads the input, decodes or encodes it, and writes the output.
+
 ghost use Rattle.std.specs.Prelude.{◌≡◌, OnOk, IfSome};
 ghost use Rattle.std.specs.Io.KnownBytes.{Keeps, IsAtEnd};
 ghost use Rattle.sixel_base.specs.declared.error.SixelError.{SixelError};
 ghost use Rattle.sixel_io.specs.declared.fault.Fault.TheVariants.{Sixel, Input, Output};
-ghost use Rattle.sixel.specs.declared.words.Word.TheVariants.{Payload, Decode, Encode};
+ghost use Rattle.sixel.specs.declared.words.Word.TheVariants.{Payload, Decode, Pam, Encode};
 ghost use Rattle.sixel.specs.Words.{IsServable};
 ghost use Rattle.sixel.specs.Ending.{Done, Refused};
 ghost use Rattle.sixel.specs.Answer.{IsAnswer, Begins, Serves};
 ghost use Rattle.sixel_io.specs.Output.{Writes};
 
 use crate::images::write_image;
+use crate::pam::write_pam;
 use crate::strings::write_strings;
 use crate::words::Word;
 use icy_sixel::{DcsSettings, EncodeOptions, SixelImage, sixel_encode};
@@ -16,12 +19,12 @@ use sixel_io::{Fault, read_to_end, write_all};
 use std::alloc::Global;
 use std::io::{Read, Write};
 
-/// Reads the input to its end, does the work of the word, and writes the output.
+/// Reads the input to its end, does the work of the argument, and writes the output.
 ///
-/// The chunks of [`Word::Frames`] have at least one byte, as `read_word` sees to.
+/// The chunks of [`Word::Frames`] have at least one byte, as those of `read_word` have.
 ///
-/// The clauses on bytes hold where the reader reports the bytes that it has left, and the writer
-/// those that it contains.
+/// The clauses on bytes hold if the reader reports the bytes that it has left, and the writer those
+/// that it contains.
 pub fn serve<R: Read, O: Write>(
     alloc: Global,
     word: Word,
@@ -45,17 +48,17 @@ pub fn serve<R: Read, O: Write>(
     answer(alloc, word, &bytes, output)
 }
 
-/// The number of bytes that the input of the word is to have, or 0 where any number will do.
+/// The number of bytes that the input is to have, or 0 if it can have any.
 ///
 /// Raw pixels have four bytes each.
 fn input_len(word: Word) -> usize {
     match word {
         Word::Encode(width, height, _) => width.saturating_mul(height).saturating_mul(4),
-        Word::Payload | Word::Decode | Word::Frames(_) => 0,
+        Word::Payload | Word::Decode | Word::Pam | Word::Frames(_) => 0,
     }
 }
 
-/// Does what the word asks for with these bytes.
+/// Does the work on these bytes.
 fn answer<O: Write>(alloc: Global, word: Word, bytes: &[u8], output: &mut O) -> Result<(), Fault>
     requires { IsServable word }
     ensures { Serves result (IsAnswer word bytes.now) (O.contents output.old)
@@ -64,6 +67,7 @@ fn answer<O: Write>(alloc: Global, word: Word, bytes: &[u8], output: &mut O) -> 
     match word {
         Word::Payload => payload(alloc, bytes, output),
         Word::Decode => decode(alloc, bytes, output),
+        Word::Pam => pam(alloc, bytes, output),
         Word::Frames(length) => write_strings(alloc, length, bytes, output),
         Word::Encode(width, height, colors) => encode(
             alloc,
@@ -85,7 +89,7 @@ fn payload<O: Write>(alloc: Global, bytes: &[u8], output: &mut O) -> Result<(), 
     write_image(alloc, &image, output)
 }
 
-/// Writes the image of the first control string, or of all the bytes as one payload.
+/// Writes the image of the first DCS sequence, or of all bytes as one payload.
 fn decode<O: Write>(alloc: Global, bytes: &[u8], output: &mut O) -> Result<(), Fault>
     ensures { Serves result (IsAnswer Decode bytes.now) (O.contents output.old)
         (O.contents output.new) }
@@ -94,7 +98,16 @@ fn decode<O: Write>(alloc: Global, bytes: &[u8], output: &mut O) -> Result<(), F
     write_image(alloc, &image, output)
 }
 
-/// Writes the text of raw pixels of this width and height, in at most so many colors.
+/// Writes the same image as a PAM file.
+fn pam<O: Write>(alloc: Global, bytes: &[u8], output: &mut O) -> Result<(), Fault>
+    ensures { Serves result (IsAnswer Pam bytes.now) (O.contents output.old)
+        (O.contents output.new) }
+{
+    let image = SixelImage::decode(alloc, bytes)?;
+    write_pam(alloc, &image, output)
+}
+
+/// Writes the SIXEL output of raw pixels of this width and height, in at most so many colors.
 fn encode<O: Write>(
     alloc: Global,
     pixels: &[u8],

@@ -3,24 +3,35 @@
 
 mod engine;
 mod images;
+mod notice;
+mod pam;
 mod response;
 mod strings;
 #[cfg(test)]
 mod tests;
 mod words;
 
-use response::{Response, respond};
-use sixel_io::Fault;
+use notice::Notice;
+use response::{Response, respond, response_of};
+use sixel_io::{Fault, write_all};
 use std::process::ExitCode;
 use std::{env, io};
 
 fn main(rt: HostRuntime) -> io::Result<ExitCode> {
     let response = match arguments(&rt) {
-        Ok(words) => respond(rt.alloc(), &words, &mut rt.stdin(), &mut rt.stdout()),
+        Ok(words) => response_to(&rt, &words),
         Err(fault) => Response::Failed(fault),
     };
     tell(&rt, &response)?;
     Ok(ExitCode::from(response.status()))
+}
+
+/// Writes the notice that the arguments ask for, or does their work.
+fn response_to(rt: &HostRuntime, words: &[String]) -> Response {
+    match Notice::asked(words) {
+        Some(notice) => response_of(write_all(&mut rt.stdout(), notice.text().as_bytes())),
+        None => respond(rt.alloc(), words, &mut rt.stdin(), &mut rt.stdout()),
+    }
 }
 
 /// The arguments after the program's own name.
@@ -38,7 +49,7 @@ fn arguments(rt: &HostRuntime) -> Result<Vec<String>, Fault> {
     Ok(words)
 }
 
-/// Writes a line to standard error where something is wrong.
+/// Writes a line to standard error if something is wrong.
 fn tell(rt: &impl Eprint, response: &Response) -> io::Result<()> {
     match response {
         Response::Done => Ok(()),

@@ -1,4 +1,4 @@
-//! What the program answers to its words and its input, and the exit status of each answer.
+//! How the program ends for its arguments and its input, with which exit status.
 
 ghost use Rattle.std.specs.Prelude.{◌≡◌, ◌≢◌, true, Err, IfSome, is_ok};
 ghost use Rattle.std.specs.Io.KnownBytes.{Keeps};
@@ -20,16 +20,16 @@ use std::io::{Read, Write};
 /// How the program ends.
 #[derive(Drop)]
 pub enum Response {
-    /// What the words ask for is done.
+    /// The work or the notice that the arguments ask for is done.
     Done,
-    /// The words ask for nothing that the program does.
+    /// The arguments are wrong.
     Usage,
-    /// It stops before its end.
+    /// The program stops with an error.
     Failed(Fault),
 }
 
 impl Response {
-    /// The exit status that says so: 0, 2 and 1.
+    /// The exit status: 0, 2 or 1.
     pub fn status(&self) -> u8
         ensures done { self.now ≡ Done → result ≡ 0 }
         ensures usage { self.now ≡ Usage → result ≡ 2 }
@@ -45,8 +45,8 @@ impl Response {
 
 /// Does the work of the arguments after the program's own name.
 ///
-/// Where they ask for no work, nothing is read or written. The clauses on bytes hold where the
-/// reader reports the bytes that it has left, and the writer those that it contains.
+/// If they ask for no work, nothing is read or written. The clauses on bytes hold if the reader
+/// reports the bytes that it has left, and the writer those that it contains.
 pub fn respond<R: Read, O: Write>(
     alloc: Global,
     words: &[String],
@@ -76,8 +76,8 @@ pub fn respond<R: Read, O: Write>(
     response_of(serve(alloc, word, input, output))
 }
 
-/// How the program ends whose work came to this.
-fn response_of(outcome: Result<(), Fault>) -> Response
+/// How the program ends after work with this result.
+pub fn response_of(outcome: Result<(), Fault>) -> Response
     ensures asked { result ≢ Usage }
     ensures done { result ≡ Done → is_ok outcome ≡ true }
     ensures failed { (fault : Fault) → result ≡ Failed fault → outcome ≡ Err fault }

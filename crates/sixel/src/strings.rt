@@ -9,6 +9,7 @@ ghost use Rattle.sixel_base.specs.Dcs.{dcs_status, dcs_count, dcs_fault, has_end
 ghost use Rattle.sixel_base.specs.Payload.{Image};
 ghost use Rattle.sixel_base.specs.declared.status.SixelDcsFeedStatus.TheVariants.{Complete};
 ghost use Rattle.icy_sixel.specs.ImageView.{image_value};
+ghost use Rattle.icy_sixel.specs.Sessions.{sequence, sequence_owner};
 ghost use Rattle.sixel_base.specs.OneShot.{found, IsFoundImage, AreFoundRegisters};
 ghost use Rattle.sixel.specs.Strings.{string_fault, is_cut_short, IsFedInPieces, AreAnswered};
 ghost use Rattle.sixel.specs.Form.{image_form};
@@ -31,7 +32,7 @@ struct ControlString {
     status: SixelDcsFeedStatus,
 }
 
-/// Writes the image of each DCS sequence, until one is cut short or no byte is left.
+/// Writes the image of each DCS sequence, until one ends early or no byte is left.
 ///
 /// Each is fed in chunks of `piece_len` bytes, from its own first byte on.
 pub fn write_strings<O: Write>(
@@ -88,7 +89,8 @@ fn write_read<'a, O: Write>(
     output: &mut O,
 ) -> Result<&'a [u8], Fault>
     requires { string.len ≤ length bytes.now }
-    ensures image { Serves result (IsImageAnswer None (λ i. i ≡ image_value string.image))
+    ensures image { Serves result
+        (IsImageAnswer image_form None (λ i. i ≡ image_value string.image))
         (O.contents output.old) (O.contents output.new) }
     ensures complete { IfOk result (λ after. string.status ≡ Complete
         → after.now ≡ drop string.len bytes.now) }
@@ -101,7 +103,7 @@ fn write_read<'a, O: Write>(
     }
 }
 
-/// The bytes to read after a DCS sequence of `len` bytes: none if it was cut short.
+/// The bytes to read after a DCS sequence of `len` bytes: none if it ended early.
 fn bytes_after(status: SixelDcsFeedStatus, len: usize, bytes: &[u8]) -> &[u8]
     requires { len ≤ length bytes.now }
     ensures complete { status ≡ Complete → result.now ≡ drop len bytes.now }
@@ -153,26 +155,27 @@ fn feed_pieces(
 ) -> Result<SixelDcsFeedResult, SixelError>
     requires pieces { 0 < piece_len }
     requires some { 0 < length bytes.now }
-    requires fresh { session.old.reader.bytes ≡ [] }
-    requires accepted { session.old.reader.is_refused ≡ false }
-    ensures owner { session.new.owner.ghost_name ≡ session.old.owner.ghost_name }
-    ensures kept { session.new.owner.now ≡ session.old.owner.now }
-    ensures start { session.new.reader.decoder ≡ session.old.reader.decoder }
-    ensures accepts { OnOk result (session.new.reader.is_refused ≡ false) }
+    requires fresh { (sequence session.old).bytes ≡ [] }
+    requires accepted { (sequence session.old).is_refused ≡ false }
+    ensures owner { (sequence_owner session.new).ghost_name
+        ≡ (sequence_owner session.old).ghost_name }
+    ensures kept { (sequence_owner session.new).now ≡ (sequence_owner session.old).now }
+    ensures start { (sequence session.new).decoder ≡ (sequence session.old).decoder }
+    ensures accepts { OnOk result ((sequence session.new).is_refused ≡ false) }
     ensures pieces { OnOk result
-        (IsFedInPieces piece_len bytes.now session.new.reader.bytes) }
+        (IsFedInPieces piece_len bytes.now (sequence session.new).bytes) }
     ensures consumed { IfOk result (λ fed.
-        fed.consumed ≡ dcs_count session.new.reader.bytes) }
-    ensures status { IfOk result (λ fed. fed.status ≡ dcs_status session.new.reader.bytes) }
+        fed.consumed ≡ dcs_count (sequence session.new).bytes) }
+    ensures status { IfOk result (λ fed. fed.status ≡ dcs_status (sequence session.new).bytes) }
     ensures within { IfOk result (λ fed.
-        fed.consumed ≤ length session.new.reader.bytes) }
+        fed.consumed ≤ length (sequence session.new).bytes) }
     ensures over { IfOk result (λ fed. has_ended fed.status ≡ true
-        → IsSameString session.old.reader.decoder.pixel_limit
-        session.new.reader.bytes bytes.now) }
+        → IsSameString (sequence session.old).decoder.pixel_limit
+        (sequence session.new).bytes bytes.now) }
     ensures faultless { OnOk result
-        (dcs_fault session.old.reader.decoder.pixel_limit session.new.reader.bytes ≡ None) }
+        (dcs_fault (sequence session.old).decoder.pixel_limit (sequence session.new).bytes ≡ None) }
     ensures refused { IfErr result (λ error. Faults error true
-        (string_fault session.old.reader.decoder.pixel_limit bytes.now)) }
+        (string_fault (sequence session.old).decoder.pixel_limit bytes.now)) }
 {
     let mut rest = bytes;
     let mut fed = SixelDcsFeedResult {

@@ -1,4 +1,4 @@
-//! Worked runs, and inputs and outputs that fail.
+//! Test vectors, and inputs and outputs that fail.
 
 ghost use Rattle.std.specs.Prelude.{◌≤◌, IfOk};
 ghost use Rattle.sixel.specs.Words.{IsServable};
@@ -89,7 +89,7 @@ const IMAGES: &[u8] = b"image 1 6 9 0\n\
     image 1 6 9 0\n\
     \xff\0\0\xff\0\0\0\xff\0\0\0\xff\0\0\0\xff\0\0\0\xff\0\0\0\xff\n";
 
-/// The output of a word, and the text of its error, which is empty where there is none.
+/// The output of some work, and the text of its error, which is empty if there is none.
 fn outcome(alloc: Global, word: Word, mut input: &[u8]) -> Result<(Vec<u8>, String), Fail>
     requires { IsServable word }
 {
@@ -118,6 +118,9 @@ fn runs(rt: HostRuntime) -> Result<(), Fail> {
         blue,
         "",
     );
+    let pam = b"P7\nWIDTH 1\nHEIGHT 6\nDEPTH 4\nMAXVAL 255\nTUPLTYPE RGB_ALPHA\nENDHDR\n\
+        33\xcc\xff33\xcc\xff33\xcc\xff33\xcc\xff33\xcc\xff33\xcc\xff";
+    check(&rt, outcome(alloc, Word::Pam, b"\x1bPq#1~\x1b\\")?, pam, "");
     let header = "invalid SIXEL data: invalid SIXEL DCS header";
     check(&rt, outcome(alloc, Word::Decode, b"\x1bPbad")?, b"", header);
     check(&rt, outcome(alloc, Word::Frames(1), b"")?, b"", "");

@@ -1,24 +1,28 @@
+//! The arguments that ask for work on the input.
+
 ghost use Rattle.std.specs.Prelude.{◌≡◌, ◌<◌, ◌^◌, ℕ, IfSome, IfNone, option_map, slice_get};
 ghost use Rattle.std.specs.Prelude.{Some, None, codes};
 ghost use Rattle.sixel.specs.Words.{Asks, IsAskedBy, IsNumber, IsServable, words_of};
 
-/// What the program is asked to do with its input.
+/// Work on the input.
 #[derive(Clone, Copy)]
 pub enum Word {
-    /// Decode one payload, the data of a control string, and write its image.
+    /// Decode one payload, the data of a DCS sequence, and write its image.
     Payload,
-    /// Decode the first control string, or all bytes as a payload, and write the image.
+    /// Decode the first DCS sequence, or all bytes as a payload, and write the image.
     Decode,
-    /// Decode control strings that follow one another on one decoder, each fed in pieces of so many
+    /// Decode the same, and write the image as a PAM file.
+    Pam,
+    /// Decode DCS sequences that follow one another on one decoder, each fed in chunks of so many
     /// bytes from its first on, and write their images.
     Frames(usize),
-    /// Encode raw pixels of this width and height in at most so many colors, and write the text.
+    /// Encode raw pixels of this width and height in at most so many colors.
     Encode(usize, usize, u16),
 }
 
-/// What all the words after the program's own name ask for.
+/// The work that the arguments after the program's own name ask for.
 ///
-/// `None` is for words that ask for nothing that the program does.
+/// `None` means that they are wrong.
 pub fn asked(words: &[String]) -> Option<Word>
     ensures asked { IfSome result (IsAskedBy (words_of words.now)) }
     ensures usage { IfNone result ((asked : Word) → ¬ IsAskedBy (words_of words.now) asked) }
@@ -35,7 +39,7 @@ pub fn asked(words: &[String]) -> Option<Word>
     }
 }
 
-/// The word at a place, if there are so many.
+/// The argument at a place, if there are so many.
 fn word_at(words: &[String], place: usize) -> Option<&str>
     ensures { option_map (λ t. t.now) result ≡ slice_get (words_of words.now) place }
 {
@@ -45,9 +49,9 @@ fn word_at(words: &[String], place: usize) -> Option<&str>
     }
 }
 
-/// Reads the words of the command line: the first, and up to three that may follow it.
+/// Reads the first argument, and up to three that follow it.
 ///
-/// `None` is for words that ask for nothing that the program does.
+/// `None` means that they are wrong.
 pub fn read_word(word: &str, a: Option<&str>, b: Option<&str>, c: Option<&str>) -> Option<Word>
     ensures asked { IfSome result (λ asked. Asks asked word.now
         (option_map (λ t. t.now) a.entry) (option_map (λ t. t.now) b.entry)
@@ -60,13 +64,14 @@ pub fn read_word(word: &str, a: Option<&str>, b: Option<&str>, c: Option<&str>) 
     match word {
         "payload" => alone(Word::Payload, a, b, c),
         "decode" => alone(Word::Decode, a, b, c),
+        "pam" => alone(Word::Pam, a, b, c),
         "frames" => frames_with(a, b, c),
         "encode" => encode_with(a, b, c),
         _ => None,
     }
 }
 
-/// What a word asks for after which there is to be none.
+/// The work of an argument that is the only one.
 fn alone(asked: Word, a: Option<&str>, b: Option<&str>, c: Option<&str>) -> Option<Word>
     ensures alone { IfSome result (λ it. (it ≡ asked)
         × (a.entry ≡ None) × (b.entry ≡ None) × (c.entry ≡ None)) }
@@ -79,7 +84,7 @@ fn alone(asked: Word, a: Option<&str>, b: Option<&str>, c: Option<&str>) -> Opti
     }
 }
 
-/// What the word `frames` asks for with the words after it, of which there is to be one.
+/// The work of `frames` with the arguments after it: one number.
 fn frames_with(a: Option<&str>, b: Option<&str>, c: Option<&str>) -> Option<Word>
     ensures asked { IfSome result (λ asked. Asks asked (codes "frames")
         (option_map (λ t. t.now) a.entry) (option_map (λ t. t.now) b.entry)
@@ -95,7 +100,7 @@ fn frames_with(a: Option<&str>, b: Option<&str>, c: Option<&str>) -> Option<Word
     }
 }
 
-/// What the word `encode` asks for with the words after it, of which there are to be three.
+/// The work of `encode` with the arguments after it: three numbers.
 fn encode_with(a: Option<&str>, b: Option<&str>, c: Option<&str>) -> Option<Word>
     ensures asked { IfSome result (λ asked. Asks asked (codes "encode")
         (option_map (λ t. t.now) a.entry) (option_map (λ t. t.now) b.entry)
@@ -111,7 +116,7 @@ fn encode_with(a: Option<&str>, b: Option<&str>, c: Option<&str>) -> Option<Word
     }
 }
 
-/// What the word `frames` asks for with a number after it: pieces of at least one byte.
+/// The work of `frames` with a number after it: chunks of at least one byte.
 fn frames(length: &str) -> Option<Word>
     ensures asked { IfSome result (λ asked. Asks asked (codes "frames")
         (Some length.now) None None) }
@@ -125,7 +130,7 @@ fn frames(length: &str) -> Option<Word>
     }
 }
 
-/// What the word `encode` asks for with three numbers after it.
+/// The work of `encode` with three numbers after it.
 fn encode(width: &str, height: &str, colors: &str) -> Option<Word>
     ensures asked { IfSome result (λ asked. Asks asked (codes "encode")
         (Some width.now) (Some height.now) (Some colors.now)) }
@@ -138,7 +143,7 @@ fn encode(width: &str, height: &str, colors: &str) -> Option<Word>
     }
 }
 
-/// The number below 65536 that decimal digits write, with no sign before them.
+/// The number below 65536 that decimal digits spell, with no sign before them.
 fn number_of_colors(text: &str) -> Option<u16>
     ensures read { IfSome result (λ n. IsNumber text.now n × (n < 65536)) }
     ensures other { IfNone result ((n : ℕ) → n < 65536 → ¬ IsNumber text.now n) }
@@ -149,7 +154,7 @@ fn number_of_colors(text: &str) -> Option<u16>
     }
 }
 
-/// The number that decimal digits write, with no sign before them.
+/// The number that decimal digits spell, with no sign before them.
 fn number(text: &str) -> Option<usize>
     ensures read { IfSome result (λ n. IsNumber text.now n × (n < 2 ^ 64)) }
     ensures other { IfNone result ((n : ℕ) → n < 2 ^ 64 → ¬ IsNumber text.now n) }

@@ -5,9 +5,9 @@ use Rattle.std.proofs.lemmas.Bool.{cases_eq}
 use Rattle.std.proofs.lemmas.List.{get_or-set_same, get_or-set_other}
 use Rattle.sixel_base.specs.Fields.{fields, field}
 use Rattle.sixel_base.specs.inside.Parameters.{Parameters, Keeps}
-use Rattle.sixel_base.proofs.Pieces.{raised, length-on_last, get_or-on_last_same}
-use Rattle.sixel_base.proofs.Pieces.{get_or-on_last_other, fields-push_digit}
-use Rattle.sixel_base.proofs.Pieces.{length-fields-push_separator, field-push_separator}
+use Rattle.sixel_base.proofs.Fields.{raised, length-on_last, get_or-on_last_same}
+use Rattle.sixel_base.proofs.Fields.{get_or-on_last_other, fields-push_digit}
+use Rattle.sixel_base.proofs.Fields.{length-fields-push_separator, field-push_separator}
 
 -- a semicolon counts a field more, and changes no value
 pub Keeps-push_separator : (old new : Parameters) → new.values ≡ old.values

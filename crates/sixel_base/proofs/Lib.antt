@@ -1,7 +1,7 @@
-pub mod Reading
-pub mod Pieces
+pub mod Histories
+pub mod Fields
 pub mod KeptFields
 pub mod DefaultCodes
-pub mod Joined
+pub mod PictureBytes
 pub mod Sixels
 pub mod EmptyStruct

@@ -1,5 +1,6 @@
 pub mod Limits
 pub mod Fault
+pub mod CallFault
 pub mod Size
 pub mod Settings
 pub mod Fields

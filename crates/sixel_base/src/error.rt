@@ -4,6 +4,7 @@ ghost use Rattle.std.specs.Prelude.{◌≡◌};
 ghost use Rattle.sixel_base.specs.declared.error.SixelError.TheVariants.{OutOfMemory};
 ghost use Rattle.sixel_base.specs.Fault.{IsFault, Malformed, TooLarge, MissingCommand, BadHeader};
 ghost use Rattle.sixel_base.specs.Fault.{StreamFailed, DcsStreamFailed, Incomplete};
+ghost use Rattle.sixel_base.specs.CallFault.{IsCallFault, ColorCount, IndexRange};
 
 use std::alloc::{AllocError, AllocFailed};
 use thiserror::Error;
@@ -22,6 +23,10 @@ pub const STREAM_FAILED: &str = "stream decoder has failed";
 pub const DCS_STREAM_FAILED: &str = "DCS stream decoder has failed";
 /// The text of a DCS sequence that has not ended.
 pub const INCOMPLETE: &str = "incomplete SIXEL DCS sequence";
+/// The text of a palette without colors, or with more than a SIXEL image has registers.
+pub const COLOR_COUNT: &str = "number of colors is not 1 to 256";
+/// The text of a palette index that no color of the palette has.
+pub const INDEX_RANGE: &str = "palette index out of range";
 
 /// The result of a call that can fail.
 pub type Result<T> = std::result::Result<T, SixelError>;
@@ -97,6 +102,20 @@ impl SixelError {
         ensures { IsFault result Incomplete }
     {
         SixelError::InvalidData(INCOMPLETE)
+    }
+
+    /// The error of a palette without colors, or with more than 256.
+    pub fn color_count() -> SixelError
+        ensures { IsCallFault result ColorCount }
+    {
+        SixelError::InvalidData(COLOR_COUNT)
+    }
+
+    /// The error of a palette index that no color of the palette has.
+    pub fn index_range() -> SixelError
+        ensures { IsCallFault result IndexRange }
+    {
+        SixelError::InvalidData(INDEX_RANGE)
     }
 }
 

@@ -3,12 +3,16 @@
 ghost use Rattle.std.specs.Prelude.{◌≡◌, ◌≤◌, MatchOption, is_none};
 ghost use Rattle.sixel_base.specs.Size.{pixel_bytes, size_fault, limit_fault, encode_fault};
 ghost use Rattle.sixel_base.specs.Size.{buffer_fault, verdict};
+ghost use Rattle.sixel_base.specs.CallFault.{color_count_fault, IsVerdict};
 
 use crate::limits::{MAX_AREA, MAX_SIDE};
 use crate::{Result, SixelError};
 
 /// How many rows a sixel has.
 const BAND_HEIGHT: usize = 6;
+
+/// How many color registers there are.
+const REGISTERS: usize = 256;
 
 /// The bytes of an image's pixels, four a pixel. A size of zero is refused, and then a number of
 /// bytes that a `usize` does not hold.
@@ -61,4 +65,14 @@ pub fn validate_buffer(width: usize, height: usize, bytes: usize) -> Result<()>
         expected,
         actual: bytes,
     })
+}
+
+/// Whether a palette may have this many colors: 1 to 256.
+pub fn validate_color_count(count: usize) -> Result<()>
+    ensures { IsVerdict (color_count_fault count) result }
+{
+    if count == 0 || count > REGISTERS {
+        return Err(SixelError::color_count());
+    }
+    Ok(())
 }

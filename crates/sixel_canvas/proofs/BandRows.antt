@@ -49,7 +49,7 @@ within_row wide from to bit column k inside order within =
     ]
 
 -- what was drawn on the rows above one, and then on it
-more_rows : (hit above up here covered : Bool) (x y z color : List ℕ) →
+pub more_rows : {X : Type 0} (hit above up here covered : Bool) (x y z color : X) →
     z ≡ (if hit then color else y) → hit ≡ (here && covered) →
     y ≡ (if above && covered then color else x) → up ≡ (above || here) →
     z ≡ (if up && covered then color else x)
@@ -63,7 +63,7 @@ more_rows hit false up false true x y z color at is before all = rw (at, is, all
 more_rows hit false up false false x y z color at is before all = rw (at, is, all) before
 
 -- a row is above the next one where it is above this one, or is this one
-rows_up : (k bit : ℕ) → nat_lt k (bit + 1) ≡ (nat_lt k bit || k == bit)
+pub rows_up : (k bit : ℕ) → nat_lt k (bit + 1) ≡ (nat_lt k bit || k == bit)
 rows_up k bit = grind arith
 
 if_here : (here between set : Bool) → (here ≡ true → set ≡ true) →
@@ -122,6 +122,53 @@ struck_same px mid wide from to bits bit color d column k miss before =
     (none_here (k == bit) (nat_le from column && nat_lt column to) (is_struck 0 bits k)
     (struck_not bits bit k miss))
     before (rows_up k bit)
+
+filled_none : (at i : ℕ) (color pixel : List ℕ) → filled at (at + 0) color i pixel ≡ pixel
+filled_none at i color pixel = elim (cases_lt i at) [
+  | inl before ↦ rw (lt-leb at i before) refl
+  | inr after ↦ rw (le-leb at i after, le-ltb i (at + 0) (omega (arith, after))) refl
+]
+
+struck_count :
+    (set : Bool) (px mid new : List (List ℕ)) (wide from to bits bit count : ℕ) (color d : List ℕ)
+    (column k : ℕ) → is_set bits bit ≡ set → column < wide → k < 6 → from ≤ to → to ≤ wide →
+    stored mid wide d column k
+    ≡ (if nat_lt k bit && covers from to 0 bits column k then color else stored px wide d column k)
+    → count ≡ (if set then to - from else 0) →
+    ((i : ℕ) → get_or new i d
+    ≡ filled (bit * wide + from) (bit * wide + from + count) color i (get_or mid i d)) →
+    stored new wide d column k
+    ≡ (if nat_lt k (bit + 1) && covers from to 0 bits column k then color
+    else stored px wide d column k)
+struck_count true px mid new wide from to bits bit count color d column k hit inside six order
+    within before is change =
+    let end : bit * wide + from + count ≡ bit * wide + to = omega (arith, is, order) in
+    struck_more px mid new wide from to bits bit color d column k inside six order within hit before
+    (λ i. change i ∙ ap (λ e. filled (bit * wide + from) e color i (get_or mid i d)) end)
+struck_count false px mid new wide from to bits bit count color d column k miss inside six order
+    within before is change =
+    let at = bit * wide + from in
+    let i = k * wide + column in
+    change i ∙ ap (λ n. filled at (at + n) color i (get_or mid i d)) is
+    ∙ filled_none at i color (get_or mid i d)
+    ∙ struck_same px mid wide from to bits bit color d column k miss before
+
+-- the same where as many columns of the row were filled as its bit says
+pub struck_counted :
+    (px mid new : List (List ℕ)) (wide from to bits bit : ℕ) (color d : List ℕ) (column k : ℕ) →
+    column < wide → k < 6 → from ≤ to → to ≤ wide →
+    stored mid wide d column k
+    ≡ (if nat_lt k bit && covers from to 0 bits column k then color else stored px wide d column k)
+    → {count : ℕ} → count ≡ (if is_set bits bit then to - from else 0) →
+    ((i : ℕ) → get_or new i d
+    ≡ filled (bit * wide + from) (bit * wide + from + count) color i (get_or mid i d)) →
+    stored new wide d column k
+    ≡ (if nat_lt k (bit + 1) && covers from to 0 bits column k then color
+    else stored px wide d column k)
+struck_counted px mid new wide from to bits bit color d column k inside six order within before {count}
+    is change =
+    struck_count (is_set bits bit) px mid new wide from to bits bit count color d column k refl
+    inside six order within before is change
 
 sixel_here : (sixels : List ℕ) (wide from bit column k : ℕ) → k < 6 → from ≤ column →
     (k == bit) ≡ true →

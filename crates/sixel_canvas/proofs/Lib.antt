@@ -1,10 +1,8 @@
 pub mod BandRows
 pub mod BandStates
 pub mod BandTags
+pub mod CopiedRows
 pub mod HandedRows
-pub mod Loans
-pub mod Mixing
-pub mod OneRow
 pub mod Pictures
 pub mod PixelBytes
 pub mod PixelLists
@@ -14,16 +12,7 @@ pub mod RowBytes
 pub mod Runs
 pub mod RowCosts
 pub mod RowPixels
-mod RowStates
 pub mod Spans
-pub mod Spread
-pub mod Strokes
 pub mod StruckRows
-pub mod Tagging
 pub mod TaggedRows
-pub mod Tags
 pub mod Totals
-pub mod Underway
-pub mod Dots
-pub mod Moving
-pub mod Widening

@@ -1,7 +1,7 @@
 -- Pictures with the same pixels.
 use Rattle.std.proofs.Common.{◌≡◌, ℕ, List}
 use Rattle.sixel_base.specs.Picture.{joined, picture}
-use Rattle.sixel_base.proofs.Joined.{joined-same}
+use Rattle.sixel_base.proofs.PictureBytes.{joined-same}
 
 pub picture_same : (p q : ℕ → ℕ → List ℕ) (width height : ℕ) →
     ((column row : ℕ) → p column row ≡ q column row) →

@@ -1,10 +1,37 @@
 -- What the bytes of a row are once those of one pixel more were written to it.
 use Rattle.std.proofs.Common.{◌≡◌, ℕ, ◌+◌, ◌*◌, ◌/◌, ◌%◌, ◌<◌, ◌≤◌, List, length, get_or, refl, ◌∙◌}
-use Rattle.std.proofs.Common.{inl, inr, arith}
+use Rattle.std.proofs.Common.{inl, inr, arith, [], ◌∷◌, ◌++◌, ◌-◌, take, drop, ap, get_or-drop, length-drop}
 use Rattle.std.specs.Prelude.{slice_set}
-use Rattle.std.proofs.lemmas.Bool.{cases_lt}
+use Rattle.sixel_canvas.specs.inside.FinalRows.{pixel_at}
+use Rattle.std.specs.Prelude.{min, nat_lt, if◌then◌else◌}
+use Rattle.std.proofs.lemmas.Bool.{cases_lt, lt-ltb, le-ltb}
+use Rattle.std.proofs.lemmas.List.{get_or_append_left, get_or-append_right}
+use Rattle.sixel_canvas.proofs.RowBytes.{pixel_part}
 use Rattle.std.proofs.lemmas.Grind.{get_or-set_at}
 use Rattle.std.proofs.lemmas.List.{get_or-set_other, length-set}
+
+first_four : (xs : List ℕ) → 4 ≤ length xs →
+    (get_or xs 0 0 ∷ get_or xs 1 0 ∷ get_or xs 2 0 ∷ get_or xs 3 0 ∷ []) ≡ take 4 xs
+first_four [] four = absurd (omega (arith, four))
+first_four (a ∷ []) four = absurd (omega (arith, four))
+first_four (a ∷ b ∷ []) four = absurd (omega (arith, four))
+first_four (a ∷ b ∷ c ∷ []) four = absurd (omega (arith, four))
+first_four (a ∷ b ∷ c ∷ d ∷ rest) four = refl
+
+-- four bytes are a pixel
+pub pixel_four : (bytes : List ℕ) (i : ℕ) → 4 * i + 4 ≤ length bytes →
+    (get_or bytes (4 * i) 0 ∷ get_or bytes (4 * i + 1) 0 ∷ get_or bytes (4 * i + 2) 0
+    ∷ get_or bytes (4 * i + 3) 0 ∷ []) ≡ pixel_at bytes i
+pixel_four bytes i fits =
+    let rest = drop (4 * i) bytes in
+    let first : get_or rest 0 0 ≡ get_or bytes (4 * i) 0 =
+    get_or-drop (4 * i) bytes 0 0 ∙ ap (λ n. get_or bytes n 0) (omega arith) in
+    rw (
+      ← first,
+      ← get_or-drop (4 * i) bytes 1 0,
+      ← get_or-drop (4 * i) bytes 2 0,
+      ← get_or-drop (4 * i) bytes 3 0,
+    ) (first_four rest (omega (arith, length-drop (4 * i) bytes, fits)))
 
 -- the row with four bytes written from a place on
 abbrev pub put : List ℕ → ℕ → List ℕ → List ℕ
@@ -80,4 +107,36 @@ put_more row bytes f column fits is before i up =
                       ]
                 ]
           ]
+    ]
+
+-- a row of stored pixels, and of background right of them
+pub row_bytes : (f : List ℕ → List ℕ) (pixels background stored rest : List ℕ) (len i : ℕ) →
+    length pixels % 4 ≡ 0 → len % 4 ≡ 0 → length stored ≡ min (length pixels) len →
+    ((i : ℕ) → i < length stored
+    → get_or stored i 0
+    ≡ get_or (f (pixel_at (take (min (length pixels) len) pixels) (i / 4))) (i % 4) 0) →
+    ((i : ℕ) → i < length rest → get_or rest i 0 ≡ get_or (f background) (i % 4) 0) →
+    length stored + length rest ≡ len → i < len →
+    get_or (stored ++ rest) i 0
+    ≡ get_or (f (if nat_lt (i / 4) (length pixels / 4) then pixel_at pixels (i / 4) else background))
+    (i % 4) 0
+row_bytes f pixels background stored rest len i whole row least copied filled all inside =
+    let n = min (length pixels) len in
+    elim (cases_lt i (length stored)) [
+      | inl left ↦
+          let m = n / 4 in
+          let fours : n ≡ 4 * m = omega (arith, whole, row) in
+          let kept : pixel_at (take n pixels) (i / 4) ≡ pixel_at pixels (i / 4) =
+          ap (λ c. pixel_at (take c pixels) (i / 4)) fours
+          ∙ pixel_part pixels 0 m (i / 4) (omega (arith, left, least, fours))
+          ∙ ap (pixel_at pixels) (omega arith) in
+          get_or_append_left stored rest 0 i left ∙ copied i left
+          ∙ rw (lt-ltb (i / 4) (length pixels / 4) (omega (arith, left, least, whole, row)))
+          (ap (λ p. get_or (f p) (i % 4) 0) kept)
+      | inr right ↦
+          let same : (i - length stored) % 4 ≡ i % 4 = omega (arith, least, whole, row, right) in
+          get_or-append_right stored rest (length stored) i 0 refl right
+          ∙ filled (i - length stored) (omega (arith, right, all, inside))
+          ∙ rw (le-ltb (i / 4) (length pixels / 4) (omega (arith, right, least, whole, row, inside)))
+          (ap (λ j. get_or (f background) j 0) same)
     ]

@@ -10,7 +10,7 @@ use Rattle.std.proofs.lemmas.List.{length-replicate}
 use Rattle.std.specs.List.{flat_map}
 use Rattle.sixel_canvas.specs.Row.{RowState, IsThrifty, reached_to, room_for, row_state}
 use Rattle.sixel_base.specs.Picture.{joined}
-use Rattle.sixel_base.proofs.Joined.{joined-front, length-joined}
+use Rattle.sixel_base.proofs.PictureBytes.{joined-front, length-joined}
 use Rattle.sixel_canvas.specs.inside.Pixels.{pixels_of}
 
 four_more : (n : ℕ) → 4 * suc n ≡ suc (suc (suc (suc (4 * n))))

@@ -7,7 +7,7 @@ use Rattle.std.proofs.lemmas.List.{append-nil, drop_all, get_or_past}
 use Rattle.std.proofs.lemmas.Slice.{put_mid-paste}
 use borrow.Rule.Slice.PartMut.{put_mid}
 use Rattle.sixel_base.specs.Picture.{joined}
-use Rattle.sixel_base.proofs.Joined.{joined-front, joined-same, joined-add, length-joined}
+use Rattle.sixel_base.proofs.PictureBytes.{joined-front, joined-same, joined-add, length-joined}
 use Rattle.sixel_canvas.proofs.Spans.{IsColored}
 
 -- a span in one color is that color's bytes, over and over

@@ -11,7 +11,7 @@ use Rattle.std.specs.List.{flat_map}
 use Rattle.std.proofs.lemmas.Bool.{cases_lt, cases_order, lt-ltb, le-ltb, ne_eqb, true≢false}
 use Rattle.std.proofs.lemmas.Nat.{mul-le, row_fits}
 use Rattle.sixel_base.specs.Picture.{joined, picture}
-use Rattle.sixel_base.proofs.Joined.{joined-add, joined-front, length-joined}
+use Rattle.sixel_base.proofs.PictureBytes.{joined-add, joined-front, length-joined}
 use Rattle.sixel_canvas.specs.inside.FinalRows.{final, pixel_at, rows_state}
 use Rattle.sixel_canvas.proofs.Pixels.{joined-row}
 
@@ -122,6 +122,14 @@ pixels_picture p bytes width (suc height) len same =
     sym (pixel_right front last n column long) ∙ ap (λ xs. pixel_at xs (n + column)) parts
     ∙ same column height inside (omega arith)) in
     sym parts ∙ ap (λ xs. xs ++ last) is_front ∙ ap (λ xs. picture p width height ++ xs) is_last
+
+-- the pixel that stands in a row at a column
+pub final_stored : (background bytes : List ℕ) (width rows room column row : ℕ) → column < width →
+    row < rows →
+    pixel_at bytes (row * width + column)
+    ≡ final (rows_state background bytes width rows room) column row
+final_stored background bytes width rows room column row inside above =
+    rw (lt-ltb column width inside, lt-ltb row rows above) refl
 
 -- so many background pixels, or those of a row and background to their right
 background-pixel : (background : List ℕ) (n i : ℕ) → length background ≡ 4 → i < n →

@@ -4,13 +4,14 @@ use Rattle.std.proofs.Common.{◌∷◌, All, length, get_or, max, refl, sym, ap
 use Rattle.std.specs.List.{sum_by}
 use Rattle.std.specs.Prelude.{nat_lt, if◌then◌else◌}
 use Rattle.std.proofs.Math.Nat.{mul-suc}
-use Rattle.std.proofs.lemmas.List.Elements.{All-head, All-tail}
+use Rattle.std.proofs.lemmas.List.Elements.{All-get_or, All-head, All-tail}
 use Rattle.std.proofs.lemmas.List.Sums.{sum_by-cons, sum_by-le}
 use Rattle.std.proofs.lemmas.Bool.{cases_lt, lt-ltb, le-ltb}
 use Rattle.sixel_base.specs.Picture.{is_struck, total}
 use Rattle.sixel_canvas.specs.inside.Drawn.{Run, run}
 use Rattle.sixel_canvas.specs.inside.Paints.{counted, ends_and_tags, least_painted}
-use Rattle.sixel_canvas.specs.inside.RowCanvas.{RowCanvasState, HasCost, IsDrawnBy, IsLineOf}
+use Rattle.sixel_canvas.specs.inside.RowCanvas.{RowCanvasState, AreFewTags, HasCost, IsDrawnBy}
+use Rattle.sixel_canvas.specs.inside.RowCanvas.{IsLineOf}
 use Rattle.sixel_canvas.specs.inside.RowCanvas.{IsRowCanvas, least, line_in, row_canvas_work}
 use Rattle.sixel_canvas.specs.inside.RowCanvas.{row_edge, row_len, runs_least, runs_most}
 use Rattle.std.proofs.lemmas.List.{get_or_past}
@@ -169,6 +170,24 @@ empty_line background = record {
   };
   over = refl;
 }
+
+-- a row of the canvas, also where none was made
+line_sound : (background : List ℕ) (rows : List TaggedRowState) (row : ℕ)
+    → All (IsLineOf background) rows → IsLineOf background (line_in rows background row)
+line_sound background rows row sound =
+    elim (cases_lt row (length rows)) [
+      | inl made ↦
+          All-get_or (IsLineOf background) rows row (empty_tagged_row background) made sound
+      | inr past ↦
+          rw (get_or_past rows row (empty_tagged_row background) past) (empty_line background)
+    ]
+
+-- how many tags rows have, and for how many there is memory
+pub few_tags : (canvas : RowCanvasState) → All (IsLineOf canvas.background) canvas.rows
+    → AreFewTags canvas
+few_tags canvas sound = λ row.
+    let is = line_sound canvas.background canvas.rows row sound in
+    (is.sound.whole, is.sound.tags.room_at_most)
 
 -- what all rows have written, and what wide runs have painted, fit a number
 pub writes_most : (background : List ℕ) (rows : List TaggedRowState) → length rows ≤ 1000000

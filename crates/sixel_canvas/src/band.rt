@@ -1,17 +1,20 @@
 //! Six rows of pixels in one block, in which an image's bands are drawn one after another.
 ghost use Rattle.std.specs.Prelude.{◌≡◌, ℕ, ◌+◌, ◌*◌, ◌≤◌, ◌<◌, List, length, max, min};
 ghost use Rattle.std.specs.Prelude.{false, nat_le, nat_lt, ◌&&◌, ◌==◌, slice_index_or};
-ghost use Rattle.std.specs.Prelude.{IfOk, OnErr, OnOk, if◌then◌else◌};
-ghost use Rattle.sixel_base.specs.Picture.{covers};
+ghost use Rattle.std.specs.Prelude.{IfOk, if◌then◌else◌};
+ghost use Rattle.sixel_base.specs.Picture.{covers, is_set};
 ghost use Rattle.sixel_canvas.specs.inside.Band.{cell, stored, IsBand};
 ghost use Rattle.sixel_canvas.specs.inside.Drawn.{covers_block};
 
-use crate::pixel_row::{fill, mix};
+use crate::pixel_row::{fill, fill_eight, mix};
 use std::alloc::{AllocError, Global};
 use std::marker::Model;
 
-/// The most columns that a band has memory for: those of an image, and seven blank ones.
-const MAX_CAP: usize = 1_000_008;
+/// The most columns that a band has memory for: those of an image, and eight blank ones.
+pub const MAX_CAP: usize = 1_000_008;
+
+/// Up to how many columns a run is drawn eight columns at once.
+const NARROW: usize = 48;
 
 /// Six rows of `cap` columns each, which are background from `reach` on.
 ///
@@ -82,29 +85,26 @@ impl Band {
         self.background
     }
 
-    /// Makes memory for so many columns, and at least doubles it where it is too small.
+    /// Returns a copy of the band with memory for so many columns.
     #[inline(never)]
-    pub fn widen(&mut self, columns: usize) -> Result<(), AllocError>
-        requires within { columns ≤ 1000008 }
-        ensures held { OnOk result (columns ≤ self.new.cap) }
-        ensures no_more { OnOk result (self.new.cap ≤ max columns (2 * self.old.cap)) }
-        ensures shown { OnOk result ((column k : ℕ) → cell self.new column k
-            ≡ cell self.old column k) }
-        ensures background { self.new.background ≡ self.old.background }
-        ensures reach { self.new.reach ≡ self.old.reach }
-        ensures refused { OnErr result (self.new ≡ self.old) }
-        ensures whole { IsBand self.new }
+    pub fn wider(&self, cap: usize) -> Result<Band, AllocError>
+        requires more { self.now.cap ≤ cap }
+        requires few { cap ≤ 1000008 }
+        ensures cap { IfOk result (λ new. new.cap ≡ cap) }
+        ensures shown { IfOk result (λ new. (column k : ℕ) → cell new column k
+            ≡ cell self.now column k) }
+        ensures background { IfOk result (λ new. new.background ≡ self.now.background) }
+        ensures reach { IfOk result (λ new. new.reach ≡ self.now.reach) }
+        ensures whole { IfOk result (λ new. IsBand new) }
     {
-        let cap = columns.max(MAX_CAP.min(2 * self.cap));
-        self.pixels = widened(
-            *self.pixels.allocator(),
-            &self.pixels,
-            self.cap,
+        let alloc = *self.pixels.allocator();
+        let pixels = widened(alloc, &self.pixels, self.cap, cap, self.background)?;
+        Ok(Band {
+            pixels,
             cap,
-            self.background,
-        )?;
-        self.cap = cap;
-        Ok(())
+            reach: self.reach,
+            background: self.background,
+        })
     }
 
     /// Draws a sixel over the columns from `from` up to before `to`, for which there is memory.
@@ -119,7 +119,7 @@ impl Band {
         ensures reach { self.new.reach ≡ max self.old.reach to }
         ensures whole { IsBand self.new }
     {
-        fill_rows(&mut self.pixels, self.cap, from, to, bits, color);
+        draw_rows(&mut self.pixels, self.cap, from, to, bits, color);
         self.reach = self.reach.max(to);
     }
 
@@ -190,6 +190,74 @@ impl Band {
 }
 
 /// Draws a sixel over the columns from `from` up to before `to` of six rows.
+#[inline(always)]
+fn draw_rows(pixels: &mut [[u8; 4]], cap: usize, from: usize, to: usize, bits: u8, color: [u8; 4])
+    requires ordered { from ≤ to }
+    requires within { to ≤ cap }
+    requires few { cap ≤ 1000008 }
+    requires fits { length pixels.old ≡ 6 * cap }
+    ensures len { length pixels.new ≡ length pixels.old }
+    ensures drawn { (d : List ℕ) (column k : ℕ) → column < cap → k < 6
+        → stored pixels.new cap d column k
+        ≡ (if covers from to 0 bits column k then color else stored pixels.old cap d column k) }
+{
+    if to - from > NARROW || to + 8 > cap {
+        fill_rows(pixels, cap, from, to, bits, color);
+    } else if to - from <= 8 {
+        draw_eight(pixels, cap, from, to, bits, color);
+    } else {
+        draw_narrow(pixels, cap, from, to, bits, color);
+    }
+}
+
+/// Does so eight columns at once. The last eight may go past the run, where nothing changes.
+#[inline(never)]
+fn draw_narrow(pixels: &mut [[u8; 4]], cap: usize, from: usize, to: usize, bits: u8, color: [u8; 4])
+    requires ordered { from ≤ to }
+    requires within { to + 8 ≤ cap }
+    requires few { cap ≤ 1000008 }
+    requires fits { length pixels.old ≡ 6 * cap }
+    ensures len { length pixels.new ≡ length pixels.old }
+    ensures drawn { (d : List ℕ) (column k : ℕ) → column < cap → k < 6
+        → stored pixels.new cap d column k
+        ≡ (if covers from to 0 bits column k then color else stored pixels.old cap d column k) }
+{
+    'drawn: for i in 0..(to - from).div_ceil(8) {
+        let start = from + 8 * i;
+        draw_eight(pixels, cap, start, to.min(start + 8), bits, color);
+    }
+}
+
+/// Draws a sixel over at most eight columns of six rows, without a branch.
+#[inline(always)]
+fn draw_eight(pixels: &mut [[u8; 4]], cap: usize, from: usize, to: usize, bits: u8, color: [u8; 4])
+    requires ordered { from ≤ to }
+    requires narrow { to ≤ from + 8 }
+    requires within { from + 8 ≤ cap }
+    requires few { cap ≤ 1000008 }
+    requires fits { length pixels.old ≡ 6 * cap }
+    ensures len { length pixels.new ≡ length pixels.old }
+    ensures drawn { (d : List ℕ) (column k : ℕ) → column < cap → k < 6
+        → stored pixels.new cap d column k
+        ≡ (if covers from to 0 bits column k then color else stored pixels.old cap d column k) }
+{
+    'drawn: for bit in 0..6 {
+        let count = counted(bits, bit, to - from);
+        fill_eight(pixels, bit * cap + from, count, color);
+    }
+}
+
+/// Returns how many columns of the row of this bit a sixel colors.
+#[inline(always)]
+fn counted(bits: u8, bit: usize, columns: usize) -> usize
+    requires { bit < 6 }
+    ensures { result ≡ (if is_set bits bit then columns else 0) }
+{
+    if (bits >> bit) % 2 == 1 { columns } else { 0 }
+}
+
+/// Draws a sixel row by row.
+#[inline(never)]
 fn fill_rows(pixels: &mut [[u8; 4]], cap: usize, from: usize, to: usize, bits: u8, color: [u8; 4])
     requires ordered { from ≤ to }
     requires within { to ≤ cap }

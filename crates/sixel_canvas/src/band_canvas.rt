@@ -1,13 +1,13 @@
 //! A canvas of one band: the rows above it are final, and stored as those of the image.
 ghost use Rattle.std.specs.Prelude.{◌≡◌, ℕ, ◌+◌, ◌*◌, ◌^◌, ◌≤◌, ◌<◌, List, max, OnErr, OnOk};
-ghost use Rattle.std.specs.Prelude.{◌-◌, ◌/◌, ◌%◌, length, slice_index, nat_lt, if◌then◌else◌};
+ghost use Rattle.std.specs.Prelude.{◌-◌, length, nat_lt, if◌then◌else◌};
+ghost use Rattle.sixel_canvas.specs.Layout.{AreCopied, AreRowsIn};
 ghost use Rattle.sixel_canvas.specs.inside.Band.{cell};
 ghost use Rattle.sixel_canvas.specs.inside.BandCanvas.{band_canvas_shown, IsHeld, IsPaid};
-ghost use Rattle.sixel_canvas.specs.inside.Channels.{in_order};
 ghost use Rattle.sixel_canvas.specs.inside.FinalRows.{final};
-ghost use Rattle.sixel_canvas.specs.inside.TaggedBand.{tagged_cell};
+ghost use Rattle.sixel_canvas.specs.inside.TaggedBand.{capacity, tagged_cell};
 
-use crate::channels::{ChannelOrder, copy_row};
+use crate::channels::RowLayout;
 use crate::drawing::Canvas;
 use crate::final_rows::FinalRows;
 use crate::tagged_band::TaggedBand;
@@ -49,11 +49,11 @@ impl Canvas for BandCanvas {
 
     ghost work = { λ canvas. record {
       writes = 0;
-      room = 6 * canvas.band.pixels.cap;
+      room = 6 * capacity canvas.band;
       paints = canvas.band.painted;
     } };
 
-    ghost paid = { λ canvas runs. IsPaid canvas.band.pixels.cap canvas.band.painted
+    ghost paid = { λ canvas runs. IsPaid (capacity canvas.band) canvas.band.painted
         canvas.band.pixels.reach canvas.top runs };
 
     fn new(alloc: Global, background: [u8; 4]) -> BandCanvas {
@@ -124,24 +124,33 @@ impl Canvas for BandCanvas {
 }
 
 impl BandCanvas {
-    /// Writes row `k` of the band, as it shows now, to a row of the caller's.
-    pub fn copy_row(&mut self, k: usize, order: ChannelOrder, out: &mut [u8])
-        requires { k < 6 }
-        ensures len { length out.new ≡ length out.old }
-        ensures copied { (i : ℕ) → i < 4 * (length out.old / 4) → slice_index out.new i
-            ≡ slice_index (in_order order
-            (band_canvas_shown self.old (i / 4) (self.old.top + k))) (i % 4) }
-        ensures shown { (column row : ℕ) → band_canvas_shown self.new column row
-            ≡ band_canvas_shown self.old column row }
-        ensures top { self.new.top ≡ self.old.top }
-        ensures held { self.new.held ≡ self.old.held }
-        ensures cap { self.new.band.pixels.cap ≡ self.old.band.pixels.cap }
-        ensures reach { self.new.band.pixels.reach ≡ self.old.band.pixels.reach }
-        ensures painted { self.new.band.painted ≡ self.old.band.painted }
+    /// Returns how many columns and tags were painted so far, at most. The number saturates.
+    pub fn paints(&self) -> u64
+        ensures { result ≡ self.now.band.painted }
     {
-        self.band.settle_all();
-        let background = self.band.background();
-        copy_row(self.band.row(k), background, order, out);
+        self.band.painted()
+    }
+
+    /// Copies so many final rows from row `first` on to a caller's memory.
+    pub fn copy_rows(&self, first: usize, rows: usize, layout: RowLayout, out: &mut [u8])
+        requires above { first + rows ≤ self.now.top }
+        requires fits { AreRowsIn layout rows (length out.old) }
+        ensures len { length out.new ≡ length out.old }
+        ensures copied { AreCopied (band_canvas_shown self.now) first rows layout out.old out.new }
+    {
+        // The proof reads the top for the range of its type.
+        let _top = self.top;
+        self.rows.copy(first, rows, layout, out);
+    }
+
+    /// Copies the picture of so many rows to a caller's memory. All that was drawn is final then.
+    pub fn copy_picture(&mut self, rows: usize, layout: RowLayout, out: &mut [u8])
+        requires { AreRowsIn layout rows (length out.old) }
+        ensures len { length out.new ≡ length out.old }
+        ensures copied { AreCopied (band_canvas_shown self.old) 0 rows layout out.old out.new }
+    {
+        self.finish_rows();
+        self.rows.copy(0, rows, layout, out);
     }
 
     /// Makes memory for so many columns of the band, and for its rows among the final ones.
@@ -154,8 +163,8 @@ impl BandCanvas {
         ensures shown { OnOk result ((column row : ℕ) → band_canvas_shown self.new column row
             ≡ band_canvas_shown self.old column row) }
         ensures top { OnOk result (self.new.top ≡ self.old.top) }
-        ensures cap { OnOk result (self.new.band.pixels.cap
-            ≤ max self.old.band.pixels.cap (2 * columns + 16)) }
+        ensures capacity { OnOk result (capacity self.new.band
+            ≤ max (capacity self.old.band) (2 * columns + 16)) }
         ensures reach { OnOk result (self.new.band.pixels.reach ≡ self.old.band.pixels.reach) }
         ensures painted { OnOk result (self.new.band.painted ≡ self.old.band.painted) }
     {
@@ -176,8 +185,8 @@ impl BandCanvas {
         ensures shown { OnOk result ((column row : ℕ) → band_canvas_shown self.new column row
             ≡ band_canvas_shown self.old column row) }
         ensures top { OnOk result (self.new.top ≡ self.old.top) }
-        ensures cap { OnOk result (self.new.band.pixels.cap
-            ≤ max self.old.band.pixels.cap (2 * columns + 16)) }
+        ensures capacity { OnOk result (capacity self.new.band
+            ≤ max (capacity self.old.band) (2 * columns + 16)) }
         ensures reach { OnOk result (self.new.band.pixels.reach ≡ self.old.band.pixels.reach) }
         ensures painted { OnOk result (self.new.band.painted ≡ self.old.band.painted) }
     {
@@ -199,7 +208,7 @@ impl BandCanvas {
         ensures empty { (column k : ℕ) → tagged_cell self.new.band column k
             ≡ self.new.rows.background }
         ensures reach { self.new.band.pixels.reach ≡ 0 }
-        ensures cap { self.new.band.pixels.cap ≡ self.old.band.pixels.cap }
+        ensures capacity { capacity self.new.band ≡ capacity self.old.band }
         ensures top { self.new.top ≤ self.old.top + 6 }
         ensures held { self.new.held ≡ 0 }
         ensures painted { self.new.band.painted ≡ self.old.band.painted }
@@ -227,7 +236,7 @@ fn hand_out(rows: &mut FinalRows, band: &mut TaggedBand, top: usize, expected_wi
     ensures cleared { (column k : ℕ) → tagged_cell band.new column k ≡ band.old.pixels.background }
     ensures background { band.new.pixels.background ≡ band.old.pixels.background }
     ensures reach { band.new.pixels.reach ≡ 0 }
-    ensures cap { band.new.pixels.cap ≡ band.old.pixels.cap }
+    ensures capacity { capacity band.new ≡ capacity band.old }
     ensures painted { band.new.painted ≡ band.old.painted }
 {
     band.settle_all();

@@ -1,7 +1,10 @@
-//! Rows of pixels in the caller's memory, in the order of bytes that the caller has.
-ghost use Rattle.std.specs.Prelude.{◌≡◌, ℕ, ◌*◌, ◌/◌, ◌%◌, ◌<◌, List, length};
-ghost use Rattle.std.specs.Prelude.{slice_index, slice_index_or};
-ghost use Rattle.sixel_canvas.specs.inside.Channels.{in_order};
+//! Rows of pixels in a caller's memory: their stride, and the order of a pixel's bytes.
+ghost use Rattle.std.specs.Prelude.{◌≡◌, ℕ, ◌/◌, ◌%◌, ◌<◌, nat_lt, length, slice_index};
+ghost use Rattle.std.specs.Prelude.{if◌then◌else◌};
+ghost use Rattle.sixel_canvas.specs.Layout.{in_order};
+ghost use Rattle.sixel_canvas.specs.inside.FinalRows.{pixel_at};
+
+use crate::span::fill_rgba_span;
 
 /// The order of a pixel's bytes in memory.
 #[derive(Clone, Copy, Debug, PartialEq, Eq)]
@@ -10,6 +13,17 @@ pub enum ChannelOrder {
     Rgba,
     /// Blue, green, red, alpha, as most window systems have them.
     Bgra,
+}
+
+/// How rows of pixels lie in a caller's memory.
+#[derive(Clone, Copy, Debug, PartialEq, Eq)]
+pub struct RowLayout {
+    /// How many bytes lie between the beginnings of two rows.
+    pub stride: usize,
+    /// How many pixels of a row are written. Bytes right of them are left as they are.
+    pub columns: usize,
+    /// The order of a pixel's bytes.
+    pub order: ChannelOrder,
 }
 
 impl ChannelOrder {
@@ -25,30 +39,35 @@ impl ChannelOrder {
     }
 }
 
-/// Fills a row of the caller's with pixels, and with background to their right.
-///
-/// Bytes past the last whole pixel of the row are left as they are.
-pub fn copy_row(pixels: &[[u8; 4]], background: [u8; 4], order: ChannelOrder, row: &mut [u8])
+/// Fills a row of the caller's with the pixels of these bytes, and with background to their right.
+pub fn copy_row(pixels: &[u8], background: [u8; 4], order: ChannelOrder, row: &mut [u8])
+    requires stored { length pixels.now % 4 ≡ 0 }
+    requires whole { length row.old % 4 ≡ 0 }
     ensures len { length row.new ≡ length row.old }
-    ensures copied { (i : ℕ) → i < 4 * (length row.old / 4) → slice_index row.new i
-        ≡ slice_index (in_order order (slice_index_or pixels.now (i / 4) background)) (i % 4) }
+    ensures copied { (i : ℕ) → i < length row.old → slice_index row.new i
+        ≡ slice_index (in_order order (if nat_lt (i / 4) (length pixels.now / 4)
+        then pixel_at pixels.now (i / 4) else background)) (i % 4) }
 {
-    'copied: for column in 0..row.len() / 4 {
-        let bytes = order.of(pixel_or(pixels, column, background));
-        row[4 * column] = bytes[0];
-        row[4 * column + 1] = bytes[1];
-        row[4 * column + 2] = bytes[2];
-        row[4 * column + 3] = bytes[3];
-    }
+    let len = pixels.len().min(row.len());
+    let (stored, rest) = row.split_at_mut(len);
+    copy_pixels(&pixels[..len], order, stored);
+    fill_rgba_span(rest, order.of(background));
 }
 
-/// Returns the pixel of a column, or the background where there is none.
-#[inline(always)]
-fn pixel_or(pixels: &[[u8; 4]], column: usize, background: [u8; 4]) -> [u8; 4]
-    ensures { result ≡ slice_index_or pixels.now column background }
+/// Copies pixels in another order of bytes.
+fn copy_pixels(pixels: &[u8], order: ChannelOrder, row: &mut [u8])
+    requires same { length pixels.now ≡ length row.old }
+    requires whole { length row.old % 4 ≡ 0 }
+    ensures len { length row.new ≡ length row.old }
+    ensures copied { (i : ℕ) → i < length row.old → slice_index row.new i
+        ≡ slice_index (in_order order (pixel_at pixels.now (i / 4))) (i % 4) }
 {
-    match pixels.get(column) {
-        Some(pixel) => *pixel,
-        None => background,
+    'copied: for column in 0..row.len() / 4 {
+        let at = 4 * column;
+        let bytes = order.of([pixels[at], pixels[at + 1], pixels[at + 2], pixels[at + 3]]);
+        row[at] = bytes[0];
+        row[at + 1] = bytes[1];
+        row[at + 2] = bytes[2];
+        row[at + 3] = bytes[3];
     }
 }

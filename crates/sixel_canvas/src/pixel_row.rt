@@ -19,6 +19,22 @@ pub fn fill(pixels: &mut [[u8; 4]], from: usize, to: usize, color: [u8; 4])
     }
 }
 
+/// Gives one color to the first `count` of the eight pixels from `at` on, without a branch.
+#[inline(always)]
+pub fn fill_eight(pixels: &mut [[u8; 4]], at: usize, count: usize, color: [u8; 4])
+    requires within { at + 8 ≤ length pixels.old }
+    requires few { count ≤ 8 }
+    ensures len { length pixels.new ≡ length pixels.old }
+    ensures filled { (d : List ℕ) (i : ℕ) → slice_index_or pixels.new i d
+        ≡ filled at (at + count) color i (slice_index_or pixels.old i d) }
+{
+    let new = number(color);
+    'filled: for j in 0..8 {
+        let old = number(pixels[at + j]);
+        pixels[at + j] = chosen(j < count, new, old).to_le_bytes();
+    }
+}
+
 /// Gives one color to those of eight pixels from `at` on whose sixel has the bit.
 ///
 /// Each pixel is chosen as a number, because LLVM makes a branch of a choice between arrays.

@@ -5,9 +5,9 @@ ghost use Rattle.std.specs.Prelude.{if◌then◌else◌};
 ghost use Rattle.sixel_base.specs.Limits.{area_limit, side_limit};
 ghost use Rattle.sixel_base.specs.Picture.{covers, is_struck, joined, picture};
 ghost use Rattle.sixel_canvas.specs.inside.Paints.{ends_and_tags, least_painted};
-ghost use Rattle.sixel_canvas.specs.inside.RowCanvas.{IsDrawnBy, IsLineOf, IsRowCanvas, least, line_in};
-ghost use Rattle.sixel_canvas.specs.inside.RowCanvas.{row_canvas_held, row_canvas_shown, row_canvas_work};
-ghost use Rattle.sixel_canvas.specs.inside.RowCanvas.{row_len};
+ghost use Rattle.sixel_canvas.specs.inside.RowCanvas.{AreFewTags, IsDrawnBy, IsLineOf, IsRowCanvas};
+ghost use Rattle.sixel_canvas.specs.inside.RowCanvas.{least, line_in, row_canvas_held};
+ghost use Rattle.sixel_canvas.specs.inside.RowCanvas.{row_canvas_shown, row_canvas_work, row_len};
 ghost use Rattle.sixel_canvas.specs.inside.TaggedRow.{tagged_pixel};
 ghost use Rattle.sixel_canvas.specs.inside.Tags.{is_tag};
 
@@ -106,10 +106,12 @@ impl Canvas for RowCanvas {
 impl RowCanvas {
     /// Returns how many pixels were copied or filled to grow the rows.
     ///
-    /// Painting does not count, nor does packing.
+    /// Painting does not count, nor does packing. Tags do not either: a row has at most one for
+    /// each whole 128 columns, and capacity for at most twice as many.
     pub fn writes(&self) -> u64
         ensures value { result ≡ (row_canvas_work self.now).writes }
         ensures at_most { result ≤ 3000000000000 }
+        ensures tags { AreFewTags self.now }
     {
         let mut writes = 0;
         'counted: for line in &self.rows {

@@ -5,10 +5,10 @@ ghost use Rattle.std.specs.Prelude.{slice_index_or, OnErr, OnOk, if◌then◌els
 ghost use Rattle.sixel_base.specs.Picture.{covers};
 ghost use Rattle.sixel_canvas.specs.inside.Band.{cell, IsBand};
 ghost use Rattle.sixel_canvas.specs.inside.Drawn.{covers_block};
-ghost use Rattle.sixel_canvas.specs.inside.TaggedBand.{most_painted, tagged_cell};
+ghost use Rattle.sixel_canvas.specs.inside.TaggedBand.{capacity, most_painted, tagged_cell};
 ghost use Rattle.sixel_canvas.specs.inside.Tags.{is_tag, no_tag, under};
 
-use crate::band::Band;
+use crate::band::{Band, MAX_CAP};
 use std::alloc::{AllocError, Global};
 use std::marker::Model;
 
@@ -49,7 +49,7 @@ impl TaggedBand {
         ensures shown { (column k : ℕ) → tagged_cell result column k ≡ background }
         ensures background { result.pixels.background ≡ background }
         ensures reach { result.pixels.reach ≡ 0 }
-        ensures cap { result.pixels.cap ≡ 0 }
+        ensures capacity { capacity result ≡ 0 }
         ensures painted { result.painted ≡ 0 }
     {
         TaggedBand {
@@ -94,23 +94,27 @@ impl TaggedBand {
         self.painted
     }
 
-    /// Makes memory for so many columns, and at least doubles it where it is too small.
+    /// Makes memory for so many columns, and nearly doubles it.
+    ///
+    /// The columns and their tags together are at most twice as many.
     #[inline(never)]
     pub fn widen(&mut self, columns: usize) -> Result<(), AllocError>
+        requires more { self.old.pixels.cap < columns }
         requires within { columns ≤ 1000008 }
         ensures held { OnOk result (columns ≤ self.new.pixels.cap) }
-        ensures no_more { OnOk result (self.new.pixels.cap
-            ≤ max columns (2 * self.old.pixels.cap)) }
+        ensures capacity { OnOk result (capacity self.new ≤ 2 * columns) }
         ensures shown { (column k : ℕ) → tagged_cell self.new column k
             ≡ tagged_cell self.old column k }
         ensures background { self.new.pixels.background ≡ self.old.pixels.background }
         ensures reach { self.new.pixels.reach ≡ self.old.pixels.reach }
-        ensures refused { OnErr result (self.new.pixels ≡ self.old.pixels) }
+        ensures refused { OnErr result (self.new ≡ self.old) }
         ensures painted { self.new.painted ≡ self.old.painted }
     {
-        self.tags
-            .widen(columns.max(2 * self.pixels.cap()).div_ceil(BLOCK))?;
-        self.pixels.widen(columns)
+        let cap = greater_cap(self.pixels.cap(), columns);
+        let pixels = self.pixels.wider(cap)?;
+        self.tags = self.tags.wider(cap.div_ceil(BLOCK))?;
+        self.pixels = pixels;
+        Ok(())
     }
 
     /// Draws a sixel over the columns from `from` up to before `to`, for which there is memory.
@@ -123,6 +127,7 @@ impl TaggedBand {
             ≡ (if covers from to 0 bits column k then color else tagged_cell self.old column k) }
         ensures background { self.new.pixels.background ≡ self.old.pixels.background }
         ensures cap { self.new.pixels.cap ≡ self.old.pixels.cap }
+        ensures tags_cap { self.new.tags.cap ≡ self.old.tags.cap }
         ensures reach { self.new.pixels.reach ≡ max self.old.pixels.reach to }
         ensures painted { self.new.painted ≤ self.old.painted + most_painted (to - from)
             + (max self.old.pixels.reach to - self.old.pixels.reach) }
@@ -144,6 +149,7 @@ impl TaggedBand {
             ≡ (if covers from to 0 bits column k then color else tagged_cell self.old column k) }
         ensures background { self.new.pixels.background ≡ self.old.pixels.background }
         ensures cap { self.new.pixels.cap ≡ self.old.pixels.cap }
+        ensures tags_cap { self.new.tags.cap ≡ self.old.tags.cap }
         ensures reach { self.new.pixels.reach ≡ max self.old.pixels.reach to }
         ensures painted { self.new.painted ≤ self.old.painted + most_painted (to - from)
             + (max self.old.pixels.reach to - self.old.pixels.reach) }
@@ -167,6 +173,7 @@ impl TaggedBand {
             ≡ (if covers (first * 128) (last * 128) 0 bits column k then color
             else tagged_cell self.old column k) }
         ensures pixels { self.new.pixels ≡ self.old.pixels }
+        ensures tags_cap { self.new.tags.cap ≡ self.old.tags.cap }
         ensures reach { self.new.tags.reach ≡ max self.old.tags.reach last }
         ensures painted { self.new.painted ≤ self.old.painted + (last - first) }
     {
@@ -183,6 +190,7 @@ impl TaggedBand {
             ≡ (if covers from to 0 bits column k then color else tagged_cell self.old column k) }
         ensures background { self.new.pixels.background ≡ self.old.pixels.background }
         ensures cap { self.new.pixels.cap ≡ self.old.pixels.cap }
+        ensures tags_cap { self.new.tags.cap ≡ self.old.tags.cap }
         ensures reach { self.new.pixels.reach ≡ max self.old.pixels.reach to }
         ensures tags_reach { self.new.tags.reach ≡ self.old.tags.reach }
         ensures painted { self.new.painted ≤ self.old.painted + (to - from)
@@ -207,6 +215,7 @@ impl TaggedBand {
             else tagged_cell self.old column k) }
         ensures background { self.new.pixels.background ≡ self.old.pixels.background }
         ensures cap { self.new.pixels.cap ≡ self.old.pixels.cap }
+        ensures tags_cap { self.new.tags.cap ≡ self.old.tags.cap }
         ensures reach { self.new.pixels.reach ≡ max self.old.pixels.reach to }
         ensures painted { self.new.painted ≤ self.old.painted + 264 }
     {
@@ -224,6 +233,7 @@ impl TaggedBand {
             ≡ tagged_cell self.old column k }
         ensures background { self.new.pixels.background ≡ self.old.pixels.background }
         ensures cap { self.new.pixels.cap ≡ self.old.pixels.cap }
+        ensures tags_cap { self.new.tags.cap ≡ self.old.tags.cap }
         ensures reach { self.new.pixels.reach ≡ self.old.pixels.reach }
         ensures painted { self.new.painted ≡ self.old.painted }
     {
@@ -248,6 +258,7 @@ impl TaggedBand {
             ≡ self.old.pixels.background }
         ensures background { self.new.pixels.background ≡ self.old.pixels.background }
         ensures cap { self.new.pixels.cap ≡ self.old.pixels.cap }
+        ensures tags_cap { self.new.tags.cap ≡ self.old.tags.cap }
         ensures reach { self.new.pixels.reach ≡ 0 }
         ensures painted { self.new.painted ≡ self.old.painted }
     {
@@ -265,6 +276,7 @@ impl TaggedBand {
             → is_tag (cell self.new.tags (column / 128) k) ≡ false }
         ensures background { self.new.pixels.background ≡ self.old.pixels.background }
         ensures cap { self.new.pixels.cap ≡ self.old.pixels.cap }
+        ensures tags_cap { self.new.tags.cap ≡ self.old.tags.cap }
         ensures reach { self.new.pixels.reach ≡ self.old.pixels.reach }
         ensures tags_reach { self.new.tags.reach ≡ self.old.tags.reach }
         ensures painted { self.new.painted ≤ self.old.painted
@@ -293,6 +305,7 @@ impl TaggedBand {
             → cell self.new.tags block k ≡ cell self.old.tags block k }
         ensures background { self.new.pixels.background ≡ self.old.pixels.background }
         ensures cap { self.new.pixels.cap ≡ self.old.pixels.cap }
+        ensures tags_cap { self.new.tags.cap ≡ self.old.tags.cap }
         ensures reach { self.new.pixels.reach ≡ self.old.pixels.reach }
         ensures tags_reach { self.new.tags.reach ≡ self.old.tags.reach }
         ensures painted { self.new.painted ≡ self.old.painted }
@@ -312,6 +325,7 @@ impl TaggedBand {
             → cell self.new.tags other k ≡ cell self.old.tags other k }
         ensures background { self.new.pixels.background ≡ self.old.pixels.background }
         ensures cap { self.new.pixels.cap ≡ self.old.pixels.cap }
+        ensures tags_cap { self.new.tags.cap ≡ self.old.tags.cap }
         ensures reach { self.new.pixels.reach ≡ self.old.pixels.reach }
         ensures tags_reach { self.new.tags.reach ≡ self.old.tags.reach }
         ensures painted { self.new.painted ≡ self.old.painted }
@@ -319,6 +333,17 @@ impl TaggedBand {
         paint_tags(&mut self.pixels, &self.tags, block);
         self.tags.draw(block, block + 1, 63, NO_TAG);
     }
+}
+
+/// Returns for how many columns to make memory where it is too small for so many.
+fn greater_cap(cap: usize, columns: usize) -> usize
+    requires more { cap < columns }
+    requires within { columns ≤ 1000008 }
+    ensures more { columns ≤ result }
+    ensures within { result ≤ 1000008 }
+    ensures most { result + (result + 127) / 128 ≤ 2 * columns }
+{
+    columns.max(MAX_CAP.min(2 * cap - cap / 32))
 }
 
 /// Paints the tags that the rows of one block have.

@@ -15,6 +15,7 @@ use Rattle.sixel_base.specs.History.{History, begun, longer, goes_on, read, hist
 use Rattle.sixel_base.specs.Stroke.{Origin}
 use Rattle.sixel_base.specs.Payload.{first_fault, closed, growths, settled, payload_fault}
 use Rattle.sixel_base.specs.Payload.{payload_wants}
+use Rattle.sixel_canvas.specs.declared.drawing.Canvas.{Ghosts}
 use Rattle.sixel_decoder.specs.declared.payload_parser.PayloadParser.{PayloadParser}
 use Rattle.sixel_decoder.specs.declared.payload_parser.OpenCommand.TheVariants.{Ground}
 use Rattle.sixel_base.specs.Status.{status_of}
@@ -96,7 +97,8 @@ growths-fold h (byte ∷ bytes) = omega (arith, growths-read h byte, growths-fol
 -- ---- how far a parser has come
 
 -- The bytes of a chunk before this index were read, and the parser is in the history so far.
-pub record Reaches (o : Origin) (parser : PayloadParser) (h : History) (index : ℕ) (piece : List ℕ)
+pub record Reaches {C : Type 0} {canvas : Ghosts C} (o : Origin) (parser : PayloadParser C canvas)
+    (h : History) (index : ℕ) (piece : List ℕ)
     : Type 0 where
   pub now : History
   pub stands : Stands o parser now
@@ -127,7 +129,8 @@ count-cons : (byte : ℕ) (rest : List ℕ) → is_terminator byte ≡ false
     → count (byte ∷ rest) ≡ count rest + 1
 count-cons byte rest ends = rw ends (omega arith)
 
-pub reaches_ignored : (o : Origin) (parser : PayloadParser) (h : History) (index : ℕ)
+pub reaches_ignored : {C : Type 0} {canvas : Ghosts C} (o : Origin)
+    (parser : PayloadParser C canvas) (h : History) (index : ℕ)
     (piece : List ℕ) (byte : ℕ)
     → drop index piece ≡ byte ∷ drop (index + 1) piece → is_terminator byte ≡ false
     → is_ignored byte ≡ true
@@ -146,7 +149,8 @@ reaches_ignored o parser h index piece byte splits ends is r =
       grown = r.grown;
     }
 
-pub reaches_pushed : (o : Origin) (parser parser' : PayloadParser) (h : History) (index : ℕ)
+pub reaches_pushed : {C : Type 0} {canvas : Ghosts C} (o : Origin)
+    (parser parser' : PayloadParser C canvas) (h : History) (index : ℕ)
     (piece : List ℕ) (byte : ℕ)
     → drop index piece ≡ byte ∷ drop (index + 1) piece → is_terminator byte ≡ false
     → is_ignored byte ≡ false
@@ -210,7 +214,8 @@ count-run (suc n) (byte ∷ bytes) are le =
       count-run n bytes (λ k lt. are (suc k) (omega arith)) (omega arith),
     )
 
-pub reaches_run : (o : Origin) (parser parser' : PayloadParser) (h : History) (index n : ℕ)
+pub reaches_run : {C : Type 0} {canvas : Ghosts C} (o : Origin)
+    (parser parser' : PayloadParser C canvas) (h : History) (index n : ℕ)
     (piece : List ℕ)
     → ((k : ℕ) → k < n → IsPrintable (get_or (drop index piece) k 0))
     → n ≤ length (drop index piece)
@@ -234,8 +239,9 @@ reaches_run o parser parser' h index n piece are le r stands =
     }
 
 -- the parser once bytes at the front of what is ahead were read
-pub reaches_read :
-    (o : Origin) (parser parser' : PayloadParser) (h : History) (index n : ℕ) (piece bytes : List ℕ)
+pub reaches_read : {C : Type 0} {canvas : Ghosts C}
+    (o : Origin) (parser parser' : PayloadParser C canvas) (h : History) (index n : ℕ)
+    (piece bytes : List ℕ)
     → bytes ≡ drop index piece
     → ((k : ℕ) → k < n → IsPrintable (get_or bytes k 0)) → n ≤ length bytes
     → (r : Reaches o parser h index piece) → Stands o parser' (fold read r.now (take n bytes))
@@ -256,7 +262,8 @@ count_most (byte ∷ bytes) =
     ]
 
 -- the bytes of a chunk that were read up to its end
-pub reads_whole : (o : Origin) (parser : PayloadParser) (h : History) (index : ℕ) (piece : List ℕ)
+pub reads_whole : {C : Type 0} {canvas : Ghosts C} (o : Origin) (parser : PayloadParser C canvas)
+    (h : History) (index : ℕ) (piece : List ℕ)
     → length piece ≤ index → Reaches o parser h index piece
     → (index ≡ count piece) × Stands o parser (after h piece)
 reads_whole o parser h index piece past r =
@@ -268,7 +275,8 @@ reads_whole o parser h index piece past r =
     )
 
 -- and those that were read up to a terminator
-pub reads_before : (o : Origin) (parser : PayloadParser) (h : History) (index : ℕ) (piece : List ℕ)
+pub reads_before : {C : Type 0} {canvas : Ghosts C} (o : Origin) (parser : PayloadParser C canvas)
+    (h : History) (index : ℕ) (piece : List ℕ)
     (byte : ℕ)
     → drop index piece ≡ byte ∷ drop (index + 1) piece → is_terminator byte ≡ true
     → Reaches o parser h index piece
@@ -309,7 +317,8 @@ terminator_after (byte ∷ piece) more =
     ]) more
 
 -- a chunk with no terminator
-pub feeds_whole : (o : Origin) (parser : PayloadParser) (h : History) (read : ℕ) (piece : List ℕ)
+pub feeds_whole : {C : Type 0} {canvas : Ghosts C} (o : Origin) (parser : PayloadParser C canvas)
+    (h : History) (read : ℕ) (piece : List ℕ)
     → length piece ≤ read → (read ≡ count piece) × Stands o parser (after h piece)
     → (read ≡ count piece) × (NeedMoreData ≡ status_of (first_terminator piece))
     × StandsAfter (is_terminated piece) o parser (after h piece)
@@ -325,8 +334,8 @@ ending read piece more is =
     ∙ ap (λ (k : ℕ). Some (get_or piece k 0)) (sym is)
 
 -- a chunk that ends at its terminator, which ends the open command
-pub feeds_terminated :
-    (o : Origin) (parser : PayloadParser) (h : History) (read : ℕ) (piece : List ℕ)
+pub feeds_terminated : {C : Type 0} {canvas : Ghosts C}
+    (o : Origin) (parser : PayloadParser C canvas) (h : History) (read : ℕ) (piece : List ℕ)
     → read < length piece → read ≡ count piece
     → parser.command ≡ Ground → Shows o parser.painter (after h piece)
     → (read ≡ count piece) × (Terminated (get_or piece read 0) ≡ status_of (first_terminator piece))
@@ -380,7 +389,8 @@ refused_settled e limit h now next rest piece whole grown refused =
     ])
 
 -- an error at a byte is the error of the whole chunk
-pub feeds_refused : (e : SixelError) (o : Origin) (parser : PayloadParser) (h : History) (index : ℕ)
+pub feeds_refused : {C : Type 0} {canvas : Ghosts C} (e : SixelError) (o : Origin)
+    (parser : PayloadParser C canvas) (h : History) (index : ℕ)
     (piece : List ℕ) (byte : ℕ)
     → drop index piece ≡ byte ∷ drop (index + 1) piece → is_terminator byte ≡ false
     → is_ignored byte ≡ false
@@ -398,7 +408,8 @@ feeds_refused e o parser h index piece byte splits ends is r refused =
     refused_settled e o.pixel_limit h r.now next rest piece whole r.grown refused
 
 -- and where the byte is printable
-pub feeds_refused_printable : (e : SixelError) (o : Origin) (parser : PayloadParser) (h : History)
+pub feeds_refused_printable : {C : Type 0} {canvas : Ghosts C} (e : SixelError) (o : Origin)
+    (parser : PayloadParser C canvas) (h : History)
     (index : ℕ) (piece : List ℕ)
     → index < length piece → IsPrintable (get_or piece index 0)
     → (r : Reaches o parser h index piece)

@@ -13,6 +13,7 @@ use Rattle.sixel_base.specs.History.{goes_on, read, history_of}
 use Rattle.sixel_base.specs.Stroke.{Origin}
 use Rattle.sixel_base.specs.Payload.{first_fault, closed, growths, settled, fed_fault}
 use Rattle.sixel_base.specs.declared.status.SixelFeedResult.{SixelFeedResult}
+use Rattle.sixel_canvas.specs.declared.drawing.Canvas.{Ghosts}
 use Rattle.sixel_decoder.specs.declared.payload_parser.PayloadParser.{PayloadParser}
 use Rattle.sixel_decoder.specs.declared.payload_parser.OpenCommand.{OpenCommand}
 use Rattle.sixel_decoder.specs.declared.payload_parser.OpenCommand.TheVariants.{Ground, InRepeat}
@@ -128,7 +129,8 @@ closed-ended (Newline ∷ h) ended = refl
 closed-ended (Skip _ ∷ h) ended = refl
 
 -- what was drawn is what is closed
-stands_shown : (command : OpenCommand) (o : Origin) (parser : PayloadParser) (h : History)
+stands_shown : {C : Type 0} {canvas : Ghosts C} (command : OpenCommand) (o : Origin)
+    (parser : PayloadParser C canvas) (h : History)
     → StandsIn command o parser h → Shows o parser.painter (closed h)
 stands_shown Ground o parser h is =
     subst (λ (w : History). Shows o parser.painter w) (sym (closed-ended h is.ended)) is.shows
@@ -139,7 +141,8 @@ stands_shown InRaster o parser h is =
 stands_shown InColor o parser h is =
     subst (λ (w : History). Shows o parser.painter (closed w)) (sym is.newest) is.shows
 
-pub shown_after : (ended : Bool) (o : Origin) (parser : PayloadParser) (h : History)
+pub shown_after : {C : Type 0} {canvas : Ghosts C} (ended : Bool) (o : Origin)
+    (parser : PayloadParser C canvas) (h : History)
     → StandsAfter ended o parser h → Shows o parser.painter (cond ended h (closed h))
 shown_after true o parser h is = is.1
 shown_after false o parser h is = stands_shown parser.command o parser h is
@@ -166,8 +169,9 @@ settled_whole before piece none =
     (sym (first_terminator-append before piece none))
 
 -- what a parser read of a chunk, it read after the bytes before
-pub feeds_goes_on : (result : Result SixelFeedResult SixelError) (o : Origin)
-    (parser : PayloadParser) (before piece : List ℕ) → first_terminator before ≡ None
+pub feeds_goes_on : {C : Type 0} {canvas : Ghosts C} (result : Result SixelFeedResult SixelError)
+    (o : Origin)
+    (parser : PayloadParser C canvas) (before piece : List ℕ) → first_terminator before ≡ None
     → Feeds result o parser (history_of (front before)) piece → GoesOn result o parser before piece
 feeds_goes_on (Ok fed) o parser before piece none fed_to =
     let bytes : List ℕ = before ++ piece in
@@ -195,7 +199,8 @@ feeds_goes_on (Err e) o parser before piece none refused =
     (settled_whole before piece none) refused)
 
 -- once a payload has ended, its bytes stay what they are
-pub ended_goes_on : (o : Origin) (parser : PayloadParser) (before piece : List ℕ) (t : ℕ)
+pub ended_goes_on : {C : Type 0} {canvas : Ghosts C} (o : Origin)
+    (parser : PayloadParser C canvas) (before piece : List ℕ) (t : ℕ)
     → HasRead (Some parser) o (Some t) before
     → GoesOn (Ok (record { consumed = 0; status = status_of (Some t) })) o parser before piece
 ended_goes_on o parser before piece t is =
@@ -215,7 +220,8 @@ ended_goes_on o parser before piece t is =
     )
 
 -- what a parser has drawn is what no further byte can change
-pub shown_settled : (o : Origin) (parser : PayloadParser) (terminator : Option ℕ) (bytes : List ℕ)
+pub shown_settled : {C : Type 0} {canvas : Ghosts C} (o : Origin)
+    (parser : PayloadParser C canvas) (terminator : Option ℕ) (bytes : List ℕ)
     → HasRead (Some parser) o terminator bytes → Shows o parser.painter (settled bytes)
 shown_settled o parser terminator bytes is =
     let h : History = history_of (front bytes) in
@@ -223,7 +229,8 @@ shown_settled o parser terminator bytes is =
     (shown_after (is_some terminator) o parser h is.1)
 
 -- after a terminator a chunk changes nothing
-pub ended_reads : (o : Origin) (parser : PayloadParser) (before chunk : List ℕ) (t : ℕ)
+pub ended_reads : {C : Type 0} {canvas : Ghosts C} (o : Origin) (parser : PayloadParser C canvas)
+    (before chunk : List ℕ) (t : ℕ)
     → HasRead (Some parser) o (Some t) before
     → HasRead (Some parser) o (Some t) (before ++ chunk)
 ended_reads o parser before chunk t is =
@@ -232,8 +239,9 @@ ended_reads o parser before chunk t is =
     (first_terminator-ended before chunk t is.0) goes.2
 
 -- before one the parser reads the chunk
-pub open_goes_on : (result : Result SixelFeedResult SixelError) (o : Origin)
-    (old new : PayloadParser) (terminator : Option ℕ) (before chunk : List ℕ)
+pub open_goes_on : {C : Type 0} {canvas : Ghosts C} (result : Result SixelFeedResult SixelError)
+    (o : Origin)
+    (old new : PayloadParser C canvas) (terminator : Option ℕ) (before chunk : List ℕ)
     → terminator ≡ None → HasRead (Some old) o terminator before
     → (StandsAfter false o old (history_of (front before))
     → Feeds result o new (history_of (front before)) chunk)

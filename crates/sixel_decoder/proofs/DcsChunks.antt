@@ -34,16 +34,17 @@ use Rattle.sixel_decoder.proofs.DcsEnds.{none_by, count_open}
 
 -- ---- in a payload
 
-pub payload_follows : (reader reader' : Session) (decoder : DecoderState)
+pub payload_follows : (C : Type 0) (reader reader' : Session) (decoder : DecoderState)
     (ended ended' : Option SixelDcsFeedStatus) (before piece : List ℕ)
     (consumed : ℕ) (status : SixelDcsFeedStatus) → IsInPayload reader decoder ended before
     → reader'.origin ≡ reader.origin → reader'.bytes ≡ reader.bytes ++ piece
     → reader'.is_refused ≡ false → fed_fault reader.origin.pixel_limit reader'.bytes ≡ None
     → GoesTo reader.bytes (reader.bytes ++ piece) (record { consumed = consumed; status = status })
     → ended' ≡ ended_with (reader.bytes ++ piece)
-    → Follows (Ok (record { consumed = consumed; status = status })) (states.Payload reader')
+    → Follows {C = C} (Ok (record { consumed = consumed; status = status }))
+    (states.Payload reader')
     decoder ended' before piece
-payload_follows reader reader' decoder ended ended' before piece consumed status is origin bytes
+payload_follows C reader reader' decoder ended ended' before piece consumed status is origin bytes
     accepted faultless goes ends =
     let settings : Settings = reader.origin.settings in
     let sound : fed_fault decoder.pixel_limit reader'.bytes ≡ None =
@@ -103,8 +104,9 @@ payload_refuses e reader decoder ended before piece is refused =
 -- ---- before a payload
 
 -- the payload has not begun, nor ended
-pub heading :
-    (state : DcsState) (decoder : DecoderState) (ended : Option SixelDcsFeedStatus) (bytes : List ℕ)
+pub heading : {C : Type 0}
+    (state : DcsState C) (decoder : DecoderState) (ended : Option SixelDcsFeedStatus)
+    (bytes : List ℕ)
     → is_head state ≡ true
     → HasFollowed state decoder ended bytes → (stage bytes ≡ Heading) × (ended ≡ None)
 heading states.Start decoder ended bytes head is = (ap stage is.0, is.1)
@@ -114,14 +116,14 @@ heading (states.Header header) decoder ended bytes head is =
 heading (states.Payload reader) decoder ended bytes head is = absurd cc
 heading states.Failed decoder ended bytes head is = absurd cc
 
-pub head_fine : (state : DcsState) → is_head state ≡ true → is_failed state ≡ false
+pub head_fine : {C : Type 0} (state : DcsState C) → is_head state ≡ true → is_failed state ≡ false
 head_fine states.Start head = refl
 head_fine states.Escape head = refl
 head_fine (states.Header header) head = refl
 head_fine (states.Payload reader) head = refl
 head_fine states.Failed head = absurd cc
 
-pub head_or_payload : (state : DcsState) → is_failed state ≡ false
+pub head_or_payload : {C : Type 0} (state : DcsState C) → is_failed state ≡ false
     → ((reader : Session) → state ≡ states.Payload reader → ⊥) → is_head state ≡ true
 head_or_payload states.Start fine other = refl
 head_or_payload states.Escape fine other = refl
@@ -137,7 +139,8 @@ stage_refuses e may limit (Failing fault) is = Faults-named e may fault is
 stage_refuses e may limit (Reading settings payload) is = absurd is
 
 -- all of the chunk stands before the payload
-pub head_follows : (state : DcsState) (decoder : DecoderState) (ended : Option SixelDcsFeedStatus)
+pub head_follows : {C : Type 0} (state : DcsState C) (decoder : DecoderState)
+    (ended : Option SixelDcsFeedStatus)
     (before piece : List ℕ) (start : ℕ)
     → stage before ≡ Heading → is_failed state ≡ false → is_head state ≡ true → start ≡ length piece
     → HasFollowed state decoder ended (before ++ take start piece)
@@ -252,7 +255,7 @@ cut_joins before piece start =
     append_assoc before (take start piece) (drop start piece)
     ∙ ap (λ w. before ++ w) (take-append-drop start piece)
 
-pub entered_follows : (state : DcsState) (decoder : DecoderState)
+pub entered_follows : {C : Type 0} (state : DcsState C) (decoder : DecoderState)
     (ended : Option SixelDcsFeedStatus) (before piece : List ℕ) (start consumed : ℕ)
     (status : SixelDcsFeedStatus)
     → start ≤ length piece → stage before ≡ Heading

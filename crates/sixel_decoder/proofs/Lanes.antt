@@ -1,4 +1,4 @@
--- From the mask of sixteen bytes to how many of the first ones are sixels.
+-- From the mask of eight bytes to how many of the first ones are sixels.
 use Rattle.std.proofs.Common.{◌≡◌, ◌≢◌, ℕ, ◌+◌, ◌-◌, ◌%◌, ◌<◌, ◌≤◌, Bool, false, not, cond, List}
 use Rattle.std.proofs.Common.{map, length, get_or, replicate, w8, ap, sym, ◌∙◌, arith}
 use Rattle.std.specs.Prelude.{nat_lt}
@@ -21,23 +21,23 @@ abbrev is_other : ℕ → Bool
 is_other byte = nat_lt 63 (lowered byte 63)
 
 -- the mask has a bit for each byte that is no sixel
-pub mask_is : (bytes : List ℕ) (at : ℕ) → at + 16 ≤ length bytes
+pub mask_is : (bytes : List ℕ) (at : ℕ) → at + 8 ≤ length bytes
     → mask_l (map (top 7) (zip2 (λ a b. cond (nat_lt a b) 255 0)
-    (replicate 16 63) (zip2 lowered (chunk at 16 bytes) (replicate 16 63)))) % 18446744073709551616
-    ≡ mask_l (map is_other (chunk at 16 bytes))
+    (replicate 8 63) (zip2 lowered (chunk at 8 bytes) (replicate 8 63)))) % 18446744073709551616
+    ≡ mask_l (map is_other (chunk at 8 bytes))
 mask_is bytes at room =
-    let lanes : List ℕ = chunk at 16 bytes in
-    let long : length lanes ≡ 16 = length-chunk at 16 bytes room in
-    let low : zip2 lowered lanes (replicate 16 63) ≡ map (λ x. lowered x 63) lanes =
-    zip2_splat lowered lanes 16 63 long in
-    let tops = tops_compared w8 nat_lt (replicate 16 63) (map (λ x. lowered x 63) lanes) in
+    let lanes : List ℕ = chunk at 8 bytes in
+    let long : length lanes ≡ 8 = length-chunk at 8 bytes room in
+    let low : zip2 lowered lanes (replicate 8 63) ≡ map (λ x. lowered x 63) lanes =
+    zip2_splat lowered lanes 8 63 long in
+    let tops = tops_compared w8 nat_lt (replicate 8 63) (map (λ x. lowered x 63) lanes) in
     let hits =
-    zip2_splat_left nat_lt 63 16 (map (λ x. lowered x 63) lanes)
+    zip2_splat_left nat_lt 63 8 (map (λ x. lowered x 63) lanes)
     (length-map lanes (λ x. lowered x 63) ∙ long) in
     let each : map (top 7)
-    (zip2 (λ a b. cond (nat_lt a b) 255 0) (replicate 16 63) (zip2 lowered lanes (replicate 16 63)))
+    (zip2 (λ a b. cond (nat_lt a b) 255 0) (replicate 8 63) (zip2 lowered lanes (replicate 8 63)))
     ≡ map is_other lanes =
-    ap (λ (ys : List ℕ). map (top 7) (zip2 (λ a b. cond (nat_lt a b) 255 0) (replicate 16 63) ys))
+    ap (λ (ys : List ℕ). map (top 7) (zip2 (λ a b. cond (nat_lt a b) 255 0) (replicate 8 63) ys))
     low ∙ tops ∙ hits ∙ map-map (nat_lt 63) (λ x. lowered x 63) lanes in
     ap (λ (ms : List Bool). mask_l ms % 18446744073709551616) each
     ∙ mask_l-mod (map is_other lanes) 64 (omega (arith, length-map lanes is_other, long))
@@ -45,29 +45,36 @@ mask_is bytes at room =
 sixel_from : (byte : ℕ) → byte < 256 → is_other byte ≡ false → IsSixelByte byte
 sixel_from byte fits h = (grind (arith, nat_tests, fits, h), grind (arith, nat_tests, fits, h))
 
-module _ (bytes : List ℕ) (at mask : ℕ) (room : at + 16 ≤ length bytes)
+module _ (bytes : List ℕ) (at mask : ℕ) (room : at + 8 ≤ length bytes)
     (fits : (k : ℕ) → get_or bytes k 0 < 256)
-    (is : mask ≡ mask_l (map is_other (chunk at 16 bytes))) where
-  -- with no bit all sixteen are sixels
-  pub all_sixels : mask ≡ 0 → (k : ℕ) → at ≤ k → k < at + 16 → IsSixelByte (get_or bytes k 0)
+    (is : mask ≡ mask_l (map is_other (chunk at 8 bytes))) where
+  -- with no bit all eight are sixels
+  pub all_sixels : mask ≡ 0 → (k : ℕ) → at ≤ k → k < at + 8 → IsSixelByte (get_or bytes k 0)
   all_sixels none k from to =
       sixel_from (get_or bytes k 0) (fits k)
-      (none_from_empty_mask is_other bytes at 16 0 room (sym is ∙ none) k from to)
+      (none_from_empty_mask is_other bytes at 8 0 room (sym is ∙ none) k from to)
 
   -- otherwise those below the lowest bit are
   counted : mask ≢ 0
-      → count_trailing_zeros 64 mask ≡ prefix_len (λ x. not (is_other x)) (chunk at 16 bytes)
+      → count_trailing_zeros 64 mask ≡ prefix_len (λ x. not (is_other x)) (chunk at 8 bytes)
   counted some =
       ap (count_trailing_zeros 64) is
-      ∙ trailing_mask_l is_other 64 (chunk at 16 bytes)
-      (omega (arith, length-chunk at 16 bytes room)) (omega (arith, is))
+      ∙ trailing_mask_l is_other 64 (chunk at 8 bytes)
+      (omega (arith, length-chunk at 8 bytes room)) (omega (arith, is))
 
-  pub first_few : mask ≢ 0 → count_trailing_zeros 64 mask ≤ 16
+  pub first_few : mask ≢ 0 → count_trailing_zeros 64 mask ≤ 8
   first_few some =
-      run_in_chunk_le is_other bytes at 16 (count_trailing_zeros 64 mask) 0 room (counted some)
+      run_in_chunk_le is_other bytes at 8 (count_trailing_zeros 64 mask) 0 room (counted some)
 
   pub first_sixels : mask ≢ 0 → (k : ℕ) → at ≤ k → k < at + count_trailing_zeros 64 mask
       → IsSixelByte (get_or bytes k 0)
   first_sixels some k from to =
-      sixel_from (get_or bytes k 0) (fits k) (run_in_chunk_fails is_other bytes at 16
+      sixel_from (get_or bytes k 0) (fits k) (run_in_chunk_fails is_other bytes at 8
       (count_trailing_zeros 64 mask) 0 room (counted some) k from to)
+
+-- at the front
+pub first_front : (bytes : List ℕ) (mask : ℕ) → 8 ≤ length bytes
+    → ((k : ℕ) → get_or bytes k 0 < 256) → mask ≡ mask_l (map is_other (chunk 0 8 bytes))
+    → mask ≢ 0 → (k : ℕ) → k < count_trailing_zeros 64 mask → IsSixelByte (get_or bytes k 0)
+first_front bytes mask room fits is some k lt =
+    first_sixels bytes 0 mask room fits is some k (omega arith) (omega (arith, lt))

@@ -1,6 +1,7 @@
-pub mod PaintCounts
 pub mod RasterAttributes
 pub mod RowExtents
+pub mod RunCosts
+pub mod BandCosts
 pub mod ParserSteps
 pub mod OpenCommands
 pub mod ChunkReads

@@ -11,7 +11,8 @@ use Rattle.sixel_base.specs.History.{Sixel, Repeat, Raster, Color, Return, Newli
 use Rattle.sixel_base.specs.History.{goes_on, read}
 use Rattle.sixel_base.specs.Stroke.{Origin}
 use Rattle.sixel_base.specs.inside.Parameters.{IsDigit, Keeps}
-use Rattle.sixel_base.proofs.Reading.{fold-spelling}
+use Rattle.sixel_base.proofs.Histories.{fold-spelling}
+use Rattle.sixel_canvas.specs.declared.drawing.Canvas.{Ghosts}
 use Rattle.sixel_decoder.specs.declared.payload_parser.PayloadParser.{PayloadParser}
 use Rattle.sixel_decoder.specs.declared.payload_parser.OpenCommand.{OpenCommand}
 use Rattle.sixel_decoder.specs.declared.payload_parser.OpenCommand.TheVariants.{InRepeat, InColor}
@@ -77,7 +78,8 @@ fold_front h (byte ∷ bytes) first n some is =
     ap (λ (m : ℕ). fold read h (take m (byte ∷ bytes))) more
     ∙ ap (λ (b : ℕ). fold read h (b ∷ take n bytes)) is
 
-module _ (o : Origin) (new : PayloadParser) (h : History) (bytes : List ℕ) (n : ℕ)
+module _ {C : Type 0} {canvas : Ghosts C} (o : Origin) (new : PayloadParser C canvas)
+    (h : History) (bytes : List ℕ) (n : ℕ)
     (some : 0 < length bytes) (le : n ≤ length (drop 1 bytes))
     (are : (k : ℕ) → k < n → IsDigit (get_or (drop 1 bytes) k 0))
     (keeps : Keeps new.parameters (take n (drop 1 bytes))) (shows : Shows o new.painter h) where

@@ -7,6 +7,7 @@ use Rattle.sixel_base.specs.declared.error.SixelError.TheVariants.{InvalidDimens
 use Rattle.sixel_base.specs.declared.error.SixelError.TheVariants.{BufferSizeMismatch, InvalidData}
 use Rattle.sixel_base.specs.declared.error.SixelError.TheVariants.{NoSixelData, IntegerOverflow}
 use Rattle.sixel_base.specs.declared.error.SixelError.TheVariants.{OutOfMemory}
+use Rattle.sixel_canvas.specs.declared.drawing.Canvas.{Ghosts}
 use Rattle.sixel_decoder.specs.declared.payload_parser.PayloadParser.{PayloadParser}
 use Rattle.sixel_decoder.specs.declared.payload_parser.OpenCommand.{OpenCommand}
 use Rattle.sixel_decoder.specs.declared.payload_parser.OpenCommand.TheVariants.{Ground, InRepeat}
@@ -19,7 +20,7 @@ use Rattle.sixel_base.specs.Stroke.{Origin}
 use Rattle.sixel_base.specs.Payload.{first_fault, closed, growths}
 use Rattle.sixel_decoder.specs.inside.PayloadParser.{IsOpen, StandsIn}
 use Rattle.sixel_decoder.specs.inside.Painter.{Shows}
-use Rattle.sixel_base.proofs.Reading.{read_goes_on, read_ends}
+use Rattle.sixel_base.proofs.Histories.{read_goes_on, read_ends}
 
 named_along : (e : SixelError) (found found' : Option Fault)
     → ((f : Fault) → found ≡ Some f → found' ≡ Some f)
@@ -66,7 +67,8 @@ growths-closed (Newline ∷ h) = omega arith
 growths-closed (Skip _ ∷ h) = omega arith
 
 -- an open command that takes a byte is open with it
-goes_on_open : (command : List ℕ → Token) (o : Origin) (h : History) (parser : PayloadParser)
+goes_on_open : {C : Type 0} {canvas : Ghosts C} (command : List ℕ → Token) (o : Origin)
+    (h : History) (parser : PayloadParser C canvas)
     (ps : Parameters) (byte : ℕ)
     → ((text : List ℕ) (older : History)
     → longer (command text ∷ older) byte ≡ command (text ++ byte ∷ []) ∷ older)
@@ -83,7 +85,8 @@ goes_on_open command o h parser ps byte grows goes is pushed = record {
   shows = is.shows;
 }
 
-pub stands_goes_on : (command : OpenCommand) (o : Origin) (h : History) (parser : PayloadParser)
+pub stands_goes_on : {C : Type 0} {canvas : Ghosts C} (command : OpenCommand) (o : Origin)
+    (h : History) (parser : PayloadParser C canvas)
     (ps : Parameters) (byte : ℕ)
     → goes_on h byte ≡ true → StandsIn command o parser h
     → ((text : List ℕ) → Keeps parser.parameters text → Keeps ps (text ++ byte ∷ []))
@@ -113,7 +116,8 @@ refused_close e limit h byte ends is =
     (sym (read_ends h byte ends)) told
 
 -- a command that was opened is the newest token
-pub opens : (command : List ℕ → Token) (o : Origin) (new : PayloadParser) (h : History) (byte : ℕ)
+pub opens : {C : Type 0} {canvas : Ghosts C} (command : List ℕ → Token) (o : Origin)
+    (new : PayloadParser C canvas) (h : History) (byte : ℕ)
     → begun byte ≡ command [] → Keeps new.parameters []
     → Shows o new.painter h → IsOpen command o new (begun byte ∷ h)
 opens command o new h byte is keeps shows = record {

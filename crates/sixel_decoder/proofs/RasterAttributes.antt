@@ -9,6 +9,7 @@ use Rattle.sixel_base.specs.Payload.{first_fault}
 use Rattle.sixel_base.specs.Place.{width, height}
 use Rattle.sixel_base.specs.Stroke.{Origin}
 use Rattle.sixel_base.specs.declared.error.SixelError.{SixelError}
+use Rattle.sixel_canvas.specs.declared.drawing.Canvas.{Ghosts}
 use Rattle.sixel_decoder.specs.declared.painter.Painter.{Painter}
 use Rattle.sixel_decoder.specs.inside.Painter.{Shows, IsExtended}
 use Rattle.sixel_decoder.specs.inside.Sizes.{IsTooLarge}
@@ -16,8 +17,9 @@ use Rattle.sixel_decoder.proofs.Sixels.{extent_malformed, extent_large}
 use Rattle.sixel_decoder.proofs.FoundPayloads.{Faults-named}
 
 -- a side above a million, or an area above the limit
-pub refused_raster :
-    (e : SixelError) (o : Origin) (painter : Painter) (h : History) (text : List ℕ) (wide high : ℕ)
+pub refused_raster : {C : Type 0} {canvas : Ghosts C}
+    (e : SixelError) (o : Origin) (painter : Painter C canvas) (h : History) (text : List ℕ)
+    (wide high : ℕ)
     → Shows o painter h
     → wide ≡ field text 2 → high ≡ field text 3
     → IsTooLarge (max painter.width wide) (max painter.height high) painter.pixel_limit e
@@ -38,7 +40,8 @@ refused_raster e o painter h text wide high shows wide' high' (inr large) =
     rw (shows.faultless, found) (Faults-named e false TooLarge large.3)
 
 -- sides and an area within their limits
-pub sound_raster : (o : Origin) (old new : Painter) (h : History) (text : List ℕ) (wide high : ℕ)
+pub sound_raster : {C : Type 0} {canvas : Ghosts C} (o : Origin) (old new : Painter C canvas)
+    (h : History) (text : List ℕ) (wide high : ℕ)
     → Shows o old h → IsExtended old new wide high
     → wide ≡ field text 2 → high ≡ field text 3 → new.width * new.height ≤ new.pixel_limit
     → first_fault o.pixel_limit (Raster text ∷ h) ≡ None

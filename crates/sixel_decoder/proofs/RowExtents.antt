@@ -1,24 +1,22 @@
--- How far the rows of a canvas were reached, and what that says of its writes.
+-- How far the rows of an image are reached, and its sizes.
 use Rattle.std.proofs.Common.{◌≡◌, ℕ, suc, zero, ◌+◌, ◌*◌, ◌≤◌, Bool, true, false, max, nat_lt}
-use Rattle.std.proofs.Common.{cond, List, [], ◌∷◌, Option, Some, None, length, refl, ap, inl, inr}
+use Rattle.std.proofs.Common.{cond, List, [], ◌∷◌, Option, Some, None, refl}
 use Rattle.std.proofs.Common.{arith}
 use Rattle.std.specs.Prelude.{◌&&◌}
 use Rattle.std.specs.Option.{option_or}
 use Rattle.std.proofs.Math.Nat.{mul-suc}
 use Rattle.std.proofs.lemmas.Nat.{mul-le}
 use Rattle.std.proofs.lemmas.Bool.Decides.{nat_tests}
-use Rattle.std.proofs.lemmas.Bool.{cases_lt, le-ltb, le-leb}
-use Rattle.sixel_canvas.specs.inside.Canvas.{CanvasState, IsBounded, canvas_writes, canvas_room}
-use Rattle.sixel_canvas.specs.inside.Canvas.{reached}
+use Rattle.std.proofs.lemmas.Bool.{le-ltb, le-leb}
 use Rattle.sixel_base.specs.History.{Sixel, Repeat, Raster, Color, Return, Newline, Skip, History}
 use Rattle.sixel_base.specs.History.{history_of}
 use Rattle.sixel_base.specs.Bytes.{front, is_terminated}
 use Rattle.sixel_base.specs.Fault.{Fault}
 use Rattle.sixel_base.specs.Fields.{field}
+use Rattle.sixel_base.specs.Limits.{side_limit}
 use Rattle.sixel_base.specs.Payload.{extent_fault, image_height, first_fault, closed, settled}
 use Rattle.sixel_base.specs.Picture.{is_struck, total}
 use Rattle.sixel_base.specs.Place.{across, down, height, raster_height, span, width}
-use Rattle.sixel_canvas.proofs.Totals.{total-same}
 use Rattle.sixel_base.specs.Reach.{row_reach, reached_area}
 
 -- no sixel covers a row from the height on
@@ -53,20 +51,6 @@ row_reach-most (Return ∷ h) row = row_reach-most h row
 row_reach-most (Newline ∷ h) row = row_reach-most h row
 row_reach-most (Skip _ ∷ h) row = row_reach-most h row
 
--- zeros add nothing
-pub total-past : (f : ℕ → ℕ) (m n : ℕ) → ((k : ℕ) → m ≤ k → f k ≡ 0) → m ≤ n → total f n ≡ total f m
-unfolding total
-total-past f m zero past le =
-    let none : zero ≡ m = omega arith in
-    ap (total f) none
-total-past f m (suc n) past le =
-    elim (cases_lt n m) [
-      | inl last ↦
-          let whole : suc n ≡ m = omega arith in
-          ap (total f) whole
-      | inr more ↦ omega (arith, total-past f m n past more, past n more)
-    ]
-
 -- numbers up to a bound
 total-most : (f : ℕ → ℕ) (bound n : ℕ) → ((k : ℕ) → f k ≤ bound) → total f n ≤ bound * n
 unfolding total
@@ -77,36 +61,21 @@ total-most f bound (suc n) most = rw mul-suc (omega (arith, total-most f bound n
 reached_area-most : (h : History) → reached_area h ≤ width h * height h
 reached_area-most h = total-most (row_reach h) (width h) (height h) (row_reach-most h)
 
--- what a canvas has written, and for how much it has room, that was reached exactly as far as these
--- tokens reach
-pub canvas_paid : (canvas : CanvasState) (h : History) → IsBounded canvas
-    → ((row : ℕ) → reached canvas row ≡ row_reach h row)
-    → (reached_area h ≤ canvas_writes canvas) × (canvas_writes canvas ≤ 3 * reached_area h)
-    × (canvas_room canvas ≤ 2 * reached_area h)
-canvas_paid canvas h bounded same =
-    let n = max (length canvas.rows) (height h) in
-    let equal = total-same (reached canvas) (row_reach h) n same in
-    let past = total-past (row_reach h) (height h) n (row_reach-past h) (omega arith) in (
-      omega (arith, equal, past, bounded.at_least n (omega arith)),
-      omega (arith, equal, past, bounded.at_most n (omega arith)),
-      omega (arith, equal, past, bounded.room_at_most n (omega arith)),
-    )
-
 -- ---- the size of a picture
 
 -- no first of two faults means that neither is there
-both_none : (a b : Option Fault) → option_or a b ≡ None → (a ≡ None) × (b ≡ None)
+pub both_none : (a b : Option Fault) → option_or a b ≡ None → (a ≡ None) × (b ≡ None)
 both_none None b is = (refl, is)
 both_none (Some f) b is = absurd cc
 
 -- an extent without a fault has its sides within theirs
 extent-fits : (limit right lower : ℕ) (h : History) → extent_fault limit right lower h ≡ None
-    → (right ≤ 1000000) × (lower ≤ 1000000)
+    → (right ≤ side_limit) × (lower ≤ side_limit)
 extent-fits limit right lower h is = (grind (arith, nat_tests), grind (arith, nat_tests))
 
 -- so have tokens without a fault
 pub sides-fit : (limit : ℕ) (h : History) → first_fault limit h ≡ None
-    → (width h ≤ 1000000) × (height h ≤ 1000000)
+    → (width h ≤ side_limit) × (height h ≤ side_limit)
 sides-fit limit [] is = (omega arith, omega arith)
 sides-fit limit (Sixel bits ∷ h) is =
     let both = both_none (first_fault limit h) _ is in

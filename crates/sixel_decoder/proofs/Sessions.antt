@@ -26,6 +26,7 @@ use Rattle.sixel_base.specs.declared.status.SixelDcsFeedResult.{SixelDcsFeedResu
 use Rattle.sixel_base.specs.declared.status.SixelDcsFeedStatus.{SixelDcsFeedStatus}
 use Rattle.sixel_base.specs.declared.status.SixelDcsFeedStatus.TheVariants.{NeedMoreData, Complete}
 use Rattle.sixel_base.specs.declared.status.SixelDcsFeedStatus.TheVariants.{Cancelled, Interrupted}
+use Rattle.sixel_canvas.specs.declared.drawing.Canvas.{Ghosts}
 use Rattle.sixel_decoder.specs.declared.payload_parser.PayloadParser.{PayloadParser}
 use Rattle.sixel_decoder.specs.declared.decoded_payload.DecodedPayload.{DecodedPayload}
 use Rattle.sixel_decoder.specs.declared.dcs_parser.DcsState.{DcsState}
@@ -79,8 +80,8 @@ MatchBool-from_each false P Q held failed = failed refl
 -- ---- a payload
 
 -- a reader that was not rejected has read bytes without a fault
-pub read_sound :
-    (parser : Option PayloadParser) (o : Origin) (terminator : Option ℕ) (bytes : List ℕ)
+pub read_sound : {C : Type 0} {canvas : Ghosts C}
+    (parser : Option (PayloadParser C canvas)) (o : Origin) (terminator : Option ℕ) (bytes : List ℕ)
     → HasRead parser o terminator bytes → is_none parser ≡ false
     → fed_fault o.pixel_limit bytes ≡ None
 read_sound None o terminator bytes is accepted = absurd cc
@@ -137,20 +138,23 @@ frame_refused_with limit n result fed left bytes joined refused e is =
 -- ---- a DCS sequence
 
 -- a reader that was not rejected has followed bytes without a fault
-pub followed_sound :
-    (state : DcsState) (decoder : DecoderState) (ended : Option SixelDcsFeedStatus) (bytes : List ℕ)
+pub followed_sound : {C : Type 0}
+    (state : DcsState C) (decoder : DecoderState) (ended : Option SixelDcsFeedStatus)
+    (bytes : List ℕ)
     → HasFollowed state decoder ended bytes
     → is_failed state ≡ false → dcs_fault decoder.pixel_limit bytes ≡ None
-followed_sound states.Start decoder ended bytes is accepted =
-    ap (stage_fault decoder.pixel_limit) (heading states.Start decoder ended bytes refl is).0
-followed_sound states.Escape decoder ended bytes is accepted =
-    ap (stage_fault decoder.pixel_limit) (heading states.Escape decoder ended bytes refl is).0
-followed_sound (states.Header header) decoder ended bytes is accepted =
+followed_sound {C} states.Start decoder ended bytes is accepted =
     ap (stage_fault decoder.pixel_limit)
-    (heading (states.Header header) decoder ended bytes refl is).0
-followed_sound (states.Payload reader) decoder ended bytes is accepted =
+    (heading {C = C} states.Start decoder ended bytes refl is).0
+followed_sound {C} states.Escape decoder ended bytes is accepted =
+    ap (stage_fault decoder.pixel_limit)
+    (heading {C = C} states.Escape decoder ended bytes refl is).0
+followed_sound {C} (states.Header header) decoder ended bytes is accepted =
+    ap (stage_fault decoder.pixel_limit)
+    (heading {C = C} (states.Header header) decoder ended bytes refl is).0
+followed_sound {C} (states.Payload reader) decoder ended bytes is accepted =
     ap (stage_fault decoder.pixel_limit) is.reading ∙ is.faultless
-followed_sound states.Failed decoder ended bytes is accepted = absurd cc
+followed_sound {C} states.Failed decoder ended bytes is accepted = absurd cc
 
 -- at most ESC and the byte after it
 end_count-fits : (t : ℕ) (rest : List ℕ) → end_count t rest ≤ length rest + 1

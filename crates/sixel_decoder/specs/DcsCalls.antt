@@ -14,6 +14,7 @@ use Rattle.sixel_base.specs.OneShot.{found, found_fault, IsFoundImage, AreFoundR
 use Rattle.sixel_base.specs.OneShot.{IsDecodedAs}
 use Rattle.sixel_base.specs.Payload.{Image}
 use Rattle.sixel_decoder.specs.Paints.{dcs_sixels, dcs_least_count, most_sixel_paints}
+use Rattle.sixel_decoder.specs.Paints.{dcs_band_columns, dcs_band_room, most_run_paints}
 use Rattle.sixel_decoder.specs.Session.{DcsSession}
 
 -- a session that was fed nothing
@@ -124,6 +125,19 @@ pub record IsPaintCount (session : DcsSession) (paints : ℕ) : Type 0 where
   -- at most three times the painted area, and a constant for each closed sixel
   pub at_most : paints ≤ 3 * dcs_reached_area session.bytes
       + most_sixel_paints * dcs_sixels session.bytes
+  -- a rejected session has no canvas
+  pub refused : session.is_refused ≡ true → paints ≡ 0
+
+-- Sixels of the payload have painted at most this number of columns and tags on a canvas of one
+-- band.
+pub record IsBandPaintCount (session : DcsSession) (paints : ℕ) : Type 0 where
+  -- the number that contracts see of the session
+  pub value : paints ≡ session.paints
+  -- at most the columns of all bands, and a constant for each closed sixel
+  pub at_most : paints ≤ dcs_band_columns session.bytes
+      + most_run_paints * dcs_sixels session.bytes
+  -- the band has capacity for at most this number of pixels
+  pub room : session.room ≤ dcs_band_room session.bytes
   -- a rejected session has no canvas
   pub refused : session.is_refused ≡ true → paints ≡ 0
 

@@ -1,10 +1,11 @@
--- How many sixels are closed and what they are counted as at least, by which painting is measured
--- beside the area that they reach. The measure is this library's own, and says nothing of how
+-- How many sixels are closed, what they are counted as at least, and how wide their bands are, by
+-- which painting is measured beside the area that they reach. The measure is this library's own, and says nothing of how
 -- pixels are kept; what a sixel is, by DEC's manual, is in History.
-use Rattle.std.specs.Prelude.{ℕ, suc, ◌+◌, ◌*◌, ◌/◌, min, nat_lt, if◌then◌else◌, List, [], ◌∷◌}
+use Rattle.std.specs.Prelude.{ℕ, suc, ◌+◌, ◌-◌, ◌*◌, ◌/◌, ◌==◌, ◌&&◌, min, max, nat_lt}
+use Rattle.std.specs.Prelude.{if◌then◌else◌, List, [], ◌∷◌}
 use Rattle.sixel_base.specs.History.{Sixel, History}
 use Rattle.sixel_base.specs.Payload.{settled}
-use Rattle.sixel_base.specs.Place.{span}
+use Rattle.sixel_base.specs.Place.{across, down, span, width}
 use Rattle.sixel_base.specs.Dcs.{Stage, Heading, Failing, Reading, stage}
 
 -- how many of the tokens are sixels
@@ -33,6 +34,32 @@ least_paints (_ ∷ older) = least_paints older
 abbrev pub least_count : History → ℕ
 least_count history = min (least_paints history) 0xffff_ffff_ffff_ffff
 
+-- the greatest right edge of the sixels that set a pixel of the band from this row on
+abbrev pub band_edge : History → ℕ → ℕ
+band_edge [] top = 0
+band_edge (Sixel bits ∷ older) top =
+    if down older == top && nat_lt 0 bits then max (band_edge older top) (across older + span older)
+    else band_edge older top
+band_edge (_ ∷ older) top = band_edge older top
+
+-- the greatest right edges of all bands together
+abbrev pub band_columns : History → ℕ
+band_columns [] = 0
+band_columns (Sixel bits ∷ older) =
+    band_columns older
+    + (band_edge (Sixel bits ∷ older) (down older) - band_edge older (down older))
+band_columns (_ ∷ older) = band_columns older
+
+-- what a sixel is counted as at most on a canvas of one band, beside the columns of its band: a tag
+-- for each whole 128 columns, and 640 for its two ends and for tagged blocks that it covers in part
+abbrev pub most_run_paints : ℕ
+most_run_paints = 1151
+
+-- for how many pixels a canvas of one band has capacity at most beside the image: six rows of twice
+-- the width and 16 columns
+abbrev pub band_room : History → ℕ
+band_room history = 12 * width history + 96
+
 -- how many closed sixels the payload of a DCS sequence has
 abbrev pub stage_sixels : Stage → ℕ
 stage_sixels Heading = 0
@@ -50,3 +77,21 @@ stage_least_count (Reading settings payload) = least_count (settled payload)
 
 abbrev pub dcs_least_count : List ℕ → ℕ
 dcs_least_count bytes = stage_least_count (stage bytes)
+
+-- the columns of its bands
+abbrev pub stage_band_columns : Stage → ℕ
+stage_band_columns Heading = 0
+stage_band_columns (Failing fault) = 0
+stage_band_columns (Reading settings payload) = band_columns (settled payload)
+
+abbrev pub dcs_band_columns : List ℕ → ℕ
+dcs_band_columns bytes = stage_band_columns (stage bytes)
+
+-- the capacity beside its image
+abbrev pub stage_band_room : Stage → ℕ
+stage_band_room Heading = 0
+stage_band_room (Failing fault) = 0
+stage_band_room (Reading settings payload) = band_room (settled payload)
+
+abbrev pub dcs_band_room : List ℕ → ℕ
+dcs_band_room bytes = stage_band_room (stage bytes)

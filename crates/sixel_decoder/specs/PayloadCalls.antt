@@ -13,7 +13,8 @@ use Rattle.sixel_base.specs.Payload.{payload_fault, payload_wants, payload_image
 use Rattle.sixel_base.specs.Reach.{reached_area, size}
 use Rattle.sixel_base.specs.Status.{status_of}
 use Rattle.sixel_base.specs.Stroke.{Origin}
-use Rattle.sixel_decoder.specs.Paints.{sixels, least_count, most_sixel_paints}
+use Rattle.sixel_decoder.specs.Paints.{sixels, least_count, most_sixel_paints, band_columns}
+use Rattle.sixel_decoder.specs.Paints.{band_room, most_run_paints}
 use Rattle.sixel_decoder.specs.Session.{Session}
 
 -- a session that was fed nothing
@@ -124,6 +125,18 @@ pub record IsPaintCount (session : Session) (paints : ℕ) : Type 0 where
   -- at most three times the painted area, and a constant for each closed sixel
   pub at_most : paints ≤ 3 * reached_area (settled session.bytes)
       + most_sixel_paints * sixels (settled session.bytes)
+  -- a rejected session has no canvas
+  pub refused : session.is_refused ≡ true → paints ≡ 0
+
+-- Sixels have painted at most this number of columns and tags on a canvas of one band.
+pub record IsBandPaintCount (session : Session) (paints : ℕ) : Type 0 where
+  -- the number that contracts see of the session
+  pub value : paints ≡ session.paints
+  -- at most the columns of all bands, and a constant for each closed sixel
+  pub at_most : paints ≤ band_columns (settled session.bytes)
+      + most_run_paints * sixels (settled session.bytes)
+  -- the band has capacity for at most this number of pixels
+  pub room : session.room ≤ band_room (settled session.bytes)
   -- a rejected session has no canvas
   pub refused : session.is_refused ≡ true → paints ≡ 0
 

@@ -1,7 +1,8 @@
 //! Colors of pixels: the background, and what a color introducer defines.
 
 ghost use Rattle.std.specs.Prelude.{◌≡◌, ◌∷◌, ◌++◌, List, ℕ, []};
-ghost use Rattle.std.specs.Prelude.{slice_set, if◌then◌else◌};
+ghost use Rattle.std.specs.Prelude.{slice_set, true, if◌then◌else◌};
+ghost use Rattle.sixel_canvas.specs.inside.Tags.{is_tag};
 ghost use Rattle.sixel_base.specs.inside.Parameters.{Keeps};
 ghost use Rattle.sixel_base.specs.Stroke.{background_of, is_definition, definition};
 
@@ -21,7 +22,8 @@ pub fn background(registers: &Registers, mode: BackgroundMode) -> [u8; 4]
 
 /// Returns the opaque pixel of a color.
 pub fn opaque(color: [u8; 3]) -> [u8; 4]
-    ensures { result ≡ color ++ 255 ∷ [] }
+    ensures value { result ≡ color ++ 255 ∷ [] }
+    ensures visible { is_tag result ≡ true }
 {
     let [red, green, blue] = color;
     [red, green, blue, 255]

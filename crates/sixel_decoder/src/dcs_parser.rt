@@ -17,19 +17,20 @@ use crate::payload_reader::PayloadReader;
 use sixel_base::state::DecoderState;
 use sixel_base::status::{SixelDcsFeedResult, SixelDcsFeedStatus, SixelFeedStatus};
 use sixel_base::{Result, SixelError};
+use sixel_canvas::drawing::Canvas;
 use std::alloc::Global;
 
 /// How far a DCS sequence was read.
 #[derive(Drop)]
-pub enum DcsState {
+pub enum DcsState<C: Canvas + Drop> {
     Start,
     Escape,
     Header(Header),
-    Payload(PayloadReader),
+    Payload(PayloadReader<C>),
     Failed,
 }
 
-impl DcsState {
+impl<C: Canvas + Drop> DcsState<C> {
     /// Whether the payload has not begun.
     fn is_head(&self) -> bool
         ensures { result ≡ is_head self.now }
@@ -54,16 +55,16 @@ impl DcsState {
 
 /// How far a DCS sequence was read, how it ended, and what its payload begins from.
 #[derive(Drop)]
-pub struct DcsParser {
-    pub state: DcsState,
+pub struct DcsParser<C: Canvas + Drop> {
+    pub state: DcsState<C>,
     pub ended: Option<SixelDcsFeedStatus>,
     pub alloc: Global,
     pub decoder: DecoderState,
 }
 
-impl DcsParser {
+impl<C: Canvas + Drop> DcsParser<C> {
     /// Creates a parser that has read nothing.
-    pub fn new(alloc: Global, decoder: DecoderState) -> DcsParser
+    pub fn new(alloc: Global, decoder: DecoderState) -> DcsParser<C>
         ensures state { result.state ≡ Start }
         ensures ended { result.ended ≡ None }
         ensures decoder { result.decoder ≡ decoder }
@@ -178,15 +179,15 @@ impl DcsParser {
 
 /// Reads a chunk that begins in the payload.
 #[inline(always)]
-fn read_payload(
-    reader: &mut PayloadReader,
+fn read_payload<C: Canvas + Drop>(
+    reader: &mut PayloadReader<C>,
     ended: &mut Option<SixelDcsFeedStatus>,
     chunk: &[u8],
 ) -> Result<SixelDcsFeedResult>
     ensures within { IfOk result (λ fed. fed.consumed ≤ length chunk.now + 2) }
     ensures follows { (decoder : DecoderState) (before : List ℕ)
         → IsInPayload reader.old decoder ended.old before
-        → Follows result (Payload reader.new) decoder ended.new before chunk.now }
+        → Follows {C = C} result (Payload reader.new) decoder ended.new before chunk.now }
 {
     let fed = reader.feed(chunk)?;
     match fed.status {

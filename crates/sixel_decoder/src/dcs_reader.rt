@@ -5,7 +5,7 @@
 ghost use Rattle.std.specs.Prelude.{◌≡◌, true, false};
 ghost use Rattle.sixel_base.specs.Dcs.{dcs_in_payload, has_come};
 ghost use Rattle.sixel_decoder.specs.DcsCalls.{begun, IsFed, IsFinished, IsSizeSoFar};
-ghost use Rattle.sixel_decoder.specs.DcsCalls.{IsWriteCount, IsPaintCount};
+ghost use Rattle.sixel_decoder.specs.DcsCalls.{IsWriteCount, IsPaintCount, IsBandPaintCount};
 ghost use Rattle.sixel_decoder.specs.PictureView.{picture_value};
 
 use crate::dcs_parser::{DcsParser, DcsState};
@@ -14,17 +14,20 @@ use crate::log::Log;
 use sixel_base::state::DecoderState;
 use sixel_base::status::{SixelDcsFeedResult, SixelDcsFeedStatus};
 use sixel_base::{Result, SixelError};
+use sixel_canvas::band_canvas::BandCanvas;
+use sixel_canvas::drawing::Canvas;
+use sixel_canvas::row_canvas::RowCanvas;
 use std::alloc::Global;
 use std::marker::Model;
 
 /// A DCS sequence that is read in chunks.
 #[derive(Drop)]
-pub struct DcsReader {
-    parser: DcsParser,
+pub struct DcsReader<C: Canvas + Drop> {
+    parser: DcsParser<C>,
     log: Log,
 }
 
-impl Model for DcsReader {
+impl<C: Canvas + Drop> Model for DcsReader<C> {
     ghost use Rattle.sixel_decoder.specs.Session.{DcsSession};
 
     ghost Value = { DcsSession };
@@ -36,9 +39,9 @@ impl Model for DcsReader {
     ghost invariant = { IsFollowing };
 }
 
-impl DcsReader {
+impl<C: Canvas + Drop> DcsReader<C> {
     /// Creates a reader that was fed nothing.
-    pub fn new(alloc: Global, decoder: DecoderState) -> DcsReader
+    pub fn new(alloc: Global, decoder: DecoderState) -> DcsReader<C>
         ensures { result ≡ begun decoder }
     {
         DcsReader {
@@ -59,26 +62,6 @@ impl DcsReader {
                 Err(error)
             }
         }
-    }
-
-    /// Returns how many pixels were copied or filled to grow the canvas of the payload.
-    pub fn writes(&self) -> u64
-        ensures { IsWriteCount self.now result }
-    {
-        match &self.parser.state {
-            DcsState::Payload(reader) => reader.writes(),
-            _ => 0,
-        }
-    }
-
-    /// Returns how many pixels sixels of the payload have painted at most.
-    pub fn paints(&self) -> u64
-        ensures { IsPaintCount self.now result }
-    {
-        let DcsState::Payload(reader) = &self.parser.state else {
-            return 0;
-        };
-        reader.paints()
     }
 
     /// Whether the payload has begun and no feed has failed.
@@ -118,6 +101,40 @@ impl DcsReader {
                 Err(SixelError::incomplete())
             }
         }
+    }
+}
+
+impl DcsReader<RowCanvas> {
+    /// Returns how many pixels were copied or filled to grow the canvas of the payload.
+    pub fn writes(&self) -> u64
+        ensures { IsWriteCount self.now result }
+    {
+        match &self.parser.state {
+            DcsState::Payload(reader) => reader.writes(),
+            _ => 0,
+        }
+    }
+
+    /// Returns how many pixels sixels of the payload have painted at most.
+    pub fn paints(&self) -> u64
+        ensures { IsPaintCount self.now result }
+    {
+        let DcsState::Payload(reader) = &self.parser.state else {
+            return 0;
+        };
+        reader.paints()
+    }
+}
+
+impl DcsReader<BandCanvas> {
+    /// Returns how many columns and tags sixels of the payload have painted at most.
+    pub fn paints(&self) -> u64
+        ensures { IsBandPaintCount self.now result }
+    {
+        let DcsState::Payload(reader) = &self.parser.state else {
+            return 0;
+        };
+        reader.paints()
     }
 }
 

@@ -9,6 +9,7 @@ mod dcs_end;
 mod dcs_parser;
 mod dcs_reader;
 mod decoded_payload;
+mod front_sixels;
 mod header;
 mod log;
 mod one_shot;
@@ -16,8 +17,6 @@ mod painter;
 mod payload_parser;
 mod payload_reader;
 mod raster;
-mod row_ends;
-mod runs;
 
 pub use dcs_reader::DcsReader;
 pub use decoded_payload::DecodedPayload;

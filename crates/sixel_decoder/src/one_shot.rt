@@ -18,6 +18,7 @@ use crate::payload_parser::PayloadParser;
 use sixel_base::Result;
 use sixel_base::settings::DcsSettings;
 use sixel_base::state::DecoderState;
+use sixel_canvas::band_canvas::BandCanvas;
 use std::alloc::Global;
 
 /// Decodes the first DCS sequence in the bytes, or all of them as a payload.
@@ -51,7 +52,7 @@ pub fn decode_payload(
 }
 
 /// Reads a payload with a new parser, and returns the image and the registers.
-fn read_whole(mut parser: PayloadParser, bytes: &[u8]) -> Result<DecodedPayload>
+fn read_whole(mut parser: PayloadParser<BandCanvas>, bytes: &[u8]) -> Result<DecodedPayload>
     ensures { (o : Origin) → Stands o parser [] → Decodes result o bytes.now }
 {
     match parser.feed(bytes) {

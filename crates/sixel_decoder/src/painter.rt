@@ -1,79 +1,79 @@
 //! What each closed command changes: position, extent, registers and canvas.
 
-ghost use Rattle.std.specs.Prelude.{◌≡◌, ◌<◌, ◌≤◌, ◌*◌, ◌∷◌, List, ℕ, true, false, []};
+ghost use Rattle.std.specs.Prelude.{◌≡◌, ◌<◌, ◌≤◌, ◌+◌, ◌*◌, ◌∷◌, List, ℕ, true, false, []};
 ghost use Rattle.std.specs.Prelude.{length, max, nat_lt, if◌then◌else◌, ◌&&◌};
-ghost use Rattle.std.specs.Prelude.{◌+◌, slice_index, IfOk, IsTrue, MatchResult};
-ghost use Rattle.sixel_decoder.specs.inside.Sizes.{IsTooLarge};
-ghost use Rattle.sixel_canvas.specs.inside.Canvas.{canvas_writes, canvas_room};
-ghost use Rattle.sixel_decoder.specs.inside.Runs.{IsSixelByte};
-ghost use Rattle.sixel_base.specs.History.{History, Sixel, Repeat, Raster, Color, Return, Newline};
-ghost use Rattle.sixel_base.specs.inside.Parameters.{Keeps};
+ghost use Rattle.std.specs.Prelude.{slice_index, IfOk, IsTrue, MatchResult};
 ghost use Rattle.sixel_base.specs.Decoder.{origin_of};
+ghost use Rattle.sixel_base.specs.History.{History, Sixel, Repeat, Raster, Color, Return, Newline};
+ghost use Rattle.sixel_base.specs.Limits.{area_limit, repeat_limit, side_limit};
 ghost use Rattle.sixel_base.specs.Stroke.{Origin};
+ghost use Rattle.sixel_base.specs.inside.Parameters.{Keeps};
+ghost use Rattle.sixel_canvas.specs.inside.Drawn.{no_work};
+ghost use Rattle.sixel_canvas.specs.inside.Tags.{is_tag};
+ghost use Rattle.sixel_decoder.specs.inside.Runs.{IsSixelByte};
+ghost use Rattle.sixel_decoder.specs.inside.Sizes.{IsTooLarge};
 
-use crate::bytes::front;
 use crate::colors::{background, define, opaque};
 use crate::decoded_payload::DecodedPayload;
+use crate::front_sixels::FrontSixels;
 use crate::raster::{check_size, last_height, shape};
-use crate::runs::{Run, run_len};
 use sixel_base::limits::MAX_REPEAT;
 use sixel_base::parameters::Parameters;
 use sixel_base::registers::Registers;
 use sixel_base::settings::{DcsSettings, PixelAspectRatio};
 use sixel_base::state::DecoderState;
 use sixel_base::{Result, SixelError};
-use sixel_canvas::Canvas;
+use sixel_canvas::drawing::Canvas;
 use std::alloc::Global;
 
 /// A canvas, and where and in which color the next sixel is drawn on it.
 #[derive(Drop)]
-pub struct Painter {
-    pub canvas: Canvas,
+pub struct Painter<C: Canvas + Drop> {
+    pub canvas: C,
     pub registers: Registers,
     pub settings: DcsSettings,
     pub raster_crop: bool,
     pub pixel_limit: usize,
     pub ratio: PixelAspectRatio,
     pub color: [u8; 4],
-    pub span: usize,
-    pub across: usize,
-    pub down: usize,
+    /// How many columns the next sixel has.
+    pub repeat: usize,
+    /// The first of them.
+    pub column: usize,
     pub width: usize,
     pub height: usize,
     pub raster_height: usize,
-    ghost span_fits: { span ≤ 65535 },
-    ghost across_fits: { across ≤ 1000000 },
-    ghost width_fits: { width ≤ 1000000 },
-    ghost height_fits: { height ≤ 1000000 },
+    ghost visible: { is_tag color ≡ true },
+    ghost repeat_some: { 0 < repeat },
+    ghost repeat_fits: { repeat ≤ repeat_limit },
+    ghost column_fits: { column ≤ side_limit },
+    ghost width_fits: { width ≤ side_limit },
+    ghost height_fits: { height ≤ side_limit },
     ghost raster_fits: { raster_height ≤ height },
     ghost area_fits: { width * height ≤ pixel_limit },
-    ghost limit_fits: { pixel_limit ≤ 67108864 },
+    ghost limit_fits: { pixel_limit ≤ area_limit },
 }
 
-impl Painter {
-    ghost use Rattle.sixel_decoder.specs.declared.painter.Painter.{Painter};
+impl<C: Canvas + Drop> Painter<C> {
     ghost use Rattle.sixel_decoder.specs.inside.Painter.{Shows, Draws, DrawsFront, Ends};
     ghost use Rattle.sixel_decoder.specs.inside.Painter.{IsExtended, FitsColumn};
 
     /// Creates a painter that has drawn nothing.
-    pub fn new(alloc: Global, decoder: DecoderState, settings: DcsSettings) -> Painter
+    pub fn new(alloc: Global, decoder: DecoderState, settings: DcsSettings) -> Painter<C>
         ensures shows { Shows (origin_of decoder settings) result [] }
-        ensures unwritten { canvas_writes result.canvas ≡ 0 }
-        ensures roomless { canvas_room result.canvas ≡ 0 }
-        ensures unpainted { result.canvas.paints ≡ 0 }
+        ensures work { C.work result.canvas ≡ no_work }
     {
         let background = background(&decoder.registers, settings.background_mode());
         Painter {
-            canvas: Canvas::new(alloc, background),
+            canvas: C::new(alloc, background),
             registers: decoder.registers,
             settings,
             raster_crop: decoder.raster_crop,
             pixel_limit: decoder.pixel_limit.pixels(),
             ratio: settings.pixel_aspect_ratio(),
             color: opaque(decoder.registers.get(0)),
-            span: 1,
-            across: 0,
-            down: 0,
+            repeat: 1,
+            column: 0,
             width: 1,
             height: 1,
             raster_height: 0,
@@ -82,7 +82,7 @@ impl Painter {
 
     /// Draws sixels at the front of the bytes, one at least, and returns how many.
     ///
-    /// Several are drawn at once if the next ones have one column each and lie inside the image.
+    /// Up to eight are drawn at once if they have one column each and lie inside the image.
     #[inline(always)]
     pub fn draw_front(&mut self, bytes: &[u8]) -> Result<usize>
         requires some { 0 < length bytes.now }
@@ -94,19 +94,12 @@ impl Painter {
         ensures draws { (o : Origin) (h : History) → Shows o self.old h
             → DrawsFront result o self.new h bytes.now }
     {
-        if bytes.len() > 1 && self.is_single_above_bottom() {
-            let len = run_len(bytes);
-            if len > 0 && self.across + len <= self.width {
-                let run = Run {
-                    sixels: front(bytes, len),
-                    bytes,
-                    column: self.across,
-                    top: self.down,
-                    color: self.color,
-                };
-                let common = run.grow_rows(&mut self.canvas)?;
-                run.draw(&mut self.canvas, common);
-                self.across += len;
+        if bytes.len() >= 8 && self.is_single_above_bottom() {
+            let front = FrontSixels::of(bytes);
+            let len = front.len;
+            if len > 0 && self.column + len <= self.width {
+                self.canvas.block(self.column, len, front.bits, self.color)?;
+                self.column += len;
                 return Ok(len);
             }
         }
@@ -119,13 +112,13 @@ impl Painter {
     /// Whether the next sixel has one column and does not pass the bottom of the image.
     #[inline(always)]
     fn is_single_above_bottom(&self) -> bool
-        ensures single { IsTrue result → self.now.span ≡ 1 }
-        ensures above_bottom { IsTrue result → self.now.down + 6 ≤ self.now.height }
+        ensures single { IsTrue result → self.now.repeat ≡ 1 }
+        ensures above_bottom { IsTrue result → C.top self.now.canvas + 6 ≤ self.now.height }
     {
-        self.span == 1 && self.height >= 6 && self.down <= self.height - 6
+        self.repeat == 1 && self.height >= 6 && self.canvas.top() <= self.height - 6
     }
 
-    /// Draws a sixel, and moves right by its span.
+    /// Draws a sixel, and moves right by its columns.
     ///
     /// A sixel without a set pixel draws nothing, but extends the image as any other.
     #[inline(always)]
@@ -134,9 +127,16 @@ impl Painter {
         ensures { (o : Origin) (h : History) → Shows o self.old h
             → Draws result o self.new (Sixel bits ∷ h) true }
     {
-        let right = self.across + self.span;
-        match self.extend(right, self.down.saturating_add(6)) {
-            Ok(()) => self.draw_up_to(right, bits),
+        let from = self.column;
+        let right = from + self.repeat;
+        let bottom = self.canvas.top().saturating_add(6);
+        match self.extend(right, bottom) {
+            Ok(()) => {
+                self.canvas.draw(from, right, bits, self.color)?;
+                self.column = right;
+                self.repeat = 1;
+                Ok(())
+            }
             Err(error) => Err(error),
         }
     }
@@ -160,26 +160,9 @@ impl Painter {
         }
     }
 
-    /// Draws a sixel up to before a column inside the image, and moves there.
-    #[inline(always)]
-    fn draw_up_to(&mut self, right: usize, bits: u8) -> Result<()>
-        requires six { bits < 64 }
-        requires right { right ≡ self.old.across + self.old.span }
-        requires within { right ≤ 1000000 }
-        requires above_bottom { self.old.down + 6 ≤ 1000000 }
-        ensures { (o : Origin) (h : History) (before : Painter) → Shows o before h
-            → IsExtended before self.old right (before.down + 6)
-            → Draws result o self.new (Sixel bits ∷ h) true }
-    {
-        let from = self.across;
-        self.across = right;
-        self.span = 1;
-        self.canvas.draw(from, right, self.down, bits, self.color)
-    }
-
-    /// Whether the next sixel fits in one column that all six rows of the canvas have.
+    /// Whether the next sixel fits in one column for which the canvas has memory.
     ///
-    /// That column lies inside the image and has no tag, so drawing the sixel cannot fail.
+    /// That column lies inside the image, so drawing the sixel cannot fail.
     #[inline(always)]
     pub fn fits_column(&self) -> bool
         ensures { IsTrue result → FitsColumn self.now }
@@ -187,7 +170,7 @@ impl Painter {
         if !self.is_single_above_bottom() {
             return false;
         }
-        self.across < self.width && self.across < self.canvas.held(self.down)
+        self.column < self.width && self.column < self.canvas.held()
     }
 
     /// Draws a sixel that fits in such a column.
@@ -198,15 +181,15 @@ impl Painter {
         ensures { (o : Origin) (h : History) → Shows o self.old h
             → Shows o self.new (Sixel bits ∷ h) }
     {
-        self.canvas.column(self.across, self.down, bits, self.color);
-        self.across += 1;
+        self.canvas.column(self.column, bits, self.color);
+        self.column += 1;
     }
 
-    /// Sets the span of the next sixel, where 0 means 1.
+    /// Sets how many columns the next sixel has, where 0 means 1.
     ///
     /// Other commands do not change it.
     #[inline(never)]
-    pub fn repeat(&mut self, parameters: &Parameters) -> Result<()>
+    pub fn set_repeat(&mut self, parameters: &Parameters) -> Result<()>
         ensures { (o : Origin) (h : History) (text : List ℕ) → Keeps parameters.now text
             → Shows o self.old h → Draws result o self.new (Repeat text ∷ h) false }
     {
@@ -214,7 +197,7 @@ impl Painter {
         if count > MAX_REPEAT {
             return Err(SixelError::malformed());
         }
-        self.span = count.max(1) as usize;
+        self.repeat = count.max(1) as usize;
         Ok(())
     }
 
@@ -230,6 +213,7 @@ impl Painter {
         let high = parameters.get(3) as usize;
         match self.extend(wide, high) {
             Ok(()) => {
+                self.canvas.expect_width(self.width);
                 self.raster_height = last_height(self.raster_height, high);
                 self.ratio = shape(parameters, self.ratio, self.settings.pixel_aspect_ratio());
                 Ok(())
@@ -254,7 +238,7 @@ impl Painter {
     pub fn carriage_return(&mut self)
         ensures { (o : Origin) (h : History) → Shows o self.old h → Shows o self.new (Return ∷ h) }
     {
-        self.across = 0;
+        self.column = 0;
     }
 
     /// Moves to the first column of the next band.
@@ -262,30 +246,28 @@ impl Painter {
         ensures { (o : Origin) (h : History) → Shows o self.old h
             → Draws result o self.new (Newline ∷ h) false }
     {
-        let Some(down) = self.down.checked_add(6) else {
+        if self.canvas.top().checked_add(6).is_none() {
             return Err(SixelError::IntegerOverflow);
-        };
-        self.down = down;
-        self.across = 0;
+        }
+        self.canvas.new_line();
+        self.column = 0;
         Ok(())
     }
 
-    /// Packs the image that was drawn, and returns it with the registers.
-    pub fn pack(&self) -> Result<DecodedPayload>
-        ensures { (o : Origin) (h : History) → Shows o self.now h → Ends result o h }
+    /// Takes the image that was drawn off the canvas, and returns it with the registers.
+    pub fn take_image(&mut self) -> Result<DecodedPayload>
+        ensures { (o : Origin) (h : History) → Shows o self.old h → Ends result o h }
     {
         let height = self.image_height();
-        match self.canvas.pack(self.width, height) {
-            Ok(pixels) => Ok(DecodedPayload {
-                pixels,
-                width: self.width,
-                height,
-                aspect_ratio: self.ratio,
-                background_mode: self.settings.background_mode(),
-                registers: self.registers,
-            }),
-            Err(error) => Err(error),
-        }
+        let pixels = self.canvas.take_picture(self.width, height)?;
+        Ok(DecodedPayload {
+            pixels,
+            width: self.width,
+            height,
+            aspect_ratio: self.ratio,
+            background_mode: self.settings.background_mode(),
+            registers: self.registers,
+        })
     }
 
     /// Returns the height of the image: with crop, the last positive raster height.

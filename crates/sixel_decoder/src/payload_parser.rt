@@ -6,7 +6,7 @@
 ghost use Rattle.std.specs.Prelude.{◌≡◌, ◌<◌, ◌≤◌, ◌+◌, ◌*◌, ◌∷◌, List, ℕ, true, false, []};
 ghost use Rattle.std.specs.Prelude.{length, slice_index, fold, take};
 ghost use Rattle.std.specs.Prelude.{IsTrue, ◌⊎◌, Bool, if◌then◌else◌};
-ghost use Rattle.sixel_canvas.specs.inside.Canvas.{canvas_writes, canvas_room};
+ghost use Rattle.sixel_canvas.specs.inside.Drawn.{no_work};
 ghost use Rattle.sixel_base.specs.Bytes.{is_sixel as sixel};
 ghost use Rattle.sixel_base.specs.History.{History, begun, goes_on, read};
 ghost use Rattle.sixel_base.specs.Decoder.{origin_of};
@@ -25,6 +25,7 @@ use sixel_base::parameters::{Digits, Parameters};
 use sixel_base::settings::DcsSettings;
 use sixel_base::state::DecoderState;
 use sixel_base::status::{SixelFeedResult, SixelFeedStatus};
+use sixel_canvas::drawing::Canvas;
 use std::alloc::Global;
 
 /// The command that may continue, or `Ground` where none is open.
@@ -53,22 +54,20 @@ impl OpenCommand {
 
 /// A payload's open command, and the painter that has drawn the closed ones.
 #[derive(Drop)]
-pub struct PayloadParser {
+pub struct PayloadParser<C: Canvas + Drop> {
     pub command: OpenCommand,
     pub parameters: Parameters,
-    pub painter: Painter,
+    pub painter: Painter<C>,
 }
 
-impl PayloadParser {
+impl<C: Canvas + Drop> PayloadParser<C> {
     ghost use Rattle.sixel_decoder.specs.inside.Painter.{Shows, Draws, Ends};
     ghost use Rattle.sixel_decoder.specs.inside.PayloadParser.{Stands, Reads, Feeds, StandsAfter};
 
     /// Creates a parser that has read nothing.
-    pub fn new(alloc: Global, decoder: DecoderState, settings: DcsSettings) -> PayloadParser
+    pub fn new(alloc: Global, decoder: DecoderState, settings: DcsSettings) -> PayloadParser<C>
         ensures stands { Stands (origin_of decoder settings) result [] }
-        ensures unwritten { canvas_writes result.painter.canvas ≡ 0 }
-        ensures roomless { canvas_room result.painter.canvas ≡ 0 }
-        ensures unpainted { result.painter.canvas.paints ≡ 0 }
+        ensures work { C.work result.painter.canvas ≡ no_work }
     {
         PayloadParser {
             command: OpenCommand::Ground,
@@ -96,7 +95,8 @@ impl PayloadParser {
     ///
     /// Any other byte changes nothing.
     ///
-    /// It continues the open command, opens one, or is a sixel in a column that all six rows have.
+    /// It continues the open command, opens one, or is a sixel in a column for which the canvas has
+    /// memory.
     #[inline(always)]
     fn try_byte(&mut self, byte: u8) -> bool
         ensures printable { IsTrue result → IsPrintable byte }
@@ -208,7 +208,7 @@ impl PayloadParser {
         self.command = OpenCommand::Ground;
         match command {
             OpenCommand::Ground => Ok(()),
-            OpenCommand::InRepeat => self.painter.repeat(&self.parameters),
+            OpenCommand::InRepeat => self.painter.set_repeat(&self.parameters),
             OpenCommand::InRaster => self.painter.set_raster(&self.parameters),
             OpenCommand::InColor => {
                 self.painter.select(&self.parameters);
@@ -278,7 +278,7 @@ impl PayloadParser {
             → Ends result o h }
     {
         match self.close() {
-            Ok(()) => self.painter.pack(),
+            Ok(()) => self.painter.take_image(),
             Err(error) => Err(error),
         }
     }

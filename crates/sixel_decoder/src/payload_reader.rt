@@ -5,7 +5,7 @@
 ghost use Rattle.std.specs.Prelude.{◌≡◌, None, Some};
 ghost use Rattle.sixel_base.specs.Decoder.{origin_of};
 ghost use Rattle.sixel_decoder.specs.PayloadCalls.{begun, IsFed, IsFinished, IsSizeSoFar};
-ghost use Rattle.sixel_decoder.specs.PayloadCalls.{IsWriteCount, IsPaintCount};
+ghost use Rattle.sixel_decoder.specs.PayloadCalls.{IsWriteCount, IsPaintCount, IsBandPaintCount};
 ghost use Rattle.sixel_decoder.specs.PictureView.{picture_value};
 
 use crate::decoded_payload::DecodedPayload;
@@ -15,21 +15,24 @@ use sixel_base::settings::DcsSettings;
 use sixel_base::state::DecoderState;
 use sixel_base::status::{SixelFeedResult, SixelFeedStatus};
 use sixel_base::{Result, SixelError};
+use sixel_canvas::band_canvas::BandCanvas;
+use sixel_canvas::drawing::Canvas;
+use sixel_canvas::row_canvas::RowCanvas;
 use std::alloc::Global;
 use std::marker::Model;
 use std::snapshot::Snapshot;
 
 /// A payload that is read in chunks. It has no parser once a feed has failed.
 #[derive(Drop)]
-pub struct PayloadReader {
-    parser: Option<PayloadParser>,
+pub struct PayloadReader<C: Canvas + Drop> {
+    parser: Option<PayloadParser<C>>,
     terminator: Option<u8>,
     settings: DcsSettings,
     start: Snapshot<DecoderState>,
     log: Log,
 }
 
-impl Model for PayloadReader {
+impl<C: Canvas + Drop> Model for PayloadReader<C> {
     ghost use Rattle.sixel_decoder.specs.Session.{Session};
 
     ghost Value = { Session };
@@ -41,9 +44,9 @@ impl Model for PayloadReader {
     ghost invariant = { IsReading };
 }
 
-impl PayloadReader {
+impl<C: Canvas + Drop> PayloadReader<C> {
     /// Creates a reader that was fed nothing.
-    pub fn new(alloc: Global, decoder: DecoderState, settings: DcsSettings) -> PayloadReader
+    pub fn new(alloc: Global, decoder: DecoderState, settings: DcsSettings) -> PayloadReader<C>
         ensures { result ≡ begun (origin_of decoder settings) }
     {
         PayloadReader {
@@ -84,26 +87,6 @@ impl PayloadReader {
         }
     }
 
-    /// Returns how many pixels were copied or filled to grow the canvas.
-    pub fn writes(&self) -> u64
-        ensures { IsWriteCount self.now result }
-    {
-        match &self.parser {
-            Some(parser) => parser.painter.canvas.writes(),
-            None => 0,
-        }
-    }
-
-    /// Returns how many pixels sixels have painted at most.
-    pub fn paints(&self) -> u64
-        ensures { IsPaintCount self.now result }
-    {
-        let Some(parser) = &self.parser else {
-            return 0;
-        };
-        parser.painter.canvas.paints()
-    }
-
     /// Returns the width and the height of the image so far, unless a feed has failed.
     pub fn size_so_far(&self) -> Option<(usize, usize)>
         ensures { IsSizeSoFar self.now result }
@@ -126,12 +109,46 @@ impl PayloadReader {
     }
 }
 
+impl PayloadReader<RowCanvas> {
+    /// Returns how many pixels were copied or filled to grow the canvas.
+    pub fn writes(&self) -> u64
+        ensures { IsWriteCount self.now result }
+    {
+        match &self.parser {
+            Some(parser) => parser.painter.canvas.writes(),
+            None => 0,
+        }
+    }
+
+    /// Returns how many pixels sixels have painted at most.
+    pub fn paints(&self) -> u64
+        ensures { IsPaintCount self.now result }
+    {
+        let Some(parser) = &self.parser else {
+            return 0;
+        };
+        parser.painter.canvas.paints()
+    }
+}
+
+impl PayloadReader<BandCanvas> {
+    /// Returns how many columns and tags sixels have painted at most.
+    pub fn paints(&self) -> u64
+        ensures { IsBandPaintCount self.now result }
+    {
+        let Some(parser) = &self.parser else {
+            return 0;
+        };
+        parser.painter.canvas.paints()
+    }
+}
+
 /// Drops what was read.
 ///
 /// Out of line: inlined, LLVM clears the moved value on every feed.
 #[cold]
 #[inline(never)]
-fn drop_parser(parser: &mut Option<PayloadParser>)
+fn drop_parser<C: Canvas + Drop>(parser: &mut Option<PayloadParser<C>>)
     ensures { parser.new ≡ None }
 {
     *parser = None;

@@ -3,6 +3,7 @@
 ghost use Rattle.std.specs.Prelude.{◌≡◌, ◌*◌, ◌≤◌, List, ℕ, length, max};
 ghost use Rattle.std.specs.Prelude.{nat_le, nat_lt, if◌then◌else◌, MatchResult};
 ghost use Rattle.sixel_base.specs.Fields.{fields, field};
+ghost use Rattle.sixel_base.specs.Limits.{side_limit};
 ghost use Rattle.sixel_base.specs.inside.Parameters.{Keeps};
 ghost use Rattle.sixel_base.specs.Stroke.{ratio_from as shape_from};
 ghost use Rattle.sixel_decoder.specs.inside.Sizes.{IsTooLarge};
@@ -61,7 +62,7 @@ pub fn last_height(before: usize, high: usize) -> usize
 #[inline(always)]
 pub fn check_size(width: usize, height: usize, limit: usize) -> Result<()>
     ensures { MatchResult result
-        (λ _. (width ≤ 1000000) × (height ≤ 1000000) × (width * height ≤ limit))
+        (λ _. (width ≤ side_limit) × (height ≤ side_limit) × (width * height ≤ limit))
         (λ error. IsTooLarge width height limit error) }
 {
     if width > MAX_SIDE || height > MAX_SIDE {

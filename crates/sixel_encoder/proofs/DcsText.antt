@@ -28,7 +28,7 @@ use Rattle.sixel_base.specs.declared.settings.PixelAspectRatio.TheVariants.{Rati
 use Rattle.sixel_base.specs.declared.settings.PixelAspectRatio.TheVariants.{Ratio5To1, Square}
 use Rattle.sixel_base.specs.declared.state.DecoderState.{DecoderState}
 use Rattle.sixel_base.specs.declared.status.SixelDcsFeedStatus.TheVariants.{Complete}
-use Rattle.sixel_base.proofs.Reading.{carries}
+use Rattle.sixel_base.proofs.Histories.{carries}
 use Rattle.sixel_encoder.specs.Marks.{IsDrawnText, marks_payload}
 use Rattle.sixel_encoder.specs.Text.{Drawing, parameters_text}
 use Rattle.sixel_encoder.specs.Trip.{CanRead, IsOneString, IsReadAs, IsWritable, drawing_settings}

@@ -51,7 +51,7 @@ bands_up_to-le test (suc n) =
     cond_le false x y z hx hy = hy
 
 -- a band that passes the test is among those up to the last that does
-bands_up_to-passed : (test : ℕ → Bool) (n band : ℕ) → band < n → test band ≡ true
+pub bands_up_to-passed : (test : ℕ → Bool) (n band : ℕ) → band < n → test band ≡ true
     → band + 1 ≤ bands_up_to test n
 bands_up_to-passed test zero band l passed = absurd (omega arith)
 bands_up_to-passed test (suc n) band l passed =

@@ -41,3 +41,8 @@ pub mod PlainText
 pub mod Tokens
 pub mod UsedBands
 pub mod EncodedText
+pub mod GreedyFill
+pub mod PaintedMarks
+pub mod RegisterNumbers
+pub mod SegmentOrder
+pub mod CompactText

@@ -3,9 +3,8 @@ use Rattle.std.specs.Prelude.{Option}
 use Rattle.std.proofs.Common.{List, [], arith, refl, subst, suc, sym, zero, ℕ, ◌++◌, ◌+◌, ◌<◌, ◌∷◌}
 use Rattle.std.proofs.Common.{◌≡◌}
 use Rattle.sixel_base.specs.Picture.{joined}
-use Rattle.sixel_encoder.specs.Marks.{AreAllowed, Mark, Pen, covered, moved, painted}
+use Rattle.sixel_encoder.specs.Marks.{AreAllowed, Mark, Pen, covered, moved, moved_by, painted}
 use Rattle.sixel_encoder.specs.Text.{Drawing}
-use Rattle.sixel_encoder.proofs.PenSteps.{moved_by}
 
 -- the register that each pixel is drawn in, by column and line
 abbrev pub Places : Type 0
@@ -16,7 +15,7 @@ abbrev covered_all : Pen → Mark → Places → Places
 covered_all pen mark place column line = covered pen mark (place column line) column line
 
 -- the registers of all pixels after all marks
-abbrev painted_all : List Mark → Pen → Places → Places
+abbrev pub painted_all : List Mark → Pen → Places → Places
 painted_all [] pen place = place
 painted_all (mark ∷ marks) pen place =
     painted_all marks (moved pen mark) (covered_all pen mark place)

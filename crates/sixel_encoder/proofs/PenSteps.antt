@@ -9,7 +9,7 @@ use Rattle.sixel_base.specs.Place.{across, down, span}
 use Rattle.sixel_base.specs.Stroke.{is_definition, named_by, ratio, registers, selected}
 use Rattle.sixel_base.specs.declared.settings.PixelAspectRatio.{PixelAspectRatio}
 use Rattle.sixel_encoder.specs.Marks.{AreAllowed, Back, Draw, IsAllowed, Mark, Next, Pen, Pick}
-use Rattle.sixel_encoder.specs.Marks.{moved}
+use Rattle.sixel_encoder.specs.Marks.{moved, moved_by}
 use Rattle.sixel_encoder.specs.RunTokens.{row_tokens}
 use Rattle.sixel_encoder.specs.Text.{Drawing, bands}
 use Rattle.sixel_encoder.specs.Trip.{IsWritable}
@@ -121,11 +121,6 @@ Follows-mark drawing start palette pen Next h is may follows =
           Fits-newline area_limit drawing.width (6 * bands drawing.height) h
           (omega (arith, follows.level, is.high, lower)) follows.fits;
     }
-
--- the pen after all marks
-abbrev pub moved_by : List Mark → Pen → Pen
-moved_by [] pen = pen
-moved_by (mark ∷ marks) pen = moved_by marks (moved pen mark)
 
 -- and over all marks
 pub Follows-marks : (drawing : Drawing) (start palette : List (List ℕ)) (pen : Pen)

@@ -1,5 +1,5 @@
 -- The plain definitions and marks draw the drawing: entry by entry, and band by band.
-use Rattle.std.specs.Prelude.{IfSome, None, Option, Some, is_some, ◌==◌}
+use Rattle.std.specs.Prelude.{IfSome, None, Option, Some, is_some, slice_index_or, ◌==◌}
 use Rattle.std.proofs.Common.{Bool, List, [], ap, arith, cond, false, inl, inr, length, refl, subst}
 use Rattle.std.proofs.Common.{suc, sym, true, zero, ℕ, ◌*◌, ◌++◌, ◌+◌, ◌<◌, ◌∙◌, ◌∷◌, ◌≡◌, ◌≢◌, ◌≤◌}
 use Rattle.std.proofs.lemmas.Bool.{both_ways, cases_Bool, cases_eq, cases_lt}
@@ -17,18 +17,23 @@ use Rattle.sixel_encoder.proofs.UsedBands.{unused-dots}
 use Rattle.sixel_encoder.proofs.PlainPayload.{plain_entry, plain_band, plain_marks}
 use Rattle.sixel_encoder.proofs.PlainPayload.{plain_definition, plain_definitions}
 
--- the entry of a pixel is one of the drawing's
-known_entry : (drawing : Drawing) (column line entry : ℕ) → IsWritable drawing
+-- an entry that a place has is one of the drawing's
+pub known_place : (drawing : Drawing) (place entry : ℕ) → IsWritable drawing
+    → slice_index_or drawing.entries place None ≡ Some entry → entry < length drawing.colors
+known_place drawing place entry is e =
+    elim (cases_lt place (length drawing.entries)) [
+      | inl inside ↦ subst (λ (v : Option ℕ). IfSome v (λ n. n < length drawing.colors))
+          e (is.known place None inside)
+      | inr past ↦
+          absurd (both_ways (is_some (slice_index_or drawing.entries place None))
+          (ap is_some (get_or_past drawing.entries place None past)) (ap is_some e))
+    ]
+
+-- so is the entry of a pixel
+pub known_entry : (drawing : Drawing) (column line entry : ℕ) → IsWritable drawing
     → entry_at drawing column line ≡ Some entry → entry < length drawing.colors
 known_entry drawing column line entry is e =
-    elim (cases_lt (line * drawing.width + column) (length drawing.entries)) [
-      | inl inside ↦ subst (λ (v : Option ℕ). IfSome v (λ n. n < length drawing.colors))
-          e (is.known (line * drawing.width + column) None inside)
-      | inr past ↦
-          absurd (both_ways (is_some (entry_at drawing column line))
-          (ap is_some (get_or_past drawing.entries (line * drawing.width + column) None past))
-          (ap is_some e))
-    ]
+    known_place drawing (line * drawing.width + column) entry is e
 
 -- The pen is at the left of a band. No transparent pixel is set. The pixels of the bands above and,
 -- in this band, of the entries before this one are drawn in their own registers.
@@ -163,7 +168,7 @@ Leads-band drawing band pen place is lower at =
     }
 
 -- the entry of a register after definitions, and then more
-register_entry-append : (a b : List Definition) (before : Option ℕ) (register : ℕ)
+pub register_entry-append : (a b : List Definition) (before : Option ℕ) (register : ℕ)
     → register_entry (a ++ b) before register
     ≡ register_entry b (register_entry a before register) register
 register_entry-append [] b before register = refl
@@ -195,7 +200,7 @@ register_entry-plain (suc n) entry l =
     other apart before = let test : n == entry ≡ false = grind (arith, nat_tests) in rw test refl
 
 -- definitions, and then more
-AreDefinitions-append : (drawing : Drawing) (a b : List Definition) → AreDefinitions drawing a
+pub AreDefinitions-append : (drawing : Drawing) (a b : List Definition) → AreDefinitions drawing a
     → AreDefinitions drawing b → AreDefinitions drawing (a ++ b)
 AreDefinitions-append drawing [] b first then = then
 AreDefinitions-append drawing (definition ∷ a) b first then = (
@@ -213,7 +218,7 @@ AreDefinitions-plain drawing (suc n) few l =
     (AreDefinitions-plain drawing n few (omega arith)) ((omega arith, omega arith), tt)
 
 -- the registers before the first mark
-abbrev nothing_drawn : Places
+abbrev pub nothing_drawn : Places
 nothing_drawn column line = None
 
 -- the plain definitions and marks draw the drawing

@@ -10,7 +10,7 @@ use Rattle.sixel_base.specs.OneShot.{Payload, found}
 use Rattle.sixel_base.specs.Payload.{payload_fault, payload_image}
 use Rattle.sixel_base.specs.Size.{banded}
 use Rattle.sixel_base.specs.declared.state.DecoderState.{DecoderState}
-use Rattle.sixel_base.proofs.Reading.{carries}
+use Rattle.sixel_base.proofs.Histories.{carries}
 use Rattle.sixel_encoder.specs.Marks.{IsDrawnText}
 use Rattle.sixel_encoder.specs.Text.{Drawing, bands_text, palette_text, parameters_text}
 use Rattle.sixel_encoder.specs.Text.{raster_text, text_of}

@@ -29,7 +29,8 @@ use Rattle.sixel_encoder.specs.Trip.{trip_pixel}
 use Rattle.sixel_encoder.proofs.DrawnHeight.{image_height-tokens}
 use Rattle.sixel_encoder.proofs.Extent.{first_fault-other}
 use Rattle.sixel_encoder.proofs.JoinedLists.{joined-same}
-use Rattle.sixel_encoder.proofs.PenSteps.{Follows, Follows-marks, moved_by}
+use Rattle.sixel_encoder.proofs.PenSteps.{Follows, Follows-marks}
+use Rattle.sixel_encoder.specs.Marks.{moved_by}
 use Rattle.sixel_encoder.proofs.TextHistory.{payload-read}
 use Rattle.sixel_encoder.proofs.TextPalette.{Follows-palette, pixel-palette, register-palette}
 use Rattle.sixel_encoder.proofs.TextPixels.{pixel-marks, color_in}

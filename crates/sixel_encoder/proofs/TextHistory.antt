@@ -17,7 +17,7 @@ use Rattle.sixel_base.specs.Settings.{pad_of}
 use Rattle.sixel_base.specs.declared.settings.PixelAspectRatio.{PixelAspectRatio}
 use Rattle.sixel_base.specs.declared.settings.PixelAspectRatio.TheVariants.{Ratio2To1, Ratio3To1}
 use Rattle.sixel_base.specs.declared.settings.PixelAspectRatio.TheVariants.{Ratio5To1, Square}
-use Rattle.sixel_base.proofs.Reading.{carries, history_unique}
+use Rattle.sixel_base.proofs.Histories.{carries, history_unique}
 use Rattle.sixel_encoder.specs.Marks.{AreAllowed, AreDefinitions, Back, Definition, Draw, Draws}
 use Rattle.sixel_encoder.specs.Marks.{IsAllowed, Mark, Next, Pen, Pick, first_pen, marks_payload}
 use Rattle.sixel_encoder.specs.Marks.{moved}

@@ -2,7 +2,8 @@
 use Rattle.std.specs.List.{list_any}
 use Rattle.std.specs.Prelude.{None, Option, Some, is_some, ◌/◌, ◌==◌}
 use Rattle.std.proofs.Common.{Bool, List, ap, arith, cond, drop, false, get_or, inl, inr, length}
-use Rattle.std.proofs.Common.{not, refl, suc, sym, take, true, zero, ℕ, ◌%◌, ◌*◌, ◌+◌, ◌<◌, ◌^◌}
+use Rattle.std.proofs.Common.{not, refl, suc, sym, take, true, zero, ℕ, ◌%◌, ◌*◌, ◌+◌, ◌-◌, ◌<◌}
+use Rattle.std.proofs.Common.{◌^◌}
 use Rattle.std.proofs.Common.{◌∙◌, ◌≡◌}
 use Rattle.std.proofs.lemmas.Bool.{both_ways, cases_lt}
 use Rattle.std.proofs.lemmas.List.{get_or-drop, get_or-take, get_or_default, get_or_past}
@@ -77,7 +78,7 @@ place-in_band : (band bit width column : ℕ)
 place-in_band band bit width column = omega arith
 
 -- in a band that is not used no pixel has an entry
-unused-places : (drawing : Drawing) (band bit column : ℕ) → is_used drawing band ≡ false → bit < 6
+pub unused-places : (drawing : Drawing) (band bit column : ℕ) → is_used drawing band ≡ false → bit < 6
     → column < drawing.width → entry_at drawing column (6 * band + bit) ≡ None
 unused-places drawing band bit column none lb lc =
     ap (λ place. get_or drawing.entries place None) (place-in_band band bit drawing.width column)
@@ -140,3 +141,23 @@ used-pixel drawing band is used =
       omega arith,
       ap (λ n. get_or drawing.entries n None) place ∙ at,
     )
+
+-- a band with a pixel that has an entry is used
+pub used-here : (drawing : Drawing) (column line entry : ℕ) → IsWritable drawing
+    → column < drawing.width → line < drawing.height → entry_at drawing column line ≡ Some entry
+    → is_used drawing (line / 6) ≡ true
+used-here drawing column line entry is lc ll e =
+    let bit : ℕ = line - 6 * (line / 6) in
+    let low : bit < 6 = omega arith in
+    let here : 6 * (line / 6) + bit ≡ line = omega arith in
+    let place : 6 * (line / 6) * drawing.width + (bit * drawing.width + column)
+    ≡ line * drawing.width + column =
+    sym (place-in_band (line / 6) bit drawing.width column)
+    ∙ ap (λ n. n * drawing.width + column) here in
+    let inside : line * drawing.width + column < drawing.width * drawing.height =
+    mul-add-lt line drawing.width column drawing.height ll lc in
+    window-any drawing.entries (6 * (line / 6) * drawing.width) (6 * drawing.width)
+    (bit * drawing.width + column) entry
+    (omega (arith, mul-add-lt bit drawing.width column 6 low lc))
+    (omega (arith, place, inside, is.pixels))
+    (ap (λ n. get_or drawing.entries n None) place ∙ e)

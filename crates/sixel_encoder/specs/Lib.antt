@@ -4,3 +4,6 @@ pub mod inside
 pub mod Encoding
 pub mod Trip
 pub mod Marks
+pub mod Segments
+pub mod Numbers
+pub mod Compact

@@ -55,6 +55,11 @@ moved pen (Draw row) = record {
 moved pen Back = record { column = 0; band = pen.band; register = pen.register }
 moved pen Next = record { column = 0; band = pen.band + 1; register = pen.register }
 
+-- the pen after all marks
+abbrev pub moved_by : List Mark → Pen → Pen
+moved_by [] pen = pen
+moved_by (mark ∷ marks) pen = moved_by marks (moved pen mark)
+
 -- whether a row of sixels that is drawn from a column on sets the pixel
 abbrev pub is_lit : List ℕ → ℕ → ℕ → ℕ → ℕ → Bool
 is_lit row from top column line =

@@ -14,6 +14,7 @@ ghost use Rattle.sixel_encoder.specs.Text.{Drawing, percent, parameters_text, te
 ghost use Rattle.sixel_encoder.specs.Encoding.{image_fault, IsDrawing, IsText};
 ghost use Rattle.sixel_base.specs.Dcs.{Reading, stage};
 ghost use Rattle.sixel_base.specs.OneShot.{Payload, found};
+ghost use Rattle.sixel_encoder.specs.Compact.{compact_text};
 ghost use Rattle.sixel_encoder.specs.Marks.{IsDrawnText};
 ghost use Rattle.sixel_encoder.specs.Trip.{IsWritable, payload_text, drawing_settings};
 ghost use Rattle.sixel_encoder.specs.Trip.{rounded, trip, CanRead, IsTrip, IsReadAs, IsOneString};
@@ -75,6 +76,23 @@ pub fn drawn_text()
         → IsReadAs decoder text (trip decoder.raster_crop drawing) }
     ensures plain { (drawing : Drawing) → IsWritable drawing
         → IsDrawnText drawing (text_of drawing) }
+{}
+
+/// States that a compact text is a text of marks that draw the drawing.
+///
+/// So it is one DCS sequence, and a decoder returns the image of the plain text. It is never longer
+/// than the plain text.
+pub fn compact_text()
+    ensures drawn { (drawing : Drawing) → IsWritable drawing
+        → IsDrawnText drawing (compact_text drawing) }
+    ensures whole { (limit : ℕ) (drawing : Drawing) → IsWritable drawing
+        → drawing.width * banded drawing.height ≤ limit
+        → IsOneString limit (compact_text drawing) }
+    ensures read_back { (decoder : DecoderState) (drawing : Drawing) → IsWritable drawing
+        → CanRead decoder drawing.width drawing.height
+        → IsReadAs decoder (compact_text drawing) (trip decoder.raster_crop drawing) }
+    ensures short { (drawing : Drawing)
+        → length (compact_text drawing) ≤ length (text_of drawing) }
 {}
 
 /// States that a percentage survives the conversion to a byte.

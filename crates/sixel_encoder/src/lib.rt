@@ -17,6 +17,7 @@ mod entries;
 pub mod laws;
 mod run_tokens;
 mod runs;
+mod segments;
 mod source;
 mod text;
 

@@ -27,6 +27,7 @@ use Rattle.sixel_filter.specs.inside.Standing.{Starts}
 
 -- ---- bytes at which no image begins, and those at which one may
 
+-- no image begins at bytes that reach no payload
 pub not_image : (in_character : Bool) (bytes : List ℕ) → dcs_in_payload bytes ≡ false
     → begins_image in_character bytes ≡ false
 not_image c bytes is =
@@ -43,6 +44,7 @@ not_begun_by false true false rest other = absurd cc
 not_begun_by true false false rest other = refl
 not_begun_by false false false rest other = refl
 
+-- no image begins at a byte other than ESC and DCS
 pub not_begun : (in_character : Bool) (byte : ℕ) (rest : List ℕ)
     → (byte == 27 || byte == 0x90 && not in_character) ≡ false
     → begins_image in_character (byte ∷ rest) ≡ false
@@ -60,6 +62,7 @@ may_begin_by c false false apart is = absurd cc
 apart : (byte : ℕ) → (byte == 27 && byte == 0x90) ≡ false
 apart byte = grind (arith, nat_tests)
 
+-- a header may begin at ESC and at DCS
 pub may_begin : (in_character : Bool) (byte : ℕ)
     → (byte == 27 || byte == 0x90 && not in_character) ≡ true
     → (stage (byte ∷ []) ≡ Heading) × Starts in_character (byte ∷ [])
@@ -180,6 +183,7 @@ held_class c (byte ∷ next ∷ bytes) heading starts =
 
 -- ---- a byte that is refused in a header
 
+-- nothing fails that has no fault and does not allocate
 pub never_refused : (e : SixelError) (may : Bool) → may ≡ false → Faults e may None → ⊥
 never_refused (InvalidDimensions w h) may none is = is
 never_refused (BufferSizeMismatch w h) may none is = is

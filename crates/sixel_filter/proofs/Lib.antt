@@ -1,4 +1,6 @@
 pub mod Header
-pub mod Filtering
-pub mod Leading
-pub mod Serving
+pub mod ImageEnds
+pub mod OpenImages
+pub mod ClosedImages
+pub mod FilterSteps
+pub mod Streams

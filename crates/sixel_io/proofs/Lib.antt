@@ -1,1 +1,1 @@
-mod Sending
+mod WrittenBytes

@@ -46,7 +46,7 @@ near_kept entries p c near more h =
     }
 
 -- with no entry
-near_none : (c : List ℕ) → IsNearestEntry [] c (record { squared = no_entry; index = 0 })
+pub near_none : (c : List ℕ) → IsNearestEntry [] c (record { squared = no_entry; index = 0 })
 near_none c =
     let none = nearest-nil c in
     record {

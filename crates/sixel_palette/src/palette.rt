@@ -18,6 +18,7 @@ mod farthest;
 mod flags;
 mod indices;
 mod nearest_entry;
+pub mod nearest_indices;
 mod rank_bitmap;
 
 use crate::palette::colors::shown_codes;

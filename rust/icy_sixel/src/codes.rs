@@ -1,8 +1,8 @@
-//! The numbers that the library answers, under the names that `icysixel.h` gives them.
+//! The codes and statuses of the library, by their names in `icysixel.h`.
 
 use crate::error::SixelError;
 
-pub(crate) const DONE: u32 = 0;
+pub(crate) const OK: u32 = 0;
 pub(crate) const NO_SESSION: u32 = 2;
 pub(crate) const OUT_OF_MEMORY: u32 = 8;
 pub(crate) const OVERFLOW: u32 = 9;
@@ -18,15 +18,15 @@ pub(crate) const INCOMPLETE: u32 = 17;
 pub(crate) const STREAM_FAILED: u32 = 18;
 pub(crate) const DCS_STREAM_FAILED: u32 = 19;
 
-/// The image wants more bytes.
+/// The image needs more data.
 pub(crate) const MORE: u32 = 0;
 /// The image has ended.
 pub(crate) const COMPLETE: u32 = 1;
-/// CAN or SUB cut the image short.
+/// CAN or SUB ended the image early.
 pub(crate) const CANCELLED: u32 = 2;
 
-/// The refusal that a code stands for, of decoding.
-pub(crate) fn refusal(code: u32) -> SixelError {
+/// The error of decoding that a code means.
+pub(crate) fn error_of(code: u32) -> SixelError {
     match code {
         OUT_OF_MEMORY => SixelError::OutOfMemory,
         OVERFLOW => SixelError::IntegerOverflow,
@@ -38,6 +38,6 @@ pub(crate) fn refusal(code: u32) -> SixelError {
         INCOMPLETE => SixelError::of_data("incomplete SIXEL DCS sequence"),
         STREAM_FAILED | NO_SESSION => SixelError::of_data("stream decoder has failed"),
         DCS_STREAM_FAILED => SixelError::of_data("DCS stream decoder has failed"),
-        other => unreachable!("the library answered {other}"),
+        other => unreachable!("the library returned {other}"),
     }
 }

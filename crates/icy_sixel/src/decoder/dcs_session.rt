@@ -12,6 +12,7 @@ ghost use Rattle.icy_sixel.specs.ImageView.{image_value};
 use crate::decoder::{SixelDcsFeedResult, SixelDecoder};
 use crate::sixel_image::SixelImage;
 use sixel_base::{Result, SixelError};
+use sixel_canvas::row_canvas::RowCanvas;
 use sixel_decoder::DcsReader;
 use std::alloc::Global;
 
@@ -19,7 +20,7 @@ use std::alloc::Global;
 ///
 /// The session borrows its decoder until it is finished, aborted or dropped. Only a successful
 /// [`finish`](Self::finish) changes the decoder's registers.
-pub struct SixelDcsStreamDecoder<'a, P = DcsReader> {
+pub struct SixelDcsStreamDecoder<'a, P = DcsReader<RowCanvas>> {
     owner: &'a mut SixelDecoder,
     reader: P,
 }

@@ -12,6 +12,7 @@ ghost use Rattle.icy_sixel.specs.ImageView.{image_value};
 use crate::decoder::{DcsSettings, SixelDecoder, SixelFeedResult, SixelFeedStatus};
 use crate::sixel_image::SixelImage;
 use sixel_base::{Result, SixelError};
+use sixel_canvas::row_canvas::RowCanvas;
 use sixel_decoder::PayloadReader;
 use std::alloc::Global;
 
@@ -19,7 +20,7 @@ use std::alloc::Global;
 ///
 /// The session borrows its decoder until it is finished, aborted or dropped. Only a successful
 /// [`finish`](Self::finish) changes the decoder's registers.
-pub struct SixelStreamDecoder<'a, F = PayloadReader> {
+pub struct SixelStreamDecoder<'a, F = PayloadReader<RowCanvas>> {
     owner: &'a mut SixelDecoder,
     reader: F,
 }
@@ -90,8 +91,7 @@ impl<'a> SixelStreamDecoder<'a> {
     /// Each closed sixel with a set pixel counts at least six for each of its columns. One of more
     /// than 258 columns can count less: six for each whole 128 columns, and 1536 for two ends.
     /// The number is at most three times the painted area of the closed sixels, and 4602 for each
-    /// of them, which is two ends and 511 blocks in six rows. It saturates. If an allocation for
-    /// the colors of blocks failed, a sixel is counted as if it had them.
+    /// of them, which is two ends and 511 blocks in six rows. It saturates.
     pub fn canvas_paints(&self) -> u64
         ensures { IsPaintCount (payload self.now) result }
     {

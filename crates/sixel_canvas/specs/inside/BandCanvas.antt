@@ -39,11 +39,11 @@ pub record IsBandCanvas (canvas : BandCanvasState) : Type 0 where
   pub narrow : canvas.held ≤ 1000000
   pub held : 0 < canvas.held → IsHeld canvas.rows canvas.band canvas.top canvas.held
 
--- What is true of a band that these runs were drawn on, and that has come down to this row: it is
--- at most twice as wide as they reach, and has painted at most the columns of their bands, and so
--- much more for each run.
-pub record IsPaid (cap painted reach top : ℕ) (runs : List Run) : Type 0 where
-  pub narrow : cap ≤ 2 * right_edge runs + 16
+-- What is true of a band that these runs were drawn on, and that has come down to this row: its
+-- capacity is at most twice as wide as they reach, and it has painted at most the columns of their
+-- bands, and so much more for each run.
+pub record IsPaid (capacity painted reach top : ℕ) (runs : List Run) : Type 0 where
+  pub narrow : capacity ≤ 2 * right_edge runs + 16
   pub few : painted ≤ drawn_columns runs + runs_paint runs
   pub edge : band_edge runs top ≤ reach
   pub below : (row : ℕ) → top < row → band_edge runs row ≡ 0

@@ -19,12 +19,17 @@ tagged_state pixels tags painted = record { pixels = pixels; tags = tags; painte
 abbrev pub tagged_cell : TaggedState → ℕ → ℕ → List ℕ
 tagged_cell band column k = under (cell band.tags (column / 128) k) (cell band.pixels column k)
 
+-- for how many columns and tags each of its six rows has memory
+abbrev pub capacity : TaggedState → ℕ
+capacity band = band.pixels.cap + band.tags.cap
+
 -- what is true of every band with tags: each tagged block was drawn on whole
 pub record IsTaggedBand (band : TaggedState) : Type 0 where
   pub pixels : IsBand band.pixels
   pub tags : IsBand band.tags
   pub clear : band.tags.background ≡ no_tag
   pub room : band.pixels.cap ≤ 128 * band.tags.cap
+  pub few_tags : band.tags.cap ≤ (band.pixels.cap + 127) / 128
   pub whole : 128 * band.tags.reach ≤ band.pixels.reach
 
 -- what a run of so many columns paints at most beside the columns past all that was drawn on: a tag

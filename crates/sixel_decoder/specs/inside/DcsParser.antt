@@ -35,7 +35,8 @@ pub record IsInPayload (reader : Session) (decoder : DecoderState)
   pub faultless : fed_fault decoder.pixel_limit reader.bytes ≡ None
   pub ending : ended ≡ ended_with reader.bytes
 
-abbrev pub HasFollowed : DcsState → DecoderState → Option SixelDcsFeedStatus → List ℕ → Type 0
+abbrev pub HasFollowed : {C : Type 0} → DcsState C → DecoderState → Option SixelDcsFeedStatus
+    → List ℕ → Type 0
 HasFollowed states.Start decoder ended bytes = (bytes ≡ []) × (ended ≡ None)
 HasFollowed states.Escape decoder ended bytes = (bytes ≡ 27 ∷ []) × (ended ≡ None)
 HasFollowed (states.Header header) decoder ended bytes = IsInHeader header bytes × (ended ≡ None)
@@ -43,14 +44,14 @@ HasFollowed (states.Payload reader) decoder ended bytes = IsInPayload reader dec
 HasFollowed states.Failed decoder ended bytes = Unit {0}
 
 -- the payload has not begun
-abbrev pub is_head : DcsState → Bool
+abbrev pub is_head : {C : Type 0} → DcsState C → Bool
 is_head states.Start = true
 is_head states.Escape = true
 is_head (states.Header header) = true
 is_head (states.Payload reader) = false
 is_head states.Failed = false
 
-abbrev pub is_failed : DcsState → Bool
+abbrev pub is_failed : {C : Type 0} → DcsState C → Bool
 is_failed states.Failed = true
 is_failed _ = false
 
@@ -61,7 +62,7 @@ IsStageFault error (Failing fault) = IsFault error fault
 IsStageFault error (Reading settings payload) = ⊥
 
 -- one more byte was read, or is rejected
-abbrev pub StepsInto : {A : Type 0} → Result A SixelError → DcsState → DecoderState
+abbrev pub StepsInto : {A C : Type 0} → Result A SixelError → DcsState C → DecoderState
     → Option SixelDcsFeedStatus → List ℕ → Type 0
 StepsInto result state decoder ended bytes =
     MatchResult result
@@ -70,7 +71,8 @@ StepsInto result state decoder ended bytes =
 
 -- The beginning of the chunk was read, all of it if the payload has not begun; or the chunk is
 -- rejected.
-abbrev pub Heads : Result ℕ SixelError → DcsState → DecoderState → Option SixelDcsFeedStatus
+abbrev pub Heads : {C : Type 0} → Result ℕ SixelError → DcsState C → DecoderState
+    → Option SixelDcsFeedStatus
     → List ℕ → List ℕ → Type 0
 Heads result state decoder ended before piece =
     MatchResult result
@@ -86,7 +88,7 @@ GoesTo payload payload' fed =
     × (fed.status ≡ payload_status payload')
 
 -- The chunk was read as far as the sequence goes, or is rejected by the fault of the bytes.
-abbrev pub Follows : Result SixelDcsFeedResult SixelError → DcsState → DecoderState
+abbrev pub Follows : {C : Type 0} → Result SixelDcsFeedResult SixelError → DcsState C → DecoderState
     → Option SixelDcsFeedStatus → List ℕ → List ℕ → Type 0
 Follows result state decoder ended before piece =
     MatchResult result

@@ -9,21 +9,21 @@ use Rattle.sixel_decoder.specs.declared.dcs_reader.DcsReader.TheInside.{Inside}
 
 -- how many pixels the canvas of the payload has written; there is none before the payload and after
 -- an error
-abbrev pub writes_of : DcsState → ℕ
+abbrev pub writes_of : {C : Type 0} → DcsState C → ℕ
 writes_of (Payload reader) = reader.writes
 writes_of _ = 0
 
 -- for how many pixels its rows have capacity
-abbrev pub room_of : DcsState → ℕ
+abbrev pub room_of : {C : Type 0} → DcsState C → ℕ
 room_of (Payload reader) = reader.room
 room_of _ = 0
 
 -- how many pixels sixels have painted on it
-abbrev pub paints_of : DcsState → ℕ
+abbrev pub paints_of : {C : Type 0} → DcsState C → ℕ
 paints_of (Payload reader) = reader.paints
 paints_of _ = 0
 
-abbrev pub session_of : Inside → DcsSession
+abbrev pub session_of : {C : Type 0} → Inside C → DcsSession
 session_of reader = record {
   decoder = reader.parser.decoder;
   bytes = reader.log.bytes;
@@ -33,6 +33,6 @@ session_of reader = record {
   paints = paints_of reader.parser.state;
 }
 
-abbrev pub IsFollowing : Inside → Type 0
+abbrev pub IsFollowing : {C : Type 0} → Inside C → Type 0
 IsFollowing reader =
     HasFollowed reader.parser.state reader.parser.decoder reader.parser.ended reader.log.bytes

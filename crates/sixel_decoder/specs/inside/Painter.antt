@@ -1,33 +1,33 @@
 -- What the parts of a painter keep, in the words of the history that was read. An invariant of this
 -- library's own: the words are those of Place and Stroke of sixel_base, where DEC's manual gives
 -- the rules.
-use Rattle.std.specs.Prelude.{true, ℕ, ◌≡◌, ◌+◌, ◌*◌, ◌<◌, ◌≤◌, Bool, ◌-◌, MatchResult, Result}
+use Rattle.std.specs.Prelude.{ℕ, ◌≡◌, ◌+◌, ◌*◌, ◌<◌, ◌≤◌, Bool, true, ◌-◌, MatchResult, Result}
 use Rattle.std.specs.Prelude.{None, is_none, [], ◌∷◌, ◌++◌, List, max, fold, take, slice_index}
 use Rattle.sixel_base.specs.declared.error.SixelError.{SixelError}
-use Rattle.sixel_decoder.specs.declared.painter.Painter.{Painter}
-use Rattle.sixel_base.specs.Settings.{ratio_of}
 use Rattle.sixel_base.specs.Fault.{Faults}
-use Rattle.sixel_canvas.specs.inside.Canvas.{shown, reached}
 use Rattle.sixel_base.specs.History.{History, Sixel, read}
-use Rattle.sixel_base.specs.Place.{span, across, down, width, height, raster_height}
-use Rattle.sixel_base.specs.Stroke.{Origin, pixel, registers, color, ratio}
+use Rattle.sixel_base.specs.Limits.{side_limit}
 use Rattle.sixel_base.specs.Payload.{first_fault, image_of}
-use Rattle.sixel_decoder.specs.declared.decoded_payload.DecodedPayload.{DecodedPayload}
+use Rattle.sixel_base.specs.Place.{span, across, down, width, height, raster_height}
+use Rattle.sixel_base.specs.Settings.{ratio_of}
+use Rattle.sixel_base.specs.Stroke.{Origin, pixel, registers, color, ratio}
+use Rattle.sixel_canvas.specs.declared.drawing.Canvas.{Ghosts}
 use Rattle.sixel_decoder.specs.PictureView.{picture_value}
-use Rattle.sixel_base.specs.Reach.{row_reach}
-use Rattle.sixel_decoder.specs.Paints.{sixels, least_count, most_sixel_paints}
+use Rattle.sixel_decoder.specs.declared.decoded_payload.DecodedPayload.{DecodedPayload}
+use Rattle.sixel_decoder.specs.declared.painter.Painter.{Painter}
+use Rattle.sixel_decoder.specs.inside.Runs.{runs_of}
 
--- The painter has drawn these tokens, none of which has a fault.
-pub record Shows (origin : Origin) (painter : Painter) (history : History) : Type 0 where
-  pub pixels : (column row : ℕ) → shown painter.canvas column row ≡ pixel origin history column row
-  pub reached : (row : ℕ) → reached painter.canvas row ≡ row_reach history row
-  pub paid : painter.canvas.paints ≤ painter.canvas.spread + most_sixel_paints * sixels history
-  pub least : least_count history ≤ painter.canvas.paints
+-- The painter has drawn these tokens, none of which has a fault, on its canvas.
+pub record Shows {C : Type 0} {canvas : Ghosts C} (origin : Origin) (painter : Painter C canvas)
+    (history : History) : Type 0 where
+  pub pixels : (column row : ℕ)
+      → canvas.shown painter.canvas column row ≡ pixel origin history column row
+  pub paid : canvas.paid painter.canvas (runs_of history)
   pub registers : painter.registers ≡ registers origin.registers history
   pub color : painter.color ≡ color origin.registers history ++ 255 ∷ []
-  pub span : painter.span ≡ span history
-  pub across : painter.across ≡ across history
-  pub down : painter.down ≡ down history
+  pub repeat : painter.repeat ≡ span history
+  pub column : painter.column ≡ across history
+  pub top : canvas.top painter.canvas ≡ down history
   pub width : painter.width ≡ width history
   pub height : painter.height ≡ height history
   pub raster_height : painter.raster_height ≡ raster_height history
@@ -38,7 +38,8 @@ pub record Shows (origin : Origin) (painter : Painter) (history : History) : Typ
   pub faultless : first_fault origin.pixel_limit history ≡ None
 
 -- The newest of these tokens was drawn, or is rejected by the first fault.
-abbrev pub Draws : {A : Type 0} → Result A SixelError → Origin → Painter → History → Bool → Type 0
+abbrev pub Draws : {A C : Type 0} {canvas : Ghosts C} → Result A SixelError → Origin
+    → Painter C canvas → History → Bool → Type 0
 Draws result origin painter history may_want =
     MatchResult result
     (λ _. Shows origin painter history)
@@ -46,7 +47,8 @@ Draws result origin painter history may_want =
 
 -- So many sixels at the front of the bytes were drawn, or the first of them is rejected by the
 -- first fault.
-abbrev pub DrawsFront : Result ℕ SixelError → Origin → Painter → History → List ℕ → Type 0
+abbrev pub DrawsFront : {C : Type 0} {canvas : Ghosts C} → Result ℕ SixelError → Origin
+    → Painter C canvas → History → List ℕ → Type 0
 DrawsFront result origin painter history bytes =
     MatchResult result (λ drawn. Shows origin painter (fold read history (take drawn bytes)))
     (λ error.
@@ -54,9 +56,10 @@ DrawsFront result origin painter history bytes =
 
 -- The second painter is the first with an image at least so wide and so high, which is within the
 -- limits.
-pub record IsExtended (old new : Painter) (wide high : ℕ) : Type 0 where
-  pub right : wide ≤ 1000000
-  pub lower : high ≤ 1000000
+pub record IsExtended {C : Type 0} {members : Ghosts C} (old new : Painter C members)
+    (wide high : ℕ) : Type 0 where
+  pub right : wide ≤ side_limit
+  pub lower : high ≤ side_limit
   pub width : new.width ≡ max old.width wide
   pub height : new.height ≡ max old.height high
   pub canvas : new.canvas ≡ old.canvas
@@ -66,9 +69,8 @@ pub record IsExtended (old new : Painter) (wide high : ℕ) : Type 0 where
   pub limit : new.pixel_limit ≡ old.pixel_limit
   pub ratio : new.ratio ≡ old.ratio
   pub color : new.color ≡ old.color
-  pub span : new.span ≡ old.span
-  pub across : new.across ≡ old.across
-  pub down : new.down ≡ old.down
+  pub repeat : new.repeat ≡ old.repeat
+  pub column : new.column ≡ old.column
   pub raster_height : new.raster_height ≡ old.raster_height
 
 -- The history has no fault, and this is its image, within the limit, with the registers after it;
@@ -84,11 +86,9 @@ Ends result origin history =
     Faults error (is_none (first_fault origin.pixel_limit history))
     (first_fault origin.pixel_limit history))
 
--- The next sixel has one column, inside the image, which all six rows of the canvas have, without a
--- tag.
-pub record FitsColumn (painter : Painter) : Type 0 where
-  pub single : painter.span ≡ 1
-  pub above_bottom : painter.down + 6 ≤ painter.height
-  pub inside : painter.across < painter.width
-  pub held : (k : ℕ) → k < 6 → painter.across < reached painter.canvas (painter.down + k)
-  pub plain : painter.canvas.tagged ≤ painter.down
+-- The next sixel has one column, inside the image, for which the canvas has memory.
+pub record FitsColumn {C : Type 0} {canvas : Ghosts C} (painter : Painter C canvas) : Type 0 where
+  pub single : painter.repeat ≡ 1
+  pub above_bottom : canvas.top painter.canvas + 6 ≤ painter.height
+  pub inside : painter.column < painter.width
+  pub held : painter.column < canvas.held painter.canvas

@@ -17,13 +17,14 @@ use Rattle.sixel_base.specs.History.{Token, Repeat, Raster, Color, History, goes
 use Rattle.sixel_base.specs.Stroke.{Origin}
 use Rattle.sixel_base.specs.Payload.{first_fault, closed, growths, payload_fault, payload_image}
 use Rattle.sixel_base.specs.Payload.{payload_registers, payload_wants}
+use Rattle.sixel_canvas.specs.declared.drawing.Canvas.{Ghosts}
 use Rattle.sixel_decoder.specs.inside.Painter.{Shows}
 use Rattle.sixel_decoder.specs.PictureView.{picture_value}
 use Rattle.sixel_decoder.specs.declared.decoded_payload.DecodedPayload.{DecodedPayload}
 
 -- the newest token is a command that is open, and the parameters are those of its text so far
-pub record IsOpen (command : List ℕ → Token) (origin : Origin) (parser : PayloadParser)
-    (history : History) : Type 0 where
+pub record IsOpen {C : Type 0} {canvas : Ghosts C} (command : List ℕ → Token) (origin : Origin)
+    (parser : PayloadParser C canvas) (history : History) : Type 0 where
   pub text : List ℕ
   pub older : History
   pub newest : history ≡ command text ∷ older
@@ -31,23 +32,26 @@ pub record IsOpen (command : List ℕ → Token) (origin : Origin) (parser : Pay
   pub shows : Shows origin parser.painter older
 
 -- no token can continue, and all were drawn
-pub record IsDrawn (origin : Origin) (parser : PayloadParser) (history : History) : Type 0 where
+pub record IsDrawn {C : Type 0} {canvas : Ghosts C} (origin : Origin)
+    (parser : PayloadParser C canvas) (history : History) : Type 0 where
   pub ended : (byte : ℕ) → goes_on history byte ≡ false
   pub shows : Shows origin parser.painter history
 
-abbrev pub StandsIn : OpenCommand → Origin → PayloadParser → History → Type 0
+abbrev pub StandsIn : {C : Type 0} {canvas : Ghosts C} → OpenCommand → Origin
+    → PayloadParser C canvas → History → Type 0
 StandsIn Ground origin parser history = IsDrawn origin parser history
 StandsIn InRepeat origin parser history = IsOpen Repeat origin parser history
 StandsIn InRaster origin parser history = IsOpen Raster origin parser history
 StandsIn InColor origin parser history = IsOpen Color origin parser history
 
-abbrev pub Stands : Origin → PayloadParser → History → Type 0
+abbrev pub Stands : {C : Type 0} {canvas : Ghosts C} → Origin → PayloadParser C canvas → History
+    → Type 0
 Stands origin parser history = StandsIn parser.command origin parser history
 
 -- The parser has read the history, which continues an earlier one; or a token that was closed since
 -- is rejected.
-abbrev pub Reads : {A : Type 0} → Result A SixelError → Origin → PayloadParser → History → History
-    → Type 0
+abbrev pub Reads : {A C : Type 0} {canvas : Ghosts C} → Result A SixelError → Origin
+    → PayloadParser C canvas → History → History → Type 0
 Reads result origin parser before history =
     MatchResult result (λ _. Stands origin parser history)
     (λ error.
@@ -64,14 +68,15 @@ settled_after history piece =
     if is_terminated piece then after history piece else closed (after history piece)
 
 -- After a terminator every token was drawn; before one, all but an open command.
-abbrev pub StandsAfter : Bool → Origin → PayloadParser → History → Type 0
+abbrev pub StandsAfter : {C : Type 0} {canvas : Ghosts C} → Bool → Origin
+    → PayloadParser C canvas → History → Type 0
 StandsAfter true origin parser history =
     (parser.command ≡ Ground) × Shows origin parser.painter history
 StandsAfter false origin parser history = Stands origin parser history
 
 -- The chunk was read up to its first terminator, or is rejected by the first fault.
-abbrev pub Feeds : Result SixelFeedResult SixelError → Origin → PayloadParser → History → List ℕ
-    → Type 0
+abbrev pub Feeds : {C : Type 0} {canvas : Ghosts C} → Result SixelFeedResult SixelError → Origin
+    → PayloadParser C canvas → History → List ℕ → Type 0
 Feeds result origin parser history piece =
     MatchResult result
     (λ fed. (fed.consumed ≡ count piece) × (fed.status ≡ status_of (first_terminator piece))

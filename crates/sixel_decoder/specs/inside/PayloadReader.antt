@@ -6,7 +6,8 @@ use Rattle.sixel_base.specs.declared.error.SixelError.{SixelError}
 use Rattle.sixel_base.specs.Fault.{Faults}
 use Rattle.sixel_base.specs.Bytes.{front, count, first_terminator}
 use Rattle.sixel_base.specs.Payload.{fed_fault, settled, growths}
-use Rattle.sixel_canvas.specs.inside.Canvas.{canvas_writes, canvas_room}
+use Rattle.sixel_canvas.specs.declared.drawing.Canvas.{Ghosts}
+use Rattle.sixel_canvas.specs.inside.Drawn.{Work, no_work}
 use Rattle.sixel_base.specs.History.{history_of}
 use Rattle.sixel_base.specs.Stroke.{Origin}
 use Rattle.sixel_base.specs.Decoder.{origin_of}
@@ -17,46 +18,37 @@ use Rattle.sixel_decoder.specs.Session.{Session}
 use Rattle.sixel_decoder.specs.declared.payload_parser.PayloadParser.{PayloadParser}
 use Rattle.sixel_decoder.specs.declared.payload_reader.PayloadReader.TheInside.{Inside}
 
--- how many pixels the canvas has written; after an error there is no canvas
-abbrev pub writes_of : Option PayloadParser → ℕ
-writes_of None = 0
-writes_of (Some parser) = canvas_writes parser.painter.canvas
+-- what the canvas has cost; after an error there is no canvas
+abbrev pub work_of : {C : Type 0} {canvas : Ghosts C} → Option (PayloadParser C canvas) → Work
+work_of None = no_work
+work_of {C} {canvas} (Some parser) = canvas.work parser.painter.canvas
 
--- for how many pixels its rows have capacity
-abbrev pub room_of : Option PayloadParser → ℕ
-room_of None = 0
-room_of (Some parser) = canvas_room parser.painter.canvas
-
--- how many pixels sixels have painted on it
-abbrev pub paints_of : Option PayloadParser → ℕ
-paints_of None = 0
-paints_of (Some parser) = parser.painter.canvas.paints
-
-abbrev pub session_of : Inside → Session
+abbrev pub session_of : {C : Type 0} {canvas : Ghosts C} → Inside C canvas → Session
 session_of reader = record {
   origin = origin_of reader.start.value reader.settings;
   bytes = reader.log.bytes;
   is_refused = is_none reader.parser;
-  writes = writes_of reader.parser;
-  room = room_of reader.parser;
-  paints = paints_of reader.parser;
+  writes = (work_of reader.parser).writes;
+  room = (work_of reader.parser).room;
+  paints = (work_of reader.parser).paints;
 }
 
 -- A parser without an error has read the bytes up to their first terminator.
-abbrev pub HasRead : Option PayloadParser → Origin → Option ℕ → List ℕ → Type 0
+abbrev pub HasRead : {C : Type 0} {canvas : Ghosts C} → Option (PayloadParser C canvas) → Origin
+    → Option ℕ → List ℕ → Type 0
 HasRead None origin terminator bytes = Unit {0}
 HasRead (Some parser) origin terminator bytes =
     (first_terminator bytes ≡ terminator)
     × StandsAfter (is_some terminator) origin parser (history_of (front bytes))
 
-abbrev pub IsReading : Inside → Type 0
+abbrev pub IsReading : {C : Type 0} {canvas : Ghosts C} → Inside C canvas → Type 0
 IsReading reader =
     HasRead reader.parser (session_of reader).origin reader.terminator reader.log.bytes
 
 -- The parser has read these bytes and the chunk after them, or all are rejected by their first
 -- fault.
-abbrev pub GoesOn : Result SixelFeedResult SixelError → Origin → PayloadParser → List ℕ → List ℕ
-    → Type 0
+abbrev pub GoesOn : {C : Type 0} {canvas : Ghosts C} → Result SixelFeedResult SixelError → Origin
+    → PayloadParser C canvas → List ℕ → List ℕ → Type 0
 GoesOn result origin parser before piece =
     MatchResult result
     (λ fed. (count before + fed.consumed ≡ count (before ++ piece))

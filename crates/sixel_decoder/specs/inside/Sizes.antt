@@ -1,11 +1,13 @@
 -- What is wrong with the sizes of a picture. From the limits of sixel_base: a side ends at a
 -- million, and the area at the limit of pixels.
 use Rattle.std.specs.Prelude.{ℕ, ◌*◌, ◌<◌, ◌≤◌, ◌⊎◌}
+use Rattle.sixel_base.specs.Limits.{side_limit}
 use Rattle.sixel_base.specs.Fault.{IsFault, Malformed, TooLarge}
 use Rattle.sixel_base.specs.declared.error.SixelError.{SixelError}
 
 -- The error names what is wrong with a picture of these sizes.
 abbrev pub IsTooLarge : ℕ → ℕ → ℕ → SixelError → Type 0
 IsTooLarge width height limit error =
-    (((1000000 < width) ⊎ (1000000 < height)) × IsFault error Malformed)
-    ⊎ ((width ≤ 1000000) × (height ≤ 1000000) × (limit < width * height) × IsFault error TooLarge)
+    (((side_limit < width) ⊎ (side_limit < height)) × IsFault error Malformed)
+    ⊎ ((width ≤ side_limit) × (height ≤ side_limit) × (limit < width * height)
+    × IsFault error TooLarge)

@@ -111,7 +111,7 @@ pub struct Traversal {
 
 impl Traversal {
     /// A traversal without an entry.
-    fn new(alloc: Global, codes: &[u32]) -> Result<Traversal, AllocError>
+    pub fn new(alloc: Global, codes: &[u32]) -> Result<Traversal, AllocError>
         requires small { AreColorCodes codes.now }
         ensures whole { IfOk result (IsTraversal codes.now) }
         ensures relaxed { IfOk result (HasRelaxed [] codes.now) }

@@ -1,7 +1,7 @@
 use Rattle.std.proofs.Common.{[], sym, subst, refl}
 use Rattle.std.proofs.KnownBytes.{Appends-nil}
 use Rattle.sixel_encoder.specs.Encoding.{IsText, square_value}
-use Rattle.sixel.proofs.Serving.{Serves-last, no_fault}
+use Rattle.sixel.proofs.Outputs.{Serves-last, no_fault}
 use Rattle.sixel.proofs.engine.encode.Goals as goal
 
 pub returns : goal.returns

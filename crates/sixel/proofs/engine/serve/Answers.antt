@@ -3,7 +3,7 @@ use Rattle.std.proofs.lemmas.Result.{err_from_is_err_and}
 use Rattle.sixel_base.specs.declared.error.SixelError.TheVariants.{OutOfMemory}
 use Rattle.sixel_io.specs.declared.fault.Fault.{Fault}
 use Rattle.sixel_io.specs.declared.fault.Fault.TheVariants.{Sixel, Input}
-use Rattle.sixel.proofs.Serving.{Writes-wanting, Keeps-same}
+use Rattle.sixel.proofs.Outputs.{Writes-wanting, Keeps-same}
 use Rattle.sixel.proofs.engine.serve.Goals as goal
 
 pub returns-in_err-bytes-clause-done : goal.returns-in_err-bytes-clause-done

@@ -2,7 +2,7 @@ use Rattle.std.proofs.Common.{refl, sym, ◌∙◌, [], ◌++◌, append_assoc}
 use Rattle.std.proofs.KnownBytes.{Appends-nil, Appends-trans}
 use Rattle.icy_sixel.specs.ImageView.{image_value}
 use Rattle.sixel.specs.Form.{line_end}
-use Rattle.sixel.proofs.Serving.{Serves-part, Serves-last, image_form-parts}
+use Rattle.sixel.proofs.Outputs.{Serves-part, Serves-last, image_form-parts}
 use Rattle.sixel.proofs.images.write_image.Goals as goal
 
 pub returns-in_err-write_all : goal.returns-in_err-write_all

@@ -4,7 +4,7 @@ use Rattle.sixel.specs.Ending.{Refused}
 use Rattle.sixel.specs.Words.{IsAskedBy, words_of}
 use Rattle.sixel_io.specs.Output.{Writes}
 use Rattle.sixel.specs.Answer.{IsAnswer, Begins}
-use Rattle.sixel.proofs.Responding.{asked-for}
+use Rattle.sixel.proofs.ArgumentPlaces.{asked-for}
 use Rattle.sixel.proofs.response.respond.Goals as goal
 
 pub returns-in_default : goal.returns-in_default

@@ -1,8 +1,8 @@
 use Rattle.std.proofs.Common.{ℕ, ◌+◌, List, refl, ap, sym, ◌∙◌, arith, length, length-append, subst}
 use Rattle.std.proofs.lemmas.Result.{err_from_is_err_and}
 use Rattle.sixel_base.specs.Dcs.{IsSameString, has_ended}
-use Rattle.sixel.proofs.Pieces.{Cut, cut_begins, cut_joined, cut_more}
-use Rattle.sixel.proofs.Stringing.{begins_fits, goes_on, refused_early}
+use Rattle.sixel.proofs.Chunks.{Cut, cut_begins, cut_joined, cut_more}
+use Rattle.sixel.proofs.DcsSequences.{begins_fits, goes_on, refused_early}
 use Rattle.sixel.proofs.strings.feed_pieces.Goals as goal
 
 pub pieces-init : goal.pieces-init

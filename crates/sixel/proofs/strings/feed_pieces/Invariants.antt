@@ -2,7 +2,7 @@
 -- the string's own is known.
 use Rattle.std.proofs.Common.{◌≡◌, ◌≤◌, length, true, false, None}
 use Rattle.sixel_base.specs.Dcs.{dcs_status, dcs_count, dcs_fault, has_ended, IsSameString}
-use Rattle.sixel.proofs.Pieces.{Cut}
+use Rattle.sixel.proofs.Chunks.{Cut}
 use Rattle.sixel.proofs.strings.feed_pieces.Given as goal
 
 abbrev pub invariant-pieces : goal.invariant-pieces

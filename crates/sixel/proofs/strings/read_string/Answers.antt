@@ -1,7 +1,7 @@
 use Rattle.std.proofs.Common.{ap, sym, ◌∙◌, arith, rules}
 use Rattle.sixel_base.specs.Dcs.{has_ended, IsSameString}
-use Rattle.sixel.proofs.Pieces.{pieces_begin}
-use Rattle.sixel.proofs.Stringing.{Begins, begins_fits, ended_faultless}
+use Rattle.sixel.proofs.Chunks.{pieces_begin}
+use Rattle.sixel.proofs.DcsSequences.{Begins, begins_fits, ended_faultless}
 use Rattle.sixel.proofs.strings.read_string.Goals as goal
 
 pub feed_pieces-requires-clause-some : goal.feed_pieces-requires-clause-some

@@ -4,7 +4,7 @@ use Rattle.std.proofs.lemmas.Result.{err_from_is_err_and}
 use Rattle.icy_sixel.specs.ImageView.{image_value}
 use Rattle.sixel_base.specs.OneShot.{found, IsFoundImage}
 use Rattle.sixel.specs.Strings.{Broken}
-use Rattle.sixel.proofs.Leading.{HasEnded, OnErr-broken, OnOk-image}
+use Rattle.sixel.proofs.ImageSequences.{HasEnded, OnErr-broken, OnOk-image}
 use Rattle.sixel.proofs.strings.write_string.Goals as goal
 
 pub returns-in_err-string-clause-stopped : goal.returns-in_err-string-clause-stopped

@@ -1,8 +1,8 @@
 use Rattle.std.proofs.Common.{ℕ, List, Bor}
 use Rattle.std.proofs.lemmas.Result.{err_from_is_err_and}
-use Rattle.sixel.proofs.Leading.{HasEnded, Serves-led, Serves-stopped, stands_first, still_leads}
-use Rattle.sixel.proofs.Leading.{stands_last, stands_more, follows_smaller}
-use Rattle.sixel.proofs.Stringing.{no_bytes, some_bytes}
+use Rattle.sixel.proofs.ImageSequences.{HasEnded, Serves-led, Serves-stopped, stands_first}
+use Rattle.sixel.proofs.ImageSequences.{still_leads, stands_last, stands_more, follows_smaller}
+use Rattle.sixel.proofs.DcsSequences.{no_bytes, some_bytes}
 use Rattle.sixel.proofs.strings.write_strings.Goals as goal
 
 pub strings-init : goal.strings-init

@@ -1,7 +1,7 @@
 -- The images before the rest are written, or all are.
 use Rattle.std.proofs.Common.{length}
 use Rattle.sixel_base.specs.Decoder.{new_decoder}
-use Rattle.sixel.proofs.Leading.{Stands}
+use Rattle.sixel.proofs.ImageSequences.{Stands}
 use Rattle.sixel.proofs.strings.write_strings.Given as goal
 
 abbrev pub invariant-strings : goal.invariant-strings

@@ -1,7 +1,7 @@
 use Rattle.std.proofs.Common.{◌<◌, ap, sym, Some, ◌∙◌, arith, length, option_map, string_bytes}
 use Rattle.std.proofs.lemmas.List.{length-map}
 use Rattle.sixel.specs.Words.{words_of}
-use Rattle.sixel.proofs.Wording.{Places, word_there, asked_there, none_there}
+use Rattle.sixel.proofs.ArgumentPlaces.{Places, word_there, asked_there, none_there}
 use Rattle.sixel.proofs.words.asked.Goals.{After-read_word}
 use Rattle.sixel.proofs.words.asked.Goals as goal
 

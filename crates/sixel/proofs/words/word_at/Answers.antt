@@ -1,5 +1,5 @@
 use Rattle.std.proofs.Common.{ap, sym, Some, ◌∙◌}
-use Rattle.sixel.proofs.Wording.{word_there, no_word}
+use Rattle.sixel.proofs.ArgumentPlaces.{word_there, no_word}
 use Rattle.sixel.proofs.words.word_at.Goals as goal
 
 pub returns-in-Some : goal.returns-in-Some

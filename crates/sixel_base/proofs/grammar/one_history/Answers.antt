@@ -1,5 +1,5 @@
 use Rattle.std.proofs.Common.{sym, ◌∙◌}
-use Rattle.sixel_base.proofs.Reading.{some_history, history_unique}
+use Rattle.sixel_base.proofs.Histories.{some_history, history_unique}
 use Rattle.sixel_base.proofs.grammar.one_history.Goals as goal
 
 pub returns-clause-some : goal.returns-clause-some

@@ -1,18 +1,26 @@
-use Rattle.std.proofs.Common.{ℕ, ◌+◌, ◌*◌, ◌≤◌, ◌∙◌, length, ap, arith}
-use Rattle.std.specs.Prelude.{slice_index_or}
-use Rattle.sixel_canvas.specs.inside.Channels.{in_order}
-use Rattle.sixel_canvas.proofs.PixelBytes.{put_len, put_more}
+use Rattle.std.proofs.Common.{length, min, ◌≡◌, ◌+◌, ◌++◌, ◌/◌, ◌%◌, ◌∙◌, take, get_or, ap}
+use Rattle.std.proofs.Common.{length-append, arith, rules}
+use Rattle.sixel_canvas.specs.Layout.{in_order}
+use Rattle.sixel_canvas.specs.inside.FinalRows.{pixel_at}
+use Rattle.sixel_canvas.proofs.PixelBytes.{row_bytes}
 use Rattle.sixel_canvas.proofs.channels.copy_row.Goals as goal
 
-pub copied-preserved : goal.copied-preserved
-copied-preserved c =
-    let before = c.copied.invariant in
-    let column = c.copied.column in
-    let row = c.copied.row in
-    let f = λ (k : ℕ).
-    in_order c.args.order (slice_index_or c.args.pixels.now k c.args.background) in
-    let fits : 4 * column + 4 ≤ length row = omega (arith, before.0, c.copied-test.true) in
-    let is = c.of-bytes.ensures ∙ ap (in_order c.args.order) c.pixel_or.ensures in (
-      put_len row (4 * column) c.of-bytes.result ∙ before.0,
-      put_more row c.of-bytes.result f column fits is before.1,
-    )
+pub returns-clause-copied : goal.returns-clause-copied
+returns-clause-copied c = λ i inside.
+    let pixels = c.args.pixels.now in
+    let len = length c.args.row.now in
+    let order = c.args.order in
+    let stored = c.copy_pixels.new.row in
+    let rest = c.fill_rgba_span.new.span in
+    let least : c.min-len.result ≡ min (length pixels) len = omega (arith, c.min-len.ensures) in
+    let front : length stored ≡ min (length pixels) len =
+    c.copy_pixels.ensures.len ∙ c.split_at_mut-stored.ensures.front_len ∙ least in
+    let joined : length (stored ++ rest) ≡ len = search rules in
+    let all : length stored + length rest ≡ len =
+    omega (arith, joined, length-append stored rest) in
+    row_bytes (in_order order) pixels c.args.background stored rest len i c.requires.stored
+    c.requires.whole front
+    (λ j h.
+    c.copy_pixels.ensures.copied j (omega (arith, h, c.copy_pixels.ensures.len))
+    ∙ ap (λ n. get_or (in_order order (pixel_at (take n pixels) (j / 4))) (j % 4) 0) least)
+    (λ j h. c.fill_rgba_span.ensures j h ∙ ap (λ p. get_or p (j % 4) 0) c.of.ensures) all inside

@@ -9,7 +9,7 @@ use Rattle.sixel_decoder.proofs.DcsChunks.{payload_follows, payload_refuses}
 use Rattle.sixel_decoder.proofs.dcs_parser.read_payload.Goals as goal
 
 pub returns-in_err-fed-clause-follows : goal.returns-in_err-fed-clause-follows
-returns-in_err-fed-clause-follows c = λ decoder before is.
+returns-in_err-fed-clause-follows g c = λ decoder before is.
     let payload : List ℕ = c.args.reader.now.bytes in
     let piece : List ℕ = c.args.chunk.now in
     let e = c.in_err-fed.field-0.0 in
@@ -22,7 +22,7 @@ returns-in_err-fed-clause-follows c = λ decoder before is.
     (payload_refuses e c.args.reader.now decoder c.args.ended.now before piece is refused)
 
 pub returns-in-NeedMoreData-clause-follows : goal.returns-in-NeedMoreData-clause-follows
-returns-in-NeedMoreData-clause-follows c = λ decoder before is.
+returns-in-NeedMoreData-clause-follows g c = λ decoder before is.
     let payload : List ℕ = c.args.reader.now.bytes in
     let piece : List ℕ = c.args.chunk.now in
     let now = c.in_ok-fed.ensures in
@@ -33,12 +33,13 @@ returns-in-NeedMoreData-clause-follows c = λ decoder before is.
     let counted : count payload + consumed ≡ count (payload ++ piece) =
     now.consumed ∙ ap count now.bytes in
     let goes = goes_open payload piece consumed c.args.ended.now is.ending none counted in
-    payload_follows c.args.reader.now c.feed.new.self decoder c.args.ended.now c.args.ended.now
+    payload_follows g.row.C.Denot c.args.reader.now c.feed.new.self decoder c.args.ended.now
+    c.args.ended.now
     before piece consumed _ is
     now.origin now.bytes now.ok.1 now.faultless goes.0 goes.1
 
 pub returns-in-Terminated-clause-follows : goal.returns-in-Terminated-clause-follows
-returns-in-Terminated-clause-follows c = λ decoder before is.
+returns-in-Terminated-clause-follows g c = λ decoder before is.
     let payload : List ℕ = c.args.reader.now.bytes in
     let piece : List ℕ = c.args.chunk.now in
     let now = c.in_ok-fed.ensures in
@@ -50,7 +51,7 @@ returns-in-Terminated-clause-follows c = λ decoder before is.
     let counted : count payload + c.in_ok-fed.fed.consumed ≡ count (payload ++ piece) =
     now.consumed ∙ ap count now.bytes in
     let goes = c.end_now-end.ensures.ends payload is.ending some counted in
-    payload_follows c.args.reader.now c.feed.new.self decoder c.args.ended.now
+    payload_follows g.row.C.Denot c.args.reader.now c.feed.new.self decoder c.args.ended.now
     (Some c.end_now-end.result.status) before piece _ _ is
     now.origin now.bytes now.ok.1 now.faultless goes
     (ap Some goes.1 ∙ sym (ended_at (payload ++ piece) t some))

@@ -2,9 +2,9 @@ use Rattle.std.proofs.Common.{◌≡◌, ◌<◌, ◌++◌, [], sym, subst, arit
 use Rattle.std.proofs.KnownBytes.{Consumes-kept, Consumes-trans}
 use Rattle.std.proofs.lemmas.Bool.Decides.{nat_tests}
 use Rattle.sixel_io.specs.declared.fault.Fault.TheVariants.{Input}
-use Rattle.sixel_filter.proofs.Leading.{on_ok}
-use Rattle.sixel_filter.proofs.Serving.{eaten_all, eaten_none, if_err, passes_end, passes_on}
-use Rattle.sixel_filter.proofs.Serving.{stopped_on, stops_on, stops_unread}
+use Rattle.sixel_filter.proofs.OpenImages.{on_ok}
+use Rattle.sixel_filter.proofs.Streams.{eaten_all, eaten_none, if_err, passes_end, passes_on}
+use Rattle.sixel_filter.proofs.Streams.{stopped_on, stops_on, stops_unread}
 use Rattle.sixel_filter.proofs.engine.pass_all.Goals as goal
 
 pub returns-in_err-count-clause-stopped : goal.returns-in_err-count-clause-stopped

@@ -1,6 +1,6 @@
 use Rattle.std.proofs.Common.{ap}
 use Rattle.sixel_io.specs.declared.fault.Fault.TheVariants.{Sixel}
-use Rattle.sixel_filter.proofs.Serving.{if_err, leads_made, stops_before, stops_within}
+use Rattle.sixel_filter.proofs.Streams.{if_err, leads_made, stops_before, stops_within}
 use Rattle.sixel_filter.proofs.engine.pass_chunk.Goals as goal
 
 pub returns-in_err-pass-clause-stopped : goal.returns-in_err-pass-clause-stopped

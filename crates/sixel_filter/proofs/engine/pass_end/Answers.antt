@@ -1,7 +1,7 @@
 use Rattle.std.proofs.Common.{List, ℕ, [], ap, sym, subst}
 use Rattle.sixel_io.specs.declared.fault.Fault.TheVariants.{Sixel}
 use Rattle.sixel_filter.specs.inside.Standing.{Leads}
-use Rattle.sixel_filter.proofs.Serving.{if_err, if_at_end, stops_before}
+use Rattle.sixel_filter.proofs.Streams.{if_err, if_at_end, stops_before}
 use Rattle.sixel_filter.proofs.engine.pass_end.Goals as goal
 
 pub returns-in_err-end-clause-stopped : goal.returns-in_err-end-clause-stopped

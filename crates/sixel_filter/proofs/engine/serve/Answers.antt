@@ -2,7 +2,7 @@ use Rattle.std.proofs.Common.{[], refl}
 use Rattle.std.proofs.KnownBytes.{Consumes-nil}
 use Rattle.sixel_base.specs.declared.error.SixelError.TheVariants.{OutOfMemory}
 use Rattle.sixel_io.specs.declared.fault.Fault.TheVariants.{Sixel}
-use Rattle.sixel_filter.proofs.Serving.{if_err, stopped_along, stops_unbegun}
+use Rattle.sixel_filter.proofs.Streams.{if_err, stopped_along, stops_unbegun}
 use Rattle.sixel_filter.proofs.engine.serve.Goals as goal
 
 pub returns-in_err-chunk-clause-stopped : goal.returns-in_err-chunk-clause-stopped

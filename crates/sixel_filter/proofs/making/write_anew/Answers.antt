@@ -1,6 +1,7 @@
 use Rattle.std.proofs.Common.{arith}
 use Rattle.icy_sixel.specs.ImageView.{image_value}
-use Rattle.sixel_filter.proofs.Leading.{on_ok, noted}
+use Rattle.sixel_filter.proofs.OpenImages.{on_ok}
+use Rattle.sixel_filter.proofs.ClosedImages.{noted}
 use Rattle.sixel_filter.proofs.making.write_anew.Goals as goal
 
 pub returns-in_err-extend_from_slice-in-Ok-clause-written :

@@ -1,5 +1,5 @@
 use Rattle.std.proofs.Common.{arith, length-drop, length-take, rules}
-use Rattle.sixel_io.proofs.Sending.{Appends-rest}
+use Rattle.sixel_io.proofs.WrittenBytes.{Appends-rest}
 use Rattle.sixel_io.proofs.write.write_all.Goals as goal
 
 pub returns-then-done-bytes-clause-error : goal.returns-then-done-bytes-clause-error

@@ -3,7 +3,7 @@ use Rattle.std.specs.Prelude.{nat_le, nat_lt, if◌then◌else◌}
 use Rattle.sixel_canvas.specs.inside.BandCanvas.{BandCanvasState, band_canvas_shown}
 use Rattle.sixel_canvas.specs.inside.Drawn.{covers_block}
 use Rattle.sixel_canvas.specs.inside.FinalRows.{final}
-use Rattle.sixel_canvas.specs.inside.TaggedBand.{tagged_cell}
+use Rattle.sixel_canvas.specs.inside.TaggedBand.{capacity, tagged_cell}
 use Rattle.sixel_canvas.proofs.HandedRows.{canvas_over}
 use Rattle.sixel_canvas.proofs.Runs.{paid-sixels}
 use Rattle.sixel_canvas.proofs.band_canvas.BandCanvasCanvas.block.Goals as goal
@@ -38,17 +38,23 @@ returns-clause-paid c = λ runs before.
     let few : c.args.len ≤ length c.args.sixels = omega (arith, long, c.requires.few) in
     let same_top : c.self.inside.top ≡ now.top =
     ap (λ (s : BandCanvasState). s.top) c.self.view_is ∙ c.in_ok-hold.ensures.top in
-    let held_cap = ap (λ (s : BandCanvasState). s.band.pixels.cap) c.self.view_is in
+    let held_cap = ap (λ (s : BandCanvasState). capacity s.band) c.self.view_is in
     let held_painted =
     ap (λ (s : BandCanvasState). s.band.painted) c.self.view_is ∙ c.in_ok-hold.ensures.painted in
     let held_reach =
     ap (λ (s : BandCanvasState). s.band.pixels.reach) c.self.view_is ∙ c.in_ok-hold.ensures.reach in
-    let cap : band.pixels.cap ≤ max now.band.pixels.cap (2 * right + 16) =
-    omega (arith, c.block.ensures.cap, held_cap, c.in_ok-hold.ensures.cap) in
+    let cap : capacity band ≤ max (capacity now.band) (2 * right + 16) =
+    omega (
+      arith,
+      c.block.ensures.cap,
+      c.block.ensures.tags_cap,
+      held_cap,
+      c.in_ok-hold.ensures.capacity,
+    ) in
     let painted : band.painted ≤ now.band.painted + 264 =
     omega (arith, c.block.ensures.painted, held_painted) in
     let reach : band.pixels.reach ≡ max now.band.pixels.reach right =
     omega (arith, c.block.ensures.reach, held_reach) in
-    rw same_top (paid-sixels now.band.pixels.cap band.pixels.cap now.band.painted band.painted
+    rw same_top (paid-sixels (capacity now.band) (capacity band) now.band.painted band.painted
     now.band.pixels.reach band.pixels.reach now.top c.args.from c.args.len c.args.sixels runs before
     c.requires.some few cap painted reach)

@@ -2,7 +2,7 @@ use Rattle.std.proofs.Common.{◌≡◌, ◌<◌, ◌≤◌, ◌+◌, ◌-◌, �
 use Rattle.std.proofs.Common.{length-append, arith, rules}
 use Rattle.std.specs.Prelude.{nat_lt, if◌then◌else◌}
 use Rattle.sixel_base.specs.Picture.{joined}
-use Rattle.sixel_base.proofs.Joined.{length-joined}
+use Rattle.sixel_base.proofs.PictureBytes.{length-joined}
 use Rattle.sixel_canvas.specs.Row.{RowState, reached_to, room_for, row_state}
 use Rattle.sixel_canvas.specs.inside.Pixels.{pixels_of}
 use Rattle.sixel_canvas.proofs.PixelLists.{length-pixels_of, pixels_of-added, room_for-enough}

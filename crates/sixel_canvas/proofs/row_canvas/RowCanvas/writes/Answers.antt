@@ -2,8 +2,9 @@ use Rattle.std.proofs.Common.{ap, arith}
 use Rattle.std.specs.List.{sum_by}
 use Rattle.std.proofs.lemmas.Grind.{common_steps}
 use Rattle.std.proofs.lemmas.List.Sums.{sum_by-take-le, sum_by_more_le}
+use Rattle.sixel_canvas.specs.inside.RowCanvas.{row_canvas_state}
 use Rattle.sixel_canvas.specs.inside.TaggedRow.{TaggedRowState}
-use Rattle.sixel_canvas.proofs.RowCosts.{writes_most}
+use Rattle.sixel_canvas.proofs.RowCosts.{few_tags, writes_most}
 use Rattle.sixel_canvas.proofs.row_canvas.RowCanvas.writes.Goals as goal
 
 pub overflow_add-writes : goal.overflow_add-writes
@@ -37,3 +38,10 @@ returns-clause-at_most c =
       c.counted.invariant,
       writes_most canvas.background canvas.rows.items c.self.invariant.few c.self.invariant.rows,
     )
+
+pub returns-clause-tags : goal.returns-clause-tags
+returns-clause-tags c =
+    let canvas = c.self.inside in
+    rw (← c.self.view_is) (few_tags
+    (row_canvas_state canvas.background canvas.rows.items canvas.top canvas.paints)
+    c.self.invariant.rows)

@@ -15,3 +15,4 @@ invariant-each l =
     × (l.self.pixels.reach ≡ l.fn.self.pixels.reach)
     × (l.self.tags.reach ≡ l.fn.self.tags.reach)
     × (l.self.painted ≡ l.fn.self.painted)
+    × (l.self.tags.cap ≡ l.fn.self.tags.cap)

@@ -1,7 +1,7 @@
 use Rattle.std.proofs.Common.{◌≡◌, ◌+◌, ◌*◌, ◌++◌, ℕ, min, sym, ap, ◌∙◌, append_assoc, arith}
 use Rattle.std.proofs.lemmas.List.{append-nil}
 use Rattle.sixel_base.specs.Picture.{joined}
-use Rattle.sixel_base.proofs.Joined.{joined-add}
+use Rattle.sixel_base.proofs.PictureBytes.{joined-add}
 use Rattle.sixel_canvas.specs.inside.TaggedRow.{tagged_pixel}
 use Rattle.sixel_canvas.proofs.tagged_row.TaggedRow.pack.Goals as goal
 

@@ -11,7 +11,7 @@ use Rattle.sixel_decoder.proofs.DcsChunks.{entered_refuses}
 use Rattle.sixel_decoder.proofs.dcs_parser.DcsParser.read_beginning.Goals as goal
 
 pub returns-in_err-start-clause-follows : goal.returns-in_err-start-clause-follows
-returns-in_err-start-clause-follows c = λ before head is.
+returns-in_err-start-clause-follows g c = λ before head is.
     let e = c.in_err-start.field-0.0 in
     let refused = c.in_err-start.ensures.heads before (head_fine c.args.self.now.state head) is in
     let p = err_from_is_err_and c.from_residual.result c.from_residual.ensures.1 in
@@ -19,7 +19,7 @@ returns-in_err-start-clause-follows c = λ before head is.
     (stage (before ++ c.args.chunk.now)) refused)
 
 pub returns-in_err-fed-in-Payload-clause-follows : goal.returns-in_err-fed-in-Payload-clause-follows
-returns-in_err-fed-in-Payload-clause-follows c = λ before head is.
+returns-in_err-fed-in-Payload-clause-follows g c = λ before head is.
     let piece : List ℕ = c.args.chunk.now in
     let start = c.in_ok-start.start in
     let begun = c.in_ok-start.ensures.heads before (head_fine c.args.self.now.state head) is in
@@ -27,7 +27,7 @@ returns-in_err-fed-in-Payload-clause-follows c = λ before head is.
     heading c.args.self.now.state c.args.self.now.decoder c.args.self.now.ended before head is in
     let now : IsInPayload c.in-Payload.reader c.args.self.now.decoder c.read_head.new.self.ended
     (before ++ take start piece) =
-    subst (λ (w : DcsState).
+    subst (λ (w : DcsState _).
     HasFollowed w c.args.self.now.decoder c.read_head.new.self.ended (before ++ take start piece))
     c.in-Payload.is begun.2 in
     let refused =
@@ -40,7 +40,7 @@ returns-in_err-fed-in-Payload-clause-follows c = λ before head is.
     (rw c.tail.ensures at refused))
 
 pub returns-in_ok-fed-in-Payload-clause-follows : goal.returns-in_ok-fed-in-Payload-clause-follows
-returns-in_ok-fed-in-Payload-clause-follows c = λ before head is.
+returns-in_ok-fed-in-Payload-clause-follows g c = λ before head is.
     let piece : List ℕ = c.args.chunk.now in
     let start = c.in_ok-start.start in
     let begun = c.in_ok-start.ensures.heads before (head_fine c.args.self.now.state head) is in
@@ -48,7 +48,7 @@ returns-in_ok-fed-in-Payload-clause-follows c = λ before head is.
     heading c.args.self.now.state c.args.self.now.decoder c.args.self.now.ended before head is in
     let now : IsInPayload c.in-Payload.reader c.args.self.now.decoder c.read_head.new.self.ended
     (before ++ take start piece) =
-    subst (λ (w : DcsState).
+    subst (λ (w : DcsState _).
     HasFollowed w c.args.self.now.decoder c.read_head.new.self.ended (before ++ take start piece))
     c.in-Payload.is begun.2 in
     let unended : IsInPayload c.in-Payload.reader c.args.self.now.decoder None
@@ -59,13 +59,14 @@ returns-in_ok-fed-in-Payload-clause-follows c = λ before head is.
     let follows =
     c.in_ok-fed-in-Payload.ensures.follows c.args.self.now.decoder (before ++ take start piece)
     now in
-    entered_follows (states.Payload c.read_payload.new.reader) c.args.self.now.decoder
+    entered_follows {C = g.row.C.Denot}
+    (states.Payload c.read_payload.new.reader) c.args.self.now.decoder
     c.read_payload.new.ended before piece start _ _ begun.0 from.0
     (all_counted c.in-Payload.reader c.args.self.now.decoder (before ++ take start piece) unended)
     (rw c.tail.ensures at follows)
 
 pub returns-in_default-clause-follows : goal.returns-in_default-clause-follows
-returns-in_default-clause-follows c = λ before head is.
+returns-in_default-clause-follows g c = λ before head is.
     let begun = c.in_ok-start.ensures.heads before (head_fine c.args.self.now.state head) is in
     let from =
     heading c.args.self.now.state c.args.self.now.decoder c.args.self.now.ended before head is in

@@ -10,7 +10,7 @@ use Rattle.sixel_decoder.proofs.Terminators.{refused_stays, pieces_join, pieces_
 use Rattle.sixel_decoder.proofs.dcs_parser.DcsParser.read_head.Goals as goal
 
 pub head-init : goal.head-init
-head-init c = (
+head-init g c = (
   refl,
   refl,
   λ before fine followed.
@@ -22,7 +22,7 @@ head-init c = (
 )
 
 pub head-preserved : goal.head-preserved
-head-preserved c = (
+head-preserved g c = (
   c.in_ok-step.ensures.decoder ∙ c.head.invariant.0,
   c.in_ok-step.ensures.ended ∙ c.head.invariant.1,
   λ before fine followed.
@@ -43,7 +43,7 @@ head-preserved c = (
 )
 
 pub returns-then-not-is_head-clause-heads : goal.returns-then-not-is_head-clause-heads
-returns-then-not-is_head-clause-heads c = λ before fine followed.
+returns-then-not-is_head-clause-heads g c = λ before fine followed.
     let index = c.head.index in
     let at = c.head.self in
     let now = c.head.invariant.2 before fine followed in
@@ -55,7 +55,7 @@ returns-then-not-is_head-clause-heads c = λ before fine followed.
     (omega (arith, c.head-test.true), now.0, here, λ head. absurd (false≢true (sym payload ∙ head)))
 
 pub returns-clause-heads : goal.returns-clause-heads
-returns-clause-heads c = λ before fine followed.
+returns-clause-heads g c = λ before fine followed.
     let chunk = c.args.chunk.now in
     let at = c.head.self in
     let now = c.head.invariant.2 before fine followed in
@@ -74,7 +74,7 @@ returns-clause-heads c = λ before fine followed.
     )
 
 pub returns-in_err-step-clause-heads : goal.returns-in_err-step-clause-heads
-returns-in_err-step-clause-heads c = λ before fine followed.
+returns-in_err-step-clause-heads g c = λ before fine followed.
     let chunk = c.args.chunk.now in
     let index = c.head.index in
     let now = c.head.invariant.2 before fine followed in

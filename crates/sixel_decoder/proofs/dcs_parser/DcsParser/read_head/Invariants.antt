@@ -3,7 +3,7 @@ use Rattle.sixel_decoder.specs.inside.DcsParser.{HasFollowed, is_failed}
 use Rattle.sixel_decoder.proofs.dcs_parser.DcsParser.read_head.Given as goal
 
 abbrev pub invariant-head : goal.invariant-head
-invariant-head l =
+invariant-head g l =
     let old = l.initial.self in
     (l.self.decoder ≡ old.decoder) × (l.self.ended ≡ old.ended)
     × ((before : List ℕ) → is_failed old.state ≡ false

@@ -11,45 +11,45 @@ use Rattle.sixel_decoder.proofs.DcsHeaders.{header_goes_on, header_begins, heade
 use Rattle.sixel_decoder.proofs.dcs_parser.DcsParser.step.Goals as goal
 
 pub returns-in-27-clause-steps : goal.returns-in-27-clause-steps
-returns-in-27-clause-steps c = λ before head is.
+returns-in-27-clause-steps g c = λ before head is.
     let old = c.args.self.now in
     let it : (before ≡ []) × (old.ended ≡ None) =
-    subst (λ (p : DcsState). HasFollowed p old.decoder old.ended before) c.in-Start.is is in
+    subst (λ (p : DcsState _). HasFollowed p old.decoder old.ended before) c.in-Start.is is in
     rw (c.in-27.is, it.0) (refl, (refl, it.1))
 
 pub returns-in-144-clause-steps : goal.returns-in-144-clause-steps
-returns-in-144-clause-steps c = λ before head is.
+returns-in-144-clause-steps g c = λ before head is.
     let old = c.args.self.now in
     let it : (before ≡ []) × (old.ended ≡ None) =
-    subst (λ (p : DcsState). HasFollowed p old.decoder old.ended before) c.in-Start.is is in
+    subst (λ (p : DcsState _). HasFollowed p old.decoder old.ended before) c.in-Start.is is in
     let begun : IsInHeader c.new.result (144 ∷ []) =
     record { rest = []; entered = refl; going = refl; keeps = c.new.ensures } in
     rw (c.in-144.is, it.0) (refl, (begun, it.1))
 
 pub returns-in-80-clause-steps : goal.returns-in-80-clause-steps
-returns-in-80-clause-steps c = λ before head is.
+returns-in-80-clause-steps g c = λ before head is.
     let old = c.args.self.now in
     let it : (before ≡ 27 ∷ []) × (old.ended ≡ None) =
-    subst (λ (p : DcsState). HasFollowed p old.decoder old.ended before) c.in-Escape.is is in
+    subst (λ (p : DcsState _). HasFollowed p old.decoder old.ended before) c.in-Escape.is is in
     let begun : IsInHeader c.new-in-80.result (27 ∷ 80 ∷ []) =
     record { rest = []; entered = refl; going = refl; keeps = c.new-in-80.ensures } in
     rw (c.in-80.is, it.0) (refl, (begun, it.1))
 
 pub returns-in-Ok-None-clause-steps : goal.returns-in-Ok-None-clause-steps
-returns-in-Ok-None-clause-steps c = λ before head is.
+returns-in-Ok-None-clause-steps g c = λ before head is.
     let old = c.args.self.now in
     let it : IsInHeader c.in-Header.header before × (old.ended ≡ None) =
-    subst (λ (p : DcsState). HasFollowed p old.decoder old.ended before) c.in-Header.is is in
+    subst (λ (p : DcsState _). HasFollowed p old.decoder old.ended before) c.in-Header.is is in
     let stepped : (is_header c.args.byte ≡ true)
     × Keeps c.push.new.self.parameters (header_text it.0.rest ++ carrying (c.args.byte ∷ [])) =
     rw c.in-Ok-None.field-0-is at (c.in-Ok-None.ensures (header_text it.0.rest) it.0.keeps) in
     (refl, (header_goes_on c.in-Header.header _ before c.args.byte it.0 stepped.0 stepped.1, it.1))
 
 pub returns-in-Ok-Some-clause-steps : goal.returns-in-Ok-Some-clause-steps
-returns-in-Ok-Some-clause-steps c = λ before head is.
+returns-in-Ok-Some-clause-steps g c = λ before head is.
     let old = c.args.self.now in
     let it : IsInHeader c.in-Header.header before × (old.ended ≡ None) =
-    subst (λ (p : DcsState). HasFollowed p old.decoder old.ended before) c.in-Header.is is in
+    subst (λ (p : DcsState _). HasFollowed p old.decoder old.ended before) c.in-Header.is is in
     let stepped : (is_header c.args.byte ≡ false) × (c.args.byte ≡ 113)
     × (c.in-Ok-Some.settings ≡ settings_of (header_text it.0.rest)) =
     rw c.in-Ok-Some.field-0-is at (c.in-Ok-Some.ensures (header_text it.0.rest) it.0.keeps) in
@@ -76,9 +76,9 @@ returns-in-Ok-Some-clause-steps c = λ before head is.
     )
 
 pub returns-in-Err-clause-steps : goal.returns-in-Err-clause-steps
-returns-in-Err-clause-steps c = λ before head is.
+returns-in-Err-clause-steps g c = λ before head is.
     let old = c.args.self.now in
     let it : IsInHeader c.in-Header.header before × (old.ended ≡ None) =
-    subst (λ (p : DcsState). HasFollowed p old.decoder old.ended before) c.in-Header.is is in
+    subst (λ (p : DcsState _). HasFollowed p old.decoder old.ended before) c.in-Header.is is in
     let stepped = c.in-Err.ensures (header_text it.0.rest) it.0.keeps in
     header_refuses c.in-Err.error c.in-Header.header before c.args.byte it.0 stepped.0 stepped.1

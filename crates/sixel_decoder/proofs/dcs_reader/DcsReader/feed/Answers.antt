@@ -10,32 +10,32 @@ use Rattle.sixel_decoder.proofs.Sessions.{MatchBool-from_each, followed_sound, s
 use Rattle.sixel_decoder.proofs.Sessions.{string_refused_with, string_same, string_within}
 use Rattle.sixel_decoder.proofs.dcs_reader.DcsReader.feed.Goals as goal
 
--- a session that a feed did not reject was accepted before it
-accepted : (c : goal.In-Ok) → is_failed c.self.inside.parser.state ≡ false
-accepted c = false_from_ne_true (is_failed c.self.inside.parser.state) c.in-Ok.ensures.failed
-
 pub invariant_of-self : goal.invariant_of-self
-invariant_of-self c =
+invariant_of-self g c =
     let inside = c.self.inside in
+    let accepted : is_failed inside.parser.state ≡ false =
+    false_from_ne_true (is_failed inside.parser.state) c.in-Ok.ensures.failed in
     rw (c.extend.ensures, c.in-Ok.ensures.decoder)
-    (c.in-Ok.ensures.follows inside.log.bytes (accepted c) c.self.invariant).3
+    (c.in-Ok.ensures.follows inside.log.bytes accepted c.self.invariant).3
 
 pub returns-in-Ok : goal.returns-in-Ok
-returns-in-Ok c =
+returns-in-Ok g c =
     let inside = c.self.inside in
     let limit : ℕ = inside.parser.decoder.pixel_limit in
     let bytes : List ℕ = inside.log.bytes in
     let piece : List ℕ = c.args.chunk.now in
     let now : List ℕ = bytes ++ piece in
     let result : Result SixelDcsFeedResult SixelError = Ok c.in-Ok.fed in
-    let goes = c.in-Ok.ensures.follows bytes (accepted c) c.self.invariant in
+    let accepted : is_failed inside.parser.state ≡ false =
+    false_from_ne_true (is_failed inside.parser.state) c.in-Ok.ensures.failed in
+    let goes = c.in-Ok.ensures.follows bytes accepted c.self.invariant in
     let sound : is_failed inside.parser.state ≡ false → dcs_fault limit bytes ≡ None =
     followed_sound inside.parser.state inside.parser.decoder inside.parser.ended bytes
     c.self.invariant in
     record {
       start = rw (← c.self.view_is) c.in-Ok.ensures.decoder;
       bytes = rw (← c.self.view_is) c.extend.ensures;
-      ok = rw (← c.self.view_is) (accepted c, goes.2);
+      ok = rw (← c.self.view_is) (accepted, goes.2);
       err = search rules;
       faultless = rw (← c.self.view_is, c.extend.ensures) goes.4;
       sound = rw (← c.self.view_is) sound;
@@ -51,7 +51,7 @@ returns-in-Ok c =
     }
 
 pub returns-in-Err : goal.returns-in-Err
-returns-in-Err c =
+returns-in-Err g c =
     let inside = c.self.inside in
     let error : SixelError = c.in-Err.error in
     let limit : ℕ = inside.parser.decoder.pixel_limit in
@@ -86,4 +86,4 @@ returns-in-Err c =
     }
 
 pub invariant_of-self-in-Err : goal.invariant_of-self-in-Err
-invariant_of-self-in-Err c = rw c.fail.ensures tt
+invariant_of-self-in-Err g c = rw c.fail.ensures tt

@@ -13,34 +13,25 @@ use Rattle.sixel_decoder.proofs.Sessions.{string_decoded, string_ended, string_i
 use Rattle.sixel_decoder.proofs.Sessions.{string_refused_at_end, string_registers}
 use Rattle.sixel_decoder.proofs.dcs_reader.DcsReader.finish.Goals as goal
 
--- the string is in its payload
-in_payload : (c : goal.After-finish) → IsInPayload c.in-Payload.reader c.self.inside.parser.decoder
-    c.self.inside.parser.ended c.self.inside.log.bytes
-in_payload c =
-    let inside = c.self.inside in
-    subst
-    (λ (p : DcsState). HasFollowed p inside.parser.decoder inside.parser.ended inside.log.bytes)
-    c.in-Payload.is c.self.invariant
-
--- and its end has come
-come : (c : goal.After-finish) → has_come c.self.inside.parser.ended ≡ true
-come c = sym c.has_come.ensures ∙ c.if-has_come.true
-
 pub returns-then-has_come : goal.returns-then-has_come
-returns-then-has_come c =
+returns-then-has_come g c =
     let inside = c.self.inside in
     let reader = c.in-Payload.reader in
-    let is = in_payload c in
     let result = c.finish.result in
     let told = c.finish.ensures in
     let bytes : List ℕ = inside.log.bytes in
+    let is : IsInPayload reader inside.parser.decoder inside.parser.ended bytes =
+    subst (λ (p : DcsState _). HasFollowed p inside.parser.decoder inside.parser.ended bytes)
+    c.in-Payload.is c.self.invariant in
+    let come : has_come inside.parser.ended ≡ true =
+    sym c.has_come.ensures ∙ c.if-has_come.true in
     let limit : ℕ = inside.parser.decoder.pixel_limit in
     let same : found_fault limit (found bytes)
     ≡ payload_fault reader.origin.pixel_limit reader.bytes =
     ap (found_fault limit) (found_reading bytes reader.origin.settings reader.bytes is.reading)
     ∙ ap (λ (o : Origin). payload_fault o.pixel_limit reader.bytes) (sym is.start) in
     let over : has_ended (dcs_status bytes) ≡ true =
-    string_ended reader inside.parser.decoder inside.parser.ended bytes is ∙ come c in
+    string_ended reader inside.parser.decoder inside.parser.ended bytes is ∙ come in
     record {
       image = rw (← c.self.view_is) (string_image result reader _ _ _ is told.image);
       registers = rw (← c.self.view_is)
@@ -49,7 +40,7 @@ returns-then-has_come c =
       found_registers = rw (← c.self.view_is)
           (found_registers result reader _ _ _ is told.registers);
       as_decoded = λ more. rw (← c.self.view_is)
-          (string_decoded result reader _ _ _ more is (come c)
+          (string_decoded result reader _ _ _ more is come
           told.faultless told.image told.registers);
       area = rw (← c.self.view_is)
           (subst (λ (o : Origin). IfOk result (λ it. it.width * it.height ≤ o.pixel_limit))
@@ -60,16 +51,16 @@ returns-then-has_come c =
           (subst (λ (b : Bool). OnOk result (b ≡ false)) is.accepted told.accepted);
       ended = rw (← c.self.view_is) (on_ok_weaker result (λ _. over) told.accepted);
       error = rw (← c.self.view_is, c.in-Payload.is)
-          (string_refused_at_end result reader _ _ _ is (come c) told.error);
+          (string_refused_at_end result reader _ _ _ is come told.error);
     }
 
 pub returns-else-has_come : goal.returns-else-has_come
-returns-else-has_come c =
+returns-else-has_come g c =
     let inside = c.self.inside in
     let reader = c.in-Payload.reader in
     let bytes : List ℕ = inside.log.bytes in
     let is : IsInPayload reader inside.parser.decoder inside.parser.ended bytes =
-    subst (λ (p : DcsState). HasFollowed p inside.parser.decoder inside.parser.ended bytes)
+    subst (λ (p : DcsState _). HasFollowed p inside.parser.decoder inside.parser.ended bytes)
     c.in-Payload.is c.self.invariant in
     let waits : has_ended (dcs_status bytes) ≡ false =
     string_ended reader inside.parser.decoder inside.parser.ended bytes is

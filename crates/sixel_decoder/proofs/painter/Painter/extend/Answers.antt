@@ -2,7 +2,7 @@ use Rattle.std.proofs.Common.{refl, arith}
 use Rattle.sixel_decoder.proofs.painter.Painter.extend.Goals as goal
 
 pub returns-in-Ok : goal.returns-in-Ok
-returns-in-Ok c =
+returns-in-Ok g c =
     record {
       right = omega (arith, c.max-width.ensures, c.in-Ok.ensures.0);
       lower = omega (arith, c.max-height.ensures, c.in-Ok.ensures.1);
@@ -15,11 +15,10 @@ returns-in-Ok c =
       limit = refl;
       ratio = refl;
       color = refl;
-      span = refl;
-      across = refl;
-      down = refl;
+      repeat = refl;
+      column = refl;
       raster_height = refl;
     }
 
 pub returns-in-Err : goal.returns-in-Err
-returns-in-Err c = rw (← c.max-width.ensures, ← c.max-height.ensures) c.in-Err.ensures
+returns-in-Err g c = rw (← c.max-width.ensures, ← c.max-height.ensures) c.in-Err.ensures

@@ -4,23 +4,21 @@ use Rattle.sixel_base.specs.History.{Color}
 use Rattle.sixel_decoder.proofs.painter.Painter.select.Goals as goal
 
 pub returns-clause-shows : goal.returns-clause-shows
-returns-clause-shows c = λ o h text keeps shows.
+returns-clause-shows g c = λ o h text keeps shows.
     let named : c.min-register.result ≡ named_by text =
     grind (arith, keeps.valued 0 (omega arith)) in
     let defined : c.define.new.registers ≡ registers o.registers (Color text ∷ h) =
     rw (← named, ← shows.registers) (c.define.ensures text keeps) in
     record {
       pixels = shows.pixels;
-      reached = shows.reached;
       paid = shows.paid;
-      least = shows.least;
       registers = defined;
       color =
-          c.opaque-self.ensures
+          c.opaque-self.ensures.value
           ∙ ap (λ w. w ++ 255 ∷ []) (c.get-2.ensures.color ∙ rw (defined, named) refl);
-      span = shows.span;
-      across = shows.across;
-      down = shows.down;
+      repeat = shows.repeat;
+      column = shows.column;
+      top = shows.top;
       width = shows.width;
       height = shows.height;
       raster_height = shows.raster_height;

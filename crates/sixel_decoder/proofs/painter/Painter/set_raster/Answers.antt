@@ -1,26 +1,26 @@
 use Rattle.std.proofs.Common.{◌≡◌, ◌∙◌, arith, refl}
 use Rattle.sixel_base.specs.Fields.{field}
+use Rattle.sixel_decoder.specs.inside.Runs.{runs_of}
 use Rattle.sixel_decoder.proofs.RasterAttributes.{refused_raster, sound_raster}
 use Rattle.sixel_decoder.proofs.painter.Painter.set_raster.Goals as goal
 
 pub returns-in-Ok : goal.returns-in-Ok
-returns-in-Ok c = λ o h text keeps shows.
+returns-in-Ok g c = λ o h text keeps shows.
     let is = c.in-Ok.ensures in
     let new = c.extend.new.self in
+    let told = c.expect_width.ensures in
     let wide : c.get-wide.result ≡ field text 2 =
     c.get-wide.ensures ∙ keeps.valued 2 (omega arith) in
     let high : c.get-high.result ≡ field text 3 =
     c.get-high.ensures ∙ keeps.valued 3 (omega arith) in
     record {
-      pixels = λ column row. rw is.canvas (shows.pixels column row);
-      reached = λ row. rw is.canvas (shows.reached row);
-      paid = rw is.canvas shows.paid;
-      least = rw is.canvas shows.least;
+      pixels = λ column row. told.shown column row ∙ rw is.canvas (shows.pixels column row);
+      paid = told.paid (runs_of h) (rw is.canvas shows.paid);
       registers = is.registers ∙ shows.registers;
       color = is.color ∙ shows.color;
-      span = is.span ∙ shows.span;
-      across = is.across ∙ shows.across;
-      down = is.down ∙ shows.down;
+      repeat = is.repeat ∙ shows.repeat;
+      column = is.column ∙ shows.column;
+      top = told.top ∙ rw is.canvas shows.top;
       width = is.width ∙ rw (shows.width, wide) refl;
       height = is.height ∙ rw (shows.height, high) refl;
       raster_height =
@@ -36,7 +36,7 @@ returns-in-Ok c = λ o h text keeps shows.
     }
 
 pub returns-in-Err : goal.returns-in-Err
-returns-in-Err c = λ o h text keeps shows.
+returns-in-Err g c = λ o h text keeps shows.
     refused_raster c.in-Err.error o c.args.self.now h text _ _ shows
     (c.get-wide.ensures ∙ keeps.valued 2 (omega arith))
     (c.get-high.ensures ∙ keeps.valued 3 (omega arith)) c.in-Err.ensures

@@ -9,7 +9,7 @@ use Rattle.sixel_decoder.proofs.payload_parser.PayloadParser.feed.Goals.{
 }
 
 pub returns : goal.returns
-returns c = λ o h stands.
+returns g c = λ o h stands.
     let same : c.else-chunk-eq1.self ≡ c.args.self.now = elim c.else-chunk-eq1.branch [
       | else-chunk-eq1-via-then-chunk-eq1+else-try_byte w ↦
           w.self-is ∙ w.try_byte.ensures.left w.if-try_byte.false
@@ -18,4 +18,4 @@ returns c = λ o h stands.
     c.read_chunk.ensures o h (rw same stands)
 
 pub returns-then-try_byte : goal.returns-then-try_byte
-returns-then-try_byte c = grind (arith, common_steps)
+returns-then-try_byte g c = grind (arith, common_steps)

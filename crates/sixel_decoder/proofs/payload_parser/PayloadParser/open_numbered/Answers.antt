@@ -5,12 +5,12 @@ use Rattle.sixel_decoder.proofs.OpenCommands.{Stands-color, Stands-repeat}
 use Rattle.sixel_decoder.proofs.payload_parser.PayloadParser.open_numbered.Goals as goal
 
 pub returns-clause-stands : goal.returns-clause-stands
-returns-clause-stands c = λ o h shows.
+returns-clause-stands g c = λ o h shows.
     let bytes = c.args.bytes.now in
     let n = c.at_front-digits.result.len in
     let parameters = c.at_front-digits.result.parameters in
     let kept = c.at_front-digits.ensures in
-    let new : PayloadParser = record {
+    let new : PayloadParser _ g.C.Canvas = record {
       command = c.numbered-self.result;
       parameters = parameters;
       painter = c.args.self.now.painter;

@@ -5,14 +5,14 @@ use Rattle.sixel_decoder.proofs.ParserSteps.{stands_goes_on, refused_close}
 use Rattle.sixel_decoder.proofs.payload_parser.PayloadParser.push.Goals as goal
 
 pub returns-then-takes : goal.returns-then-takes
-returns-then-takes c = λ o h stands.
+returns-then-takes g c = λ o h stands.
     let goes : goes_on h c.args.byte ≡ true =
     sym (c.takes.ensures.takes o h stands) ∙ c.if-takes.true in
     stands_goes_on c.args.self.now.command o h c.args.self.now c.push.new.self c.args.byte goes
     stands c.push.ensures
 
 pub returns-in_err-close : goal.returns-in_err-close
-returns-in_err-close c = λ o h stands.
+returns-in_err-close g c = λ o h stands.
     let ends : goes_on h c.args.byte ≡ false =
     sym (c.takes.ensures.takes o h stands) ∙ c.if-takes.false in
     let p = err_from_is_err_and c.from_residual.result c.from_residual.ensures.1 in

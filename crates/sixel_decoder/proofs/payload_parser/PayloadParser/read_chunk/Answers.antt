@@ -30,17 +30,17 @@ numbered_printable byte (inr is) = (omega (arith, is), omega (arith, is))
 -- ---- a sixel
 
 pub draw_front-requires-clause-some : goal.draw_front-requires-clause-some
-draw_front-requires-clause-some c =
+draw_front-requires-clause-some g c =
     rw (c.tail.ensures, splits_at c.args.chunk.now c.bytes.index c.bytes-test.true) (omega arith)
 
 pub draw_front-requires-clause-sixel : goal.draw_front-requires-clause-sixel
-draw_front-requires-clause-sixel c =
+draw_front-requires-clause-sixel g c =
     let byte = get_or c.args.chunk.now c.bytes.index 0 in
     rw (c.tail.ensures, splits_at c.args.chunk.now c.bytes.index c.bytes-test.true)
     (sixel_from_test byte (sym c.is_sixel.ensures ∙ c.if-is_sixel.true))
 
 pub returns-in_err-close : goal.returns-in_err-close
-returns-in_err-close c = λ o h stands.
+returns-in_err-close g c = λ o h stands.
     let piece = c.args.chunk.now in
     let index = c.bytes.index in
     let byte = get_or piece index 0 in
@@ -54,7 +54,7 @@ returns-in_err-close c = λ o h stands.
     (c.in_err-close.ensures.drawn o r.now r.stands)))
 
 pub returns-in_err-drawn : goal.returns-in_err-drawn
-returns-in_err-drawn c = λ o h stands.
+returns-in_err-drawn g c = λ o h stands.
     let piece = c.args.chunk.now in
     let index = c.bytes.index in
     let byte = get_or piece index 0 in
@@ -74,13 +74,13 @@ returns-in_err-drawn c = λ o h stands.
     (first_ahead index piece c.tail.result.now c.tail.ensures) refused)))
 
 pub bytes-preserved-then-is_sixel : goal.bytes-preserved-then-is_sixel
-bytes-preserved-then-is_sixel c =
+bytes-preserved-then-is_sixel g c =
     let piece : List ℕ = c.args.chunk.now in
     let rest : List ℕ = c.tail.result.now in
     let drawn = c.in_ok-drawn.drawn in
     let is = c.in_ok-drawn.ensures in
     let closed = c.close.new.self in
-    let new : PayloadParser = record {
+    let new : PayloadParser _ g.C.Canvas = record {
       command = closed.command;
       parameters = closed.parameters;
       painter = c.draw_front.new.self;
@@ -104,17 +104,17 @@ bytes-preserved-then-is_sixel c =
 -- ---- a command with a number
 
 pub open_numbered-read-requires-clause-some : goal.open_numbered-read-requires-clause-some
-open_numbered-read-requires-clause-some c =
+open_numbered-read-requires-clause-some g c =
     rw (c.tail-then-is_numbered.ensures, splits_at c.args.chunk.now c.bytes.index c.bytes-test.true)
     (omega arith)
 
 pub open_numbered-read-requires-clause-numbered : goal.open_numbered-read-requires-clause-numbered
-open_numbered-read-requires-clause-numbered c =
+open_numbered-read-requires-clause-numbered g c =
     rw (c.tail-then-is_numbered.ensures, splits_at c.args.chunk.now c.bytes.index c.bytes-test.true)
     (c.is_numbered.ensures.bytes c.if-is_numbered.true)
 
 pub returns-in_err-close-2 : goal.returns-in_err-close-2
-returns-in_err-close-2 c = λ o h stands.
+returns-in_err-close-2 g c = λ o h stands.
     let piece = c.args.chunk.now in
     let index = c.bytes.index in
     let byte = get_or piece index 0 in
@@ -130,7 +130,7 @@ returns-in_err-close-2 c = λ o h stands.
     (c.in_err-close-2.ensures.drawn o r.now r.stands)))
 
 pub bytes-preserved-then-is_numbered : goal.bytes-preserved-then-is_numbered
-bytes-preserved-then-is_numbered c =
+bytes-preserved-then-is_numbered g c =
     let piece : List ℕ = c.args.chunk.now in
     let rest : List ℕ = c.tail-then-is_numbered.result.now in
     let read = c.open_numbered-read.result in
@@ -152,7 +152,7 @@ bytes-preserved-then-is_numbered c =
 -- ---- a terminator
 
 pub returns-in_err-close-3 : goal.returns-in_err-close-3
-returns-in_err-close-3 c = λ o h stands.
+returns-in_err-close-3 g c = λ o h stands.
     let piece = c.args.chunk.now in
     let index = c.bytes.index in
     let byte = get_or piece index 0 in
@@ -168,7 +168,7 @@ returns-in_err-close-3 c = λ o h stands.
     (c.in_err-close-3.ensures.drawn o _ read.1))
 
 pub returns-then-is_terminator : goal.returns-then-is_terminator
-returns-then-is_terminator c = λ o h stands.
+returns-then-is_terminator g c = λ o h stands.
     let piece = c.args.chunk.now in
     let index = c.bytes.index in
     let byte = get_or piece index 0 in
@@ -182,7 +182,7 @@ returns-then-is_terminator c = λ o h stands.
 -- ---- any other byte, and the end of the chunk
 
 pub returns-in_err-push : goal.returns-in_err-push
-returns-in_err-push c = λ o h stands.
+returns-in_err-push g c = λ o h stands.
     let piece = c.args.chunk.now in
     let index = c.bytes.index in
     let byte = get_or piece index 0 in
@@ -197,7 +197,7 @@ returns-in_err-push c = λ o h stands.
     (c.in_err-push.ensures o r.now r.stands))
 
 pub bytes-preserved : goal.bytes-preserved
-bytes-preserved c = (
+bytes-preserved g c = (
   omega (arith, c.bytes-test.true),
   λ o h stands.
       let piece = c.args.chunk.now in
@@ -221,7 +221,7 @@ bytes-preserved c = (
 )
 
 pub returns : goal.returns
-returns c = λ o h stands.
+returns g c = λ o h stands.
     feeds_whole o c.bytes.self h c.bytes.index c.args.chunk.now (omega (arith, c.bytes-test.false))
     (reads_whole o c.bytes.self h c.bytes.index c.args.chunk.now (omega (arith, c.bytes-test.false))
     (c.bytes.invariant.1 o h stands))

@@ -6,9 +6,9 @@ use Rattle.sixel_decoder.proofs.ChunkReads.{Reaches}
 use Rattle.sixel_decoder.proofs.payload_parser.PayloadParser.read_chunk.Given as goal
 
 abbrev pub invariant-bytes : goal.invariant-bytes
-invariant-bytes l =
+invariant-bytes g l =
     (l.index ≤ length l.chunk)
     × ((o : Origin) (h : History) → Stands o l.initial.self h → Reaches o l.self h l.index l.chunk)
 
 abbrev pub decreases-bytes : goal.decreases-bytes
-decreases-bytes l = length l.chunk - l.index
+decreases-bytes g l = length l.chunk - l.index

@@ -9,7 +9,7 @@ use Rattle.sixel_decoder.proofs.payload_parser.PayloadParser.try_sixel.Goals as 
 use Rattle.sixel_decoder.proofs.payload_parser.PayloadParser.try_sixel.Goals.{in-Ground, in-InColor}
 
 pub returns-clause-stands : goal.returns-clause-stands
-returns-clause-stands c = λ drawn o h stands.
+returns-clause-stands g c = λ drawn o h stands.
     let old = c.args.self.now in
     let now = c.match-self.self in
     let ground : now.command ≡ Ground = elim c.match-self.branch [

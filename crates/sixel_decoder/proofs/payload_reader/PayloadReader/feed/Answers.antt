@@ -47,16 +47,16 @@ fed_by old new chunk fed was sound goes faultless origin bytes now =
     }
 
 pub invariant_of-self : goal.invariant_of-self
-invariant_of-self c = rw c.in_default.is tt
+invariant_of-self g c = rw c.in_default.is tt
 
 pub invariant_of-self-in-Some-terminator : goal.invariant_of-self-in-Some-terminator
-invariant_of-self-in-Some-terminator c =
+invariant_of-self-in-Some-terminator g c =
     let inside = c.self.inside in
     let origin : Origin = (session_of inside).origin in
     let bytes : List ℕ = inside.log.bytes in
     let parser = c.in-Some.parser in
     let read : HasRead (Some parser) origin inside.terminator bytes =
-    subst (λ (w : Option PayloadParser). HasRead w origin inside.terminator bytes)
+    subst (λ (w : Option (PayloadParser _ _)). HasRead w origin inside.terminator bytes)
     c.in-Some.is c.self.invariant in
     let ended : HasRead (Some parser) origin (Some c.in-Some-terminator.byte) bytes =
     subst (λ (w : Option ℕ). HasRead (Some parser) origin w bytes) c.in-Some-terminator.is read in
@@ -64,7 +64,7 @@ invariant_of-self-in-Some-terminator c =
     (ended_reads origin parser bytes c.args.chunk.now c.in-Some-terminator.byte ended)
 
 pub returns-in-Some-terminator : goal.returns-in-Some-terminator
-returns-in-Some-terminator c =
+returns-in-Some-terminator g c =
     let inside = c.self.inside in
     let origin : Origin = (session_of inside).origin in
     let bytes : List ℕ = inside.log.bytes in
@@ -73,7 +73,7 @@ returns-in-Some-terminator c =
     let byte : ℕ = c.in-Some-terminator.byte in
     let fed : SixelFeedResult = record { consumed = 0; status = status_of (Some byte) } in
     let read : HasRead (Some parser) origin inside.terminator bytes =
-    subst (λ (w : Option PayloadParser). HasRead w origin inside.terminator bytes)
+    subst (λ (w : Option (PayloadParser _ _)). HasRead w origin inside.terminator bytes)
     c.in-Some.is c.self.invariant in
     let ended : HasRead (Some parser) origin (Some byte) bytes =
     subst (λ (w : Option ℕ). HasRead (Some parser) origin w bytes) c.in-Some-terminator.is read in
@@ -85,12 +85,12 @@ returns-in-Some-terminator c =
     c.extend.ensures refl)
 
 pub invariant_of-self-in-Ok : goal.invariant_of-self-in-Ok
-invariant_of-self-in-Ok c =
+invariant_of-self-in-Ok g c =
     let inside = c.self.inside in
     let origin : Origin = (session_of inside).origin in
     let bytes : List ℕ = inside.log.bytes in
     let read : HasRead (Some c.in-Some.parser) origin inside.terminator bytes =
-    subst (λ (w : Option PayloadParser). HasRead w origin inside.terminator bytes)
+    subst (λ (w : Option (PayloadParser _ _)). HasRead w origin inside.terminator bytes)
     c.in-Some.is c.self.invariant in
     let goes =
     open_goes_on (Ok c.in-Ok.fed) origin c.in-Some.parser c.feed.new.self inside.terminator bytes
@@ -101,12 +101,12 @@ invariant_of-self-in-Ok c =
     rw (c.extend.ensures, same) goes.2
 
 pub returns-in-Ok : goal.returns-in-Ok
-returns-in-Ok c =
+returns-in-Ok g c =
     let inside = c.self.inside in
     let origin : Origin = (session_of inside).origin in
     let bytes : List ℕ = inside.log.bytes in
     let read : HasRead (Some c.in-Some.parser) origin inside.terminator bytes =
-    subst (λ (w : Option PayloadParser). HasRead w origin inside.terminator bytes)
+    subst (λ (w : Option (PayloadParser _ _)). HasRead w origin inside.terminator bytes)
     c.in-Some.is c.self.invariant in
     let goes =
     open_goes_on (Ok c.in-Ok.fed) origin c.in-Some.parser c.feed.new.self inside.terminator bytes
@@ -120,7 +120,7 @@ returns-in-Ok c =
     refl c.extend.ensures refl)
 
 pub returns-in-Err : goal.returns-in-Err
-returns-in-Err c =
+returns-in-Err g c =
     let inside = c.self.inside in
     let origin : Origin = (session_of inside).origin in
     let limit : ℕ = origin.pixel_limit in
@@ -130,7 +130,7 @@ returns-in-Err c =
     let error : SixelError = c.in-Err.error in
     let fed : Result SixelFeedResult SixelError = Err error in
     let read : HasRead (Some c.in-Some.parser) origin inside.terminator bytes =
-    subst (λ (w : Option PayloadParser). HasRead w origin inside.terminator bytes)
+    subst (λ (w : Option (PayloadParser _ _)). HasRead w origin inside.terminator bytes)
     c.in-Some.is c.self.invariant in
     let grows : Bool = nat_lt (growths (settled bytes)) (growths (settled now)) in
     let told : Faults error grows (fed_fault limit now) =
@@ -158,4 +158,4 @@ returns-in-Err c =
     }
 
 pub invariant_of-self-in-Err : goal.invariant_of-self-in-Err
-invariant_of-self-in-Err c = rw c.drop_parser.ensures tt
+invariant_of-self-in-Err g c = rw c.drop_parser.ensures tt

@@ -43,11 +43,11 @@ finished_by (Err e) s accepted ends =
     }
 
 pub returns-in-Some : goal.returns-in-Some
-returns-in-Some c =
+returns-in-Some g c =
     let inside = c.self.inside in
     let origin : Origin = (session_of inside).origin in
     let read : HasRead (Some c.in-Some.parser) origin inside.terminator inside.log.bytes =
-    subst (λ (w : Option PayloadParser). HasRead w origin inside.terminator inside.log.bytes)
+    subst (λ (w : Option (PayloadParser _ _)). HasRead w origin inside.terminator inside.log.bytes)
     c.in-Some.is c.self.invariant in
     let ends = c.finish.ensures origin _ (is_some inside.terminator) read.1 in
     rw (← c.self.view_is)

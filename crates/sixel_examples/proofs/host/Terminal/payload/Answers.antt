@@ -1,4 +1,5 @@
-use Rattle.std.proofs.Common.{◌≡◌, ℕ, true, List, [], ◌∷◌, ◌++◌, length, arith, refl, ap, sym, ◌∙◌, subst, append_assoc, append-nil}
+use Rattle.std.proofs.Common.{◌≡◌, ℕ, true, List, [], ◌∷◌, ◌++◌, length, arith, refl, ap, sym}
+use Rattle.std.proofs.Common.{◌∙◌, subst, append_assoc, append-nil}
 use Rattle.std.specs.Prelude.{◌==◌}
 use Rattle.std.proofs.lemmas.Bool.Decides.{nat_tests}
 use Rattle.std.proofs.lemmas.List.{take-append-drop}
@@ -20,8 +21,11 @@ returns-in_err-feed-clause-refused c =
     let p = err_from_is_err_and c.from_residual.result c.from_residual.ensures.1 in
     let whole : fed ++ after ≡ c.args.bytes.now =
     rw (s.bytes (ap is_open now.form), c.split_at.ensures.front, c.split_at.ensures.back)
-    (append_assoc before _ _ ∙ (ap (λ w. before ++ w) (take-append-drop _ c.pieces.rest.now) ∙ now.bytes)) in
-    rw (p.1, p.2) (subst (λ (w : List ℕ). Faults told (payload_wants c.args.self.now.receiver.decoder.pixel_limit w) (payload_fault c.args.self.now.receiver.decoder.pixel_limit w)) whole
+    (append_assoc before _ _
+    ∙ (ap (λ w. before ++ w) (take-append-drop _ c.pieces.rest.now) ∙ now.bytes)) in
+    let limit = c.args.self.now.receiver.decoder.pixel_limit in
+    rw (p.1, p.2)
+    (subst (λ (w : List ℕ). Faults told (payload_wants limit w) (payload_fault limit w)) whole
     (rw now.start at (s.refused_for_good c.args.settings told after now.form refl now.accepted)))
 
 no_bytes : (bytes : List ℕ) → true ≡ (length bytes == 0) → bytes ≡ []
@@ -33,5 +37,6 @@ returns-clause-image c =
     let now = c.pieces.invariant in
     let none : c.pieces.rest.now ≡ [] = no_bytes c.pieces.rest.now c.pieces-test.ensures in
     let whole : c.pieces.self.receiver.image.bytes ≡ c.args.bytes.now =
-    sym (append-nil c.pieces.self.receiver.image.bytes) ∙ (ap (λ w. c.pieces.self.receiver.image.bytes ++ w) (sym none) ∙ now.bytes) in
+    sym (append-nil c.pieces.self.receiver.image.bytes)
+    ∙ (ap (λ w. c.pieces.self.receiver.image.bytes ++ w) (sym none) ∙ now.bytes) in
     rw (now.form, now.start, whole) at c.finish.ensures.image

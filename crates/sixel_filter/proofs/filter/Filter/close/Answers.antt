@@ -4,7 +4,8 @@ use Rattle.sixel_base.specs.OneShot.{found, IsDecodedAs}
 use Rattle.sixel_base.specs.declared.state.DecoderState.{DecoderState}
 use Rattle.icy_sixel.specs.ImageView.{image_value}
 use Rattle.icy_sixel.specs.Receiver.{Form, found_followed, end_fault, end_wants}
-use Rattle.sixel_filter.proofs.Leading.{on_ok, closed_shown, closed_refused}
+use Rattle.sixel_filter.proofs.OpenImages.{on_ok}
+use Rattle.sixel_filter.proofs.ClosedImages.{closed_shown, closed_refused}
 use Rattle.sixel_filter.proofs.filter.Filter.close.Goals as goal
 
 pub returns-in-Ok-clause-character : goal.returns-in-Ok-clause-character

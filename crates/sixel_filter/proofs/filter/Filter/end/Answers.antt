@@ -1,5 +1,6 @@
 use Rattle.std.proofs.Common.{[], refl}
-use Rattle.sixel_filter.proofs.Leading.{on_ok, ends_held, ends_image, ends_silent}
+use Rattle.sixel_filter.proofs.OpenImages.{on_ok}
+use Rattle.sixel_filter.proofs.FilterSteps.{ends_held, ends_image, ends_silent}
 use Rattle.sixel_filter.proofs.filter.Filter.end.Goals as goal
 
 pub returns-in-Header-clause-ends : goal.returns-in-Header-clause-ends

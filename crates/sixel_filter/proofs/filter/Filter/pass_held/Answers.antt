@@ -1,6 +1,6 @@
 use Rattle.std.proofs.Common.{◌≡◌, List, ℕ, ◌++◌, length, arith}
 use Rattle.std.specs.Prelude.{◌==◌, ◌&&◌, slice_index}
-use Rattle.sixel_filter.proofs.Leading.{writes_held}
+use Rattle.sixel_filter.proofs.OpenImages.{writes_held}
 use Rattle.sixel_filter.proofs.filter.Filter.pass_held.Goals as goal
 
 pub returns-in_err-extend_from_slice : goal.returns-in_err-extend_from_slice

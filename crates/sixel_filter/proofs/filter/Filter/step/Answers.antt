@@ -1,6 +1,6 @@
 use Rattle.std.proofs.Common.{ℕ, List, ◌++◌, drop, arith}
 use Rattle.sixel_filter.specs.inside.Standing.{Leads}
-use Rattle.sixel_filter.proofs.Leading.{one_byte, step_text, step_byte, step_some}
+use Rattle.sixel_filter.proofs.FilterSteps.{one_byte, step_text, step_byte, step_some}
 use Rattle.sixel_filter.proofs.filter.Filter.step.Goals as goal
 
 pub take_text-requires-clause-none : goal.take_text-requires-clause-none

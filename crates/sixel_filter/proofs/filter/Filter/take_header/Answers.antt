@@ -4,7 +4,8 @@ use Rattle.sixel_base.specs.Dcs.{dcs_in_payload, dcs_status}
 use Rattle.sixel_base.specs.declared.status.SixelDcsFeedStatus.TheVariants.{NeedMoreData}
 use Rattle.icy_sixel.specs.Receiver.{Form, Receiver, is_open, in_payload}
 use Rattle.sixel_filter.proofs.Header.{header_refused, header_done}
-use Rattle.sixel_filter.proofs.Leading.{on_ok, string_error, fed, header_lost}
+use Rattle.sixel_filter.proofs.OpenImages.{on_ok, string_error, fed}
+use Rattle.sixel_filter.proofs.FilterSteps.{header_lost}
 use Rattle.sixel_filter.proofs.filter.Filter.take_header.Goals as goal
 
 pub returns-in_err-pass_held-in-Err : goal.returns-in_err-pass_held-in-Err

@@ -11,10 +11,10 @@ use Rattle.icy_sixel.specs.Receiver.{Form, is_open, status}
 use Rattle.sixel_filter.specs.declared.filter.Filter.{Filter}
 use Rattle.sixel_filter.specs.Stream.{after_payload}
 use Rattle.sixel_filter.specs.inside.Standing.{Writes, leaves_escape}
-use Rattle.sixel_filter.proofs.Filtering.{stays_in}
-use Rattle.sixel_filter.proofs.Leading.{string_error, fed, refused_leads, sound_image}
-use Rattle.sixel_filter.proofs.Leading.{string_counted, last_of, leads_begun, leads_closed}
-use Rattle.sixel_filter.proofs.Leading.{follows_by, ended_leads}
+use Rattle.sixel_filter.proofs.ImageEnds.{stays_in}
+use Rattle.sixel_filter.proofs.OpenImages.{string_error, fed, leads_begun}
+use Rattle.sixel_filter.proofs.FilterSteps.{refused_leads, sound_image, string_counted, last_of}
+use Rattle.sixel_filter.proofs.FilterSteps.{leads_closed, follows_by, ended_leads}
 use Rattle.sixel_filter.proofs.filter.Filter.take_payload.Goals as goal
 
 pub returns-in_err-write_refusal-in-Err : goal.returns-in_err-write_refusal-in-Err

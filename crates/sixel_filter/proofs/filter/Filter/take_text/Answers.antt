@@ -1,6 +1,6 @@
 use Rattle.std.proofs.Common.{◌≡◌, false, arith}
 use Rattle.std.specs.Prelude.{◌==◌, ◌&&◌, ◌||◌, not}
-use Rattle.sixel_filter.proofs.Leading.{writes_byte, leads_text}
+use Rattle.sixel_filter.proofs.OpenImages.{writes_byte, leads_text}
 use Rattle.sixel_filter.proofs.filter.Filter.take_text.Goals as goal
 
 pub returns-in_err-begin : goal.returns-in_err-begin

@@ -1,0 +1,327 @@
+/* icysixel: a SIXEL encoder and a streaming decoder for C and C++, on x86-64 Linux.
+ *
+ *     icysixel handle = {0};
+ *     icysixel_new(&handle);
+ *     ..
+ *     icysixel_free(&handle);
+ *
+ * Handles. An `icysixel` is 16 bytes of the caller's memory, and refers to a decoder. A zeroed
+ * handle is valid and empty, and so is a handle after icysixel_free. Every function can be called
+ * on an empty handle. It returns ICYSIXEL_NO_HANDLE, or 0 if it returns no code. Do not copy a
+ * handle and do not write to its members. A handle can be moved to another address between calls.
+ *
+ * Ownership. icysixel_free frees all memory behind a handle. The library stores no pointer that the
+ * caller passes. It copies input, and it copies pixels and text to the caller's buffers. Only
+ * icysixel_take_pixels transfers a block of memory to the caller. A pointer to bytes may be null if
+ * their number is 0. Other pointers must not be null. The arguments of a call must not overlap.
+ *
+ * Threads. Different handles can be used by different threads at the same time, because the library
+ * has no global state. Calls on one handle must not overlap in time. No function is safe in a
+ * signal handler.
+ *
+ * Memory. The library allocates by rattle_alloc, rattle_realloc and rattle_dealloc. The archive
+ * defines these as weak symbols that call malloc, realloc and free. A program can define its own.
+ * If an allocation fails, the call returns ICYSIXEL_OUT_OF_MEMORY. No function aborts the process.
+ *
+ * Sizes are in bytes unless a comment names another unit. A pixel is four bytes: red, green, blue
+ * and alpha. Pixels are stored row by row from the top, and each row from the left. A stride is the
+ * number of bytes from the start of a row to the start of the next. A stride of 0 means 4 * width.
+ *
+ * Results. A function that returns uint32_t returns an enum icysixel_code. With ICYSIXEL_OK it has
+ * written to each output argument. With an error it leaves them unchanged, except for `wanted`.
+ */
+#ifndef ICYSIXEL_H
+#define ICYSIXEL_H
+
+#include <stddef.h>
+#include <stdint.h>
+
+#define ICYSIXEL_VERSION_MAJOR 0
+#define ICYSIXEL_VERSION_MINOR 7
+#define ICYSIXEL_VERSION_PATCH 0
+#define ICYSIXEL_VERSION "0.7.0"
+
+#ifdef __cplusplus
+extern "C" {
+#endif
+
+/* A decoder, or nothing. The members are private. */
+typedef struct {
+    uint8_t held;
+    void *state;
+} icysixel;
+
+/* The result of a feed. */
+typedef struct {
+    size_t consumed; /* bytes of the chunk that belong to the image; the caller parses the rest */
+    uint32_t status; /* an enum icysixel_status: what to do next */
+    uint8_t byte;    /* the control byte that ended the image early, or 0 */
+} icysixel_fed;
+
+/* A size in pixels. */
+typedef struct {
+    size_t width;
+    size_t height;
+} icysixel_size;
+
+/* The properties of an image, without its pixels. */
+typedef struct {
+    size_t width;          /* pixels in a row */
+    size_t height;         /* rows */
+    size_t bytes;          /* 4 * width * height, the size of all pixels with stride 0 */
+    uint16_t pixel_width;  /* the displayed width of a pixel: 1 */
+    uint16_t pixel_height; /* the displayed height of a pixel in the same unit: 1, 2, 3 or 5 */
+    uint8_t p1;            /* the DCS parameter P1 for this shape of a pixel: 9, 0, 3 or 2 */
+    uint8_t p2;            /* the background: 1 is transparent, 0 is the color of register 0 */
+} icysixel_shape;
+
+/* A color, one byte for each channel. */
+typedef struct {
+    uint8_t red;
+    uint8_t green;
+    uint8_t blue;
+} icysixel_color;
+
+/* A block of memory that the library has transferred to the caller. Zeros mean no block. */
+typedef struct {
+    uint8_t *data;
+    size_t length;   /* bytes in use */
+    size_t capacity; /* bytes allocated, with an alignment of 1 */
+} icysixel_bytes;
+
+/* The properties of a palette, without its colors. */
+typedef struct {
+    size_t colors;    /* number of entries */
+    size_t witnesses; /* number of entries plus one, or 0 if every opaque color is an entry */
+    uint32_t error;   /* the maximum squared distance of an opaque color to its nearest entry */
+} icysixel_palette;
+
+/* Result codes. */
+enum icysixel_code {
+    ICYSIXEL_OK = 0,
+    /* about the handle */
+    ICYSIXEL_NO_HANDLE = 1,  /* the handle is empty */
+    ICYSIXEL_NO_SESSION = 2, /* no image is open: begin one */
+    ICYSIXEL_NO_SIZE = 3,    /* the payload has not begun, or an earlier feed failed */
+    ICYSIXEL_NO_IMAGE = 4,   /* no image is stored */
+    ICYSIXEL_NO_TEXT = 5,    /* no text is stored */
+    /* about the caller's buffers */
+    ICYSIXEL_BUFFER_TOO_SMALL = 6, /* the buffer is smaller than `wanted` or the documented size */
+    ICYSIXEL_BAD_STRIDE = 7,       /* it is shorter than a row, or the rows overflow size_t */
+    /* about memory and sizes */
+    ICYSIXEL_OUT_OF_MEMORY = 8,
+    ICYSIXEL_OVERFLOW = 9,         /* a size overflows its type, as with too many new lines */
+    ICYSIXEL_BAD_DIMENSIONS = 10,  /* a size is zero, or above the limits of the format */
+    ICYSIXEL_BUFFER_MISMATCH = 11, /* the sizes need more pixels, or the last pixel is incomplete */
+    /* about SIXEL data */
+    ICYSIXEL_NO_SIXEL_DATA = 12,     /* the data do not begin with an introducer, ESC P or 0x90 */
+    ICYSIXEL_MALFORMED = 13,         /* a command breaks the grammar or a limit */
+    ICYSIXEL_TOO_LARGE = 14,         /* the image has more pixels than the decoder's limit */
+    ICYSIXEL_BAD_HEADER = 15,        /* the header has an invalid byte: another DCS sequence */
+    ICYSIXEL_MISSING_COMMAND = 16,   /* the data end in the header; from icysixel_decode only */
+    ICYSIXEL_INCOMPLETE = 17,        /* the DCS sequence has no terminator yet */
+    ICYSIXEL_STREAM_FAILED = 18,     /* an earlier feed of this payload failed */
+    ICYSIXEL_DCS_STREAM_FAILED = 19  /* an earlier feed of this sequence failed */
+};
+
+/* What to do after a feed. */
+enum icysixel_status {
+    ICYSIXEL_MORE = 0,       /* feed the next chunk */
+    ICYSIXEL_COMPLETE = 1,   /* the image has ended: finish */
+    ICYSIXEL_CANCELLED = 2,  /* CAN or SUB, in `byte`, ended it early: finish or abort */
+    ICYSIXEL_INTERRUPTED = 3 /* another control, in `byte`, ended it early: finish or abort */
+};
+
+/* -- Handles -- */
+
+/* Creates a decoder with default registers, no crop and a limit of 67,108,864 pixels. Whatever the
+ * handle contained is freed first. With ICYSIXEL_OUT_OF_MEMORY the handle is empty. */
+uint32_t icysixel_new(icysixel *handle);
+
+/* Frees the decoder and all that it stores, and empties the handle. */
+void icysixel_free(icysixel *handle);
+
+/* -- Streaming -- */
+
+/* Opens a DCS sequence, from its introducer to its terminator. It starts with the decoder's current
+ * registers, crop and limit. An open image is aborted. */
+uint32_t icysixel_begin(icysixel *handle);
+
+/* Opens a payload: the data between the `q` and the terminator of a DCS sequence. p1, p2 and grid
+ * are the parameters before the `q`. A number outside of 0 to 65535, as -1, means that the
+ * parameter is absent. An open image is aborted. */
+uint32_t icysixel_begin_payload(icysixel *handle, int32_t p1, int32_t p2, int32_t grid);
+
+/* Reads a chunk of the open image. A chunk can end anywhere, and chunk boundaries have no effect on
+ * the image. After the end of the image a feed consumes nothing and returns the same status again.
+ * The errors are ICYSIXEL_NO_SESSION if no image is open, those of the data so far, and
+ * ICYSIXEL_OUT_OF_MEMORY. After an error each feed and finish of the image returns
+ * ICYSIXEL_STREAM_FAILED for a payload and ICYSIXEL_DCS_STREAM_FAILED for a DCS sequence. */
+uint32_t icysixel_feed(icysixel *handle, const uint8_t *chunk, size_t length, icysixel_fed *fed);
+
+/* Returns 1 if an image is open: it was begun, and neither finished nor aborted. */
+uint8_t icysixel_is_receiving(icysixel *handle);
+
+/* Returns 1 if the payload of the open image has begun and no feed has failed. */
+uint8_t icysixel_in_payload(icysixel *handle);
+
+/* Writes the size of the open image so far. The errors are ICYSIXEL_NO_SESSION if no image is open,
+ * and ICYSIXEL_NO_SIZE before the payload and after an error. It does not allocate. */
+uint32_t icysixel_get_size_so_far(icysixel *handle, icysixel_size *size);
+
+/* Returns how many pixels were copied or filled so far to grow the open image. It is 0 if no image
+ * is open, and after an error. It is at most three times the area of the sixels so far. */
+uint64_t icysixel_get_canvas_writes(icysixel *handle);
+
+/* Returns how many pixels the sixels of the open image have painted so far, at most. It is 0 if no
+ * image is open, and after an error. It is at most three times the area of the sixels so far, and
+ * 4602 for each sixel. */
+uint64_t icysixel_get_canvas_paints(icysixel *handle);
+
+/* Closes the open image, stores it and writes its properties. It replaces an image that is stored.
+ * The decoder takes over the image's registers. The errors are those of icysixel_feed, and
+ * ICYSIXEL_INCOMPLETE for a DCS sequence without terminator. A payload can end anywhere. An error
+ * closes the image too. Then no image is stored and no register changes. */
+uint32_t icysixel_finish(icysixel *handle, icysixel_shape *shape);
+
+/* Aborts the open image, if there is one. The decoder is unchanged. */
+uint32_t icysixel_abort(icysixel *handle);
+
+/* -- Decoding in one call -- */
+
+/* Decodes the first DCS sequence in the bytes, or all of them as a payload if there is none. It
+ * stores the image and writes its properties, as icysixel_finish does. The sequence needs no
+ * terminator. The errors are those of the data and ICYSIXEL_OUT_OF_MEMORY. An open image is
+ * aborted. */
+uint32_t icysixel_decode(icysixel *handle, const uint8_t *bytes, size_t length,
+                         icysixel_shape *shape);
+
+/* Decodes one payload in the same way, with the parameters of icysixel_begin_payload. */
+uint32_t icysixel_decode_payload(icysixel *handle, const uint8_t *bytes, size_t length, int32_t p1,
+                                 int32_t p2, int32_t grid, icysixel_shape *shape);
+
+/* -- The stored image -- */
+
+/* Copies the pixels of the stored image to `buf` and releases the image. Row n starts at n *
+ * stride, and has 4 * width bytes. Bytes between rows are unchanged. `wanted` is the number of
+ * bytes needed, also with ICYSIXEL_BUFFER_TOO_SMALL. With another error it is 0. After an error the
+ * image is still stored. It does not allocate. */
+uint32_t icysixel_copy_pixels(icysixel *handle, uint8_t *buf, size_t size, size_t stride,
+                              size_t *wanted);
+
+/* Transfers the pixels of the stored image to the caller, with stride 0 and without a copy. The
+ * error is ICYSIXEL_NO_IMAGE. The call does not allocate, and does not free an earlier block in
+ * `pixels`. The block stays valid after icysixel_free. icysixel_free_bytes frees it, and so does
+ * free(pixels->data) with the default memory functions. */
+uint32_t icysixel_take_pixels(icysixel *handle, icysixel_bytes *pixels);
+
+/* Frees a block that the library has transferred, if there is one, and zeroes `bytes`. The caller
+ * may have written to its data, but not to `length` or `capacity`. */
+void icysixel_free_bytes(icysixel_bytes *bytes);
+
+/* Frees the stored image, and a stored text too. */
+uint32_t icysixel_discard_image(icysixel *handle);
+
+/* -- Registers and settings -- */
+
+/* Writes the color of a register, as the last finished image left it. */
+uint32_t icysixel_get_register(icysixel *handle, uint8_t number, icysixel_color *color);
+
+/* Sets the color of a register, for images that are begun afterwards. */
+uint32_t icysixel_set_register(icysixel *handle, uint8_t number, uint8_t red, uint8_t green,
+                               uint8_t blue);
+
+/* Writes the colors of the registers from `first` on to `colors`, which has `count` of them. All 256
+ * are icysixel_get_registers(&handle, 0, colors, 256). After register 255 it stops. */
+uint32_t icysixel_get_registers(icysixel *handle, uint8_t first, icysixel_color *colors,
+                                size_t count);
+
+/* Sets the registers from `first` on to `count` colors, for images that are begun afterwards. A
+ * terminal sets its palette by icysixel_set_registers(&handle, 0, palette, 16). Register 0 is the
+ * background of an opaque image. Colors that are left after register 255 have no effect. */
+uint32_t icysixel_set_registers(icysixel *handle, uint8_t first, const icysixel_color *colors,
+                                size_t count);
+
+/* Resets all registers to those of a new decoder, for images that are begun afterwards. */
+uint32_t icysixel_reset_registers(icysixel *handle);
+
+/* Returns 1 if images are cropped to the height in their raster attributes. */
+uint8_t icysixel_get_crop(icysixel *handle);
+
+/* Sets whether images that are begun afterwards are cropped: 0 is off, any other number is on. */
+uint32_t icysixel_set_crop(icysixel *handle, uint8_t on);
+
+/* Returns how many pixels an image can have, or 0 if the handle is empty. */
+size_t icysixel_get_limit(icysixel *handle);
+
+/* Sets how many pixels an image that is begun afterwards can have. 0 is taken as 1, and a number
+ * above 67,108,864 as 67,108,864. */
+uint32_t icysixel_set_limit(icysixel *handle, size_t pixels);
+
+/* -- Encoding -- */
+
+/* Encodes pixels as a DCS sequence, stores this text and writes its length. It replaces a text that
+ * is stored. p1 and p2 are the parameters of the DCS sequence, as in icysixel_begin_payload: the
+ * shape of a pixel and the background. A pixel with an alpha below 128 is transparent. The palette
+ * has at most max_colors entries, where a number below 2 is taken as 2 and one above 256 as 256.
+ * `length` is the number of bytes at `pixels`. They may continue after the last row. The errors, in
+ * this order, are:
+ *
+ * - ICYSIXEL_BAD_DIMENSIONS for a zero size;
+ * - ICYSIXEL_OVERFLOW if 4 * width * height overflows size_t;
+ * - ICYSIXEL_BAD_DIMENSIONS for a size above the limits of the format;
+ * - ICYSIXEL_BAD_STRIDE;
+ * - ICYSIXEL_BUFFER_MISMATCH if there are too few pixels;
+ * - ICYSIXEL_OUT_OF_MEMORY.
+ *
+ * After an error no text is stored. */
+uint32_t icysixel_encode(icysixel *handle, const uint8_t *pixels, size_t length, size_t stride,
+                         size_t width, size_t height, int32_t p1, int32_t p2, uint16_t max_colors,
+                         size_t *text_length);
+
+/* Copies the stored text to `buf` and releases it. It has no zero at its end. `wanted` is the
+ * length of the text, also with ICYSIXEL_BUFFER_TOO_SMALL. With another error it is 0. After an
+ * error the text is still stored. It does not allocate. */
+uint32_t icysixel_copy_text(icysixel *handle, uint8_t *buf, size_t size, size_t *wanted);
+
+/* -- Palettes -- */
+
+/* Chooses the palette of pixels as icysixel_encode does, with a certificate of its quality. It
+ * needs no handle.
+ *
+ * A pixel with an alpha of at least 128 is opaque. The palette has at most max_colors entries, with
+ * the bounds of icysixel_encode. If there are no more opaque colors than that, they are the
+ * entries. Otherwise the entries are chosen by a farthest-first traversal (Gonzalez). The first
+ * entry is the least opaque color by red, green and blue. Each next entry is the color that is
+ * farthest from its nearest entry so far, the least of these. A distance is the sum of the squared
+ * differences of the channels.
+ *
+ * `colors` receives the entries. `indices` receives one byte for each pixel: the index of its
+ * nearest entry, the first of these, and 0 for a transparent pixel. `witnesses` receives the
+ * certificate unless every opaque color is an entry: opaque colors, one more than there are
+ * entries, each two of them at least `error` apart. In any palette of that size two of them share
+ * an entry, so its error is at least a fourth of `error`.
+ *
+ * The capacities are in colors, and in bytes for the indices. The errors are
+ * ICYSIXEL_BUFFER_MISMATCH if `length` is no multiple of four, ICYSIXEL_OUT_OF_MEMORY, and
+ * ICYSIXEL_BUFFER_TOO_SMALL. A buffer is too small if `colors` has fewer than max_colors,
+ * `witnesses` fewer than max_colors + 1, or `indices` fewer than one byte for each pixel. What the
+ * palette does not fill is unchanged. */
+uint32_t icysixel_choose_palette(const uint8_t *pixels, size_t length, uint16_t max_colors,
+                                 icysixel_color *colors, size_t color_capacity,
+                                 icysixel_color *witnesses, size_t witness_capacity,
+                                 uint8_t *indices, size_t index_capacity,
+                                 icysixel_palette *palette);
+
+/* -- Errors -- */
+
+/* Writes a description of a result code in English to `buf`, and a zero after it. If both do not
+ * fit, it writes only a zero. Bytes after the zero are unchanged. Returns the length of the
+ * description without the zero. Any other number is described as "unknown code". */
+size_t icysixel_strerror(uint32_t code, char *buf, size_t size);
+
+#ifdef __cplusplus
+}
+#endif
+
+#endif

@@ -1,0 +1,87 @@
+use Rattle.std.proofs.Common.{◌≡◌, Some, ap, ◌∙◌, arith, rules}
+use Rattle.sixel_base.specs.Decoder.{origin_of}
+use Rattle.sixel_base.specs.Fault.{Faults}
+use Rattle.sixel_base.specs.Payload.{payload_fault, payload_image, payload_wants}
+use Rattle.icy_sixel.specs.ImageView.{image_value}
+use Rattle.icysixel.specs.Code.{settings_of}
+use Rattle.icysixel.proofs.Known.{found_known, result_known}
+use Rattle.icysixel.proofs.Stored.{of_stored}
+use Rattle.icysixel.proofs.once.icysixel_decode_payload.Goals as goal
+
+pub returns-then-not-is_held : goal.returns-then-not-is_held
+returns-then-not-is_held c = grind arith
+
+pub state-state-requires : goal.state-state-requires
+state-state-requires c = grind arith
+
+pub store_decoded-requires-clause-pixels : goal.store_decoded-requires-clause-pixels
+store_decoded-requires-clause-pixels c = grind arith
+
+pub store_decoded-requires-clause-known : goal.store_decoded-requires-clause-known
+store_decoded-requires-clause-known c =
+    let limit = c.replace_decoder-decoder.result.pixel_limit in
+    let wants = payload_wants limit c.args.bytes.now in
+    let fault = payload_fault limit c.args.bytes.now in
+    result_known c.decode_from_dcs-answer.result
+    (λ error. Faults error wants fault)
+    (λ error. found_known error wants fault)
+    c.decode_from_dcs-answer.ensures.decoded.refused
+
+pub returns-clause-held : goal.returns-clause-held
+returns-clause-held c = grind arith
+
+pub returns-clause-none : goal.returns-clause-none
+returns-clause-none c = grind arith
+
+pub returns-clause-dropped : goal.returns-clause-dropped
+returns-clause-dropped c = grind arith
+
+pub returns-clause-refused : goal.returns-clause-refused
+returns-clause-refused c = λ before is refused.
+    let same : c.replace_decoder-decoder.result ≡ before.receiver.decoder =
+    grind (arith, c.state-state.ensures.value) in
+    let decoded = c.decode_from_dcs-answer.ensures.decoded in
+    rw (← same) (c.store_decoded.ensures.code _ _ refused decoded.refused)
+
+pub returns-clause-closed : goal.returns-clause-closed
+returns-clause-closed c = grind arith
+
+pub returns-clause-found : goal.returns-clause-found
+returns-clause-found c = grind arith
+
+pub returns-clause-image : goal.returns-clause-image
+returns-clause-image c = λ before after image is is_now kept.
+    let same : c.replace_decoder-decoder.result ≡ before.receiver.decoder =
+    grind (arith, c.state-state.ensures.value) in
+    let now : c.store_decoded.new.self.image ≡ Some image = grind arith in
+    let settings : c.settings.result ≡ settings_of c.args.p1 c.args.p2 c.args.grid = search rules in
+    let bytes = c.args.bytes.now in
+    of_stored c.decode_from_dcs-answer.result c.store_decoded.new.self.image
+    (λ image.
+    image_value image
+    ≡ payload_image (origin_of c.replace_decoder-decoder.result c.settings.result) bytes)
+    c.decode_from_dcs-answer.ensures.decoded.image c.store_decoded.ensures.image
+    c.store_decoded.ensures.dropped image now
+    ∙ (ap (λ decoder. payload_image (origin_of decoder c.settings.result) bytes) same
+    ∙ ap (λ settings. payload_image (origin_of before.receiver.decoder settings) bytes) settings)
+
+pub returns-clause-shape : goal.returns-clause-shape
+returns-clause-shape c = grind arith
+
+pub returns-clause-registers : goal.returns-clause-registers
+returns-clause-registers c = grind arith
+
+pub returns-clause-faultless : goal.returns-clause-faultless
+returns-clause-faultless c = grind arith
+
+pub returns-clause-set : goal.returns-clause-set
+returns-clause-set c = grind arith
+
+pub returns-clause-text : goal.returns-clause-text
+returns-clause-text c = grind arith
+
+pub returns-clause-kept : goal.returns-clause-kept
+returns-clause-kept c = grind arith
+
+pub returns-clause-told : goal.returns-clause-told
+returns-clause-told c = grind arith

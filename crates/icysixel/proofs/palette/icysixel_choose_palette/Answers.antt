@@ -1,0 +1,112 @@
+use Rattle.std.proofs.Common.{length, ap, sym, ◌∙◌, arith}
+use Rattle.icysixel.proofs.Witnesses.{length-entries, length-witnesses}
+use Rattle.icysixel.proofs.palette.icysixel_choose_palette.Goals as goal
+
+pub returns-then-code : goal.returns-then-code
+returns-then-code c = grind arith
+
+pub write_choice-requires : goal.write_choice-requires
+write_choice-requires c =
+    let few = length-entries c.args.pixels.now c.args.max_colors _ c.in-Ok.ensures.palette in
+    let witnesses =
+    length-witnesses c.args.pixels.now c.args.max_colors _ _ c.in-Ok.ensures.palette
+    c.in-Ok.ensures.witnesses in
+    let done = c.if-code.false in
+    record {
+      colors = omega (arith, few, c.buffers_code-code.ensures.colors done);
+      witnesses = omega (arith, witnesses, c.buffers_code-code.ensures.witnesses done);
+      indices =
+          omega (arith, c.in-Ok.ensures.indices.one_each, c.buffers_code-code.ensures.indices done);
+    }
+
+pub returns-in-Ok-clause-mismatch : goal.returns-in-Ok-clause-mismatch
+returns-in-Ok-clause-mismatch c = grind arith
+
+pub returns-in-Ok-clause-few_colors : goal.returns-in-Ok-clause-few_colors
+returns-in-Ok-clause-few_colors c = grind arith
+
+pub returns-in-Ok-clause-few_witnesses : goal.returns-in-Ok-clause-few_witnesses
+returns-in-Ok-clause-few_witnesses c = grind arith
+
+pub returns-in-Ok-clause-few_indices : goal.returns-in-Ok-clause-few_indices
+returns-in-Ok-clause-few_indices c = grind arith
+
+pub returns-in-Ok-clause-memory : goal.returns-in-Ok-clause-memory
+returns-in-Ok-clause-memory c = grind arith
+
+pub returns-in-Ok-clause-palette : goal.returns-in-Ok-clause-palette
+returns-in-Ok-clause-palette c = λ _. rw c.write_choice.ensures.colors c.in-Ok.ensures.palette
+
+pub returns-in-Ok-clause-indices : goal.returns-in-Ok-clause-indices
+returns-in-Ok-clause-indices c = λ _.
+    rw (
+      c.write_choice.ensures.colors,
+      ← c.in-Ok.ensures.indices.one_each,
+      c.write_choice.ensures.indices,
+    ) c.in-Ok.ensures.indices
+
+pub returns-in-Ok-clause-indices_after : goal.returns-in-Ok-clause-indices_after
+returns-in-Ok-clause-indices_after c = λ _.
+    rw (← c.in-Ok.ensures.indices.one_each) c.write_choice.ensures.indices_after
+
+pub returns-in-Ok-clause-error : goal.returns-in-Ok-clause-error
+returns-in-Ok-clause-error c = λ _.
+    rw (c.write_choice.ensures.colors, c.write_choice.ensures.error) c.in-Ok.ensures.error
+
+pub returns-in-Ok-clause-occur : goal.returns-in-Ok-clause-occur
+returns-in-Ok-clause-occur c = λ _. rw c.write_choice.ensures.colors c.in-Ok.ensures.occur
+
+pub returns-in-Ok-clause-complete : goal.returns-in-Ok-clause-complete
+returns-in-Ok-clause-complete c = λ n color _ size room shown.
+    rw c.write_choice.ensures.colors (c.in-Ok.ensures.complete n size room color shown)
+
+pub returns-in-Ok-clause-empty : goal.returns-in-Ok-clause-empty
+returns-in-Ok-clause-empty c = λ none _.
+    c.write_choice.ensures.color_count ∙ ap length (c.in-Ok.ensures.empty none)
+
+pub returns-in-Ok-clause-witnesses : goal.returns-in-Ok-clause-witnesses
+returns-in-Ok-clause-witnesses c = λ _.
+    rw (c.write_choice.ensures.colors, c.write_choice.ensures.witnesses) c.in-Ok.ensures.witnesses
+
+pub returns-in-Ok-clause-witnesses_occur : goal.returns-in-Ok-clause-witnesses_occur
+returns-in-Ok-clause-witnesses_occur c = λ _.
+    rw c.write_choice.ensures.witnesses c.in-Ok.ensures.witnesses_occur
+
+pub returns-in-Ok-clause-witnesses_apart : goal.returns-in-Ok-clause-witnesses_apart
+returns-in-Ok-clause-witnesses_apart c = λ _.
+    rw (c.write_choice.ensures.witnesses, c.write_choice.ensures.error)
+    c.in-Ok.ensures.witnesses_apart
+
+pub returns-in-Ok-clause-bound : goal.returns-in-Ok-clause-bound
+returns-in-Ok-clause-bound c = λ color _ shown.
+    rw (c.write_choice.ensures.color_count, c.write_choice.ensures.error)
+    (c.in-Ok.ensures.bound color shown)
+
+pub returns-in-Ok-clause-colors : goal.returns-in-Ok-clause-colors
+returns-in-Ok-clause-colors c = λ _.
+    ap length c.write_choice.ensures.colors ∙ sym c.write_choice.ensures.color_count
+
+pub returns-in-Ok-clause-witness_count : goal.returns-in-Ok-clause-witness_count
+returns-in-Ok-clause-witness_count c = λ _.
+    ap length c.write_choice.ensures.witnesses ∙ sym c.write_choice.ensures.witness_count
+
+pub returns-in-Ok-clause-colors_after : goal.returns-in-Ok-clause-colors_after
+returns-in-Ok-clause-colors_after c = λ _. c.write_choice.ensures.colors_after
+
+pub returns-in-Ok-clause-witnesses_after : goal.returns-in-Ok-clause-witnesses_after
+returns-in-Ok-clause-witnesses_after c = λ _. c.write_choice.ensures.witnesses_after
+
+pub returns-in-Ok-clause-no_colors : goal.returns-in-Ok-clause-no_colors
+returns-in-Ok-clause-no_colors c = grind arith
+
+pub returns-in-Ok-clause-no_witnesses : goal.returns-in-Ok-clause-no_witnesses
+returns-in-Ok-clause-no_witnesses c = grind arith
+
+pub returns-in-Ok-clause-no_indices : goal.returns-in-Ok-clause-no_indices
+returns-in-Ok-clause-no_indices c = grind arith
+
+pub returns-in-Ok-clause-told : goal.returns-in-Ok-clause-told
+returns-in-Ok-clause-told c = grind arith
+
+pub returns-in-Err : goal.returns-in-Err
+returns-in-Err c = grind arith

@@ -1,0 +1,86 @@
+-- The numbers that C receives: a code for each cause of an error, and the status of a feed. They
+-- are this library's own, and include/icysixel.h names them. 8 is out of memory, 9 an overflow, and
+-- the codes from 10 on are errors of sizes and data.
+use Rattle.std.specs.Prelude.{◌≡◌, ℕ, nat_le, ℤ, pos, negsuc, Bool, IsTrue, if◌then◌else◌, ◌⊎◌}
+use Rattle.std.specs.Prelude.{List, Option, Some, None, IsSomeAnd}
+use Rattle.sixel_base.specs.Fault.{Fault, text_of, Malformed, TooLarge, MissingCommand, BadHeader}
+use Rattle.sixel_base.specs.Fault.{StreamFailed, DcsStreamFailed, Incomplete, NoIntroducer}
+use Rattle.sixel_base.specs.Fault.{Overflow}
+use Rattle.sixel_base.specs.Settings.{Settings}
+use Rattle.sixel_base.specs.declared.error.SixelError.{SixelError}
+use Rattle.sixel_base.specs.declared.error.SixelError.TheVariants as error
+use Rattle.sixel_base.specs.declared.status.SixelFeedStatus.TheVariants as payload
+use Rattle.sixel_base.specs.declared.status.SixelDcsFeedStatus.TheVariants as string
+use Rattle.icy_sixel.specs.declared.script.Status.{Status}
+use Rattle.icy_sixel.specs.declared.script.Status.TheVariants.{Payload, Dcs}
+
+-- the code of a fault of data
+abbrev pub fault_code : Fault → ℕ
+fault_code Overflow = 9
+fault_code NoIntroducer = 12
+fault_code Malformed = 13
+fault_code TooLarge = 14
+fault_code BadHeader = 15
+fault_code MissingCommand = 16
+fault_code Incomplete = 17
+fault_code StreamFailed = 18
+fault_code DcsStreamFailed = 19
+
+-- a code that can be returned for a fault: its own, or out of memory if the call may allocate
+abbrev pub IsTold : ℕ → Bool → Option Fault → Type 0
+IsTold code may_want found =
+    ((code ≡ 8) × IsTrue may_want) ⊎ IsSomeAnd found (λ fault. code ≡ fault_code fault)
+
+-- the code of an error
+abbrev pub IsCodeOf : ℕ → SixelError → Type 0
+IsCodeOf code error.OutOfMemory = code ≡ 8
+IsCodeOf code error.IntegerOverflow = code ≡ 9
+IsCodeOf code (error.InvalidDimensions width height) = code ≡ 10
+IsCodeOf code (error.BufferSizeMismatch expected actual) = code ≡ 11
+IsCodeOf code error.NoSixelData = code ≡ 12
+IsCodeOf code (error.InvalidData text) =
+    (fault : Fault) → text_of fault ≡ Some text.now → code ≡ fault_code fault
+
+-- a text of an error of invalid data: that of a fault
+abbrev pub IsFaultText : List ℕ → Type 0
+IsFaultText text = (fault : Fault) × (text_of fault ≡ Some text)
+
+-- an error whose text, if it has one, is that of a fault
+abbrev pub IsKnown : SixelError → Type 0
+IsKnown error.OutOfMemory = Unit {0}
+IsKnown error.IntegerOverflow = Unit {0}
+IsKnown (error.InvalidDimensions width height) = Unit {0}
+IsKnown (error.BufferSizeMismatch expected actual) = Unit {0}
+IsKnown error.NoSixelData = Unit {0}
+IsKnown (error.InvalidData text) = IsFaultText text.now
+
+-- a parameter of a DCS sequence: a number outside of 0 to 65535 means an absent one
+abbrev pub given : ℤ → Option ℕ
+given (pos number) = if nat_le number 65535 then Some number else None
+given (negsuc below) = None
+
+-- the parameters that C passes
+abbrev pub settings_of : ℤ → ℤ → ℤ → Settings
+settings_of p1 p2 grid = record {
+  aspect_ratio = given p1;
+  zero_color = given p2;
+  grid_size = given grid;
+}
+
+-- 0 if the image needs more data, 1 if it is complete, 2 if it was cancelled, 3 if interrupted
+abbrev pub status_code : Status → ℕ
+status_code (Payload payload.NeedMoreData) = 0
+status_code (Payload (payload.Terminated byte)) = 1
+status_code (Dcs string.NeedMoreData) = 0
+status_code (Dcs string.Complete) = 1
+status_code (Dcs (string.Cancelled byte)) = 2
+status_code (Dcs (string.Interrupted byte)) = 3
+
+-- the control byte that ended it early, or 0
+abbrev pub status_byte : Status → ℕ
+status_byte (Payload payload.NeedMoreData) = 0
+status_byte (Payload (payload.Terminated byte)) = byte
+status_byte (Dcs string.NeedMoreData) = 0
+status_byte (Dcs string.Complete) = 0
+status_byte (Dcs (string.Cancelled byte)) = byte
+status_byte (Dcs (string.Interrupted byte)) = byte

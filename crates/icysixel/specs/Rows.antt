@@ -1,0 +1,35 @@
+-- The rows of an image in the caller's memory. A stride is the number of bytes from the start of a
+-- row to the start of the next.
+use Rattle.std.specs.Prelude.{ℕ, ◌+◌, ◌-◌, ◌*◌, ◌==◌, nat_lt, ◌||◌, if◌then◌else◌, List, Option}
+use Rattle.std.specs.Prelude.{Some, None, slice_range, ◌≡◌}
+use Rattle.sixel_base.specs.Payload.{Image}
+use Rattle.sixel_base.specs.Picture.{joined}
+
+-- the stride that C passes: 0 means rows without gaps
+abbrev pub stride_of : ℕ → ℕ → ℕ
+stride_of stride wide = if stride == 0 then wide else stride
+
+-- the number of bytes from the start of the first row to the end of the last
+abbrev pub extent : ℕ → ℕ → ℕ → ℕ
+extent stride wide height = stride * (height - 1) + wide
+
+-- the same, if a row fits its stride and the number fits a usize
+abbrev pub wanted : ℕ → ℕ → ℕ → Option ℕ
+wanted stride wide height =
+    if nat_lt stride wide || nat_lt 0xffff_ffff_ffff_ffff (extent stride wide height) then None
+    else Some (extent stride wide height)
+
+-- the rows, joined
+abbrev pub rows_of : ℕ → ℕ → ℕ → List ℕ → List ℕ
+rows_of stride wide height bytes =
+    joined (λ row. slice_range bytes (row * stride) (row * stride + wide)) height
+
+-- the number of bytes of the rows of an image at this stride
+abbrev pub bytes_of : ℕ → Image → Option ℕ
+bytes_of stride image = wanted (stride_of stride (4 * image.width)) (4 * image.width) image.height
+
+-- the gap after a row is unchanged
+abbrev pub AreGapsKept : ℕ → ℕ → ℕ → List ℕ → List ℕ → Type 0
+AreGapsKept stride wide row before after =
+    slice_range after (row * stride + wide) ((row + 1) * stride)
+    ≡ slice_range before (row * stride + wide) ((row + 1) * stride)

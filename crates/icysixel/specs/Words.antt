@@ -1,0 +1,26 @@
+-- The description of each code in English. Those of SIXEL data are the texts of its errors.
+use Rattle.std.specs.Prelude.{ℕ, ◌==◌, if◌then◌else◌, List, codes}
+
+abbrev pub words : ℕ → List ℕ
+words code =
+    if code == 0 then codes "success"
+    else if code == 1 then codes "the handle is empty"
+    else if code == 2 then codes "no image is open"
+    else if code == 3 then codes "the image has no size yet"
+    else if code == 4 then codes "no image is stored"
+    else if code == 5 then codes "no text is stored"
+    else if code == 6 then codes "the buffer is too small"
+    else if code == 7 then codes "the stride does not fit the rows"
+    else if code == 8 then codes "out of memory"
+    else if code == 9 then codes "integer overflow"
+    else if code == 10 then codes "invalid dimensions"
+    else if code == 11 then codes "buffer size mismatch"
+    else if code == 12 then codes "no SIXEL data found (missing DCS introducer)"
+    else if code == 13 then codes "malformed SIXEL data"
+    else if code == 14 then codes "image dimensions too large"
+    else if code == 15 then codes "invalid SIXEL DCS header"
+    else if code == 16 then codes "missing SIXEL DCS command"
+    else if code == 17 then codes "incomplete SIXEL DCS sequence"
+    else if code == 18 then codes "stream decoder has failed"
+    else if code == 19 then codes "DCS stream decoder has failed"
+    else codes "unknown code"

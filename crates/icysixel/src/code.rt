@@ -1,0 +1,121 @@
+//! The numbers that C receives: result codes and statuses of a feed.
+
+ghost use Rattle.std.specs.Prelude.{◌≡◌, ◌≢◌, Bool, Option, Some};
+ghost use Rattle.sixel_base.specs.Fault.{Fault, Faults, IsFault, text_of};
+ghost use Rattle.icysixel.specs.Code.{IsCodeOf, IsFaultText, IsKnown, IsTold, fault_code};
+ghost use Rattle.icysixel.specs.Code.{status_code, status_byte};
+
+use icy_sixel::script::Status;
+use icy_sixel::{SixelDcsFeedStatus, SixelError, SixelFeedStatus};
+use sixel_base::error;
+
+/// What a call returns to C: success, or why it failed.
+#[derive(Clone, Copy)]
+pub enum Code {
+    /// The call succeeded.
+    Success = 0,
+    /// The handle is empty.
+    NoHandle = 1,
+    /// No image is open.
+    NoSession = 2,
+    /// The open image has no size yet.
+    NoSize = 3,
+    /// No image is stored.
+    NoImage = 4,
+    /// No text is stored.
+    NoText = 5,
+    /// A buffer is too small.
+    BufferTooSmall = 6,
+    /// The stride is shorter than a row, or too large for the rows to be counted.
+    BadStride = 7,
+    /// An allocation failed.
+    OutOfMemory = 8,
+    /// A size does not fit its type.
+    Overflow = 9,
+    /// A size is zero, or above the limits of the format.
+    BadDimensions = 10,
+    /// There are too few pixels, or the last one is incomplete.
+    BufferMismatch = 11,
+    /// The data have no introducer.
+    NoSixelData = 12,
+    /// A command breaks the grammar or a limit.
+    Malformed = 13,
+    /// The image has more pixels than the limit.
+    TooLarge = 14,
+    /// The header has an invalid byte.
+    BadHeader = 15,
+    /// The DCS sequence ends in its header.
+    MissingCommand = 16,
+    /// The DCS sequence has not ended.
+    Incomplete = 17,
+    /// An earlier feed of the payload failed.
+    StreamFailed = 18,
+    /// An earlier feed of the DCS sequence failed.
+    DcsStreamFailed = 19,
+}
+
+/// The code of an error.
+pub fn code_of(error: &SixelError) -> u32
+    requires { IsKnown error.now }
+    ensures fault { (fault : Fault) → IsFault error.now fault → result ≡ fault_code fault }
+    ensures told { (may_want : Bool) (found : Option Fault) → Faults error.now may_want found
+        → IsTold result may_want found }
+    ensures code { IsCodeOf result error.now }
+    ensures memory { error.now ≡ SixelError.OutOfMemory → result ≡ 8 }
+    ensures refused { result ≢ 0 }
+{
+    match error {
+        SixelError::OutOfMemory => Code::OutOfMemory as u32,
+        SixelError::NoSixelData => Code::NoSixelData as u32,
+        SixelError::IntegerOverflow => Code::Overflow as u32,
+        SixelError::InvalidData(text) => text_code(text),
+        SixelError::InvalidDimensions { .. } => Code::BadDimensions as u32,
+        SixelError::BufferSizeMismatch { .. } => Code::BufferMismatch as u32,
+    }
+}
+
+/// The code of invalid data: one for each text that such an error can have.
+fn text_code(text: &str) -> u32
+    requires { IsFaultText text.now }
+    ensures fault { (fault : Fault) → text_of fault ≡ Some text.now → result ≡ fault_code fault }
+    ensures refused { result ≢ 0 }
+{
+    match text {
+        error::MALFORMED => Code::Malformed as u32,
+        error::TOO_LARGE => Code::TooLarge as u32,
+        error::BAD_HEADER => Code::BadHeader as u32,
+        error::MISSING_COMMAND => Code::MissingCommand as u32,
+        error::INCOMPLETE => Code::Incomplete as u32,
+        error::STREAM_FAILED => Code::StreamFailed as u32,
+        error::DCS_STREAM_FAILED => Code::DcsStreamFailed as u32,
+        _ => unreachable!(),
+    }
+}
+
+/// The number of a status: `icysixel_status` of the header.
+pub fn status_code(status: Status) -> u32
+    ensures { result ≡ status_code status }
+{
+    match status {
+        Status::Payload(SixelFeedStatus::NeedMoreData) => 0,
+        Status::Payload(SixelFeedStatus::Terminated(_)) => 1,
+        Status::Dcs(SixelDcsFeedStatus::NeedMoreData) => 0,
+        Status::Dcs(SixelDcsFeedStatus::Complete) => 1,
+        Status::Dcs(SixelDcsFeedStatus::Cancelled(_)) => 2,
+        Status::Dcs(SixelDcsFeedStatus::Interrupted(_)) => 3,
+    }
+}
+
+/// The control byte that ended an image early, or 0.
+pub fn status_byte(status: Status) -> u8
+    ensures { result ≡ status_byte status }
+{
+    match status {
+        Status::Payload(SixelFeedStatus::NeedMoreData) => 0,
+        Status::Payload(SixelFeedStatus::Terminated(byte)) => byte,
+        Status::Dcs(SixelDcsFeedStatus::NeedMoreData) => 0,
+        Status::Dcs(SixelDcsFeedStatus::Complete) => 0,
+        Status::Dcs(SixelDcsFeedStatus::Cancelled(byte)) => byte,
+        Status::Dcs(SixelDcsFeedStatus::Interrupted(byte)) => byte,
+    }
+}

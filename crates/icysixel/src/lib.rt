@@ -1,0 +1,24 @@
+//! The C library: the decoder and the encoder of `icy_sixel` behind a handle.
+//!
+//! `include/icysixel.h` documents it for C. A zeroed handle is valid and empty, so every function
+//! can be called on it, also after it was freed.
+#![tactic(auto)]
+
+mod bytes;
+mod code;
+mod handle;
+pub mod images;
+pub mod limits;
+pub mod once;
+pub mod palette;
+pub mod parameters;
+mod pixels;
+pub mod progress;
+pub mod registers;
+mod rows;
+pub mod sessions;
+pub mod shape;
+mod slot;
+mod state;
+pub mod texts;
+pub mod words;

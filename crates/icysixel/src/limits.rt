@@ -1,0 +1,79 @@
+//! The calls that read and set the crop and the limit of pixels.
+
+ghost use Rattle.std.specs.Prelude.{◌≡◌, ◌==◌, Some, None, is_some, true, not, cond};
+ghost use Rattle.sixel_base.specs.Decoder.{limit_of};
+ghost use Rattle.icysixel.specs.Kept.{AreKept};
+ghost use Rattle.icysixel.specs.declared.state.State.{State};
+
+use crate::code::Code;
+use crate::slot::Slot;
+
+/// Returns 1 if images are cropped to their raster attributes, and 0 if not.
+#[unsafe(no_mangle)]
+pub extern "C" fn icysixel_get_crop(slot: &mut Slot) -> u8
+    ensures same { slot.new.handle.state ≡ slot.old.handle.state }
+    ensures none { slot.old.handle.state ≡ None → result ≡ 0 }
+    ensures value { (state : State) → slot.old.handle.state ≡ Some state
+        → result ≡ cond state.receiver.decoder.raster_crop 1 0 }
+{
+    if !slot.is_held() {
+        return 0;
+    }
+    u8::from(slot.state().receiver.decoder().raster_crop())
+}
+
+/// Sets whether images are cropped to their raster attributes: 0 is off, other numbers are on.
+#[unsafe(no_mangle)]
+pub extern "C" fn icysixel_set_crop(slot: &mut Slot, on: u8) -> u32
+    ensures held { is_some slot.new.handle.state ≡ is_some slot.old.handle.state }
+    ensures none { slot.old.handle.state ≡ None → result ≡ 1 }
+    ensures done { is_some slot.old.handle.state ≡ true → result ≡ 0 }
+    ensures decoder { (before after : State) → slot.old.handle.state ≡ Some before
+        → slot.new.handle.state ≡ Some after → after.receiver.decoder
+        ≡ record before.receiver.decoder { raster_crop = not (on == 0) } }
+    ensures image { (before after : State) → slot.old.handle.state ≡ Some before
+        → slot.new.handle.state ≡ Some after → after.receiver.image ≡ before.receiver.image }
+    ensures kept { (before after : State) → slot.old.handle.state ≡ Some before
+        → slot.new.handle.state ≡ Some after → AreKept before after }
+{
+    if !slot.is_held() {
+        return Code::NoHandle as u32;
+    }
+    slot.state().receiver.set_raster_crop(on != 0);
+    Code::Success as u32
+}
+
+/// Returns how many pixels an image can have, or 0 if the handle is empty.
+#[unsafe(no_mangle)]
+pub extern "C" fn icysixel_get_limit(slot: &mut Slot) -> usize
+    ensures same { slot.new.handle.state ≡ slot.old.handle.state }
+    ensures none { slot.old.handle.state ≡ None → result ≡ 0 }
+    ensures value { (state : State) → slot.old.handle.state ≡ Some state
+        → result ≡ state.receiver.decoder.pixel_limit }
+{
+    if !slot.is_held() {
+        return 0;
+    }
+    slot.state().receiver.decoder().pixel_limit()
+}
+
+/// Sets how many pixels an image can have: at least 1, and at most 67,108,864.
+#[unsafe(no_mangle)]
+pub extern "C" fn icysixel_set_limit(slot: &mut Slot, pixels: usize) -> u32
+    ensures held { is_some slot.new.handle.state ≡ is_some slot.old.handle.state }
+    ensures none { slot.old.handle.state ≡ None → result ≡ 1 }
+    ensures done { is_some slot.old.handle.state ≡ true → result ≡ 0 }
+    ensures decoder { (before after : State) → slot.old.handle.state ≡ Some before
+        → slot.new.handle.state ≡ Some after → after.receiver.decoder
+        ≡ record before.receiver.decoder { pixel_limit = limit_of pixels } }
+    ensures image { (before after : State) → slot.old.handle.state ≡ Some before
+        → slot.new.handle.state ≡ Some after → after.receiver.image ≡ before.receiver.image }
+    ensures kept { (before after : State) → slot.old.handle.state ≡ Some before
+        → slot.new.handle.state ≡ Some after → AreKept before after }
+{
+    if !slot.is_held() {
+        return Code::NoHandle as u32;
+    }
+    slot.state().receiver.set_pixel_limit(pixels);
+    Code::Success as u32
+}

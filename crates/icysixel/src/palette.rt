@@ -1,0 +1,196 @@
+//! The call that chooses the palette of an image.
+
+ghost use Rattle.std.specs.Prelude.{◌≡◌, ◌≢◌, ◌+◌, ◌/◌, ◌%◌, ◌<◌, ◌≤◌, ℕ, List, []};
+ghost use Rattle.std.specs.Prelude.{All, Contains, drop, length, take};
+ghost use Rattle.sixel_palette.specs.Palette.{IsShown, HasSize, IsPalette, palette_room};
+ghost use Rattle.sixel_palette.specs.Palette.{AreIndices, IsError, AreWitnesses};
+ghost use Rattle.sixel_palette.specs.PaletteBound.{AreApart, NoListIsBetter};
+ghost use Rattle.icysixel.specs.Colors.{first_colors};
+
+use crate::code::{Code, code_of};
+use crate::registers::Color;
+use icy_sixel::{PaletteChoice, choose_palette};
+use std::alloc::Global;
+
+/// The properties of a palette, without its colors.
+#[repr(C)]
+#[derive(Clone, Copy)]
+pub struct Palette {
+    pub colors: usize,
+    pub witnesses: usize,
+    pub error: u32,
+}
+
+impl Palette {
+    /// The properties of a choice.
+    fn of(choice: &PaletteChoice) -> Palette
+        ensures colors { result.colors ≡ length choice.now.colors.items }
+        ensures witnesses { result.witnesses ≡ length choice.now.witnesses.items }
+        ensures error { result.error ≡ choice.now.error }
+    {
+        Palette {
+            colors: choice.colors.len(),
+            witnesses: choice.witnesses.len(),
+            error: choice.error,
+        }
+    }
+}
+
+/// Writes the palette of pixels, the certificate of its quality and the index of each pixel.
+#[unsafe(no_mangle)]
+pub extern "C" fn icysixel_choose_palette(
+    alloc: Global,
+    pixels: &[u8],
+    max_colors: u16,
+    colors: &mut [Color],
+    witnesses: &mut [Color],
+    indices: &mut [u8],
+    palette: &mut Palette,
+) -> u32
+    ensures mismatch { length pixels.now % 4 ≢ 0 → result ≡ 11 }
+    ensures few_colors { length pixels.now % 4 ≡ 0
+        → length colors.old < palette_room max_colors → result ≡ 6 }
+    ensures few_witnesses { length pixels.now % 4 ≡ 0
+        → length witnesses.old < palette_room max_colors + 1 → result ≡ 6 }
+    ensures few_indices { length pixels.now % 4 ≡ 0
+        → length indices.old < length pixels.now / 4 → result ≡ 6 }
+    ensures memory { length pixels.now % 4 ≡ 0
+        → palette_room max_colors ≤ length colors.old
+        → palette_room max_colors + 1 ≤ length witnesses.old
+        → length pixels.now / 4 ≤ length indices.old → result ≢ 0 → result ≡ 8 }
+
+    // The palette, the indices of the pixels, and its error.
+    ensures palette { result ≡ 0 → IsPalette pixels.now max_colors
+        (first_colors palette.new.colors colors.new) }
+    ensures indices { result ≡ 0 → AreIndices pixels.now
+        (first_colors palette.new.colors colors.new)
+        (take (length pixels.now / 4) indices.new) }
+    ensures error { result ≡ 0 → IsError (IsShown pixels.now)
+        (first_colors palette.new.colors colors.new) palette.new.error }
+
+    // If all shown colors fit, they are the entries.
+    ensures occur { result ≡ 0 → All (IsShown pixels.now)
+        (first_colors palette.new.colors colors.new) }
+    ensures complete { (n : ℕ) (c : List ℕ) → result ≡ 0 → HasSize (IsShown pixels.now) n
+        → n ≤ palette_room max_colors → IsShown pixels.now c
+        → Contains (first_colors palette.new.colors colors.new) c }
+    ensures empty { ((c : List ℕ) → ¬ IsShown pixels.now c) → result ≡ 0
+        → palette.new.colors ≡ 0 }
+
+    // The certificate.
+    ensures witnesses { result ≡ 0 → AreWitnesses (IsShown pixels.now)
+        (first_colors palette.new.colors colors.new)
+        (first_colors palette.new.witnesses witnesses.new) }
+    ensures witnesses_occur { result ≡ 0 → All (IsShown pixels.now)
+        (first_colors palette.new.witnesses witnesses.new) }
+    ensures witnesses_apart { result ≡ 0 → AreApart
+        (first_colors palette.new.witnesses witnesses.new) palette.new.error }
+    ensures bound { (c : List ℕ) → result ≡ 0 → IsShown pixels.now c
+        → NoListIsBetter (IsShown pixels.now) palette.new.colors palette.new.error }
+
+    // What is written to the buffers.
+    ensures colors { result ≡ 0
+        → length (first_colors palette.new.colors colors.new) ≡ palette.new.colors }
+    ensures witness_count { result ≡ 0
+        → length (first_colors palette.new.witnesses witnesses.new) ≡ palette.new.witnesses }
+    ensures colors_after { result ≡ 0
+        → drop palette.new.colors colors.new ≡ drop palette.new.colors colors.old }
+    ensures witnesses_after { result ≡ 0
+        → drop palette.new.witnesses witnesses.new ≡ drop palette.new.witnesses witnesses.old }
+    ensures indices_after { result ≡ 0 → drop (length pixels.now / 4) indices.new
+        ≡ drop (length pixels.now / 4) indices.old }
+    ensures no_colors { result ≢ 0 → colors.new ≡ colors.old }
+    ensures no_witnesses { result ≢ 0 → witnesses.new ≡ witnesses.old }
+    ensures no_indices { result ≢ 0 → indices.new ≡ indices.old }
+    ensures told { result ≢ 0 → palette.new ≡ palette.old }
+{
+    let bytes = pixels.len();
+    let code = buffers_code(
+        bytes,
+        max_colors,
+        colors.len(),
+        witnesses.len(),
+        indices.len(),
+    );
+    if code != Code::Success as u32 {
+        return code;
+    }
+    match choose_palette(alloc, pixels, max_colors) {
+        Ok(choice) => {
+            *palette = write_choice(&choice, colors, witnesses, indices);
+            Code::Success as u32
+        }
+        Err(error) => code_of(&error),
+    }
+}
+
+/// Success if these are whole pixels and the buffers are large enough, else the error.
+fn buffers_code(
+    bytes: usize,
+    max_colors: u16,
+    colors: usize,
+    witnesses: usize,
+    indices: usize,
+) -> u32
+    ensures mismatch { bytes % 4 ≢ 0 → result ≡ 11 }
+    ensures few_colors { bytes % 4 ≡ 0 → colors < palette_room max_colors → result ≡ 6 }
+    ensures few_witnesses { bytes % 4 ≡ 0 → witnesses < palette_room max_colors + 1
+        → result ≡ 6 }
+    ensures few_indices { bytes % 4 ≡ 0 → indices < bytes / 4 → result ≡ 6 }
+    ensures enough { bytes % 4 ≡ 0 → palette_room max_colors ≤ colors
+        → palette_room max_colors + 1 ≤ witnesses → bytes / 4 ≤ indices → result ≡ 0 }
+    ensures colors { result ≡ 0 → palette_room max_colors ≤ colors }
+    ensures witnesses { result ≡ 0 → palette_room max_colors + 1 ≤ witnesses }
+    ensures indices { result ≡ 0 → bytes / 4 ≤ indices }
+{
+    if bytes % 4 != 0 {
+        return Code::BufferMismatch as u32;
+    }
+    let capacity = usize::from(max_colors.clamp(2, 256));
+    if colors < capacity || witnesses < capacity + 1 || indices < bytes / 4 {
+        return Code::BufferTooSmall as u32;
+    }
+    Code::Success as u32
+}
+
+/// Writes a palette, its certificate and its indices to the starts of the buffers.
+fn write_choice(
+    choice: &PaletteChoice,
+    colors: &mut [Color],
+    witnesses: &mut [Color],
+    indices: &mut [u8],
+) -> Palette
+    requires colors { length choice.now.colors.items ≤ length colors.old }
+    requires witnesses { length choice.now.witnesses.items ≤ length witnesses.old }
+    requires indices { length choice.now.indices.items ≤ length indices.old }
+    ensures error { result.error ≡ choice.now.error }
+    ensures color_count { result.colors ≡ length choice.now.colors.items }
+    ensures colors { first_colors result.colors colors.new ≡ choice.now.colors.items }
+    ensures colors_after { drop result.colors colors.new ≡ drop result.colors colors.old }
+    ensures witness_count { result.witnesses ≡ length choice.now.witnesses.items }
+    ensures witnesses { first_colors result.witnesses witnesses.new
+        ≡ choice.now.witnesses.items }
+    ensures witnesses_after { drop result.witnesses witnesses.new
+        ≡ drop result.witnesses witnesses.old }
+    ensures indices { take (length choice.now.indices.items) indices.new
+        ≡ choice.now.indices.items }
+    ensures indices_after { drop (length choice.now.indices.items) indices.new
+        ≡ drop (length choice.now.indices.items) indices.old }
+{
+    write_colors(colors, &choice.colors);
+    write_colors(witnesses, &choice.witnesses);
+    indices[..choice.indices.len()].copy_from_slice(&choice.indices);
+    Palette::of(choice)
+}
+
+/// Writes colors to the start of a buffer.
+fn write_colors(buf: &mut [Color], colors: &[[u8; 3]])
+    requires { length colors.now ≤ length buf.old }
+    ensures colors { first_colors (length colors.now) buf.new ≡ colors.now }
+    ensures after { drop (length colors.now) buf.new ≡ drop (length colors.now) buf.old }
+{
+    for place in 0..colors.len() {
+        let [red, green, blue] = colors[place];
+        buf[place] = Color { red, green, blue };
+    }
+}

@@ -1,0 +1,131 @@
+//! The calls that report the progress of the open image.
+
+ghost use Rattle.std.specs.Prelude.{◌≡◌, ◌≢◌, ◌+◌, ◌*◌, ◌≤◌, Some, None, ℕ, true, false, cond};
+ghost use Rattle.icy_sixel.specs.Receiver.{in_payload, is_open, reached_area, sixels};
+ghost use Rattle.icy_sixel.specs.Receiver.{most_sixel_paints};
+ghost use Rattle.icy_sixel.specs.Receiver.{size as size_of};
+ghost use Rattle.icysixel.specs.declared.state.State.{State};
+
+use crate::code::Code;
+use crate::slot::Slot;
+
+/// A size in pixels.
+#[repr(C)]
+#[derive(Clone, Copy)]
+pub struct Size {
+    pub width: usize,
+    pub height: usize,
+}
+
+/// Returns 1 if an image is open, and 0 if not.
+#[unsafe(no_mangle)]
+pub extern "C" fn icysixel_is_receiving(slot: &mut Slot) -> u8
+    ensures same { slot.new.handle.state ≡ slot.old.handle.state }
+    ensures none { slot.old.handle.state ≡ None → result ≡ 0 }
+    ensures value { (state : State) → slot.old.handle.state ≡ Some state
+        → result ≡ cond (is_open state.receiver.image.form) 1 0 }
+{
+    if !slot.is_held() {
+        return 0;
+    }
+    u8::from(slot.state().receiver.is_receiving())
+}
+
+/// Returns 1 if the payload of the open image has begun and no feed has failed.
+#[unsafe(no_mangle)]
+pub extern "C" fn icysixel_in_payload(slot: &mut Slot) -> u8
+    ensures same { slot.new.handle.state ≡ slot.old.handle.state }
+    ensures none { slot.old.handle.state ≡ None → result ≡ 0 }
+    ensures accepted { (state : State) → slot.old.handle.state ≡ Some state
+        → state.receiver.image.is_refused ≡ false
+        → result ≡ cond (in_payload state.receiver.image.form state.receiver.image.bytes) 1 0 }
+    ensures refused { (state : State) → slot.old.handle.state ≡ Some state
+        → state.receiver.image.is_refused ≡ true → result ≡ 0 }
+{
+    if !slot.is_held() {
+        return 0;
+    }
+    u8::from(slot.state().receiver.in_payload())
+}
+
+/// Returns how many pixels were copied or filled to grow the open image, or 0 without one.
+#[unsafe(no_mangle)]
+pub extern "C" fn icysixel_get_canvas_writes(slot: &mut Slot) -> u64
+    ensures same { slot.new.handle.state ≡ slot.old.handle.state }
+    ensures none { slot.old.handle.state ≡ None → result ≡ 0 }
+    ensures value { (state : State) → slot.old.handle.state ≡ Some state
+        → result ≡ state.receiver.image.writes }
+    ensures at_most { (state : State) → slot.old.handle.state ≡ Some state
+        → result ≤ 3 * reached_area state.receiver.image.form state.receiver.image.bytes }
+    ensures refused { (state : State) → slot.old.handle.state ≡ Some state
+        → state.receiver.image.is_refused ≡ true → result ≡ 0 }
+{
+    if !slot.is_held() {
+        return 0;
+    }
+    slot.state().receiver.canvas_writes()
+}
+
+/// Returns how many pixels the sixels of the open image have painted at most, or 0 without one.
+#[unsafe(no_mangle)]
+pub extern "C" fn icysixel_get_canvas_paints(slot: &mut Slot) -> u64
+    ensures same { slot.new.handle.state ≡ slot.old.handle.state }
+    ensures none { slot.old.handle.state ≡ None → result ≡ 0 }
+    ensures value { (state : State) → slot.old.handle.state ≡ Some state
+        → result ≡ state.receiver.image.paints }
+    ensures at_most { (state : State) → slot.old.handle.state ≡ Some state
+        → result ≤ 3 * reached_area state.receiver.image.form state.receiver.image.bytes
+        + most_sixel_paints * sixels state.receiver.image.form state.receiver.image.bytes }
+    ensures refused { (state : State) → slot.old.handle.state ≡ Some state
+        → state.receiver.image.is_refused ≡ true → result ≡ 0 }
+{
+    if !slot.is_held() {
+        return 0;
+    }
+    slot.state().receiver.canvas_paints()
+}
+
+/// Writes the size of the open image so far.
+#[unsafe(no_mangle)]
+pub extern "C" fn icysixel_get_size_so_far(slot: &mut Slot, size: &mut Size) -> u32
+    ensures same { slot.new.handle.state ≡ slot.old.handle.state }
+    ensures none { slot.old.handle.state ≡ None → result ≡ 1 }
+    ensures closed { (state : State) → slot.old.handle.state ≡ Some state
+        → is_open state.receiver.image.form ≡ false → result ≡ 2 }
+    ensures refused { (state : State) → slot.old.handle.state ≡ Some state
+        → is_open state.receiver.image.form ≡ true → state.receiver.image.is_refused ≡ true
+        → result ≡ 3 }
+    ensures no_size { (state : State) → slot.old.handle.state ≡ Some state
+        → is_open state.receiver.image.form ≡ true → state.receiver.image.is_refused ≡ false
+        → size_of state.receiver.image.form state.receiver.image.bytes ≡ None → result ≡ 3 }
+    ensures size { (state : State) (width height : ℕ) → slot.old.handle.state ≡ Some state
+        → is_open state.receiver.image.form ≡ true → state.receiver.image.is_refused ≡ false
+        → size_of state.receiver.image.form state.receiver.image.bytes ≡ Some (width, height)
+        → (result ≡ 0) × (size.new ≡ record { width = width; height = height }) }
+    ensures told { result ≢ 0 → size.new ≡ size.old }
+{
+    if !slot.is_held() {
+        return Code::NoHandle as u32;
+    }
+    let receiver = &slot.state().receiver;
+    if !receiver.is_receiving() {
+        return Code::NoSession as u32;
+    }
+    write_size(receiver.size_so_far(), size)
+}
+
+/// Writes a size, if there is one.
+fn write_size(so_far: Option<(usize, usize)>, size: &mut Size) -> u32
+    ensures no_size { so_far ≡ None → result ≡ 3 }
+    ensures size { (width height : ℕ) → so_far ≡ Some (width, height)
+        → (result ≡ 0) × (size.new ≡ record { width = width; height = height }) }
+    ensures told { result ≢ 0 → size.new ≡ size.old }
+{
+    match so_far {
+        Some((width, height)) => {
+            *size = Size { width, height };
+            Code::Success as u32
+        }
+        None => Code::NoSize as u32,
+    }
+}

@@ -1,0 +1,151 @@
+//! The calls that read, set and reset the decoder's registers.
+
+ghost use Rattle.std.specs.Prelude.{◌≡◌, ◌≢◌, Some, None, is_some, true, [], ◌∷◌};
+ghost use Rattle.std.specs.Prelude.{drop, slice_index_or, slice_set};
+ghost use Rattle.sixel_base.specs.Color.{default_registers};
+ghost use Rattle.icy_sixel.specs.Registers.{with_colors};
+ghost use Rattle.icysixel.specs.Kept.{AreKept};
+ghost use Rattle.icysixel.specs.declared.state.State.{State};
+
+use crate::code::Code;
+use crate::slot::Slot;
+
+/// A color, one byte for each channel.
+#[repr(C)]
+#[derive(Clone, Copy)]
+pub struct Color {
+    pub red: u8,
+    pub green: u8,
+    pub blue: u8,
+}
+
+impl Color {
+    /// The color of these channels.
+    fn of(channels: [u8; 3]) -> Color
+        ensures color { channels ≡ result.red ∷ result.green ∷ result.blue ∷ [] }
+    {
+        let [red, green, blue] = channels;
+        Color { red, green, blue }
+    }
+}
+
+/// Writes the color of a register of the decoder.
+#[unsafe(no_mangle)]
+pub extern "C" fn icysixel_get_register(slot: &mut Slot, register: u8, color: &mut Color) -> u32
+    ensures same { slot.new.handle.state ≡ slot.old.handle.state }
+    ensures none { slot.old.handle.state ≡ None → result ≡ 1 }
+    ensures done { is_some slot.old.handle.state ≡ true → result ≡ 0 }
+    ensures color { (state : State) → slot.old.handle.state ≡ Some state
+        → slice_index_or state.receiver.decoder.registers register []
+        ≡ color.new.red ∷ color.new.green ∷ color.new.blue ∷ [] }
+    ensures told { result ≢ 0 → color.new ≡ color.old }
+{
+    if !slot.is_held() {
+        return Code::NoHandle as u32;
+    }
+    *color = Color::of(slot.state().receiver.register(register));
+    Code::Success as u32
+}
+
+/// Sets the color of a register of the decoder.
+#[unsafe(no_mangle)]
+pub extern "C" fn icysixel_set_register(
+    slot: &mut Slot,
+    register: u8,
+    red: u8,
+    green: u8,
+    blue: u8,
+) -> u32
+    ensures held { is_some slot.new.handle.state ≡ is_some slot.old.handle.state }
+    ensures none { slot.old.handle.state ≡ None → result ≡ 1 }
+    ensures done { is_some slot.old.handle.state ≡ true → result ≡ 0 }
+    ensures decoder { (before after : State) → slot.old.handle.state ≡ Some before
+        → slot.new.handle.state ≡ Some after → after.receiver.decoder
+        ≡ record before.receiver.decoder {
+          registers =
+              slice_set before.receiver.decoder.registers register (red ∷ green ∷ blue ∷ []);
+        } }
+    ensures image { (before after : State) → slot.old.handle.state ≡ Some before
+        → slot.new.handle.state ≡ Some after → after.receiver.image ≡ before.receiver.image }
+    ensures kept { (before after : State) → slot.old.handle.state ≡ Some before
+        → slot.new.handle.state ≡ Some after → AreKept before after }
+{
+    if !slot.is_held() {
+        return Code::NoHandle as u32;
+    }
+    slot.state()
+        .receiver
+        .set_register(register, [red, green, blue]);
+    Code::Success as u32
+}
+
+/// Writes the colors of the decoder's registers from `first` on, as far as both go.
+#[unsafe(no_mangle)]
+pub extern "C" fn icysixel_get_registers(slot: &mut Slot, first: u8, colors: &mut [[u8; 3]]) -> u32
+    ensures same { slot.new.handle.state ≡ slot.old.handle.state }
+    ensures none { slot.old.handle.state ≡ None → result ≡ 1 }
+    ensures done { is_some slot.old.handle.state ≡ true → result ≡ 0 }
+    ensures colors { (state : State) → slot.old.handle.state ≡ Some state
+        → colors.new ≡ with_colors colors.old 0 (drop first state.receiver.decoder.registers) }
+    ensures told { result ≢ 0 → colors.new ≡ colors.old }
+{
+    if !slot.is_held() {
+        return Code::NoHandle as u32;
+    }
+    let registers = slot.state().receiver.registers();
+    copy_colors(colors, registers.split_at(usize::from(first)).1);
+    Code::Success as u32
+}
+
+/// Copies colors to the start of a buffer, as far as both go.
+fn copy_colors(buf: &mut [[u8; 3]], colors: &[[u8; 3]])
+    ensures { buf.new ≡ with_colors buf.old 0 colors.now }
+{
+    for place in 0..colors.len().min(buf.len()) {
+        buf[place] = colors[place];
+    }
+}
+
+/// Sets the colors of the decoder's registers from `first` on.
+#[unsafe(no_mangle)]
+pub extern "C" fn icysixel_set_registers(slot: &mut Slot, first: u8, colors: &[[u8; 3]]) -> u32
+    ensures held { is_some slot.new.handle.state ≡ is_some slot.old.handle.state }
+    ensures none { slot.old.handle.state ≡ None → result ≡ 1 }
+    ensures done { is_some slot.old.handle.state ≡ true → result ≡ 0 }
+    ensures decoder { (before after : State) → slot.old.handle.state ≡ Some before
+        → slot.new.handle.state ≡ Some after → after.receiver.decoder
+        ≡ record before.receiver.decoder {
+          registers = with_colors before.receiver.decoder.registers first colors.now;
+        } }
+    ensures image { (before after : State) → slot.old.handle.state ≡ Some before
+        → slot.new.handle.state ≡ Some after → after.receiver.image ≡ before.receiver.image }
+    ensures kept { (before after : State) → slot.old.handle.state ≡ Some before
+        → slot.new.handle.state ≡ Some after → AreKept before after }
+{
+    if !slot.is_held() {
+        return Code::NoHandle as u32;
+    }
+    slot.state().receiver.set_registers(first, colors);
+    Code::Success as u32
+}
+
+/// Resets the decoder's registers to those of a new one.
+#[unsafe(no_mangle)]
+pub extern "C" fn icysixel_reset_registers(slot: &mut Slot) -> u32
+    ensures held { is_some slot.new.handle.state ≡ is_some slot.old.handle.state }
+    ensures none { slot.old.handle.state ≡ None → result ≡ 1 }
+    ensures done { is_some slot.old.handle.state ≡ true → result ≡ 0 }
+    ensures decoder { (before after : State) → slot.old.handle.state ≡ Some before
+        → slot.new.handle.state ≡ Some after → after.receiver.decoder
+        ≡ record before.receiver.decoder { registers = default_registers } }
+    ensures image { (before after : State) → slot.old.handle.state ≡ Some before
+        → slot.new.handle.state ≡ Some after → after.receiver.image ≡ before.receiver.image }
+    ensures kept { (before after : State) → slot.old.handle.state ≡ Some before
+        → slot.new.handle.state ≡ Some after → AreKept before after }
+{
+    if !slot.is_held() {
+        return Code::NoHandle as u32;
+    }
+    slot.state().receiver.reset_palette();
+    Code::Success as u32
+}

@@ -1,0 +1,176 @@
+//! The calls that create and free a decoder, and begin, feed and abort an image.
+
+ghost use Rattle.std.specs.Prelude.{◌≡◌, ◌≢◌, Some, None, is_some, true};
+ghost use Rattle.sixel_base.specs.Decoder.{new_decoder};
+ghost use Rattle.icy_sixel.specs.Receiver.{OfPayload, OfString, begun, no_image};
+ghost use Rattle.icysixel.specs.Code.{settings_of};
+ghost use Rattle.icysixel.specs.Code.{status_code as code_of_status};
+ghost use Rattle.icysixel.specs.Code.{status_byte as byte_of_status};
+ghost use Rattle.icysixel.specs.Feed.{IsFed};
+ghost use Rattle.icysixel.specs.Kept.{AreKept};
+ghost use Rattle.icysixel.specs.declared.state.State.{State};
+
+use crate::code::{Code, code_of, status_byte, status_code};
+use crate::parameters::settings;
+use crate::slot::Slot;
+use crate::state::State;
+use icy_sixel::Received;
+use std::alloc::Global;
+
+/// The result of a feed: consumed bytes, the status and the control byte that ended the image.
+#[repr(C)]
+#[derive(Clone, Copy)]
+pub struct Fed {
+    pub consumed: usize,
+    pub status: u32,
+    pub byte: u8,
+}
+
+impl Fed {
+    /// The result of a receiver's feed.
+    fn of(received: Received) -> Fed
+        ensures consumed { result.consumed ≡ received.consumed }
+        ensures status { result.status ≡ code_of_status received.status }
+        ensures byte { result.byte ≡ byte_of_status received.status }
+    {
+        Fed {
+            consumed: received.consumed,
+            status: status_code(received.status),
+            byte: status_byte(received.status),
+        }
+    }
+}
+
+/// Creates a decoder, and frees the one before.
+#[unsafe(no_mangle)]
+pub extern "C" fn icysixel_new(alloc: Global, slot: &mut Slot) -> u32
+    ensures codes { result ≢ 0 → result ≡ 8 }
+    ensures held { result ≡ 0 → is_some slot.new.handle.state ≡ true }
+    ensures made { (state : State) → slot.new.handle.state ≡ Some state
+        → state.receiver ≡ record { decoder = new_decoder; image = no_image } }
+    ensures no_image { (state : State) → slot.new.handle.state ≡ Some state
+        → state.image ≡ None }
+    ensures no_text { (state : State) → slot.new.handle.state ≡ Some state
+        → state.text ≡ None }
+    ensures refused { result ≢ 0 → slot.new.handle.state ≡ None }
+{
+    icysixel_free(alloc, slot);
+    let Some(state) = Box::new(alloc, State::new()).ok() else {
+        return Code::OutOfMemory as u32;
+    };
+    slot.put(state);
+    Code::Success as u32
+}
+
+/// Frees the decoder and all that it stores.
+#[unsafe(no_mangle)]
+pub extern "C" fn icysixel_free(alloc: Global, slot: &mut Slot)
+    ensures { slot.new.handle.state ≡ None }
+{
+    let _freed = slot.take(alloc);
+}
+
+/// Opens a DCS sequence. An open image is aborted.
+#[unsafe(no_mangle)]
+pub extern "C" fn icysixel_begin(alloc: Global, slot: &mut Slot) -> u32
+    ensures held { is_some slot.new.handle.state ≡ is_some slot.old.handle.state }
+    ensures none { slot.old.handle.state ≡ None → result ≡ 1 }
+    ensures done { is_some slot.old.handle.state ≡ true → result ≡ 0 }
+    ensures decoder { (before after : State) → slot.old.handle.state ≡ Some before
+        → slot.new.handle.state ≡ Some after
+        → after.receiver.decoder ≡ before.receiver.decoder }
+    ensures kept { (before after : State) → slot.old.handle.state ≡ Some before
+        → slot.new.handle.state ≡ Some after → AreKept before after }
+    ensures image { (before after : State) → slot.old.handle.state ≡ Some before
+        → slot.new.handle.state ≡ Some after
+        → after.receiver.image ≡ begun OfString before.receiver.decoder }
+{
+    if !slot.is_held() {
+        return Code::NoHandle as u32;
+    }
+    slot.state().receiver.begin_dcs(alloc);
+    Code::Success as u32
+}
+
+/// Opens a payload with these parameters. An open image is aborted.
+#[unsafe(no_mangle)]
+pub extern "C" fn icysixel_begin_payload(
+    alloc: Global,
+    slot: &mut Slot,
+    p1: i32,
+    p2: i32,
+    grid: i32,
+) -> u32
+    ensures held { is_some slot.new.handle.state ≡ is_some slot.old.handle.state }
+    ensures none { slot.old.handle.state ≡ None → result ≡ 1 }
+    ensures done { is_some slot.old.handle.state ≡ true → result ≡ 0 }
+    ensures decoder { (before after : State) → slot.old.handle.state ≡ Some before
+        → slot.new.handle.state ≡ Some after
+        → after.receiver.decoder ≡ before.receiver.decoder }
+    ensures kept { (before after : State) → slot.old.handle.state ≡ Some before
+        → slot.new.handle.state ≡ Some after → AreKept before after }
+    ensures image { (before after : State) → slot.old.handle.state ≡ Some before
+        → slot.new.handle.state ≡ Some after → after.receiver.image
+        ≡ begun (OfPayload (settings_of p1 p2 grid)) before.receiver.decoder }
+{
+    if !slot.is_held() {
+        return Code::NoHandle as u32;
+    }
+    let settings = settings(p1, p2, grid);
+    slot.state().receiver.begin_frame(alloc, settings);
+    Code::Success as u32
+}
+
+/// Reads a chunk of the open image and writes the result.
+#[unsafe(no_mangle)]
+pub extern "C" fn icysixel_feed(slot: &mut Slot, piece: &[u8], fed: &mut Fed) -> u32
+    ensures held { is_some slot.new.handle.state ≡ is_some slot.old.handle.state }
+    ensures none { slot.old.handle.state ≡ None → result ≡ 1 }
+    ensures fed { (before after : State) → slot.old.handle.state ≡ Some before
+        → slot.new.handle.state ≡ Some after
+        → IsFed before after piece.now fed.new result }
+    ensures told { result ≢ 0 → fed.new ≡ fed.old }
+{
+    if !slot.is_held() {
+        return Code::NoHandle as u32;
+    }
+    feed(slot.state(), piece, fed)
+}
+
+/// Reads a chunk of the image, if one is open, and writes the result.
+fn feed(state: &mut State, piece: &[u8], fed: &mut Fed) -> u32
+    ensures fed { IsFed state.old state.new piece.now fed.new result }
+    ensures told { result ≢ 0 → fed.new ≡ fed.old }
+{
+    if !state.receiver.is_receiving() {
+        return Code::NoSession as u32;
+    }
+    match state.receiver.feed(piece) {
+        Ok(received) => {
+            *fed = Fed::of(received);
+            Code::Success as u32
+        }
+        Err(error) => code_of(&error),
+    }
+}
+
+/// Aborts the open image, if there is one.
+#[unsafe(no_mangle)]
+pub extern "C" fn icysixel_abort(slot: &mut Slot) -> u32
+    ensures held { is_some slot.new.handle.state ≡ is_some slot.old.handle.state }
+    ensures none { slot.old.handle.state ≡ None → result ≡ 1 }
+    ensures done { is_some slot.old.handle.state ≡ true → result ≡ 0 }
+    ensures decoder { (before after : State) → slot.old.handle.state ≡ Some before
+        → slot.new.handle.state ≡ Some after
+        → after.receiver.decoder ≡ before.receiver.decoder }
+    ensures kept { (before after : State) → slot.old.handle.state ≡ Some before
+        → slot.new.handle.state ≡ Some after → AreKept before after }
+    ensures closed { (before after : State) → slot.old.handle.state ≡ Some before
+        → slot.new.handle.state ≡ Some after → after.receiver.image ≡ no_image }
+{
+    if !slot.is_held() {
+        return Code::NoHandle as u32;
+    }
+    slot.state().receiver.abort();
+    Code::Success as u32
+}

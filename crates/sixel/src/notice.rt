@@ -1,0 +1,61 @@
+//! Texts about the program itself, which need no input.
+
+ghost use Rattle.std.specs.Prelude.{IfSome, IfNone, ◌∷◌, []};
+ghost use Rattle.sixel.specs.Words.{IsNoticeFor, words_of};
+
+/// A text about the program.
+#[derive(Clone, Copy)]
+pub enum Notice {
+    /// What the program does, by its arguments.
+    Help,
+    /// Its name and its version.
+    Version,
+}
+
+impl Notice {
+    /// The notice that the arguments after the program's own name ask for, if they do.
+    pub fn asked(arguments: &[String]) -> Option<Self>
+        ensures asked { IfSome result (IsNoticeFor (words_of arguments.now)) }
+        ensures other { IfNone result ((notice : Notice)
+            → ¬ IsNoticeFor (words_of arguments.now) notice) }
+    {
+        match arguments {
+            [argument] => Self::named(argument),
+            _ => None,
+        }
+    }
+
+    /// The notice that one argument asks for.
+    fn named(argument: &str) -> Option<Self>
+        ensures asked { IfSome result (IsNoticeFor (argument.now ∷ [])) }
+        ensures other { IfNone result ((notice : Notice)
+            → ¬ IsNoticeFor (argument.now ∷ []) notice) }
+    {
+        match argument {
+            "--help" => Some(Self::Help),
+            "--version" => Some(Self::Version),
+            _ => None,
+        }
+    }
+
+    /// The text, which ends with a line end.
+    pub fn text(self) -> &'static str {
+        match self {
+            Self::Help => HELP,
+            Self::Version => "sixel 0.7.0\n",
+        }
+    }
+}
+
+/// The text of [`Notice::Help`].
+const HELP: &str = "\
+usage: sixel payload | decode | pam | frames N | encode W H K
+
+  payload       decode a payload, the data of a DCS sequence after its q
+  decode        decode the first DCS sequence, or all bytes as a payload
+  pam           the same, and write a PAM file
+  frames N      decode DCS sequences one after another, in chunks of N bytes
+  encode W H K  encode raw RGBA of W x H pixels in at most K colors
+
+Reads standard input and writes standard output. sixel(1) has the details.
+";

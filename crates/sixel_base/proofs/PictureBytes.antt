@@ -1,0 +1,40 @@
+-- The bytes of a picture: its pixels, joined row by row.
+use Rattle.std.proofs.Common.{◌≡◌, ℕ, zero, suc, ◌+◌, ◌*◌, ◌<◌, List, ◌++◌, length, refl, sym, ap}
+use Rattle.std.proofs.Common.{◌∙◌, append_assoc, append-nil, length-append, add-zero, add-suc}
+use Rattle.std.proofs.Common.{arith}
+use Rattle.sixel_base.specs.Picture.{joined}
+
+-- one more piece at the front
+pub joined-front : (f : ℕ → List ℕ) (n : ℕ) → joined f (suc n) ≡ f 0 ++ joined (λ k. f (suc k)) n
+unfolding joined
+joined-front f zero = sym (append-nil (f 0))
+joined-front f (suc n) =
+    ap (λ xs. xs ++ f (suc n)) (joined-front f n)
+    ∙ append_assoc (f 0) (joined (λ k. f (suc k)) n) (f (suc n))
+
+-- pieces that are equal one by one
+pub joined-same : (f g : ℕ → List ℕ) (n : ℕ) → ((k : ℕ) → k < n → f k ≡ g k)
+    → joined f n ≡ joined g n
+unfolding joined
+joined-same f g zero same = refl
+joined-same f g (suc n) same =
+    let front = joined-same f g n (λ k h. same k (omega arith)) in
+    let last = same n (omega arith) in
+    cc
+
+-- the pieces in two parts
+pub joined-add : (f : ℕ → List ℕ) (n m : ℕ)
+    → joined f (n + m) ≡ joined f n ++ joined (λ k. f (n + k)) m
+unfolding joined
+joined-add f n zero = rw add-zero (sym (append-nil (joined f n)))
+joined-add f n (suc m) =
+    rw add-suc (ap (λ xs. xs ++ f (n + m)) (joined-add f n m)
+    ∙ append_assoc (joined f n) (joined (λ k. f (n + k)) m) (f (n + m)))
+
+-- equally long pieces
+pub length-joined : (f : ℕ → List ℕ) (size n : ℕ) → ((k : ℕ) → length (f k) ≡ size)
+    → length (joined f n) ≡ size * n
+unfolding joined
+length-joined f size zero long = omega arith
+length-joined f size (suc n) long =
+    omega (arith, length-append (joined f n) (f n), length-joined f size n long, long n)

@@ -1,0 +1,29 @@
+use Rattle.std.proofs.Common.{ℕ, List, Option, Some, refl, subst}
+use Rattle.sixel_base.specs.Payload.{settled}
+use Rattle.sixel_base.specs.Stroke.{Origin}
+use Rattle.sixel_decoder.specs.declared.payload_parser.PayloadParser.{PayloadParser}
+use Rattle.sixel_decoder.specs.inside.PayloadReader.{session_of, HasRead}
+use Rattle.sixel_decoder.proofs.BandCosts.{band_cost}
+use Rattle.sixel_decoder.proofs.Chunks.{shown_settled}
+use Rattle.sixel_decoder.proofs.payload_reader.PayloadReader+BandCanvas.paints.Goals as goal
+
+pub returns : goal.returns
+returns c =
+    let inside = c.self.inside in
+    let origin : Origin = (session_of inside).origin in
+    let parser = c.in-Some.parser in
+    let canvas = parser.painter.canvas in
+    let bytes : List ℕ = inside.log.bytes in
+    let read : HasRead (Some parser) origin inside.terminator bytes =
+    subst (λ (w : Option (PayloadParser _ _)). HasRead w origin inside.terminator bytes)
+    c.in-Some.is c.self.invariant in
+    let shows = shown_settled origin parser inside.terminator bytes read in
+    let cost =
+    band_cost origin.pixel_limit canvas.band.pixels.cap canvas.band.painted
+    canvas.band.pixels.reach canvas.top (settled bytes) shows.faultless shows.paid in
+    rw (← c.self.view_is, c.in-Some.is, c.paints.ensures) (record {
+      value = refl;
+      at_most = cost.0;
+      room = cost.1;
+      refused = λ is. absurd cc;
+    })

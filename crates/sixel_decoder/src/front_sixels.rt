@@ -1,0 +1,65 @@
+//! The sixels at the front of bytes, which are drawn up to eight at a time.
+
+ghost use Rattle.std.specs.Prelude.{◌≡◌, ℕ, ◌-◌, ◌<◌, ◌≤◌, IsTrue, false, length, take};
+ghost use Rattle.std.specs.Prelude.{slice_index, slice_index_or};
+ghost use Rattle.sixel_decoder.specs.inside.Runs.{IsSixelByte, bits_of};
+
+use std::simd::prelude::*;
+
+/// How many bytes are compared at once.
+const LANES: usize = 8;
+
+/// Sixels of one column each: how many, and the bits of eight, blank past the last one.
+#[derive(Clone, Copy)]
+pub struct FrontSixels {
+    pub len: usize,
+    pub bits: [u8; 8],
+}
+
+impl FrontSixels {
+    /// Returns the sixels that the bytes begin with, at most eight.
+    #[inline(always)]
+    pub fn of(bytes: &[u8]) -> FrontSixels
+        requires { 8 ≤ length bytes.now }
+        ensures few { result.len ≤ 8 }
+        ensures sixels { (k : ℕ) → k < result.len → IsSixelByte (slice_index bytes.now k) }
+        ensures bits { take result.len result.bits ≡ bits_of (take result.len bytes.now) }
+        ensures blank { (k : ℕ) → result.len ≤ k → slice_index_or result.bits k 0 ≡ 0 }
+        ensures six { (k : ℕ) → slice_index_or result.bits k 0 < 64 }
+    {
+        let len = sixels_in_lanes(bytes);
+        let mut bits = [0; 8];
+        'bits: for k in 0..8 {
+            bits[k] = bits_if(k < len, bytes[k]);
+        }
+        FrontSixels { len, bits }
+    }
+}
+
+/// Returns how many of eight bytes are sixels, up to the first one that is none.
+#[inline(always)]
+fn sixels_in_lanes(bytes: &[u8]) -> usize
+    requires { 8 ≤ length bytes.now }
+    ensures few { result ≤ 8 }
+    ensures sixels { (k : ℕ) → k < result → IsSixelByte (slice_index bytes.now k) }
+{
+    let lanes = u8x8::from_slice(bytes) - u8x8::splat(0x3f);
+    let others = lanes.simd_gt(u8x8::splat(0x3f)).to_bitmask();
+    if others == 0 {
+        LANES
+    } else {
+        others.trailing_zeros() as usize
+    }
+}
+
+/// Returns the bits of a byte that is a sixel of the front, and none of any other.
+#[inline(always)]
+fn bits_if(of_front: bool, byte: u8) -> u8
+    requires { IsTrue of_front → IsSixelByte byte }
+    ensures sixel { IsTrue of_front → result ≡ byte - 63 }
+    ensures other { of_front ≡ false → result ≡ 0 }
+    ensures six { result < 64 }
+{
+    let bits = byte.wrapping_sub(0x3f);
+    if of_front { bits } else { 0 }
+}

@@ -1,0 +1,44 @@
+-- The compact text of a drawing, or the plain one if that is shorter, is a text of marks that draw
+-- the drawing.
+use Rattle.std.specs.Prelude.{nat_lt}
+use Rattle.std.proofs.Common.{Bool, arith, cond, false, length, refl, true, ◌≡◌, ◌≤◌}
+use Rattle.std.proofs.lemmas.Bool.Decides.{nat_tests}
+use Rattle.sixel_encoder.specs.Compact.{compact_marks, compact_text, marked_text}
+use Rattle.sixel_encoder.specs.Marks.{Draws, IsDrawnText}
+use Rattle.sixel_encoder.specs.Numbers.{number_of, numbered_definitions}
+use Rattle.sixel_encoder.specs.Segments.{drawn_segments}
+use Rattle.sixel_encoder.specs.Text.{Drawing, text_of}
+use Rattle.sixel_encoder.specs.Trip.{IsWritable}
+use Rattle.sixel_encoder.proofs.PaintedMarks.{Draws-painted}
+use Rattle.sixel_encoder.proofs.PlainText.{IsDrawnText-plain}
+use Rattle.sixel_encoder.proofs.RegisterNumbers.{AreNumbers-numbered}
+use Rattle.sixel_encoder.proofs.SegmentOrder.{AreSegments-drawn}
+
+-- the compact marks draw the drawing
+Draws-compact : (drawing : Drawing) → IsWritable drawing
+    → Draws drawing (numbered_definitions drawing) (compact_marks drawing)
+Draws-compact drawing is =
+    Draws-painted drawing (number_of drawing) (numbered_definitions drawing)
+    (drawn_segments drawing) is (AreNumbers-numbered drawing is) (AreSegments-drawn drawing is)
+
+-- the compact text is a text of marks that draw the drawing
+pub IsDrawnText-compact : (drawing : Drawing) → IsWritable drawing
+    → IsDrawnText drawing (compact_text drawing)
+IsDrawnText-compact drawing is =
+    go (nat_lt (length (text_of drawing)) (length (marked_text drawing)))
+  where
+    go : (b : Bool) → IsDrawnText drawing (cond b (text_of drawing) (marked_text drawing))
+    go true = IsDrawnText-plain drawing is
+    go false =
+        (numbered_definitions drawing, compact_marks drawing, Draws-compact drawing is, refl)
+
+-- it is no longer than the plain text
+pub length-compact : (drawing : Drawing)
+    → length (compact_text drawing) ≤ length (text_of drawing)
+length-compact drawing =
+    go (nat_lt (length (text_of drawing)) (length (marked_text drawing))) refl
+  where
+    go : (b : Bool) → nat_lt (length (text_of drawing)) (length (marked_text drawing)) ≡ b
+        → length (cond b (text_of drawing) (marked_text drawing)) ≤ length (text_of drawing)
+    go true e = omega arith
+    go false e = grind (arith, nat_tests)

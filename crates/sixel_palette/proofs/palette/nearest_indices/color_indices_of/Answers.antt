@@ -1,0 +1,43 @@
+use Rattle.std.proofs.Common.{◌≡◌, ◌++◌, ◌∷◌, [], List, length, take, drop, get_or, ℕ, arith}
+use Rattle.std.proofs.lemmas.List.{take_at, take_all, take_more, length-take}
+use Rattle.sixel_palette.specs.inside.PaletteTraversal.{HasRelaxed}
+use Rattle.sixel_palette.proofs.palette.nearest_indices.color_indices_of.Goals as goal
+
+-- a list of the same length replaces an old one
+replaced : {X : Type 0} (new old : List X) (len : ℕ) → length new ≡ len
+    → take len (new ++ drop (length new) old) ≡ new
+replaced new old len same = take_at new (drop (length new) old) len same
+
+pub loop-index-init : goal.loop-index-init
+loop-index-init c = record { whole = c.in_ok-traversal.ensures.whole; relaxed = c.in_ok-traversal.ensures.relaxed }
+
+pub loop-index-preserved : goal.loop-index-preserved
+loop-index-preserved c =
+    let colors = c.args.colors.now in
+    let index = c.loop-index.index in
+    let old = c.loop-index.traversal in
+    let new = c.relax_cells.new in
+    let h = c.loop-index.invariant in
+    let squares = replaced new.squares old.squares.items old.squares.len (omega arith) in
+    let indices = replaced new.indices old.indices.items old.indices.len (omega arith) in
+    let cells = replaced new.cells old.cells.items old.cells.len (omega arith) in
+    record {
+      whole = record {
+        squares = rw squares (omega arith);
+        indices = rw indices (omega arith);
+        cells = rw (squares, cells) c.relax_cells.ensures.cells;
+      };
+      relaxed =
+          rw (squares, indices, take_more colors index [] (omega arith))
+          (c.relax_cells.ensures.near (take index colors) (omega (arith, length-take index colors))
+          (rw (c.deref_mut.ensures.value, c.deref_mut-in-loop-index.ensures.value) h.relaxed));
+    }
+
+pub returns-clause-nearest : goal.returns-clause-nearest
+returns-clause-nearest c =
+    let all : take c.loop-index.index c.args.colors.now ≡ c.args.colors.now =
+    take_all c.loop-index.index c.args.colors.now (omega arith) in
+    (c.loop-index.traversal.squares.items, rw all at c.loop-index.invariant.relaxed)
+
+pub returns-clause-size : goal.returns-clause-size
+returns-clause-size c = c.loop-index.invariant.whole.indices

@@ -1,0 +1,9 @@
+use Rattle.std.proofs.Common.{take}
+use Rattle.sixel_palette.specs.inside.PaletteTraversal.{IsTraversal, HasRelaxed}
+use Rattle.sixel_palette.proofs.palette.nearest_indices.color_indices_of.Given as goal
+
+abbrev pub invariant-loop-index : goal.invariant-loop-index
+invariant-loop-index l = record {
+  whole : IsTraversal l.codes l.traversal;
+  relaxed : HasRelaxed (take l.index l.colors) l.codes l.traversal;
+}

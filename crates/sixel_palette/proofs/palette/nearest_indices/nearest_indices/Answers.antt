@@ -1,0 +1,29 @@
+use Rattle.std.proofs.Common.{◌<◌, [], get_or, length, arith}
+use Rattle.std.proofs.lemmas.List.{get_or_default}
+use Rattle.sixel_palette.proofs.PaletteColors.{IsColor, distance-lt}
+use Rattle.sixel_palette.proofs.PaletteChoices.{IsColor-shown}
+use Rattle.sixel_palette.proofs.PaletteNearest.{nearest-le}
+use Rattle.sixel_palette.proofs.palette.nearest_indices.nearest_indices.Goals as goal
+
+pub indices_of-requires-clause-listed : goal.indices_of-requires-clause-listed
+indices_of-requires-clause-listed c = rw c.deref-2.ensures.value c.in_ok-codes.ensures.shown
+
+pub returns : goal.returns
+returns c =
+    let colors = c.args.colors.now in
+    let near = rw c.deref.ensures.value at c.in_ok-color_indices.ensures.nearest in
+    let some : 0 < length colors = c.requires.some in
+    let three = c.told-colors 0 some in
+    let first : IsColor (get_or colors 0 []) = record {
+      three = three;
+      bytes = λ k l. c.color_bytes.ensures 0 [] some k 0 (omega arith);
+    } in
+    c.in_ok-indices_of.ensures colors near.0
+    (rw (c.deref-2.ensures.value, c.deref-3.ensures.value) near.1)
+    (λ color shown.
+    omega (
+      arith,
+      nearest-le colors color 0 [] some,
+      distance-lt (get_or colors 0 []) color first
+          (IsColor-shown c.args.pixels.now color (λ k. omega (arith, c.type_inv.pixels k)) shown),
+    ))

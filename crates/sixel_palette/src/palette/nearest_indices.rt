@@ -1,0 +1,100 @@
+//! The palette index of each pixel in a given palette.
+
+ghost use Rattle.std.specs.Prelude.{◌≡◌, ℕ, ◌<◌, ◌≤◌, List, length, All, IfOk, slice_index};
+ghost use Rattle.sixel_palette.specs.Palette.{AreIndices, IsNearest};
+ghost use Rattle.sixel_palette.specs.inside.PaletteCodes.{AreColorCodes};
+ghost use Rattle.sixel_palette.specs.inside.PaletteNearest.{AreNearest};
+
+use crate::palette::cells::relax_cells;
+use crate::palette::colors::shown_codes;
+use crate::palette::farthest::Traversal;
+use crate::palette::indices::indices_of;
+use crate::palette::distance::distance;
+use crate::palette::nearest_entry::{Entry, NO_ENTRY, NearestEntry};
+use std::alloc::{AllocError, Global};
+
+/// Returns the palette index of each pixel: that of its nearest entry, the first of equals.
+///
+/// The index of a transparent pixel is 0.
+pub fn nearest_indices(
+    alloc: Global,
+    pixels: &[u8],
+    colors: &[[u8; 3]],
+) -> Result<Vec<u8>, AllocError>
+    requires some { 0 < length colors.now }
+    requires few { length colors.now ≤ 256 }
+    ensures { IfOk result (λ indices. AreIndices pixels.now colors.now indices.items) }
+{
+    let codes = shown_codes(alloc, pixels)?;
+    let color_indices = color_indices_of(alloc, &codes, colors)?;
+    color_bytes(colors);
+    Ok(indices_of(alloc, pixels, &codes, &color_indices)?)
+}
+
+/// The palette index of the nearest entry of each code's color.
+fn color_indices_of(
+    alloc: Global,
+    codes: &[u32],
+    colors: &[[u8; 3]],
+) -> Result<Vec<u8>, AllocError>
+    requires small { AreColorCodes codes.now }
+    requires few { length colors.now ≤ 256 }
+    ensures nearest { IfOk result (λ indices. (squares : List ℕ)
+        × AreNearest colors.now codes.now squares indices.items) }
+    ensures size { IfOk result (λ indices. length indices.items ≡ length codes.now) }
+{
+    let mut traversal = Traversal::new(alloc, codes)?;
+    for index in 0..colors.len() {
+        let entry = Entry {
+            color: colors[index],
+            index: index as u8,
+        };
+        relax_cells(
+            codes,
+            &mut traversal.squares,
+            &mut traversal.indices,
+            &mut traversal.cells,
+            entry,
+        );
+    }
+    Ok(traversal.indices)
+}
+
+/// Returns the palette index of the entry nearest to a color, the first of equals.
+pub fn nearest_index(colors: &[[u8; 3]], color: [u8; 3]) -> u8
+    requires some { 0 < length colors.now }
+    requires few { length colors.now ≤ 256 }
+    ensures { IsNearest colors.now color result }
+{
+    let mut near = NearestEntry {
+        squared: NO_ENTRY,
+        index: 0,
+    };
+    for index in 0..colors.len() {
+        near = near.with(distance(colors[index], color), index as u8);
+    }
+    near.index
+}
+
+/// States that the channels of colors are bytes. It does nothing.
+pub fn color_bytes(colors: &[[u8; 3]])
+    ensures { All (All (λ byte. byte < 256)) colors.now }
+{
+    for index in 0..colors.len() {
+        channel_bytes(colors[index]);
+    }
+}
+
+/// States that the channels of a color are bytes. It does nothing.
+fn channel_bytes(color: [u8; 3])
+    ensures { (k : ℕ) → k < 3 → slice_index color k < 256 }
+{
+    byte(color[0]);
+    byte(color[1]);
+    byte(color[2]);
+}
+
+/// States that a channel is a byte. It does nothing.
+fn byte(channel: u8)
+    ensures { channel < 256 }
+{}

@@ -1,0 +1,56 @@
+#!/usr/bin/env python3
+"""Converts SIXEL to PPM and back by the shared library: sixel.py decode|encode <INPUT >OUTPUT"""
+import ctypes as c
+import re
+import sys
+
+
+class Handle(c.Structure):
+    _fields_ = [("held", c.c_uint8), ("state", c.c_void_p)]
+
+
+class Shape(c.Structure):
+    _fields_ = [(name, c.c_size_t) for name in ("width", "height", "bytes")]
+    _fields_ += [("pixel_width", c.c_uint16), ("pixel_height", c.c_uint16)]
+    _fields_ += [("p1", c.c_uint8), ("p2", c.c_uint8)]
+
+
+library = c.CDLL("libicysixel.so.0")
+handle, size = c.byref(Handle()), c.c_size_t()
+
+
+def call(name, *arguments):
+    """Calls a function on the handle. Its result is a code, which is 0 if all is well."""
+    code = library[name](handle, *arguments)
+    if code:
+        text = c.create_string_buffer(80)
+        library.icysixel_strerror(code, text, c.c_size_t(80))
+        sys.exit(text.value.decode())
+
+
+def decode(data):
+    """The PPM file of a DCS sequence. Transparent pixels become black."""
+    shape = Shape()
+    call("icysixel_decode", data, c.c_size_t(len(data)), c.byref(shape))
+    rgba = c.create_string_buffer(shape.bytes)
+    call("icysixel_copy_pixels", rgba, c.c_size_t(shape.bytes), c.c_size_t(0), c.byref(size))
+    pixels = b"".join(rgba.raw[at : at + 3] for at in range(0, shape.bytes, 4))
+    return b"P6\n%d %d\n255\n" % (shape.width, shape.height) + pixels
+
+
+def encode(ppm):
+    """The DCS sequence of a PPM file without comments, whose channels have one byte."""
+    width, height, data = re.fullmatch(rb"P6\s+(\d+)\s+(\d+)\s+255\s(.*)", ppm, re.S).groups()
+    rgba = b"".join(data[at : at + 3] + b"\xff" for at in range(0, len(data), 3))
+    sizes = [c.c_size_t(it) for it in (len(rgba), 0, int(width), int(height))]
+    call("icysixel_encode", rgba, *sizes, 9, 1, 256, c.byref(size))
+    text = c.create_string_buffer(size.value)
+    call("icysixel_copy_text", text, c.c_size_t(size.value), c.byref(size))
+    return text.raw
+
+
+if __name__ == "__main__":
+    call("icysixel_new")
+    convert = {"decode": decode, "encode": encode}[sys.argv[1]]
+    sys.stdout.buffer.write(convert(sys.stdin.buffer.read()))
+    library.icysixel_free(handle)

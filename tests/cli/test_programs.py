@@ -1,0 +1,125 @@
+"""Tests the programs `sixel` and `sixel_filter`: arguments, output, errors, statuses and memory.
+
+The expected bytes are computed by hand from docs/FORMAT.md.
+"""
+import hashlib
+import itertools
+import os
+import re
+import shlex
+import unittest
+from pathlib import Path
+
+from build import ROOT, ProgramTest, builds_of, run
+from vectors import bytes_of, image_of, vectors
+
+RESULT = re.compile(r"(.*?)(?:(usage )?error: (.*))?")
+# The values that stand for N and X in the arguments of runs.tsv.
+NO_NUMBERS = ["", "+1", "-1", "1.0", "1e3", "0x1", " 1", "1 ", "x", str(2**64), 23 * "9"]
+VALUES = {"N": ["1", "2", "13", "65536"], "X": NO_NUMBERS}
+
+# Arguments and redirections of the shell, and the error of the one that fails.
+FAILING = {
+    "sixel": [
+        ("payload <&-", "input fault"),
+        ("frames 1 </", "input fault"),
+        ("$(printf '\\377')", "input fault"),
+        ("payload $(printf '\\377')", "input fault"),
+        *((f"{it} >/dev/full", "output fault") for it in ("payload", "pam", "--help", "--version")),
+        ("payload >&-", "output fault"),
+    ],
+    "sixel_filter": [("1 size </", "input fault"), ("1 size >/dev/full", "output fault")],
+}
+
+MILLION = b"image 1000000 6 9 0\n" + 6_000_000 * b"\0\0\0\xff" + b"\n"
+TOO_FEW = b"buffer size mismatch: expected 268304400 bytes, got 4\n"
+# Arguments, standard input, and how `sixel` ends in 200 MB of memory.
+MEMORY = [
+    ("payload", 15 * b"!65535~" + b"!16975~", (0, MILLION, b"")),
+    ("payload", 1_000_000 * b"~", (0, MILLION, b"")),
+    ("payload", b'"1;1;8192;8192', (1, b"", b"out of memory\n")),
+    ("encode 8190 8190 16", bytes(4), (1, b"", TOO_FEW)),
+]
+
+# A folder of files of other programs, with expected.tsv, whose first line has the titles.
+SAMPLES = os.environ.get("SAMPLES")
+# The command that decodes a vector of these settings.
+COMMANDS = {"payload": "payload", "dcs": "decode"}
+
+
+def outcome(result):
+    """How a program ends for a column: images or bytes, and then an error."""
+    output, usage, error = RESULT.fullmatch(result).groups(default="")
+    none, *images = output.split("image ")
+    texts = [bytes_of(output)] if none else [written(it) for it in images]
+    error = error and f"{error}\n"
+    return 2 if usage else int(error != ""), b"".join(texts), error.encode()
+
+
+def written(text):
+    """What the program writes of the image that a column spells."""
+    return b"image %d %d %d %d\n%s\n" % image_of(text)
+
+
+def image_outcome(result):
+    """How a program ends for a column of an image or an error."""
+    return outcome(result if result.startswith("error: ") else f"image {result}")
+
+
+class TestPrograms(ProgramTest):
+    name = "sixel"
+
+    def test_runs(self):
+        for place, (command, text, result) in vectors(Path(__file__).with_name("runs.tsv")):
+            self.name, *words = shlex.split(command)
+            kind, _, path = text.partition(":")
+            stdin = (ROOT / path).read_bytes() if kind == "file" else bytes_of(text)
+            for arguments in itertools.product(*(VALUES.get(it, [it]) for it in words)):
+                with self.subTest(place=place):
+                    self.ends(arguments, stdin, outcome(result))
+
+    def test_failing_descriptors_and_arguments(self):
+        for self.name, rows in FAILING.items():
+            for words, error in rows:
+                self.fails(words, b"#1~", error)
+
+    def test_memory(self):
+        for arguments, stdin, expected in MEMORY:
+            self.ends(arguments.split(), stdin, expected, memory=200_000)
+
+    @unittest.skipUnless(SAMPLES, "SAMPLES does not name a folder of samples")
+    def test_samples(self):
+        """Each file, with the arguments, status and SHA-256 of standard output."""
+        rows = (Path(SAMPLES) / "expected.tsv").read_text().splitlines()[1:]
+        self.assertTrue(rows)
+        for file, arguments, status, digest in (it.split("\t") for it in rows):
+            for program in builds_of("sixel"):
+                with self.subTest(program=program.name, file=file):
+                    stdin = (Path(SAMPLES) / file).read_bytes()
+                    ended = run(program, *arguments.split(), stdin=stdin)
+                    found = (str(ended[0]), hashlib.sha256(ended[1]).hexdigest())
+                    self.assertEqual(found, (status, digest))
+
+    def test_image_vectors(self):
+        for place, (settings, text, result) in vectors("images.tsv"):
+            if settings in COMMANDS:
+                with self.subTest(place=place):
+                    self.ends([COMMANDS[settings]], bytes_of(text), image_outcome(result))
+
+    def test_string_vectors(self):
+        """After a complete DCS sequence, other bytes would be one more: they are left out."""
+        for place, (text, fed, result) in vectors("strings.tsv"):
+            consumed, status = fed.split(" ", 1)
+            data = bytes_of(text)[: int(consumed) if status == "complete" else None]
+            for length in ("1", "5") if data else ():
+                with self.subTest(place=place):
+                    self.ends(["frames", length], data, image_outcome(result))
+
+    def test_text_vectors(self):
+        """The program encodes square pixels and a transparent background."""
+        for place, (colors, column, result) in vectors("texts.tsv"):
+            width, height, p1, p2, pixels = image_of(column)
+            if (p1, p2) == (9, 1):
+                with self.subTest(place=place):
+                    arguments = ["encode", str(width), str(height), colors]
+                    self.ends(arguments, pixels, outcome(result))

@@ -1,0 +1,113 @@
+"""Tests what `make install` copies: programs, man pages, and the library for several languages."""
+import os
+import re
+import shutil
+import tempfile
+import unittest
+from pathlib import Path
+
+from build import HEADERS, ROOT, needs, run
+
+HERE = ROOT / "tests/install"
+HEADER = (HEADERS / "icysixel.h").read_text()
+PROTOTYPE = re.compile(r"^(\w+) (icysixel_\w+)\(([^)]*)\);", re.M)
+# The same in the manual: the type, the name and the parameters in quotes.
+MANUAL = re.compile(r"^\.Ft (\w+)\n\.Fo (\w+)\n((?:\.Fa \".+\"\n)+)\.Fc$", re.M)
+RED = b"\x1bP9;1q#1;2;100;0;0@\x1b\\"
+PIXELS, PPM = b"\xff\0\0\xff" + bytes(20), b"P6\n1 6\n255\n\xff\0\0" + bytes(15)
+FLAGS = "$(pkg-config --cflags --libs icysixel)"
+# A tool, a command of the shell that reads a DCS sequence, and what it writes.
+USERS = [
+    ("gcc", f"gcc -static decode.c {FLAGS} -o ../c && ../c", PIXELS),
+    ("gcc", f"gcc -rdynamic decode.c {HERE}/hooks.c {FLAGS} -o ../c && ../c", PIXELS),
+    ("g++", f"g++ {HERE}/user.cpp {FLAGS} -o ../cpp && ../cpp", b""),
+    ("python3", "s='python3 python/sixel.py'; $s decode | $s encode | $s decode", PPM),
+    ("go", f"go run {HERE}/user.go", b""),
+    ("lua5.4", """lua5.4 -e 'assert(package.loadlib("libicysixel.so.0", "*"))'""", b""),
+]
+
+
+def make(*words):
+    return run("make", "-s", "-C", ROOT, *words, timeout=600)
+
+
+def files_in(folder):
+    return [it for it in Path(folder).rglob("*") if not it.is_dir()]
+
+
+class TestInstall(unittest.TestCase):
+    """The tests share a folder, in which all is installed."""
+
+    @classmethod
+    def setUpClass(cls):
+        cls.folder = Path(cls.enterClassContext(tempfile.TemporaryDirectory()))
+        status, _, errors = make("install", f"PREFIX={cls.folder}")
+        assert status == 0, errors.decode()
+
+    def test_uninstall(self):
+        """DESTDIR stands before the prefix, and `make uninstall` removes each file."""
+        with tempfile.TemporaryDirectory(prefix="with space ") as room:
+            words = [f"DESTDIR={room}", "PREFIX=/usr"]
+            self.assertEqual(make("install", *words), (0, b"", b""))
+            described = Path(room) / "usr/lib/pkgconfig/icysixel.pc"
+            self.assertIn("prefix=/usr\n", described.read_text())
+            self.assertEqual(len(files_in(room)), len(files_in(self.folder)))
+            self.assertEqual(make("uninstall", *words), (0, b"", b""))
+            self.assertEqual(files_in(room), [])
+
+    @needs("pkg-config")
+    def test_users(self):
+        """The library can be used from C, C++, Python, Go and Lua."""
+        room = Path(self.enterContext(tempfile.TemporaryDirectory()))
+        shutil.copytree(self.folder / "share/doc/icysixel/examples", room / "examples")
+        variables = {"LD_LIBRARY_PATH": f"{self.folder}/lib", "GOCACHE": f"{room}/go"}
+        variables |= {"PKG_CONFIG_PATH": f"{self.folder}/lib/pkgconfig"}
+        options = {"stdin": RED, "cwd": room / "examples", "timeout": 300}
+        for tool, command, output in USERS:
+            with self.subTest(command=command):
+                if not shutil.which(tool):
+                    self.skipTest(f"not installed: {tool}")
+                ended = run("sh", "-c", command, env=os.environ | variables, **options)
+                self.assertEqual(ended[:2], (0, output), ended[2].decode())
+
+    @needs("readelf", "nm")
+    def test_shared_library(self):
+        """It exports the calls of the header alone, and has no executable stack."""
+        library = self.folder / "lib/libicysixel.so.0"
+        names = re.findall(r" T (\w+)", run("nm", "-D", library)[1].decode())
+        self.assertEqual(sorted(names), sorted(name for _, name, _ in PROTOTYPE.findall(HEADER)))
+        told = run("readelf", "--wide", "--dynamic", "--segments", library)[1].decode()
+        self.assertIn("Library soname: [libicysixel.so.0]", told)
+        self.assertRegex(told, r"GNU_STACK .* RW ")
+        self.assertNotIn("TEXTREL", told)
+
+    @needs("gcc", "nm")
+    def test_memory_hooks(self):
+        """Another shared library that contains the archive does not export the memory hooks."""
+        library = Path(self.enterContext(tempfile.TemporaryDirectory())) / "other.so"
+        whole = f"-Wl,--whole-archive,{self.folder}/lib/libicysixel.a,--no-whole-archive"
+        self.assertEqual(run("gcc", "-shared", whole, "-o", library), (0, b"", b""))
+        names = run("nm", "-D", library)[1]
+        self.assertIn(b" icysixel_new", names)
+        self.assertNotIn(b"rattle_", names)
+
+
+class TestManual(unittest.TestCase):
+    @needs("mandoc")
+    def test_format(self):
+        """mandoc warns of nothing in the pages."""
+        pages = sorted((ROOT / "man").iterdir())
+        self.assertEqual(run("mandoc", "-Tlint", "-Wwarning", *pages), (0, b"", b""))
+
+    def test_calls(self):
+        """icysixel(3) has each call of the header, with the same parameters."""
+        found = MANUAL.findall((ROOT / "man/icysixel.3").read_text())
+        called = [(*it[:2], ", ".join(re.findall('"(.*)"', it[2]))) for it in found]
+        declared = [(*it[:2], " ".join(it[2].split())) for it in PROTOTYPE.findall(HEADER)]
+        self.assertEqual(called, declared)
+
+    def test_version(self):
+        """The header has the version of the Rust crate."""
+        version = re.search(r'ICYSIXEL_VERSION "(.*)"', HEADER)[1]
+        manifest = (ROOT / "rust/icy_sixel/Cargo.toml").read_text()
+        self.assertIn(f'\nversion = "{version}"\n', manifest)
