@@ -222,6 +222,7 @@ static void test_no_allocation(void)
     CHECK(icysixel_set_register(&h, 1, 1, 2, 3) == ICYSIXEL_OK);
     CHECK(icysixel_get_register(&h, 1, &color) == ICYSIXEL_OK && color.green == 2);
     CHECK(icysixel_reset_registers(&h) == ICYSIXEL_OK);
+    CHECK(icysixel_set_registers(&h, 2, registers_of(&h).colors, 9) == ICYSIXEL_OK);
     CHECK(icysixel_set_crop(&h, 1) == ICYSIXEL_OK && icysixel_get_crop(&h) == 1);
     CHECK(icysixel_set_limit(&h, 99) == ICYSIXEL_OK && icysixel_get_limit(&h) == 99);
     CHECK(icysixel_begin(&h) == ICYSIXEL_OK);

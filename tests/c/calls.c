@@ -39,6 +39,8 @@ static void test_empty_handle(icysixel *h)
     CHECK(icysixel_take_pixels(h, &block) == ICYSIXEL_NO_HANDLE && block.length == 7);
     CHECK(icysixel_get_register(h, 1, &color) == ICYSIXEL_NO_HANDLE && color.red == 7);
     CHECK(icysixel_set_register(h, 1, 2, 3, 4) == ICYSIXEL_NO_HANDLE);
+    CHECK(icysixel_get_registers(h, 1, &color, 1) == ICYSIXEL_NO_HANDLE && color.red == 7);
+    CHECK(icysixel_set_registers(h, 1, &color, 1) == ICYSIXEL_NO_HANDLE);
     CHECK(icysixel_reset_registers(h) == ICYSIXEL_NO_HANDLE);
     CHECK(icysixel_get_crop(h) == 0 && icysixel_set_crop(h, 1) == ICYSIXEL_NO_HANDLE);
     CHECK(icysixel_get_limit(h) == 0 && icysixel_set_limit(h, 1) == ICYSIXEL_NO_HANDLE);
@@ -173,7 +175,32 @@ static void test_errors(icysixel *h)
     CHECK(icysixel_copy_pixels(h, NULL, 0, 0, &wanted) == ICYSIXEL_NO_IMAGE);
 }
 
-/* Registers, crop and limit are set and reported. */
+/* Registers are set and read together: not past the last one, and not past the buffer. */
+static void test_registers(icysixel *h)
+{
+    static const icysixel_color three[] = {{1, 2, 3}, {4, 5, 6}, {7, 8, 9}};
+    icysixel_color colors[257] = {0}, one;
+    subject = "registers";
+    CHECK(icysixel_reset_registers(h) == ICYSIXEL_OK);
+    CHECK(icysixel_set_registers(h, 1, three, 2) == ICYSIXEL_OK);
+    CHECK(icysixel_set_registers(h, 254, three, 3) == ICYSIXEL_OK);
+    CHECK(icysixel_set_registers(h, 9, NULL, 0) == ICYSIXEL_OK);
+    colors[256].red = 7;
+    CHECK(icysixel_get_registers(h, 0, colors, 257) == ICYSIXEL_OK && colors[256].red == 7);
+    CHECK(memcmp(colors, "\0\0\0\1\2\3\4\5\6\x33\xcc\x33", 12) == 0);
+    CHECK(memcmp(colors + 253, "\xe8\xe8\xe8\1\2\3\4\5\6", 9) == 0);
+    for (line_number = 0; line_number < 256; line_number++) {
+        CHECK(icysixel_get_register(h, (uint8_t)line_number, &one) == ICYSIXEL_OK);
+        CHECK(memcmp(&one, &colors[line_number], 3) == 0);
+    }
+    CHECK(icysixel_get_registers(h, 2, colors, 1) == ICYSIXEL_OK);
+    CHECK(memcmp(colors, "\4\5\6\1\2\3", 6) == 0);
+    CHECK(icysixel_get_registers(h, 255, colors, 2) == ICYSIXEL_OK);
+    CHECK(memcmp(colors, "\4\5\6\1\2\3", 6) == 0);
+    CHECK(icysixel_get_registers(h, 0, NULL, 0) == ICYSIXEL_OK);
+}
+
+/* Crop and limit, and a register, are set and reported. */
 static void test_settings(icysixel *h)
 {
     icysixel_shape shape = {0};
@@ -229,16 +256,12 @@ static void test_palette(void)
     icysixel_palette p = {7, 7, 7};
     subject = "palette";
     memset(c, 7, sizeof c), memset(w, 7, sizeof w);
-    static const struct { size_t length, colors, witnesses, indices; uint32_t code; } errors[] = {
-        {15, 256, 257, 5, ICYSIXEL_BUFFER_MISMATCH},  {16, 1, 257, 5, ICYSIXEL_BUFFER_TOO_SMALL},
-        {16, 256, 2, 5, ICYSIXEL_BUFFER_TOO_SMALL},   {16, 256, 257, 3, ICYSIXEL_BUFFER_TOO_SMALL},
-    };
-    for (line_number = 0; line_number < COUNT_OF(errors); line_number++)
-        CHECK(icysixel_choose_palette(rgba, errors[line_number].length, 2, c,
-                                      errors[line_number].colors, w,
-                                      errors[line_number].witnesses, i,
-                                      errors[line_number].indices, &p)
-              == errors[line_number].code);
+    static const size_t small[][3] = {{1, 257, 5}, {256, 2, 5}, {256, 257, 3}};
+    for (const size_t(*n)[3] = small; n < small + 3; n++)
+        CHECK(icysixel_choose_palette(rgba, 16, 2, c, (*n)[0], w, (*n)[1], i, (*n)[2], &p)
+              == ICYSIXEL_BUFFER_TOO_SMALL);
+    CHECK(icysixel_choose_palette(rgba, 15, 2, c, 256, w, 257, i, 5, &p)
+          == ICYSIXEL_BUFFER_MISMATCH);
     CHECK(p.colors == 7 && p.error == 7 && i[0] == 7 && c[0].red == 7 && w[0].red == 7);
     CHECK(icysixel_choose_palette(rgba, 16, 2, c, 2, w, 3, i, 4, &p) == ICYSIXEL_OK);
     CHECK(p.colors == 2 && p.witnesses == 3 && p.error == 100);
@@ -272,6 +295,7 @@ int main(void)
     test_errors(&h);
     test_take_pixels(&h);
     test_new_on_full_handle(&h);
+    test_registers(&h);
     test_settings(&h);
     test_encode(&h);
     icysixel_free(&h);

@@ -54,8 +54,7 @@ struct registers { icysixel_color colors[256]; };
 static inline struct registers registers_of(icysixel *decoder)
 {
     struct registers registers;
-    for (int i = 0; i < 256; i++)
-        CHECK(icysixel_get_register(decoder, (uint8_t)i, &registers.colors[i]) == ICYSIXEL_OK);
+    CHECK(icysixel_get_registers(decoder, 0, registers.colors, 256) == ICYSIXEL_OK);
     return registers;
 }
 

@@ -3,6 +3,7 @@
 Each program of this folder runs with the archive that LLVM builds, under sanitizers and plain, and
 with the archive that Rattle's own compiler builds. FUZZ_COUNT and FUZZ_SEED choose other cases.
 """
+import ctypes
 import os
 import re
 import tempfile
@@ -25,7 +26,7 @@ HELGRIND = ["valgrind", "-q", "--tool=helgrind", "--error-exitcode=9"]
 NEEDED = {*"memcpy memmove memset rattle_alloc rattle_dealloc rattle_realloc".split()}
 RED = b"\x1bP9;1q#1;2;100;0;0!2@\x1b\\"
 RED_PIXELS = b"\xff\0\0\xff\xff\0\0\xff" + bytes(40)
-# A stream of a terminal, and what the example filter.c makes of it.
+# A stream of a terminal, and what filter.c makes of it.
 STREAM = (
     b"a\x1b[1mb" + RED + b"c\x1b\x1bPbad\x1b\\d\x1bPq~\x1b[0me"
     b"\x1bP2;1q!5~\x18f\x1bPq!65536~\x1b\\g\x1bPq~"
@@ -34,6 +35,20 @@ FILTERED = (
     b"a\x1b[1mb[image of 2 x 6 pixels]c\x1b\x1bPbad\x1b\\d[image of 1 x 6 pixels]\x1b[0me"
     b"[image of 5 x 30 pixels]f\x1bPq!65536~\x1b\\g\x1bPq~"
 )
+# The same for terminal.c: an opaque image on two rows of cells, and two errors.
+TERMINAL = b'a\x1bP9;0q"1;1;2;30#1!2~\x1b\\b\x1bPq!65536~\x1b\\c\x1bPq!64001~\x1b\\'
+DISPLAYED = (
+    b"a\n\n[2 x 30 pixels on 2 rows, the last pixel is 282a36]b"
+    b"[malformed SIXEL data]c[image dimensions too large]"
+)
+# Runs of examples: the standard input, the status, and the standard output and error.
+RUNS = [
+    ("decode", RED, 0, RED_PIXELS, b"2 x 6 pixels\n"),
+    ("decode", b"text" + RED, 1, b"", b"no SIXEL data found (missing DCS introducer)\n"),
+    ("decode", RED[:-2], 1, b"", b"incomplete SIXEL DCS sequence\n"),
+    ("filter", STREAM, 0, FILTERED, b""),
+    ("terminal", TERMINAL, 0, DISPLAYED, b""),
+]
 # Images, and each again in a form that libsixel shows as the example preload.c does. None has no
 # such form: libsixel rounds the channels of a hue to percentages.
 SHOWN = [
@@ -79,7 +94,7 @@ class TestC(unittest.TestCase):
         return words.get(name, [])
 
     def test_header(self):
-        """Each function has its type, and each struct its size, in C and in C++."""
+        """Each struct has its size, in C and in C++."""
         for compiler in C11, ["g++", "-x", "c++", *C11[2:]]:
             with self.subTest(compiler=compiler[0]):
                 self.succeeds(*compiler, "-pedantic", "-fsyntax-only", HERE / "header.c")
@@ -88,8 +103,11 @@ class TestC(unittest.TestCase):
         """The archives define the functions of the header and no variable, and need six at most."""
         header = (HEADERS / "icysixel.h").read_text()
         declared = sorted(re.findall(r"^\w+ (icysixel_\w+)\(", header, re.M))
-        checked = re.findall(r"=\s*(icysixel_\w+);", (HERE / "header.c").read_text())
-        self.assertEqual(sorted(checked), declared)
+        called = re.findall(r"\b(icysixel_\w+)\(", (HERE / "calls.c").read_text())
+        self.assertLessEqual(set(declared), set(called))
+        *numbers, version = re.findall(r"_VERSION\w* \"?([\d.]+)", header)
+        self.assertEqual(".".join(numbers), version)
+        self.assertIn(f"Version: {version}\n", (HEADERS.parent / "icysixel.pc.in").read_text())
         for archive in ARCHIVES:
             with self.subTest(archive=archive.name):
                 names = re.findall(r" (\w) (\w+)$", self.succeeds("nm", archive).decode(), re.M)
@@ -133,25 +151,57 @@ class TestC(unittest.TestCase):
                 written = self.succeeds(FILTER, "4096", "size", stdin=stream, memory=limit)
                 self.assertRegex(written, rb"\A(\[image \d+x\d+\]){3}\Z")
 
-    def test_decode_example(self):
-        """decode.c writes the pixels of a DCS sequence, and nothing for other bytes."""
-        decode = self.program("decode", "sanitizers", EXAMPLES)
-        self.assertEqual(run(decode, stdin=RED)[:2], (0, RED_PIXELS))
-        self.assertEqual(run(decode, stdin=b"no SIXEL")[:2], (1, b""))
+    def test_examples(self):
+        """Each example decodes images of its input, or reports why it rejects them."""
+        for name, text, *ended in RUNS:
+            with self.subTest(program=name, text=text):
+                program = self.program(name, "sanitizers", EXAMPLES)
+                self.assertEqual(run(program, stdin=text), tuple(ended))
 
-    def test_filter_example(self):
-        """filter.c writes a line for each image, and copies the rest."""
-        program = self.program("filter", "sanitizers", EXAMPLES)
-        self.assertEqual(self.succeeds(program, stdin=STREAM), FILTERED)
+    def test_host_pages(self):
+        """The code of each page for a host compiles."""
+        code = self.folder / "page.c"
+        for page in (EXAMPLES / "hosts").glob("*.md"):
+            with self.subTest(page=page.name):
+                blocks = re.findall(r"^```c\n(.*?)^```", page.read_text(), re.M | re.S)
+                code.write_text("".join(blocks))
+                self.succeeds(*C11, "-Wno-unused-function", "-fsyntax-only", code)
+
+    def preload(self):
+        """The path of libsixel's decoder and encoder by this library."""
+        library = self.folder / "preload.so"
+        flags = self.succeeds("pkg-config", "--cflags", "--libs", "libsixel").decode().split()
+        sources = [*EXAMPLES.glob("preload*.c"), MEMORY, ARCHIVES[0]]
+        linked = ["-shared", "-fPIC", "-Wl,-Bsymbolic", "-o", library]
+        self.succeeds(*C11, *sources, *flags, *linked)
+        return library
+
+    @needs("sixel2png", "pkg-config")
+    def test_preload_encoder_example(self):
+        """libsixel's calls for encoding write a sequence that decodes to the same pixels."""
+        library, written = ctypes.CDLL(self.preload()), []
+        output, dither = ctypes.c_void_p(), ctypes.c_void_p()
+        function = ctypes.CFUNCTYPE(ctypes.c_int, ctypes.c_void_p, ctypes.c_int, ctypes.c_void_p)
+        write = function(lambda at, length, _: written.append(ctypes.string_at(at, length)) or 0)
+        library.sixel_output_new(ctypes.byref(output), write, None, None)
+        library.sixel_dither_new(ctypes.byref(dither), 16, None)
+        self.assertEqual(library.sixel_encode(b"\xff\0\0" * 12, 2, 6, 3, dither, output), 0)
+        library.sixel_dither_unref(dither)
+        library.sixel_output_unref(output)
+        decode = self.program("decode", "sanitizers", EXAMPLES)
+        self.assertEqual(self.succeeds(decode, stdin=b"".join(written)), b"\xff\0\0\xff" * 12)
+
+    @needs("mpv", "pkg-config")
+    def test_preload_mpv(self):
+        """mpv shows a frame with preload_encoder.c."""
+        frame = ["--vo=sixel", "--frames=1", "av://lavfi:testsrc=size=64x48"]
+        written = self.succeeds("mpv", *frame, env=os.environ | {"LD_PRELOAD": self.preload()})
+        self.assertRegex(written, rb"\x1bP9;0;0q.*\x1b\\\\")
 
     @needs("sixel2png", "pkg-config")
     def test_preload_example(self):
         """sixel2png shows the same with preload.c as without, in a form without differences."""
-        library = self.folder / "preload.so"
-        flags = self.succeeds("pkg-config", "--cflags", "libsixel").decode().split()
-        sources = [EXAMPLES / "preload.c", MEMORY, ARCHIVES[0]]
-        linked = ["-shared", "-fPIC", "-Wl,-Bsymbolic", "-o", library]
-        self.succeeds(*C11, *flags, *sources, *linked)
+        library = self.preload()
 
         def shows_same(text):
             # Pixels that libsixel does not set are made black.

@@ -1,48 +1,41 @@
-"""Compares the FFI declarations of the Rust crate with the C header."""
+"""Reads the declarations of the C header and those of the Rust crate, as text in C."""
 import re
 
 TYPES = {
-    "u8": "uint8_t", "u16": "uint16_t", "u32": "uint32_t", "u64": "uint64_t", "i32": "int32_t",
-    "usize": "size_t", "c_void": "void", "Raw": "icysixel", "Fed": "icysixel_fed",
+    "": "void", "u8": "uint8_t", "u16": "uint16_t", "u32": "uint32_t", "u64": "uint64_t",
+    "i32": "int32_t", "usize": "size_t", "c_void": "void", "Raw": "icysixel", "Fed": "icysixel_fed",
     "Size": "icysixel_size", "Shape": "icysixel_shape", "Bytes": "icysixel_bytes",
     "Color": "icysixel_color", "Palette": "icysixel_palette",
 }  # fmt: skip
 FUNCTION = r"\bfn (icysixel_\w+)\(([^)]*)\)\s*(?:-> (\w+))?;"
-STRUCT = r"#\[repr\(C\)\]\s(?:#\[.*\]\s)?(?:pub\(crate\) )?struct (\w+) \{([^}]*)\}"
-CODE = r"const (\w+): u32 = (\d+);"
-HEAD = """#include "icysixel.h"
-#define TYPE(place, field) __typeof__(((place *)0)->field)
-#define SAME(one, other, field) \\
-    _Static_assert(offsetof(one, field) == offsetof(other, field), #field); \\
-    _Static_assert(__builtin_types_compatible_p(TYPE(one, field), TYPE(other, field)), #field);
-"""
 
 
-def c_type(rust):
-    """The C type of a Rust type: a number, a struct, a pointer or a reference."""
-    kind, name = re.fullmatch(r"(\*const |\*mut |&mut )?(\w+)", rust).groups(default="")
-    return ("const " if kind == "*const " else "") + TYPES[name] + (" *" if kind else "")
+def parts(text, mark):
+    """The parts of a text between marks, with one space between words."""
+    return [" ".join(it.split()) for it in text.split(mark) if it.strip()]
 
 
-def pairs(text):
-    """The names and C types of `name: type, ..`."""
-    found = re.findall(r"(\w+): ([^,]+)", text)
-    return [(name, c_type(rust.strip())) for name, rust in found]
+def in_c(text):
+    """The C declarations of `name: type, ..` in Rust."""
+    found = re.findall(r"(\w+): (\*const |\*mut |&mut )?(\w+)", text)
+    const = {"*const ": "const "}
+    return [f"{const.get(by, '')}{TYPES[kind]} {'*' * bool(by)}{name}" for name, by, kind in found]
 
 
-def comparison(source):
-    """A C file that compiles only if the declarations agree, and how many of each kind it has."""
-    source = re.sub(r"^\s*//.*\n", "", source, flags=re.M)
-    functions, codes = re.findall(FUNCTION, source), re.findall(CODE, source)
-    structs = [it for it in re.findall(STRUCT, source) if it[0] in TYPES]
-    lines = [HEAD]
-    for name, arguments, result in functions:
-        types = ", ".join(kind for _, kind in pairs(arguments))
-        lines.append(f"{TYPES.get(result, 'void')} (*const of_{name})({types}) = {name};")
-    for name, text in structs:
-        fields, ours, theirs = pairs(text), f"struct of_{name}", TYPES[name]
-        lines.append(f"{ours} {{ {' '.join(f'{kind} {field};' for field, kind in fields)} }};")
-        lines.append(f'_Static_assert(sizeof({ours}) == sizeof({theirs}), "{name}");')
-        lines += [f"SAME({ours}, {theirs}, {field})" for field, _ in fields]
-    lines += [f'_Static_assert(ICYSIXEL_{name} == {it}, "{name}");' for name, it in codes]
-    return "\n".join([*lines, ""]), (len(functions), len(structs), len(codes))
+def of_header(text):
+    """Each function's result and parameters, each struct's fields, and each code's number."""
+    text = re.sub(r"/\*.*?\*/", "", text, flags=re.S)
+    functions = re.findall(r"^(\w+) (\w+)\(([^)]*)\);", text, re.M)
+    structs = re.findall(r"^typedef struct \{([^}]*)\} (\w+);", text, re.M)
+    found = {name: [result, *parts(listed, ",")] for result, name, listed in functions}
+    found |= {name: parts(fields, ";") for fields, name in structs}
+    return found | dict(re.findall(r"ICYSIXEL_(\w+) = (\d+)", text))
+
+
+def of_rust(text):
+    """The same of the Rust crate."""
+    text = re.sub(r"^\s*//.*\n|pub\(crate\) ", "", text, flags=re.M)
+    structs = re.findall(r"^struct (\w+) \{([^}]*)\}", text, re.M)
+    found = {name: [TYPES[it], *in_c(listed)] for name, listed, it in re.findall(FUNCTION, text)}
+    found |= {TYPES[name]: in_c(fields) for name, fields in structs if name in TYPES}
+    return found | dict(re.findall(r"const (\w+): u32 = (\d+);", text))

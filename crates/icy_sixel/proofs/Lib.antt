@@ -1,3 +1,4 @@
 pub mod Chunks
 pub mod Outcomes
+pub mod RegisterRange
 pub mod Steps

@@ -13,6 +13,7 @@ ghost use Rattle.sixel_base.specs.Limits.{area_limit};
 ghost use Rattle.sixel_base.specs.OneShot.{found, Payload, AreFoundRegisters};
 ghost use Rattle.sixel_base.specs.Payload.{payload_registers};
 ghost use Rattle.icy_sixel.specs.ImageView.{image_value};
+ghost use Rattle.icy_sixel.specs.Registers.{with_colors};
 ghost use Rattle.sixel_decoder.specs.DcsCalls.{begun as begun_dcs};
 ghost use Rattle.sixel_decoder.specs.OneShotCalls.{IsDecoded};
 ghost use Rattle.sixel_decoder.specs.PayloadCalls.{begun};
@@ -23,7 +24,7 @@ mod stream;
 use crate::sixel_image::SixelImage;
 pub use dcs_session::SixelDcsStreamDecoder;
 use sixel_base::Result;
-use sixel_base::registers::Registers;
+use sixel_base::registers::{REGISTERS, Registers};
 pub use sixel_base::settings::DcsSettings;
 use sixel_base::state::{DecoderState, PixelLimit};
 pub use sixel_base::status::{
@@ -94,6 +95,34 @@ impl SixelDecoder {
             ≡ record self.old { registers = slice_set self.old.registers register color } }
     {
         self.state.registers.set(register, color);
+    }
+
+    /// Returns the colors of all registers: red, green and blue, a byte each.
+    pub fn registers(&self) -> [[u8; 3]; REGISTERS]
+        ensures { result ≡ self.now.registers }
+    {
+        let mut colors = [[0; 3]; REGISTERS];
+        for number in 0..REGISTERS {
+            colors[number] = self.state.registers.get(number as u8);
+        }
+        colors
+    }
+
+    /// Sets the colors of the registers from `first` on: red, green and blue, a byte each.
+    ///
+    /// A terminal sets its whole palette by one call. Colors that are left after register 255 have
+    /// no effect.
+    pub fn set_registers(&mut self, first: u8, colors: &[[u8; 3]])
+        ensures { self.new ≡ record self.old {
+          registers = with_colors self.old.registers first colors.now;
+        } }
+    {
+        let start = usize::from(first);
+        let count = colors.len().min(REGISTERS - start);
+        for place in 0..count {
+            let number = (start + place) as u8;
+            self.state.registers.set(number, colors[place]);
+        }
     }
 
     /// Resets the registers to those of a new decoder, without changing crop and limit.

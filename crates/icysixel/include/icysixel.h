@@ -231,6 +231,17 @@ uint32_t icysixel_get_register(icysixel *handle, uint8_t number, icysixel_color 
 uint32_t icysixel_set_register(icysixel *handle, uint8_t number, uint8_t red, uint8_t green,
                                uint8_t blue);
 
+/* Writes the colors of the registers from `first` on to `colors`, which has `count` of them. All 256
+ * are icysixel_get_registers(&handle, 0, colors, 256). After register 255 it stops. */
+uint32_t icysixel_get_registers(icysixel *handle, uint8_t first, icysixel_color *colors,
+                                size_t count);
+
+/* Sets the registers from `first` on to `count` colors, for images that are begun afterwards. A
+ * terminal sets its palette by icysixel_set_registers(&handle, 0, palette, 16). Register 0 is the
+ * background of an opaque image. Colors that are left after register 255 have no effect. */
+uint32_t icysixel_set_registers(icysixel *handle, uint8_t first, const icysixel_color *colors,
+                                size_t count);
+
 /* Resets all registers to those of a new decoder, for images that are begun afterwards. */
 uint32_t icysixel_reset_registers(icysixel *handle);
 

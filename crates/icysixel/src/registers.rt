@@ -1,8 +1,9 @@
 //! The calls that read, set and reset the decoder's registers.
 
 ghost use Rattle.std.specs.Prelude.{◌≡◌, ◌≢◌, Some, None, is_some, true, [], ◌∷◌};
-ghost use Rattle.std.specs.Prelude.{slice_index_or, slice_set};
+ghost use Rattle.std.specs.Prelude.{drop, slice_index_or, slice_set};
 ghost use Rattle.sixel_base.specs.Color.{default_registers};
+ghost use Rattle.icy_sixel.specs.Registers.{with_colors};
 ghost use Rattle.icysixel.specs.Kept.{AreKept};
 ghost use Rattle.icysixel.specs.declared.state.State.{State};
 
@@ -75,6 +76,56 @@ pub extern "C" fn icysixel_set_register(
     slot.state()
         .receiver
         .set_register(register, [red, green, blue]);
+    Code::Success as u32
+}
+
+/// Writes the colors of the decoder's registers from `first` on, as far as both go.
+#[unsafe(no_mangle)]
+pub extern "C" fn icysixel_get_registers(slot: &mut Slot, first: u8, colors: &mut [[u8; 3]]) -> u32
+    ensures same { slot.new.handle.state ≡ slot.old.handle.state }
+    ensures none { slot.old.handle.state ≡ None → result ≡ 1 }
+    ensures done { is_some slot.old.handle.state ≡ true → result ≡ 0 }
+    ensures colors { (state : State) → slot.old.handle.state ≡ Some state
+        → colors.new ≡ with_colors colors.old 0 (drop first state.receiver.decoder.registers) }
+    ensures told { result ≢ 0 → colors.new ≡ colors.old }
+{
+    if !slot.is_held() {
+        return Code::NoHandle as u32;
+    }
+    let registers = slot.state().receiver.registers();
+    copy_colors(colors, registers.split_at(usize::from(first)).1);
+    Code::Success as u32
+}
+
+/// Copies colors to the start of a buffer, as far as both go.
+fn copy_colors(buf: &mut [[u8; 3]], colors: &[[u8; 3]])
+    ensures { buf.new ≡ with_colors buf.old 0 colors.now }
+{
+    for place in 0..colors.len().min(buf.len()) {
+        buf[place] = colors[place];
+    }
+}
+
+/// Sets the colors of the decoder's registers from `first` on.
+#[unsafe(no_mangle)]
+pub extern "C" fn icysixel_set_registers(slot: &mut Slot, first: u8, colors: &[[u8; 3]]) -> u32
+    ensures held { is_some slot.new.handle.state ≡ is_some slot.old.handle.state }
+    ensures none { slot.old.handle.state ≡ None → result ≡ 1 }
+    ensures done { is_some slot.old.handle.state ≡ true → result ≡ 0 }
+    ensures decoder { (before after : State) → slot.old.handle.state ≡ Some before
+        → slot.new.handle.state ≡ Some after → after.receiver.decoder
+        ≡ record before.receiver.decoder {
+          registers = with_colors before.receiver.decoder.registers first colors.now;
+        } }
+    ensures image { (before after : State) → slot.old.handle.state ≡ Some before
+        → slot.new.handle.state ≡ Some after → after.receiver.image ≡ before.receiver.image }
+    ensures kept { (before after : State) → slot.old.handle.state ≡ Some before
+        → slot.new.handle.state ≡ Some after → AreKept before after }
+{
+    if !slot.is_held() {
+        return Code::NoHandle as u32;
+    }
+    slot.state().receiver.set_registers(first, colors);
     Code::Success as u32
 }
 

@@ -66,6 +66,20 @@ fn decoders(rt: HostRuntime) {
     assert!(rt; are_drawn & is_replayed & (decoder.register(1) == [51, 51, 204]));
 }
 
+#[test]
+fn register_ranges(_rt: HostRuntime) {
+    let mut decoder = SixelDecoder::new();
+    decoder.set_registers(1, &[[1, 2, 3], [4, 5, 6]]);
+    decoder.set_registers(255, &[[7, 8, 9], [9, 9, 9]]);
+    let colors = decoder.registers();
+    let are_set = (colors[1] == [1, 2, 3]) & (colors[2] == [4, 5, 6]) & (colors[255] == [7, 8, 9]);
+    let are_kept = (colors[0] == [0, 0, 0]) & (colors[3] == [51, 204, 51]);
+    let mut receiver = SixelReceiver::with_decoder(decoder);
+    receiver.set_registers(2, &[[0, 0, 1]]);
+    let colors = receiver.registers();
+    assert!(are_set & are_kept & (colors[1] == [1, 2, 3]) & (colors[2] == [0, 0, 1]));
+}
+
 /// Whether one color has a certified palette of itself.
 fn is_certified(alloc: Global) -> bool {
     match palette(alloc, &NAVY) {

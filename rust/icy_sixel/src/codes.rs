@@ -26,7 +26,7 @@ pub(crate) const COMPLETE: u32 = 1;
 pub(crate) const CANCELLED: u32 = 2;
 
 /// The error of decoding that a code means.
-pub(crate) fn refusal(code: u32) -> SixelError {
+pub(crate) fn error_of(code: u32) -> SixelError {
     match code {
         OUT_OF_MEMORY => SixelError::OutOfMemory,
         OVERFLOW => SixelError::IntegerOverflow,

@@ -1,11 +1,11 @@
-//! Decoding: of a payload or a control string, in one piece or as it comes.
+//! Decoding: of a payload or a DCS sequence, in one call or in chunks.
 //!
-//! A payload is what stands between a control string's `q` and its terminator.
+//! A payload is what stands between a DCS sequence's `q` and its terminator.
 
 mod dcs_session;
 mod stream;
 
-use crate::codes::refusal;
+use crate::codes::error_of;
 use crate::error::Result;
 use crate::ffi::Handle;
 pub use crate::settings::DcsSettings;
@@ -19,42 +19,39 @@ use std::sync::{Mutex, MutexGuard, PoisonError};
 pub use stream::SixelStreamDecoder;
 pub(crate) use stream::payload_status;
 
-/// A decoder, which keeps the 256 color registers from one image to the next, and what its host has
-/// set: whether images are cropped, and how many pixels one may have.
+/// A decoder: 256 color registers from image to image, and the host's settings.
 ///
-/// A register keeps what it was set to, or what an image that was decoded defined; a refusal
-/// changes none. What the host has set of crop and limit holds for each image and each session
-/// that is begun after it, until it is set again.
+/// A register has the color that the host set or a decoded image defined. An error changes no
+/// register. The settings are whether images are cropped, and how many pixels an image can have.
+/// They apply to each image and session that is begun afterwards.
 ///
-/// The library takes one call at a time on a decoder. Those that change one have it to themselves;
-/// those that only read it take turns, by a lock that no other call pays for. So a decoder is
-/// `Send` and `Sync`, and so are its sessions.
+/// The library takes one call at a time on a decoder. Calls that change it borrow it mutably. Calls
+/// that only read it take turns by a lock. So a decoder is `Send` and `Sync`, and so are its
+/// sessions.
 pub struct SixelDecoder {
     handle: Mutex<Handle>,
 }
 
 impl SixelDecoder {
-    /// A decoder with the registers of a terminal that has just been switched on, which crops no
-    /// image and has the limit of 67,108,864 pixels.
+    /// Creates a decoder with the registers that a terminal has when it is switched on.
     ///
-    /// It takes memory, some kilobytes, and ends the process where that is refused, as a `Box`
-    /// does;
-    /// [`try_new`](Self::try_new) doesn't.
+    /// It crops no image, and its limit is 67,108,864 pixels. The call allocates some kilobytes. If
+    /// that fails it ends the process, as a `Box` does. [`try_new`](Self::try_new) does not.
     #[must_use]
     pub fn new() -> Self {
         Self::try_new().unwrap_or_else(|_| end_without_memory())
     }
 
-    /// As [`new`](Self::new).
+    /// Creates a decoder as [`new`](Self::new) does, or returns an error.
     ///
     /// # Errors
     ///
     /// [`OutOfMemory`](crate::SixelError::OutOfMemory).
     pub fn try_new() -> Result<Self> {
-        Handle::new().map(Self::of).map_err(refusal)
+        Handle::new().map(Self::of).map_err(error_of)
     }
 
-    /// As `clone`.
+    /// Copies the decoder as `clone` does, or returns an error.
     ///
     /// # Errors
     ///
@@ -77,22 +74,36 @@ impl SixelDecoder {
         self.handle.lock().unwrap_or_else(PoisonError::into_inner)
     }
 
-    /// The color of a register: red, green and blue, a byte each.
+    /// Returns the color of a register: red, green and blue, a byte each.
     #[must_use]
     pub fn register(&self, register: u8) -> [u8; 3] {
         self.shared().register(register)
     }
 
-    /// Gives a register this color: red, green and blue, a byte each.
+    /// Sets the color of a register: red, green and blue, a byte each.
     ///
-    /// A terminal has a palette of its own, and register 0 is the background of an opaque image.
+    /// A terminal has a palette of its own. Register 0 is the background of an opaque image.
     pub fn set_register(&mut self, register: u8, color: [u8; 3]) {
         self.handle().set_register(register, color);
     }
 
-    /// Makes the registers those of a new decoder, and keeps crop and limit.
+    /// Returns the colors of all registers: red, green and blue, a byte each.
+    #[must_use]
+    pub fn registers(&self) -> [[u8; 3]; 256] {
+        self.shared().registers()
+    }
+
+    /// Sets the colors of the registers from `first` on: red, green and blue, a byte each.
     ///
-    /// An image does not: it leaves the registers that it defined to the next one.
+    /// A terminal sets its whole palette by one call. Colors that are left after register 255 have
+    /// no effect.
+    pub fn set_registers(&mut self, first: u8, colors: &[[u8; 3]]) {
+        self.handle().set_registers(first, colors);
+    }
+
+    /// Resets the registers to those of a new decoder, without changing crop and limit.
+    ///
+    /// An image does not reset them, so the next one starts with the registers that it defined.
     pub fn reset_palette(&mut self) {
         self.handle().reset();
     }
@@ -105,31 +116,31 @@ impl SixelDecoder {
 
     /// Sets whether images are cropped to their raster attributes.
     ///
-    /// Sixels come in bands of six rows, so that an image whose height is no multiple of six is
-    /// read with rows that it does not have. With crop its height is the last height above zero
-    /// that raster attributes name, where they name one; width, pixels of the rows that are left,
-    /// registers and refusals are as without.
+    /// A sixel band has six rows, so an image whose height is no multiple of six is decoded with
+    /// extra rows. With crop its height is the last height above zero in its raster attributes, if
+    /// they have one. Crop does not change the width, the pixels of the remaining rows, the
+    /// registers and the errors.
     pub fn set_raster_crop(&mut self, on: bool) {
         self.handle().set_crop(on);
     }
 
-    /// How many pixels an image may have; 67,108,864 in a new decoder, and never more.
+    /// Returns how many pixels an image can have: 67,108,864 in a new decoder, and never more.
     #[must_use]
     pub fn pixel_limit(&self) -> usize {
         self.shared().limit()
     }
 
-    /// Sets how many pixels an image may have: at least 1, and at most 67,108,864.
+    /// Sets how many pixels an image can have: at least 1, and at most 67,108,864.
     ///
-    /// It is the extent of all sixels and raster attributes that counts, also where the image is
-    /// cropped, and it is refused as soon as it passes the limit. Encoding has no part in this.
+    /// The extent of all sixels and raster attributes counts, also if the image is cropped. An
+    /// image is rejected as soon as its extent is above the limit. Encoding has no such limit.
     pub fn set_pixel_limit(&mut self, pixels: usize) {
         self.handle().set_limit(pixels);
     }
 
-    /// Decodes the first control string in the bytes, or all of them as a payload if there is none.
+    /// Decodes the first DCS sequence in the bytes, or all of them as a payload if there is none.
     ///
-    /// Bytes before the introducer are passed over, and what follows the payload has no effect.
+    /// Bytes before the introducer and after the payload have no effect.
     ///
     /// ```
     /// use icy_sixel::SixelDecoder;
@@ -150,10 +161,10 @@ impl SixelDecoder {
         self.by_copy(|copy| copy.decode(bytes))
     }
 
-    /// Decodes one payload: the sixel data between a control string's `q` and its terminator.
+    /// Decodes one payload: the sixel data between a DCS sequence's `q` and its terminator.
     ///
-    /// What stands from the first terminator on has no effect, and an empty payload is an image of
-    /// one pixel.
+    /// Bytes from the first terminator on have no effect. An empty payload is an image of one
+    /// pixel.
     ///
     /// ```
     /// use icy_sixel::{DcsSettings, SixelDecoder};
@@ -174,8 +185,8 @@ impl SixelDecoder {
         self.by_copy(|copy| copy.decode_payload(bytes, settings))
     }
 
-    /// Has a copy decode, and takes its place where that gives an image: so a refusal, also of the
-    /// room for the caller's pixels, leaves the registers.
+    /// Decodes by a copy, which replaces the decoder if it succeeds: so an error, also of the
+    /// allocation for the caller's pixels, leaves the registers unchanged.
     fn by_copy(
         &mut self,
         decode: impl FnOnce(&mut Handle) -> Result<SixelImage>,
@@ -186,10 +197,10 @@ impl SixelDecoder {
         Ok(image)
     }
 
-    /// Begins a payload that is decoded as it comes.
+    /// Begins a payload that is decoded in chunks.
     ///
-    /// It takes no memory and is always `Ok`. The session borrows this decoder until it ends, and
-    /// starts from the registers, the crop and the limit that the decoder has now.
+    /// The call does not allocate and is always `Ok`. The session borrows this decoder until it
+    /// ends, and starts with the decoder's current registers, crop and limit.
     ///
     /// ```
     /// use icy_sixel::{DcsSettings, SixelDecoder, SixelFeedStatus::Terminated};
@@ -211,9 +222,9 @@ impl SixelDecoder {
         Ok(SixelStreamDecoder::new(self))
     }
 
-    /// Begins a control string that is decoded as it comes, from its introducer to its end.
+    /// Begins a DCS sequence that is decoded in chunks, from its introducer to its end.
     ///
-    /// It takes no memory.
+    /// It does not allocate.
     ///
     /// ```
     /// use icy_sixel::{SixelDcsFeedStatus::Complete, SixelDecoder};
@@ -231,24 +242,24 @@ impl SixelDecoder {
         SixelDcsStreamDecoder::new(self)
     }
 
-    /// Begins a payload, in the place of what is open.
+    /// Opens a payload, in place of an open image.
     pub(crate) fn begin_payload(&mut self, settings: DcsSettings) {
         self.handle().begin_payload(settings.parameters());
     }
 
-    /// Begins a control string, in the place of what is open.
+    /// Opens a DCS sequence, in place of an open image.
     pub(crate) fn begin_string(&mut self) {
         self.handle().begin();
     }
 
-    /// The size of the image that is open.
+    /// The size of the open image.
     pub(crate) fn size_so_far(&self) -> Option<(usize, usize)> {
         let size = self.shared().size_so_far().ok()?;
         Some((size.width, size.height))
     }
 }
 
-/// Ends the process as Rust's own collections do where memory is refused.
+/// Ends the process as Rust's own collections do if an allocation fails.
 fn end_without_memory() -> ! {
     handle_alloc_error(Layout::new::<Handle>())
 }

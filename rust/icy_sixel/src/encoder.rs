@@ -1,6 +1,6 @@
 //! Encoding: the SIXEL text of an image.
 
-use crate::codes::{BAD_DIMENSIONS, refusal};
+use crate::codes::{BAD_DIMENSIONS, error_of};
 use crate::error::{Result, SixelError};
 use crate::ffi::{Handle, Source};
 use crate::sixel_image::{BackgroundMode, PixelAspectRatio};
@@ -71,14 +71,14 @@ pub(crate) fn encode(
         p2: mode.to_p2_value(),
         max_colors: options.max_colors,
     };
-    let refused = |code| match code {
+    let error = |code| match code {
         BAD_DIMENSIONS => SixelError::InvalidDimensions { width, height },
-        code => refusal(code),
+        code => error_of(code),
     };
-    let mut handle = Handle::new().map_err(refusal)?;
-    let length = handle.write(&source).map_err(refused)?;
+    let mut handle = Handle::new().map_err(error_of)?;
+    let length = handle.write(&source).map_err(error)?;
     let mut text = Vec::new();
     text.try_reserve_exact(length)?;
-    handle.take_text(&mut text).map_err(refusal)?;
+    handle.take_text(&mut text).map_err(error_of)?;
     Ok(String::from_utf8(text).expect("a SIXEL text is ASCII"))
 }

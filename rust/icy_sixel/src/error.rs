@@ -1,13 +1,13 @@
-//! Why a call was refused.
+//! Why a call failed.
 
 use std::collections::TryReserveError;
 use std::error::Error;
 use std::fmt;
 
-/// The answer of a call that can be refused.
+/// The result of a call that can fail.
 pub type Result<T> = std::result::Result<T, SixelError>;
 
-/// Why a call was refused.
+/// Why a call failed.
 #[derive(Clone, Debug, PartialEq, Eq)]
 pub enum SixelError {
     /// A size is zero, or above what the format can hold.
@@ -26,16 +26,16 @@ pub enum SixelError {
     },
     /// The bytes are no SIXEL data, for this reason.
     InvalidData(String),
-    /// A control string does not begin with its introducer.
+    /// A DCS sequence does not begin with its introducer.
     NoSixelData,
     /// A size does not fit its type.
     IntegerOverflow,
-    /// Memory was refused.
+    /// An allocation failed.
     OutOfMemory,
 }
 
 impl SixelError {
-    /// The refusal of data for this reason, or want of memory where there is none for the words.
+    /// The error of invalid data for this reason, or `OutOfMemory` if the text cannot be allocated.
     pub(crate) fn of_data(reason: &str) -> Self {
         let mut text = String::new();
         match text.try_reserve_exact(reason.len()) {
@@ -43,7 +43,7 @@ impl SixelError {
                 text.push_str(reason);
                 Self::InvalidData(text)
             }
-            Err(refused) => refused.into(),
+            Err(error) => error.into(),
         }
     }
 }

@@ -1,9 +1,8 @@
-//! The border to the proved archive: every `unsafe` of this crate stands here, and what it trusts.
+//! The FFI boundary to the proved archive: every `unsafe` of this crate, and what it trusts.
 //!
-//! What is called is documented by `icysixel.h`, and `tests/rust` compares these declarations
-//! with it. Each of these functions is proved to return, and to keep to what it was passed, for all
-//! bytes and numbers and for any handle that it left; none has a further condition. What is trusted
-//! beside that proof is this file, and the compilers on both sides.
+//! `icysixel.h` documents the functions, and `tests/rust` compares these declarations with it. Each
+//! function is proved to return, and to access only what it is passed, for all bytes and numbers
+//! and for any handle that it left. Beside that proof this file is trusted, and both compilers.
 
 use crate::codes::{OK, OUT_OF_MEMORY};
 use std::alloc::{Layout, alloc, dealloc, realloc};
@@ -74,8 +73,8 @@ pub(crate) struct Palette {
 }
 
 // SAFETY: these are the declarations of `icysixel.h`. Those that are `safe` take numbers, a handle
-// and places to write to, and have an answer for all of these: a `Raw` is zeros or what the library
-// left there, since nothing else writes to one, and a `&mut` is a place that nothing else reaches.
+// and places to write to, and are defined for all of these: a `Raw` is zeros or what the library
+// left there, because nothing else writes to one, and a `&mut` is a place that nothing else uses.
 unsafe extern "C" {
     safe fn icysixel_new(handle: &mut Raw) -> u32;
     safe fn icysixel_free(handle: &mut Raw);
@@ -102,7 +101,7 @@ unsafe extern "C" {
     safe fn icysixel_get_limit(handle: &mut Raw) -> usize;
     safe fn icysixel_set_limit(handle: &mut Raw, pixels: usize) -> u32;
 
-    fn icysixel_feed(handle: &mut Raw, piece: *const u8, length: usize, fed: &mut Fed) -> u32;
+    fn icysixel_feed(handle: &mut Raw, chunk: *const u8, length: usize, fed: &mut Fed) -> u32;
     fn icysixel_decode(handle: &mut Raw, bytes: *const u8, length: usize, shape: &mut Shape)
     -> u32;
     fn icysixel_decode_payload(
@@ -113,6 +112,14 @@ unsafe extern "C" {
         p2: i32,
         grid: i32,
         shape: &mut Shape,
+    ) -> u32;
+    fn icysixel_get_registers(handle: &mut Raw, first: u8, colors: *mut Color, count: usize)
+    -> u32;
+    fn icysixel_set_registers(
+        handle: &mut Raw,
+        first: u8,
+        colors: *const Color,
+        count: usize,
     ) -> u32;
     fn icysixel_encode(
         handle: &mut Raw,
@@ -126,12 +133,7 @@ unsafe extern "C" {
         max_colors: u16,
         text_length: &mut usize,
     ) -> u32;
-    fn icysixel_copy_text(
-        handle: &mut Raw,
-        buf: *mut u8,
-        size: usize,
-        wanted: &mut usize,
-    ) -> u32;
+    fn icysixel_copy_text(handle: &mut Raw, buf: *mut u8, size: usize, wanted: &mut usize) -> u32;
     fn icysixel_choose_palette(
         pixels: *const u8,
         length: usize,
@@ -146,15 +148,15 @@ unsafe extern "C" {
     ) -> u32;
 }
 
-/// An answer, or the code of a refusal.
+/// The value of a call, or the code of its error.
 pub(crate) type Answer<T> = Result<T, u32>;
 
-/// What a code and what was written beside it say together.
+/// The result of a call that returned this code and wrote this value.
 fn answer<T>(code: u32, value: T) -> Answer<T> {
     if code == OK { Ok(value) } else { Err(code) }
 }
 
-/// The parameters of a control string as C has them, where -1 is an absent one.
+/// The parameters of a DCS sequence, where -1 means an absent one.
 pub(crate) type Parameters = [i32; 3];
 
 /// The pixels that are to be encoded, four bytes each, and what their text says of them.
@@ -167,14 +169,13 @@ pub(crate) struct Source<'a> {
     pub(crate) max_colors: u16,
 }
 
-/// A decoder of the library, with the image that it is receiving, and what it keeps for its caller.
+/// A decoder of the library, with its open image, its stored image and its stored text.
 pub(crate) struct Handle(Raw);
 
-// SAFETY: what a handle leads to is reached by it alone, the library has no state beside its
-// handles and no tie to a thread, and its memory is Rust's global allocator's, which serves all
-// threads. So it is the same from which thread its calls come, as long as they come one at a time,
-// which `&mut` in each of them sees to. It is not `Sync`, and need not be: no call takes a shared
-// reference.
+// SAFETY: only the handle refers to its state, the library has no state beside its handles and no
+// tie to a thread, and its memory is from Rust's global allocator, which serves all threads. So
+// calls can come from any thread, one at a time, as `&mut` in each of them ensures. It is not
+// `Sync`, and need not be: no call takes a shared reference.
 unsafe impl Send for Handle {}
 
 impl Drop for Handle {
@@ -191,56 +192,56 @@ impl Handle {
         answer(code, handle)
     }
 
-    /// Begins a control string, in the place of what is open.
+    /// Opens a DCS sequence, in place of an open image.
     pub(crate) fn begin(&mut self) {
         icysixel_begin(&mut self.0);
     }
 
-    /// Begins a payload, in the place of what is open.
+    /// Opens a payload, in place of an open image.
     pub(crate) fn begin_payload(&mut self, [p1, p2, grid]: Parameters) {
         icysixel_begin_payload(&mut self.0, p1, p2, grid);
     }
 
-    /// Reads a piece of the image that is open.
-    pub(crate) fn feed(&mut self, piece: &[u8]) -> Answer<Fed> {
+    /// Reads a chunk of the open image.
+    pub(crate) fn feed(&mut self, chunk: &[u8]) -> Answer<Fed> {
         let mut fed = Fed::default();
         // SAFETY: the pointer and the length are those of a slice, which is only read.
-        let code = unsafe { icysixel_feed(&mut self.0, piece.as_ptr(), piece.len(), &mut fed) };
+        let code = unsafe { icysixel_feed(&mut self.0, chunk.as_ptr(), chunk.len(), &mut fed) };
         answer(code, fed)
     }
 
-    /// Whether the payload of the image that is open has begun.
+    /// Whether the payload of the open image has begun.
     pub(crate) fn in_payload(&mut self) -> bool {
         icysixel_in_payload(&mut self.0) != 0
     }
 
-    /// The size that the image that is open has so far.
+    /// The size of the open image so far.
     pub(crate) fn size_so_far(&mut self) -> Answer<Size> {
         let mut size = Size::default();
         answer(icysixel_get_size_so_far(&mut self.0, &mut size), size)
     }
 
-    /// How many pixels were copied or filled so far for the image that is open.
+    /// How many pixels were copied or filled so far for the open image.
     pub(crate) fn canvas_writes(&mut self) -> u64 {
         icysixel_get_canvas_writes(&mut self.0)
     }
 
-    /// How many pixels sixels of the image that is open have painted so far, at most.
+    /// How many pixels sixels of the open image have painted so far, at most.
     pub(crate) fn canvas_paints(&mut self) -> u64 {
         icysixel_get_canvas_paints(&mut self.0)
     }
 
-    /// Closes the image that is open, and gives its shape and its pixels.
+    /// Closes the open image, and returns its shape and its pixels.
     pub(crate) fn close(&mut self) -> Answer<(Shape, Vec<u8>)> {
         self.image(|handle, shape| icysixel_finish(handle, shape))
     }
 
-    /// Gives up the image that is open, if one is.
+    /// Gives up the open image, if one is.
     pub(crate) fn abort(&mut self) {
         icysixel_abort(&mut self.0);
     }
 
-    /// Decodes the first control string in the bytes, or all of them, and gives the image's shape
+    /// Decodes the first DCS sequence in the bytes, or all of them, and gives the image's shape
     /// and its pixels.
     pub(crate) fn read(&mut self, bytes: &[u8]) -> Answer<(Shape, Vec<u8>)> {
         self.image(|handle, shape| {
@@ -297,6 +298,22 @@ impl Handle {
         icysixel_set_register(&mut self.0, number, red, green, blue);
     }
 
+    pub(crate) fn registers(&mut self) -> [[u8; 3]; 256] {
+        let mut colors = [[0; 3]; 256];
+        let start = colors.as_mut_ptr().cast();
+        // SAFETY: the pointer and the count are those of an array that is only written to, and a
+        // `Color` has the layout of three bytes.
+        unsafe { icysixel_get_registers(&mut self.0, 0, start, colors.len()) };
+        colors
+    }
+
+    pub(crate) fn set_registers(&mut self, first: u8, colors: &[[u8; 3]]) {
+        let start = colors.as_ptr().cast();
+        // SAFETY: the pointer and the count are those of a slice that is only read, and a `Color`
+        // has the layout of three bytes.
+        unsafe { icysixel_set_registers(&mut self.0, first, start, colors.len()) };
+    }
+
     pub(crate) fn reset(&mut self) {
         icysixel_reset_registers(&mut self.0);
     }
@@ -317,7 +334,7 @@ impl Handle {
         icysixel_set_limit(&mut self.0, pixels);
     }
 
-    /// Keeps the text of these pixels, and tells how many bytes it has.
+    /// Encodes pixels, stores their text and returns its length.
     pub(crate) fn write(&mut self, source: &Source<'_>) -> Answer<usize> {
         let &Source { pixels, width, height, p1, p2, max_colors } = source;
         let (start, length) = (pixels.as_ptr(), pixels.len());
@@ -413,7 +430,7 @@ fn append(bytes: &mut Vec<u8>, call: impl FnOnce(*mut u8, usize, &mut usize) -> 
     Ok(())
 }
 
-/// What a request for memory is answered by. A refused one has a pointer that leads to no memory.
+/// The result of an allocation. After a failure the pointer refers to no memory.
 #[repr(C)]
 struct Tried {
     ok: bool,
@@ -425,13 +442,13 @@ struct Tried {
 /// blocks, which is the greatest that the library asks for.
 const HEAD: usize = 16;
 
-/// The byte that a refused answer points to.
+/// The byte that the pointer of a failed allocation refers to.
 static NOTHING: u8 = 0;
 
 impl Tried {
     const REFUSED: Self = Self { ok: false, block: (&raw const NOTHING).cast_mut() };
 
-    /// The block in memory that was had for this layout, or a refusal where it is null.
+    /// The block in memory that was had for this layout, or an error if it is null.
     ///
     /// # Safety
     ///
@@ -530,7 +547,7 @@ fn bare(size: usize) -> Tried {
     noted(block, size)
 }
 
-/// The answer with a block without a head, which is noted, or a refusal where it is null.
+/// The answer with a block without a head, which is noted, or an error if it is null.
 fn noted(block: *mut u8, size: usize) -> Tried {
     if block.is_null() {
         return Tried::REFUSED;
@@ -578,7 +595,7 @@ extern "C" fn rattle_alloc(size: usize, align: usize) -> Tried {
     unsafe { Tried::of(start, layout) }
 }
 
-/// Makes the block one of so many bytes, which may move it; a refusal leaves it as it was.
+/// Makes the block one of so many bytes, which may move it; an error leaves it unchanged.
 ///
 /// # Safety
 ///
@@ -607,7 +624,7 @@ unsafe extern "C" fn rattle_realloc(
     unsafe { Tried::of(start, wanted) }
 }
 
-/// Makes a block without a head one of so many bytes, and of one at least; a refusal leaves it as it
+/// Makes a block without a head one of so many bytes, and of one at least; an error leaves it as it
 /// was.
 ///
 /// # Safety
@@ -703,7 +720,7 @@ mod tests {
         // SAFETY: the block is one that was answered, and is given up for the new one.
         let Tried { ok, block: third } = unsafe { rattle_realloc(third, 32, 40, 1) };
         assert!(ok && holds(third, &bytes[..32]) && sizes(third) == Some(40));
-        // SAFETY: the block is one that was answered; a refusal leaves it as it was.
+        // SAFETY: the block is one that was answered; an error leaves it unchanged.
         let refused = unsafe { rattle_realloc(third, 32, usize::MAX, 1) };
         assert!(!refused.ok && holds(third, &bytes[..32]) && sizes(third) == Some(40));
         for block in [third, first, second] {
@@ -721,7 +738,7 @@ mod tests {
         for size in [usize::MAX, usize::MAX - 15, isize::MAX as usize, isize::MAX as usize - 15] {
             assert!(!rattle_alloc(size, 1).ok);
             let old = block(b"kept", 1);
-            // SAFETY: the block is one that was answered; a refusal leaves it as it was.
+            // SAFETY: the block is one that was answered; an error leaves it unchanged.
             let Tried { ok, block } = unsafe { rattle_realloc(old, 4, size, 1) };
             assert!(!ok && !block.is_null() && holds(old, b"kept"));
             // SAFETY: the block is one that was answered, and is used no more.

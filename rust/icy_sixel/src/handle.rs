@@ -1,15 +1,15 @@
 //! Images out of a handle.
 
-use crate::codes::refusal;
+use crate::codes::error_of;
 use crate::error::Result;
 use crate::ffi::{Handle, Shape};
 use crate::settings::{BackgroundMode, DcsSettings, PixelAspectRatio};
 use crate::sixel_image::SixelImage;
 
 impl Handle {
-    /// Decodes the first control string in the bytes, or all of them as a payload.
+    /// Decodes the first DCS sequence in the bytes, or all of them as a payload.
     pub(crate) fn decode(&mut self, bytes: &[u8]) -> Result<SixelImage> {
-        self.read(bytes).map(image).map_err(refusal)
+        self.read(bytes).map(image).map_err(error_of)
     }
 
     /// Decodes one payload.
@@ -18,20 +18,18 @@ impl Handle {
         bytes: &[u8],
         settings: DcsSettings,
     ) -> Result<SixelImage> {
-        self.read_payload(bytes, settings.parameters()).map(image).map_err(refusal)
+        self.read_payload(bytes, settings.parameters()).map(image).map_err(error_of)
     }
 
-    /// Closes the image that is open, and gives it.
+    /// Closes the open image, and gives it.
     pub(crate) fn finish(&mut self) -> Result<SixelImage> {
-        self.close().map(image).map_err(refusal)
+        self.close().map(image).map_err(error_of)
     }
 
     /// A new decoder with the registers, the crop and the limit of this one.
     pub(crate) fn copy(&mut self) -> Result<Self> {
-        let mut copy = Self::new().map_err(refusal)?;
-        for number in 0..=u8::MAX {
-            copy.set_register(number, self.register(number));
-        }
+        let mut copy = Self::new().map_err(error_of)?;
+        copy.set_registers(0, &self.registers());
         copy.set_crop(self.crop());
         copy.set_limit(self.limit());
         Ok(copy)

@@ -1,6 +1,6 @@
 //! The palette of an image, with a certificate that no palette of its size is much better.
 
-use crate::codes::refusal;
+use crate::codes::error_of;
 use crate::error::{Result, SixelError};
 use crate::ffi::{self, Color};
 
@@ -58,7 +58,7 @@ pub fn choose_palette(pixels: &[u8], max_colors: u16) -> Result<PaletteChoice> {
     indices.try_reserve_exact(pixels.len() / 4)?;
     let palette =
         ffi::choose_palette(pixels, max_colors, &mut colors, &mut witnesses, &mut indices)
-            .map_err(refusal)?;
+            .map_err(error_of)?;
     Ok(PaletteChoice {
         colors: listed(&colors[..palette.colors])?,
         indices,

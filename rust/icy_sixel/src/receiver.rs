@@ -1,23 +1,23 @@
-//! A decoder that owns the image that it is receiving, for a host that keeps both in one struct.
+//! A decoder and its open image, for a host that stores both in one struct.
 
-use crate::codes::refusal;
+use crate::codes::error_of;
 use crate::decoder::{DcsSettings, SixelDecoder};
 use crate::decoder::{payload_status, string_status};
 use crate::error::Result;
 use crate::script::Status;
 use crate::sixel_image::SixelImage;
 
-/// What a feed of a receiver did.
+/// The result of a feed of a receiver.
 #[derive(Clone, Copy, Debug, PartialEq, Eq)]
-#[must_use = "it tells how many bytes are the image's own, and whether it has ended"]
+#[must_use = "it says how many bytes belong to the image, and whether it has ended"]
 pub struct Received {
-    /// How many bytes of the piece are the image's own.
+    /// How many bytes of the chunk are the image's own.
     pub consumed: usize,
     /// What the caller does next, as a session of that form answers it.
     pub status: Status,
 }
 
-/// The image that is open, if one is.
+/// The open image, if one is.
 #[derive(Clone, Copy, Debug, PartialEq, Eq)]
 enum Open {
     Nothing,
@@ -28,8 +28,9 @@ enum Open {
 /// A decoder, and at most one image that it is receiving.
 ///
 /// The calls are those of the decoder and of its two sessions, [`SixelStreamDecoder`] and
-/// [`SixelDcsStreamDecoder`]. These borrow a decoder; a receiver can be kept in a struct from piece
-/// to piece. An image changes the registers by a successful [`finish`](Self::finish) alone.
+/// [`SixelDcsStreamDecoder`]. The sessions borrow a decoder. A receiver owns it, and can be stored
+/// in a struct between chunks. An image changes registers only by a successful
+/// [`finish`](Self::finish).
 ///
 /// ```
 /// use icy_sixel::{SixelReceiver, Status};
@@ -53,66 +54,66 @@ pub struct SixelReceiver {
 }
 
 impl SixelReceiver {
-    /// A receiver with a new decoder, by [`SixelDecoder::new`], and no image open.
+    /// Creates a receiver with a new decoder and no open image.
     #[must_use]
     pub fn new() -> Self {
         Self::with_decoder(SixelDecoder::new())
     }
 
-    /// A receiver with this decoder, and no image open.
+    /// Creates a receiver with this decoder and no open image.
     #[must_use]
     pub fn with_decoder(mut decoder: SixelDecoder) -> Self {
         decoder.handle().abort();
         Self { decoder, open: Open::Nothing }
     }
 
-    /// The decoder. An image that is open is given up.
+    /// Returns the decoder, and aborts an open image.
     #[must_use]
     pub fn into_decoder(mut self) -> SixelDecoder {
         self.abort();
         self.decoder
     }
 
-    /// The decoder, with the registers that the last finished image left.
+    /// Returns the decoder, with the registers that the last finished image left.
     #[must_use]
     pub fn decoder(&self) -> &SixelDecoder {
         &self.decoder
     }
 
-    /// Whether an image is open: it was begun, and neither finished nor given up.
+    /// Whether an image is open: it was begun, and neither finished nor aborted.
     #[must_use]
     pub fn is_receiving(&self) -> bool {
         self.open != Open::Nothing
     }
 
-    /// Begins a payload, from the registers, the crop and the limit that the decoder has now.
+    /// Begins a payload with the decoder's current registers, crop and limit.
     ///
-    /// An image that is open is given up. It takes no memory.
+    /// An open image is aborted. The call does not allocate.
     pub fn begin_frame(&mut self, settings: DcsSettings) {
         self.decoder.begin_payload(settings);
         self.open = Open::Payload;
     }
 
-    /// Begins a control string, from the registers, the crop and the limit that the decoder has.
+    /// Begins a DCS sequence with the decoder's current registers, crop and limit.
     ///
-    /// An image that is open is given up. It takes no memory.
+    /// An open image is aborted. The call does not allocate.
     pub fn begin_dcs(&mut self) {
         self.decoder.begin_string();
         self.open = Open::ControlString;
     }
 
-    /// Reads a piece of the image that is open; what stands after it is left to the caller.
+    /// Reads a chunk of the open image, and does not consume what follows the image.
     ///
     /// # Errors
     ///
     /// Those of the sessions, by [`SixelStreamDecoder::feed`] and [`SixelDcsStreamDecoder::feed`]:
-    /// a refusal is kept until another image is begun. Where none is open, it is `InvalidData` with
+    /// the error stays until another image is begun. If no image is open, it is `InvalidData` with
     /// `stream decoder has failed`.
     ///
     /// [`SixelStreamDecoder::feed`]: crate::SixelStreamDecoder::feed
     /// [`SixelDcsStreamDecoder::feed`]: crate::SixelDcsStreamDecoder::feed
-    pub fn feed(&mut self, piece: &[u8]) -> Result<Received> {
-        let fed = self.decoder.handle().feed(piece).map_err(refusal)?;
+    pub fn feed(&mut self, chunk: &[u8]) -> Result<Received> {
+        let fed = self.decoder.handle().feed(chunk).map_err(error_of)?;
         let status = match self.open {
             Open::ControlString => Status::Dcs(string_status(fed)),
             Open::Payload | Open::Nothing => Status::Payload(payload_status(fed)),
@@ -120,50 +121,50 @@ impl SixelReceiver {
         Ok(Received { consumed: fed.consumed, status })
     }
 
-    /// Closes the image, and gives it; the decoder then has the registers that it left.
+    /// Closes the image, returns it, and stores its registers in the decoder.
     ///
     /// # Errors
     ///
-    /// Those of the sessions, and where none is open that of [`feed`](Self::feed). A refusal closes
-    /// the image too, and leaves the decoder as it was.
+    /// Those of the sessions, and if no image is open that of [`feed`](Self::feed). An error closes
+    /// the image too, and leaves the decoder unchanged.
     pub fn finish(&mut self) -> Result<SixelImage> {
         let answer = self.decoder.handle().finish();
         self.abort();
         answer
     }
 
-    /// Gives up the image that is open, if one is. The decoder stays as it is.
+    /// Aborts the open image, if there is one. The decoder is unchanged.
     pub fn abort(&mut self) {
         self.decoder.handle().abort();
         self.open = Open::Nothing;
     }
 
     /// How many pixels were copied or filled so far, to grow the rows of the canvas, as of the
-    /// sessions; 0 where no image is open. It takes no memory.
+    /// sessions; 0 if no image is open. It does not allocate.
     #[must_use]
     pub fn canvas_writes(&self) -> u64 {
         self.decoder.shared().canvas_writes()
     }
 
     /// How many pixels sixels have painted so far, at most, as of the sessions; 0 where no image is
-    /// open. It takes no memory.
+    /// open. It does not allocate.
     #[must_use]
     pub fn canvas_paints(&self) -> u64 {
         self.decoder.shared().canvas_paints()
     }
 
-    /// Whether the payload of the image that is open has begun: at once where a payload is
-    /// received, and after the header of a control string.
+    /// Whether the payload of the open image has begun: at once where a payload is
+    /// received, and after the header of a DCS sequence.
     ///
-    /// `false` after a refusal, and where no image is open.
+    /// `false` after an error, and if no image is open.
     #[must_use]
     pub fn in_payload(&self) -> bool {
         self.decoder.shared().in_payload()
     }
 
     /// The width and the height that the image has so far, as of a payload session, by
-    /// [`size_so_far`](crate::SixelStreamDecoder::size_so_far). `None` before the payload, after a
-    /// refusal, and where no image is open. It takes no memory.
+    /// [`size_so_far`](crate::SixelStreamDecoder::size_so_far). `None` before the payload, after an
+    /// error, and if no image is open. It does not allocate.
     #[must_use]
     pub fn size_so_far(&self) -> Option<(usize, usize)> {
         self.decoder.size_so_far()
@@ -175,17 +176,31 @@ impl SixelReceiver {
         self.decoder.register(register)
     }
 
-    /// Gives a register of the decoder this color: red, green and blue, a byte each.
+    /// Sets the color of a register of the decoder: red, green and blue, a byte each.
     ///
-    /// An image that is open goes on with the registers that it began from, and leaves its own when
-    /// it is finished.
+    /// An open image keeps the registers that it began from, and its [`finish`](Self::finish)
+    /// stores its own.
     pub fn set_register(&mut self, register: u8, color: [u8; 3]) {
         self.decoder.set_register(register, color);
     }
 
-    /// Makes the decoder's registers those of a new one.
+    /// Returns the colors of all registers: red, green and blue, a byte each.
+    #[must_use]
+    pub fn registers(&self) -> [[u8; 3]; 256] {
+        self.decoder.registers()
+    }
+
+    /// Sets the colors of the decoder's registers from `first` on.
     ///
-    /// An image that is open goes on with those that it began from, and leaves its own when it is
+    /// It does what [`SixelDecoder::set_registers`] does. An open image keeps the registers that it
+    /// began from, and its [`finish`](Self::finish) stores its own.
+    pub fn set_registers(&mut self, first: u8, colors: &[[u8; 3]]) {
+        self.decoder.set_registers(first, colors);
+    }
+
+    /// Resets the decoder's registers to those of a new one.
+    ///
+    /// An open image goes on with those that it began from, and leaves its own when it is
     /// finished.
     pub fn reset_palette(&mut self) {
         self.decoder.reset_palette();
@@ -193,14 +208,14 @@ impl SixelReceiver {
 
     /// Sets whether the decoder crops images, as [`SixelDecoder::set_raster_crop`] does.
     ///
-    /// An image that is open goes on as it began.
+    /// An open image goes on as it began.
     pub fn set_raster_crop(&mut self, on: bool) {
         self.decoder.set_raster_crop(on);
     }
 
     /// Sets how many pixels an image may have, as [`SixelDecoder::set_pixel_limit`] does.
     ///
-    /// An image that is open goes on as it began.
+    /// An open image goes on as it began.
     pub fn set_pixel_limit(&mut self, pixels: usize) {
         self.decoder.set_pixel_limit(pixels);
     }

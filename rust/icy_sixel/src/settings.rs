@@ -1,8 +1,8 @@
-//! What a control string says of its image before the data: background, pixel shape, grid.
+//! What a DCS sequence says of its image before the data: background, pixel shape, grid.
 
 use crate::ffi::Parameters;
 
-/// What a pixel that no sixel covers looks like, as parameter P2 of a control string says.
+/// What a pixel that no sixel covers looks like, as parameter P2 of a DCS sequence says.
 #[derive(Debug, Clone, Copy, PartialEq, Eq, Default)]
 pub enum BackgroundMode {
     /// It has the color that register 0 had when the image began.
@@ -38,7 +38,7 @@ impl BackgroundMode {
     }
 }
 
-/// How many times as high as wide a pixel is, as parameter P1 of a control string says.
+/// How many times as high as wide a pixel is, as parameter P1 of a DCS sequence says.
 #[derive(Debug, Clone, Copy, PartialEq, Eq, Default)]
 pub enum PixelAspectRatio {
     /// Five times as high as wide.
@@ -103,7 +103,7 @@ impl PixelAspectRatio {
     }
 }
 
-/// The parameters P1 to P3, which stand between a control string's introducer and its `q`.
+/// The parameters P1 to P3, which stand between a DCS sequence's introducer and its `q`.
 ///
 /// Each may be left out, and by default all are. An image is then opaque and its pixels square.
 #[derive(Debug, Clone, Copy, PartialEq, Eq, Default)]

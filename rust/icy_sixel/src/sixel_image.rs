@@ -1,6 +1,6 @@
 //! An image as its pixels, sizes, pixel shape and background.
 
-use crate::codes::refusal;
+use crate::codes::error_of;
 use crate::encoder::{EncodeOptions, encode};
 use crate::error::{Result, SixelError};
 use crate::ffi::Handle;
@@ -27,7 +27,7 @@ pub struct SixelImage {
 }
 
 impl SixelImage {
-    /// Decodes the first control string in the bytes, or all of them as a payload if there is none,
+    /// Decodes the first DCS sequence in the bytes, or all of them as a payload if there is none,
     /// as [`SixelDecoder::decode`](crate::SixelDecoder::decode) of a new decoder does.
     ///
     /// ```
@@ -44,7 +44,7 @@ impl SixelImage {
     ///
     /// As of [`SixelDecoder::decode`](crate::SixelDecoder::decode).
     pub fn decode(bytes: &[u8]) -> Result<Self> {
-        Handle::new().map_err(refusal)?.decode(bytes)
+        Handle::new().map_err(error_of)?.decode(bytes)
     }
 
     /// Decodes one payload, as
@@ -54,7 +54,7 @@ impl SixelImage {
     ///
     /// As of [`SixelDecoder::decode_from_dcs`](crate::SixelDecoder::decode_from_dcs).
     pub fn decode_from_dcs(bytes: &[u8], settings: DcsSettings) -> Result<Self> {
-        Handle::new().map_err(refusal)?.decode_payload(bytes, settings)
+        Handle::new().map_err(error_of)?.decode_payload(bytes, settings)
     }
 
     /// An image of these pixels, with square pixels and a transparent background. Nothing is
@@ -141,7 +141,7 @@ impl SixelImage {
     ///
     /// In this order: a zero size (`InvalidDimensions`), bytes above `usize::MAX`
     /// (`IntegerOverflow`), sizes above the limits (`InvalidDimensions`), and pixels of another
-    /// number of bytes (`BufferSizeMismatch`). `OutOfMemory` where memory was refused.
+    /// number of bytes (`BufferSizeMismatch`). `OutOfMemory` if an allocation fails.
     pub fn encode_with(&self, options: &EncodeOptions) -> Result<String> {
         let shape = (self.aspect_ratio, self.background_mode);
         encode(&self.pixels, self.dimensions(), shape, options)

@@ -1,4 +1,4 @@
-//! How an image stands that is decoded as it comes.
+//! The status of an image that is decoded in chunks.
 
 /// Whether a payload has ended, as far as it was fed.
 #[derive(Clone, Copy, Debug, PartialEq, Eq)]
@@ -11,15 +11,15 @@ pub enum SixelFeedStatus {
 
 /// What a feed of a payload session did.
 #[derive(Clone, Copy, Debug, PartialEq, Eq)]
-#[must_use = "it tells how many bytes are the image's own, and whether it has ended"]
+#[must_use = "it says how many bytes belong to the image, and whether it has ended"]
 pub struct SixelFeedResult {
-    /// How many bytes of the piece are the payload's own.
+    /// How many bytes of the chunk are the payload's own.
     pub consumed: usize,
     /// What the caller does next.
     pub status: SixelFeedStatus,
 }
 
-/// Whether a control string has ended, as far as it was fed.
+/// Whether a DCS sequence has ended, as far as it was fed.
 #[derive(Clone, Copy, Debug, PartialEq, Eq)]
 pub enum SixelDcsFeedStatus {
     /// Every byte was consumed: feed the next ones.
@@ -33,11 +33,11 @@ pub enum SixelDcsFeedStatus {
     Interrupted(u8),
 }
 
-/// What a feed of a control string session did.
+/// What a feed of a DCS sequence session did.
 #[derive(Clone, Copy, Debug, PartialEq, Eq)]
-#[must_use = "it tells how many bytes are the image's own, and whether it has ended"]
+#[must_use = "it says how many bytes belong to the image, and whether it has ended"]
 pub struct SixelDcsFeedResult {
-    /// How many bytes of the piece are the control string's own.
+    /// How many bytes of the chunk are the DCS sequence's own.
     pub consumed: usize,
     /// What the caller does next.
     pub status: SixelDcsFeedStatus,

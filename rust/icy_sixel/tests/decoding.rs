@@ -35,6 +35,20 @@ fn registers_are_kept_from_image_to_image() {
 }
 
 #[test]
+fn registers_are_set_together() {
+    let mut decoder = SixelDecoder::default();
+    let new = decoder.registers();
+    decoder.set_registers(1, &[[1, 2, 3], [4, 5, 6]]);
+    decoder.set_registers(255, &[[7, 8, 9], [9, 9, 9]]);
+    decoder.set_registers(3, &[]);
+    let colors = decoder.registers();
+    assert_eq!(colors[..4], [[0, 0, 0], [1, 2, 3], [4, 5, 6], [51, 204, 51]]);
+    assert_eq!((&colors[3..255], colors[255]), (&new[3..255], [7, 8, 9]));
+    assert!((0..=255).all(|number| colors[usize::from(number)] == decoder.register(number)));
+    assert_filled(decoder.decode(b"\x1bPq#1!2~\x1b\\"), (2, 6), [1, 2, 3, 255]);
+}
+
+#[test]
 fn a_decoder_is_cloned() {
     let mut decoder = SixelDecoder::default();
     for number in [0, 7, 255] {

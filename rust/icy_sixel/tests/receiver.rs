@@ -57,11 +57,12 @@ fn a_host_reads_chunks_of_any_length() {
 #[test]
 fn a_payload_is_received() {
     let mut receiver = SixelReceiver::new();
-    receiver.set_register(0, [1, 2, 3]);
+    receiver.set_registers(0, &[[1, 2, 3], [4, 5, 6]]);
     receiver.set_raster_crop(true);
     receiver.begin_frame(DcsSettings::default());
     assert!(receiver.is_receiving() && receiver.in_payload());
     assert_eq!(receiver.size_so_far(), Some((1, 1)));
+    assert_eq!(receiver.registers()[..2], [[1, 2, 3], [4, 5, 6]]);
     receiver.reset_palette();
     let received = receiver.feed(b"\"1;1;2;3?\x9c").unwrap();
     let status = Status::Payload(Payload::Terminated(0x9c));

@@ -105,6 +105,8 @@ fn calls_of_sessions() {
 fn what_is_ours() {
     let _: fn(&Decoder, u8) -> [u8; 3] = Decoder::register;
     let _: fn(&mut Decoder, u8, [u8; 3]) = Decoder::set_register;
+    let _: fn(&Decoder) -> [[u8; 3]; 256] = Decoder::registers;
+    let _: fn(&mut Decoder, u8, &[[u8; 3]]) = Decoder::set_registers;
     let _: fn(&Decoder) -> bool = Decoder::raster_crop;
     let _: fn(&mut Decoder, bool) = Decoder::set_raster_crop;
     let _: fn(&Decoder) -> usize = Decoder::pixel_limit;

@@ -3,8 +3,10 @@
 ghost use Rattle.std.specs.Prelude.{◌≡◌, [], slice_index_or, slice_set};
 ghost use Rattle.sixel_base.specs.Color.{default_registers};
 ghost use Rattle.sixel_base.specs.Decoder.{limit_of};
+ghost use Rattle.icy_sixel.specs.Registers.{with_colors};
 
 use crate::receiver::SixelReceiver;
+use sixel_base::registers::REGISTERS;
 
 impl SixelReceiver {
     /// Returns the color of a register of the decoder: red, green and blue, a byte each.
@@ -24,6 +26,26 @@ impl SixelReceiver {
         ensures image { self.new.image ≡ self.old.image }
     {
         self.decoder.set_register(register, color);
+    }
+
+    /// Returns the colors of all registers of the decoder: red, green and blue, a byte each.
+    pub fn registers(&self) -> [[u8; 3]; REGISTERS]
+        ensures { result ≡ self.now.decoder.registers }
+    {
+        self.decoder.registers()
+    }
+
+    /// Sets the colors of the decoder's registers from `first` on.
+    ///
+    /// It does what [`SixelDecoder::set_registers`](crate::SixelDecoder::set_registers) does. An
+    /// open image keeps the registers that it began from, and its `finish` stores its own.
+    pub fn set_registers(&mut self, first: u8, colors: &[[u8; 3]])
+        ensures decoder { self.new.decoder ≡ record self.old.decoder {
+          registers = with_colors self.old.decoder.registers first colors.now;
+        } }
+        ensures image { self.new.image ≡ self.old.image }
+    {
+        self.decoder.set_registers(first, colors);
     }
 
     /// Resets the decoder's registers to those of a new one.

@@ -1,13 +1,13 @@
-//! The session that decodes one control string as it comes.
+//! The session that decodes one DCS sequence in chunks.
 
-use crate::codes::{CANCELLED, COMPLETE, MORE, refusal};
+use crate::codes::{CANCELLED, COMPLETE, MORE, error_of};
 use crate::decoder::SixelDecoder;
 use crate::error::Result;
 use crate::ffi::Fed;
 use crate::sixel_image::SixelImage;
 use crate::status::{SixelDcsFeedResult, SixelDcsFeedStatus};
 
-/// A control string that is decoded as it comes, from its introducer to its end.
+/// A DCS sequence that is decoded in chunks, from its introducer to its end.
 ///
 /// It borrows its decoder until it is finished, aborted or dropped, and the decoder's registers
 /// change by a successful [`finish`](Self::finish) alone.
@@ -25,14 +25,14 @@ pub struct SixelDcsStreamDecoder<'a> {
 }
 
 impl<'a> SixelDcsStreamDecoder<'a> {
-    /// The session of the control string that the decoder has begun.
+    /// The session of the DCS sequence that the decoder has begun.
     pub(crate) fn new(owner: &'a mut SixelDecoder) -> Self {
         Self { owner }
     }
 
-    /// Reads a piece up to the control string's end; what follows is left to the caller.
+    /// Reads a chunk up to the DCS sequence's end; what follows is left to the caller.
     ///
-    /// A piece may end anywhere, also between ESC and the byte after it: how the string is cut has
+    /// A chunk may end anywhere, also between ESC and the byte after it: how the string is cut has
     /// no effect on what it means. After its end each later feed consumes nothing and gives the
     /// same status.
     ///
@@ -40,10 +40,10 @@ impl<'a> SixelDcsStreamDecoder<'a> {
     ///
     /// [`NoSixelData`](crate::SixelError::NoSixelData) for another beginning than an introducer,
     /// [`InvalidData`](crate::SixelError::InvalidData) for a faulty header, and for the payload the
-    /// refusals of [`decode_from_dcs`](SixelDecoder::decode_from_dcs); after a refusal each later
-    /// feed answers `InvalidData` with `DCS stream decoder has failed`.
-    pub fn feed(&mut self, piece: &[u8]) -> Result<SixelDcsFeedResult> {
-        let fed = self.owner.handle().feed(piece).map_err(refusal)?;
+    /// errors of [`decode_from_dcs`](SixelDecoder::decode_from_dcs); after an error each later
+    /// feed returns `InvalidData` with `DCS stream decoder has failed`.
+    pub fn feed(&mut self, chunk: &[u8]) -> Result<SixelDcsFeedResult> {
+        let fed = self.owner.handle().feed(chunk).map_err(error_of)?;
         Ok(SixelDcsFeedResult { consumed: fed.consumed, status: string_status(fed) })
     }
 
@@ -61,9 +61,9 @@ impl<'a> SixelDcsStreamDecoder<'a> {
         self.owner.shared().canvas_paints()
     }
 
-    /// Whether the header is read and the payload has begun; `false` after a refusal.
+    /// Whether the header is read and the payload has begun; `false` after an error.
     ///
-    /// A string that is refused before that, as one with another command than `q`, has no SIXEL
+    /// A sequence that fails before that, as one with another command than `q`, has no SIXEL
     /// data.
     #[must_use]
     pub fn in_payload(&self) -> bool {
@@ -72,20 +72,20 @@ impl<'a> SixelDcsStreamDecoder<'a> {
 
     /// The width and the height that the image has so far, as of a payload session, by
     /// [`size_so_far`](crate::SixelStreamDecoder::size_so_far). `None` before the payload and after
-    /// a refusal. It takes no memory.
+    /// an error. It does not allocate.
     #[must_use]
     pub fn size_so_far(&self) -> Option<(usize, usize)> {
         self.owner.size_so_far()
     }
 
-    /// Gives the image of a control string that has ended, and then gives the decoder the registers
+    /// Gives the image of a DCS sequence that has ended, and then gives the decoder the registers
     /// that its payload defined. A string that was cut short has the image of what came.
     ///
     /// # Errors
     ///
     /// [`InvalidData`](crate::SixelError::InvalidData) before the end, with
-    /// `incomplete SIXEL DCS sequence`, and after a refused feed; `OutOfMemory`. The decoder is
-    /// then as it was.
+    /// `incomplete SIXEL DCS sequence`, and after a failed feed; `OutOfMemory`. The decoder is
+    /// then unchanged.
     pub fn finish(self) -> Result<SixelImage> {
         self.owner.handle().finish()
     }
@@ -102,7 +102,7 @@ impl Drop for SixelDcsStreamDecoder<'_> {
     }
 }
 
-/// How a control string stands.
+/// The status of a DCS sequence.
 pub(crate) fn string_status(fed: Fed) -> SixelDcsFeedStatus {
     match fed.status {
         MORE => SixelDcsFeedStatus::NeedMoreData,

@@ -1,13 +1,13 @@
-//! The session that decodes one payload as it comes.
+//! The session that decodes one payload in chunks.
 
-use crate::codes::{MORE, refusal};
+use crate::codes::{MORE, error_of};
 use crate::decoder::SixelDecoder;
 use crate::error::Result;
 use crate::ffi::Fed;
 use crate::sixel_image::SixelImage;
 use crate::status::{SixelFeedResult, SixelFeedStatus};
 
-/// A payload that is decoded as it comes.
+/// A payload that is decoded in chunks.
 ///
 /// It borrows its decoder until it is finished, aborted or dropped, and the decoder's registers
 /// change by a successful [`finish`](Self::finish) alone.
@@ -23,23 +23,23 @@ impl<'a> SixelStreamDecoder<'a> {
         Self { owner }
     }
 
-    /// Reads a piece up to its first terminator, which is left to the caller.
+    /// Reads a chunk up to its first terminator, which is left to the caller.
     ///
-    /// A piece may end anywhere, also within a number: how the payload is cut has no effect on what
+    /// A chunk may end anywhere, also within a number: how the payload is cut has no effect on what
     /// it means. After a terminator each later feed consumes nothing and gives the same status.
     ///
     /// # Errors
     ///
-    /// A piece is refused as soon as the bytes so far are, for the same reasons as by
-    /// [`decode_from_dcs`](SixelDecoder::decode_from_dcs); after a refusal each later feed answers
+    /// A chunk fails as soon as the bytes so far are invalid, for the same reasons as
+    /// [`decode_from_dcs`](SixelDecoder::decode_from_dcs); after an error each later feed returns
     /// [`InvalidData`](crate::SixelError::InvalidData) with `stream decoder has failed`.
-    pub fn feed(&mut self, piece: &[u8]) -> Result<SixelFeedResult> {
-        let fed = self.owner.handle().feed(piece).map_err(refusal)?;
+    pub fn feed(&mut self, chunk: &[u8]) -> Result<SixelFeedResult> {
+        let fed = self.owner.handle().feed(chunk).map_err(error_of)?;
         Ok(SixelFeedResult { consumed: fed.consumed, status: payload_status(fed) })
     }
 
-    /// How many pixels were copied or filled so far, to grow the rows of the canvas; 0 after a
-    /// refusal. Painting over pixels doesn't count. It takes no memory.
+    /// How many pixels were copied or filled so far, to grow the rows of the canvas; 0 after an
+    /// error. Painting over pixels doesn't count. It does not allocate.
     ///
     /// It is at most three times the area that the sixels reach.
     #[must_use]
@@ -47,7 +47,7 @@ impl<'a> SixelStreamDecoder<'a> {
         self.owner.shared().canvas_writes()
     }
 
-    /// How many pixels sixels have painted so far, at most; 0 after a refusal. It takes no memory.
+    /// How many pixels sixels have painted so far, at most; 0 after an error. It does not allocate.
     ///
     /// It is at most three times the area that the sixels reach, and 4602 for each sixel.
     #[must_use]
@@ -56,7 +56,7 @@ impl<'a> SixelStreamDecoder<'a> {
     }
 
     /// The width and the height that the image has so far: of the closed sixels and raster
-    /// attributes, at least 1 each. `None` after a refusal. It takes no memory.
+    /// attributes, at least 1 each. `None` after an error. It does not allocate.
     ///
     /// The image of the whole payload is at least as large, where it is not cropped.
     #[must_use]
@@ -66,11 +66,11 @@ impl<'a> SixelStreamDecoder<'a> {
 
     /// Ends the payload, gives its image, and then gives the decoder the registers that it defined.
     ///
-    /// It need not have met a terminator; an open command then ends here, and may be refused.
+    /// It need not have met a terminator; an open command then ends here, and may fail.
     ///
     /// # Errors
     ///
-    /// Those of [`feed`](Self::feed), and `OutOfMemory`; the decoder is then as it was.
+    /// Those of [`feed`](Self::feed), and `OutOfMemory`; the decoder is then unchanged.
     pub fn finish(self) -> Result<SixelImage> {
         self.owner.handle().finish()
     }

@@ -1,0 +1,113 @@
+/* A terminal in short: it copies text, and shows a line for each image and for each rejected one.
+ *
+ * The terminal's own parser reads DCS, its parameters and `q`, and passes the payload on. */
+#include "icysixel.h"
+#include <stdio.h>
+
+enum { CELL_HEIGHT = 20, SCREEN_WIDTH = 800, SCREEN_HEIGHT = 480 };
+
+/* The terminal's own colors. Register 0 is its background, on which opaque images are drawn. */
+static const icysixel_color palette[] = {{40, 42, 54}, {255, 85, 85}, {80, 250, 123}};
+
+struct terminal {
+    icysixel sixel; /* zeroed, and created with the first image */
+    enum { TEXT, ESCAPE, PARAMETERS, PAYLOAD, SKIPPED } state;
+    int32_t parameters[3], count;
+    size_t rows; /* rows of cells that are reserved for the open image */
+};
+
+/* Opens an image with the parameters that the parser has read. */
+static uint32_t begin_image(struct terminal *term)
+{
+    const int32_t *p = term->parameters;
+    term->rows = 0;
+    if (icysixel_get_limit(&term->sixel) == 0) { /* the handle is empty */
+        uint32_t code = icysixel_new(&term->sixel);
+        if (code != ICYSIXEL_OK) return code;
+        icysixel_set_crop(&term->sixel, 1);
+        icysixel_set_registers(&term->sixel, 0, palette, sizeof palette / sizeof *palette);
+        icysixel_set_limit(&term->sixel, SCREEN_WIDTH * SCREEN_HEIGHT);
+    }
+    return icysixel_begin_payload(&term->sixel, p[0], p[1], p[2]);
+}
+
+/* Finishes the image and draws it. */
+static uint32_t end_image(struct terminal *term)
+{
+    icysixel_shape shape;
+    icysixel_bytes pixels = {0};
+    uint32_t code = icysixel_finish(&term->sixel, &shape);
+    if (code == ICYSIXEL_OK) code = icysixel_take_pixels(&term->sixel, &pixels);
+    if (code != ICYSIXEL_OK) return code;
+    const uint8_t *last = pixels.data + pixels.length - 4;
+    printf("[%zu x %zu pixels on %zu rows, the last pixel is %02x%02x%02x]", shape.width,
+           shape.height, term->rows, last[0], last[1], last[2]);
+    icysixel_free_bytes(&pixels);
+    return ICYSIXEL_OK;
+}
+
+/* Shows why an image is rejected. The parser then skips the payload. */
+static void reject_image(struct terminal *term, uint32_t code)
+{
+    char text[64];
+    icysixel_strerror(code, text, sizeof text);
+    printf("[%s]", text);
+    icysixel_abort(&term->sixel);
+    term->state = SKIPPED;
+}
+
+/* Reads a part of the payload, and returns how many bytes belong to it. */
+static size_t read_payload(struct terminal *term, const uint8_t *bytes, size_t length)
+{
+    icysixel_fed fed = {0};
+    icysixel_size size;
+    uint32_t code = icysixel_feed(&term->sixel, bytes, length, &fed);
+    if (icysixel_get_size_so_far(&term->sixel, &size) == ICYSIXEL_OK)
+        for (; term->rows * CELL_HEIGHT < size.height; term->rows++) putchar('\n');
+    if (code == ICYSIXEL_OK && fed.status == ICYSIXEL_COMPLETE) {
+        code = end_image(term);
+        term->state = TEXT; /* the terminator is not consumed: the parser reads it */
+    }
+    if (code != ICYSIXEL_OK) reject_image(term, code);
+    return fed.consumed;
+}
+
+/* Reads a byte that belongs to no payload. */
+static void parse(struct terminal *term, uint8_t byte)
+{
+    int32_t *last = &term->parameters[term->count];
+    if (byte == 0x1b) {
+        term->state = ESCAPE;
+    } else if (term->state == ESCAPE && byte == 'P') {
+        term->state = PARAMETERS;
+        term->count = 0;
+        for (int i = 0; i < 3; i++) term->parameters[i] = -1; /* absent */
+    } else if (term->state == PARAMETERS && byte >= '0' && byte <= '9' && *last < 6553) {
+        *last = (*last < 0 ? 0 : 10 * *last) + byte - '0';
+    } else if (term->state == PARAMETERS && byte == ';' && term->count < 2) {
+        term->count++;
+    } else if (term->state == PARAMETERS && byte == 'q') {
+        term->state = PAYLOAD;
+        uint32_t code = begin_image(term);
+        if (code != ICYSIXEL_OK) reject_image(term, code);
+    } else if (term->state == TEXT) {
+        putchar(byte);
+    } else if (term->state != SKIPPED) {
+        term->state = TEXT;
+    }
+}
+
+int main(void)
+{
+    struct terminal term = {0};
+    uint8_t bytes[4096];
+    size_t length;
+    while ((length = fread(bytes, 1, sizeof bytes, stdin)) > 0)
+        for (size_t at = 0; at < length;)
+            if (term.state == PAYLOAD)
+                at += read_payload(&term, bytes + at, length - at);
+            else
+                parse(&term, bytes[at++]);
+    icysixel_free(&term.sixel);
+    return 0;
+}
