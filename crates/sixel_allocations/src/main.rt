@@ -1,8 +1,7 @@
 //! Makes each public call that allocates, and checks what it leaves if an allocation fails.
 //!
 //! A test runs this program once for each of its allocations, which fails then. One line of the
-//! output differs then, and names the call. The canvas draws without tags if an allocation for
-//! them fails, so then no line differs. All calls are made twice: a failed call succeeds later.
+//! output differs then, and names the call. All calls are made twice: a failed call succeeds later.
 #![tactic(auto)]
 
 mod image;

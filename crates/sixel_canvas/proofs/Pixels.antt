@@ -46,6 +46,22 @@ put_mid-colored bytes span color start n whole four long colored =
     (drop_all (start + 4 * n) bytes (omega arith))
     ∙ append-nil (take start bytes ++ joined (λ _. color) n)
 
+-- bytes of which a part was written in one color
+pub put_mid-filled : (bytes span color : List ℕ) (from to : ℕ) → from ≤ to → 4 * to ≤ length bytes
+    → length color ≡ 4 → length span ≡ 4 * (to - from) → IsColored color span (4 * (to - from))
+    → put_mid (4 * from) (4 * to - 4 * from) bytes span
+    ≡ take (4 * from) bytes ++ joined (λ _. color) (to - from) ++ drop (4 * to) bytes
+put_mid-filled bytes span color from to order within four long colored =
+    let n = to - from in
+    let all = length-joined (λ _. color) 4 n (λ _. four) in
+    let next : 4 * from + 4 * n ≡ 4 * to = omega (arith, order) in
+    put_mid-paste (4 * from) (4 * to - 4 * from) bytes span (joined (λ _. color) n) (4 * n)
+    (joined-colored color span n four long colored) (omega (arith, order)) (omega (arith, all))
+    ∙ ap
+    (λ xs. take (4 * from) bytes ++ xs ++ drop (4 * from + 4 * n) bytes)
+    (take_all (4 * n) (joined (λ _. color) n) (omega (arith, all)))
+    ∙ ap (λ m. take (4 * from) bytes ++ joined (λ _. color) n ++ drop m bytes) next
+
 -- the bytes of the first pixels
 joined-pixels : (pixels : List (List ℕ)) (d : List ℕ) (n : ℕ) → n ≤ length pixels
     → joined (λ k. get_or pixels k d) n ≡ flat_map (λ x. x) (take n pixels)

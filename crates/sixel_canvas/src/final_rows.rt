@@ -9,7 +9,7 @@ ghost use Rattle.sixel_canvas.specs.Layout.{AreCopied, AreRowsIn, in_order};
 ghost use Rattle.sixel_canvas.specs.inside.FinalRows.{final, pixel_at};
 
 use crate::channels::{ChannelOrder, RowLayout, copy_row};
-use crate::line::add_pixels;
+use crate::span::add_pixels;
 use std::alloc::{AllocError, Global};
 use std::marker::Model;
 use std::mem;

@@ -3,19 +3,15 @@
 
 pub mod band;
 pub mod band_canvas;
-mod block;
-mod canvas;
 pub mod channels;
 pub mod drawing;
 pub mod final_rows;
-mod line;
 mod pixel_row;
 mod row;
 pub mod row_canvas;
 mod span;
-mod tagged;
 pub mod tagged_band;
+mod tagged_row;
 
 pub use row::Row;
 pub use span::fill_rgba_span;
-pub use tagged::TaggedCanvas as Canvas;

@@ -1,9 +1,14 @@
 //! A row of the canvas, which doubles its room where it is too small.
-ghost use Rattle.std.specs.Prelude.{◌≡◌, ◌≤◌, ◌==◌, length, IfErr, IsOk, OnErr, OnOk};
+ghost use Rattle.std.specs.Prelude.{◌≡◌, ◌+◌, ◌-◌, ◌*◌, ◌^◌, ◌<◌, ◌≤◌, ◌==◌, ◌++◌, length};
+ghost use Rattle.std.specs.Prelude.{slice_index_or, vec_len, vec_capacity};
+ghost use Rattle.std.specs.Prelude.{nat_lt, if◌then◌else◌, IfErr, IsOk, OnErr, OnOk};
+ghost use Rattle.sixel_base.specs.Limits.{side_limit};
+ghost use Rattle.sixel_base.specs.Picture.{joined};
 ghost use Rattle.sixel_base.specs.declared.error.SixelError.TheVariants.{OutOfMemory};
-ghost use Rattle.sixel_canvas.specs.Row.{IsThrifty, empty_row, painted, reached_to};
+ghost use Rattle.sixel_canvas.specs.Row.{IsThrifty, empty_row, painted, reached_to, room_for};
 
-use crate::line::Line;
+use crate::span::{AllocResult, add_pixels, paint_pixels};
+use sixel_base::limits::MAX_SIDE;
 use sixel_base::{Result, SixelError};
 use std::alloc::Global;
 use std::marker::Model;
@@ -14,17 +19,25 @@ use std::marker::Model;
 /// the list of pixels, the room and the writes.
 #[derive(Drop)]
 pub struct Row {
-    line: Line,
+    bytes: Vec<u8>,
+    room: usize,
+    writes: u64,
+    background: [u8; 4],
 }
 
 impl Model for Row {
-    ghost use Rattle.sixel_canvas.specs.Row.{RowState, IsThrifty};
+    ghost use Rattle.std.specs.Prelude.{◌≡◌, ◌*◌, ◌≤◌, length, vec_capacity};
+    ghost use Rattle.sixel_canvas.specs.Row.{RowState, IsThrifty, row_state};
+    ghost use Rattle.sixel_canvas.specs.inside.Pixels.{pixels_of};
 
     ghost Value = { RowState };
 
-    ghost view = { λ row. row.line };
+    ghost view = { λ row.
+        row_state row.background (pixels_of row.bytes.items) row.room row.writes };
 
-    ghost invariant = { λ row. IsThrifty row.line };
+    ghost invariant = { λ row. (4 * row.room ≤ vec_capacity row.bytes)
+        × (length row.bytes.items ≡ 4 * length (pixels_of row.bytes.items))
+        × IsThrifty (row_state row.background (pixels_of row.bytes.items) row.room row.writes) };
 }
 
 impl Row {
@@ -34,7 +47,10 @@ impl Row {
         ensures thrifty { IsThrifty result }
     {
         Row {
-            line: Line::new(alloc, background),
+            bytes: Vec::new(alloc),
+            room: 0,
+            writes: 0,
+            background,
         }
     }
 
@@ -51,7 +67,7 @@ impl Row {
         ensures error { IfErr result (λ e. e ≡ OutOfMemory) }
         ensures thrifty { IsThrifty self.new }
     {
-        self.line.reach(columns, 0).map_err(SixelError::from)
+        self.grow(columns).map_err(SixelError::from)
     }
 
     /// Gives one color to the columns from `from` up to before `to`.
@@ -61,7 +77,7 @@ impl Row {
         ensures after { self.new ≡ painted from to color self.old }
         ensures thrifty { IsThrifty self.new }
     {
-        self.line.paint(from, to, color);
+        paint_pixels(&mut self.bytes, from, to, color);
     }
 
     /// How many pixels the row holds.
@@ -69,7 +85,7 @@ impl Row {
         ensures value { result ≡ length self.now.pixels }
         ensures thrifty { IsThrifty self.now }
     {
-        self.line.len()
+        self.bytes.len() / 4
     }
 
     /// Whether the row holds no pixel.
@@ -77,7 +93,7 @@ impl Row {
         ensures value { result ≡ (length self.now.pixels == 0) }
         ensures thrifty { IsThrifty self.now }
     {
-        self.line.is_empty()
+        self.bytes.is_empty()
     }
 
     /// For how many pixels the row has memory.
@@ -85,7 +101,7 @@ impl Row {
         ensures value { result ≡ self.now.room }
         ensures thrifty { IsThrifty self.now }
     {
-        self.line.room()
+        self.room
     }
 
     /// How many pixels were copied or filled so far, to grow the row. Painting doesn't count.
@@ -93,6 +109,95 @@ impl Row {
         ensures value { result ≡ self.now.writes }
         ensures thrifty { IsThrifty self.now }
     {
-        self.line.writes()
+        self.writes
     }
+
+    /// Adds background as [`Row::reach`] does.
+    pub(crate) fn grow(&mut self, columns: usize) -> AllocResult<()>
+        requires { columns ≤ side_limit }
+        ensures ok { OnOk result (self.new ≡ reached_to columns self.old) }
+        ensures held { columns ≤ length self.old.pixels → self.new ≡ self.old }
+        ensures within_room { columns ≤ self.old.room → IsOk result }
+        ensures refused { OnErr result (self.new ≡ self.old) }
+        ensures thrifty { IsThrifty self.new }
+    {
+        let len = self.len();
+        if columns <= len {
+            return Ok(());
+        }
+        let room = room_after(self.room, columns);
+        let written = written_to_grow(len, self.room, columns);
+        reserve(&mut self.bytes, room)?;
+        let _added = add_pixels(&mut self.bytes, columns - len, self.background);
+        self.room = room;
+        self.writes += written as u64;
+        Ok(())
+    }
+
+    /// The pixel of this column, background where the row is short.
+    pub(crate) fn pixel(&self, column: usize) -> [u8; 4]
+        ensures value { result ≡ slice_index_or self.now.pixels column self.now.background }
+        ensures thrifty { IsThrifty self.now }
+    {
+        if column >= self.len() {
+            return self.background;
+        }
+        let at = 4 * column;
+        [
+            self.bytes[at],
+            self.bytes[at + 1],
+            self.bytes[at + 2],
+            self.bytes[at + 3],
+        ]
+    }
+
+    /// Appends so many pixels from `from` on, with background where the row is short.
+    pub(crate) fn pack(
+        &self,
+        bytes: &mut Vec<u8>,
+        from: usize,
+        count: usize,
+    ) -> AllocResult<()>
+        requires { vec_len bytes.old + 4 * count < 2 ^ 63 }
+        ensures ok { OnOk result (bytes.new.items ≡ bytes.old.items ++ joined (λ k.
+            slice_index_or self.now.pixels (from + k) self.now.background) count) }
+        ensures len { OnOk result (vec_len bytes.new ≡ vec_len bytes.old + 4 * count) }
+    {
+        let begin = from.min(self.len());
+        let held = count.min(self.len() - begin);
+        bytes.extend_from_slice(&self.bytes[4 * begin..4 * (begin + held)])?;
+        add_pixels(bytes, count - held, self.background)
+    }
+}
+
+/// Returns the room of a row with this room that is to have so many columns.
+fn room_after(room: usize, columns: usize) -> usize
+    requires side { room ≤ side_limit }
+    ensures { result ≡ room_for columns room }
+{
+    if columns <= room {
+        return room;
+    }
+    columns.max(MAX_SIDE.min(2 * room))
+}
+
+/// Returns how many pixels are copied or filled as a row grows to so many columns.
+fn written_to_grow(len: usize, room: usize, columns: usize) -> usize
+    requires { len ≤ columns }
+    ensures { result ≡ columns - len + (if nat_lt room columns then len else 0) }
+{
+    let moved = if columns > room { len } else { 0 };
+    columns - len + moved
+}
+
+/// Makes memory for so many pixels.
+fn reserve(bytes: &mut Vec<u8>, room: usize) -> AllocResult<()>
+    requires side { room ≤ side_limit }
+    requires held { vec_len bytes.old ≤ 4 * room }
+    ensures enough { OnOk result (4 * room ≤ vec_capacity bytes.new) }
+    ensures within { 4 * room ≤ vec_capacity bytes.old → IsOk result }
+    ensures items { bytes.new.items ≡ bytes.old.items }
+    ensures never_less { vec_capacity bytes.old ≤ vec_capacity bytes.new }
+{
+    bytes.reserve_exact(4 * room - bytes.len())
 }

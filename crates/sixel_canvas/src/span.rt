@@ -1,7 +1,14 @@
 //! Filling a span of bytes with one color.
-ghost use Rattle.std.specs.Prelude.{◌≡◌, ℕ, ◌%◌, ◌<◌, ◌≤◌, length, slice_index, EachIndex};
+ghost use Rattle.std.specs.Prelude.{◌≡◌, ℕ, ◌+◌, ◌-◌, ◌*◌, ◌%◌, ◌^◌, ◌<◌, ◌≤◌, ◌++◌};
+ghost use Rattle.std.specs.Prelude.{length, slice_index, take, drop, EachIndex};
+ghost use Rattle.std.specs.Prelude.{vec_len, vec_capacity, IsOk, OnErr, OnOk};
+ghost use Rattle.sixel_base.specs.Picture.{joined};
 
+use std::alloc::AllocError;
 use std::simd::prelude::*;
+
+/// What a call returns that fails only if an allocation does.
+pub type AllocResult<T> = Result<T, AllocError>;
 
 /// Fills a span of RGBA pixels with one color: byte `i` becomes `color[i % 4]`.
 ///
@@ -17,6 +24,42 @@ pub fn fill_rgba_span(span: &mut [u8], color: [u8; 4])
         at += 4;
     }
     fill_by_bytes(span, at, color);
+}
+
+/// Appends so many pixels of one color.
+pub fn add_pixels(bytes: &mut Vec<u8>, count: usize, color: [u8; 4]) -> AllocResult<()>
+    requires { vec_len bytes.old + 4 * count < 2 ^ 63 }
+    ensures ok { OnOk result (bytes.new.items ≡ bytes.old.items ++ joined (λ _. color) count) }
+    ensures len { OnOk result (vec_len bytes.new ≡ vec_len bytes.old + 4 * count) }
+    ensures within_capacity { vec_len bytes.old + 4 * count ≤ vec_capacity bytes.old → IsOk result }
+    ensures refused { OnErr result (bytes.new.items ≡ bytes.old.items) }
+    ensures capacity { vec_capacity bytes.old ≤ vec_capacity bytes.new }
+{
+    if count == 1 {
+        return bytes.extend_from_slice(&color);
+    }
+    let start = bytes.len();
+    bytes.resize(start + 4 * count, 0)?;
+    fill_from(bytes, start, count, color);
+    Ok(())
+}
+
+/// Fills the last bytes with so many pixels of one color.
+fn fill_from(bytes: &mut [u8], start: usize, count: usize, color: [u8; 4])
+    requires { start + 4 * count ≡ length bytes.old }
+    ensures { bytes.new ≡ take start bytes.old ++ joined (λ _. color) count }
+{
+    fill_rgba_span(&mut bytes[start..], color);
+}
+
+/// Fills the pixels from `from` up to before `to` with one color.
+pub fn paint_pixels(bytes: &mut [u8], from: usize, to: usize, color: [u8; 4])
+    requires ordered { from ≤ to }
+    requires within { 4 * to ≤ length bytes.old }
+    ensures { bytes.new ≡ take (4 * from) bytes.old ++ joined (λ _. color) (to - from)
+        ++ drop (4 * to) bytes.old }
+{
+    fill_rgba_span(&mut bytes[4 * from..4 * to], color);
 }
 
 /// Fills a span four pixels at a time, and answers where it went on no further.

@@ -91,8 +91,7 @@ impl<'a> SixelStreamDecoder<'a> {
     /// Each closed sixel with a set pixel counts at least six for each of its columns. One of more
     /// than 258 columns can count less: six for each whole 128 columns, and 1536 for two ends.
     /// The number is at most three times the painted area of the closed sixels, and 4602 for each
-    /// of them, which is two ends and 511 blocks in six rows. It saturates. If an allocation for
-    /// the colors of blocks failed, a sixel is counted as if it had them.
+    /// of them, which is two ends and 511 blocks in six rows. It saturates.
     pub fn canvas_paints(&self) -> u64
         ensures { IsPaintCount (payload self.now) result }
     {

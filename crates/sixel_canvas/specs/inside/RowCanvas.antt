@@ -1,44 +1,70 @@
--- What a canvas of rows has cost, by the runs that were drawn on it: pixels that were copied or
--- filled to grow its rows, their capacity, and pixels that were painted. The rules are this
--- library's own: a row has pixels only up to the last column that was drawn on.
-use Rattle.std.specs.Prelude.{◌≡◌, ℕ, ◌+◌, ◌-◌, ◌*◌, ◌<◌, ◌≤◌, max, nat_lt, if◌then◌else◌}
-use Rattle.std.specs.Prelude.{List, [], ◌∷◌}
+-- What a canvas of rows shows, and what it has cost by the runs that were drawn on it: pixels that
+-- were copied or filled to grow its rows, their capacity, and pixels that were painted. The rules
+-- are this library's own: a row has pixels only up to the last column that was drawn on.
+use Rattle.std.specs.Prelude.{◌≡◌, ℕ, zero, suc, ◌+◌, ◌-◌, ◌*◌, ◌≤◌, min, max, nat_lt}
+use Rattle.std.specs.Prelude.{if◌then◌else◌, List, [], ◌∷◌, All, length, slice_index_or, sum_by}
+use Rattle.sixel_base.specs.Limits.{side_limit}
 use Rattle.sixel_base.specs.Picture.{is_struck, total}
-use Rattle.sixel_canvas.specs.inside.Canvas.{CanvasState, IsBounded, canvas_room, canvas_writes}
-use Rattle.sixel_canvas.specs.inside.Canvas.{reached, shown}
 use Rattle.sixel_canvas.specs.inside.Drawn.{Run, Work}
 use Rattle.sixel_canvas.specs.inside.Paints.{counted, ends_and_tags, least_painted}
+use Rattle.sixel_canvas.specs.inside.TaggedRow.{TaggedRowState, IsTaggedRow, empty_tagged_row}
+use Rattle.sixel_canvas.specs.inside.TaggedRow.{tagged_pixel}
 
--- the rows, the first one of the band, and how many columns of it are drawn on without an
--- allocation
+-- the background, the rows from the top, the first one of the band, and what runs have painted, at
+-- most, beside what they painted past all that was drawn on
 pub record RowCanvasState : Type 0 where
-  pub sheet : CanvasState
+  pub background : List ℕ
+  pub rows : List TaggedRowState
   pub top : ℕ
-  pub held : ℕ
+  pub paints : ℕ
 
 -- the canvas with these parts
-abbrev pub row_canvas_state : CanvasState → ℕ → ℕ → RowCanvasState
-row_canvas_state sheet top held = record { sheet = sheet; top = top; held = held }
+abbrev pub row_canvas_state : List ℕ → List TaggedRowState → ℕ → ℕ → RowCanvasState
+row_canvas_state background rows top paints =
+    record { background = background; rows = rows; top = top; paints = paints }
+
+-- the row at this place, with no pixels where none was made
+abbrev pub line_in : List TaggedRowState → List ℕ → ℕ → TaggedRowState
+line_in rows background row = slice_index_or rows row (empty_tagged_row background)
+
+abbrev pub line_of : RowCanvasState → ℕ → TaggedRowState
+line_of canvas = line_in canvas.rows canvas.background
 
 -- the pixel at this place
 abbrev pub row_canvas_shown : RowCanvasState → ℕ → ℕ → List ℕ
-row_canvas_shown canvas = shown canvas.sheet
+row_canvas_shown canvas column row = tagged_pixel (line_of canvas row) column
+
+-- how many columns of the row were reached
+abbrev pub row_len : RowCanvasState → ℕ → ℕ
+row_len canvas row = length (line_of canvas row).row.pixels
+
+-- the least of f 0, f 1, .. up to before n, and of the greatest width
+abbrev pub least : (ℕ → ℕ) → ℕ → ℕ
+least f zero = side_limit
+least f (suc n) = min (least f n) (f n)
+
+-- how many columns all six rows of the band have
+abbrev pub row_canvas_held : RowCanvasState → ℕ
+row_canvas_held canvas = least (λ k. row_len canvas (canvas.top + k)) 6
 
 -- what it has cost: pixels that were copied or filled to grow the rows, their capacity, and pixels
 -- and tags that were painted, at most
 abbrev pub row_canvas_work : RowCanvasState → Work
 row_canvas_work canvas = record {
-  writes = canvas_writes canvas.sheet;
-  room = canvas_room canvas.sheet;
-  paints = canvas.sheet.paints;
+  writes = sum_by (λ line. line.row.writes) canvas.rows;
+  room = sum_by (λ line. line.row.room) canvas.rows;
+  paints = counted canvas.paints (sum_by (λ line. line.spread) canvas.rows);
 }
 
--- what is true of every canvas of rows: no block of the columns that are drawn on without an
--- allocation has a tag
+-- a row that a canvas with this background may have
+pub record IsLineOf (background : List ℕ) (line : TaggedRowState) : Type 0 where
+  pub sound : IsTaggedRow line
+  pub over : line.row.background ≡ background
+
+-- what is true of every canvas of rows
 pub record IsRowCanvas (canvas : RowCanvasState) : Type 0 where
-  pub held : 0 < canvas.held → (k : ℕ) → k < 6
-      → canvas.held ≤ reached canvas.sheet (canvas.top + k)
-  pub plain : 0 < canvas.held → canvas.sheet.tagged ≤ canvas.top
+  pub few : length canvas.rows ≤ side_limit
+  pub rows : All (IsLineOf canvas.background) canvas.rows
 
 -- the greatest right edge of these runs in this row, 0 where none sets a pixel of it
 abbrev pub row_edge : List Run → ℕ → ℕ
@@ -62,10 +88,10 @@ runs_most (newest ∷ runs) = runs_most runs + ends_and_tags (newest.to - newest
 -- What is true of a canvas that these runs were drawn on, the newest first: each row has pixels
 -- exactly up to its right edge.
 pub record IsDrawnBy (canvas : RowCanvasState) (runs : List Run) : Type 0 where
-  pub bounded : IsBounded canvas.sheet
-  pub edges : (row : ℕ) → reached canvas.sheet row ≡ row_edge runs row
-  pub least : counted 0 (runs_least runs) ≤ canvas.sheet.paints
-  pub most : canvas.sheet.paints ≤ canvas.sheet.spread + runs_most runs
+  pub sound : IsRowCanvas canvas
+  pub edges : (row : ℕ) → row_len canvas row ≡ row_edge runs row
+  pub least : counted 0 (runs_least runs) ≤ canvas.paints
+  pub most : canvas.paints ≤ runs_most runs
 
 -- What these runs have cost, of which none sets a pixel from row n on: the rows have copied or
 -- filled from once to three times the area of their right edges, they have capacity for at most
@@ -76,3 +102,9 @@ pub record HasCost (work : Work) (runs : List Run) (n : ℕ) : Type 0 where
   pub room : work.room ≤ 2 * total (row_edge runs) n
   pub least : counted 0 (runs_least runs) ≤ work.paints
   pub most : work.paints ≤ 3 * total (row_edge runs) n + runs_most runs
+
+-- the tags of these rows and the memory for them are at most one for each 128 columns, and twice
+abbrev pub AreFewTags : RowCanvasState → Type 0
+AreFewTags canvas = (row : ℕ)
+    → (128 * length (line_of canvas row).tags.pixels ≤ row_len canvas row)
+    × ((line_of canvas row).tags.room ≤ 2 * length (line_of canvas row).tags.pixels)

@@ -1,18 +1,47 @@
-use Rattle.std.proofs.Common.{◌≡◌, ◌+◌, ◌<◌, ℕ, sym, ap, arith}
-use Rattle.sixel_canvas.specs.inside.Canvas.{reached}
-use Rattle.sixel_canvas.specs.inside.RowCanvas.{RowCanvasState, row_canvas_state}
-use Rattle.sixel_canvas.proofs.RowCosts.{drawn-column}
+use Rattle.std.proofs.Common.{◌≡◌, ℕ, ◌+◌, ◌-◌, ◌<◌, ◌≤◌, max, refl, ap, ◌∙◌, arith}
+use Rattle.std.specs.Prelude.{IsOk, if◌then◌else◌}
+use Rattle.sixel_base.specs.Picture.{covers, is_struck}
+use Rattle.sixel_canvas.specs.inside.Paints.{counted, least_painted}
+use Rattle.sixel_canvas.specs.inside.RowCanvas.{RowCanvasState, row_canvas_shown, row_len}
+use Rattle.sixel_canvas.proofs.RowBytes.{when_ok}
+use Rattle.sixel_canvas.proofs.RowCosts.{drawn_run, least-each}
 use Rattle.sixel_canvas.proofs.row_canvas.RowCanvasCanvas.column.Goals as goal
+
+-- each of the six rows has the column, so that drawing does not fail
+is_ok : (c : goal.After-draw_rows-drawn) → IsOk c.draw_rows-drawn.result
+is_ok c =
+    c.draw_rows-drawn.ensures.held refl
+    (λ k six.
+    omega (
+      arith,
+      c.requires.held,
+      least-each (λ i. row_len c.args.self.now (c.args.self.now.top + i)) 6 k six,
+      ap (λ (s : RowCanvasState). row_len s (s.top + k)) c.self.view_is,
+    ))
+
+pub returns-clause-drawn : goal.returns-clause-drawn
+returns-clause-drawn c = λ column row.
+    when_ok c.draw_rows-drawn.result (is_ok c) c.draw_rows-drawn.ensures.drawn column row
+    ∙ ap
+    (λ (s : RowCanvasState). if covers c.args.at (c.args.at + 1) s.top c.args.bits column row
+    then c.args.color else row_canvas_shown s column row)
+    c.self.view_is
 
 pub returns-clause-paid : goal.returns-clause-paid
 returns-clause-paid c = λ runs is.
-    let all = c.self.inside in
-    let old : RowCanvasState = row_canvas_state all.sheet all.top all.held in
-    let same : old ≡ c.args.self.now = c.self.view_is in
-    let right : c.args.at < all.held =
-    omega (arith, c.requires.held, ap (λ (s : RowCanvasState). s.held) same) in
-    let held : (k : ℕ) → k < 6 → c.args.at < reached all.sheet (all.top + k) =
-    λ k six. omega (arith, c.self.invariant.held (omega (arith, right)) k six, right) in
-    let drawn = c.column.ensures in
-    rw (sym same) (drawn-column old _ c.args.at c.args.bits runs (rw same is) held drawn.bounded
-    drawn.reached drawn.least drawn.most drawn.spread)
+    let one : c.args.at + 1 - c.args.at ≡ 1 = omega arith in
+    drawn_run c.args.self.now c.draw_rows-drawn.new.self c.args.at (c.args.at + 1) c.args.bits runs
+    is (omega (arith, c.if-bits-eq0.false)) c.draw_rows-drawn.ensures.sound
+    (λ row.
+    when_ok c.draw_rows-drawn.result (is_ok c) c.draw_rows-drawn.ensures.grown row
+    ∙ ap
+    (λ (s : RowCanvasState). if is_struck s.top c.args.bits row
+    then max (row_len s row) (c.args.at + 1) else row_len s row)
+    c.self.view_is)
+    (rw one (omega (
+      arith,
+      c.draw_rows-drawn.ensures.paints,
+      c.saturating_add-self-inside.ensures,
+      c.run_paints.ensures.least,
+      ap (λ (s : RowCanvasState). s.paints) c.self.view_is,
+    )))

@@ -1,9 +1,0 @@
-use Rattle.std.proofs.Common.{arith}
-use Rattle.std.proofs.lemmas.Grind.{common_steps}
-use Rattle.sixel_canvas.proofs.row.Row.reach.Goals as goal
-
-pub invariant_of-self : goal.invariant_of-self
-invariant_of-self c = grind (arith, common_steps)
-
-pub returns-clause-ok : goal.returns-clause-ok
-returns-clause-ok c = grind (arith, common_steps)

@@ -1,0 +1,247 @@
+//! A row of the canvas in which a wide run over what was drawn costs its blocks and two ends.
+ghost use Rattle.std.specs.Prelude.{◌≡◌, ℕ, ◌+◌, ◌*◌, ◌/◌, ◌%◌, ◌^◌, ◌≤◌, ◌<◌, ◌++◌, ◌⊎◌};
+ghost use Rattle.std.specs.Prelude.{length, max, min, true, false, nat_le, nat_lt, ◌&&◌};
+ghost use Rattle.std.specs.Prelude.{vec_len, IsOk, OnOk, if◌then◌else◌};
+ghost use Rattle.sixel_base.specs.Limits.{side_limit};
+ghost use Rattle.sixel_base.specs.Picture.{joined};
+ghost use Rattle.sixel_canvas.specs.inside.TaggedRow.{IsTaggedRow, empty_tagged_row};
+ghost use Rattle.sixel_canvas.specs.inside.TaggedRow.{tag_of, tagged_pixel};
+ghost use Rattle.sixel_canvas.specs.inside.Tags.{is_tag};
+
+use crate::row::Row;
+use crate::span::{AllocResult, add_pixels};
+use std::alloc::Global;
+use std::marker::Model;
+
+/// How many columns of a row have a tag in common.
+pub const BLOCK: usize = 128;
+
+/// From how many columns on a run may be tagged.
+const WIDE: usize = 256;
+
+/// The color of a block that has no tag.
+const NO_TAG: [u8; 4] = [0; 4];
+
+/// A row some of whose blocks of 128 columns show one color, whatever is stored there.
+///
+/// So a run over a block that was drawn on need not paint it. A run that covers a part of a
+/// tagged block paints the rest of the block in its tag first.
+#[derive(Drop)]
+pub struct TaggedRow {
+    row: Row,
+    tags: Row,
+    spread: u64,
+}
+
+impl Model for TaggedRow {
+    ghost use Rattle.sixel_canvas.specs.inside.TaggedRow.{TaggedRowState, IsTaggedRow};
+    ghost use Rattle.sixel_canvas.specs.inside.TaggedRow.{tagged_row_state};
+
+    ghost Value = { TaggedRowState };
+
+    ghost view = { λ line. tagged_row_state line.row line.tags line.spread };
+
+    ghost invariant = { λ line. IsTaggedRow (tagged_row_state line.row line.tags line.spread) };
+}
+
+impl TaggedRow {
+    /// Returns a row with no pixel. It does not allocate.
+    pub fn new(alloc: Global, background: [u8; 4]) -> TaggedRow
+        ensures empty { result ≡ empty_tagged_row background }
+        ensures sound { IsTaggedRow result }
+    {
+        TaggedRow {
+            row: Row::new(alloc, background),
+            tags: Row::new(alloc, NO_TAG),
+            spread: 0,
+        }
+    }
+
+    /// Returns how many columns the row has.
+    pub fn len(&self) -> usize
+        ensures { result ≡ length self.now.row.pixels }
+    {
+        self.row.len()
+    }
+
+    /// Returns how many pixels were copied or filled to grow the row.
+    pub fn writes(&self) -> u64
+        ensures value { result ≡ self.now.row.writes }
+        ensures sound { IsTaggedRow self.now }
+    {
+        self.row.writes()
+    }
+
+    /// Returns how many pixels runs have painted past all that was drawn on.
+    pub fn spread(&self) -> u64
+        ensures value { result ≡ self.now.spread }
+        ensures sound { IsTaggedRow self.now }
+    {
+        self.spread
+    }
+
+    /// Draws a run over the columns from `from` up to before `to`, and grows the row to them.
+    pub fn draw(&mut self, from: usize, to: usize, color: [u8; 4]) -> AllocResult<()>
+        requires ordered { from < to }
+        requires within { to ≤ side_limit }
+        requires visible { is_tag color ≡ true }
+        ensures drawn { OnOk result ((column : ℕ) → tagged_pixel self.new column
+            ≡ (if nat_le from column && nat_lt column to then color
+            else tagged_pixel self.old column)) }
+        ensures len { OnOk result
+            (length self.new.row.pixels ≡ max (length self.old.row.pixels) to) }
+        ensures background { self.new.row.background ≡ self.old.row.background }
+        ensures held { to ≡ from + 1 → to ≤ length self.old.row.pixels → IsOk result }
+        ensures sound { IsTaggedRow self.new }
+    {
+        let len = self.row.len();
+        self.row.grow(to)?;
+        if to - from < WIDE && self.tags.is_empty() {
+            self.row.paint(from, to, color);
+            return Ok(());
+        }
+        if len <= from {
+            self.row.paint(from, to, color);
+            self.spread += (to - from) as u64;
+            return Ok(());
+        }
+        self.draw_over(from, to, color)
+    }
+
+    /// Draws a run over columns that the row has.
+    #[inline(never)]
+    fn draw_over(&mut self, from: usize, to: usize, color: [u8; 4]) -> AllocResult<()>
+        requires ordered { from < to }
+        requires held { to ≤ length self.old.row.pixels }
+        requires visible { is_tag color ≡ true }
+        ensures drawn { OnOk result ((column : ℕ) → tagged_pixel self.new column
+            ≡ (if nat_le from column && nat_lt column to then color
+            else tagged_pixel self.old column)) }
+        ensures len { length self.new.row.pixels ≡ length self.old.row.pixels }
+        ensures background { self.new.row.background ≡ self.old.row.background }
+        ensures single { to ≡ from + 1 → IsOk result }
+        ensures sound { IsTaggedRow self.new }
+    {
+        if from.div_ceil(BLOCK) >= to / BLOCK {
+            self.paint(from, to, color);
+            return Ok(());
+        }
+        self.tags.grow(to / BLOCK)?;
+        self.tag(from, to, color);
+        Ok(())
+    }
+
+    /// Draws a run that covers no block whole over columns that the row has.
+    fn paint(&mut self, from: usize, to: usize, color: [u8; 4])
+        requires ordered { from ≤ to }
+        requires held { to ≤ length self.old.row.pixels }
+        requires short { to / 128 ≤ from / 128 + min 1 (from % 128) }
+        ensures drawn { (column : ℕ) → tagged_pixel self.new column
+            ≡ (if nat_le from column && nat_lt column to then color
+            else tagged_pixel self.old column) }
+        ensures len { length self.new.row.pixels ≡ length self.old.row.pixels }
+        ensures background { self.new.row.background ≡ self.old.row.background }
+        ensures sound { IsTaggedRow self.new }
+    {
+        self.settle_ends(from, to);
+        self.row.paint(from, to, color);
+    }
+
+    /// Tags the blocks that a run covers whole, for which there is memory, and paints its ends.
+    fn tag(&mut self, from: usize, to: usize, color: [u8; 4])
+        requires whole { from / 128 + min 1 (from % 128) < to / 128 }
+        requires held { to ≤ length self.old.row.pixels }
+        requires tags_held { to / 128 ≤ length self.old.tags.pixels }
+        requires visible { is_tag color ≡ true }
+        ensures drawn { (column : ℕ) → tagged_pixel self.new column
+            ≡ (if nat_le from column && nat_lt column to then color
+            else tagged_pixel self.old column) }
+        ensures len { length self.new.row.pixels ≡ length self.old.row.pixels }
+        ensures background { self.new.row.background ≡ self.old.row.background }
+        ensures sound { IsTaggedRow self.new }
+    {
+        let first = from.div_ceil(BLOCK);
+        let last = to / BLOCK;
+        self.settle_ends(from, to);
+        self.row.paint(from, first * BLOCK, color);
+        self.row.paint(last * BLOCK, to, color);
+        self.tags.paint(first, last, color);
+    }
+
+    /// Paints the tags of the blocks at both ends of a run, but for its own columns.
+    fn settle_ends(&mut self, from: usize, to: usize)
+        requires ordered { from ≤ to }
+        requires held { to ≤ length self.old.row.pixels }
+        ensures outside { (column : ℕ) → (column < from) ⊎ (to ≤ column)
+            → tagged_pixel self.new column ≡ tagged_pixel self.old column }
+        ensures left { is_tag (tag_of self.new (from / 128)) ≡ false }
+        ensures right { is_tag (tag_of self.new (to / 128)) ≡ false }
+        ensures len { length self.new.row.pixels ≡ length self.old.row.pixels }
+        ensures tags_len { length self.new.tags.pixels ≡ length self.old.tags.pixels }
+        ensures background { self.new.row.background ≡ self.old.row.background }
+        ensures sound { IsTaggedRow self.new }
+    {
+        self.settle(from / BLOCK, from, to);
+        self.settle(to / BLOCK, from, to);
+    }
+
+    /// Paints the tag of a block, but for the columns from `from` up to before `to`.
+    fn settle(&mut self, block: usize, from: usize, to: usize)
+        requires ordered { from ≤ to }
+        ensures outside { (column : ℕ) → (column < from) ⊎ (to ≤ column)
+            → tagged_pixel self.new column ≡ tagged_pixel self.old column }
+        ensures settled { is_tag (tag_of self.new block) ≡ false }
+        ensures others { (other : ℕ) → (other ≡ block → ⊥)
+            → tag_of self.new other ≡ tag_of self.old other }
+        ensures len { length self.new.row.pixels ≡ length self.old.row.pixels }
+        ensures tags_len { length self.new.tags.pixels ≡ length self.old.tags.pixels }
+        ensures background { self.new.row.background ≡ self.old.row.background }
+        ensures sound { IsTaggedRow self.new }
+    {
+        let tag = self.tags.pixel(block);
+        if !is_visible(tag) {
+            return;
+        }
+        let start = block * BLOCK;
+        let end = start + BLOCK;
+        self.row.paint(start, from.clamp(start, end), tag);
+        self.row.paint(to.clamp(start, end), end, tag);
+        self.tags.paint(block, block + 1, NO_TAG);
+    }
+
+    /// Appends so many pixels from the left, with background where the row is short.
+    pub fn pack(&self, bytes: &mut Vec<u8>, width: usize) -> AllocResult<()>
+        requires { vec_len bytes.old + 4 * width < 2 ^ 63 }
+        ensures ok { OnOk result (bytes.new.items ≡ bytes.old.items
+            ++ joined (λ column. tagged_pixel self.now column) width) }
+        ensures len { OnOk result (vec_len bytes.new ≡ vec_len bytes.old + 4 * width) }
+    {
+        'segments: for block in 0..width.div_ceil(BLOCK) {
+            self.pack_block(bytes, block, BLOCK.min(width - block * BLOCK))?;
+        }
+        Ok(())
+    }
+
+    /// Appends so many pixels of a block, from its left.
+    fn pack_block(&self, bytes: &mut Vec<u8>, block: usize, count: usize) -> AllocResult<()>
+        requires within { count ≤ 128 }
+        requires columns_fit { block * 128 < 2 ^ 63 }
+        requires bytes_fit { vec_len bytes.old + 4 * count < 2 ^ 63 }
+        ensures ok { OnOk result (bytes.new.items ≡ bytes.old.items
+            ++ joined (λ k. tagged_pixel self.now (block * 128 + k)) count) }
+        ensures len { OnOk result (vec_len bytes.new ≡ vec_len bytes.old + 4 * count) }
+    {
+        let tag = self.tags.pixel(block);
+        if is_visible(tag) {
+            return add_pixels(bytes, count, tag);
+        }
+        self.row.pack(bytes, block * BLOCK, count)
+    }
+}
+
+/// Whether a color is visible, as that of a tag is.
+fn is_visible(color: [u8; 4]) -> bool
+    ensures { result ≡ is_tag color }
+{
+    color[3] > 0
+}
