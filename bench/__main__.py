@@ -7,6 +7,7 @@ number per pixel; those of a tool that is not installed have a dash.
   instructions        of a process less those of one on a single pixel, by valgrind
   C, Rust, libsixel   nanoseconds in process, the least of RUNS turns; libsixel does not dither
 """
+import itertools
 import math
 import os
 import random
@@ -88,22 +89,13 @@ def report(room, file, timers):
 def made(room):
     """Two images, one of smooth colors and one of flat ones, and their SIXEL output."""
     noise = random.Random(1)
-
-    def shade(a, b):
-        return int(127 + 80 * math.sin(a) + 40 * math.cos(b) + 8 * noise.random())
-
-    def smooth(x, y):
-        colors = shade(x / 90, y / 50), shade((x + y) / 120, x / 70), shade(y / 100, (x - y) / 60)
-        return (*colors, 255)
-
-    def flat(x, y):
-        return x // 80 % 4 * 60, y // 40 % 3 * 90, (x + y) // 200 % 2 * 200, 255 * (x >= 20)
-
-    for color in smooth, flat:
-        pixels = bytes(it for y in range(480) for x in range(640) for it in color(x, y))
-        (room / color.__name__).write_bytes(pixels)
-        text = run(f"{SIXEL} encode 640 480 256", pixels)[0]
-        (room / f"{color.__name__}.six").write_bytes(text)
+    smooth, flat = [], []
+    for y, x in itertools.product(range(480), range(640)):
+        smooth += [x * 2 // 5, y // 2, (x + y) // 5 + noise.randrange(16), 255]
+        flat += [x // 80 % 4 * 60, y // 40 % 3 * 90, (x + y) // 200 % 2 * 200, 255 * (x >= 20)]
+    for name, pixels in (("smooth", bytes(smooth)), ("flat", bytes(flat))):
+        (room / name).write_bytes(pixels)
+        (room / f"{name}.six").write_bytes(run(f"{SIXEL} encode 640 480 256", pixels)[0])
     return [f"{room}/{it}" for it in ("smooth:640x480", "flat:640x480", "smooth.six", "flat.six")]
 
 
