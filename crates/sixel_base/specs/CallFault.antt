@@ -1,6 +1,6 @@
--- What is wrong with the arguments of a call on an image and a palette, apart from any code: an error
--- that its sizes or lengths determine, or a palette or an index that SIXEL has no registers for. The
--- two texts are this library's own.
+-- What is wrong with the arguments of a call on an image and a palette, apart from any code: an
+-- error that its sizes or lengths determine, or a palette or an index that SIXEL has no registers
+-- for. The two texts are this library's own.
 use Rattle.std.specs.Prelude.{◌≡◌, ℕ, ◌==◌, ◌||◌, nat_lt, if◌then◌else◌, List, codes, Option, Some}
 use Rattle.std.specs.Prelude.{None, Result, Ok, IfErr, MatchResult}
 use Rattle.sixel_base.specs.declared.error.SixelError.{SixelError}
