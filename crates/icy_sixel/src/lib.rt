@@ -19,4 +19,6 @@ pub use sixel_base::size::validate_encode_dimensions;
 pub use sixel_base::{Result, SixelError, limits};
 pub use sixel_image::{BackgroundMode, PixelAspectRatio, SixelImage};
 pub use sixel_palette::palette;
-pub use sixel_palette::palette::{PaletteChoice, choose_palette, witnesses_hold};
+pub use sixel_palette::palette::{
+    PaletteChoice, RefinedPalette, choose_palette, refine_palette, witnesses_hold,
+};

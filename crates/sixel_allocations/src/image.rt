@@ -2,7 +2,7 @@
 
 use crate::picture::error_if;
 use icy_sixel::canvas::Row;
-use icy_sixel::{Result, SixelImage, choose_palette};
+use icy_sixel::{Result, SixelImage, choose_palette, refine_palette};
 use std::alloc::Global;
 
 /// Three pixels of one row.
@@ -21,6 +21,9 @@ pub const TEXT_OF_ERROR: &str = "[SIXEL encoding failed: invalid dimensions: 0x4
 
 /// The indices of the pixels in two colors.
 const INDICES: &[u8] = &[0, 0, 1];
+
+/// The refined palette of two colors.
+const REFINED_COLORS: &[[u8; 3]] = &[[5, 0, 0], [255, 255, 255]];
 
 /// Lengths that a row grows to.
 const COLUMNS: &[u16] = &[1, 300, 5000];
@@ -53,6 +56,22 @@ pub fn choose_colors(alloc: Global) -> Result<bool> {
                 & (choice.indices.as_slice() == INDICES)
                 & (choice.error == 100)
                 & (choice.witnesses.len() == 3),
+        ),
+        Err(error) => Err(error),
+    }
+}
+
+/// Refines a palette of two colors. Returns whether it is right.
+///
+/// The first two pixels are in one box, whose mean is 2 percent of red; each is 5 from it.
+pub fn refine_colors(alloc: Global) -> Result<bool> {
+    match refine_palette(alloc, PIXELS, 2) {
+        Ok(palette) => Ok(
+            (palette.colors.as_slice() == REFINED_COLORS)
+                & (palette.initial.as_slice() == REFINED_COLORS)
+                & (palette.indices.as_slice() == INDICES)
+                & (palette.error == 50)
+                & palette.witnesses.is_empty(),
         ),
         Err(error) => Err(error),
     }

@@ -13,6 +13,7 @@ mod unallocated;
 use icy_sixel::{DcsSettings, EncodeOptions, Result, SixelDecoder, SixelImage};
 use image::{
     PIXELS, TEXT, TEXT_OF_ERROR, TEXT_OF_TWO_COLORS, choose_colors, grow_row, is_shown, is_text,
+    refine_colors,
 };
 use picture::{BANDS, DCS, FILLED, OVERDRAWN, PAYLOAD, RUN, RUNS, set_colors};
 use session::{DCS_CHUNKS, PAYLOAD_CHUNKS, Session, draw_payload};
@@ -72,6 +73,7 @@ fn make_calls_of_image(rt: &HostRuntime, image: &SixelImage) -> io::Result<()> {
     let decoded = SixelImage::from_str(alloc, TEXT);
     tell(rt, "from_str", is_shown(decoded, 6))?;
     tell(rt, "choose_palette", choose_colors(alloc))?;
+    tell(rt, "refine_palette", refine_colors(alloc))?;
     tell(rt, "Row::reach", grow_row(alloc))
 }
 

@@ -4,7 +4,7 @@ use crate::picture::{color_of, has_colors};
 use crate::session::{Session, draw_payload, is_error};
 use icy_sixel::{
     DcsSettings, EncodeOptions, Result, SixelDecoder, SixelError, SixelImage, choose_palette,
-    sixel_encode,
+    refine_palette, sixel_encode,
 };
 use std::alloc::Global;
 
@@ -43,6 +43,9 @@ fn are_sizes_rejected(alloc: Global) -> bool {
         & is_rejected(sixel_encode(alloc, &[], 2, 2, &options))
         & is_rejected(sixel_encode(alloc, &[], usize::MAX, 2, &options))
         & is_rejected(choose_palette(alloc, &[0; 3], 2))
+        & is_rejected(refine_palette(alloc, &[0; 3], 2))
+        & is_rejected(refine_palette(alloc, &[0; 4], 0))
+        & is_rejected(refine_palette(alloc, &[0; 4], 257))
 }
 
 /// Whether a call returned an error other than `OutOfMemory`.

@@ -6,7 +6,6 @@ use Rattle.std.proofs.Common.{⊎_elim, arith}
 use Rattle.std.proofs.lemmas.Bool.{cases_lt}
 use Rattle.std.proofs.lemmas.List.{get_or_append_left}
 use Rattle.std.proofs.lemmas.List.{get_or_push}
-use Rattle.std.specs.List.{All}
 use Rattle.sixel_palette.specs.declared.palette.cells.Interval.{Interval}
 use Rattle.sixel_palette.specs.declared.palette.cells.Cell.{Cell}
 use Rattle.sixel_palette.specs.inside.PaletteCodes.{color_of, AreColorCodes}

@@ -22,7 +22,7 @@ use Rattle.sixel_palette.proofs.PaletteOrder.{bound_from_order}
 use Rattle.sixel_palette.proofs.PaletteSize.{one_size, complete_from_size}
 
 -- the colors of rising codes are the members of the set that they list
-size_from_codes : (M : List ℕ → Type 0) (codes : List ℕ) → IsStrictlyIncreasing codes
+pub size_from_codes : (M : List ℕ → Type 0) (codes : List ℕ) → IsStrictlyIncreasing codes
     → ((c : List ℕ) → M c → IsListed codes c) → ((c : List ℕ) → IsListed codes c → M c)
     → HasSize M (length codes)
 size_from_codes M codes up to from =

@@ -87,7 +87,7 @@ nearest_from_entry entries c near l h = record {
 }
 
 -- a code that is the rank of a listed color is among the codes
-code_from_listed : (codes : List ℕ) (c : List ℕ) (m : IsListed codes c)
+pub code_from_listed : (codes : List ℕ) (c : List ℕ) (m : IsListed codes c)
     → get_or codes m.0 0 ≡ rank c
 code_from_listed codes c m = sym (rank-color_of (get_or codes m.0 0)) ∙ ap rank m.2
 

@@ -24,7 +24,7 @@ nearest-le (p ∷ ps) c zero d l = omega arith
 nearest-le (p ∷ ps) c (suc i) d l = omega (arith, nearest-le ps c i d (omega arith))
 
 -- it is at most that of no entry
-nearest-cap : (ps : List (List ℕ)) (c : List ℕ) → nearest ps c ≤ no_entry
+pub nearest-cap : (ps : List (List ℕ)) (c : List ℕ) → nearest ps c ≤ no_entry
 unfolding nearest
 nearest-cap [] c = omega arith
 nearest-cap (p ∷ ps) c = omega (arith, nearest-cap ps c)

@@ -1,11 +1,12 @@
 -- A color's nearest entry, with no entry and with one more.
-use Rattle.std.proofs.Common.{◌≡◌, ℕ, ◌<◌, ◌≤◌, List, [], ◌∷◌, ◌++◌, length, get_or, sym}
-use Rattle.std.proofs.Common.{arith}
-use Rattle.std.proofs.lemmas.List.{get_or_append_left, get_or_at, length_push}
+use Rattle.std.proofs.Common.{◌≡◌, ℕ, ◌+◌, ◌<◌, ◌≤◌, List, [], ◌∷◌, ◌++◌, length, get_or, sym}
+use Rattle.std.proofs.Common.{⊎_elim, arith}
+use Rattle.std.proofs.lemmas.Bool.{cases_lt}
+use Rattle.std.proofs.lemmas.List.{get_or_append_left, get_or_at, get_or_push, length_push}
 use Rattle.sixel_palette.specs.declared.palette.nearest_entry.NearestEntry.{NearestEntry}
 use Rattle.sixel_palette.specs.Palette.{distance, nearest, no_entry}
 use Rattle.sixel_palette.specs.inside.PaletteCodes.{color_of}
-use Rattle.sixel_palette.specs.inside.PaletteNearest.{IsNearestEntry, AreNearest}
+use Rattle.sixel_palette.specs.inside.PaletteNearest.{IsNearestEntry, AreNearest, nearest_at}
 use Rattle.sixel_palette.proofs.PaletteNearest.{nearest-nil, nearest-push, nearest-le}
 
 -- a nearer entry replaces it
@@ -62,3 +63,27 @@ pub nearest_none : (codes squares indices : List ℕ)
     → ((k : ℕ) → k < length codes → get_or indices k 0 ≡ 0) → AreNearest [] codes squares indices
 nearest_none codes squares indices far first k l =
     rw (far k l, first k l) (near_none (color_of (get_or codes k 0)))
+
+-- the nearest entries so far and that of one more color
+pub near_pushed : (entries : List (List ℕ)) (codes squares indices : List ℕ) (n : ℕ)
+    (near : NearestEntry)
+    → length squares ≡ n → length indices ≡ n
+    → ((k : ℕ) → k < n
+    → IsNearestEntry entries (color_of (get_or codes k 0)) (nearest_at squares indices k))
+    → IsNearestEntry entries (color_of (get_or codes n 0)) near → (k : ℕ) → k < n + 1
+    → IsNearestEntry entries (color_of (get_or codes k 0))
+    (nearest_at (squares ++ near.squared ∷ []) (indices ++ near.index ∷ []) k)
+near_pushed entries codes squares indices n near same also before here k l =
+    ⊎_elim (λ (m : k < n).
+    rw (
+      get_or_append_left squares (near.squared ∷ []) 0 k (omega arith),
+      get_or_append_left indices (near.index ∷ []) 0 k (omega arith),
+    ) (before k m))
+    (λ (m : n ≤ k).
+    let e : k ≡ n = omega arith in
+    rw (
+      e,
+      get_or_push squares near.squared 0 n same,
+      get_or_push indices near.index 0 n also,
+    ) here)
+    (cases_lt k n)

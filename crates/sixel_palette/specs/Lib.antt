@@ -1,3 +1,4 @@
 pub mod Palette
 pub mod PaletteBound
+pub mod Refined
 pub mod inside

@@ -11,20 +11,31 @@ ghost use Rattle.sixel_palette.specs.PaletteBound.{AreApart, NoListIsBetter};
 ghost use Rattle.sixel_palette.specs.inside.PaletteCodes.{IsListed, AreColorCodes};
 ghost use Rattle.sixel_palette.specs.inside.PaletteChosen.{IsChosen};
 
+mod assignment;
+mod bins;
 mod cells;
+mod color_counts;
+mod color_sums;
 mod colors;
+mod cubes;
 mod distance;
 mod farthest;
+mod farthest_on_top;
 mod flags;
+mod gain_cut;
 mod indices;
+mod lloyd;
 mod nearest_entry;
 pub mod nearest_indices;
 mod rank_bitmap;
+mod refined;
+mod register_color;
 
 use crate::palette::colors::shown_codes;
 use crate::palette::distance::is_apart_from;
 use crate::palette::farthest::choose;
 use crate::palette::indices::indices_of;
+pub use crate::palette::refined::{RefinedPalette, refine_palette};
 use sixel_base::{Result, SixelError};
 use std::alloc::{AllocError, Global};
 

@@ -62,7 +62,7 @@ impl Cell {
 impl Interval {
     /// The squared distance of a channel to the interval.
     #[inline(always)]
-    fn gap(self, value: u8) -> u32
+    pub fn gap(self, value: u8) -> u32
         ensures least { (x : ℕ) → IsInInterval self x
             → result ≤ abs_diff value x * abs_diff value x }
         ensures small { result ≤ 65025 }
@@ -70,6 +70,17 @@ impl Interval {
         let own = u32::from(value);
         let near = own.max(u32::from(self.low)).min(u32::from(self.high));
         wrapped_gap(own, near)
+    }
+
+    /// The squared distance of a channel to the farther end of the interval.
+    #[inline(always)]
+    pub fn reach(self, value: u8) -> u32
+        ensures greatest { (x : ℕ) → IsInInterval self x
+            → abs_diff value x * abs_diff value x ≤ result }
+        ensures small { result ≤ 65025 }
+    {
+        let own = u32::from(value);
+        wrapped_gap(own, u32::from(self.low)).max(wrapped_gap(own, u32::from(self.high)))
     }
 }
 
@@ -85,6 +96,41 @@ pub fn cells_of(alloc: Global, codes: &[u32]) -> Result<Vec<Cell>, AllocError>
         cells.push(cell_of(codes, cell))?;
     }
     Ok(cells)
+}
+
+/// The cells of some colors, whose distances to their nearest entries are given.
+pub fn measured_cells(
+    alloc: Global,
+    codes: &[u32],
+    squares: &[u32],
+) -> Result<Vec<Cell>, AllocError>
+    requires small { AreColorCodes codes.now }
+    requires squares { length squares.now ≡ length codes.now }
+    ensures { IfOk result (λ cells. AreCells codes.now squares.now cells.items) }
+{
+    let count = codes.len().div_ceil(CELL);
+    let mut cells = Vec::with_capacity(alloc, count)?;
+    for position in 0..count {
+        let greatest = greatest_in(codes, squares, position);
+        let cell = cell_of(codes, position);
+        cells.push(Cell { greatest, ..cell })?;
+    }
+    Ok(cells)
+}
+
+/// The greatest distance in a cell.
+fn greatest_in(codes: &[u32], squares: &[u32], cell: usize) -> u32
+    requires some { 64 * cell < length codes.now }
+    requires squares { length squares.now ≡ length codes.now }
+    ensures { IsGreatestIn codes.now squares.now cell result }
+{
+    let start = CELL * cell;
+    let end = codes.len().min(start + CELL);
+    let mut greatest = 0;
+    for position in start..end {
+        greatest = squares[position].max(greatest);
+    }
+    greatest
 }
 
 /// One of the cells of some colors while there is no entry.

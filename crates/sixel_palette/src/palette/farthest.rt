@@ -13,7 +13,7 @@ ghost use Rattle.sixel_palette.specs.inside.PaletteNearest.{AreNearest};
 ghost use Rattle.sixel_palette.specs.inside.PaletteCells.{IsFirstGreatest};
 ghost use Rattle.sixel_palette.specs.inside.PaletteTraversal.{IsTraversal, HasRelaxed};
 
-use crate::palette::cells::{Cell, cells_of, farthest_of, relax_cells};
+use crate::palette::cells::{Cell, cells_of, farthest_of, measured_cells, relax_cells};
 use crate::palette::colors::color_of;
 use crate::palette::nearest_entry::{Entry, NO_ENTRY, squared_to_nearest};
 use std::alloc::{AllocError, Global};
@@ -126,8 +126,39 @@ impl Traversal {
         })
     }
 
+    /// A traversal of colors whose nearest entries are given.
+    pub fn of(
+        alloc: Global,
+        codes: &[u32],
+        squares: Vec<u32>,
+        indices: Vec<u8>,
+    ) -> Result<Traversal, AllocError>
+        requires small { AreColorCodes codes.now }
+        requires squares { length squares.items ≡ length codes.now }
+        requires indices { length indices.items ≡ length codes.now }
+        ensures whole { IfOk result (IsTraversal codes.now) }
+        ensures squares { IfOk result (λ t. t.squares.items ≡ squares.items) }
+        ensures indices { IfOk result (λ t. t.indices.items ≡ indices.items) }
+    {
+        let cells = measured_cells(alloc, codes, &squares)?;
+        Ok(Traversal {
+            squares,
+            indices,
+            cells,
+        })
+    }
+
+    /// The farthest position.
+    pub fn farthest(&self, codes: &[u32]) -> usize
+        requires some { 0 < length codes.now }
+        requires whole { IsTraversal codes.now self.now }
+        ensures { IsFirstGreatest self.now.squares.items result }
+    {
+        farthest_of(codes, &self.squares, &self.cells)
+    }
+
     /// Relaxes the distances by one more entry, and returns the farthest position.
-    fn relax(&mut self, codes: &[u32], entry: Entry) -> usize
+    pub fn relax(&mut self, codes: &[u32], entry: Entry) -> usize
         requires some { 0 < length codes.now }
         requires small { AreColorCodes codes.now }
         requires whole { IsTraversal codes.now self.old }

@@ -1,4 +1,4 @@
-use Rattle.std.proofs.Common.{◌<◌, [], take, get_or, length, arith}
+use Rattle.std.proofs.Common.{◌<◌, [], take, get_or, arith}
 use Rattle.std.specs.Prelude.{All}
 use Rattle.std.proofs.lemmas.List.{get_or_default, take_all, take_more}
 use Rattle.std.proofs.lemmas.List.Elements.{All-nil, All-push}

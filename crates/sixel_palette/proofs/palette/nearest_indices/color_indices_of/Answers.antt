@@ -1,6 +1,5 @@
-use Rattle.std.proofs.Common.{◌≡◌, ◌++◌, ◌∷◌, [], List, length, take, drop, get_or, ℕ, arith}
+use Rattle.std.proofs.Common.{◌≡◌, ◌++◌, [], List, length, take, drop, ℕ, arith}
 use Rattle.std.proofs.lemmas.List.{take_at, take_all, take_more, length-take}
-use Rattle.sixel_palette.specs.inside.PaletteTraversal.{HasRelaxed}
 use Rattle.sixel_palette.proofs.palette.nearest_indices.color_indices_of.Goals as goal
 
 -- a list of the same length replaces an old one

@@ -1,4 +1,4 @@
-use Rattle.std.proofs.Common.{[], take, get_or, length, arith}
+use Rattle.std.proofs.Common.{[], take, get_or, arith}
 use Rattle.std.proofs.lemmas.List.{take_all, take_more, length-take}
 use Rattle.sixel_palette.proofs.PaletteNearest.{nearest-push}
 use Rattle.sixel_palette.proofs.PaletteNearestEntry.{near_none}

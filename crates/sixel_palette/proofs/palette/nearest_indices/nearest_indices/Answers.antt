@@ -1,5 +1,4 @@
 use Rattle.std.proofs.Common.{◌<◌, [], get_or, length, arith}
-use Rattle.std.proofs.lemmas.List.{get_or_default}
 use Rattle.sixel_palette.proofs.PaletteColors.{IsColor, distance-lt}
 use Rattle.sixel_palette.proofs.PaletteChoices.{IsColor-shown}
 use Rattle.sixel_palette.proofs.PaletteNearest.{nearest-le}

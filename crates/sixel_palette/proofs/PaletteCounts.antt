@@ -1,0 +1,290 @@
+-- Sums over codes and over pixels.
+use Rattle.std.proofs.Common.{◌≡◌, ℕ, zero, suc, ◌+◌, ◌*◌, ◌/◌, ◌<◌, ◌≤◌, List, []}
+use Rattle.std.proofs.Common.{◌∷◌, ◌++◌, length, get_or, take, set, map, replicate, refl, ap, sym}
+use Rattle.std.proofs.Common.{◌∙◌, ⊎_elim, arith}
+use Rattle.std.specs.Prelude.{nat_lt, if◌then◌else◌}
+use Rattle.std.proofs.Math.Nat.{mul-le-mul_left}
+use Rattle.std.proofs.lemmas.Bool.{cases_lt, cond_below, cond_above}
+use Rattle.std.proofs.lemmas.Grind.{same_number_lists}
+use Rattle.std.proofs.lemmas.List.{length-map, length-set, length-replicate, get_or-map}
+use Rattle.std.proofs.lemmas.List.{get_or_default}
+use Rattle.std.specs.List.{Contains}
+use Rattle.sixel_base.specs.Limits.{area_limit}
+use Rattle.sixel_palette.specs.Palette.{nearest, rank, color_at, no_entry, IsShown}
+use Rattle.sixel_palette.specs.Refined.{sum_to, pixel_error, summed_error}
+use Rattle.sixel_palette.specs.inside.PaletteCodes.{color_of, IsListed}
+use Rattle.sixel_palette.specs.inside.PaletteCounts.{dot, pixel_number, AreCounts, near_code}
+use Rattle.sixel_palette.specs.inside.PaletteCounts.{counted_error}
+use Rattle.sixel_palette.specs.inside.PaletteAssignment.{IsWeighed}
+use Rattle.sixel_palette.specs.inside.PaletteNearest.{AreNearest}
+use Rattle.sixel_palette.proofs.PaletteColors.{color_of-rank}
+use Rattle.sixel_palette.proofs.PaletteFarthest.{code_from_listed}
+use Rattle.sixel_palette.proofs.PaletteNearest.{nearest-cap, nearest-push}
+use Rattle.sixel_palette.proofs.PaletteShown.{IsColor-color_at}
+
+-- no numbers have the sum 0
+pub dot-zeros : (n : ℕ) (ys : List ℕ) → dot (replicate n 0) ys ≡ 0
+unfolding dot
+dot-zeros zero ys = refl
+dot-zeros (suc n) [] = refl
+dot-zeros (suc n) (y ∷ ys) = omega (arith, dot-zeros n ys)
+
+-- one of the numbers is set
+pub dot-set : (xs ys : List ℕ) (i x : ℕ) → i < length xs → i < length ys
+    → dot (set xs i x) ys + get_or xs i 0 * get_or ys i 0 ≡ dot xs ys + x * get_or ys i 0
+unfolding dot
+dot-set [] ys i x l m = absurd (omega arith)
+dot-set (a ∷ xs) [] i x l m = absurd (omega arith)
+dot-set (a ∷ xs) (y ∷ ys) zero x l m = omega arith
+dot-set (a ∷ xs) (y ∷ ys) (suc i) x l m =
+    omega (arith, dot-set xs ys i x (omega arith) (omega arith))
+
+-- the sum of one more product
+pub dot-more : (xs ys : List ℕ) (i : ℕ) → i < length xs → i < length ys
+    → dot (take (i + 1) xs) ys ≡ dot (take i xs) ys + get_or xs i 0 * get_or ys i 0
+unfolding dot
+dot-more [] ys i l m = absurd (omega arith)
+dot-more (x ∷ xs) [] i l m = absurd (omega arith)
+dot-more (x ∷ xs) (y ∷ ys) zero l m = omega arith
+dot-more (x ∷ xs) (y ∷ ys) (suc i) l m =
+    let e : suc i + 1 ≡ suc (i + 1) = omega arith in
+    rw e (omega (arith, dot-more xs ys i (omega arith) (omega arith)))
+
+-- the first products have no greater sum than all
+pub dot-take-le : (xs ys : List ℕ) (n : ℕ) → dot (take n xs) ys ≤ dot xs ys
+unfolding dot
+dot-take-le [] ys zero = omega arith
+dot-take-le [] ys (suc n) = omega arith
+dot-take-le (x ∷ xs) ys zero = omega arith
+dot-take-le (x ∷ xs) [] (suc n) = omega arith
+dot-take-le (x ∷ xs) (y ∷ ys) (suc n) = omega (arith, dot-take-le xs ys n)
+
+-- one product is at most the sum
+pub dot-ge : (xs ys : List ℕ) (i : ℕ) → i < length xs → i < length ys
+    → get_or xs i 0 * get_or ys i 0 ≤ dot xs ys
+unfolding dot
+dot-ge [] ys i l m = absurd (omega arith)
+dot-ge (x ∷ xs) [] i l m = absurd (omega arith)
+dot-ge (x ∷ xs) (y ∷ ys) zero l m = omega arith
+dot-ge (x ∷ xs) (y ∷ ys) (suc i) l m = omega (arith, dot-ge xs ys i (omega arith) (omega arith))
+
+-- lesser numbers have no greater sum
+pub dot-map-le : (xs codes : List ℕ) (f g : ℕ → ℕ) → ((x : ℕ) → f x ≤ g x)
+    → dot xs (map f codes) ≤ dot xs (map g codes)
+unfolding dot
+dot-map-le [] codes f g h = omega arith
+dot-map-le (x ∷ xs) [] f g h = omega arith
+dot-map-le (x ∷ xs) (c ∷ codes) f g h =
+    omega (arith, dot-map-le xs codes f g h, mul-le-mul_left x (h c))
+
+-- the same number for each code
+pub dot-map-same : (xs codes : List ℕ) (m : ℕ)
+    → dot xs (map (λ _. m) codes) ≡ m * dot xs (map (λ _. 1) codes)
+unfolding dot
+dot-map-same [] codes m = omega arith
+dot-map-same (x ∷ xs) [] m = omega arith
+dot-map-same (x ∷ xs) (c ∷ codes) m = omega (arith, dot-map-same xs codes m)
+
+-- the sum of one more number
+pub sum_to-more : (f : ℕ → ℕ) (n : ℕ) → sum_to f (n + 1) ≡ sum_to f n + f n
+unfolding sum_to
+sum_to-more f n = let e : n + 1 ≡ suc n = omega arith in rw e refl
+
+-- equal numbers have the same sum
+sum_to-same : (f g : ℕ → ℕ) (n : ℕ) → ((k : ℕ) → f k ≡ g k) → sum_to f n ≡ sum_to g n
+unfolding sum_to
+sum_to-same f g zero h = refl
+sum_to-same f g (suc n) h = omega (arith, sum_to-same f g n h, h n)
+
+-- numbers of at most 1
+sum_to-ones : (f : ℕ → ℕ) (n : ℕ) → ((k : ℕ) → f k ≤ 1) → sum_to f n ≤ n
+unfolding sum_to
+sum_to-ones f zero h = omega arith
+sum_to-ones f (suc n) h = omega (arith, sum_to-ones f n h, h n)
+
+-- a transparent pixel has the number 0
+pub number_hidden : (f : ℕ → ℕ) (pixels : List ℕ) (pixel : ℕ)
+    → get_or pixels (4 * pixel + 3) 0 < 128 → pixel_number f pixels pixel ≡ 0
+number_hidden f pixels pixel l =
+    sym (cond_below (get_or pixels (4 * pixel + 3) 0) 128 0 (f (rank (color_at pixels pixel))) l)
+
+-- an opaque pixel has the number of its color
+pub number_opaque : (f : ℕ → ℕ) (pixels : List ℕ) (pixel : ℕ)
+    → 128 ≤ get_or pixels (4 * pixel + 3) 0
+    → pixel_number f pixels pixel ≡ f (rank (color_at pixels pixel))
+number_opaque f pixels pixel l =
+    let number = f (rank (color_at pixels pixel)) in
+    sym (cond_above (get_or pixels (4 * pixel + 3) 0) 128 0 number number l refl)
+
+-- a pixel counts at most once
+pub number-one : (pixels : List ℕ) (pixel : ℕ) → pixel_number (λ _. 1) pixels pixel ≤ 1
+number-one pixels pixel =
+    ⊎_elim (λ l. omega (arith, number_hidden (λ _. 1) pixels pixel l))
+    (λ l. omega (arith, number_opaque (λ _. 1) pixels pixel l))
+    (cases_lt (get_or pixels (4 * pixel + 3) 0) 128)
+
+-- a pixel's error is that of its color's code
+number-error : (entries : List (List ℕ)) (pixels : List ℕ) → ((k : ℕ) → get_or pixels k 0 < 256)
+    → (pixel : ℕ)
+    → pixel_number (near_code entries) pixels pixel ≡ pixel_error entries pixels pixel
+number-error entries pixels bytes pixel =
+    let color = color_at pixels pixel in
+    let same = color_of-rank color (IsColor-color_at pixels pixel bytes) in
+    ap (λ c. if nat_lt (get_or pixels (4 * pixel + 3) 0) 128 then 0 else nearest entries c) same
+
+-- there are no more pixels than there are
+pub weighed_from_counts : (pixels codes counts : List ℕ)
+    → AreCounts pixels codes counts (length pixels / 4) → length pixels / 4 ≤ area_limit
+    → IsWeighed codes counts
+weighed_from_counts pixels codes counts h area = record {
+  same = h.same;
+  few =
+      omega (
+        arith,
+        h.sums (λ _. 1),
+        sum_to-ones (pixel_number (λ _. 1) pixels)
+            (length pixels / 4) (number-one pixels),
+        area,
+      );
+}
+
+-- the error over the codes is that over the pixels
+pub error_from_counts : (entries : List (List ℕ)) (pixels codes counts : List ℕ)
+    → ((k : ℕ) → get_or pixels k 0 < 256) → AreCounts pixels codes counts (length pixels / 4)
+    → counted_error entries codes counts ≡ summed_error entries pixels
+error_from_counts entries pixels codes counts bytes h =
+    h.sums (near_code entries)
+    ∙ sum_to-same (pixel_number (near_code entries) pixels) (pixel_error entries pixels)
+    (length pixels / 4) (number-error entries pixels bytes)
+
+-- the error is at most that of the greatest image with no entry
+pub error-small : (entries : List (List ℕ)) (codes counts : List ℕ) → IsWeighed codes counts
+    → counted_error entries codes counts ≤ no_entry * area_limit
+error-small entries codes counts h =
+    omega (
+      arith,
+      dot-map-le counts codes (near_code entries) (λ _. no_entry)
+          (λ code. nearest-cap entries (color_of code)),
+      dot-map-same counts codes no_entry,
+      h.few,
+    )
+
+-- one more entry does not raise the error
+pub error-push : (entries : List (List ℕ)) (p : List ℕ) (codes counts : List ℕ)
+    → counted_error (entries ++ p ∷ []) codes counts ≤ counted_error entries codes counts
+error-push entries p codes counts =
+    dot-map-le counts codes (near_code (entries ++ p ∷ [])) (near_code entries)
+    (λ code. omega (arith, nearest-push entries p (color_of code)))
+
+-- squared distances of nearest entries are a map of the codes
+pub squares_mapped : (entries : List (List ℕ)) (codes squares indices : List ℕ)
+    → length squares ≡ length codes → AreNearest entries codes squares indices
+    → squares ≡ map (near_code entries) codes
+squares_mapped entries codes squares indices same near =
+    same_number_lists squares (map (near_code entries) codes)
+    (omega (arith, length-map codes (near_code entries)))
+    (λ k l.
+    (near k (omega arith)).gap
+    ∙ sym (get_or-map (near_code entries) codes k 0 0 (omega arith)))
+
+-- no pixel is counted yet
+pub counts_none : (pixels codes counts : List ℕ) → counts ≡ replicate (length codes) 0
+    → AreCounts pixels codes counts 0
+unfolding sum_to
+counts_none pixels codes counts e = record {
+  same = rw e (length-replicate (length codes) 0);
+  sums = λ number. rw e (dot-zeros (length codes) (map number codes));
+}
+
+-- a transparent pixel is not counted
+pub counts_hidden : (pixels codes counts : List ℕ) (pixel : ℕ)
+    → get_or pixels (4 * pixel + 3) 0 < 128 → AreCounts pixels codes counts pixel
+    → AreCounts pixels codes counts (pixel + 1)
+counts_hidden pixels codes counts pixel hidden h = record {
+  same = h.same;
+  sums = λ number.
+      omega (
+        arith,
+        h.sums number,
+        sum_to-more (pixel_number number pixels) pixel,
+        number_hidden number pixels pixel hidden,
+      );
+}
+
+-- an opaque pixel is counted for the code of its color
+pub counts_opaque : (pixels codes counts : List ℕ) (pixel position x : ℕ)
+    → 128 ≤ get_or pixels (4 * pixel + 3) 0 → position < length codes
+    → get_or codes position 0 ≡ rank (color_at pixels pixel)
+    → x ≡ get_or counts position 0 + 1 → AreCounts pixels codes counts pixel
+    → AreCounts pixels codes (set counts position x) (pixel + 1)
+counts_opaque pixels codes counts pixel position x opaque within same e h = record {
+  same = omega (arith, h.same, length-set counts position x);
+  sums = λ number.
+      let numbers = map number codes in
+      let here : get_or numbers position 0 ≡ number (rank (color_at pixels pixel)) =
+      get_or-map number codes position 0 0 within ∙ ap number same in
+      let old = get_or counts position 0 in
+      let one : x * get_or numbers position 0
+      ≡ old * get_or numbers position 0 + get_or numbers position 0 =
+      rw e (omega arith) in
+      omega (
+        arith,
+        dot-set counts numbers position x (omega (arith, h.same))
+            (omega (arith, length-map codes number)),
+        h.sums number,
+        sum_to-more (pixel_number number pixels) pixel,
+        number_opaque number pixels pixel opaque,
+        here,
+        one,
+      );
+}
+
+-- a count is at most the number of pixels so far
+pub count-le : (pixels codes counts : List ℕ) (count position : ℕ) → position < length codes
+    → AreCounts pixels codes counts count → get_or counts position 0 ≤ count
+count-le pixels codes counts count position within h =
+    let unit : ℕ → ℕ = λ _. 1 in
+    let ones = map unit codes in
+    let one : get_or ones position 0 ≡ 1 = get_or-map unit codes position 0 0 within in
+    let product : get_or counts position 0 * get_or ones position 0 ≡ get_or counts position 0 =
+    rw one (omega arith) in
+    omega (
+      arith,
+      dot-ge counts ones position (omega (arith, h.same)) (omega (arith, length-map codes unit)),
+      h.sums unit,
+      sum_to-ones (pixel_number unit pixels) count (number-one pixels),
+      product,
+    )
+
+-- the code of a listed color is among the codes
+pub Contains-code : (codes : List ℕ) (c : List ℕ) (code : ℕ) → code ≡ rank c → IsListed codes c
+    → Contains codes code
+Contains-code codes c code e m = (
+  m.0,
+  m.1,
+  get_or_default codes m.0 code 0 m.1 ∙ code_from_listed codes c m ∙ sym e,
+)
+
+-- numbers that are all 0 have the sum 0
+sum_to-zero : (f : ℕ → ℕ) (n : ℕ) → ((k : ℕ) → k < n → f k ≡ 0) → sum_to f n ≡ 0
+unfolding sum_to
+sum_to-zero f zero h = refl
+sum_to-zero f (suc n) h =
+    omega (arith, sum_to-zero f n (λ k l. h k (omega arith)), h n (omega arith))
+
+-- without an opaque pixel there is no error
+pub error_none : (entries : List (List ℕ)) (pixels : List ℕ) → ((c : List ℕ) → ¬ IsShown pixels c)
+    → summed_error entries pixels ≡ 0
+error_none entries pixels none =
+    sum_to-zero (pixel_error entries pixels) (length pixels / 4)
+    (λ pixel l.
+    ⊎_elim (λ hidden.
+    sym (cond_below (get_or pixels (4 * pixel + 3) 0) 128 0
+    (nearest entries (color_at pixels pixel)) hidden))
+    (λ opaque. absurd (none (color_at pixels pixel) (pixel, l, opaque, refl)))
+    (cases_lt (get_or pixels (4 * pixel + 3) 0) 128))
+
+-- no products
+pub dot-nil : (ys : List ℕ) → 0 ≡ dot [] ys
+unfolding dot
+dot-nil ys = refl

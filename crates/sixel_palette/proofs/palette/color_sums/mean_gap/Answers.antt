@@ -1,0 +1,8 @@
+use Rattle.std.proofs.Common.{◌-◌, arith}
+use Rattle.sixel_palette.proofs.PaletteDistance.{square-le}
+use Rattle.sixel_palette.proofs.palette.color_sums.mean_gap.Goals as goal
+
+pub returns : goal.returns
+returns c =
+    let gap = c.abs_diff-gap.result in
+    omega (arith, square-le gap 65280 (65280 - gap) (omega arith))

@@ -1,0 +1,22 @@
+use Rattle.std.proofs.Common.{◌≡◌, length, arith}
+use Rattle.std.proofs.lemmas.Result.{IfOk-weaker}
+use Rattle.sixel_palette.proofs.palette.refined.palette_of.Goals as goal
+
+pub transparent-requires : goal.transparent-requires
+transparent-requires c = λ c' m.
+    let h = c.in_ok-codes.ensures.shown c' m in
+    let l = h.1 in
+    let e : length c.in_ok-codes.codes.items ≡ 0 = grind arith in
+    absurd (omega (arith, l, e))
+
+pub returns-then-is_empty : goal.returns-then-is_empty
+returns-then-is_empty c =
+    IfOk-weaker c.transparent.result _ _ (λ v made. made c.args.room) c.transparent.ensures
+
+pub counts_of-requires-clause-listed : goal.counts_of-requires-clause-listed
+counts_of-requires-clause-listed c = λ c' m.
+    rw c.deref.ensures.value (c.in_ok-codes.ensures.shown c' m)
+
+pub palette_of_counts-requires-clause-shown : goal.palette_of_counts-requires-clause-shown
+palette_of_counts-requires-clause-shown c = λ c' m.
+    rw c.deref-2.ensures.value (c.in_ok-codes.ensures.shown c' m)

@@ -1,0 +1,113 @@
+use Rattle.std.proofs.Common.{◌≡◌, ℕ, ◌+◌, ◌<◌, ◌≤◌, length, get_or, map, ◌∙◌}
+use Rattle.std.proofs.Common.{arith}
+use Rattle.std.specs.List.{All}
+use Rattle.std.proofs.lemmas.List.{length-append}
+use Rattle.sixel_palette.specs.Palette.{IsShown}
+use Rattle.sixel_palette.specs.Refined.{register_color, summed_error}
+use Rattle.sixel_palette.specs.inside.PaletteCounts.{counted_error}
+use Rattle.sixel_palette.proofs.PaletteChoices.{size_from_codes, three_from_shown, IsColor-shown}
+use Rattle.sixel_palette.proofs.PaletteCounts.{weighed_from_counts, error_from_counts}
+use Rattle.sixel_palette.proofs.PaletteCounts.{error-small, squares_mapped}
+use Rattle.sixel_palette.proofs.PaletteRefined.{nearest_entry-lt, bound_of_shown}
+use Rattle.sixel_palette.proofs.PaletteSize.{one_size}
+use Rattle.sixel_palette.proofs.palette.refined.palette_of_counts.Goals as goal
+
+pub assignment_of-requires-clause-weighed : goal.assignment_of-requires-clause-weighed
+assignment_of-requires-clause-weighed c =
+    weighed_from_counts c.args.pixels.now c.args.codes.now c.args.counts.now c.requires.counts
+    c.requires.area
+
+pub assignment_of-requires-clause-shown : goal.assignment_of-requires-clause-shown
+assignment_of-requires-clause-shown c = rw c.deref.ensures.value c.in_ok-initial.ensures.shown
+
+pub summed-error-requires-clause-small : goal.summed-error-requires-clause-small
+summed-error-requires-clause-small c =
+    let topped = c.in_ok-topped.topped in
+    let mapped =
+    squares_mapped topped.colors.items c.args.codes.now topped.traversal.squares.items
+    topped.traversal.indices.items c.in_ok-topped.ensures.whole.squares
+    c.in_ok-topped.ensures.relaxed in
+    rw (c.deref-2.ensures.value, mapped)
+    (omega (
+      arith,
+      error-small topped.colors.items c.args.codes.now c.args.counts.now
+          (weighed_from_counts c.args.pixels.now c.args.codes.now c.args.counts.now
+          c.requires.counts c.requires.area),
+    ))
+
+pub indices_of-requires-clause-listed : goal.indices_of-requires-clause-listed
+indices_of-requires-clause-listed c = c.requires.shown
+
+pub returns : goal.returns
+returns c =
+    let pixels = c.args.pixels.now in
+    let codes = c.args.codes.now in
+    let counts = c.args.counts.now in
+    let initial = c.in_ok-initial.initial.items in
+    let assignment = c.in_ok-assignment.assignment in
+    let topped = c.in_ok-topped.topped in
+    let colors = topped.colors.items in
+    let squares = topped.traversal.squares.items in
+    let bytes : (k : ℕ) → get_or pixels k 0 < 256 = λ k. omega (arith, c.type_inv.pixels k) in
+    let own : counted_error colors codes counts ≡ summed_error colors pixels =
+    error_from_counts colors pixels codes counts bytes c.requires.counts in
+    let first : counted_error initial codes counts ≡ summed_error initial pixels =
+    error_from_counts initial pixels codes counts bytes c.requires.counts in
+    let size : length assignment.colors.items ≡ length initial =
+    rw c.deref.ensures.value at c.in_ok-assignment.ensures.size in
+    let top = c.in_ok-topped.ensures.top in
+    let long : length colors ≡ length top.base + length (map register_color top.tops) =
+    rw top.whole (length-append top.base (map register_color top.tops)) in
+    let some : 0 < length colors =
+    omega (arith, long, top.size, size, c.in_ok-initial.ensures.some c.requires.some) in
+    let mapped =
+    squares_mapped colors codes squares topped.traversal.indices.items
+    c.in_ok-topped.ensures.whole.squares c.in_ok-topped.ensures.relaxed in
+    let apart = rw c.deref-4.ensures.value at c.least_apart-apart.ensures in
+    let occur : All (IsShown pixels) topped.witnesses.items =
+    λ k d l. c.requires.listed _ (c.in_ok-topped.ensures.witnesses k d l) in
+    record {
+      shown = c.in_ok-topped.ensures.shown;
+      few = c.in_ok-topped.ensures.few;
+      complete = λ n s l d m.
+          let e : n ≡ length codes =
+          one_size (IsShown pixels) (IsShown pixels) (λ x y. y) (λ x y. y)
+          (three_from_shown pixels) n (length codes) s
+          (size_from_codes (IsShown pixels) codes c.requires.ascending c.requires.shown
+          c.requires.listed) in
+          let fits : length codes ≤ c.args.room = omega arith in
+          let same = rw c.deref.ensures.value at (c.in_ok-assignment.ensures.same fits) in
+          let listed = c.requires.shown d m in
+          let entry = c.in_ok-initial.ensures.complete fits listed.0 0 listed.1 in
+          c.in_ok-topped.ensures.kept (register_color d) (rw (same, ← listed.2) entry);
+      indices =
+          c.in_ok-indices.ensures colors squares
+          (rw c.deref-3.ensures.value c.in_ok-topped.ensures.relaxed)
+          (λ d m.
+          nearest_entry-lt colors d some c.in_ok-topped.ensures.shown
+          (IsColor-shown pixels d bytes m));
+      error = (rw (c.deref-2.ensures.value, mapped) at c.summed-error.ensures) ∙ own;
+      falls =
+          omega (
+            arith,
+            own,
+            first,
+            c.in_ok-topped.ensures.falls counts,
+            rw c.deref.ensures.value at c.in_ok-assignment.ensures.falls,
+          );
+      initial_shown = c.in_ok-initial.ensures.shown;
+      initial_few = c.in_ok-initial.ensures.few;
+      top = record {
+        base = top.base;
+        tops = top.tops;
+        far = top.far;
+        size = top.size ∙ size;
+        whole = top.whole;
+        none = top.none;
+        some = top.some;
+      };
+      witnesses = occur;
+      apart = apart;
+      bound = λ n l.
+          bound_of_shown pixels topped.witnesses.items c.least_apart-apart.result n apart occur l;
+    }

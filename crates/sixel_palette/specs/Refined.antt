@@ -1,0 +1,70 @@
+-- The refined palette of an image: colors that a register shows, and the summed squared error of a
+-- list of entries over the image's opaque pixels. A register stores percentages (DEC's color
+-- introducer), so the entries lie on their grid.
+use Rattle.std.specs.Prelude.{◌≡◌, ℕ, ◌+◌, ◌*◌, ◌/◌, ◌<◌, ◌≤◌, List, [], ◌∷◌, ◌++◌, map, length}
+use Rattle.std.specs.Prelude.{zero, suc, nat_lt, if◌then◌else◌, slice_index, All, Contains}
+use Rattle.sixel_base.specs.Color.{rgb}
+use Rattle.sixel_palette.specs.declared.palette.refined.RefinedPalette.{RefinedPalette}
+use Rattle.sixel_palette.specs.Palette.{nearest, color_at, IsShown, HasSize, AreIndices}
+use Rattle.sixel_palette.specs.PaletteBound.{AreApart, NoListIsBetter}
+
+-- a register shows the color: it is that of three percentages
+abbrev pub IsRegisterColor : List ℕ → Type 0
+IsRegisterColor c = (red green blue : ℕ) × (c ≡ rgb red green blue)
+
+-- a channel as a percentage, rounded
+abbrev pub percentage : ℕ → ℕ
+percentage channel = (channel * 100 + 127) / 255
+
+-- the color that a register shows for a color
+abbrev pub register_color : List ℕ → List ℕ
+register_color c =
+    rgb (percentage (slice_index c 0)) (percentage (slice_index c 1)) (percentage (slice_index c 2))
+
+-- the sum of the first numbers of a sequence
+unfoldable pub sum_to : (ℕ → ℕ) → ℕ → ℕ
+sum_to number zero = 0
+sum_to number (suc n) = sum_to number n + number n
+
+-- the squared distance of a pixel's color to its nearest entry, 0 for a transparent pixel
+abbrev pub pixel_error : List (List ℕ) → List ℕ → ℕ → ℕ
+pixel_error entries pixels pixel =
+    if nat_lt (slice_index pixels (4 * pixel + 3)) 128 then 0
+    else nearest entries (color_at pixels pixel)
+
+-- the summed squared error of the entries, over all pixels
+abbrev pub summed_error : List (List ℕ) → List ℕ → ℕ
+summed_error entries pixels = sum_to (pixel_error entries pixels) (length pixels / 4)
+
+-- the entries after the first ones are for the witnesses but the last, in order; without such
+-- entries there are no witnesses
+pub record AreOnTop (first : ℕ) (entries witnesses : List (List ℕ)) : Type 0 where
+  pub base : List (List ℕ)
+  pub tops : List (List ℕ)
+  pub far : List ℕ
+  pub size : length base ≡ first
+  pub whole : entries ≡ base ++ map register_color tops
+  pub none : length tops ≡ 0 → witnesses ≡ []
+  pub some : 0 < length tops → witnesses ≡ tops ++ far ∷ []
+
+-- the refined palette of an image
+pub record IsRefined (pixels : List ℕ) (max_colors : ℕ) (palette : RefinedPalette) : Type 0 where
+  -- registers show the entries, of which there are not too many
+  pub shown : All IsRegisterColor palette.colors.items
+  pub few : length palette.colors.items ≤ max_colors
+  -- where there is room for the colors of all opaque pixels, each has its entry
+  pub complete : (n : ℕ) → HasSize (IsShown pixels) n → n ≤ max_colors
+      → (c : List ℕ) → IsShown pixels c → Contains palette.colors.items (register_color c)
+  pub indices : AreIndices pixels palette.colors.items palette.indices.items
+  -- the error is the true sum, and at most that of the entries before the rounds
+  pub error : palette.error ≡ summed_error palette.colors.items pixels
+  pub falls : summed_error palette.colors.items pixels
+      ≤ summed_error palette.initial.items pixels
+  pub initial_shown : All IsRegisterColor palette.initial.items
+  pub initial_few : length palette.initial.items ≤ max_colors
+  -- the certificate of the entries on top
+  pub top : AreOnTop (length palette.initial.items) palette.colors.items palette.witnesses.items
+  pub witnesses : All (IsShown pixels) palette.witnesses.items
+  pub apart : AreApart palette.witnesses.items palette.apart
+  pub bound : (n : ℕ) → n < length palette.witnesses.items
+      → NoListIsBetter (IsShown pixels) n palette.apart

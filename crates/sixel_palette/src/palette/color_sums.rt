@@ -1,0 +1,133 @@
+//! Sums over pixels: how many there are, and the sum of each channel.
+
+ghost use Rattle.std.specs.Prelude.{◌≡◌, ◌+◌, ◌*◌, ◌/◌, ◌<◌, ◌≤◌, ℕ};
+ghost use Rattle.sixel_base.specs.Limits.{area_limit};
+ghost use Rattle.sixel_palette.specs.Refined.{IsRegisterColor};
+
+use crate::palette::register_color::percent_color;
+
+/// How many pixels an image has at most.
+pub const AREA_LIMIT: u64 = 67_108_864;
+
+/// The number of some pixels and the sums of their channels.
+#[derive(Clone, Copy)]
+pub struct ColorSums {
+    pub count: u64,
+    pub red: u64,
+    pub green: u64,
+    pub blue: u64,
+    ghost small: { count ≤ area_limit },
+    ghost reds: { red ≤ 255 * count },
+    ghost greens: { green ≤ 255 * count },
+    ghost blues: { blue ≤ 255 * count },
+}
+
+impl ColorSums {
+    /// The sums of no pixel.
+    pub fn none() -> ColorSums {
+        ColorSums {
+            count: 0,
+            red: 0,
+            green: 0,
+            blue: 0,
+        }
+    }
+
+    /// The sums of so many pixels of one color.
+    pub fn of(color: [u8; 3], count: u32) -> ColorSums {
+        let count = u64::from(count).min(AREA_LIMIT);
+        ColorSums {
+            count,
+            red: count * u64::from(color[0]),
+            green: count * u64::from(color[1]),
+            blue: count * u64::from(color[2]),
+        }
+    }
+
+    /// The sums of these pixels and of others.
+    ///
+    /// It saturates: no image has more pixels than the greatest one.
+    #[inline(always)]
+    pub fn plus(self, more: ColorSums) -> ColorSums {
+        if self.count + more.count > AREA_LIMIT {
+            return self;
+        }
+        ColorSums {
+            count: self.count + more.count,
+            red: self.red + more.red,
+            green: self.green + more.green,
+            blue: self.blue + more.blue,
+        }
+    }
+
+    /// The color of a register that is next to the mean, or `color` if there is no pixel.
+    pub fn mean_or(self, color: [u8; 3]) -> [u8; 3]
+        requires { IsRegisterColor color }
+        ensures { IsRegisterColor result }
+    {
+        if self.count == 0 {
+            return color;
+        }
+        percent_color(
+            mean_percent(self.red, self.count),
+            mean_percent(self.green, self.count),
+            mean_percent(self.blue, self.count),
+        )
+    }
+
+    /// By how much the summed squared error falls if other pixels get an entry of their own.
+    ///
+    /// It is in units of 1/16, and rounded down: a guide.
+    pub fn gain(self, other: ColorSums) -> u64 {
+        if self.count == 0 || other.count == 0 {
+            return 0;
+        }
+        let weight = 16 * self.count * other.count / (self.count + other.count);
+        let red = mean_gap(self.red, self.count, other.red, other.count);
+        let green = mean_gap(self.green, self.count, other.green, other.count);
+        let blue = mean_gap(self.blue, self.count, other.blue, other.count);
+        scaled(red + green + blue, weight)
+    }
+}
+
+/// The percentage next to a mean.
+fn mean_percent(sum: u64, count: u64) -> u64
+    requires some { 0 < count }
+    requires small { count ≤ area_limit }
+    requires mean { sum ≤ 255 * count }
+    ensures { result ≤ 100 }
+{
+    (200 * sum + 255 * count) / (510 * count)
+}
+
+/// The squared difference of two means, in units of 1/65536.
+fn mean_gap(sum: u64, count: u64, other_sum: u64, other_count: u64) -> u64
+    requires some { 0 < count }
+    requires small { count ≤ area_limit }
+    requires mean { sum ≤ 255 * count }
+    requires other_some { 0 < other_count }
+    requires other_small { other_count ≤ area_limit }
+    requires other_mean { other_sum ≤ 255 * other_count }
+    ensures { result ≤ 4261478400 }
+{
+    let gap = fine_mean(sum, count).abs_diff(fine_mean(other_sum, other_count));
+    gap * gap
+}
+
+/// A mean in units of 1/256.
+fn fine_mean(sum: u64, count: u64) -> u64
+    requires some { 0 < count }
+    requires small { count ≤ area_limit }
+    requires mean { sum ≤ 255 * count }
+    ensures { result ≤ 65280 }
+{
+    256 * sum / count
+}
+
+/// A squared distance in units of 1/65536 times a weight.
+fn scaled(distance: u64, weight: u64) -> u64
+    requires distance { distance ≤ 12784435200 }
+    requires weight { weight ≤ 1073741824 }
+{
+    distance * weight / 65536
+}

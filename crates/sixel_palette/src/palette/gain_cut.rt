@@ -1,0 +1,206 @@
+//! Boxes of colors, cut in two again and again where the summed squared error falls most.
+//!
+//! X. Wu, "Color quantization by dynamic programming and principal analysis", ACM Transactions on
+//! Graphics 11 (1992), 348-372, cuts boxes in this way.
+
+ghost use Rattle.std.specs.Prelude.{◌≡◌, ◌+◌, ◌*◌, ◌/◌, ◌<◌, ◌≤◌, ℕ, length, All, IfOk};
+ghost use Rattle.sixel_palette.specs.Refined.{IsRegisterColor};
+
+use crate::palette::bins::Bin;
+use crate::palette::color_sums::ColorSums;
+use crate::palette::register_color::percent_color;
+use std::alloc::{AllocError, Global};
+
+/// How many values a channel of a bin's corner has.
+const SIDES: usize = 64;
+
+/// A box of colors: a range of bins, and its best cut.
+#[derive(Clone, Copy)]
+struct ColorBox {
+    start: usize,
+    end: usize,
+    sums: ColorSums,
+    cut: Cut,
+}
+
+/// A cut of a box: along a channel, up to a value, and how much it gains.
+#[derive(Clone, Copy)]
+struct Cut {
+    channel: Channel,
+    value: u8,
+    gain: u64,
+}
+
+/// A channel of a color.
+#[derive(Clone, Copy)]
+enum Channel {
+    Red,
+    Green,
+    Blue,
+}
+
+impl Channel {
+    /// The channel of a bin's corner.
+    #[inline(always)]
+    fn of(self, bin: &Bin) -> u8 {
+        match self {
+            Channel::Red => bin.corner[0],
+            Channel::Green => bin.corner[1],
+            Channel::Blue => bin.corner[2],
+        }
+    }
+}
+
+/// The colors of registers next to the means of the boxes that the bins are cut into.
+///
+/// There are at most `room`. The bins are reordered.
+pub fn cut_colors(alloc: Global, bins: &mut [Bin], room: usize) -> Result<Vec<[u8; 3]>, AllocError>
+    requires { 0 < room }
+    ensures shown { IfOk result (λ colors. All IsRegisterColor colors.items) }
+    ensures room { IfOk result (λ colors. length colors.items ≤ room) }
+    ensures some { IfOk result (λ colors. 0 < length colors.items) }
+{
+    let boxes = boxes_of(alloc, bins, room)?;
+    let mut colors = Vec::with_capacity(alloc, boxes.len())?;
+    for color_box in &boxes {
+        colors.push(color_box.sums.mean_or(percent_color(0, 0, 0)))?;
+    }
+    Ok(colors)
+}
+
+/// The bins in boxes, at most `room`.
+fn boxes_of(alloc: Global, bins: &mut [Bin], room: usize) -> Result<Vec<ColorBox>, AllocError>
+    requires { 0 < room }
+    ensures room { IfOk result (λ boxes. length boxes.items ≤ room) }
+    ensures some { IfOk result (λ boxes. 0 < length boxes.items) }
+{
+    let mut lower = vec![in alloc; ColorSums::none(); SIDES]?;
+    let mut upper = vec![in alloc; ColorSums::none(); SIDES]?;
+    let mut boxes = Vec::new(alloc);
+    let all = bins.len();
+    boxes.push(box_of(bins, 0, all, &mut lower, &mut upper))?;
+    for _count in 1..room {
+        let best = best_of(&boxes);
+        let whole = boxes[best];
+        if whole.cut.gain == 0 || whole.end > bins.len() || whole.start > whole.end {
+            break;
+        }
+        let middle = divide(bins, whole.start, whole.end, whole.cut);
+        boxes[best] = box_of(bins, whole.start, middle, &mut lower, &mut upper);
+        let rest = box_of(bins, middle, whole.end, &mut lower, &mut upper);
+        boxes.push(rest)?;
+    }
+    Ok(boxes)
+}
+
+/// The position of the box whose cut gains most, the first of those.
+fn best_of(boxes: &[ColorBox]) -> usize
+    requires { 0 < length boxes.now }
+    ensures { result < length boxes.now }
+{
+    let mut best = 0;
+    for position in 1..boxes.len() {
+        if boxes[best].cut.gain < boxes[position].cut.gain {
+            best = position;
+        }
+    }
+    best
+}
+
+/// Moves the bins up to the cut to the front of a range, and returns where the others begin.
+fn divide(bins: &mut [Bin], start: usize, end: usize, cut: Cut) -> usize
+    requires order { start ≤ end }
+    requires within { end ≤ length bins.old }
+    ensures from { start ≤ result }
+    ensures to { result ≤ end }
+{
+    let mut middle = start;
+    for position in start..end {
+        if cut.channel.of(&bins[position]) <= cut.value {
+            bins.swap(middle, position);
+            middle += 1;
+        }
+    }
+    middle
+}
+
+/// A range of bins as a box, with its best cut.
+fn box_of(
+    bins: &[Bin],
+    start: usize,
+    end: usize,
+    lower: &mut [ColorSums],
+    upper: &mut [ColorSums],
+) -> ColorBox
+    requires order { start ≤ end }
+    requires within { end ≤ length bins.now }
+    requires lower { length lower.old ≡ 64 }
+    requires upper { length upper.old ≡ 64 }
+    ensures start { result.start ≡ start }
+    ensures end { result.end ≡ end }
+{
+    let part = &bins[start..end];
+    let none = Cut {
+        channel: Channel::Red,
+        value: 0,
+        gain: 0,
+    };
+    gather(part, Channel::Blue, lower);
+    let blue = cut_along(lower, upper, Channel::Blue, none);
+    gather(part, Channel::Green, lower);
+    let green = cut_along(lower, upper, Channel::Green, blue);
+    gather(part, Channel::Red, lower);
+    let red = cut_along(lower, upper, Channel::Red, green);
+    ColorBox {
+        start,
+        end,
+        sums: lower[0].plus(upper[0]),
+        cut: red,
+    }
+}
+
+/// Sums the bins of each value of a channel.
+#[inline(never)]
+fn gather(bins: &[Bin], channel: Channel, sums: &mut [ColorSums])
+    requires { length sums.old ≡ 64 }
+{
+    for value in 0..sums.len() {
+        sums[value] = ColorSums::none();
+    }
+    for bin in bins {
+        let value = usize::from(channel.of(bin)) % SIDES;
+        sums[value] = sums[value].plus(bin.sums);
+    }
+}
+
+/// The better one of a cut and the cuts along a channel, whose sums at each value are given.
+///
+/// The sums above each value are stored in `upper`.
+#[inline(never)]
+fn cut_along(sums: &[ColorSums], upper: &mut [ColorSums], channel: Channel, cut: Cut) -> Cut
+    requires sums { length sums.now ≡ 64 }
+    requires upper { length upper.old ≡ 64 }
+{
+    let mut above = ColorSums::none();
+    for below in 0..SIDES {
+        upper[SIDES - 1 - below] = above;
+        above = above.plus(sums[SIDES - 1 - below]);
+    }
+    let mut best = cut;
+    let mut left = ColorSums::none();
+    for value in 0..63u8 {
+        let at = usize::from(value);
+        if sums[at].count > 0 {
+            left = left.plus(sums[at]);
+            let gain = left.gain(upper[at]);
+            if best.gain < gain {
+                best = Cut {
+                    channel,
+                    value,
+                    gain,
+                };
+            }
+        }
+    }
+    best
+}

@@ -1,0 +1,250 @@
+//! The refined palette of an image: a small summed squared error, from colors that registers show.
+
+ghost use Rattle.std.specs.Prelude.{◌≡◌, ◌≢◌, ◌⊎◌, ◌-◌, ◌%◌, ◌<◌, ◌≤◌, ◌/◌, ℕ, List, length};
+ghost use Rattle.std.specs.Prelude.{All, Contains, Some, None, OnOk, IfOk, MatchResult};
+ghost use Rattle.std.specs.List.Sorted.{IsStrictlyIncreasing};
+ghost use Rattle.sixel_base.specs.Limits.{area_limit};
+ghost use Rattle.sixel_base.specs.CallFault.{FailsBy, ColorCount, color_count_fault};
+ghost use Rattle.sixel_base.specs.Fault.{IsFault, TooLarge};
+ghost use Rattle.sixel_palette.specs.PaletteBound.{AreApart};
+ghost use Rattle.sixel_palette.specs.Palette.{IsShown, distance};
+ghost use Rattle.sixel_palette.specs.Refined.{IsRegisterColor, register_color, IsRefined};
+ghost use Rattle.sixel_palette.specs.inside.PaletteAssignment.{IsAssignment, IsWeighed};
+ghost use Rattle.sixel_palette.specs.inside.PaletteCounts.{counted_error, AreCounts};
+ghost use Rattle.sixel_palette.specs.inside.PaletteCodes.{color_of, IsListed, AreColorCodes};
+
+use crate::palette::assignment::{Assignment, summed};
+use crate::palette::bins::bins_of;
+use crate::palette::color_counts::counts_of;
+use crate::palette::color_sums::AREA_LIMIT;
+use crate::palette::colors::{color_of, shown_codes};
+use crate::palette::distance::distance;
+use crate::palette::farthest_on_top::add_farthest;
+use crate::palette::gain_cut::cut_colors;
+use crate::palette::indices::indices_of;
+use crate::palette::lloyd::improve;
+use crate::palette::nearest_entry::NO_ENTRY;
+use crate::palette::register_color::register_color;
+use sixel_base::size::validate_color_count;
+use sixel_base::{Result, SixelError};
+use std::alloc::{AllocError, Global};
+
+/// How many rounds move the entries at most.
+const ROUNDS: usize = 2;
+
+/// A refined palette, each pixel's palette index, and its summed squared error.
+#[derive(Debug, Drop)]
+pub struct RefinedPalette {
+    /// The entries: red, green, blue, as a register shows them.
+    pub colors: Vec<[u8; 3]>,
+    /// The palette index of each pixel, 0 for a transparent pixel.
+    pub indices: Vec<u8>,
+    /// The sum over all opaque pixels of the squared distance to the nearest entry.
+    pub error: u64,
+    /// The entries before the rounds, whose summed error is not less.
+    pub initial: Vec<[u8; 3]>,
+    /// The colors that the last entries are for, and then the farthest color.
+    ///
+    /// Every two have at least the squared distance `apart`. There are none without such entries.
+    pub witnesses: Vec<[u8; 3]>,
+    /// The least squared distance of two witnesses.
+    pub apart: u32,
+}
+
+/// Returns a refined palette of an image of RGBA pixels, four bytes each.
+///
+/// Only opaque pixels count, those whose alpha is at least 128; the others get index 0. There are
+/// at most `max_colors` entries, 1 to 256, each a color that a register shows. If the opaque pixels
+/// have at most `max_colors` colors, each of these has its entry, rounded to percentages. Otherwise
+/// the colors are cut into boxes, one after the other where the summed squared error falls most.
+/// Two rounds of Lloyd's algorithm move the entries, and a round that does not lower the error is
+/// undone. At last come entries farthest first, `max_colors / 16` or more.
+///
+/// The witnesses certify these: no list of fewer colors than there are witnesses, whatever they
+/// are, has an entry nearer to each witness than by a fourth of `apart`.
+///
+/// # Errors
+///
+/// `BufferSizeMismatch` if the length is not a multiple of four; it expects the length rounded
+/// down. `InvalidData` if `max_colors` is 0 or above 256, and if there are more than 67,108,864
+/// pixels. These come before anything is allocated. Otherwise only `OutOfMemory`.
+pub fn refine_palette(alloc: Global, pixels: &[u8], max_colors: u16) -> Result<RefinedPalette>
+    ensures mismatch { let len = length pixels.now in
+        len % 4 ≢ 0 → result ≡ Err (SixelError.BufferSizeMismatch (len - len % 4) len) }
+    ensures colors { length pixels.now % 4 ≡ 0 → color_count_fault max_colors ≡ Some ColorCount
+        → FailsBy (Some ColorCount) result }
+    ensures area { length pixels.now % 4 ≡ 0 → color_count_fault max_colors ≡ None
+        → area_limit < length pixels.now / 4
+        → MatchResult result (λ _. ⊥) (λ e. IsFault e TooLarge) }
+    ensures memory { length pixels.now % 4 ≡ 0 → color_count_fault max_colors ≡ None
+        → length pixels.now / 4 ≤ area_limit → FailsBy None result }
+    ensures bytes { OnOk result (All (λ byte. byte < 256) pixels.now) }
+    ensures refined { IfOk result (IsRefined pixels.now max_colors) }
+{
+    let beyond = pixels.len() % 4;
+    if beyond != 0 {
+        return Err(SixelError::BufferSizeMismatch {
+            expected: pixels.len() - beyond,
+            actual: pixels.len(),
+        });
+    }
+    validate_color_count(usize::from(max_colors))?;
+    if pixels.len() / 4 > AREA_LIMIT as usize {
+        return Err(SixelError::too_large());
+    }
+    Ok(palette_of(alloc, pixels, usize::from(max_colors))?)
+}
+
+/// The refined palette of whole pixels, with room for so many entries.
+fn palette_of(
+    alloc: Global,
+    pixels: &[u8],
+    room: usize,
+) -> std::result::Result<RefinedPalette, AllocError>
+    requires area { length pixels.now / 4 ≤ area_limit }
+    requires some { 0 < room }
+    requires room { room ≤ 256 }
+    ensures { IfOk result (IsRefined pixels.now room) }
+{
+    let codes = shown_codes(alloc, pixels)?;
+    if codes.is_empty() {
+        return transparent(alloc, pixels);
+    }
+    let counts = counts_of(alloc, pixels, &codes)?;
+    palette_of_counts(alloc, pixels, &codes, &counts, room)
+}
+
+/// The refined palette from the codes of the opaque pixels' colors and their numbers of pixels.
+fn palette_of_counts(
+    alloc: Global,
+    pixels: &[u8],
+    codes: &[u32],
+    counts: &[u32],
+    room: usize,
+) -> std::result::Result<RefinedPalette, AllocError>
+    requires area { length pixels.now / 4 ≤ area_limit }
+    requires some_room { 0 < room }
+    requires room { room ≤ 256 }
+    requires some { 0 < length codes.now }
+    requires ascending { IsStrictlyIncreasing codes.now }
+    requires small { AreColorCodes codes.now }
+    requires shown { (c : List ℕ) → IsShown pixels.now c → IsListed codes.now c }
+    requires listed { (c : List ℕ) → IsListed codes.now c → IsShown pixels.now c }
+    requires counts { AreCounts pixels.now codes.now counts.now (length pixels.now / 4) }
+    ensures { IfOk result (IsRefined pixels.now room) }
+{
+    let initial = initial_colors(alloc, codes, counts, room)?;
+    let assignment = assignment_of(alloc, codes, counts, &initial, room)?;
+    let topped = add_farthest(alloc, codes, assignment, room)?;
+    let error = summed(counts, &topped.traversal.squares);
+    let indices = indices_of(alloc, pixels, codes, &topped.traversal.indices)?;
+    let apart = least_apart(&topped.witnesses);
+    Ok(RefinedPalette {
+        colors: topped.colors,
+        indices,
+        error,
+        initial,
+        witnesses: topped.witnesses,
+        apart,
+    })
+}
+
+/// The palette of an image without an opaque pixel.
+fn transparent(alloc: Global, pixels: &[u8]) -> std::result::Result<RefinedPalette, AllocError>
+    requires { (c : List ℕ) → ¬ IsShown pixels.now c }
+    ensures { IfOk result (λ p. (room : ℕ) → IsRefined pixels.now room p) }
+{
+    Ok(RefinedPalette {
+        colors: Vec::new(alloc),
+        indices: vec![in alloc; 0; pixels.len() / 4]?,
+        error: 0,
+        initial: Vec::new(alloc),
+        witnesses: Vec::new(alloc),
+        apart: 0,
+    })
+}
+
+/// The entries to begin with: one for each color if there is room, or those of a gain cut.
+fn initial_colors(
+    alloc: Global,
+    codes: &[u32],
+    counts: &[u32],
+    room: usize,
+) -> std::result::Result<Vec<[u8; 3]>, AllocError>
+    requires some { 0 < room }
+    requires small { AreColorCodes codes.now }
+    requires same { length counts.now ≡ length codes.now }
+    ensures shown { IfOk result (λ colors. All IsRegisterColor colors.items) }
+    ensures few { IfOk result (λ colors. length colors.items ≤ room) }
+    ensures some { IfOk result (λ colors. 0 < length codes.now → 0 < length colors.items) }
+    ensures complete { IfOk result (λ colors. length codes.now ≤ room
+        → All (λ code. Contains colors.items (register_color (color_of code))) codes.now) }
+{
+    if codes.len() > room {
+        let mut bins = bins_of(alloc, codes, counts)?;
+        return cut_colors(alloc, &mut bins, room - room / 16);
+    }
+    register_colors(alloc, codes)
+}
+
+/// The color that a register shows for each color.
+fn register_colors(alloc: Global, codes: &[u32]) -> std::result::Result<Vec<[u8; 3]>, AllocError>
+    requires small { AreColorCodes codes.now }
+    ensures shown { IfOk result (λ colors. All IsRegisterColor colors.items) }
+    ensures size { IfOk result (λ colors. length colors.items ≡ length codes.now) }
+    ensures complete { IfOk result (λ colors.
+        All (λ code. Contains colors.items (register_color (color_of code))) codes.now) }
+{
+    let mut colors = Vec::with_capacity(alloc, codes.len())?;
+    for position in 0..codes.len() {
+        colors.push(register_color(color_of(codes[position])))?;
+    }
+    Ok(colors)
+}
+
+/// The entries after the rounds, which need no rounds if each color has its entry.
+fn assignment_of(
+    alloc: Global,
+    codes: &[u32],
+    counts: &[u32],
+    initial: &[[u8; 3]],
+    room: usize,
+) -> std::result::Result<Assignment, AllocError>
+    requires small { AreColorCodes codes.now }
+    requires weighed { IsWeighed codes.now counts.now }
+    requires few { length initial.now ≤ 256 }
+    requires shown { All IsRegisterColor initial.now }
+    ensures assignment { IfOk result (IsAssignment codes.now) }
+    ensures same { IfOk result (λ a. length codes.now ≤ room → a.colors.items ≡ initial.now) }
+    ensures shown { IfOk result (λ a. All IsRegisterColor a.colors.items) }
+    ensures size { IfOk result (λ a. length a.colors.items ≡ length initial.now) }
+    ensures falls { IfOk result (λ a. counted_error a.colors.items codes.now counts.now
+        ≤ counted_error initial.now codes.now counts.now) }
+{
+    let mut colors = Vec::with_capacity(alloc, initial.len())?;
+    colors.extend_from_slice(initial)?;
+    let rounds = if codes.len() <= room { 0 } else { ROUNDS };
+    improve(alloc, codes, counts, colors, rounds)
+}
+
+/// The least squared distance of two of the colors, above that of any two if there are not two.
+fn least_apart(colors: &[[u8; 3]]) -> u32
+    ensures { AreApart colors.now result }
+{
+    let mut least = NO_ENTRY;
+    for position in 0..colors.len() {
+        least = least_to(&colors[..position], colors[position]).min(least);
+    }
+    least
+}
+
+/// The least squared distance of some colors to a color.
+fn least_to(colors: &[[u8; 3]], color: [u8; 3]) -> u32
+    ensures { All (λ a. result ≤ distance a color) colors.now }
+{
+    let mut least = NO_ENTRY;
+    for position in 0..colors.len() {
+        least = distance(colors[position], color).min(least);
+    }
+    least
+}
