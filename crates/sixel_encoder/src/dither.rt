@@ -3,7 +3,7 @@
 /// How each pixel of an image gets an entry of a palette.
 ///
 /// ```rust
-/// let dither = Dither::Diffusion { strength: 6 };
+/// let dither = Dither::Diffusion { strength: 8 };
 /// ```
 #[derive(Debug, Clone, Copy, PartialEq, Eq)]
 pub enum Dither {

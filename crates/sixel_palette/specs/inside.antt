@@ -6,3 +6,4 @@ pub mod PaletteRanks
 pub mod PaletteLookUp
 pub mod PaletteChosen
 pub mod PaletteTraversal
+pub mod PaletteCandidates

@@ -11,6 +11,7 @@ ghost use Rattle.sixel_palette.specs.PaletteBound.{AreApart, NoListIsBetter};
 ghost use Rattle.sixel_palette.specs.inside.PaletteCodes.{IsListed, AreColorCodes};
 ghost use Rattle.sixel_palette.specs.inside.PaletteChosen.{IsChosen};
 
+pub mod candidates;
 mod cells;
 mod colors;
 mod distance;

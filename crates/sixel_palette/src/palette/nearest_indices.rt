@@ -7,9 +7,9 @@ ghost use Rattle.sixel_palette.specs.inside.PaletteNearest.{AreNearest};
 
 use crate::palette::cells::relax_cells;
 use crate::palette::colors::shown_codes;
+use crate::palette::distance::distance;
 use crate::palette::farthest::Traversal;
 use crate::palette::indices::indices_of;
-use crate::palette::distance::distance;
 use crate::palette::nearest_entry::{Entry, NO_ENTRY, NearestEntry};
 use std::alloc::{AllocError, Global};
 
@@ -32,11 +32,7 @@ pub fn nearest_indices(
 }
 
 /// The palette index of the nearest entry of each code's color.
-fn color_indices_of(
-    alloc: Global,
-    codes: &[u32],
-    colors: &[[u8; 3]],
-) -> Result<Vec<u8>, AllocError>
+fn color_indices_of(alloc: Global, codes: &[u32], colors: &[[u8; 3]]) -> Result<Vec<u8>, AllocError>
     requires small { AreColorCodes codes.now }
     requires few { length colors.now ≤ 256 }
     ensures nearest { IfOk result (λ indices. (squares : List ℕ)
@@ -86,7 +82,7 @@ pub fn color_bytes(colors: &[[u8; 3]])
 }
 
 /// States that the channels of a color are bytes. It does nothing.
-fn channel_bytes(color: [u8; 3])
+pub fn channel_bytes(color: [u8; 3])
     ensures { (k : ℕ) → k < 3 → slice_index color k < 256 }
 {
     byte(color[0]);

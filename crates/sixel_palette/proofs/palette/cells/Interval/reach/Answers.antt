@@ -1,0 +1,30 @@
+use Rattle.std.proofs.Common.{◌-◌, ◌<◌, ◌≤◌, ⊎_elim, arith}
+use Rattle.std.specs.Int.{abs_diff}
+use Rattle.std.proofs.lemmas.Bool.{cases_lt}
+use Rattle.sixel_palette.proofs.PaletteDistance.{square-le}
+use Rattle.sixel_palette.proofs.palette.cells.Interval.reach.Goals as goal
+
+pub returns-clause-most : goal.returns-clause-most
+returns-clause-most c x interval =
+    let value = c.args.value in
+    let more = abs_diff value x in
+    let low = abs_diff c.from-own.result c.from.result in
+    let high = abs_diff c.from-own.result c.from-2.result in
+    ⊎_elim
+    (λ (l : value < x).
+    omega (
+      arith,
+      c.max.ensures,
+      c.wrapped_gap.ensures.value,
+      c.wrapped_gap-2.ensures.value,
+      square-le more high (high - more) (omega (arith, interval.high)),
+    ))
+    (λ (l : x ≤ value).
+    omega (
+      arith,
+      c.max.ensures,
+      c.wrapped_gap.ensures.value,
+      c.wrapped_gap-2.ensures.value,
+      square-le more low (low - more) (omega (arith, interval.low)),
+    ))
+    (cases_lt value x)
