@@ -1,5 +1,5 @@
--- The laws of error diffusion: errors are bounded, their shares add up to them, and there are none in
--- an image whose colors the palette has.
+-- The laws of error diffusion: errors are bounded, their shares add up to them, and there are none
+-- in an image whose colors the palette has.
 use Rattle.std.proofs.Common.{◌≡◌, ℕ, zero, suc, ◌+◌, ◌-◌, ◌*◌, ◌<◌, ◌≤◌, min, List, [], ◌∷◌, Bool}
 use Rattle.std.proofs.Common.{true, false, cond, length, get_or, refl, ap, sym, subst, ◌∙◌, arith}
 use Rattle.std.proofs.Common.{inl, inr, nat_le}
@@ -150,7 +150,8 @@ error-none d errors n entry none bytes is =
     own k l =
         let same : 4 * at + 0 ≡ 4 * at = omega arith in
         ap (λ c. slice_index c k) is
-        ∙ below_three (λ k. slice_index (color_at d.pixels at) k ≡ slice_index d.pixels (4 * at + k))
+        ∙ below_three
+        (λ k. slice_index (color_at d.pixels at) k ≡ slice_index d.pixels (4 * at + k))
         (ap (slice_index d.pixels) (sym same)) refl refl k l
 
     channel : (k : ℕ) → k < 3 → channel_error d errors n entry k ≡ 512 * d.strength

@@ -38,7 +38,8 @@ none-first (Some fault) rest e = absurd cc
 
 -- a new decoder can read what is returned
 pub readable-returned : {S : Type 0} (result : Result S SixelError) (image : Image)
-    (rest : Option CallFault) → FailsBy (option_or (size_call_fault (image_fault image)) rest) result
+    (rest : Option CallFault)
+    → FailsBy (option_or (size_call_fault (image_fault image)) rest) result
     → OnOk result (CanRead new_decoder image.width image.height)
 readable-returned (Ok value) image rest fails =
     CanRead-new image
@@ -59,7 +60,8 @@ rows-sound image sound =
 -- images that show the same have one text in a palette
 pub hidden-returned : {S : Type 0} (bytes : S → List ℕ) (result : Result S SixelError)
     (image other : Image) (colors : List (List ℕ)) (dither : Dither) (others : List ℕ)
-    (rest : Option CallFault) → FailsBy (option_or (size_call_fault (image_fault image)) rest) result
+    (rest : Option CallFault)
+    → FailsBy (option_or (size_call_fault (image_fault image)) rest) result
     → IfOk result (λ text. IsPaletteText image colors dither (bytes text))
     → shown_image image ≡ shown_image other → IsPaletteText other colors dither others
     → IfOk result (λ text. bytes text ≡ others)

@@ -1,6 +1,7 @@
 -- Images that show the same have the same indices at their opaque pixels, so one drawing.
-use Rattle.std.proofs.Common.{◌≡◌, ℕ, zero, suc, ◌+◌, ◌-◌, ◌*◌, ◌<◌, ◌≤◌, List, [], ◌∷◌, cond, length}
-use Rattle.std.proofs.Common.{true, false, get_or, refl, ap, sym, subst, ◌∙◌, arith, inl, inr, nat_le}
+use Rattle.std.proofs.Common.{◌≡◌, ℕ, zero, suc, ◌+◌, ◌-◌, ◌*◌, ◌<◌, ◌≤◌, List, [], ◌∷◌, cond}
+use Rattle.std.proofs.Common.{length, true, false, get_or, refl, ap, sym, subst, ◌∙◌, arith, inl}
+use Rattle.std.proofs.Common.{inr, nat_le}
 use Rattle.std.specs.Prelude.{◌/◌, ◌%◌, None, Option, Some, slice_index, slice_index_or}
 use Rattle.std.proofs.lemmas.Bool.{cases_lt}
 use Rattle.std.proofs.lemmas.Bool.Decides.{nat_tests}

@@ -4,8 +4,8 @@
 -- Society for Information Display 17 (1976), 75-77, in serpentine order and in whole sixteenths.
 -- The pattern of ordered dithering is that of Ø. Kolås, "a dither" (2013).
 use Rattle.std.specs.Prelude.{◌≡◌, ℕ, zero, suc, ◌+◌, ◌-◌, ◌*◌, ◌/◌, ◌%◌, ◌<◌, ◌==◌, nat_le, min}
-use Rattle.std.specs.Prelude.{max, if◌then◌else◌, List, [], ◌∷◌, length, slice_index, slice_index_or}
-use Rattle.std.specs.Prelude.{Option, Some, None}
+use Rattle.std.specs.Prelude.{max, if◌then◌else◌, List, [], ◌∷◌, length, slice_index}
+use Rattle.std.specs.Prelude.{slice_index_or, Option, Some, None}
 use Rattle.std.specs.Option.{option_or}
 use Rattle.sixel_base.specs.CallFault.{CallFault, Exactly, color_count_fault, size_call_fault}
 use Rattle.sixel_base.specs.declared.error.SixelError.{SixelError}

@@ -2,8 +2,8 @@
 
 /// How each pixel of an image gets an entry of a palette.
 ///
-/// ```rust
-/// let dither = Dither::Diffusion { strength: 6 };
+/// ```text
+/// let dither = Dither::Diffusion { strength: 8 };
 /// ```
 #[derive(Debug, Clone, Copy, PartialEq, Eq)]
 pub enum Dither {

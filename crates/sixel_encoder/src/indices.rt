@@ -15,7 +15,7 @@ mod ordered;
 
 use crate::dither::Dither;
 use crate::indices::diffusion::{DiffusedImage, diffused_indices};
-use crate::indices::ordered::ordered_indices;
+use crate::indices::ordered::{OrderedImage, ordered_indices};
 use sixel_base::size::validate_color_count;
 use sixel_base::{Result, SixelError};
 use sixel_palette::palette::nearest_indices::nearest_indices;
@@ -28,8 +28,8 @@ use std::alloc::{AllocError, Global};
 /// the squared differences of the channels. A transparent pixel, whose alpha is below 128, has
 /// index 0. Its color has no effect: it neither receives nor passes on a difference.
 ///
-/// ```rust
-/// let indices = palette_indices(alloc, &pixels, width, colors, Dither::Off)?;
+/// ```text
+/// let indices = palette_indices(alloc, &image.pixels, image.width, colors, Dither::Off)?;
 /// ```
 ///
 /// # Errors
@@ -79,7 +79,15 @@ pub fn dithered_indices(
 {
     match dither {
         Dither::Off => nearest_indices(alloc, pixels, colors),
-        Dither::Ordered { amplitude } => ordered_indices(alloc, pixels, width, colors, amplitude),
+        Dither::Ordered { amplitude } => {
+            let image = OrderedImage {
+                pixels,
+                width,
+                colors,
+                amplitude,
+            };
+            ordered_indices(alloc, &image)
+        }
         Dither::Diffusion { strength } => {
             let image = DiffusedImage {
                 pixels,

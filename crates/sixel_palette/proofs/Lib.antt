@@ -1,5 +1,6 @@
 pub mod PaletteApart
 pub mod PaletteBits
+pub mod PaletteCandidates
 pub mod PaletteCells
 pub mod PaletteChoices
 pub mod PaletteColors

@@ -9,3 +9,4 @@ pub mod PaletteTraversal
 pub mod PaletteCounts
 pub mod PaletteKeys
 pub mod PaletteAssignment
+pub mod PaletteCandidates

@@ -13,6 +13,7 @@ ghost use Rattle.sixel_palette.specs.inside.PaletteChosen.{IsChosen};
 
 mod assignment;
 mod bins;
+pub mod candidates;
 mod cells;
 mod color_counts;
 mod color_sums;

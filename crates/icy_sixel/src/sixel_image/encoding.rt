@@ -83,7 +83,7 @@ impl SixelImage {
     ///
     /// The palette may be fixed, shared by the frames of an animation, or from another quantizer.
     ///
-    /// ```rust
+    /// ```text
     /// let dither = Dither::Diffusion { strength: 8 };
     /// image.encode_with_palette(alloc, colors, dither)
     /// ```
@@ -115,7 +115,7 @@ impl SixelImage {
     /// There is an index for each pixel, row by row. Those of transparent pixels have no effect, as
     /// the colors of all pixels have none.
     ///
-    /// ```rust
+    /// ```text
     /// let indices = palette_indices(alloc, &image.pixels, image.width, colors, Dither::Off)?;
     /// image.encode_indexed(alloc, colors, &indices)
     /// ```

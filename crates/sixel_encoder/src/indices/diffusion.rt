@@ -3,8 +3,9 @@
 //! R. W. Floyd, L. Steinberg, "An adaptive algorithm for spatial greyscale", Proceedings of the
 //! Society for Information Display 17 (1976), 75-77.
 
-ghost use Rattle.std.specs.Prelude.{◌≡◌, ℕ, ◌<◌, ◌≤◌, ◌+◌, ◌*◌, ◌/◌, IfOk, List, length};
+ghost use Rattle.std.specs.Prelude.{◌≡◌, ℕ, ◌<◌, ◌≤◌, ◌+◌, ◌*◌, ◌/◌, IfOk, List, OnOk, length};
 ghost use Rattle.std.specs.Prelude.{slice_index};
+ghost use Rattle.sixel_palette.specs.inside.PaletteCandidates.{AreCandidates};
 ghost use Rattle.sixel_encoder.specs.Dithering.{AreNearestTo, column_of_step, diffused_color};
 ghost use Rattle.sixel_encoder.specs.Dithering.{errors_of, no_error, passed_on, serpentine};
 ghost use Rattle.sixel_encoder.specs.Dithering.{next_share, before_share, below_share, rest_share};
@@ -16,7 +17,7 @@ ghost use Rattle.sixel_encoder.specs.inside.Diffusion.{IsBeyond, color_error, re
 ghost use Rattle.sixel_encoder.specs.inside.Diffusion.{rounded_color};
 
 use crate::band::is_opaque;
-use sixel_palette::palette::nearest_indices::nearest_index;
+use sixel_palette::palette::candidates::Candidates;
 use std::alloc::{AllocError, Global};
 
 /// An image whose errors are diffused.
@@ -41,8 +42,9 @@ pub fn diffused_indices(alloc: Global, image: &DiffusedImage<'_>) -> Result<Vec<
     }
     let mut indices = vec![in alloc; 0; image.pixels.len() / 4]?;
     let mut line = vec![in alloc; image.no_error(); image.width]?;
+    let mut candidates = Candidates::new(alloc)?;
     for row in 0..image.pixels.len() / 4 / image.width {
-        image.diffuse_row(&mut indices, &mut line, row);
+        image.diffuse_row(&mut indices, &mut line, &mut candidates, row)?;
     }
     Ok(indices)
 }
@@ -55,19 +57,27 @@ impl DiffusedImage<'_> {
     ///
     /// The line has the errors of the row above, by their columns. It gets those of this row.
     #[inline(never)]
-    fn diffuse_row(&self, indices: &mut [u8], line: &mut [PixelError], row: usize)
+    fn diffuse_row(
+        &self,
+        indices: &mut [u8],
+        line: &mut [PixelError],
+        candidates: &mut Candidates,
+        row: usize,
+    ) -> Result<(), AllocError>
         requires image { IsDiffusable self.now }
         requires row { row * self.now.width + self.now.width ≤ length self.now.pixels.now / 4 }
         requires indices { length indices.old ≡ length self.now.pixels.now / 4 }
         requires visited { AreVisited (diffused_of self.now) indices.old (row * self.now.width) }
         requires line { IsLine (diffused_of self.now)
             (errors_of (diffused_of self.now) indices.old (row * self.now.width)) row 0 line.old }
-        ensures indices { length indices.new ≡ length self.now.pixels.now / 4 }
-        ensures visited { AreVisited (diffused_of self.now) indices.new
-            (row * self.now.width + self.now.width) }
-        ensures line { IsLine (diffused_of self.now)
+        requires candidates { AreCandidates self.now.colors.now candidates.old }
+        ensures indices { OnOk result (length indices.new ≡ length self.now.pixels.now / 4) }
+        ensures visited { OnOk result (AreVisited (diffused_of self.now) indices.new
+            (row * self.now.width + self.now.width)) }
+        ensures line { OnOk result (IsLine (diffused_of self.now)
             (errors_of (diffused_of self.now) indices.new (row * self.now.width + self.now.width))
-            (row + 1) 0 line.new }
+            (row + 1) 0 line.new) }
+        ensures candidates { OnOk result (AreCandidates self.now.colors.now candidates.new) }
     {
         let mut before = self.no_error();
         let mut behind = self.no_error();
@@ -80,11 +90,13 @@ impl DiffusedImage<'_> {
                 above,
                 beyond: self.error_beyond(line, row, step),
             };
-            let error = self.visit(indices, row * self.width + column, neighbors.received());
+            let pixel = row * self.width + column;
+            let error = self.visit(indices, candidates, pixel, neighbors.received())?;
             line[column] = error;
             before = error;
             behind = above;
         }
+        Ok(())
     }
 
     /// Returns the error above the next pixel of a row, if there is one.
@@ -104,24 +116,33 @@ impl DiffusedImage<'_> {
 
     /// Stores the index of a pixel that receives these numbers, and returns its error.
     #[inline(always)]
-    fn visit(&self, indices: &mut [u8], pixel: usize, received: [u32; 3]) -> PixelError
+    fn visit(
+        &self,
+        indices: &mut [u8],
+        candidates: &mut Candidates,
+        pixel: usize,
+        received: [u32; 3],
+    ) -> Result<PixelError, AllocError>
         requires image { IsDiffusable self.now }
         requires indices { length indices.old ≡ length self.now.pixels.now / 4 }
         requires pixel { pixel < length self.now.pixels.now / 4 }
         requires small { (k : ℕ) → k < 3 → slice_index received k ≤ received_limit }
-        ensures indices { length indices.new ≡ length self.now.pixels.now / 4 }
-        ensures visit { (errors : List (List ℕ)) (n : ℕ) → serpentine self.now.width n ≡ pixel
+        requires candidates { AreCandidates self.now.colors.now candidates.old }
+        ensures indices { OnOk result (length indices.new ≡ length self.now.pixels.now / 4) }
+        ensures visit { IfOk result (λ error. (errors : List (List ℕ)) (n : ℕ)
+            → serpentine self.now.width n ≡ pixel
             → AreReceived (diffused_of self.now) errors n received
-            → IsVisit (diffused_of self.now) errors n indices.old indices.new result }
+            → IsVisit (diffused_of self.now) errors n indices.old indices.new error) }
+        ensures candidates { OnOk result (AreCandidates self.now.colors.now candidates.new) }
     {
         if !is_opaque(self.pixels, pixel) {
             indices[pixel] = 0;
-            return self.no_error();
+            return Ok(self.no_error());
         }
         let values = self.sixteenths(pixel, received);
-        let index = nearest_index(self.colors, rounded(values));
+        let index = candidates.nearest(self.colors, rounded(values))?;
         indices[pixel] = index;
-        self.error(values, self.colors[usize::from(index)])
+        Ok(self.error(values, self.colors[usize::from(index)]))
     }
 
     /// Returns the channels of a pixel with what it receives, in sixteenths.

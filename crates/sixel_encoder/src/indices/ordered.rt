@@ -1,70 +1,87 @@
 //! Ordered dithering by the pattern of Ø. Kolås, "a dither" (2013).
 
-ghost use Rattle.std.specs.Prelude.{◌≡◌, ℕ, ◌<◌, ◌≤◌, ◌+◌, ◌*◌, ◌/◌, ◌%◌, IfOk, length};
+ghost use Rattle.std.specs.Prelude.{◌≡◌, ℕ, ◌<◌, ◌≤◌, ◌+◌, ◌*◌, ◌/◌, ◌%◌, IfOk, OnOk, length};
+ghost use Rattle.sixel_palette.specs.inside.PaletteCandidates.{AreCandidates};
 ghost use Rattle.sixel_encoder.specs.Dithering.{AreNearestTo, HasTarget, moved_channel};
 ghost use Rattle.sixel_encoder.specs.Dithering.{ordered_color, threshold};
 
 use crate::band::is_opaque;
-use sixel_palette::palette::nearest_indices::nearest_index;
+use sixel_palette::palette::candidates::Candidates;
 use std::alloc::{AllocError, Global};
 
+/// An image whose pixels are moved by the pattern.
+#[derive(Clone, Copy)]
+pub struct OrderedImage<'a> {
+    pub pixels: &'a [u8],
+    pub width: usize,
+    pub colors: &'a [[u8; 3]],
+    /// How far apart the pattern moves a channel at most.
+    pub amplitude: u8,
+}
+
 /// Returns the palette index of each pixel, of the entry nearest to its moved color.
-pub fn ordered_indices(
-    alloc: Global,
-    pixels: &[u8],
-    width: usize,
-    colors: &[[u8; 3]],
-    amplitude: u8,
-) -> Result<Vec<u8>, AllocError>
-    requires width { 0 < width }
-    requires some { 0 < length colors.now }
-    requires few { length colors.now ≤ 256 }
-    ensures { IfOk result (λ indices. AreNearestTo (ordered_color amplitude width pixels.now)
-        pixels.now colors.now indices.items) }
+pub fn ordered_indices(alloc: Global, image: &OrderedImage<'_>) -> Result<Vec<u8>, AllocError>
+    requires width { 0 < image.now.width }
+    requires some { 0 < length image.now.colors.now }
+    requires few { length image.now.colors.now ≤ 256 }
+    ensures { IfOk result (λ indices. AreNearestTo
+        (ordered_color image.now.amplitude image.now.width image.now.pixels.now)
+        image.now.pixels.now image.now.colors.now indices.items) }
 {
-    let mut indices = vec![in alloc; 0; pixels.len() / 4]?;
-    for pixel in 0..pixels.len() / 4 {
-        indices[pixel] = ordered_index(pixels, width, pixel, colors, amplitude);
+    let mut indices = vec![in alloc; 0; image.pixels.len() / 4]?;
+    let mut candidates = Candidates::new(alloc)?;
+    for pixel in 0..image.pixels.len() / 4 {
+        let index = image.palette_index(&mut candidates, pixel)?;
+        indices[pixel] = index;
     }
     Ok(indices)
 }
 
-/// Returns the palette index of a pixel, 0 if it is transparent.
-fn ordered_index(
-    pixels: &[u8],
-    width: usize,
-    pixel: usize,
-    colors: &[[u8; 3]],
-    amplitude: u8,
-) -> u8
-    requires width { 0 < width }
-    requires pixel { pixel < length pixels.now / 4 }
-    requires some { 0 < length colors.now }
-    requires few { length colors.now ≤ 256 }
-    ensures { HasTarget (ordered_color amplitude width pixels.now pixel)
-        pixels.now colors.now pixel result }
-{
-    if !is_opaque(pixels, pixel) {
-        return 0;
+impl OrderedImage<'_> {
+    /// Returns the palette index of a pixel, 0 if it is transparent.
+    #[inline(always)]
+    fn palette_index(&self, candidates: &mut Candidates, pixel: usize) -> Result<u8, AllocError>
+        requires width { 0 < self.now.width }
+        requires pixel { pixel < length self.now.pixels.now / 4 }
+        requires some { 0 < length self.now.colors.now }
+        requires few { length self.now.colors.now ≤ 256 }
+        requires candidates { AreCandidates self.now.colors.now candidates.old }
+        ensures target { IfOk result (HasTarget
+            (ordered_color self.now.amplitude self.now.width self.now.pixels.now pixel)
+            self.now.pixels.now self.now.colors.now pixel) }
+        ensures candidates { OnOk result (AreCandidates self.now.colors.now candidates.new) }
+    {
+        if !is_opaque(self.pixels, pixel) {
+            return Ok(0);
+        }
+        candidates.nearest(self.colors, self.moved_color(pixel))
     }
-    nearest_index(colors, moved_color(pixels, width, pixel, amplitude))
-}
 
-/// Returns the color of a pixel, moved by the pattern.
-#[inline(always)]
-fn moved_color(pixels: &[u8], width: usize, pixel: usize, amplitude: u8) -> [u8; 3]
-    requires width { 0 < width }
-    requires pixel { pixel < length pixels.now / 4 }
-    ensures { result ≡ ordered_color amplitude width pixels.now pixel }
-{
-    let column = pixel % width;
-    let row = pixel / width;
-    let at = 4 * pixel;
-    [
-        moved_channel(amplitude, threshold(column, row, 0), pixels[at]),
-        moved_channel(amplitude, threshold(column, row, 1), pixels[at + 1]),
-        moved_channel(amplitude, threshold(column, row, 2), pixels[at + 2]),
-    ]
+    /// Returns the color of a pixel, moved by the pattern.
+    #[inline(always)]
+    fn moved_color(&self, pixel: usize) -> [u8; 3]
+        requires width { 0 < self.now.width }
+        requires pixel { pixel < length self.now.pixels.now / 4 }
+        ensures { result
+            ≡ ordered_color self.now.amplitude self.now.width self.now.pixels.now pixel }
+    {
+        let column = pixel % self.width;
+        let row = pixel / self.width;
+        let at = 4 * pixel;
+        [
+            moved_channel(self.amplitude, threshold(column, row, 0), self.pixels[at]),
+            moved_channel(
+                self.amplitude,
+                threshold(column, row, 1),
+                self.pixels[at + 1],
+            ),
+            moved_channel(
+                self.amplitude,
+                threshold(column, row, 2),
+                self.pixels[at + 2],
+            ),
+        ]
+    }
 }
 
 /// Returns the pattern's number for a place and a channel.
@@ -87,5 +104,7 @@ fn moved_channel(amplitude: u8, threshold: u32, value: u8) -> u8
 {
     let amplitude = u32::from(amplitude);
     let offset = 2 * threshold * amplitude + (65536 - 255 * amplitude);
-    (u32::from(value) + offset / 512).saturating_sub(128).min(255) as u8
+    (u32::from(value) + offset / 512)
+        .saturating_sub(128)
+        .min(255) as u8
 }

@@ -52,10 +52,19 @@ impl Cell {
 
     /// The squared distance of a color to the box, where no color is nearer.
     #[inline(always)]
-    fn gap(&self, color: [u8; 3]) -> u32
+    pub fn gap(&self, color: [u8; 3]) -> u32
         ensures { (c : List ℕ) → IsInBox self.now c → result ≤ distance color c }
     {
         self.red.gap(color[0]) + self.green.gap(color[1]) + self.blue.gap(color[2])
+    }
+
+    /// The squared distance of a color to the farthest corner, beyond which no color is.
+    #[inline(always)]
+    pub fn reach(&self, color: [u8; 3]) -> u32
+        ensures most { (c : List ℕ) → IsInBox self.now c → distance color c ≤ result }
+        ensures small { result < no_entry }
+    {
+        self.red.reach(color[0]) + self.green.reach(color[1]) + self.blue.reach(color[2])
     }
 }
 

@@ -82,7 +82,7 @@ pub fn color_bytes(colors: &[[u8; 3]])
 }
 
 /// States that the channels of a color are bytes. It does nothing.
-fn channel_bytes(color: [u8; 3])
+pub fn channel_bytes(color: [u8; 3])
     ensures { (k : ℕ) → k < 3 → slice_index color k < 256 }
 {
     byte(color[0]);

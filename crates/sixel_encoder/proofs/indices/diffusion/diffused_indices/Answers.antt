@@ -26,6 +26,7 @@ loop-row-init c =
           same_number_lists error c.no_error.result
           (clone.long ∙ sym (ap length c.no_error.ensures))
           (λ k l. clone.at k 0 0 (omega (arith, clone.long, l)))))));
+      candidates = c.in_ok-candidates.ensures c.args.image.now.colors.now;
     }
 
 pub diffuse_row-requires-clause-visited : goal.diffuse_row-requires-clause-visited
@@ -37,7 +38,7 @@ loop-row-preserved c =
     let d = diffused_of c.args.image.now in
     let old = c.loop-row in
     let new = c.diffuse_row.new in
-    let told = c.diffuse_row.ensures in
+    let told = c.in_ok-diffuse_row.ensures in
     let next : (old.row + 1) * d.width ≡ old.row * d.width + d.width = omega arith in
     let indices = replaced new.indices old.indices.items old.indices.len
     (omega (arith, told.indices, old.invariant.size)) in
@@ -47,6 +48,7 @@ loop-row-preserved c =
       size = rw indices told.indices;
       visited = rw (indices, next) told.visited;
       line = rw (indices, line, next) told.line;
+      candidates = told.candidates;
     }
 
 pub returns : goal.returns
@@ -56,4 +58,5 @@ returns c =
     let last : c.loop-row.row ≡ count =
     omega (arith, c.loop-row.auto.row-end, c.loop-row-test.false) in
     AreNearestTo-visited d c.loop-row.indices.items c.loop-row.row c.requires.wide
-    (omega (arith, c.requires.rows, ap (λ row. row * d.width) last)) c.loop-row.invariant.size c.loop-row.invariant.visited
+    (omega (arith, c.requires.rows, ap (λ row. row * d.width) last)) c.loop-row.invariant.size
+    c.loop-row.invariant.visited

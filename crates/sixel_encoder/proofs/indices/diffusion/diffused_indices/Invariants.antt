@@ -1,5 +1,6 @@
 use Rattle.std.proofs.Common.{◌≡◌, ◌*◌, length}
 use Rattle.std.specs.Prelude.{◌/◌}
+use Rattle.sixel_palette.specs.inside.PaletteCandidates.{AreCandidates}
 use Rattle.sixel_encoder.specs.Dithering.{errors_of}
 use Rattle.sixel_encoder.specs.inside.Diffusion.{AreVisited, IsLine, diffused_of}
 use Rattle.sixel_encoder.proofs.indices.diffusion.diffused_indices.Given as goal
@@ -9,5 +10,7 @@ invariant-loop-row l = record {
   size : length l.indices.items ≡ length l.image.pixels.now / 4;
   visited : AreVisited (diffused_of l.image) l.indices.items (l.row * l.image.width);
   line : IsLine (diffused_of l.image)
-      (errors_of (diffused_of l.image) l.indices.items (l.row * l.image.width)) l.row 0 l.line.items;
+      (errors_of (diffused_of l.image) l.indices.items (l.row * l.image.width)) l.row 0
+      l.line.items;
+  candidates : AreCandidates l.image.colors.now l.candidates;
 }

@@ -8,12 +8,14 @@ pub loop-pixel-preserved : goal.loop-pixel-preserved
 loop-pixel-preserved c =
     let indices = c.loop-pixel.indices.items in
     let pixel = c.loop-pixel.pixel in
-    let index = c.ordered_index.result in
+    let image = c.args.image.now in
+    let index = c.in_ok-index.index in
     let h = c.loop-pixel.invariant in
     record {
       size = omega (arith, length-set indices pixel index, h.size);
       each = λ k l.
-          HasTarget-set (ordered_color c.args.amplitude c.args.width c.args.pixels.now)
-          c.args.pixels.now c.args.colors.now indices pixel index k (omega (arith, h.size)) h.each
-          c.ordered_index.ensures l;
+          HasTarget-set (ordered_color image.amplitude image.width image.pixels.now)
+          image.pixels.now image.colors.now indices pixel index k (omega (arith, h.size)) h.each
+          c.in_ok-index.ensures.target l;
+      candidates = c.in_ok-index.ensures.candidates;
     }

@@ -8,7 +8,10 @@ replaced : {X : Type 0} (new old : List X) (len : ℕ) → length new ≡ len
 replaced new old len same = take_at new (drop (length new) old) len same
 
 pub loop-index-init : goal.loop-index-init
-loop-index-init c = record { whole = c.in_ok-traversal.ensures.whole; relaxed = c.in_ok-traversal.ensures.relaxed }
+loop-index-init c = record {
+  whole = c.in_ok-traversal.ensures.whole;
+  relaxed = c.in_ok-traversal.ensures.relaxed;
+}
 
 pub loop-index-preserved : goal.loop-index-preserved
 loop-index-preserved c =

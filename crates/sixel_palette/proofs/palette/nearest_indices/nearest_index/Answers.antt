@@ -20,7 +20,8 @@ loop-index-preserved c =
     rw (take_more colors index [] (omega arith)) (record {
       near =
           c.with-near.ensures (take index colors) p c.args.color
-          (omega (arith, length-take index colors)) (omega (arith, c.distance.ensures.value)) h.near;
+          (omega (arith, length-take index colors)) (omega (arith, c.distance.ensures.value))
+          h.near;
       some = λ l.
           omega (
             arith,

@@ -22,6 +22,7 @@ loop-step-init c =
       line = rw none c.requires.line;
       before = c.no_error-before.ensures;
       behind = c.no_error-behind.ensures;
+      candidates = c.requires.candidates;
     }
 
 pub loop-step-preserved : goal.loop-step-preserved
@@ -32,9 +33,9 @@ loop-step-preserved c =
     let step = c.loop-step.step in
     let n = row * width + step in
     let old = c.loop-step.indices in
-    let new = c.visit-error.new.indices in
+    let new = c.visit.new.indices in
     let line = c.loop-step.line in
-    let error = c.visit-error.result in
+    let error = c.in_ok-error.error in
     let errors = errors_of d old n in
     let h = c.loop-step.invariant in
     let inside : step < width = c.loop-step-test.true in
@@ -54,7 +55,7 @@ loop-step-preserved c =
       beyond = c.error_beyond.result;
     } in
     let visit =
-    c.visit-error.ensures.visit errors n at
+    c.in_ok-error.ensures.visit errors n at
     (AreReceived-neighbors d errors n step neighbors c.received.result
     (mod-mul-add row width step inside) h.before h.behind above beyond
     c.received.ensures.value) in
@@ -62,13 +63,14 @@ loop-step-preserved c =
     let more : errors_of d new (row * width + (step + 1)) ≡ error ∷ errors =
     ap (errors_of d new) next ∙ errors_of-more d old new error n c.requires.image.wide visit in
     record {
-      size = c.visit-error.ensures.indices;
+      size = c.in_ok-error.ensures.indices;
       visited =
           rw next
           (AreVisited-more d old new error n c.requires.image.wide h.visited visit);
       line = rw (more, place) (IsLine-more d errors line row step error inside h.line);
       before = rw more (before-more d errors step error);
       behind = rw more (above ∙ behind-more d errors step error);
+      candidates = c.in_ok-error.ensures.candidates;
     }
 
 pub returns-clause-line : goal.returns-clause-line

@@ -17,14 +17,14 @@ returns-clause-visit c = λ errors n at received.
     let image = c.args.self.now in
     let numbers = c.args.received in
     let values = c.sixteenths-values.result in
-    let index = c.nearest_index-index.result in
+    let index = c.in_ok-index.index in
     let are = c.sixteenths-values.ensures in
     IsVisit-opaque image errors n c.args.pixel index c.args.indices.now c.error.result at
     (omega (arith, c.requires.indices, c.requires.pixel))
     (c.is_opaque.ensures.opaque c.if-not-is_opaque.false)
     (subst (λ (target : List ℕ). IsNearest image.colors.now target index)
     (c.rounded.ensures ∙ target-visit image errors n c.args.pixel numbers values at received are)
-    c.nearest_index-index.ensures)
+    c.in_ok-index.ensures.nearest)
     (c.error.ensures
     ∙ (ap
     (λ k. color_error image.strength values (slice_index_or image.colors.now k []))
