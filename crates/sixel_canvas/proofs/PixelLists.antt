@@ -3,7 +3,6 @@ use Rattle.std.proofs.Common.{◌≡◌, ℕ, zero, suc, ◌+◌, ◌-◌, ◌*�
 use Rattle.std.proofs.Common.{get_or, take, drop, replicate, refl, ap, ◌∙◌, arith}
 use Rattle.std.proofs.Common.{length-take, length-append}
 use Rattle.std.proofs.Common.{length-drop, sym, inl, inr}
-use Rattle.std.specs.Prelude.{nat_lt, if◌then◌else◌}
 use Rattle.std.proofs.lemmas.Bool.{cases_lt, lt-ltb, le-ltb}
 use Rattle.std.proofs.lemmas.Bool.Decides.{nat_tests}
 use Rattle.std.proofs.lemmas.List.{length-replicate}
@@ -173,8 +172,7 @@ pub thrifty_written : (background old new bytes : List ℕ) (room writes n : ℕ
     × IsThrifty (row_state background (pixels_of bytes) room writes)
 thrifty_written background old new bytes room writes n same old_long new_long is =
     let before = length-pixels_of old n old_long in
-    let after : length (pixels_of bytes) ≡ n = length-pixels_of bytes n (ap length same ∙ new_long) in
-    (
+    let after : length (pixels_of bytes) ≡ n = length-pixels_of bytes n (ap length same ∙ new_long) in (
       omega (arith, ap length same, new_long, after),
       record {
         held = omega (arith, is.held, before, after);

@@ -9,7 +9,7 @@ use Rattle.sixel_canvas.specs.inside.TaggedRow.{TaggedRowState, IsTaggedRow, tag
 use Rattle.sixel_canvas.specs.inside.TaggedRow.{tagged_row_state}
 use Rattle.sixel_canvas.specs.inside.Tags.{is_tag, no_tag, under}
 use Rattle.sixel_canvas.proofs.RowPixels.{grown_length, grown_pixel, painted_inside, painted_left, painted_length}
-use Rattle.sixel_canvas.proofs.RowPixels.{painted_pixel, painted_right}
+use Rattle.sixel_canvas.proofs.RowPixels.{painted_right}
 
 -- a pixel under a tag, and under none
 pub over_pixel : (tag pixel : List ℕ) → is_tag tag ≡ true → under tag pixel ≡ tag

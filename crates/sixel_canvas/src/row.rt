@@ -152,12 +152,7 @@ impl Row {
     }
 
     /// Appends so many pixels from `from` on, with background where the row is short.
-    pub(crate) fn pack(
-        &self,
-        bytes: &mut Vec<u8>,
-        from: usize,
-        count: usize,
-    ) -> AllocResult<()>
+    pub(crate) fn pack(&self, bytes: &mut Vec<u8>, from: usize, count: usize) -> AllocResult<()>
         requires { vec_len bytes.old + 4 * count < 2 ^ 63 }
         ensures ok { OnOk result (bytes.new.items ≡ bytes.old.items ++ joined (λ k.
             slice_index_or self.now.pixels (from + k) self.now.background) count) }

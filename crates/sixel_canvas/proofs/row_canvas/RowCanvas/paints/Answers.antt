@@ -1,7 +1,6 @@
 use Rattle.std.proofs.Common.{ap, arith}
 use Rattle.std.specs.List.{sum_by}
-use Rattle.std.proofs.lemmas.Grind.{common_steps}
-use Rattle.std.proofs.lemmas.List.Sums.{sum_by-take-le, sum_by_more_le}
+use Rattle.std.proofs.lemmas.List.Sums.{sum_by_more_le}
 use Rattle.sixel_canvas.specs.inside.TaggedRow.{TaggedRowState}
 use Rattle.sixel_canvas.proofs.RowCosts.{spread_most}
 use Rattle.sixel_canvas.proofs.row_canvas.RowCanvas.paints.Goals as goal

@@ -1,6 +1,5 @@
 use Rattle.std.proofs.Common.{ap, arith}
 use Rattle.std.specs.List.{sum_by}
-use Rattle.std.proofs.lemmas.Grind.{common_steps}
 use Rattle.std.proofs.lemmas.List.Sums.{sum_by-take-le, sum_by_more_le}
 use Rattle.sixel_canvas.specs.inside.RowCanvas.{row_canvas_state}
 use Rattle.sixel_canvas.specs.inside.TaggedRow.{TaggedRowState}

@@ -1,5 +1,4 @@
-use Rattle.std.proofs.Common.{◌≡◌, ◌≤◌, ◌+◌, ◌*◌, ◌/◌, ◌%◌, min, false, length, sym, ap, ◌∙◌, arith}
-use Rattle.std.specs.Prelude.{nat_le, nat_lt, ◌&&◌, if◌then◌else◌}
+use Rattle.std.proofs.Common.{◌≡◌, ◌≤◌, ◌+◌, ◌*◌, ◌/◌, ◌%◌, min, false, length, ap, ◌∙◌, arith}
 use Rattle.sixel_canvas.specs.Row.{RowState, painted}
 use Rattle.sixel_canvas.specs.inside.TaggedRow.{TaggedRowState, tag_of, tagged_pixel}
 use Rattle.sixel_canvas.specs.inside.TaggedRow.{tagged_row_state}
