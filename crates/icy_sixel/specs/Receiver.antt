@@ -12,7 +12,7 @@ use Rattle.sixel_base.specs.Settings.{Settings}
 use Rattle.sixel_base.specs.declared.status.SixelFeedStatus.TheVariants.{NeedMoreData}
 use Rattle.icy_sixel.specs.declared.script.Status.{Status}
 use Rattle.icy_sixel.specs.declared.script.Status.TheVariants as statuses
-use Rattle.sixel_base.specs.Dcs.{dcs_count, dcs_status, dcs_fault, dcs_growths, dcs_reached_area}
+use Rattle.sixel_base.specs.Dcs.{dcs_count, dcs_status, dcs_fault, dcs_growths}
 use Rattle.sixel_base.specs.Dcs.{dcs_in_payload, dcs_size, has_ended}
 use Rattle.sixel_base.specs.Dcs as strings
 use Rattle.sixel_base.specs.Status.{status_of}
@@ -20,7 +20,7 @@ use Rattle.sixel_base.specs.OneShot.{Found, Payload, NoPayload}
 use Rattle.sixel_base.specs.OneShot as one_shot
 use Rattle.sixel_base.specs.Reach as reach
 use Rattle.sixel_decoder.specs.Paints as paints
-pub use Rattle.sixel_decoder.specs.Paints.{most_sixel_paints}
+pub use Rattle.sixel_decoder.specs.Paints.{most_run_paints}
 
 -- what is received: nothing, a payload that is read with these settings, or a DCS sequence
 pub data Form : Type 0 where
@@ -29,14 +29,13 @@ pub data Form : Type 0 where
   OfString : Form
 
 -- The image that is open: its form, the decoder that it began from, the bytes fed, whether a feed
--- was rejected, the pixels written to grow its canvas, the capacity of the rows in pixels, and how
--- many pixels sixels have painted at most.
+-- was rejected, the capacity of its canvas in pixels beside the image, and how many columns and tags
+-- sixels have painted at most.
 pub record Reception : Type 0 where
   pub form : Form
   pub start : DecoderState
   pub bytes : List ℕ
   pub is_refused : Bool
-  pub writes : ℕ
   pub room : ℕ
   pub paints : ℕ
 
@@ -52,7 +51,6 @@ no_image = record {
   start = new_decoder;
   bytes = [];
   is_refused = true;
-  writes = 0;
   room = 0;
   paints = 0;
 }
@@ -64,7 +62,6 @@ begun form decoder = record {
   start = decoder;
   bytes = [];
   is_refused = false;
-  writes = 0;
   room = 0;
   paints = 0;
 }
@@ -103,23 +100,23 @@ growths Nothing bytes = 0
 growths (OfPayload settings) bytes = payloads.growths (settled bytes)
 growths OfString bytes = dcs_growths bytes
 
--- the painted area of the closed sixels
-abbrev pub reached_area : Form → List ℕ → ℕ
-reached_area Nothing bytes = 0
-reached_area (OfPayload settings) bytes = reach.reached_area (settled bytes)
-reached_area OfString bytes = dcs_reached_area bytes
+-- the right edges of the bands of its closed sixels, together
+abbrev pub band_columns : Form → List ℕ → ℕ
+band_columns Nothing bytes = 0
+band_columns (OfPayload settings) bytes = paints.band_columns (settled bytes)
+band_columns OfString bytes = paints.dcs_band_columns bytes
+
+-- for how many pixels its canvas has capacity at most beside the image
+abbrev pub band_room : Form → List ℕ → ℕ
+band_room Nothing bytes = 0
+band_room (OfPayload settings) bytes = paints.band_room (settled bytes)
+band_room OfString bytes = paints.dcs_band_room bytes
 
 -- how many closed sixels it has
 abbrev pub sixels : Form → List ℕ → ℕ
 sixels Nothing bytes = 0
 sixels (OfPayload settings) bytes = paints.sixels (settled bytes)
 sixels OfString bytes = paints.dcs_sixels bytes
-
--- what these are counted as at least
-abbrev pub least_count : Form → List ℕ → ℕ
-least_count Nothing bytes = 0
-least_count (OfPayload settings) bytes = paints.least_count (settled bytes)
-least_count OfString bytes = paints.dcs_least_count bytes
 
 -- whether the payload has begun
 abbrev pub in_payload : Form → List ℕ → Bool

@@ -144,30 +144,16 @@ pub record IsAborted (old new : Receiver) : Type 0 where
   -- no image is open then
   pub closed : new.image ≡ no_image
 
--- This number of pixels was copied or filled to grow the canvas of the open image.
-pub record IsWriteCount (image : Reception) (writes : ℕ) : Type 0 where
-  -- the number that contracts see of the image
-  pub value : writes ≡ image.writes
-  -- at least once the painted area
-  pub at_least : image.is_refused ≡ false
-      → receivers.reached_area image.form image.bytes ≤ writes
-  -- at most three times the painted area
-  pub at_most : writes ≤ 3 * receivers.reached_area image.form image.bytes
-  -- the rows have capacity for at most twice the painted area
-  pub room : image.room ≤ 2 * receivers.reached_area image.form image.bytes
-  -- a rejected image has no canvas
-  pub refused : image.is_refused ≡ true → writes ≡ 0
-
--- Sixels of the open image have set at most this number of pixels.
+-- Sixels of the open image have painted at most this number of columns and tags. A tag is the color
+-- of 128 columns of a row.
 pub record IsPaintCount (image : Reception) (paints : ℕ) : Type 0 where
   -- the number that contracts see of the image
   pub value : paints ≡ image.paints
-  -- at least what the closed sixels count
-  pub at_least : image.is_refused ≡ false
-      → receivers.least_count image.form image.bytes ≤ paints
-  -- at most three times the painted area, and a constant for each closed sixel
-  pub at_most : paints ≤ 3 * receivers.reached_area image.form image.bytes
-      + receivers.most_sixel_paints * receivers.sixels image.form image.bytes
+  -- at most the columns of all bands, and a constant for each closed sixel
+  pub at_most : paints ≤ receivers.band_columns image.form image.bytes
+      + receivers.most_run_paints * receivers.sixels image.form image.bytes
+  -- beside the image its canvas has capacity for at most this number of pixels
+  pub room : image.room ≤ receivers.band_room image.form image.bytes
   -- a rejected image has no canvas
   pub refused : image.is_refused ≡ true → paints ≡ 0
 

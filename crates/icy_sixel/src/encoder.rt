@@ -1,3 +1,5 @@
 //! The SIXEL text of an image, by [`sixel_encoder`].
 
-pub use sixel_encoder::{EncodeOptions, one_drawing, sixel_encode, sixel_encode_default};
+pub use sixel_encoder::{
+    Dither, EncodeOptions, one_drawing, palette_indices, sixel_encode, sixel_encode_default,
+};

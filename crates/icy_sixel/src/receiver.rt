@@ -6,7 +6,7 @@ ghost use Rattle.std.specs.Prelude.{◌≡◌, true, false};
 ghost use Rattle.sixel_base.specs.Decoder.{new_decoder};
 ghost use Rattle.icy_sixel.specs.Receiver.{OfPayload, OfString, no_image, is_open, in_payload};
 ghost use Rattle.icy_sixel.specs.ReceiverCalls.{IsBegun, IsFed, IsFinished, IsAborted};
-ghost use Rattle.icy_sixel.specs.ReceiverCalls.{IsWriteCount, IsPaintCount, IsSizeSoFar};
+ghost use Rattle.icy_sixel.specs.ReceiverCalls.{IsPaintCount, IsSizeSoFar};
 ghost use Rattle.icy_sixel.specs.inside.Receiving.{reception_of};
 
 mod settings;
@@ -15,7 +15,7 @@ use crate::decoder::{DcsSettings, SixelDcsFeedResult, SixelDecoder, SixelFeedRes
 use crate::script::Status;
 use crate::sixel_image::SixelImage;
 use sixel_base::{Result, SixelError};
-use sixel_canvas::row_canvas::RowCanvas;
+use sixel_canvas::band_canvas::BandCanvas;
 use sixel_decoder::{DcsReader, PayloadReader};
 use std::alloc::Global;
 use std::marker::Model;
@@ -34,8 +34,8 @@ pub struct Received {
 #[derive(Drop)]
 enum Open {
     Nothing,
-    Payload(PayloadReader<RowCanvas>),
-    ControlString(DcsReader<RowCanvas>),
+    Payload(PayloadReader<BandCanvas>),
+    ControlString(DcsReader<BandCanvas>),
 }
 
 /// A decoder, and at most one image that it is receiving.
@@ -181,28 +181,18 @@ impl SixelReceiver {
         self.open = image;
     }
 
-    /// Returns how many pixels were copied or filled to grow the rows of the canvas.
+    /// Returns how many columns and tags sixels have painted at most.
     ///
-    /// It is 0 if no image is open. The call does not allocate.
+    /// It is 0 if no image is open and after an error. The call does not allocate. A sixel paints
+    /// columns of six rows. A wide sixel over columns that exist can be stored as tags, the colors
+    /// of 128 columns.
     ///
-    /// The bounds are those of the sessions, by
-    /// [`canvas_writes`](crate::SixelStreamDecoder::canvas_writes).
-    pub fn canvas_writes(&self) -> u64
-        ensures { IsWriteCount self.now.image result }
-    {
-        match &self.open {
-            Open::Nothing => 0,
-            Open::Payload(reader) => reader.writes(),
-            Open::ControlString(reader) => reader.writes(),
-        }
-    }
-
-    /// Returns how many pixels sixels have painted at most.
+    /// The number is at most the right edges of the bands of the closed sixels, together, and 1151
+    /// for each of these sixels: 511 tags, two ends, and tagged columns that it covers in part. It
+    /// saturates.
     ///
-    /// It is 0 if no image is open. The call does not allocate.
-    ///
-    /// The bounds are those of the sessions, by
-    /// [`canvas_paints`](crate::SixelStreamDecoder::canvas_paints).
+    /// Beside the image the canvas has capacity for six rows of at most twice the width and 16
+    /// columns, whatever the height.
     pub fn canvas_paints(&self) -> u64
         ensures { IsPaintCount self.now.image result }
     {

@@ -169,13 +169,9 @@ uint8_t icysixel_in_payload(icysixel *handle);
  * and ICYSIXEL_NO_SIZE before the payload and after an error. It does not allocate. */
 uint32_t icysixel_get_size_so_far(icysixel *handle, icysixel_size *size);
 
-/* Returns how many pixels were copied or filled so far to grow the open image. It is 0 if no image
- * is open, and after an error. It is at most three times the area of the sixels so far. */
-uint64_t icysixel_get_canvas_writes(icysixel *handle);
-
-/* Returns how many pixels the sixels of the open image have painted so far, at most. It is 0 if no
- * image is open, and after an error. It is at most three times the area of the sixels so far, and
- * 4602 for each sixel. */
+/* Returns how many columns of six pixels the sixels of the open image have painted so far, at most.
+ * It is 0 if no image is open, and after an error. It is at most the right edges of all bands of six
+ * rows together, and 1151 for each sixel. */
 uint64_t icysixel_get_canvas_paints(icysixel *handle);
 
 /* Closes the open image, stores it and writes its properties. It replaces an image that is stored.

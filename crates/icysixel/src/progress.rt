@@ -1,8 +1,8 @@
 //! The calls that report the progress of the open image.
 
 ghost use Rattle.std.specs.Prelude.{◌≡◌, ◌≢◌, ◌+◌, ◌*◌, ◌≤◌, Some, None, ℕ, true, false, cond};
-ghost use Rattle.icy_sixel.specs.Receiver.{in_payload, is_open, reached_area, sixels};
-ghost use Rattle.icy_sixel.specs.Receiver.{most_sixel_paints};
+ghost use Rattle.icy_sixel.specs.Receiver.{band_columns, in_payload, is_open, sixels};
+ghost use Rattle.icy_sixel.specs.Receiver.{most_run_paints};
 ghost use Rattle.icy_sixel.specs.Receiver.{size as size_of};
 ghost use Rattle.icysixel.specs.declared.state.State.{State};
 
@@ -48,25 +48,7 @@ pub extern "C" fn icysixel_in_payload(slot: &mut Slot) -> u8
     u8::from(slot.state().receiver.in_payload())
 }
 
-/// Returns how many pixels were copied or filled to grow the open image, or 0 without one.
-#[unsafe(no_mangle)]
-pub extern "C" fn icysixel_get_canvas_writes(slot: &mut Slot) -> u64
-    ensures same { slot.new.handle.state ≡ slot.old.handle.state }
-    ensures none { slot.old.handle.state ≡ None → result ≡ 0 }
-    ensures value { (state : State) → slot.old.handle.state ≡ Some state
-        → result ≡ state.receiver.image.writes }
-    ensures at_most { (state : State) → slot.old.handle.state ≡ Some state
-        → result ≤ 3 * reached_area state.receiver.image.form state.receiver.image.bytes }
-    ensures refused { (state : State) → slot.old.handle.state ≡ Some state
-        → state.receiver.image.is_refused ≡ true → result ≡ 0 }
-{
-    if !slot.is_held() {
-        return 0;
-    }
-    slot.state().receiver.canvas_writes()
-}
-
-/// Returns how many pixels the sixels of the open image have painted at most, or 0 without one.
+/// Returns how many columns and tags the sixels of the open image have painted at most, or 0.
 #[unsafe(no_mangle)]
 pub extern "C" fn icysixel_get_canvas_paints(slot: &mut Slot) -> u64
     ensures same { slot.new.handle.state ≡ slot.old.handle.state }
@@ -74,8 +56,8 @@ pub extern "C" fn icysixel_get_canvas_paints(slot: &mut Slot) -> u64
     ensures value { (state : State) → slot.old.handle.state ≡ Some state
         → result ≡ state.receiver.image.paints }
     ensures at_most { (state : State) → slot.old.handle.state ≡ Some state
-        → result ≤ 3 * reached_area state.receiver.image.form state.receiver.image.bytes
-        + most_sixel_paints * sixels state.receiver.image.form state.receiver.image.bytes }
+        → result ≤ band_columns state.receiver.image.form state.receiver.image.bytes
+        + most_run_paints * sixels state.receiver.image.form state.receiver.image.bytes }
     ensures refused { (state : State) → slot.old.handle.state ≡ Some state
         → state.receiver.image.is_refused ≡ true → result ≡ 0 }
 {

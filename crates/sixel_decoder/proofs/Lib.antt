@@ -19,3 +19,5 @@ pub mod Finality
 pub mod Sessions
 pub mod Lanes
 pub mod SixelRuns
+pub mod PaintedRuns
+pub mod FrontBits

@@ -1,6 +1,6 @@
 -- How many sixels are closed, what they are counted as at least, and how wide their bands are, by
--- which painting is measured beside the area that they reach. The measure is this library's own, and says nothing of how
--- pixels are kept; what a sixel is, by DEC's manual, is in History.
+-- which painting is measured beside the area that they reach. The measure is this library's own,
+-- and says nothing of how pixels are stored. What a sixel is, by DEC's manual, is in History.
 use Rattle.std.specs.Prelude.{ℕ, suc, ◌+◌, ◌-◌, ◌*◌, ◌/◌, ◌==◌, ◌&&◌, min, max, nat_lt}
 use Rattle.std.specs.Prelude.{if◌then◌else◌, List, [], ◌∷◌}
 use Rattle.sixel_base.specs.History.{Sixel, History}
@@ -55,8 +55,8 @@ band_columns (_ ∷ older) = band_columns older
 abbrev pub most_run_paints : ℕ
 most_run_paints = 1151
 
--- for how many pixels a canvas of one band has capacity at most beside the image: six rows of twice
--- the width and 16 columns
+-- for how many pixels and tags a canvas of one band has capacity at most beside the image: six rows
+-- of twice the width and 16 columns
 abbrev pub band_room : History → ℕ
 band_room history = 12 * width history + 96
 

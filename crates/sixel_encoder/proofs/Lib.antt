@@ -46,3 +46,12 @@ pub mod PaintedMarks
 pub mod RegisterNumbers
 pub mod SegmentOrder
 pub mod CompactText
+pub mod Serpentine
+pub mod DiffusionErrors
+pub mod DiffusionLaws
+pub mod PaletteText
+pub mod SameDithering
+pub mod Verdicts
+pub mod DitheredIndices
+pub mod DiffusionVisit
+pub mod IndexedText

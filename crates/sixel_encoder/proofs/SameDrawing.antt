@@ -11,7 +11,7 @@ use Rattle.sixel_encoder.specs.Text.{Drawing}
 use Rattle.sixel_encoder.specs.Encoding.{IsDrawing, ShownImage, shown_color, shown_image}
 
 -- as many pixels
-count-same : (image other : Image) → shown_image image ≡ shown_image other
+pub count-same : (image other : Image) → shown_image image ≡ shown_image other
     → length image.pixels / 4 ≡ length other.pixels / 4
 count-same image other e =
     sym (length-map-range_with_len (shown_color image.pixels) 0 (length image.pixels / 4))
@@ -42,7 +42,7 @@ shown_color-transparent pixels pixel h =
     ap (λ b. cond b (Some (color_at pixels pixel)) None) is
 
 -- a pixel that is shown in one is shown in the other, in its color
-opaque-other : (image other : Image) (pixel : ℕ) → shown_image image ≡ shown_image other
+pub opaque-other : (image other : Image) (pixel : ℕ) → shown_image image ≡ shown_image other
     → pixel < length image.pixels / 4 → IsOpaque image.pixels pixel
     → IsOpaque other.pixels pixel × (color_at other.pixels pixel ≡ color_at image.pixels pixel)
 opaque-other image other pixel e l is =
@@ -54,7 +54,7 @@ opaque-other image other pixel e l is =
       | inr opaque ↦ let there = shown_color-opaque other.pixels pixel opaque in (opaque, cc)
     ]
 
-transparent-other : (image other : Image) (pixel : ℕ) → shown_image image ≡ shown_image other
+pub transparent-other : (image other : Image) (pixel : ℕ) → shown_image image ≡ shown_image other
     → pixel < length image.pixels / 4 → get_or image.pixels (4 * pixel + 3) 0 < 128
     → get_or other.pixels (4 * pixel + 3) 0 < 128
 transparent-other image other pixel e l is =
@@ -100,7 +100,7 @@ entry-same image other max_colors drawing another pixel one e is also palette l 
           ∙ sym second.1)
     ]
 
-drawing-fields : (a b : Drawing) → a.width ≡ b.width → a.height ≡ b.height
+pub drawing-fields : (a b : Drawing) → a.width ≡ b.width → a.height ≡ b.height
     → a.aspect_ratio ≡ b.aspect_ratio → a.background_mode ≡ b.background_mode → a.colors ≡ b.colors
     → a.entries ≡ b.entries → a ≡ b
 drawing-fields a b w h r m c e = λ i. record {

@@ -7,3 +7,5 @@ pub mod Marks
 pub mod Segments
 pub mod Numbers
 pub mod Compact
+pub mod Dithering
+pub mod IndexedDrawing

@@ -266,7 +266,7 @@ fn has_row(entry: usize, first: usize, count: usize) -> bool
 
 /// Returns whether a pixel is opaque: an alpha of at least 128.
 #[inline(always)]
-fn is_opaque(pixels: &[u8], pixel: usize) -> bool
+pub fn is_opaque(pixels: &[u8], pixel: usize) -> bool
     requires { 4 * pixel + 3 < length pixels.now }
     ensures opaque { result ≡ true → 128 ≤ slice_index pixels.now (4 * pixel + 3) }
     ensures transparent { result ≡ false → slice_index pixels.now (4 * pixel + 3) < 128 }

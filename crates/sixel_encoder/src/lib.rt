@@ -13,7 +13,10 @@ ghost use Rattle.sixel_encoder.specs.Encoding.{square_value};
 
 mod band;
 mod decimal;
+mod dither;
 mod entries;
+mod given_palette;
+mod indices;
 pub mod laws;
 mod run_tokens;
 mod runs;
@@ -21,6 +24,9 @@ mod segments;
 mod source;
 mod text;
 
+pub use dither::Dither;
+pub use given_palette::{encode_in_palette, encode_with_indices};
+pub use indices::{error_diffusion, palette_indices};
 use sixel_base::settings::{BackgroundMode, PixelAspectRatio};
 use sixel_base::{Result, SixelError};
 use sixel_palette::palette::one_palette;

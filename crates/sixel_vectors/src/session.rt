@@ -87,13 +87,27 @@ impl<'a> Session<'a> {
         Ok(Received { consumed, status })
     }
 
-    /// Pixels that the canvas wrote to grow, and pixels that it painted.
-    pub fn work(&self) -> (u64, u64) {
+    /// Pixels that the canvas wrote to grow, if they are counted.
+    pub fn writes(&self) -> Option<u64> {
         match self {
-            Self::Payload(session) => (session.canvas_writes(), session.canvas_paints()),
-            Self::Dcs(session) => (session.canvas_writes(), session.canvas_paints()),
-            Self::Receiver(receiver) => (receiver.canvas_writes(), receiver.canvas_paints()),
+            Self::Payload(session) => Some(session.canvas_writes()),
+            Self::Dcs(session) => Some(session.canvas_writes()),
+            Self::Receiver(_) => None,
         }
+    }
+
+    /// Pixels, or columns of them, that the canvas painted.
+    pub fn paints(&self) -> u64 {
+        match self {
+            Self::Payload(session) => session.canvas_paints(),
+            Self::Dcs(session) => session.canvas_paints(),
+            Self::Receiver(receiver) => receiver.canvas_paints(),
+        }
+    }
+
+    /// Whether the canvas has no work to report.
+    pub fn is_idle(&self) -> bool {
+        self.writes().unwrap_or(0) == 0 && self.paints() == 0
     }
 
     /// Finishes the image.

@@ -82,7 +82,6 @@ unsafe extern "C" {
     safe fn icysixel_begin_payload(handle: &mut Raw, p1: i32, p2: i32, grid: i32) -> u32;
     safe fn icysixel_in_payload(handle: &mut Raw) -> u8;
     safe fn icysixel_get_size_so_far(handle: &mut Raw, size: &mut Size) -> u32;
-    safe fn icysixel_get_canvas_writes(handle: &mut Raw) -> u64;
     safe fn icysixel_get_canvas_paints(handle: &mut Raw) -> u64;
     safe fn icysixel_finish(handle: &mut Raw, shape: &mut Shape) -> u32;
     safe fn icysixel_take_pixels(handle: &mut Raw, pixels: &mut Bytes) -> u32;
@@ -221,12 +220,7 @@ impl Handle {
         answer(icysixel_get_size_so_far(&mut self.0, &mut size), size)
     }
 
-    /// How many pixels were copied or filled so far for the open image.
-    pub(crate) fn canvas_writes(&mut self) -> u64 {
-        icysixel_get_canvas_writes(&mut self.0)
-    }
-
-    /// How many pixels sixels of the open image have painted so far, at most.
+    /// How many columns sixels of the image that is open have painted so far, at most.
     pub(crate) fn canvas_paints(&mut self) -> u64 {
         icysixel_get_canvas_paints(&mut self.0)
     }

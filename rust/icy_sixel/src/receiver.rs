@@ -139,15 +139,8 @@ impl SixelReceiver {
         self.open = Open::Nothing;
     }
 
-    /// How many pixels were copied or filled so far, to grow the rows of the canvas, as of the
-    /// sessions; 0 if no image is open. It does not allocate.
-    #[must_use]
-    pub fn canvas_writes(&self) -> u64 {
-        self.decoder.shared().canvas_writes()
-    }
-
-    /// How many pixels sixels have painted so far, at most, as of the sessions; 0 where no image is
-    /// open. It does not allocate.
+    /// How many columns of six pixels sixels have painted so far, at most, as of the sessions; 0
+    /// if no image is open. It does not allocate.
     #[must_use]
     pub fn canvas_paints(&self) -> u64 {
         self.decoder.shared().canvas_paints()

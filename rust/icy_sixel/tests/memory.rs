@@ -227,7 +227,7 @@ fn calls_that_do_not_allocate() {
         assert!(decoder.raster_crop() && decoder.pixel_limit() == 1000);
         let mut session = decoder.begin_frame(DcsSettings::default()).unwrap();
         assert!(session.feed(b"#1;2;100;0;0").is_ok());
-        assert!(session.size_so_far().is_some() && session.canvas_writes() == 0);
+        assert!(session.size_so_far().is_some() && session.canvas_paints() == 0);
         session.abort();
         let mut session = decoder.begin_dcs();
         assert!(session.feed(b"\x1bP9;1q#1").is_ok());

@@ -79,7 +79,7 @@ fn nothing_is_open() {
     assert_eq!(receiver.feed(b"~"), Err(invalid(STREAM_FAILED)));
     assert_eq!(receiver.finish(), Err(invalid(STREAM_FAILED)));
     assert_eq!(receiver.size_so_far(), None);
-    assert_eq!(receiver.canvas_writes(), 0);
+    assert_eq!(receiver.canvas_paints(), 0);
     assert!(!receiver.in_payload() && !receiver.is_receiving());
     receiver.abort();
     assert_filled(receiver.into_decoder().decode(b"#1~"), (1, 6), [51, 51, 204, 255]);
@@ -112,8 +112,7 @@ fn a_receiver_owns_its_decoder() {
     assert_eq!(receiver.feed(b"\x1b"), Err(invalid(STREAM_FAILED)));
     receiver.begin_dcs();
     assert!(receiver.feed(b"\x1bPq#3;2;100;0;0!500~").is_ok());
-    assert!((3000..=9000).contains(&receiver.canvas_writes()));
-    assert!((1..=9000 + 4602).contains(&receiver.canvas_paints()));
+    assert!((500..=500 + 1151).contains(&receiver.canvas_paints()));
     assert_eq!(receiver.decoder().register(3), [3, 3, 3]);
     let clone = receiver.decoder().clone();
     assert_eq!(clone.register(3), [3, 3, 3]);
@@ -154,11 +153,7 @@ fn threads_share_what_only_reads() {
             scope.spawn(|| {
                 for _ in 0..1000 {
                     assert_eq!(session.size_so_far(), Some((40, 6)));
-                    assert!(
-                        session.in_payload()
-                            && session.canvas_writes() >= 240
-                            && session.canvas_paints() >= 240
-                    );
+                    assert!(session.in_payload() && session.canvas_paints() >= 40);
                 }
             });
         }

@@ -16,7 +16,6 @@ reception_of (opened.Payload reader) = record {
   };
   bytes = reader.bytes;
   is_refused = reader.is_refused;
-  writes = reader.writes;
   room = reader.room;
   paints = reader.paints;
 }
@@ -25,7 +24,6 @@ reception_of (opened.ControlString reader) = record {
   start = reader.decoder;
   bytes = reader.bytes;
   is_refused = reader.is_refused;
-  writes = reader.writes;
   room = reader.room;
   paints = reader.paints;
 }

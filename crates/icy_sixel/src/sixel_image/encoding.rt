@@ -1,11 +1,12 @@
 //! The SIXEL output of an image.
 
 ghost use Rattle.std.specs.Prelude.{◌≡◌, ℕ, ◌*◌, ◌≤◌, List, None, OnOk, IfErr, IfOk};
-ghost use Rattle.std.specs.Prelude.{◌++◌, Some, MatchOption, codes, string_bytes};
+ghost use Rattle.std.specs.Prelude.{◌++◌, Some, MatchOption, codes, length, string_bytes};
 
 use crate::sixel_image::{BackgroundMode, SixelImage};
 use sixel_base::{Result, SixelError};
-use sixel_encoder::{EncodeOptions, Source, encode_source, one_drawing};
+use sixel_encoder::{Dither, EncodeOptions, Source, encode_in_palette, encode_source};
+use sixel_encoder::{encode_with_indices, one_drawing};
 use std::alloc::Global;
 
 impl SixelImage {
@@ -18,6 +19,11 @@ impl SixelImage {
     ghost use Rattle.icy_sixel.specs.ImageView.{image_value};
     ghost use Rattle.sixel_encoder.specs.Encoding.{AreShortest, shown_image};
     ghost use Rattle.sixel_encoder.specs.Trip.{CanRead, IsOneString, IsReadAs, IsTrip, trip};
+    ghost use Rattle.sixel_base.specs.CallFault.{FailsBy};
+    ghost use Rattle.sixel_encoder.specs.Encoding.{source_value};
+    ghost use Rattle.sixel_encoder.specs.IndexedDrawing.{IsPaletteText, IsTextOf};
+    ghost use Rattle.sixel_encoder.specs.IndexedDrawing.{indexed_drawing, indexed_fault};
+    ghost use Rattle.sixel_encoder.specs.IndexedDrawing.{palette_fault};
 
     /// Returns the SIXEL output of this image with the default options.
     pub fn encode(&self, alloc: Global) -> Result<String>
@@ -68,16 +74,83 @@ impl SixelImage {
             → self.now.background_mode ≡ BackgroundMode.Transparent
             → IfOk result (λ text. IsReadAs decoder (string_bytes text) (image_value self.now)) }
     {
-        let source = Source {
+        // A law without work: the clause `hidden` follows from it.
+        one_drawing();
+        encode_source(alloc, &self.source(), options.max_colors)
+    }
+
+    /// Returns the SIXEL output of this image in a given palette of 1 to 256 colors.
+    ///
+    /// The palette may be fixed, shared by the frames of an animation, or from another quantizer.
+    ///
+    /// ```rust
+    /// let dither = Dither::Diffusion { strength: 8 };
+    /// image.encode_with_palette(alloc, colors, dither)
+    /// ```
+    ///
+    /// The palette indices are those of [`palette_indices`](crate::encoder::palette_indices). The
+    /// errors are those of [`encode_with`](Self::encode_with), then
+    /// `InvalidData("number of colors is not 1 to 256")`.
+    pub fn encode_with_palette(
+        &self,
+        alloc: Global,
+        colors: &[[u8; 3]],
+        dither: Dither,
+    ) -> Result<String>
+        ensures fault { FailsBy
+            (palette_fault (image_value self.now) (length colors.now)) result }
+        ensures text { IfOk result (λ text.
+            IsPaletteText (image_value self.now) colors.now dither (string_bytes text)) }
+        ensures hidden { (other : Image) (bytes : List ℕ)
+            → shown_image other ≡ shown_image (image_value self.now)
+            → IsPaletteText other colors.now dither bytes
+            → IfOk result (λ text. string_bytes text ≡ bytes) }
+        ensures readable { OnOk result (CanRead new_decoder self.now.width self.now.height) }
+    {
+        encode_in_palette(alloc, &self.source(), colors, dither)
+    }
+
+    /// Returns the SIXEL output of this image in a given palette by given palette indices.
+    ///
+    /// There is an index for each pixel, row by row. Those of transparent pixels have no effect, as
+    /// the colors of all pixels have none.
+    ///
+    /// ```rust
+    /// let indices = palette_indices(alloc, &image.pixels, image.width, colors, Dither::Off)?;
+    /// image.encode_indexed(alloc, colors, &indices)
+    /// ```
+    ///
+    /// The errors are those of [`encode_with_palette`](Self::encode_with_palette). Then
+    /// `BufferSizeMismatch` for another number of indices than there are pixels, and
+    /// `InvalidData("palette index out of range")` for an opaque pixel whose index is past the
+    /// palette.
+    pub fn encode_indexed(
+        &self,
+        alloc: Global,
+        colors: &[[u8; 3]],
+        indices: &[u8],
+    ) -> Result<String>
+        ensures fault { FailsBy
+            (indexed_fault (image_value self.now) (length colors.now) indices.now) result }
+        ensures text { IfOk result (λ text. IsTextOf
+            (indexed_drawing (image_value self.now) colors.now indices.now)
+            (string_bytes text)) }
+        ensures readable { OnOk result (CanRead new_decoder self.now.width self.now.height) }
+    {
+        encode_with_indices(alloc, &self.source(), colors, indices)
+    }
+
+    /// Returns this image with its pixels borrowed.
+    fn source(&self) -> Source<'_>
+        ensures { source_value result ≡ image_value self.now }
+    {
+        Source {
             pixels: &self.pixels,
             width: self.width,
             height: self.height,
             aspect_ratio: self.aspect_ratio,
             background_mode: self.background_mode,
-        };
-        // A law without work: the clause `hidden` follows from it.
-        one_drawing();
-        encode_source(alloc, &source, options.max_colors)
+        }
     }
 
     /// Returns the output of [`encode`](Self::encode), or a line with its error.

@@ -1,22 +1,11 @@
 -- An image whose colors are chosen: pixels of four bytes, and for each pixel an entry of a palette.
 -- A pixel whose alpha is at least 128 is opaque, and has that entry; any other is transparent and
 -- has none.
-use Rattle.std.specs.Prelude.{◌≡◌, ℕ, ◌+◌, ◌*◌, ◌<◌, ◌≤◌, nat_le, if◌then◌else◌, List, length, map}
-use Rattle.std.specs.Prelude.{slice_index, Option, Some, None}
-use Rattle.std.specs.List.{range_with_len}
+use Rattle.std.specs.Prelude.{◌≡◌, ℕ, ◌+◌, ◌*◌, ◌<◌, ◌≤◌, length, slice_index}
 use Rattle.sixel_base.specs.Limits.{side_limit}
 use Rattle.sixel_encoder.specs.declared.text.IndexedImage.{IndexedImage}
 use Rattle.sixel_encoder.specs.Text.{Drawing}
-
--- the entry of a pixel
-abbrev pub entry_of : List ℕ → List ℕ → ℕ → Option ℕ
-entry_of pixels indices pixel =
-    if nat_le 128 (slice_index pixels (4 * pixel + 3)) then Some (slice_index indices pixel)
-    else None
-
--- the entries of all pixels
-abbrev pub entries_of : List ℕ → List ℕ → List (Option ℕ)
-entries_of pixels indices = map (entry_of pixels indices) (range_with_len 0 (length indices))
+pub use Rattle.sixel_encoder.specs.IndexedDrawing.{entry_of, entries_of}
 
 -- the drawing that an image is
 abbrev pub drawing_of : IndexedImage → Drawing

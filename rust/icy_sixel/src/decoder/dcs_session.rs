@@ -47,14 +47,7 @@ impl<'a> SixelDcsStreamDecoder<'a> {
         Ok(SixelDcsFeedResult { consumed: fed.consumed, status: string_status(fed) })
     }
 
-    /// How many pixels were copied or filled so far, as of a payload session, by
-    /// [`canvas_writes`](crate::SixelStreamDecoder::canvas_writes). 0 before the payload.
-    #[must_use]
-    pub fn canvas_writes(&self) -> u64 {
-        self.owner.shared().canvas_writes()
-    }
-
-    /// How many pixels sixels have painted so far, at most, as of a payload session, by
+    /// How many columns sixels have painted so far, at most, as of a payload session, by
     /// [`canvas_paints`](crate::SixelStreamDecoder::canvas_paints). 0 before the payload.
     #[must_use]
     pub fn canvas_paints(&self) -> u64 {

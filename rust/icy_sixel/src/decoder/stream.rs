@@ -38,18 +38,10 @@ impl<'a> SixelStreamDecoder<'a> {
         Ok(SixelFeedResult { consumed: fed.consumed, status: payload_status(fed) })
     }
 
-    /// How many pixels were copied or filled so far, to grow the rows of the canvas; 0 after an
-    /// error. Painting over pixels doesn't count. It does not allocate.
+    /// How many columns of six pixels sixels have painted so far, at most; 0 after an error. It does
+    /// not allocate.
     ///
-    /// It is at most three times the area that the sixels reach.
-    #[must_use]
-    pub fn canvas_writes(&self) -> u64 {
-        self.owner.shared().canvas_writes()
-    }
-
-    /// How many pixels sixels have painted so far, at most; 0 after an error. It does not allocate.
-    ///
-    /// It is at most three times the area that the sixels reach, and 4602 for each sixel.
+    /// It is at most the right edges of all bands together, and 1151 for each sixel.
     #[must_use]
     pub fn canvas_paints(&self) -> u64 {
         self.owner.shared().canvas_paints()
@@ -73,19 +65,6 @@ impl<'a> SixelStreamDecoder<'a> {
     /// Those of [`feed`](Self::feed), and `OutOfMemory`; the decoder is then unchanged.
     pub fn finish(self) -> Result<SixelImage> {
         self.owner.handle().finish()
-    }
-
-    /// As [`finish`](Self::finish), with the number of pixels that were copied or filled for the
-    /// image: [`canvas_writes`](Self::canvas_writes), and the image's own as they are packed.
-    ///
-    /// # Errors
-    ///
-    /// Those of [`finish`](Self::finish).
-    pub fn finish_counted(self) -> Result<(SixelImage, u64)> {
-        let writes = self.canvas_writes();
-        let image = self.finish()?;
-        let packed = image.width * image.height;
-        Ok((image, writes + packed as u64))
     }
 
     /// Ends the session, and changes nothing, as dropping it does.

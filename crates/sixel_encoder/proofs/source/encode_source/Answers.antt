@@ -1,19 +1,12 @@
-use Rattle.std.proofs.Common.{◌≡◌, ◌∙◌, length, refl, ap, arith}
-use Rattle.std.specs.Prelude.{Option, Some, None, Result, Ok}
-use Rattle.sixel_base.specs.declared.error.SixelError.{SixelError}
-use Rattle.sixel_base.specs.Size.{verdict, buffer_fault}
+use Rattle.std.proofs.Common.{◌∙◌, length, ap, arith}
+use Rattle.sixel_base.specs.Size.{buffer_fault}
 use Rattle.std.specs.Option.{option_or}
 use Rattle.sixel_palette.specs.Palette.{IsPalette, AreIndices}
 use Rattle.sixel_encoder.specs.declared.text.IndexedImage.{IndexedImage}
 use Rattle.sixel_encoder.specs.inside.Indexed.{drawing_of}
 use Rattle.sixel_encoder.proofs.IndexedDrawing.{IsDrawing-chosen, IsIndexed-chosen}
+use Rattle.sixel_encoder.proofs.Verdicts.{none-found}
 use Rattle.sixel_encoder.proofs.source.encode_source.Goals as goal
-
--- a test that passed found no fault
-none-found : (fault : Option SixelError) (result : Result (Unit {0}) SixelError) (done : Unit {0})
-    → result ≡ verdict fault → result ≡ Ok done → fault ≡ None
-none-found None result done is was = refl
-none-found (Some fault) result done is was = absurd cc
 
 pub encode_indexed-requires : goal.encode_indexed-requires
 encode_indexed-requires c =

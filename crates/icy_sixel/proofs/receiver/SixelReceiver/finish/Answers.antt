@@ -1,12 +1,14 @@
-use Rattle.std.proofs.Common.{◌≡◌, ℕ, List, ap, sym, ◌∙◌, subst, Result, Ok, Err, rules}
+use Rattle.std.proofs.Common.{◌≡◌, ◌≤◌, ◌*◌, ℕ, List, None, false, ap, sym, ◌∙◌, subst, refl}
+use Rattle.std.proofs.Common.{Result, Ok, Err, length, rules}
 use Rattle.std.specs.Prelude.{IfOk}
 use Rattle.sixel_base.specs.declared.error.SixelError.{SixelError}
-use Rattle.sixel_base.specs.OneShot.{IsDecodedAs}
-use Rattle.sixel_decoder.specs.PayloadCalls.{IsFinished}
-use Rattle.sixel_decoder.specs.Session.{Session}
+use Rattle.sixel_base.specs.OneShot.{found_fault, IsDecodedAs, IsFoundImage, AreFoundRegisters}
+use Rattle.sixel_decoder.specs.DcsCalls as strings
+use Rattle.sixel_decoder.specs.PayloadCalls as payloads
+use Rattle.sixel_decoder.specs.Session.{Session, DcsSession}
 use Rattle.sixel_decoder.specs.declared.decoded_payload.DecodedPayload.{DecodedPayload}
 use Rattle.sixel_decoder.specs.PictureView.{picture_value}
-use Rattle.icy_sixel.specs.Receiver.{Receiver, Reception, found_followed}
+use Rattle.icy_sixel.specs.Receiver.{Receiver, Reception, found, found_followed, end_fault}
 use Rattle.icy_sixel.specs.inside.Receiving.{reception_of}
 use Rattle.icy_sixel.specs.declared.receiver.Open.TheVariants as opened
 use Rattle.icy_sixel.specs.declared.receiver.SixelReceiver.TheInside.{Inside}
@@ -14,17 +16,48 @@ use Rattle.icy_sixel.proofs.receiver.SixelReceiver.finish.Goals as goal
 use Rattle.icy_sixel.proofs.receiver.SixelReceiver.finish.Goals.{in-Nothing, in-Payload}
 use Rattle.icy_sixel.proofs.receiver.SixelReceiver.finish.Goals.{in-ControlString}
 
--- the picture of an image, whatever follows its bytes
-abbrev Decoded : Result DecodedPayload SixelError → List ℕ → Reception → Type 0
-Decoded result more image =
-    IfOk result (λ picture. IsDecodedAs image.start (found_followed image.form image.bytes more)
-    (picture_value picture) picture.registers)
+-- The picture of an image that was finished, and the registers after it.
+record IsPictureOf (image : Reception) (picture : DecodedPayload) : Type 0 where
+  shows : IsFoundImage image.start (found image.form image.bytes) (picture_value picture)
+  registers : AreFoundRegisters image.start (found image.form image.bytes) picture.registers
+  decoded : (more : List ℕ)
+      → IsDecodedAs image.start (found_followed image.form image.bytes more)
+      (picture_value picture) picture.registers
+  area : picture.width * picture.height ≤ image.start.pixel_limit
+  faultless : found_fault image.start.pixel_limit (found image.form image.bytes) ≡ None
+  accepted : image.is_refused ≡ false
+  ended : end_fault image.start.pixel_limit image.form image.bytes ≡ None
 
-payload_decoded : (result : Result DecodedPayload SixelError) (session : Session) (more : List ℕ)
-    → IsFinished picture_value (λ picture. picture.registers) session result
-    → Decoded result more (reception_of (opened.Payload session))
-payload_decoded (Ok picture) session more is = (is.faultless, is.image, is.registers)
-payload_decoded (Err e) session more is = tt
+abbrev Finished : Result DecodedPayload SixelError → Reception → Type 0
+Finished result image = IfOk result (IsPictureOf image)
+
+payload_finished : (result : Result DecodedPayload SixelError) (session : Session)
+    → payloads.IsFinished picture_value (λ picture. picture.registers) session result
+    → Finished result (reception_of (opened.Payload session))
+payload_finished (Ok picture) session is = record {
+  shows = is.image;
+  registers = is.registers;
+  decoded = λ more. (is.faultless, is.image, is.registers);
+  area = is.area;
+  faultless = is.faultless;
+  accepted = is.accepted;
+  ended = is.faultless;
+}
+payload_finished (Err e) session is = tt
+
+string_finished : (result : Result DecodedPayload SixelError) (session : DcsSession)
+    → strings.IsFinished picture_value (λ picture. picture.registers) session result
+    → Finished result (reception_of (opened.ControlString session))
+string_finished (Ok picture) session is = record {
+  shows = is.found_image;
+  registers = is.found_registers;
+  decoded = is.as_decoded;
+  area = is.area;
+  faultless = is.faultless;
+  accepted = is.accepted;
+  ended = rw is.ended refl;
+}
+string_finished (Err e) session is = tt
 
 pub returns : goal.returns
 returns c =
@@ -34,33 +67,34 @@ returns c =
     ∙ (ap (λ (i : Inside). reception_of i.open) c.self-inside.view_is
     ∙ ap (λ (r : Receiver). r.image) c.self.view_is) in
     let was : c.match-open.branch' ≡ Ok c.in_ok-picture.picture = c.in_ok-picture.was in
-    let all : (more : List ℕ) → Decoded c.match-open.branch' more image =
-    λ more. elim c.match-open.branch [
+    let finished : Finished c.match-open.branch' image =
+    elim c.match-open.branch [
       | in-Nothing w ↦ rw w.branch'-is tt
       | in-Payload w ↦
           rw w.branch'-is
-          (subst (Decoded w.finish.result more) (sym (ap reception_of w.in-Payload.is) ∙ held)
-          (payload_decoded w.finish.result w.in-Payload.reader more w.finish.ensures))
+          (subst (Finished w.finish.result) (sym (ap reception_of w.in-Payload.is) ∙ held)
+          (payload_finished w.finish.result w.in-Payload.reader w.finish.ensures))
       | in-ControlString w ↦
           let done = w.finish-in-ControlString in
           rw w.branch'-is
-          (subst (Decoded done.result more) (sym (ap reception_of w.in-ControlString.is) ∙ held)
-          (done.ensures.as_decoded more))
+          (subst (Finished done.result) (sym (ap reception_of w.in-ControlString.is) ∙ held)
+          (string_finished done.result w.in-ControlString.reader done.ensures))
     ] in
+    let is : IsPictureOf image c.in_ok-picture.picture =
+    subst (λ r. Finished r image) was finished in
+    let shown = c.from_picture.ensures.image in
     record {
       closed = search rules;
-      image = search rules;
-      registers = search rules;
-      as_decoded = λ more.
-          rw c.from_picture.ensures.image
-          (subst (λ r. Decoded r more image) was (all more));
-      area = search rules;
-      pixels = search rules;
+      image = rw shown is.shows;
+      registers = is.registers;
+      as_decoded = λ more. rw shown (is.decoded more);
+      area = rw (ap (λ i. i.width) shown, ap (λ i. i.height) shown) is.area;
+      pixels = c.from_picture.ensures.pixels;
       set = search rules;
-      faultless = search rules;
-      accepted = search rules;
-      ended = search rules;
-      kept = search rules;
-      error = search rules;
-      refused = search rules;
+      faultless = is.faultless;
+      accepted = is.accepted;
+      ended = is.ended;
+      kept = tt;
+      error = tt;
+      refused = λ settings error form failed. absurd cc;
     }

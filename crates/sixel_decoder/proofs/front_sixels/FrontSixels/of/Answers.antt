@@ -1,6 +1,6 @@
 use Rattle.std.proofs.Common.{◌≡◌, ℕ, ◌+◌, ◌-◌, ◌<◌, ◌≤◌, length, get_or, length-set, ◌∙◌, arith}
 use Rattle.std.proofs.lemmas.Bool.{le-ltb, lt-ltb}
-use Rattle.sixel_decoder.proofs.SixelRuns.{bits_front, each-set}
+use Rattle.sixel_decoder.proofs.FrontBits.{bits_front, each-set}
 use Rattle.sixel_decoder.proofs.front_sixels.FrontSixels.of.Goals as goal
 
 pub bits-preserved : goal.bits-preserved

@@ -1,5 +1,5 @@
 use Rattle.std.proofs.Common.{refl}
-use Rattle.sixel_decoder.proofs.SixelRuns.{Shows-column}
+use Rattle.sixel_decoder.proofs.PaintedRuns.{Shows-column}
 use Rattle.sixel_decoder.proofs.painter.Painter.draw_column.Goals as goal
 
 pub returns : goal.returns

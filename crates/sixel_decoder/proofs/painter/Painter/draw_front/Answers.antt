@@ -3,8 +3,9 @@ use Rattle.std.proofs.Common.{arith}
 use Rattle.std.specs.Prelude.{fold}
 use Rattle.sixel_base.specs.History.{History, read}
 use Rattle.sixel_decoder.specs.inside.Painter.{Shows}
-use Rattle.sixel_decoder.proofs.SixelRuns.{IsRun-take, Shows-block, fold_one, fold_run}
+use Rattle.sixel_decoder.proofs.SixelRuns.{IsRun-take, fold_one, fold_run}
 use Rattle.sixel_decoder.proofs.SixelRuns.{length-front, length-bits_of, with_sixels}
+use Rattle.sixel_decoder.proofs.PaintedRuns.{Shows-block}
 use Rattle.sixel_decoder.proofs.painter.Painter.draw_front.Goals as goal
 
 pub returns-then-self-len-clause-draws : goal.returns-then-self-len-clause-draws

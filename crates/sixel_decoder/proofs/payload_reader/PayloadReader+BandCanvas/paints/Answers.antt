@@ -1,6 +1,7 @@
 use Rattle.std.proofs.Common.{ℕ, List, Option, Some, refl, subst}
 use Rattle.sixel_base.specs.Payload.{settled}
 use Rattle.sixel_base.specs.Stroke.{Origin}
+use Rattle.sixel_canvas.specs.inside.TaggedBand.{capacity}
 use Rattle.sixel_decoder.specs.declared.payload_parser.PayloadParser.{PayloadParser}
 use Rattle.sixel_decoder.specs.inside.PayloadReader.{session_of, HasRead}
 use Rattle.sixel_decoder.proofs.BandCosts.{band_cost}
@@ -19,7 +20,7 @@ returns c =
     c.in-Some.is c.self.invariant in
     let shows = shown_settled origin parser inside.terminator bytes read in
     let cost =
-    band_cost origin.pixel_limit canvas.band.pixels.cap canvas.band.painted
+    band_cost origin.pixel_limit (capacity canvas.band) canvas.band.painted
     canvas.band.pixels.reach canvas.top (settled bytes) shows.faultless shows.paid in
     rw (← c.self.view_is, c.in-Some.is, c.paints.ensures) (record {
       value = refl;

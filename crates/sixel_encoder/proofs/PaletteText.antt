@@ -1,0 +1,88 @@
+-- What is known of the text of an image in a given palette once it is returned: the image has no
+-- fault, a new decoder can read the text, and colors of transparent pixels do not affect it.
+use Rattle.std.proofs.Common.{◌≡◌, ℕ, ◌*◌, List, length, refl, ap, sym, ◌∙◌, arith}
+use Rattle.std.specs.Prelude.{Option, Some, None, Result, Ok, Err, IfOk, OnOk, ◌/◌}
+use Rattle.std.specs.Option.{option_or}
+use Rattle.std.proofs.Math.Nat.{mul_comm}
+use Rattle.sixel_base.specs.CallFault.{CallFault, FailsBy, color_count_fault}
+use Rattle.sixel_base.specs.CallFault.{size_call_fault}
+use Rattle.sixel_base.specs.Decoder.{new_decoder}
+use Rattle.sixel_base.specs.Payload.{Image}
+use Rattle.sixel_base.specs.declared.error.SixelError.{SixelError}
+use Rattle.sixel_encoder.specs.declared.dither.Dither.{Dither}
+use Rattle.sixel_encoder.specs.Encoding.{image_fault, shown_image}
+use Rattle.sixel_encoder.specs.IndexedDrawing.{IsPaletteText, index_count_fault}
+use Rattle.sixel_encoder.specs.IndexedDrawing.{index_range_fault, indexed_fault, palette_fault}
+use Rattle.sixel_encoder.specs.Text.{text_of}
+use Rattle.sixel_encoder.specs.Trip.{CanRead}
+use Rattle.sixel_encoder.proofs.SameDithering.{AreRowsOf, drawing-alike}
+use Rattle.sixel_encoder.proofs.Sizes.{within-sound}
+use Rattle.sixel_encoder.proofs.TripLimits.{CanRead-new}
+
+-- a call that returned a value had no fault
+none-from_ok : {S : Type 0} (fault : Option CallFault) (value : S)
+    → FailsBy {X = S} fault (Ok value) → fault ≡ None
+none-from_ok None value is = refl
+none-from_ok (Some fault) value is = absurd is
+
+-- so its image has none
+sound-first : (fault : Option SixelError) (rest : Option CallFault)
+    → option_or (size_call_fault fault) rest ≡ None → fault ≡ None
+sound-first None rest e = refl
+sound-first (Some fault) rest e = absurd cc
+
+-- nor has the first of two parts
+none-first : (first rest : Option CallFault) → option_or first rest ≡ None → first ≡ None
+none-first None rest e = refl
+none-first (Some fault) rest e = absurd cc
+
+-- a new decoder can read what is returned
+pub readable-returned : {S : Type 0} (result : Result S SixelError) (image : Image)
+    (rest : Option CallFault) → FailsBy (option_or (size_call_fault (image_fault image)) rest) result
+    → OnOk result (CanRead new_decoder image.width image.height)
+readable-returned (Ok value) image rest fails =
+    CanRead-new image
+    (sound-first (image_fault image) rest
+    (none-from_ok (option_or (size_call_fault (image_fault image)) rest) value fails))
+readable-returned (Err e) image rest fails = tt
+
+-- the rows of an image without a fault
+rows-sound : (image : Image) → image_fault image ≡ None → AreRowsOf image.pixels image.width
+rows-sound image sound =
+    let is = within-sound image sound in
+    record {
+      some = is.some_width;
+      count = image.height;
+      whole = omega (arith, is.sized, mul_comm image.width image.height);
+    }
+
+-- images that show the same have one text in a palette
+pub hidden-returned : {S : Type 0} (bytes : S → List ℕ) (result : Result S SixelError)
+    (image other : Image) (colors : List (List ℕ)) (dither : Dither) (others : List ℕ)
+    (rest : Option CallFault) → FailsBy (option_or (size_call_fault (image_fault image)) rest) result
+    → IfOk result (λ text. IsPaletteText image colors dither (bytes text))
+    → shown_image image ≡ shown_image other → IsPaletteText other colors dither others
+    → IfOk result (λ text. bytes text ≡ others)
+hidden-returned bytes (Ok text) image other colors dither others rest fails is same also =
+    let sound =
+    sound-first (image_fault image) rest
+    (none-from_ok (option_or (size_call_fault (image_fault image)) rest) text fails) in
+    is.text.text
+    ∙ (ap text_of
+    (drawing-alike dither image other colors is.indices also.indices same
+    (rows-sound image sound) is.dithered also.dithered)
+    ∙ sym also.text.text)
+hidden-returned bytes (Err e) image other colors dither others rest fails is same also = tt
+
+-- as well as what is returned for given indices
+pub readable-indexed : {S : Type 0} (result : Result S SixelError) (image : Image) (colors : ℕ)
+    (indices : List ℕ) → FailsBy (indexed_fault image colors indices) result
+    → OnOk result (CanRead new_decoder image.width image.height)
+readable-indexed (Ok value) image colors indices fails =
+    CanRead-new image
+    (sound-first (image_fault image) (color_count_fault colors)
+    (none-first (palette_fault image colors)
+    (option_or (index_count_fault image (length indices))
+    (index_range_fault image.pixels indices colors))
+    (none-from_ok (indexed_fault image colors indices) value fails)))
+readable-indexed (Err e) image colors indices fails = tt

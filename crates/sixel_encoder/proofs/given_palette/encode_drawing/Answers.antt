@@ -1,0 +1,20 @@
+use Rattle.std.proofs.Common.{[]}
+use Rattle.std.proofs.Common.{subst}
+use Rattle.std.specs.Prelude.{All}
+use Rattle.std.proofs.lemmas.List.{get_or_default}
+use Rattle.sixel_encoder.specs.Encoding.{source_value}
+use Rattle.sixel_encoder.specs.Trip.{IsColor}
+use Rattle.sixel_encoder.proofs.IndexedText.{IsTextOf-written, IsWritable-indexed}
+use Rattle.sixel_encoder.proofs.given_palette.encode_drawing.Goals as goal
+
+pub returns-clause-text : goal.returns-clause-text
+returns-clause-text c =
+    let colors = c.args.colors.now in
+    let bytes : All IsColor colors =
+    λ k d l.
+    subst IsColor (get_or_default colors k [] d l)
+    (record { channels = c.told-colors k l; bytes = c.color_bytes.ensures k [] l }) in
+    IsTextOf-written _ _
+    (IsWritable-indexed (source_value c.args.source.now) colors c.args.indices.now c.requires.sound
+    c.requires.few bytes c.requires.count c.requires.opaque)
+    c.in_ok-encode_indexed.ensures

@@ -1,0 +1,84 @@
+use Rattle.std.proofs.Common.{◌≡◌, ◌<◌, ◌+◌, ◌*◌, ◌∷◌, [], get_or, ap, sym, subst, ◌∙◌, arith}
+use Rattle.std.specs.Prelude.{ℕ}
+use Rattle.std.proofs.lemmas.Nat.{mod-mul-add}
+use Rattle.sixel_encoder.specs.declared.indices.diffusion.Neighbors.{Neighbors}
+use Rattle.sixel_encoder.specs.Dithering.{column_of_step, error_above, error_beyond, errors_of}
+use Rattle.sixel_encoder.specs.Dithering.{serpentine}
+use Rattle.sixel_encoder.specs.inside.Diffusion.{IsLine, diffused_of}
+use Rattle.sixel_encoder.proofs.DiffusionErrors.{AreVisited-more, IsLine-more, IsLine-next_row}
+use Rattle.sixel_encoder.proofs.DiffusionErrors.{errors_of-more}
+use Rattle.sixel_encoder.proofs.DiffusionVisit.{AreReceived-neighbors, above-line, before-more}
+use Rattle.sixel_encoder.proofs.DiffusionVisit.{behind-more, beyond-line}
+use Rattle.sixel_encoder.proofs.Serpentine.{serpentine-step}
+use Rattle.sixel_encoder.proofs.indices.diffusion.DiffusedImage.diffuse_row.Goals as goal
+
+pub loop-step-init : goal.loop-step-init
+loop-step-init c =
+    let none : c.args.row * c.args.self.now.width + 0 ≡ c.args.row * c.args.self.now.width =
+    omega arith in
+    record {
+      size = c.requires.indices;
+      visited = rw none c.requires.visited;
+      line = rw none c.requires.line;
+      before = c.no_error-before.ensures;
+      behind = c.no_error-behind.ensures;
+    }
+
+pub loop-step-preserved : goal.loop-step-preserved
+loop-step-preserved c =
+    let d = diffused_of c.args.self.now in
+    let width = c.args.self.now.width in
+    let row = c.args.row in
+    let step = c.loop-step.step in
+    let n = row * width + step in
+    let old = c.loop-step.indices in
+    let new = c.visit-error.new.indices in
+    let line = c.loop-step.line in
+    let error = c.visit-error.result in
+    let errors = errors_of d old n in
+    let h = c.loop-step.invariant in
+    let inside : step < width = c.loop-step-test.true in
+    let column = c.column_of_step-column.result in
+    let place : column ≡ column_of_step width row step = c.column_of_step-column.ensures.value in
+    let at : serpentine width n ≡ row * width + column =
+    serpentine-step width row step inside ∙ ap (λ k. row * width + k) (sym place) in
+    let above : get_or line column [] ≡ error_above d errors step =
+    ap (λ k. get_or line k []) place ∙ above-line d errors line row step inside h.line in
+    let beyond : c.error_beyond.result ≡ error_beyond d errors step =
+    beyond-line d errors line row step c.error_beyond.result inside h.line
+    c.error_beyond.ensures in
+    let neighbors : Neighbors = record {
+      before = c.loop-step.before;
+      behind = c.loop-step.behind;
+      above = get_or line column [];
+      beyond = c.error_beyond.result;
+    } in
+    let visit =
+    c.visit-error.ensures.visit errors n at
+    (AreReceived-neighbors d errors n step neighbors c.received.result
+    (mod-mul-add row width step inside) h.before h.behind above beyond
+    c.received.ensures.value) in
+    let next : row * width + (step + 1) ≡ n + 1 = omega arith in
+    let more : errors_of d new (row * width + (step + 1)) ≡ error ∷ errors =
+    ap (errors_of d new) next ∙ errors_of-more d old new error n c.requires.image.wide visit in
+    record {
+      size = c.visit-error.ensures.indices;
+      visited =
+          rw next
+          (AreVisited-more d old new error n c.requires.image.wide h.visited visit);
+      line = rw (more, place) (IsLine-more d errors line row step error inside h.line);
+      before = rw more (before-more d errors step error);
+      behind = rw more (above ∙ behind-more d errors step error);
+    }
+
+pub returns-clause-line : goal.returns-clause-line
+returns-clause-line c =
+    let d = diffused_of c.args.self.now in
+    let width = c.args.self.now.width in
+    let row = c.args.row in
+    let last : c.loop-step.step ≡ width =
+    omega (arith, c.loop-step.auto.step-end, c.loop-step-test.false) in
+    IsLine-next_row d (errors_of d c.loop-step.indices (row * width + width)) c.loop-step.line row
+    (subst (λ (step : ℕ).
+    IsLine d (errors_of d c.loop-step.indices (row * width + step)) row step c.loop-step.line)
+    last c.loop-step.invariant.line)

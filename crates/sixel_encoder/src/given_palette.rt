@@ -1,0 +1,136 @@
+//! The SIXEL output of an image in a given palette.
+
+ghost use Rattle.std.specs.Prelude.{◌≡◌, ◌≢◌, ℕ, ◌+◌, ◌*◌, ◌<◌, ◌≤◌, IfErr, IfOk, None, length};
+ghost use Rattle.std.specs.Prelude.{slice_index, string_bytes};
+ghost use Rattle.std.specs.Option.{option_or};
+ghost use Rattle.sixel_base.specs.CallFault.{FailsBy, IsVerdict};
+ghost use Rattle.sixel_base.specs.Size.{verdict};
+ghost use Rattle.sixel_encoder.specs.Encoding.{image_fault, source_value};
+ghost use Rattle.sixel_encoder.specs.IndexedDrawing.{IsPaletteText, IsTextOf, indexed_drawing};
+ghost use Rattle.sixel_encoder.specs.IndexedDrawing.{palette_fault, index_count_fault};
+ghost use Rattle.sixel_encoder.specs.IndexedDrawing.{index_range_fault, indexed_fault};
+
+use crate::band::is_opaque;
+use crate::dither::Dither;
+use crate::indices::dithered_indices;
+use crate::source::Source;
+use crate::text::{IndexedImage, encode_indexed};
+use sixel_base::size::{validate_buffer, validate_color_count, validate_encode_dimensions};
+use sixel_base::{Result, SixelError};
+use sixel_palette::palette::nearest_indices::color_bytes;
+use std::alloc::Global;
+
+/// Returns the SIXEL output of an image in a palette of 1 to 256 colors.
+///
+/// # Errors
+///
+/// Those of [`sixel_encode`](crate::sixel_encode), then
+/// `InvalidData("number of colors is not 1 to 256")`.
+pub fn encode_in_palette(
+    alloc: Global,
+    source: &Source<'_>,
+    colors: &[[u8; 3]],
+    dither: Dither,
+) -> Result<String>
+    ensures fault { FailsBy (palette_fault (source_value source.now) (length colors.now)) result }
+    ensures text { IfOk result (λ text.
+        IsPaletteText (source_value source.now) colors.now dither (string_bytes text)) }
+{
+    validate_source(source)?;
+    validate_color_count(colors.len())?;
+    let indices = dithered_indices(alloc, source.pixels, source.width, colors, dither)?;
+    encode_drawing(alloc, source, colors, &indices)
+}
+
+/// Returns the SIXEL output of an image whose opaque pixels have these palette indices.
+///
+/// # Errors
+///
+/// Those of [`encode_in_palette`]. Then `BufferSizeMismatch` for another number of indices than
+/// there are pixels, and `InvalidData("palette index out of range")` for an opaque pixel whose
+/// index is past the palette.
+pub fn encode_with_indices(
+    alloc: Global,
+    source: &Source<'_>,
+    colors: &[[u8; 3]],
+    indices: &[u8],
+) -> Result<String>
+    ensures fault { FailsBy
+        (indexed_fault (source_value source.now) (length colors.now) indices.now) result }
+    ensures text { IfOk result (λ text. IsTextOf
+        (indexed_drawing (source_value source.now) colors.now indices.now)
+        (string_bytes text)) }
+{
+    validate_source(source)?;
+    validate_color_count(colors.len())?;
+    validate_index_count(source, indices.len())?;
+    validate_indices(source.pixels, indices, colors.len())?;
+    encode_drawing(alloc, source, colors, indices)
+}
+
+/// Returns an error unless an image has valid sizes and as many bytes as they require.
+fn validate_source(source: &Source<'_>) -> Result<()>
+    ensures { result ≡ verdict (image_fault (source_value source.now)) }
+{
+    validate_encode_dimensions(source.width, source.height)?;
+    validate_buffer(source.width, source.height, source.pixels.len())
+}
+
+/// Returns an error unless there are as many indices as pixels.
+fn validate_index_count(source: &Source<'_>, count: usize) -> Result<()>
+    requires { image_fault (source_value source.now) ≡ None }
+    ensures { IsVerdict (index_count_fault (source_value source.now) count) result }
+{
+    let expected = source.width * source.height;
+    if count == expected {
+        return Ok(());
+    }
+    Err(SixelError::BufferSizeMismatch {
+        expected,
+        actual: count,
+    })
+}
+
+/// Returns an error unless the index of each opaque pixel is below `colors`.
+fn validate_indices(pixels: &[u8], indices: &[u8], colors: usize) -> Result<()>
+    requires { length pixels.now ≡ 4 * length indices.now }
+    ensures { IsVerdict (index_range_fault pixels.now indices.now colors) result }
+{
+    for pixel in 0..indices.len() {
+        if is_opaque(pixels, pixel) && usize::from(indices[pixel]) >= colors {
+            return Err(SixelError::index_range());
+        }
+    }
+    Ok(())
+}
+
+/// Returns the SIXEL output of the drawing of an image by valid indices.
+fn encode_drawing(
+    alloc: Global,
+    source: &Source<'_>,
+    colors: &[[u8; 3]],
+    indices: &[u8],
+) -> Result<String>
+    requires sound { image_fault (source_value source.now) ≡ None }
+    requires few { length colors.now ≤ 256 }
+    requires count { length indices.now ≡ source.now.width * source.now.height }
+    requires opaque { (pixel : ℕ) → pixel < length indices.now
+        → 128 ≤ slice_index source.now.pixels.now (4 * pixel + 3)
+        → slice_index indices.now pixel < length colors.now }
+    ensures memory { IfErr result (λ e. e ≡ SixelError.OutOfMemory) }
+    ensures text { IfOk result (λ text. IsTextOf
+        (indexed_drawing (source_value source.now) colors.now indices.now)
+        (string_bytes text)) }
+{
+    color_bytes(colors);
+    let image = IndexedImage {
+        width: source.width,
+        height: source.height,
+        aspect_ratio: source.aspect_ratio,
+        background_mode: source.background_mode,
+        colors,
+        pixels: source.pixels,
+        indices,
+    };
+    Ok(encode_indexed(alloc, &image)?)
+}
