@@ -99,12 +99,12 @@ unique = $(if $1,$(firstword $1) $(call unique,$(filter-out $(firstword $1),$1))
 sources = crates.txt $(wildcard out/cpu) $(shell find $(wildcard $(foreach name,\
 	$(call unique,$(call below,$1)),$(foreach folder,src specs proofs,crates/$(name)/$(folder)))))
 
-# The processor that was chosen last, if one was. out/cpu counts as a source of each build.
+# The processor that was chosen last, if one was. out/cpu counts as a source of each build. A run
+# with -n does not write it.
 chosen := $(shell cat out/cpu 2>&-)
-ifneq ($(CPU),)
-ifneq ($(CPU),$(chosen))
+is_dry := $(findstring n,$(filter-out --%,$(firstword $(MAKEFLAGS))))
+ifneq ($(if $(is_dry),,$(filter-out $(chosen),$(CPU))),)
 $(shell mkdir -p out && echo $(CPU) >out/cpu)
-endif
 endif
 cpu = $(addprefix --cpu ,$(or $(CPU),$(chosen)))
 

@@ -4,11 +4,10 @@ A FILE of a DCS sequence is decoded; one of raw RGBA pixels, named FILE:WIDTHxHE
 default, two images are made here and encoded, and what that writes is decoded. Each column is a
 number per pixel; those of a tool that is not installed have a dash.
 
-  process             nanoseconds of a whole process, the least of RUNS or more, by hyperfine
   instructions        of a process less those of one on a single pixel, by valgrind
   C, Rust, libsixel   nanoseconds in process, the least of RUNS turns; libsixel does not dither
 """
-import json
+import itertools
 import math
 import os
 import random
@@ -17,6 +16,7 @@ import shlex
 import subprocess
 import sys
 import tempfile
+import time
 from pathlib import Path
 from shutil import which
 
@@ -46,15 +46,6 @@ def run(command, stdin=None):
     """Runs a command of the shell; its standard output, or None if it fails, and its error."""
     ended = subprocess.run(command, shell=True, input=stdin, capture_output=True, check=False)
     return None if ended.returncode else ended.stdout, ended.stderr
-
-
-def seconds(room, arguments, file):
-    """The least time of a process that reads a file."""
-    if not which("hyperfine"):
-        return math.nan
-    command = shlex.quote(f"{SIXEL} {arguments} <{shlex.quote(str(file))}")
-    run(f"hyperfine --warmup 1 --min-runs {RUNS} --export-json {room}/times.json {command}")
-    return json.loads((room / "times.json").read_text())["results"][0]["min"]
 
 
 def instructions(arguments, stdin):
@@ -87,7 +78,6 @@ def report(room, file, timers):
         arguments = f"encode {{}} {{}} {colors}" if raw else command
         whole = instructions(arguments.format(width, height), data)
         columns = [
-            1e9 * seconds(room, arguments.format(width, height), path) / (width * height),
             (whole - instructions(arguments.format(1, 1), single)) / (width * height),
             *in_process(room, command, file, colors, timers),
         ]
@@ -99,18 +89,11 @@ def report(room, file, timers):
 def made(room):
     """Two images, one of smooth colors and one of flat ones, and their SIXEL output."""
     noise = random.Random(1)
-
-    def shade(a, b):
-        return int(127 + 80 * math.sin(a) + 40 * math.cos(b) + 8 * noise.random())
-
-    smooth, flat = bytearray(), bytearray()
-    for y in range(480):
-        for x in range(640):
-            smooth += bytes([shade(x / 90, y / 50), shade((x + y) / 120, x / 70)])
-            smooth += bytes([shade(y / 100, (x - y) / 60), 255])
-            flat += bytes([x // 80 % 4 * 60, y // 40 % 3 * 90, (x + y) // 200 % 2 * 200])
-            flat.append(0 if x < 20 else 255)
-    for name, pixels in (("smooth", smooth), ("flat", flat)):
+    smooth, flat = [], []
+    for y, x in itertools.product(range(480), range(640)):
+        smooth += [x * 2 // 5, y // 2, (x + y) // 5 + noise.randrange(16), 255]
+        flat += [x // 80 % 4 * 60, y // 40 % 3 * 90, (x + y) // 200 % 2 * 200, 255 * (x >= 20)]
+    for name, pixels in (("smooth", bytes(smooth)), ("flat", bytes(flat))):
         (room / name).write_bytes(pixels)
         (room / f"{name}.six").write_bytes(run(f"{SIXEL} encode 640 480 256", pixels)[0])
     return [f"{room}/{it}" for it in ("smooth:640x480", "flat:640x480", "smooth.six", "flat.six")]
@@ -120,17 +103,13 @@ def main(files):
     with tempfile.TemporaryDirectory() as folder:
         room = Path(folder)
         built = {it: run(how.format(room=room))[0] is not None for it, how in BUILDS.items()}
-        tools = {it: which(it) for it in ("hyperfine", "valgrind")}
-        missing = [it for it, found in {**tools, **built}.items() if not found]
-        if missing:
-            print(f"skipped, because it is not installed or not built: {', '.join(missing)}")
-        print(f"{'':42}", *(f"{it:>13}" for it in ("process", "instructions", *TIMERS)), sep="")
+        print(f"{'':42}", *(f"{it:>13}" for it in ("instructions", *TIMERS)), sep="")
         for file in files or made(room):
             report(room, file, [it for it, found in built.items() if found])
         for text in () if files else HOSTILE:
-            (room / "hostile").write_text(text * (1_000_000 // len(text)))
-            time = 1000 * seconds(room, "payload", room / "hostile")
-            print(f"a megabyte of {text[:31]:31} {time:8.1f} ms")
+            start = time.perf_counter()
+            run(f"{SIXEL} payload", text.encode() * (1_000_000 // len(text)))
+            print(f"a megabyte of {text[:31]:31} {1000 * (time.perf_counter() - start):8.1f} ms")
 
 
 if __name__ == "__main__":

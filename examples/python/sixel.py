@@ -1,4 +1,3 @@
-#!/usr/bin/env python3
 """Converts SIXEL to PPM and back by the shared library: sixel.py decode|encode <INPUT >OUTPUT"""
 import ctypes as c
 import re
@@ -11,8 +10,8 @@ class Handle(c.Structure):
 
 class Shape(c.Structure):
     _fields_ = [(name, c.c_size_t) for name in ("width", "height", "bytes")]
-    _fields_ += [("pixel_width", c.c_uint16), ("pixel_height", c.c_uint16)]
-    _fields_ += [("p1", c.c_uint8), ("p2", c.c_uint8)]
+    _fields_ += [(name, c.c_uint16) for name in ("pixel_width", "pixel_height")]
+    _fields_ += [(name, c.c_uint8) for name in ("p1", "p2")]
 
 
 library = c.CDLL("libicysixel.so.0")
@@ -49,8 +48,7 @@ def encode(ppm):
     return text.raw
 
 
-if __name__ == "__main__":
-    call("icysixel_new")
-    convert = {"decode": decode, "encode": encode}[sys.argv[1]]
-    sys.stdout.buffer.write(convert(sys.stdin.buffer.read()))
-    library.icysixel_free(handle)
+call("icysixel_new")
+convert = {"decode": decode, "encode": encode}[sys.argv[1]]
+sys.stdout.buffer.write(convert(sys.stdin.buffer.read()))
+library.icysixel_free(handle)

@@ -37,10 +37,8 @@ FILTERED = (
 )
 # The same for terminal.c: an opaque image on two rows of cells, and two errors.
 TERMINAL = b'a\x1bP9;0q"1;1;2;30#1!2~\x1b\\b\x1bPq!65536~\x1b\\c\x1bPq!64001~\x1b\\'
-DISPLAYED = (
-    b"a\n\n[2 x 30 pixels on 2 rows, the last pixel is 282a36]b"
-    b"[malformed SIXEL data]c[image dimensions too large]"
-)
+DISPLAYED = b"a\n\n[2 x 30 pixels on 2 rows, the last pixel is 282a36]b[malformed SIXEL data]c"
+DISPLAYED += b"[image dimensions too large]"
 # Runs of examples: the standard input, the status, and the standard output and error.
 RUNS = [
     ("decode", RED, 0, RED_PIXELS, b"2 x 6 pixels\n"),
@@ -179,17 +177,17 @@ class TestC(unittest.TestCase):
     @needs("sixel2png", "pkg-config")
     def test_preload_encoder_example(self):
         """libsixel's calls for encoding write a sequence that decodes to the same pixels."""
-        library, written = ctypes.CDLL(self.preload()), []
+        library, text = ctypes.CDLL(self.preload()), bytearray()
         output, dither = ctypes.c_void_p(), ctypes.c_void_p()
-        function = ctypes.CFUNCTYPE(ctypes.c_int, ctypes.c_void_p, ctypes.c_int, ctypes.c_void_p)
-        write = function(lambda at, length, _: written.append(ctypes.string_at(at, length)) or 0)
+        function = ctypes.CFUNCTYPE(*[ctypes.c_int, ctypes.c_void_p] * 2)
+        write = function(lambda at, length, _: text.extend(ctypes.string_at(at, length)) or 0)
         library.sixel_output_new(ctypes.byref(output), write, None, None)
         library.sixel_dither_new(ctypes.byref(dither), 16, None)
         self.assertEqual(library.sixel_encode(b"\xff\0\0" * 12, 2, 6, 3, dither, output), 0)
         library.sixel_dither_unref(dither)
         library.sixel_output_unref(output)
-        decode = self.program("decode", "sanitizers", EXAMPLES)
-        self.assertEqual(self.succeeds(decode, stdin=b"".join(written)), b"\xff\0\0\xff" * 12)
+        decode = self.program("decode", "LLVM", EXAMPLES)
+        self.assertEqual(self.succeeds(decode, stdin=bytes(text)), b"\xff\0\0\xff" * 12)
 
     @needs("mpv", "pkg-config")
     def test_preload_mpv(self):

@@ -51,7 +51,7 @@ def outcome(result):
     """How a program ends for a column: images or bytes, and then an error."""
     output, usage, error = RESULT.fullmatch(result).groups(default="")
     none, *images = output.split("image ")
-    texts = [bytes_of(output)] if none else [written(it) for it in images]
+    texts = [bytes_of(output)] if none else [written(it) for it in images if it]
     error = error and f"{error}\n"
     return 2 if usage else int(error != ""), b"".join(texts), error.encode()
 
@@ -59,11 +59,6 @@ def outcome(result):
 def written(text):
     """What the program writes of the image that a column spells."""
     return b"image %d %d %d %d\n%s\n" % image_of(text)
-
-
-def image_outcome(result):
-    """How a program ends for a column of an image or an error."""
-    return outcome(result if result.startswith("error: ") else f"image {result}")
 
 
 class TestPrograms(ProgramTest):
@@ -104,7 +99,7 @@ class TestPrograms(ProgramTest):
         for place, (settings, text, result) in vectors("images.tsv"):
             if settings in COMMANDS:
                 with self.subTest(place=place):
-                    self.ends([COMMANDS[settings]], bytes_of(text), image_outcome(result))
+                    self.ends([COMMANDS[settings]], bytes_of(text), outcome(f"image {result}"))
 
     def test_string_vectors(self):
         """After a complete DCS sequence, other bytes would be one more: they are left out."""
@@ -113,7 +108,7 @@ class TestPrograms(ProgramTest):
             data = bytes_of(text)[: int(consumed) if status == "complete" else None]
             for length in ("1", "5") if data else ():
                 with self.subTest(place=place):
-                    self.ends(["frames", length], data, image_outcome(result))
+                    self.ends(["frames", length], data, outcome(f"image {result}"))
 
     def test_text_vectors(self):
         """The program encodes square pixels and a transparent background."""

@@ -7,11 +7,12 @@ import unittest
 from pathlib import Path
 
 from build import HEADERS, ROOT, needs, run
+from rust.declared import of_header
 
 HERE = ROOT / "tests/install"
 HEADER = (HEADERS / "icysixel.h").read_text()
-PROTOTYPE = re.compile(r"^(\w+) (icysixel_\w+)\(([^)]*)\);", re.M)
-# The same in the manual: the type, the name and the parameters in quotes.
+# The result and the parameters of each function, and how the manual has them.
+CALLS = {name: it for name, it in of_header(HEADER).items() if f" {name}(" in HEADER}
 MANUAL = re.compile(r"^\.Ft (\w+)\n\.Fo (\w+)\n((?:\.Fa \".+\"\n)+)\.Fc$", re.M)
 RED = b"\x1bP9;1q#1;2;100;0;0@\x1b\\"
 PIXELS, PPM = b"\xff\0\0\xff" + bytes(20), b"P6\n1 6\n255\n\xff\0\0" + bytes(15)
@@ -75,7 +76,7 @@ class TestInstall(unittest.TestCase):
         """It exports the calls of the header alone, and has no executable stack."""
         library = self.folder / "lib/libicysixel.so.0"
         names = re.findall(r" T (\w+)", run("nm", "-D", library)[1].decode())
-        self.assertEqual(sorted(names), sorted(name for _, name, _ in PROTOTYPE.findall(HEADER)))
+        self.assertEqual(sorted(names), sorted(CALLS))
         told = run("readelf", "--wide", "--dynamic", "--segments", library)[1].decode()
         self.assertIn("Library soname: [libicysixel.so.0]", told)
         self.assertRegex(told, r"GNU_STACK .* RW ")
@@ -102,9 +103,8 @@ class TestManual(unittest.TestCase):
     def test_calls(self):
         """icysixel(3) has each call of the header, with the same parameters."""
         found = MANUAL.findall((ROOT / "man/icysixel.3").read_text())
-        called = [(*it[:2], ", ".join(re.findall('"(.*)"', it[2]))) for it in found]
-        declared = [(*it[:2], " ".join(it[2].split())) for it in PROTOTYPE.findall(HEADER)]
-        self.assertEqual(called, declared)
+        called = {name: [kind, *re.findall('"(.*)"', it)] for kind, name, it in found}
+        self.assertEqual(called, CALLS)
 
     def test_version(self):
         """The header has the version of the Rust crate."""

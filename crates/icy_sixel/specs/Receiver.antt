@@ -29,8 +29,8 @@ pub data Form : Type 0 where
   OfString : Form
 
 -- The image that is open: its form, the decoder that it began from, the bytes fed, whether a feed
--- was rejected, the capacity of its canvas in pixels beside the image, and how many columns and tags
--- sixels have painted at most.
+-- was rejected, the capacity of its canvas in pixels beside the image, and how many columns and
+-- tags sixels have painted at most.
 pub record Reception : Type 0 where
   pub form : Form
   pub start : DecoderState

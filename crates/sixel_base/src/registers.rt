@@ -32,8 +32,8 @@ impl Model for Registers {
 impl Registers {
     /// The registers of a new terminal.
     ///
-    /// They are DEC's sixteen colors, then a color cube in steps of 20 percent, and 24 greys in even
-    /// steps from black to white.
+    /// They are DEC's sixteen colors, then a color cube in steps of 20 percent, and 24 greys in
+    /// even steps from black to white.
     pub fn new() -> Self
         ensures colors { result ≡ default_registers }
         ensures size { length result ≡ 256 }

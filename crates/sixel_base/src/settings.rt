@@ -88,14 +88,18 @@ impl PixelAspectRatio {
         }
     }
 
-    /// The width of a pixel in the units of [`pad`](Self::pad).
+    /// The displayed width of a pixel, in the units of [`pad`](Self::pad).
+    ///
+    /// The name is misleading: DEC's Pan is the height of a pixel.
     pub fn pan(self) -> u16
         ensures { result ≡ 1 }
     {
         1
     }
 
-    /// The height of a pixel in the units of [`pan`](Self::pan).
+    /// The displayed height of a pixel, in the units of [`pan`](Self::pan).
+    ///
+    /// The name is misleading: DEC's Pad is the width of a pixel.
     pub fn pad(self) -> u16
         ensures { result ≡ pad_of self }
     {

@@ -123,53 +123,6 @@ struck_same px mid wide from to bits bit color d column k miss before =
     (struck_not bits bit k miss))
     before (rows_up k bit)
 
-filled_none : (at i : ℕ) (color pixel : List ℕ) → filled at (at + 0) color i pixel ≡ pixel
-filled_none at i color pixel = elim (cases_lt i at) [
-  | inl before ↦ rw (lt-leb at i before) refl
-  | inr after ↦ rw (le-leb at i after, le-ltb i (at + 0) (omega (arith, after))) refl
-]
-
-struck_count :
-    (set : Bool) (px mid new : List (List ℕ)) (wide from to bits bit count : ℕ) (color d : List ℕ)
-    (column k : ℕ) → is_set bits bit ≡ set → column < wide → k < 6 → from ≤ to → to ≤ wide →
-    stored mid wide d column k
-    ≡ (if nat_lt k bit && covers from to 0 bits column k then color else stored px wide d column k)
-    → count ≡ (if set then to - from else 0) →
-    ((i : ℕ) → get_or new i d
-    ≡ filled (bit * wide + from) (bit * wide + from + count) color i (get_or mid i d)) →
-    stored new wide d column k
-    ≡ (if nat_lt k (bit + 1) && covers from to 0 bits column k then color
-    else stored px wide d column k)
-struck_count true px mid new wide from to bits bit count color d column k hit inside six order
-    within before is change =
-    let end : bit * wide + from + count ≡ bit * wide + to = omega (arith, is, order) in
-    struck_more px mid new wide from to bits bit color d column k inside six order within hit before
-    (λ i. change i ∙ ap (λ e. filled (bit * wide + from) e color i (get_or mid i d)) end)
-struck_count false px mid new wide from to bits bit count color d column k miss inside six order
-    within before is change =
-    let at = bit * wide + from in
-    let i = k * wide + column in
-    change i ∙ ap (λ n. filled at (at + n) color i (get_or mid i d)) is
-    ∙ filled_none at i color (get_or mid i d)
-    ∙ struck_same px mid wide from to bits bit color d column k miss before
-
--- the same where as many columns of the row were filled as its bit says
-pub struck_counted :
-    (px mid new : List (List ℕ)) (wide from to bits bit : ℕ) (color d : List ℕ) (column k : ℕ) →
-    column < wide → k < 6 → from ≤ to → to ≤ wide →
-    stored mid wide d column k
-    ≡ (if nat_lt k bit && covers from to 0 bits column k then color else stored px wide d column k)
-    → {count : ℕ} → count ≡ (if is_set bits bit then to - from else 0) →
-    ((i : ℕ) → get_or new i d
-    ≡ filled (bit * wide + from) (bit * wide + from + count) color i (get_or mid i d)) →
-    stored new wide d column k
-    ≡ (if nat_lt k (bit + 1) && covers from to 0 bits column k then color
-    else stored px wide d column k)
-struck_counted px mid new wide from to bits bit color d column k inside six order within before {count}
-    is change =
-    struck_count (is_set bits bit) px mid new wide from to bits bit count color d column k refl
-    inside six order within before is change
-
 sixel_here : (sixels : List ℕ) (wide from bit column k : ℕ) → k < 6 → from ≤ column →
     (k == bit) ≡ true →
     is_set (get_or sixels (k * wide + column - (bit * wide + from)) 0) bit
@@ -277,3 +230,44 @@ copied_more px new part mid next held wide row extra background more long joined
           ]
           )
     ]
+
+and_none : (a b : Bool) → (a && b && false) ≡ false
+and_none true true = refl
+and_none true false = refl
+and_none false b = refl
+
+and_false : (a : Bool) → (a && false) ≡ false
+and_false true = refl
+and_false false = refl
+
+struck_blank : (k : ℕ) → is_struck 0 0 k ≡ false
+struck_blank k =
+    let blank : is_set 0 (k - 0) ≡ false = grind arith in
+    ap (λ s. nat_le 0 k && nat_lt k 6 && s) blank ∙ and_none (nat_le 0 k) (nat_lt k 6)
+
+-- one sixel so many times, and blank ones after it, cover what a run of it does
+pub covers_repeated : (from to bits column k : ℕ) (sixels : List ℕ) → from ≤ to → to ≤ from + 8 →
+    ((j : ℕ) → get_or sixels j 0 ≡ (if nat_lt j (to - from) then bits else 0)) →
+    covers_block from sixels 0 column k ≡ covers from to 0 bits column k
+covers_repeated from to bits column k sixels order few same = elim (cases_lt column from) [
+  | inl left ↦ rw (lt-leb from column left) refl
+  | inr after ↦ elim (cases_lt column to) [
+    | inl inside ↦
+        let here : get_or sixels (column - from) 0 ≡ bits =
+        same (column - from)
+        ∙ rw (lt-ltb (column - from) (to - from) (omega (arith, inside, after))) refl in
+        rw (
+          le-leb from column after,
+          lt-ltb column (from + 8) (omega (arith, inside, few)),
+          lt-ltb column to inside,
+          here,
+        ) refl
+    | inr right ↦
+        let blank : get_or sixels (column - from) 0 ≡ 0 =
+        same (column - from)
+        ∙ rw (le-ltb (column - from) (to - from) (omega (arith, right, order))) refl in
+        rw (le-leb from column after, le-ltb column to right, blank)
+        (ap (λ s. nat_lt column (from + 8) && s) (struck_blank k)
+        ∙ and_false (nat_lt column (from + 8)))
+  ]
+]

@@ -2,19 +2,19 @@
 ghost use Rattle.std.specs.Prelude.{◌≡◌, ℕ, ◌+◌, ◌*◌, ◌≤◌, ◌<◌, List, length, max, min};
 ghost use Rattle.std.specs.Prelude.{false, nat_le, nat_lt, ◌&&◌, ◌==◌, slice_index_or};
 ghost use Rattle.std.specs.Prelude.{IfOk, if◌then◌else◌};
-ghost use Rattle.sixel_base.specs.Picture.{covers, is_set};
+ghost use Rattle.sixel_base.specs.Picture.{covers};
 ghost use Rattle.sixel_canvas.specs.inside.Band.{cell, stored, IsBand};
 ghost use Rattle.sixel_canvas.specs.inside.Drawn.{covers_block};
 
-use crate::pixel_row::{fill, fill_eight, mix};
+use crate::pixel_row::{fill, mix};
 use std::alloc::{AllocError, Global};
 use std::marker::Model;
 
 /// The most columns that a band has memory for: those of an image, and eight blank ones.
 pub const MAX_CAP: usize = 1_000_008;
 
-/// Up to how many columns a run is drawn eight columns at once.
-const NARROW: usize = 48;
+/// Up to how many columns a run is drawn eight columns at once, without a branch for each row.
+const NARROW: usize = 24;
 
 /// Six rows of `cap` columns each, which are background from `reach` on.
 ///
@@ -241,19 +241,33 @@ fn draw_eight(pixels: &mut [[u8; 4]], cap: usize, from: usize, to: usize, bits: 
         → stored pixels.new cap d column k
         ≡ (if covers from to 0 bits column k then color else stored pixels.old cap d column k) }
 {
-    'drawn: for bit in 0..6 {
-        let count = counted(bits, bit, to - from);
-        fill_eight(pixels, bit * cap + from, count, color);
-    }
+    mix_rows(pixels, cap, from, repeated(bits, to - from), color);
 }
 
-/// Returns how many columns of the row of this bit a sixel colors.
+/// Returns eight sixels: this one so many times, and blank ones.
 #[inline(always)]
-fn counted(bits: u8, bit: usize, columns: usize) -> usize
-    requires { bit < 6 }
-    ensures { result ≡ (if is_set bits bit then columns else 0) }
+fn repeated(bits: u8, count: usize) -> [u8; 8]
+    requires { count ≤ 8 }
+    ensures { (j : ℕ) → slice_index_or result j 0 ≡ (if nat_lt j count then bits else 0) }
 {
-    if (bits >> bit) % 2 == 1 { columns } else { 0 }
+    [
+        lane(bits, 0, count),
+        lane(bits, 1, count),
+        lane(bits, 2, count),
+        lane(bits, 3, count),
+        lane(bits, 4, count),
+        lane(bits, 5, count),
+        lane(bits, 6, count),
+        lane(bits, 7, count),
+    ]
+}
+
+/// Returns the sixel where lane `j` is one of so many, and else a blank one.
+#[inline(always)]
+fn lane(bits: u8, j: usize, count: usize) -> u8
+    ensures { result ≡ (if nat_lt j count then bits else 0) }
+{
+    if j < count { bits } else { 0 }
 }
 
 /// Draws a sixel row by row.

@@ -1,9 +1,12 @@
 //! A row of pixels, drawn on by a run or by eight sixels at once.
 
 ghost use Rattle.std.specs.Prelude.{◌≡◌, ℕ, ◌+◌, ◌≤◌, ◌<◌, List, length};
-ghost use Rattle.std.specs.Prelude.{slice_index_or, if◌then◌else◌};
+ghost use Rattle.std.specs.Prelude.{slice_index, slice_index_or, if◌then◌else◌};
 ghost use Rattle.std.specs.Int.{to_le_bytes, w32};
+ghost use Rattle.sixel_base.specs.Picture.{is_set};
 ghost use Rattle.sixel_canvas.specs.inside.Band.{filled, mixed_at};
+
+use std::simd::prelude::*;
 
 /// Gives one color to the pixels from `from` up to before `to`.
 #[inline(always)]
@@ -19,25 +22,7 @@ pub fn fill(pixels: &mut [[u8; 4]], from: usize, to: usize, color: [u8; 4])
     }
 }
 
-/// Gives one color to the first `count` of the eight pixels from `at` on, without a branch.
-#[inline(always)]
-pub fn fill_eight(pixels: &mut [[u8; 4]], at: usize, count: usize, color: [u8; 4])
-    requires within { at + 8 ≤ length pixels.old }
-    requires few { count ≤ 8 }
-    ensures len { length pixels.new ≡ length pixels.old }
-    ensures filled { (d : List ℕ) (i : ℕ) → slice_index_or pixels.new i d
-        ≡ filled at (at + count) color i (slice_index_or pixels.old i d) }
-{
-    let new = number(color);
-    'filled: for j in 0..8 {
-        let old = number(pixels[at + j]);
-        pixels[at + j] = chosen(j < count, new, old).to_le_bytes();
-    }
-}
-
 /// Gives one color to those of eight pixels from `at` on whose sixel has the bit.
-///
-/// Each pixel is chosen as a number, because LLVM makes a branch of a choice between arrays.
 #[inline(always)]
 pub fn mix(pixels: &mut [[u8; 4]], at: usize, sixels: [u8; 8], bit: usize, color: [u8; 4])
     requires within { at + 8 ≤ length pixels.old }
@@ -46,11 +31,47 @@ pub fn mix(pixels: &mut [[u8; 4]], at: usize, sixels: [u8; 8], bit: usize, color
     ensures mixed { (d : List ℕ) (i : ℕ) → slice_index_or pixels.new i d
         ≡ mixed_at at sixels bit color i (slice_index_or pixels.old i d) }
 {
-    let new = number(color);
+    let old = [
+        number(pixels[at]),
+        number(pixels[at + 1]),
+        number(pixels[at + 2]),
+        number(pixels[at + 3]),
+        number(pixels[at + 4]),
+        number(pixels[at + 5]),
+        number(pixels[at + 6]),
+        number(pixels[at + 7]),
+    ];
+    let new = chosen(sixels, bit, number(color), old);
     'mixed: for j in 0..8 {
-        let old = number(pixels[at + j]);
-        pixels[at + j] = chosen((sixels[j] >> bit) % 2 == 1, new, old).to_le_bytes();
+        pixels[at + j] = new[j].to_le_bytes();
     }
+}
+
+/// Returns lane by lane the new number where the sixel has the bit, and else the old one.
+///
+/// Lanes of numbers become a shift and a blend. LLVM makes a branch of a choice between arrays.
+#[inline(always)]
+fn chosen(sixels: [u8; 8], bit: usize, new: u32, old: [u32; 8]) -> [u32; 8]
+    requires { bit < 6 }
+    ensures { (k : ℕ) → k < 8 → slice_index result k
+        ≡ (if is_set (slice_index sixels k) bit then new else slice_index old k) }
+{
+    let [a, b, c, d, e, f, g, h] = sixels;
+    let lanes = u32x8::from_array([
+        u32::from(a),
+        u32::from(b),
+        u32::from(c),
+        u32::from(d),
+        u32::from(e),
+        u32::from(f),
+        u32::from(g),
+        u32::from(h),
+    ]);
+    let tests = (lanes >> u32x8::splat(bit as u32)) % u32x8::splat(2);
+    tests
+        .simd_eq(u32x8::splat(1))
+        .select(u32x8::splat(new), u32x8::from_array(old))
+        .to_array()
 }
 
 /// Returns the pixel as one number.
@@ -59,13 +80,4 @@ fn number(pixel: [u8; 4]) -> u32
     ensures { to_le_bytes w32 result ≡ pixel }
 {
     u32::from_le_bytes(pixel)
-}
-
-/// Returns the new number where the sixel has the bit, and else the old one.
-#[inline(always)]
-fn chosen(has_bit: bool, new: u32, old: u32) -> u32
-    ensures { to_le_bytes w32 result
-        ≡ (if has_bit then to_le_bytes w32 new else to_le_bytes w32 old) }
-{
-    if has_bit { new } else { old }
 }

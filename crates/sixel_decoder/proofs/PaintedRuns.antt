@@ -1,5 +1,5 @@
--- What a painter shows once sixels of one column each were drawn on its canvas: the pixels that they
--- cover, and the runs that they are.
+-- What a painter shows once sixels of one column each were drawn on its canvas: the pixels that
+-- they cover, and the runs that they are.
 use Rattle.std.proofs.Common.{◌≡◌, ℕ, suc, ◌+◌, ◌≤◌, ◌-◌, Bool, true, false}
 use Rattle.std.proofs.Common.{List, [], ◌∷◌, ◌++◌, length, get_or, take}
 use Rattle.std.proofs.Common.{get_or-take, subst, refl}

@@ -7,9 +7,9 @@ use icy_sixel::{Result, SixelDcsFeedStatus, SixelImage, SixelReceiver, Status};
 pub enum Came {
     /// All of them are the image's own, and more are.
     Part,
-    /// The image has ended, and so many bytes were its own.
+    /// The image has ended, and so many bytes belong to it.
     Whole(SixelImage, usize),
-    /// The sequence was cancelled or interrupted: the image so far, and the bytes that were its own.
+    /// The sequence was cut short: the image so far, and how many bytes belong to it.
     ///
     /// The rest is for the pane.
     CutShort(SixelImage, usize),

@@ -67,7 +67,7 @@ fn decoders(rt: HostRuntime) {
 }
 
 #[test]
-fn register_ranges(_rt: HostRuntime) {
+fn register_ranges(rt: HostRuntime) {
     let mut decoder = SixelDecoder::new();
     decoder.set_registers(1, &[[1, 2, 3], [4, 5, 6]]);
     decoder.set_registers(255, &[[7, 8, 9], [9, 9, 9]]);
@@ -77,7 +77,7 @@ fn register_ranges(_rt: HostRuntime) {
     let mut receiver = SixelReceiver::with_decoder(decoder);
     receiver.set_registers(2, &[[0, 0, 1]]);
     let colors = receiver.registers();
-    assert!(are_set & are_kept & (colors[1] == [1, 2, 3]) & (colors[2] == [0, 0, 1]));
+    assert!(rt; are_set & are_kept & (colors[1] == [1, 2, 3]) & (colors[2] == [0, 0, 1]));
 }
 
 /// Whether one color has a certified palette of itself.

@@ -1,15 +1,13 @@
-use Rattle.std.proofs.Common.{◌≤◌, ◌∙◌, arith}
-use Rattle.sixel_canvas.proofs.BandRows.{struck_counted}
+use Rattle.std.proofs.Common.{◌∙◌, ap}
+use Rattle.std.specs.Prelude.{if◌then◌else◌}
+use Rattle.sixel_canvas.specs.inside.Band.{stored}
+use Rattle.sixel_canvas.proofs.BandRows.{covers_repeated}
 use Rattle.sixel_canvas.proofs.band.draw_eight.Goals as goal
 
-pub drawn-preserved : goal.drawn-preserved
-drawn-preserved c =
-    let before = c.drawn.invariant in
-    let within : c.args.to ≤ c.args.cap = omega (arith, c.requires.narrow, c.requires.within) in (
-      c.fill_eight.ensures.len ∙ before.0,
-      λ d column k inside six.
-          struck_counted c.args.pixels.now c.drawn.pixels c.fill_eight.new.pixels c.args.cap
-          c.args.from c.args.to c.args.bits c.drawn.bit c.args.color d column k inside six
-          c.requires.ordered within (before.1 d column k inside six)
-          (c.counted-count.ensures) (c.fill_eight.ensures.filled d),
-    )
+pub returns-clause-drawn : goal.returns-clause-drawn
+returns-clause-drawn c = λ d column k inside six.
+    let old = stored c.args.pixels.now c.args.cap d column k in
+    c.mix_rows.ensures.drawn d column k inside six
+    ∙ ap (λ hit. if hit then c.args.color else old)
+    (covers_repeated c.args.from c.args.to c.args.bits column k c.repeated.result
+    c.requires.ordered c.requires.narrow c.repeated.ensures)

@@ -1,5 +1,5 @@
 use Rattle.std.proofs.Common.{◌≡◌, ◌≤◌, ◌*◌, ℕ, List, None, false, ap, sym, ◌∙◌, subst, refl}
-use Rattle.std.proofs.Common.{Result, Ok, Err, length, rules}
+use Rattle.std.proofs.Common.{Result, Ok, Err, rules}
 use Rattle.std.specs.Prelude.{IfOk}
 use Rattle.sixel_base.specs.declared.error.SixelError.{SixelError}
 use Rattle.sixel_base.specs.OneShot.{found_fault, IsDecodedAs, IsFoundImage, AreFoundRegisters}

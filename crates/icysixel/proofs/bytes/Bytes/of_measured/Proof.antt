@@ -124,8 +124,9 @@ module _ {M : Type 1} {𝓤 : Ura M} (𝓛 : Logic 𝓤) (at_mem : Memory → SP
       sets ! (agg ! (and_then ! (get ! refl)
       (and_then ! (get ! refl) (and_then ! (get ! refl) (and_then ! (get ! refl) (no_more !))))))
       refl typed $ returns ! (look_at ! 0 refl) $ free_all ! refl $
-      nothing ! $ move ! (2 ∷ 0 ∷ []) $ fjoin ! $ flt_i ! m.capacity (2 ^ 64) fc $ feq_i ! (List Val)
-      (vint w64 m.capacity ∷ []) (vint w64 m.capacity ∷ []) refl $ fjoin ! $ fjoin ! $
+      nothing ! $ move ! (2 ∷ 0 ∷ []) $ fjoin ! $ flt_i ! m.capacity (2 ^ 64) fc $
+      feq_i ! (List Val) (vint w64 m.capacity ∷ []) (vint w64 m.capacity ∷ []) refl $
+      fjoin ! $ fjoin ! $
       flt_i ! m.len (2 ^ 64) fn $ feq_i ! (List Val) (vint w64 m.len ∷ []) (vint w64 m.len ∷ [])
       refl $ fjoin ! $ fjoin ! $
       feq_i ! (List Val) (vptr b o ∷ []) (vptr b o ∷ []) refl $ fjoin ! $ feq_i ! (List Val)
