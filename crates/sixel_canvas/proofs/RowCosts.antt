@@ -158,7 +158,7 @@ empty_thrifty background = record {
   growing = λ less. omega arith;
 }
 
--- a row that no run has reached is sound
+-- a row with no pixel is sound
 pub empty_line : (background : List ℕ) → IsLineOf background (empty_tagged_row background)
 empty_line background = record {
   sound = record {
@@ -204,7 +204,7 @@ spread_most background rows few sound =
     let thrifty = lines_thrifty background rows sound in
     omega (arith, thrifty.spread, pixels_in-most background rows sound, few)
 
--- a row that was reached was made
+-- a row with a column was made
 pub line_made : (rows : List TaggedRowState) (background : List ℕ) (row : ℕ)
     → 0 < length (line_in rows background row).row.pixels → row < length rows
 line_made rows background row some =

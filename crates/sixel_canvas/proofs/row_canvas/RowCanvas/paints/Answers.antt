@@ -12,7 +12,8 @@ overflow_add-spread c =
     let more =
     sum_by_more_le (λ (line : TaggedRowState). line.spread)
     rows c.counted.line-index c.line-item.result c.counted-test.true in
-    let whole = ap (sum_by (λ (line : TaggedRowState). line.spread)) c.deref-line-items.ensures.value in
+    let whole =
+    ap (sum_by (λ (line : TaggedRowState). line.spread)) c.deref-line-items.ensures.value in
     omega (
       arith,
       more,

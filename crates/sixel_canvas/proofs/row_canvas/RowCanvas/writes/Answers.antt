@@ -13,7 +13,8 @@ overflow_add-writes c =
     let more =
     sum_by_more_le (λ (line : TaggedRowState). line.row.writes)
     rows c.counted.line-index c.line-item.result c.counted-test.true in
-    let whole = ap (sum_by (λ (line : TaggedRowState). line.row.writes)) c.deref-line-items.ensures.value in
+    let whole =
+    ap (sum_by (λ (line : TaggedRowState). line.row.writes)) c.deref-line-items.ensures.value in
     omega (
       arith,
       more,
@@ -27,7 +28,8 @@ pub returns-clause-at_most : goal.returns-clause-at_most
 returns-clause-at_most c =
     let canvas = c.self.inside in
     let rows = c.deref-line-items.result.now in
-    let part = sum_by-take-le (λ (line : TaggedRowState). line.row.writes) rows c.counted.line-index in
+    let part =
+    sum_by-take-le (λ (line : TaggedRowState). line.row.writes) rows c.counted.line-index in
     let whole = ap (sum_by (λ (line : TaggedRowState). line.row.writes))
     c.deref-line-items.ensures.value in
     omega (
