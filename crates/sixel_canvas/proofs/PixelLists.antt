@@ -1,9 +1,9 @@
 -- The pixels that bytes are: how many, which of them, and those of bytes that were put together.
-use Rattle.std.proofs.Common.{◌≡◌, ℕ, zero, suc, ◌+◌, ◌-◌, ◌*◌, ◌<◌, ◌≤◌, List, [], ◌∷◌, ◌++◌, length}
+use Rattle.std.proofs.Common.{◌≡◌, ℕ, zero, suc, ◌+◌, ◌-◌, ◌*◌, ◌<◌, ◌≤◌, List, [], ◌∷◌, ◌++◌}
+use Rattle.std.proofs.Common.{length}
 use Rattle.std.proofs.Common.{get_or, take, drop, replicate, refl, ap, ◌∙◌, arith}
 use Rattle.std.proofs.Common.{length-take, length-append}
 use Rattle.std.proofs.Common.{length-drop, sym, inl, inr}
-use Rattle.std.specs.Prelude.{nat_lt, if◌then◌else◌}
 use Rattle.std.proofs.lemmas.Bool.{cases_lt, lt-ltb, le-ltb}
 use Rattle.std.proofs.lemmas.Bool.Decides.{nat_tests}
 use Rattle.std.proofs.lemmas.List.{length-replicate}
@@ -49,7 +49,8 @@ pixels_of-joined color (suc n) four =
     ∙ ap (λ ps. color ∷ ps) (pixels_of-joined color n four)
 
 -- the first ones, and those after them
-pub pixels_of-take : (bytes : List ℕ) (n : ℕ) → pixels_of (take (4 * n) bytes) ≡ take n (pixels_of bytes)
+pub pixels_of-take : (bytes : List ℕ) (n : ℕ)
+    → pixels_of (take (4 * n) bytes) ≡ take n (pixels_of bytes)
 pixels_of-take bytes zero = refl
 pixels_of-take (r ∷ g ∷ b ∷ a ∷ bytes) (suc n) =
     rw (four_more n) (ap (λ ps. (r ∷ g ∷ b ∷ a ∷ []) ∷ ps) (pixels_of-take bytes n))
@@ -58,7 +59,8 @@ pixels_of-take (r ∷ []) (suc n) = rw (four_more n) refl
 pixels_of-take (r ∷ g ∷ []) (suc n) = rw (four_more n) refl
 pixels_of-take (r ∷ g ∷ b ∷ []) (suc n) = rw (four_more n) refl
 
-pub pixels_of-drop : (bytes : List ℕ) (n : ℕ) → pixels_of (drop (4 * n) bytes) ≡ drop n (pixels_of bytes)
+pub pixels_of-drop : (bytes : List ℕ) (n : ℕ)
+    → pixels_of (drop (4 * n) bytes) ≡ drop n (pixels_of bytes)
 pixels_of-drop bytes zero = refl
 pixels_of-drop (r ∷ g ∷ b ∷ a ∷ bytes) (suc n) =
     rw (four_more n) (pixels_of-drop bytes n)
@@ -173,8 +175,8 @@ pub thrifty_written : (background old new bytes : List ℕ) (room writes n : ℕ
     × IsThrifty (row_state background (pixels_of bytes) room writes)
 thrifty_written background old new bytes room writes n same old_long new_long is =
     let before = length-pixels_of old n old_long in
-    let after : length (pixels_of bytes) ≡ n = length-pixels_of bytes n (ap length same ∙ new_long) in
-    (
+    let long = ap length same ∙ new_long in
+    let after : length (pixels_of bytes) ≡ n = length-pixels_of bytes n long in (
       omega (arith, ap length same, new_long, after),
       record {
         held = omega (arith, is.held, before, after);

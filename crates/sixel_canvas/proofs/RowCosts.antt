@@ -1,19 +1,19 @@
 -- What a canvas of rows has cost, against the runs that were drawn on it.
-use Rattle.std.proofs.Common.{◌≡◌, ℕ, zero, suc, ◌+◌, ◌-◌, ◌*◌, ◌<◌, ◌≤◌, ◌⊎◌, true, false, List, []}
+use Rattle.std.proofs.Common.{◌≡◌, ℕ, zero, suc, ◌+◌, ◌-◌, ◌*◌, ◌<◌, ◌≤◌, List, []}
 use Rattle.std.proofs.Common.{◌∷◌, All, length, get_or, max, refl, sym, ap, ◌∙◌, inl, inr, arith}
 use Rattle.std.specs.List.{sum_by}
-use Rattle.std.specs.Prelude.{nat_lt, if◌then◌else◌}
+use Rattle.std.specs.Prelude.{if◌then◌else◌}
 use Rattle.std.proofs.Math.Nat.{mul-suc}
 use Rattle.std.proofs.lemmas.List.Elements.{All-get_or, All-head, All-tail}
-use Rattle.std.proofs.lemmas.List.Sums.{sum_by-cons, sum_by-le}
-use Rattle.std.proofs.lemmas.Bool.{cases_lt, lt-ltb, le-ltb}
+use Rattle.std.proofs.lemmas.List.Sums.{sum_by-cons}
+use Rattle.std.proofs.lemmas.Bool.{cases_lt, lt-ltb}
 use Rattle.sixel_base.specs.Picture.{is_struck, total}
 use Rattle.sixel_canvas.specs.inside.Drawn.{Run, run}
 use Rattle.sixel_canvas.specs.inside.Paints.{counted, ends_and_tags, least_painted}
 use Rattle.sixel_canvas.specs.inside.RowCanvas.{RowCanvasState, AreFewTags, HasCost, IsDrawnBy}
 use Rattle.sixel_canvas.specs.inside.RowCanvas.{IsLineOf}
 use Rattle.sixel_canvas.specs.inside.RowCanvas.{IsRowCanvas, least, line_in, row_canvas_work}
-use Rattle.sixel_canvas.specs.inside.RowCanvas.{row_edge, row_len, runs_least, runs_most}
+use Rattle.sixel_canvas.specs.inside.RowCanvas.{row_edge, row_len, runs_most}
 use Rattle.std.proofs.lemmas.List.{get_or_past}
 use Rattle.sixel_canvas.specs.Row.{IsThrifty, empty_row}
 use Rattle.sixel_canvas.specs.inside.TaggedRow.{TaggedRowState, empty_tagged_row}
@@ -158,7 +158,7 @@ empty_thrifty background = record {
   growing = λ less. omega arith;
 }
 
--- a row that no run has reached is sound
+-- a row with no pixel is sound
 pub empty_line : (background : List ℕ) → IsLineOf background (empty_tagged_row background)
 empty_line background = record {
   sound = record {
@@ -204,7 +204,7 @@ spread_most background rows few sound =
     let thrifty = lines_thrifty background rows sound in
     omega (arith, thrifty.spread, pixels_in-most background rows sound, few)
 
--- a row that was reached was made
+-- a row with a column was made
 pub line_made : (rows : List TaggedRowState) (background : List ℕ) (row : ℕ)
     → 0 < length (line_in rows background row).row.pixels → row < length rows
 line_made rows background row some =

@@ -1,5 +1,5 @@
 -- The pixels of a row that was painted or grown: how many, and which.
-use Rattle.std.proofs.Common.{◌≡◌, ℕ, zero, suc, ◌+◌, ◌-◌, ◌<◌, ◌≤◌, ◌&&◌, max, List, [], ◌∷◌, ◌++◌}
+use Rattle.std.proofs.Common.{◌≡◌, ℕ, zero, suc, ◌-◌, ◌<◌, ◌≤◌, ◌&&◌, max, List, [], ◌∷◌, ◌++◌}
 use Rattle.std.proofs.Common.{length, get_or, take, drop, replicate, refl, ap, ◌∙◌, inl, inr}
 use Rattle.std.proofs.Common.{length-append, length-take, length-drop, get_or-take, get_or-drop}
 use Rattle.std.proofs.Common.{arith}

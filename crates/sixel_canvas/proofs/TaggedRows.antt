@@ -1,5 +1,6 @@
 -- What a row with tags shows once a tag was painted, a run was painted, or its blocks were tagged.
-use Rattle.std.proofs.Common.{◌≡◌, ℕ, ◌+◌, ◌*◌, ◌/◌, ◌%◌, ◌<◌, ◌≤◌, ◌⊎◌, ◌&&◌, min, max, true, false}
+use Rattle.std.proofs.Common.{◌≡◌, ℕ, ◌+◌, ◌*◌, ◌/◌, ◌%◌, ◌<◌, ◌≤◌, ◌⊎◌, ◌&&◌, min, max}
+use Rattle.std.proofs.Common.{true, false}
 use Rattle.std.proofs.Common.{List, length, get_or, refl, sym, ap, ◌∙◌, inl, inr, arith}
 use Rattle.std.specs.Prelude.{nat_lt, nat_le, if◌then◌else◌}
 use Rattle.std.proofs.lemmas.Bool.{cases_eq, cases_lt, lt-ltb, le-ltb, lt-leb, le-leb, true≢false}
@@ -8,8 +9,9 @@ use Rattle.sixel_canvas.specs.Row.{RowState, IsThrifty, painted, reached_to}
 use Rattle.sixel_canvas.specs.inside.TaggedRow.{TaggedRowState, IsTaggedRow, tag_of, tagged_pixel}
 use Rattle.sixel_canvas.specs.inside.TaggedRow.{tagged_row_state}
 use Rattle.sixel_canvas.specs.inside.Tags.{is_tag, no_tag, under}
-use Rattle.sixel_canvas.proofs.RowPixels.{grown_length, grown_pixel, painted_inside, painted_left, painted_length}
-use Rattle.sixel_canvas.proofs.RowPixels.{painted_pixel, painted_right}
+use Rattle.sixel_canvas.proofs.RowPixels.{grown_length, grown_pixel, painted_inside, painted_left}
+use Rattle.sixel_canvas.proofs.RowPixels.{painted_length}
+use Rattle.sixel_canvas.proofs.RowPixels.{painted_right}
 
 -- a pixel under a tag, and under none
 pub over_pixel : (tag pixel : List ℕ) → is_tag tag ≡ true → under tag pixel ≡ tag
@@ -102,7 +104,8 @@ settled_pixel line block from to left right column is whole order left_is right_
                 let tags_same : tag_at ≡ tag_of line (column / 128) =
                 painted_left block (block + 1) no_tag line.tags (column / 128) no_tag (omega arith)
                 (omega (arith, has)) before in
-                let pixel_same : get_or late.pixels column back ≡ get_or line.row.pixels column back =
+                let pixel_same : get_or late.pixels column back
+                ≡ get_or line.row.pixels column back =
                 painted_left right end tag early column back right_order late_held
                 (omega (arith, before, right_is))
                 ∙ painted_left start left tag line.row column back left_order left_held
@@ -114,7 +117,8 @@ settled_pixel line block from to left right column is whole order left_is right_
                 let tags_same : tag_at ≡ tag_of line (column / 128) =
                 painted_right block (block + 1) no_tag line.tags (column / 128) no_tag (omega arith)
                 (omega (arith, has)) after in
-                let pixel_same : get_or late.pixels column back ≡ get_or line.row.pixels column back =
+                let pixel_same : get_or late.pixels column back
+                ≡ get_or line.row.pixels column back =
                 painted_right right end tag early column back right_order late_held
                 (omega (arith, after))
                 ∙ painted_right start left tag line.row column back left_order left_held
@@ -220,7 +224,8 @@ tagged_blocks line from to first last column color first_is last_is some held ta
                     let here : block ≡ to / 128 = omega (arith, after, inside, last_is) in
                     let none : is_tag tag ≡ false =
                     ap is_tag
-                    (painted_right first last color line.tags block no_tag tags_order tags_held after
+                    (painted_right first last color line.tags block no_tag tags_order tags_held
+                    after
                     ∙ ap (tag_of line) here)
                     ∙ right_none in
                     under_nothing tag pixel none

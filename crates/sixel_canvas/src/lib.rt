@@ -1,4 +1,4 @@
-//! The canvas that a SIXEL decoder draws on: rows that are filled only as far as a stroke reaches.
+//! The canvases that a SIXEL decoder draws on: one of rows that grow, and one of a band.
 #![tactic(auto)]
 
 pub mod band;

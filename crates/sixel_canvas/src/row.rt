@@ -1,4 +1,4 @@
-//! A row of the canvas, which doubles its room where it is too small.
+//! A row of the canvas, which doubles its room if it is too small.
 ghost use Rattle.std.specs.Prelude.{◌≡◌, ◌+◌, ◌-◌, ◌*◌, ◌^◌, ◌<◌, ◌≤◌, ◌==◌, ◌++◌, length};
 ghost use Rattle.std.specs.Prelude.{slice_index_or, vec_len, vec_capacity};
 ghost use Rattle.std.specs.Prelude.{nat_lt, if◌then◌else◌, IfErr, IsOk, OnErr, OnOk};
@@ -13,9 +13,9 @@ use sixel_base::{Result, SixelError};
 use std::alloc::Global;
 use std::marker::Model;
 
-/// One row of a canvas: its pixels from the left, up to the last column that was reached.
+/// One row of a canvas: its pixels from the left, up to the last column that was drawn on.
 ///
-/// What lies further right is background that isn't written yet. Contracts see the background,
+/// What lies further right is background that is not written yet. Contracts see the background,
 /// the list of pixels, the room and the writes.
 #[derive(Drop)]
 pub struct Row {
@@ -41,7 +41,7 @@ impl Model for Row {
 }
 
 impl Row {
-    /// A row with no pixel. It takes no memory.
+    /// Returns a row with no pixel. It does not allocate.
     pub fn new(alloc: Global, background: [u8; 4]) -> Row
         ensures empty { result ≡ empty_row background }
         ensures thrifty { IsThrifty result }
@@ -56,8 +56,8 @@ impl Row {
 
     /// Adds background until the row has so many columns, if it has fewer.
     ///
-    /// Where they pass the room, this becomes the greater of the columns and twice the room, the
-    /// latter at most a million, and the pixels move. Only then can memory be refused.
+    /// If they exceed the room, this becomes the greater of the columns and twice the room, the
+    /// latter at most a million, and the pixels move. Only then can an allocation fail.
     pub fn reach(&mut self, columns: usize) -> Result<()>
         requires { columns ≤ 1000000 }
         ensures ok { OnOk result (self.new ≡ reached_to columns self.old) }
@@ -80,7 +80,7 @@ impl Row {
         paint_pixels(&mut self.bytes, from, to, color);
     }
 
-    /// How many pixels the row holds.
+    /// Returns how many pixels the row has.
     pub fn len(&self) -> usize
         ensures value { result ≡ length self.now.pixels }
         ensures thrifty { IsThrifty self.now }
@@ -88,7 +88,7 @@ impl Row {
         self.bytes.len() / 4
     }
 
-    /// Whether the row holds no pixel.
+    /// Whether the row has no pixel.
     pub fn is_empty(&self) -> bool
         ensures value { result ≡ (length self.now.pixels == 0) }
         ensures thrifty { IsThrifty self.now }
@@ -96,7 +96,7 @@ impl Row {
         self.bytes.is_empty()
     }
 
-    /// For how many pixels the row has memory.
+    /// Returns for how many pixels the row has capacity.
     pub fn room(&self) -> usize
         ensures value { result ≡ self.now.room }
         ensures thrifty { IsThrifty self.now }
@@ -104,7 +104,7 @@ impl Row {
         self.room
     }
 
-    /// How many pixels were copied or filled so far, to grow the row. Painting doesn't count.
+    /// Returns how many pixels were copied or filled to grow the row. Painting does not count.
     pub fn writes(&self) -> u64
         ensures value { result ≡ self.now.writes }
         ensures thrifty { IsThrifty self.now }
@@ -152,12 +152,7 @@ impl Row {
     }
 
     /// Appends so many pixels from `from` on, with background where the row is short.
-    pub(crate) fn pack(
-        &self,
-        bytes: &mut Vec<u8>,
-        from: usize,
-        count: usize,
-    ) -> AllocResult<()>
+    pub(crate) fn pack(&self, bytes: &mut Vec<u8>, from: usize, count: usize) -> AllocResult<()>
         requires { vec_len bytes.old + 4 * count < 2 ^ 63 }
         ensures ok { OnOk result (bytes.new.items ≡ bytes.old.items ++ joined (λ k.
             slice_index_or self.now.pixels (from + k) self.now.background) count) }

@@ -62,7 +62,7 @@ pub fn paint_pixels(bytes: &mut [u8], from: usize, to: usize, color: [u8; 4])
     fill_rgba_span(&mut bytes[4 * from..4 * to], color);
 }
 
-/// Fills a span four pixels at a time, and answers where it went on no further.
+/// Fills a span four pixels at a time, and returns where it stopped.
 #[inline(always)]
 fn fill_by_fours(span: &mut [u8], color: [u8; 4]) -> usize
     ensures inside { result ≤ length span.new }

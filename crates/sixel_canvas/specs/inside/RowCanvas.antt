@@ -34,7 +34,7 @@ line_of canvas = line_in canvas.rows canvas.background
 abbrev pub row_canvas_shown : RowCanvasState → ℕ → ℕ → List ℕ
 row_canvas_shown canvas column row = tagged_pixel (line_of canvas row) column
 
--- how many columns of the row were reached
+-- how many columns the row has
 abbrev pub row_len : RowCanvasState → ℕ → ℕ
 row_len canvas row = length (line_of canvas row).row.pixels
 

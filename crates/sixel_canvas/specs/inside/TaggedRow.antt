@@ -16,7 +16,7 @@ pub record TaggedRowState : Type 0 where
 abbrev pub tagged_row_state : RowState → RowState → ℕ → TaggedRowState
 tagged_row_state row tags spread = record { row = row; tags = tags; spread = spread }
 
--- a row that no run has reached
+-- a row with no pixel
 abbrev pub empty_tagged_row : List ℕ → TaggedRowState
 empty_tagged_row background = tagged_row_state (empty_row background) (empty_row no_tag) 0
 

@@ -1,4 +1,4 @@
-use Rattle.std.proofs.Common.{◌≡◌, ◌<◌, ◌≤◌, ◌+◌, ◌-◌, ◌*◌, ◌++◌, length, replicate, sym, ap, ◌∙◌}
+use Rattle.std.proofs.Common.{◌≡◌, ◌<◌, ◌+◌, ◌-◌, ◌*◌, ◌++◌, length, replicate, sym, ap, ◌∙◌}
 use Rattle.std.proofs.Common.{length-append, arith, rules}
 use Rattle.std.specs.Prelude.{nat_lt, if◌then◌else◌}
 use Rattle.sixel_base.specs.Picture.{joined}
@@ -79,8 +79,8 @@ pub invariant_of-self-2 : goal.invariant_of-self-2
 invariant_of-self-2 c =
     let more : length c.args.self.now.pixels < c.args.columns =
     omega (arith, c.len-len.ensures.value, c.if-columns-len.false) in
-    let long = length-pixels_of c.add_pixels-added.new.bytes.items c.args.columns (bytes_long c) in
-    (
+    let bytes = c.add_pixels-added.new.bytes.items in
+    let long = length-pixels_of bytes c.args.columns (bytes_long c) in (
       omega (arith, c.in_ok-reserve.ensures.enough, c.add_pixels-added.ensures.capacity),
       omega (arith, bytes_long c, long),
       rw (returns-clause-ok c) (thrifty_reached c.args.columns c.args.self.now c.requires more

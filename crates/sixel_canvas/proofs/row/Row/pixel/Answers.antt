@@ -1,4 +1,4 @@
-use Rattle.std.proofs.Common.{◌≡◌, ◌+◌, ◌*◌, ◌≤◌, length, get_or, ap, ◌∙◌, arith}
+use Rattle.std.proofs.Common.{◌+◌, ◌*◌, ◌≤◌, length, get_or, ap, ◌∙◌, arith}
 use Rattle.sixel_canvas.specs.Row.{RowState}
 use Rattle.sixel_canvas.proofs.PixelLists.{pixel_bytes}
 use Rattle.sixel_canvas.proofs.row.Row.pixel.Goals as goal

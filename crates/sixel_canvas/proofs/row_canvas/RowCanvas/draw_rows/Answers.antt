@@ -1,8 +1,8 @@
 use Rattle.std.proofs.lemmas.Bool.{le-ltb, true≢false}
-use Rattle.std.proofs.Common.{◌≡◌, ℕ, ◌+◌, ◌≤◌, ◌<◌, List, false, max, length, refl, sym, ap, ◌∙◌, arith}
+use Rattle.std.proofs.Common.{◌≡◌, ℕ, ◌+◌, ◌<◌, List, false, max, length, sym, ap, ◌∙◌, arith}
 use Rattle.std.specs.Prelude.{nat_le, nat_lt, ◌&&◌, if◌then◌else◌}
 use Rattle.sixel_base.specs.Picture.{is_struck}
-use Rattle.sixel_canvas.specs.inside.RowCanvas.{RowCanvasState, line_in, line_of, row_canvas_shown}
+use Rattle.sixel_canvas.specs.inside.RowCanvas.{RowCanvasState, line_in, row_canvas_shown}
 use Rattle.sixel_canvas.specs.inside.RowCanvas.{row_len}
 use Rattle.sixel_canvas.specs.inside.TaggedRow.{TaggedRowState, empty_tagged_row, tagged_pixel}
 use Rattle.sixel_canvas.proofs.RowCosts.{get_or-made}

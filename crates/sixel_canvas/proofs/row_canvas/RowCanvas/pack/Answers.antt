@@ -11,7 +11,8 @@ packed-init c = (c.in_ok-bytes.ensures.items, omega (arith, c.in_ok-bytes.ensure
 pub packed-preserved : goal.packed-preserved
 unfolding joined
 packed-preserved c =
-    let row = joined (λ column. row_canvas_shown c.args.self.now column c.packed.row) c.args.width in (
+    let row =
+    joined (λ column. row_canvas_shown c.args.self.now column c.packed.row) c.args.width in (
       rw add-one (c.in_ok-pack_row.ensures.ok ∙ ap (λ xs. xs ++ row) c.packed.invariant.0),
       omega (arith, c.in_ok-pack_row.ensures.len, c.packed.invariant.1),
     )
@@ -20,7 +21,8 @@ pub returns-clause-ok : goal.returns-clause-ok
 unfolding picture
 returns-clause-ok c =
     c.packed.invariant.0
-    ∙ ap (joined (λ row. joined (λ column. row_canvas_shown c.args.self.now column row) c.args.width))
+    ∙ ap
+    (joined (λ row. joined (λ column. row_canvas_shown c.args.self.now column row) c.args.width))
     (omega arith)
 
 pub pack_row-requires : goal.pack_row-requires

@@ -1,7 +1,6 @@
 use Rattle.std.proofs.Common.{ap, arith}
 use Rattle.std.specs.List.{sum_by}
-use Rattle.std.proofs.lemmas.Grind.{common_steps}
-use Rattle.std.proofs.lemmas.List.Sums.{sum_by-take-le, sum_by_more_le}
+use Rattle.std.proofs.lemmas.List.Sums.{sum_by_more_le}
 use Rattle.sixel_canvas.specs.inside.TaggedRow.{TaggedRowState}
 use Rattle.sixel_canvas.proofs.RowCosts.{spread_most}
 use Rattle.sixel_canvas.proofs.row_canvas.RowCanvas.paints.Goals as goal
@@ -13,7 +12,8 @@ overflow_add-spread c =
     let more =
     sum_by_more_le (λ (line : TaggedRowState). line.spread)
     rows c.counted.line-index c.line-item.result c.counted-test.true in
-    let whole = ap (sum_by (λ (line : TaggedRowState). line.spread)) c.deref-line-items.ensures.value in
+    let whole =
+    ap (sum_by (λ (line : TaggedRowState). line.spread)) c.deref-line-items.ensures.value in
     omega (
       arith,
       more,

@@ -1,6 +1,5 @@
 use Rattle.std.proofs.Common.{ap, arith}
 use Rattle.std.specs.List.{sum_by}
-use Rattle.std.proofs.lemmas.Grind.{common_steps}
 use Rattle.std.proofs.lemmas.List.Sums.{sum_by-take-le, sum_by_more_le}
 use Rattle.sixel_canvas.specs.inside.RowCanvas.{row_canvas_state}
 use Rattle.sixel_canvas.specs.inside.TaggedRow.{TaggedRowState}
@@ -14,7 +13,8 @@ overflow_add-writes c =
     let more =
     sum_by_more_le (λ (line : TaggedRowState). line.row.writes)
     rows c.counted.line-index c.line-item.result c.counted-test.true in
-    let whole = ap (sum_by (λ (line : TaggedRowState). line.row.writes)) c.deref-line-items.ensures.value in
+    let whole =
+    ap (sum_by (λ (line : TaggedRowState). line.row.writes)) c.deref-line-items.ensures.value in
     omega (
       arith,
       more,
@@ -28,7 +28,8 @@ pub returns-clause-at_most : goal.returns-clause-at_most
 returns-clause-at_most c =
     let canvas = c.self.inside in
     let rows = c.deref-line-items.result.now in
-    let part = sum_by-take-le (λ (line : TaggedRowState). line.row.writes) rows c.counted.line-index in
+    let part =
+    sum_by-take-le (λ (line : TaggedRowState). line.row.writes) rows c.counted.line-index in
     let whole = ap (sum_by (λ (line : TaggedRowState). line.row.writes))
     c.deref-line-items.ensures.value in
     omega (

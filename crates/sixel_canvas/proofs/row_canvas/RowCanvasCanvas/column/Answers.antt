@@ -1,7 +1,6 @@
-use Rattle.std.proofs.Common.{◌≡◌, ℕ, ◌+◌, ◌-◌, ◌<◌, ◌≤◌, max, refl, ap, ◌∙◌, arith}
+use Rattle.std.proofs.Common.{◌≡◌, ◌+◌, ◌-◌, max, refl, ap, ◌∙◌, arith}
 use Rattle.std.specs.Prelude.{IsOk, if◌then◌else◌}
 use Rattle.sixel_base.specs.Picture.{covers, is_struck}
-use Rattle.sixel_canvas.specs.inside.Paints.{counted, least_painted}
 use Rattle.sixel_canvas.specs.inside.RowCanvas.{RowCanvasState, row_canvas_shown, row_len}
 use Rattle.sixel_canvas.proofs.RowBytes.{when_ok}
 use Rattle.sixel_canvas.proofs.RowCosts.{drawn_run, least-each}

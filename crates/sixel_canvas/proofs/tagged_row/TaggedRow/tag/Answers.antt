@@ -1,5 +1,4 @@
-use Rattle.std.proofs.Common.{◌≡◌, ◌≤◌, ◌+◌, ◌*◌, ◌/◌, ◌%◌, min, false, length, sym, ap, ◌∙◌, arith}
-use Rattle.std.specs.Prelude.{nat_le, nat_lt, ◌&&◌, if◌then◌else◌}
+use Rattle.std.proofs.Common.{◌≡◌, ◌≤◌, ◌+◌, ◌*◌, ◌/◌, ◌%◌, min, false, length, ap, ◌∙◌, arith}
 use Rattle.sixel_canvas.specs.Row.{RowState, painted}
 use Rattle.sixel_canvas.specs.inside.TaggedRow.{TaggedRowState, tag_of, tagged_pixel}
 use Rattle.sixel_canvas.specs.inside.TaggedRow.{tagged_row_state}
@@ -43,7 +42,8 @@ returns-clause-drawn c = λ column.
     c.paint-2.ensures.after ∙ ap (painted (last * 128) to color) c.paint.ensures.after in
     ap (λ r. tagged_pixel (tagged_row_state r c.paint-3.new.self all.spread) column) rows
     ∙ ap (λ ts. tagged_pixel (tagged_row_state
-    (painted (last * 128) to color (painted from (first * 128) color all.row)) ts all.spread) column)
+    (painted (last * 128) to color (painted from (first * 128) color all.row)) ts all.spread)
+    column)
     c.paint-3.ensures.after
     ∙ tagged_blocks line from to first last column color first_is (omega arith)
     (omega (arith, first_is, c.requires.whole)) held tags_held c.requires.visible left right
