@@ -1,6 +1,7 @@
 -- What a caller's memory has once one more row of pixels was copied there.
-use Rattle.std.proofs.Common.{◌≡◌, ℕ, ◌+◌, ◌-◌, ◌*◌, ◌/◌, ◌%◌, ◌<◌, ◌≤◌, Bool, true, false, List, ◌++◌}
-use Rattle.std.proofs.Common.{length, get_or, take, drop, refl, sym, ap, ◌∙◌, inl, inr, arith}
+use Rattle.std.proofs.Common.{◌≡◌, ℕ, ◌+◌, ◌-◌, ◌*◌, ◌/◌, ◌%◌, ◌<◌, ◌≤◌, Bool, true, false}
+use Rattle.std.proofs.Common.{List, ◌++◌, length, get_or, take, drop, refl, sym, ap, ◌∙◌, inl, inr}
+use Rattle.std.proofs.Common.{arith}
 use Rattle.std.proofs.Common.{length-take, length-drop, get_or-take, get_or-drop}
 use Rattle.std.specs.Prelude.{nat_le, nat_lt, ◌==◌, ◌&&◌, if◌then◌else◌}
 use Rattle.std.proofs.lemmas.Bool.{cases_lt, lt-ltb, le-ltb, lt-leb, le-leb, eqb-true, ltb-true}
@@ -78,7 +79,8 @@ copied_row shown first rows k n layout old mid part fits less is len copied befo
     ∙ within_row stride 0 wide k byte row inside (omega arith) narrow
     ∙ ap (λ t. row == k && (t && nat_lt byte wide)) (le-leb 0 byte (omega arith)) in
     let pixel = get_or (in_order layout.order (shown (byte / 4) (first + row))) (byte % 4) 0 in
-    let here : (nat_le start at && nat_lt at (start + n)) ≡ true → get_or part (at - start) 0 ≡ pixel =
+    let here : (nat_le start at && nat_lt at (start + n)) ≡ true →
+    get_or part (at - start) 0 ≡ pixel =
     λ is_hit.
     let tests = both (row == k) (nat_lt byte wide) (sym hit ∙ is_hit) in
     let same : row ≡ k = eqb-true row k tests.0 in

@@ -1,6 +1,7 @@
 -- What the bytes of a row are once those of one pixel more were written to it.
 use Rattle.std.proofs.Common.{◌≡◌, ℕ, ◌+◌, ◌*◌, ◌/◌, ◌%◌, ◌<◌, ◌≤◌, List, length, get_or, refl, ◌∙◌}
-use Rattle.std.proofs.Common.{inl, inr, arith, [], ◌∷◌, ◌++◌, ◌-◌, take, drop, ap, get_or-drop, length-drop}
+use Rattle.std.proofs.Common.{inl, inr, arith, [], ◌∷◌, ◌++◌, ◌-◌, take, drop, ap}
+use Rattle.std.proofs.Common.{get_or-drop, length-drop}
 use Rattle.std.specs.Prelude.{slice_set}
 use Rattle.sixel_canvas.specs.inside.FinalRows.{pixel_at}
 use Rattle.std.specs.Prelude.{min, nat_lt, if◌then◌else◌}
@@ -118,7 +119,8 @@ pub row_bytes : (f : List ℕ → List ℕ) (pixels background stored rest : Lis
     ((i : ℕ) → i < length rest → get_or rest i 0 ≡ get_or (f background) (i % 4) 0) →
     length stored + length rest ≡ len → i < len →
     get_or (stored ++ rest) i 0
-    ≡ get_or (f (if nat_lt (i / 4) (length pixels / 4) then pixel_at pixels (i / 4) else background))
+    ≡ get_or (f (if nat_lt (i / 4) (length pixels / 4) then pixel_at pixels (i / 4)
+    else background))
     (i % 4) 0
 row_bytes f pixels background stored rest len i whole row least copied filled all inside =
     let n = min (length pixels) len in
@@ -137,6 +139,7 @@ row_bytes f pixels background stored rest len i whole row least copied filled al
           let same : (i - length stored) % 4 ≡ i % 4 = omega (arith, least, whole, row, right) in
           get_or-append_right stored rest (length stored) i 0 refl right
           ∙ filled (i - length stored) (omega (arith, right, all, inside))
-          ∙ rw (le-ltb (i / 4) (length pixels / 4) (omega (arith, right, least, whole, row, inside)))
+          ∙ rw
+          (le-ltb (i / 4) (length pixels / 4) (omega (arith, right, least, whole, row, inside)))
           (ap (λ j. get_or (f background) j 0) same)
     ]

@@ -1,5 +1,6 @@
--- How rows of pixels lie in a caller's memory: each row begins a stride after the one before it, and
--- the bytes of a pixel stand as the image has them, or with blue and red exchanged.
+-- How rows of pixels lie in a caller's memory: each row begins a stride after the one before it.
+-- The bytes of a pixel stand as the image has them, or with blue and red exchanged. The layout is
+-- this library's own.
 use Rattle.std.specs.Prelude.{◌≡◌, ℕ, ◌+◌, ◌-◌, ◌*◌, ◌/◌, ◌%◌, ◌≤◌, ◌<◌, nat_lt, ◌&&◌, max}
 use Rattle.std.specs.Prelude.{List, [], ◌∷◌, slice_index, if◌then◌else◌}
 use Rattle.sixel_canvas.specs.declared.channels.ChannelOrder.{ChannelOrder}

@@ -15,8 +15,8 @@ pub record Run : Type 0 where
 abbrev pub run : ℕ → ℕ → ℕ → ℕ → Run
 run from to top bits = record { from = from; to = to; top = top; bits = bits }
 
--- what a canvas has cost: how many pixels it wrote as it grew, for how many it has capacity, and how
--- many runs have painted at most
+-- what a canvas has cost: how many pixels it wrote as it grew, for how many it has capacity, and
+-- how many runs have painted at most
 pub record Work : Type 0 where
   pub writes : ℕ
   pub room : ℕ

@@ -21,35 +21,43 @@ mixed-init c =
           (bytes_of (is_set (slice_index sixels 0) bit) (slice_index new 0) c.number-9.result
           c.number.result color (get_or pixels (at + 0) d) (c.chosen-new.ensures 0 (omega arith))
           c.number-9.ensures
-          (c.number.ensures ∙ read_at pixels at 0 at d (omega arith) (omega (arith, c.requires.within))))
+          (c.number.ensures ∙ read_at pixels at 0 at d (omega arith)
+          (omega (arith, c.requires.within))))
           (bytes_of (is_set (slice_index sixels 1) bit) (slice_index new 1) c.number-9.result
           c.number-2.result color (get_or pixels (at + 1) d) (c.chosen-new.ensures 1 (omega arith))
           c.number-9.ensures
-          (c.number-2.ensures ∙ read_at pixels at 1 (at + 1) d (omega arith) (omega (arith, c.requires.within))))
+          (c.number-2.ensures ∙ read_at pixels at 1 (at + 1) d (omega arith)
+          (omega (arith, c.requires.within))))
           (bytes_of (is_set (slice_index sixels 2) bit) (slice_index new 2) c.number-9.result
           c.number-3.result color (get_or pixels (at + 2) d) (c.chosen-new.ensures 2 (omega arith))
           c.number-9.ensures
-          (c.number-3.ensures ∙ read_at pixels at 2 (at + 2) d (omega arith) (omega (arith, c.requires.within))))
+          (c.number-3.ensures ∙ read_at pixels at 2 (at + 2) d (omega arith)
+          (omega (arith, c.requires.within))))
           (bytes_of (is_set (slice_index sixels 3) bit) (slice_index new 3) c.number-9.result
           c.number-4.result color (get_or pixels (at + 3) d) (c.chosen-new.ensures 3 (omega arith))
           c.number-9.ensures
-          (c.number-4.ensures ∙ read_at pixels at 3 (at + 3) d (omega arith) (omega (arith, c.requires.within))))
+          (c.number-4.ensures ∙ read_at pixels at 3 (at + 3) d (omega arith)
+          (omega (arith, c.requires.within))))
           (bytes_of (is_set (slice_index sixels 4) bit) (slice_index new 4) c.number-9.result
           c.number-5.result color (get_or pixels (at + 4) d) (c.chosen-new.ensures 4 (omega arith))
           c.number-9.ensures
-          (c.number-5.ensures ∙ read_at pixels at 4 (at + 4) d (omega arith) (omega (arith, c.requires.within))))
+          (c.number-5.ensures ∙ read_at pixels at 4 (at + 4) d (omega arith)
+          (omega (arith, c.requires.within))))
           (bytes_of (is_set (slice_index sixels 5) bit) (slice_index new 5) c.number-9.result
           c.number-6.result color (get_or pixels (at + 5) d) (c.chosen-new.ensures 5 (omega arith))
           c.number-9.ensures
-          (c.number-6.ensures ∙ read_at pixels at 5 (at + 5) d (omega arith) (omega (arith, c.requires.within))))
+          (c.number-6.ensures ∙ read_at pixels at 5 (at + 5) d (omega arith)
+          (omega (arith, c.requires.within))))
           (bytes_of (is_set (slice_index sixels 6) bit) (slice_index new 6) c.number-9.result
           c.number-7.result color (get_or pixels (at + 6) d) (c.chosen-new.ensures 6 (omega arith))
           c.number-9.ensures
-          (c.number-7.ensures ∙ read_at pixels at 6 (at + 6) d (omega arith) (omega (arith, c.requires.within))))
+          (c.number-7.ensures ∙ read_at pixels at 6 (at + 6) d (omega arith)
+          (omega (arith, c.requires.within))))
           (bytes_of (is_set (slice_index sixels 7) bit) (slice_index new 7) c.number-9.result
           c.number-8.result color (get_or pixels (at + 7) d) (c.chosen-new.ensures 7 (omega arith))
           c.number-9.ensures
-          (c.number-8.ensures ∙ read_at pixels at 7 (at + 7) d (omega arith) (omega (arith, c.requires.within))))
+          (c.number-8.ensures ∙ read_at pixels at 7 (at + 7) d (omega arith)
+          (omega (arith, c.requires.within))))
           k less,
       λ d i. none_mixed at i (is_set (get_or sixels (i - at) 0) bit) color (get_or pixels i d),
     )
