@@ -32,7 +32,7 @@ entry_of-transparent pixels indices pixel h =
     let is : nat_le 128 (get_or pixels (4 * pixel + 3) 0) ≡ false = grind (arith, nat_tests) in
     ap (λ b. cond b (Some (get_or indices pixel 0)) None) is
 
-get_or-entries : (pixels indices : List ℕ) (pixel : ℕ) → pixel < length indices
+pub get_or-entries : (pixels indices : List ℕ) (pixel : ℕ) → pixel < length indices
     → get_or (entries_of pixels indices) pixel None ≡ entry_of pixels indices pixel
 get_or-entries pixels indices pixel h =
     get_or-map-range_with_len (entry_of pixels indices) 0 (length indices) pixel pixel None h

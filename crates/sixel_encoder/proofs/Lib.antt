@@ -46,3 +46,15 @@ pub mod PaintedMarks
 pub mod RegisterNumbers
 pub mod SegmentOrder
 pub mod CompactText
+pub mod Counts
+pub mod FillSteps
+pub mod SegmentSteps
+pub mod SixelBits
+pub mod CompactSteps
+pub mod PenStates
+pub mod EncodedCompact
+pub mod CutSegments
+pub mod PassSteps
+pub mod SegmentFill
+pub mod SegmentMarks
+pub mod SegmentTallies

@@ -1,3 +1,4 @@
 pub mod Indexed
 pub mod Grid
 pub mod Runs
+pub mod Compact
