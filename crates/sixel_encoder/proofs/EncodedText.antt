@@ -18,7 +18,7 @@ use Rattle.sixel_encoder.proofs.TripLimits.{CanRead-new}
 use Rattle.sixel_encoder.proofs.SecondTrip.{image-read_back, image-one_string, text-again}
 
 -- an image that was encoded has no fault
-accepted : {S : Type 0} (result : Result S SixelError) (text : S) (fault : Option SixelError)
+pub accepted : {S : Type 0} (result : Result S SixelError) (text : S) (fault : Option SixelError)
     → result ≡ Ok text
     → MatchOption fault (IfErr result (λ e. e ≡ OutOfMemory)) (λ f. result ≡ Err f) → fault ≡ None
 accepted result text None ok is = refl

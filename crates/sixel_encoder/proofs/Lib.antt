@@ -55,3 +55,15 @@ pub mod Verdicts
 pub mod DitheredIndices
 pub mod DiffusionVisit
 pub mod IndexedText
+pub mod Counts
+pub mod FillSteps
+pub mod SegmentSteps
+pub mod SixelBits
+pub mod CompactSteps
+pub mod PenStates
+pub mod EncodedCompact
+pub mod CutSegments
+pub mod PassSteps
+pub mod SegmentFill
+pub mod SegmentMarks
+pub mod SegmentTallies

@@ -35,7 +35,7 @@ painted_all-append (mark ∷ a) b pen place =
     painted_all-append a b (moved pen mark) (covered_all pen mark place)
 
 -- the pen after some marks, and then more
-moved_by-append : (a b : List Mark) (pen : Pen)
+pub moved_by-append : (a b : List Mark) (pen : Pen)
     → moved_by (a ++ b) pen ≡ moved_by b (moved_by a pen)
 moved_by-append [] b pen = refl
 moved_by-append (mark ∷ a) b pen = moved_by-append a b (moved pen mark)

@@ -19,7 +19,8 @@ pub mask-none : (test : ℕ → Bool) → mask test 0 ≡ 0
 unfolding mask
 mask-none test = refl
 
-mask-more : (test : ℕ → Bool) (n : ℕ) → mask test (n + 1) ≡ mask test n + cond (test n) (2 ^ n) 0
+pub mask-more : (test : ℕ → Bool) (n : ℕ)
+    → mask test (n + 1) ≡ mask test n + cond (test n) (2 ^ n) 0
 unfolding mask
 mask-more test n = let e : n + 1 ≡ suc n = omega arith in ap (mask test) e
 
@@ -42,14 +43,14 @@ weight-le bit h =
     let five : bit ≤ 5 = omega arith in
     pow-le-pow_right two five
 
-length-entries : (image : IndexedImage) → IsIndexed image
+pub length-entries : (image : IndexedImage) → IsIndexed image
     → length (entries_of image.pixels.now image.indices.now) ≡ image.width * image.height
 length-entries image is =
     length-map-range_with_len (entry_of image.pixels.now image.indices.now) 0
     (length image.indices.now) ∙ is.indices
 
 -- the entry of a pixel of the image
-entry_at-inside : (image : IndexedImage) (x row : ℕ) → IsIndexed image → x < image.width
+pub entry_at-inside : (image : IndexedImage) (x row : ℕ) → IsIndexed image → x < image.width
     → row < image.height
     → entry_at (drawing_of image) x row
     ≡ entry_of image.pixels.now image.indices.now (row * image.width + x)
@@ -61,7 +62,7 @@ entry_at-inside image x row is lx lr =
     (omega arith)
 
 -- there is none below the last row
-entry_at-below : (image : IndexedImage) (x row : ℕ) → IsIndexed image → image.height ≤ row
+pub entry_at-below : (image : IndexedImage) (x row : ℕ) → IsIndexed image → image.height ≤ row
     → entry_at (drawing_of image) x row ≡ None
 entry_at-below image x row is h =
     get_or_past (entries_of image.pixels.now image.indices.now) (row * image.width + x) None

@@ -50,15 +50,15 @@ pub length-put : (rows ys : List ℕ) (a k : ℕ) → a + k ≤ length rows → 
     → length (put_mid a k rows ys) ≡ length rows
 length-put rows ys a k h e = grind (arith, places)
 
-put-before : (xs ys : List ℕ) (a k n : ℕ) → a ≤ length xs → n < a
+pub put-before : (xs ys : List ℕ) (a k n : ℕ) → a ≤ length xs → n < a
     → get_or (put_mid a k xs ys) n 0 ≡ get_or xs n 0
 put-before xs ys a k n h l = grind (arith, places)
 
-put-after : (xs ys : List ℕ) (a k n : ℕ) → a + k ≤ length xs → length ys ≡ k → a + k ≤ n
+pub put-after : (xs ys : List ℕ) (a k n : ℕ) → a + k ≤ length xs → length ys ≡ k → a + k ≤ n
     → get_or (put_mid a k xs ys) n 0 ≡ get_or xs n 0
 put-after xs ys a k n h e l = grind (arith, places)
 
-put-within : (xs ys : List ℕ) (a k n : ℕ) → a + k ≤ length xs → length ys ≡ k → n < k
+pub put-within : (xs ys : List ℕ) (a k n : ℕ) → a + k ≤ length xs → length ys ≡ k → n < k
     → get_or (put_mid a k xs ys) (a + n) 0 ≡ get_or ys n 0
 put-within xs ys a k n h e l = grind (arith, places)
 

@@ -4,8 +4,8 @@ use Rattle.std.specs.Prelude.{None, Option, Some, is_some, ◌/◌, ◌==◌}
 use Rattle.std.proofs.Common.{Bool, List, ap, arith, cond, drop, false, get_or, inl, inr, length}
 use Rattle.std.proofs.Common.{not, refl, suc, sym, take, true, zero, ℕ, ◌%◌, ◌*◌, ◌+◌, ◌-◌, ◌<◌}
 use Rattle.std.proofs.Common.{◌^◌}
-use Rattle.std.proofs.Common.{◌∙◌, ◌≡◌}
-use Rattle.std.proofs.lemmas.Bool.{both_ways, cases_lt}
+use Rattle.std.proofs.Common.{◌∙◌, ◌≡◌, ◌≤◌}
+use Rattle.std.proofs.lemmas.Bool.{both_ways, cases_Bool, cases_lt}
 use Rattle.std.proofs.lemmas.List.{get_or-drop, get_or-take, get_or_default, get_or_past}
 use Rattle.std.proofs.lemmas.List.{length-drop, length-take}
 use Rattle.std.proofs.lemmas.List.Elements.{All-from_get_or}
@@ -78,15 +78,15 @@ place-in_band : (band bit width column : ℕ)
 place-in_band band bit width column = omega arith
 
 -- in a band that is not used no pixel has an entry
-pub unused-places : (drawing : Drawing) (band bit column : ℕ) → is_used drawing band ≡ false → bit < 6
-    → column < drawing.width → entry_at drawing column (6 * band + bit) ≡ None
+pub unused-places : (drawing : Drawing) (band bit column : ℕ) → is_used drawing band ≡ false
+    → bit < 6 → column < drawing.width → entry_at drawing column (6 * band + bit) ≡ None
 unused-places drawing band bit column none lb lc =
     ap (λ place. get_or drawing.entries place None) (place-in_band band bit drawing.width column)
     ∙ window-none drawing.entries (6 * band * drawing.width) (6 * drawing.width)
     (bit * drawing.width + column) none (omega (arith, mul-add-lt bit drawing.width column 6 lb lc))
 
 -- six answers of no make 0
-mask-nothing : (test : ℕ → Bool) (n : ℕ) → ((k : ℕ) → k < n → test k ≡ false) → mask test n ≡ 0
+pub mask-nothing : (test : ℕ → Bool) (n : ℕ) → ((k : ℕ) → k < n → test k ≡ false) → mask test n ≡ 0
 unfolding mask
 mask-nothing test zero none = refl
 mask-nothing test (suc n) none =
@@ -161,3 +161,18 @@ used-here drawing column line entry is lc ll e =
     (omega (arith, mul-add-lt bit drawing.width column 6 low lc))
     (omega (arith, place, inside, is.pixels))
     (ap (λ n. get_or drawing.entries n None) place ∙ e)
+
+-- no value at any place of a part of the list
+pub window-blank : (xs : List (Option ℕ)) (from n : ℕ)
+    → ((k : ℕ) → from ≤ k → k < from + n → k < length xs → get_or xs k None ≡ None)
+    → list_any is_some (take n (drop from xs)) ≡ false
+window-blank xs from n none = elim (cases_Bool (list_any is_some (take n (drop from xs)))) [
+  | inr blank ↦ blank
+  | inl some ↦
+      let found = window-some xs from n some in
+      absurd (none-some found.3.0
+      (sym (none (from + found.0) (omega arith) (omega (arith, found.1)) found.2) ∙ found.3.1))
+]
+  where
+    none-some : (entry : ℕ) → None ≡ Some entry → ⊥
+    none-some entry h = cc

@@ -2,12 +2,14 @@
 -- that no pixel has are not defined. A run may cover pixels that a later segment of the band draws
 -- over. The rows of a band share passes, and no band follows the last that is used. Where the plain
 -- text is shorter, that is the text.
-use Rattle.std.specs.Prelude.{ℕ, zero, suc, ◌+◌, ◌-◌, ◌*◌, ◌==◌, nat_le, nat_lt, Bool, true, false}
+use Rattle.std.specs.Prelude.{◌≡◌, ℕ, zero, suc, ◌+◌, ◌-◌, ◌*◌, ◌==◌, nat_le, nat_lt, Bool, true}
 use Rattle.std.specs.Prelude.{◌&&◌, if◌then◌else◌, List, [], ◌∷◌, ◌++◌, length, replicate, take}
-use Rattle.std.specs.Prelude.{codes, Option, Some, None, slice_index_or}
+use Rattle.std.specs.Prelude.{codes, false, Option, Some, None, slice_index_or}
 use Rattle.std.specs.List.{range_with_len, list_any}
 use Rattle.std.specs.Int.Bits.{bit_or, bit_and}
+use Rattle.sixel_base.specs.Payload.{Image}
 use Rattle.sixel_encoder.specs.declared.segments.Segment.{Segment}
+use Rattle.sixel_encoder.specs.Encoding.{IsDrawing}
 use Rattle.sixel_encoder.specs.Marks.{Mark, Pick, Draw, Back, Next, Pen, first_pen, moved_by}
 use Rattle.sixel_encoder.specs.Marks.{marks_payload}
 use Rattle.sixel_encoder.specs.Numbers.{number_of, numbered_definitions}
@@ -84,15 +86,19 @@ to_band (suc band) = Next ∷ []
 abbrev pub nth : List Segment → ℕ → Segment
 nth segments k = slice_index_or segments k record { entry = 0; first = 0; end = 0 }
 
--- the marks of segment k: to its register, and its row from the pen on
+-- the marks of a segment once others are drawn: to its register, and its row from the pen on
+abbrev pub marks_after : Drawing → (ℕ → ℕ) → ℕ → List Segment → Segment → Pen → List Mark
+marks_after drawing number band drawn segment pen =
+    to_segment segment pen
+    ++ (to_register (number segment.entry) pen.register
+    ++ (Draw
+    (segment_row drawing band drawn segment (moved_by (to_segment segment pen) pen).column)
+    ∷ []))
+
+-- the marks of segment k
 abbrev pub segment_marks : Drawing → (ℕ → ℕ) → ℕ → List Segment → ℕ → Pen → List Mark
 segment_marks drawing number band segments k pen =
-    to_segment (nth segments k) pen
-    ++ (to_register (number (nth segments k).entry) pen.register
-    ++ (Draw
-    (segment_row drawing band (take k segments) (nth segments k)
-    (moved_by (to_segment (nth segments k) pen) pen).column)
-    ∷ []))
+    marks_after drawing number band (take k segments) (nth segments k) pen
 
 -- the marks of a band
 abbrev pub segments_marks : Drawing → (ℕ → ℕ) → (ℕ → List Segment) → ℕ → Pen → List Mark
@@ -125,3 +131,8 @@ abbrev pub compact_text : Drawing → List ℕ
 compact_text drawing =
     if nat_lt (length (text_of drawing)) (length (marked_text drawing)) then text_of drawing
     else marked_text drawing
+
+-- the bytes are the compact text of the image
+abbrev pub IsCompactText : Image → ℕ → List ℕ → Type 0
+IsCompactText image max_colors bytes =
+    (drawing : Drawing) × IsDrawing image max_colors drawing × (bytes ≡ compact_text drawing)

@@ -2,3 +2,4 @@ pub mod Indexed
 pub mod Grid
 pub mod Runs
 pub mod Diffusion
+pub mod Compact

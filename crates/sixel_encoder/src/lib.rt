@@ -12,14 +12,20 @@ ghost use Rattle.sixel_encoder.specs.Encoding.{image_fault, IsDrawing, IsText, s
 ghost use Rattle.sixel_encoder.specs.Encoding.{square_value};
 
 mod band;
+mod compact;
 mod decimal;
 mod dither;
 mod entries;
+mod fill;
 mod given_palette;
 mod indices;
 pub mod laws;
+mod numbers;
+mod pen;
+mod pixels;
 mod run_tokens;
 mod runs;
+mod segment_rows;
 mod segments;
 mod source;
 mod text;
@@ -30,7 +36,7 @@ pub use indices::{error_diffusion, palette_indices};
 use sixel_base::settings::{BackgroundMode, PixelAspectRatio};
 use sixel_base::{Result, SixelError};
 use sixel_palette::palette::one_palette;
-pub use source::{Source, encode_source};
+pub use source::{Source, encode_compact_source, encode_source};
 use std::alloc::Global;
 
 /// How an image is encoded.

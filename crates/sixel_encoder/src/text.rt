@@ -36,7 +36,7 @@ pub fn encode_indexed(alloc: Global, image: &IndexedImage<'_>) -> Result<String,
 }
 
 /// Appends the introducer and the parameters: aspect ratio, background, no grid size.
-fn push_parameters(text: &mut String, image: &IndexedImage<'_>) -> Result<(), AllocError>
+pub fn push_parameters(text: &mut String, image: &IndexedImage<'_>) -> Result<(), AllocError>
     ensures { OnOk result
         (string_bytes text.new ≡ string_bytes text.old ++ parameters_text (drawing_of image.now)) }
 {
@@ -46,7 +46,7 @@ fn push_parameters(text: &mut String, image: &IndexedImage<'_>) -> Result<(), Al
 }
 
 /// Appends the raster attributes: a pixel's height and width, then the image's sizes.
-fn push_raster(text: &mut String, image: &IndexedImage<'_>) -> Result<(), AllocError>
+pub fn push_raster(text: &mut String, image: &IndexedImage<'_>) -> Result<(), AllocError>
     ensures { OnOk result
         (string_bytes text.new ≡ string_bytes text.old ++ raster_text (drawing_of image.now)) }
 {
@@ -68,7 +68,7 @@ fn push_palette(text: &mut String, image: &IndexedImage<'_>) -> Result<(), Alloc
 }
 
 /// Appends the definition of one palette entry.
-fn push_definition(text: &mut String, entry: usize, color: [u8; 3]) -> Result<(), AllocError>
+pub fn push_definition(text: &mut String, entry: usize, color: [u8; 3]) -> Result<(), AllocError>
     ensures { OnOk result
         (string_bytes text.new ≡ string_bytes text.old ++ color_definition entry color) }
 {

@@ -1,0 +1,238 @@
+-- The segments that a band is cut into, pixel by pixel: those of one entry are a gap apart.
+use Rattle.std.specs.List.{list_any}
+use Rattle.std.specs.Prelude.{All, None, Option, Some, is_some, nat_le, nat_lt, slice_index_or}
+use Rattle.std.specs.Prelude.{◌%◌, ◌&&◌, ◌/◌, ◌==◌, ◌||◌}
+use Rattle.std.proofs.Common.{Bool, List, [], ap, arith, cond, false, inl, inr, length, not, refl}
+use Rattle.std.proofs.Common.{subst, suc, sym, take, true, zero, ℕ, ◌*◌, ◌++◌, ◌+◌, ◌<◌, ◌∙◌, ◌∷◌}
+use Rattle.std.proofs.Common.{◌≡◌, ◌≤◌}
+use Rattle.std.proofs.lemmas.Bool.{both_ways, cases_Bool, cases_eq}
+use Rattle.std.proofs.lemmas.Bool.Decides.{nat_tests}
+use Rattle.std.proofs.lemmas.List.Elements.{All-from_get_or}
+use Rattle.sixel_encoder.specs.declared.segments.Segment.{Segment}
+use Rattle.sixel_encoder.specs.Compact.{is_of, nth}
+use Rattle.sixel_encoder.specs.Segments.{after_pass, band_segments, drawn_segments, gap_of, in_pass}
+use Rattle.sixel_encoder.specs.Segments.{passes, segments_up_to, with_pixel, with_place}
+use Rattle.sixel_encoder.specs.Text.{Drawing, entry_at}
+use Rattle.sixel_encoder.specs.Trip.{IsWritable, is_used}
+use Rattle.sixel_encoder.proofs.SegmentFill.{AreSegments, IsSegment}
+use Rattle.sixel_encoder.proofs.PlainMarks.{known_place}
+use Rattle.sixel_encoder.proofs.UsedBands.{unused-places}
+use Rattle.sixel_encoder.proofs.SegmentTallies.{one, tally}
+
+-- ---- segments that are cut at gaps
+
+-- the segments of the same entry begin at least a gap after this one
+abbrev pub AreAfter : ℕ → Segment → List Segment → Type 0
+AreAfter gap segment [] = Unit {0}
+AreAfter gap segment (other ∷ others) =
+    (other.entry ≡ segment.entry → segment.end + gap ≤ other.first)
+    × AreAfter gap segment others
+
+-- Each segment has one of so many entries and a column, and ends by this one. Those of one entry
+-- are a gap apart.
+abbrev pub AreCut : ℕ → ℕ → ℕ → List Segment → Type 0
+AreCut gap entries bound [] = Unit {0}
+AreCut gap entries bound (segment ∷ segments) =
+    (segment.entry < entries) × (segment.first < segment.end) × (segment.end ≤ bound)
+    × AreAfter gap segment segments × AreCut gap entries bound segments
+
+-- they end by a greater column, too
+pub AreCut-wider : (gap entries bound wider : ℕ) (segments : List Segment) → bound ≤ wider
+    → AreCut gap entries bound segments → AreCut gap entries wider segments
+AreCut-wider gap entries bound wider [] l are = tt
+AreCut-wider gap entries bound wider (segment ∷ segments) l are = (
+  are.0,
+  are.1,
+  omega (arith, are.2),
+  are.3,
+  AreCut-wider gap entries bound wider segments l are.4,
+)
+
+-- Past a segment that is near there is none of its entry.
+pub AreAfter-near :
+    (gap entries bound column : ℕ) (segment longer : Segment) (segments : List Segment)
+    → longer.entry ≡ segment.entry → column < segment.end + gap → bound ≤ column + 1
+    → AreAfter gap segment segments → AreCut gap entries bound segments
+    → AreAfter gap longer segments
+AreAfter-near gap entries bound column segment longer [] same near l after are = tt
+AreAfter-near gap entries bound column segment longer (other ∷ others) same near l after are = (
+  λ e. absurd (omega (arith, after.0 (e ∙ same), are.1, are.2)),
+  AreAfter-near gap entries bound column segment longer others same near l after.1 are.4,
+)
+
+-- a pixel's own segment begins a gap after this one, too
+pub AreAfter-pixel : (gap column entry : ℕ) (segment : Segment) (segments : List Segment)
+    → (entry ≡ segment.entry → segment.end + gap ≤ column) → AreAfter gap segment segments
+    → AreAfter gap segment (with_pixel gap column entry segments)
+AreAfter-pixel gap column entry segment [] new after = (new, tt)
+AreAfter-pixel gap column entry segment (other ∷ others) new after =
+    go (other.entry == entry && nat_lt column (other.end + gap))
+    (AreAfter-pixel gap column entry segment others new after.1)
+  where
+    go : (b : Bool) → AreAfter gap segment (with_pixel gap column entry others)
+        → AreAfter gap segment
+        (cond b (record { entry = other.entry; first = other.first; end = column + 1 } ∷ others)
+        (other ∷ with_pixel gap column entry others))
+    go true rest = after
+    go false rest = (after.0, rest)
+
+-- one more pixel keeps them cut
+pub AreCut-pixel : (gap entries bound column entry : ℕ) (segments : List Segment)
+    → bound ≤ column + 1 → entry < entries → AreCut gap entries bound segments
+    → AreCut gap entries (column + 1) (with_pixel gap column entry segments)
+AreCut-pixel gap entries bound column entry [] l known are =
+    (known, omega arith, omega arith, tt, tt)
+AreCut-pixel gap entries bound column entry (segment ∷ segments) l known are =
+    go (segment.entry == entry && nat_lt column (segment.end + gap)) refl
+    (AreCut-pixel gap entries bound column entry segments l known are.4)
+  where
+    go : (b : Bool) → segment.entry == entry && nat_lt column (segment.end + gap) ≡ b
+        → AreCut gap entries (column + 1) (with_pixel gap column entry segments)
+        → AreCut gap entries (column + 1)
+        (cond b
+        (record { entry = segment.entry; first = segment.first; end = column + 1 } ∷ segments)
+        (segment ∷ with_pixel gap column entry segments))
+    go true e rest =
+        let near : column < segment.end + gap = grind (arith, nat_tests) in (
+          are.0,
+          omega (arith, are.1, are.2),
+          omega arith,
+          AreAfter-near gap entries bound column segment
+              record { entry = segment.entry; first = segment.first; end = column + 1 } segments
+              refl near l are.3 are.4,
+          AreCut-wider gap entries bound (column + 1) segments l are.4,
+        )
+    go false e rest = (
+      are.0,
+      are.1,
+      omega (arith, are.2),
+      AreAfter-pixel gap column entry segment segments (λ same. far e same) are.3,
+      rest,
+    )
+      where
+        far : segment.entry == entry && nat_lt column (segment.end + gap) ≡ false
+            → entry ≡ segment.entry → segment.end + gap ≤ column
+        far e same = grind (arith, nat_tests)
+
+-- ---- what their pixels are
+
+-- whether a pixel is one of a segment's, as a number
+pub of-is : (x entry : ℕ) (segment : Segment) → entry ≡ segment.entry → segment.first ≤ x
+    → x < segment.end → one (is_of x (Some entry) segment) ≡ 1
+of-is x entry segment same low high = grind (arith, nat_tests)
+
+-- of a segment that begins later
+pub of-before : (x entry : ℕ) (segment : Segment) → (segment.entry ≡ entry → x < segment.first)
+    → one (is_of x (Some entry) segment) ≡ 0
+of-before x entry segment before =
+    elim (cases_eq segment.entry entry) [
+      | inl same ↦ let l = before same in grind (arith, nat_tests)
+      | inr apart ↦ grind (arith, nat_tests)
+    ]
+
+-- at most one
+pub one-few : (b : Bool) → one b ≤ 1
+one-few true = omega arith
+one-few false = omega arith
+
+-- no segment after this one has a column of it
+pub none-after : (gap x entry : ℕ) (segment : Segment) (segments : List Segment) → x < segment.end
+    → segment.entry ≡ entry → AreAfter gap segment segments
+    → tally (is_of x (Some entry)) segments ≡ 0
+none-after gap x entry segment [] l same after = refl
+none-after gap x entry segment (other ∷ others) l same after =
+    omega (
+      arith,
+      of-before x entry other (λ e. omega (arith, after.0 (e ∙ sym same))),
+      none-after gap x entry segment others l same after.1,
+    )
+
+-- so a pixel is in at most one segment
+pub few-cut : (gap entries bound x entry : ℕ) (segments : List Segment)
+    → AreCut gap entries bound segments → tally (is_of x (Some entry)) segments ≤ 1
+few-cut gap entries bound x entry [] are = omega arith
+few-cut gap entries bound x entry (segment ∷ segments) are =
+    go (is_of x (Some entry) segment) refl (few-cut gap entries bound x entry segments are.4)
+  where
+    go : (b : Bool) → is_of x (Some entry) segment ≡ b
+        → tally (is_of x (Some entry)) segments ≤ 1
+        → one (is_of x (Some entry) segment) + tally (is_of x (Some entry)) segments ≤ 1
+    go true e rest =
+        let high : x < segment.end = grind (arith, nat_tests) in
+        let same : segment.entry ≡ entry = grind (arith, nat_tests) in
+        omega (
+          arith,
+          none-after gap x entry segment segments high same are.3,
+          one-few (is_of x (Some entry) segment),
+        )
+    go false e rest = omega (arith, rest, ap one e)
+
+-- a segment that grows keeps its pixels
+pub of-longer : (x e column : ℕ) (segment : Segment) → segment.end ≤ column + 1
+    → one (is_of x (Some e) segment)
+    ≤ one (is_of x (Some e)
+    record { entry = segment.entry; first = segment.first; end = column + 1 })
+of-longer x e column segment l =
+    go (is_of x (Some e) segment) refl
+  where
+    longer : Segment
+    longer = record { entry = segment.entry; first = segment.first; end = column + 1 }
+
+    go : (b : Bool) → is_of x (Some e) segment ≡ b
+        → one (is_of x (Some e) segment) ≤ one (is_of x (Some e) longer)
+    go true is =
+        let same : e ≡ segment.entry = grind (arith, nat_tests) in
+        let low : segment.first ≤ x = grind (arith, nat_tests) in
+        let high : x < segment.end = grind (arith, nat_tests) in
+        omega (arith, of-is x e longer same low (omega arith), one-few (is_of x (Some e) segment))
+    go false is = omega (arith, ap one is)
+
+-- one more pixel takes none away
+pub tally-pixel : (gap entries bound column entry x e : ℕ) (segments : List Segment)
+    → bound ≤ column + 1 → AreCut gap entries bound segments
+    → tally (is_of x (Some e)) segments
+    ≤ tally (is_of x (Some e)) (with_pixel gap column entry segments)
+tally-pixel gap entries bound column entry x e [] l are = omega arith
+tally-pixel gap entries bound column entry x e (segment ∷ segments) l are =
+    go (segment.entry == entry && nat_lt column (segment.end + gap))
+    (tally-pixel gap entries bound column entry x e segments l are.4)
+  where
+    go : (b : Bool)
+        → tally (is_of x (Some e)) segments
+        ≤ tally (is_of x (Some e)) (with_pixel gap column entry segments)
+        → one (is_of x (Some e) segment) + tally (is_of x (Some e)) segments
+        ≤ tally (is_of x (Some e))
+        (cond b
+        (record { entry = segment.entry; first = segment.first; end = column + 1 } ∷ segments)
+        (segment ∷ with_pixel gap column entry segments))
+    go true rest = omega (arith, of-longer x e column segment (omega (arith, are.2)))
+    go false rest = omega (arith, rest)
+
+-- and adds its own
+pub own-pixel : (gap entries bound column entry : ℕ) (segments : List Segment)
+    → bound ≤ column + 1 → AreCut gap entries bound segments
+    → 1 ≤ tally (is_of column (Some entry)) (with_pixel gap column entry segments)
+own-pixel gap entries bound column entry [] l are =
+    omega (
+      arith,
+      of-is column entry record { entry = entry; first = column; end = column + 1 } refl
+          (omega arith) (omega arith),
+    )
+own-pixel gap entries bound column entry (segment ∷ segments) l are =
+    go (segment.entry == entry && nat_lt column (segment.end + gap)) refl
+    (own-pixel gap entries bound column entry segments l are.4)
+  where
+    longer : Segment
+    longer = record { entry = segment.entry; first = segment.first; end = column + 1 }
+
+    go : (b : Bool) → segment.entry == entry && nat_lt column (segment.end + gap) ≡ b
+        → 1 ≤ tally (is_of column (Some entry)) (with_pixel gap column entry segments)
+        → 1 ≤ tally (is_of column (Some entry))
+        (cond b
+        (record { entry = segment.entry; first = segment.first; end = column + 1 } ∷ segments)
+        (segment ∷ with_pixel gap column entry segments))
+    go true e rest =
+        let same : entry ≡ segment.entry = grind (arith, nat_tests) in
+        let of = of-is column entry longer same (omega (arith, are.1, are.2)) (omega arith) in
+        omega (arith, of)
+    go false e rest = omega (arith, rest)

@@ -1,0 +1,166 @@
+-- One pixel more of a band, and one segment more of a pass.
+use Rattle.std.specs.Prelude.{None, Option, Some, nat_le, nat_lt, slice_index_or, ◌&&◌, ◌/◌, ◌==◌}
+use Rattle.std.specs.Prelude.{◌%◌}
+use Rattle.std.proofs.Common.{Bool, List, [], ap, append_assoc, arith, cond, drop, false, inl, inr}
+use Rattle.std.proofs.Common.{length, refl, replicate, set, subst, suc, sym, true, zero, ℕ, ◌*◌}
+use Rattle.std.proofs.Common.{◌++◌, ◌+◌, ◌<◌}
+use Rattle.std.proofs.Common.{◌-◌, ◌∙◌, ◌∷◌, ◌≡◌, ◌≢◌, ◌≤◌, ◌⊎◌, length-append}
+use Rattle.std.proofs.lemmas.Bool.{cases_eq, cases_lt}
+use Rattle.std.proofs.lemmas.Bool.Decides.{nat_tests}
+use Rattle.std.proofs.lemmas.Grind.{get_or-set_at}
+use Rattle.std.proofs.lemmas.List.{get_or-set_other, get_or_append_left, get_or_push, length-set}
+use Rattle.std.proofs.Math.Seq.{drop-cons}
+use Rattle.sixel_encoder.specs.declared.segments.Segment.{Segment}
+use Rattle.sixel_encoder.specs.Compact.{nth}
+use Rattle.sixel_encoder.specs.Segments.{after_pass, gap_of, in_pass, passes, segments_up_to}
+use Rattle.sixel_encoder.specs.Segments.{with_pixel, with_place}
+use Rattle.sixel_encoder.specs.Text.{Drawing, entry_at}
+use Rattle.sixel_encoder.specs.inside.Compact.{AreLast}
+
+-- ---- the segments of a band
+
+-- no pixel
+pub segments_up_to-none : (drawing : Drawing) (band : ℕ) → segments_up_to drawing band 0 ≡ []
+unfolding segments_up_to
+segments_up_to-none drawing band = refl
+
+-- one pixel more
+pub segments_up_to-more : (drawing : Drawing) (band n : ℕ)
+    → segments_up_to drawing band (n + 1)
+    ≡ with_place (gap_of drawing) (n / 6) (entry_at drawing (n / 6) (6 * band + n % 6))
+    (segments_up_to drawing band n)
+unfolding segments_up_to
+segments_up_to-more drawing band n =
+    let e : n + 1 ≡ suc n = omega arith in ap (segments_up_to drawing band) e
+
+-- ---- a pass
+
+-- what is drawn and what a pass still draws, after a segment that it draws
+pub pass-take : (segments drawn next whole : List Segment) (column k : ℕ) (segment : Segment)
+    → k < length segments → nth segments k ≡ segment → column ≤ segment.first
+    → next ≡ drawn ++ segment ∷ [] → drawn ++ in_pass column (drop k segments) ≡ whole
+    → next ++ in_pass segment.end (drop (k + 1) segments) ≡ whole
+pass-take segments drawn next whole column k segment l at low is was =
+    let test : nat_le column segment.first ≡ true = grind (arith, nat_tests) in
+    let e : k + 1 ≡ suc k = omega arith in
+    let rest : List Segment = drop (suc k) segments in
+    ap (λ n. n ++ in_pass segment.end (drop (k + 1) segments)) is
+    ∙ (ap (λ i. (drawn ++ segment ∷ []) ++ in_pass segment.end (drop i segments)) e
+    ∙ (append_assoc drawn (segment ∷ []) (in_pass segment.end rest)
+    ∙ (ap (λ s. drawn ++ s)
+    (sym (ap (in_pass column)
+    (drop-cons segments k record { entry = 0; first = 0; end = 0 } l
+    ∙ ap (λ s. s ∷ rest) at)
+    ∙ ap (λ t. cond t (segment ∷ in_pass segment.end rest) (in_pass column rest)) test))
+    ∙ was)))
+
+-- after a segment that it leaves
+pub pass-leave : (segments drawn whole : List Segment) (column k : ℕ) (segment : Segment)
+    → k < length segments → nth segments k ≡ segment → segment.first < column
+    → drawn ++ in_pass column (drop k segments) ≡ whole
+    → drawn ++ in_pass column (drop (k + 1) segments) ≡ whole
+pass-leave segments drawn whole column k segment l at low was =
+    let test : nat_le column segment.first ≡ false = grind (arith, nat_tests) in
+    let e : k + 1 ≡ suc k = omega arith in
+    let rest : List Segment = drop (suc k) segments in
+    ap (λ i. drawn ++ in_pass column (drop i segments)) e
+    ∙ (ap (λ s. drawn ++ s)
+    (sym (ap (in_pass column)
+    (drop-cons segments k record { entry = 0; first = 0; end = 0 } l
+    ∙ ap (λ s. s ∷ rest) at)
+    ∙ ap (λ t. cond t (segment ∷ in_pass segment.end rest) (in_pass column rest)) test))
+    ∙ was)
+
+-- what is left and what a pass still leaves, after a segment that it draws
+pub left-take : (segments left whole : List Segment) (column k : ℕ) (segment : Segment)
+    → k < length segments → nth segments k ≡ segment → column ≤ segment.first
+    → left ++ after_pass column (drop k segments) ≡ whole
+    → left ++ after_pass segment.end (drop (k + 1) segments) ≡ whole
+left-take segments left whole column k segment l at low was =
+    let test : nat_le column segment.first ≡ true = grind (arith, nat_tests) in
+    let e : k + 1 ≡ suc k = omega arith in
+    let rest : List Segment = drop (suc k) segments in
+    ap (λ i. left ++ after_pass segment.end (drop i segments)) e
+    ∙ (ap (λ s. left ++ s)
+    (sym (ap (after_pass column)
+    (drop-cons segments k record { entry = 0; first = 0; end = 0 } l
+    ∙ ap (λ s. s ∷ rest) at)
+    ∙ ap (λ t. cond t (after_pass segment.end rest) (segment ∷ after_pass column rest)) test))
+    ∙ was)
+
+-- after a segment that it leaves
+pub left-leave : (segments left next whole : List Segment) (column k : ℕ) (segment : Segment)
+    → k < length segments → nth segments k ≡ segment → segment.first < column
+    → next ≡ left ++ segment ∷ [] → left ++ after_pass column (drop k segments) ≡ whole
+    → next ++ after_pass column (drop (k + 1) segments) ≡ whole
+left-leave segments left next whole column k segment l at low is was =
+    let test : nat_le column segment.first ≡ false = grind (arith, nat_tests) in
+    let e : k + 1 ≡ suc k = omega arith in
+    let rest : List Segment = drop (suc k) segments in
+    ap (λ n. n ++ after_pass column (drop (k + 1) segments)) is
+    ∙ (ap (λ i. (left ++ segment ∷ []) ++ after_pass column (drop i segments)) e
+    ∙ (append_assoc left (segment ∷ []) (after_pass column rest)
+    ∙ (ap (λ s. left ++ s)
+    (sym (ap (after_pass column)
+    (drop-cons segments k record { entry = 0; first = 0; end = 0 } l
+    ∙ ap (λ s. s ∷ rest) at)
+    ∙ ap (λ t. cond t (after_pass segment.end rest) (segment ∷ after_pass column rest)) test))
+    ∙ was)))
+
+-- ---- all passes
+
+-- no pass
+pub passes-none : (segments : List Segment) → passes 0 segments ≡ segments
+unfolding passes
+passes-none segments = refl
+
+-- one pass, and the others
+pub passes-more : (n : ℕ) (segments : List Segment)
+    → passes (n + 1) segments ≡ in_pass 0 segments ++ passes n (after_pass 0 segments)
+unfolding passes
+passes-more n segments = let e : n + 1 ≡ suc n = omega arith in ap (λ m. passes m segments) e
+
+-- the segments after a pixel with an entry
+pub segment-pixel : (drawing : Drawing) (band n gap entry : ℕ) (items new : List Segment)
+    → gap ≡ gap_of drawing → items ≡ segments_up_to drawing band n
+    → entry_at drawing (n / 6) (6 * band + n % 6) ≡ Some entry
+    → new ≡ with_pixel gap (n / 6) entry items → new ≡ segments_up_to drawing band (n + 1)
+segment-pixel drawing band n gap entry items new wide was at is =
+    is
+    ∙ (ap (λ g. with_pixel g (n / 6) entry items) wide
+    ∙ (ap (with_pixel (gap_of drawing) (n / 6) entry) was
+    ∙ sym (segments_up_to-more drawing band n
+    ∙ ap (λ p. with_place (gap_of drawing) (n / 6) p (segments_up_to drawing band n)) at)))
+
+-- after a transparent one
+pub segment-skip : (drawing : Drawing) (band n : ℕ) (items : List Segment)
+    → items ≡ segments_up_to drawing band n
+    → entry_at drawing (n / 6) (6 * band + n % 6) ≡ None
+    → items ≡ segments_up_to drawing band (n + 1)
+segment-skip drawing band n items was none =
+    was
+    ∙ sym (segments_up_to-more drawing band n
+    ∙ ap (λ p. with_place (gap_of drawing) (n / 6) p (segments_up_to drawing band n)) none)
+
+-- one pass of those that are left
+pub passes-step : (n counter : ℕ) (ordered left next rest whole : List Segment) → counter < n
+    → ordered ++ passes (n - counter) left ≡ whole → next ≡ ordered ++ in_pass 0 left
+    → rest ≡ after_pass 0 left → next ++ passes (n - (counter + 1)) rest ≡ whole
+passes-step n counter ordered left next rest whole l was is remain =
+    let e : n - counter ≡ n - (counter + 1) + 1 = omega arith in
+    ap (λ o. o ++ passes (n - (counter + 1)) rest) is
+    ∙ (ap (λ r. (ordered ++ in_pass 0 left) ++ passes (n - (counter + 1)) r) remain
+    ∙ (append_assoc ordered (in_pass 0 left) (passes (n - (counter + 1)) (after_pass 0 left))
+    ∙ (ap (λ s. ordered ++ s)
+    (sym (ap (λ m. passes m left) e ∙ passes-more (n - (counter + 1)) left))
+    ∙ was)))
+
+-- no value
+abbrev nothing : Option ℕ
+nothing = None
+
+-- a list of nothing has nothing anywhere
+pub none-replicated : (n k : ℕ) → slice_index_or (replicate n (nothing)) k None ≡ None
+none-replicated zero k = refl
+none-replicated (suc n) zero = refl
+none-replicated (suc n) (suc k) = none-replicated n k

@@ -1,0 +1,25 @@
+use Rattle.std.proofs.Common.{◌≡◌, ◌++◌, string_bytes}
+use Rattle.sixel_encoder.specs.Compact.{follow, segments_marks}
+use Rattle.sixel_encoder.specs.Marks.{first_pen, marks_text, moved_by}
+use Rattle.sixel_encoder.specs.Numbers.{number_of}
+use Rattle.sixel_encoder.specs.Segments.{drawn_segments}
+use Rattle.sixel_encoder.specs.inside.Compact.{IsAtPen, IsWriter}
+use Rattle.sixel_encoder.specs.inside.Indexed.{drawing_of}
+use Rattle.sixel_encoder.proofs.compact.encode_marked.Given as goal
+
+abbrev pub invariant-loop-band : goal.invariant-loop-band
+invariant-loop-band l = record {
+  writer : IsWriter l.writer;
+  image : l.writer.image.now ≡ l.fn.image;
+  text : string_bytes l.text
+      ≡ string_bytes l.initial.text
+      ++ marks_text
+      (follow
+      (segments_marks (drawing_of l.fn.image) (number_of (drawing_of l.fn.image))
+      (drawn_segments (drawing_of l.fn.image))) l.band first_pen);
+  pen : IsAtPen l.writer.pen
+      (moved_by
+      (follow
+      (segments_marks (drawing_of l.fn.image) (number_of (drawing_of l.fn.image))
+      (drawn_segments (drawing_of l.fn.image))) l.band first_pen) first_pen);
+}

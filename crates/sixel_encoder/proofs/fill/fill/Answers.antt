@@ -1,0 +1,55 @@
+use Rattle.std.proofs.Common.{◌≡◌, length, refl, slice_index, ℕ, ◌+◌, ◌-◌, ◌<◌, ◌≤◌, take, drop}
+use Rattle.std.proofs.Common.{arith, ap, ◌∙◌, sym}
+use Rattle.std.proofs.lemmas.List.{length-take, length-drop}
+use Rattle.sixel_encoder.proofs.FillSteps.{fill-stay, fill-go, behind, same-replicate}
+use Rattle.sixel_encoder.proofs.fill.fill.Goals as goal
+use Rattle.sixel_encoder.proofs.fill.fill.Goals.{then-more-wider-eq0, else-more-wider-eq0}
+
+pub loop-column-preserved : goal.loop-column-preserved
+loop-column-preserved c =
+    let is = c.loop-column.invariant in
+    let old = c.loop-column.row in
+    let start = c.loop-column.start in
+    let column = c.loop-column.column in
+    let within : start ≤ column = is.within in
+    let long : length old ≡ length c.args.row.now = is.size in
+    let test : column < length c.args.row.now = omega (arith, c.loop-column-test.true) in
+    elim c.if-more-wider-eq0.branch [
+      | then-more-wider-eq0 w ↦ record {
+        size = ap length w.row-is ∙ is.size;
+        within = omega (arith, w.start-is, is.within);
+        filled = fill-stay c.args.row.now c.args.blocked.now old c.if-more-wider-eq0.row _
+            column start _ c.loop-column.bits _ c.loop-column.ban _ test within
+            (is.same column within) w.row-is w.start-is w.bits-is w.ban-is
+            w.if-more-wider-eq0.true is.filled;
+        same = λ k l. ap (λ r. slice_index r k) w.row-is
+            ∙ is.same k (omega (arith, w.start-is, l));
+      }
+      | else-more-wider-eq0 w ↦
+          let n : ℕ = column - start in
+          let size : length w.fill.new.self ≡ n =
+          omega (
+            arith,
+            w.fill.ensures.len,
+            length-take n (drop start old),
+            length-drop start old,
+            long,
+            test,
+            within,
+          ) in
+          record {
+            size = omega (arith, c.if-more-wider-eq0.auto.row, long);
+            within = omega (arith, w.start-is);
+            filled = fill-go c.args.row.now c.args.blocked.now old c.if-more-wider-eq0.row
+                w.fill.new.self _ column start _ c.loop-column.bits _ c.loop-column.ban _ test
+                long within (is.same column within)
+                (same-replicate w.fill.new.self n c.loop-column.bits size
+                (λ k l. w.fill.ensures.clones k 0 (omega (arith, size, w.fill.ensures.len, l))
+                refl))
+                w.row-is w.start-is w.bits-is w.ban-is w.if-more-wider-eq0.false is.filled;
+            same = λ k l. ap (λ r. slice_index r k) w.row-is
+                ∙ (behind old w.fill.new.self start n k
+                (omega (arith, w.start-is, l, within)) (omega (arith, long, test, within)) size
+                ∙ is.same k (omega (arith, w.start-is, l, within)));
+          }
+    ]

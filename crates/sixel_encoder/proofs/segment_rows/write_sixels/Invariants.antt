@@ -1,0 +1,9 @@
+use Rattle.std.proofs.Common.{◌≡◌, ◌+◌, ◌<◌, ℕ, slice_index}
+use Rattle.sixel_encoder.specs.Compact.{own_sixel}
+use Rattle.sixel_encoder.specs.inside.Indexed.{drawing_of}
+use Rattle.sixel_encoder.proofs.segment_rows.write_sixels.Given as goal
+
+abbrev pub invariant-loop-index : goal.invariant-loop-index
+invariant-loop-index l =
+    (k : ℕ) → k < l.index
+    → slice_index l.own k ≡ own_sixel (drawing_of l.image) l.band l.segment (l.from + k)

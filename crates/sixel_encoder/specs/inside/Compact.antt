@@ -1,0 +1,71 @@
+-- The state of the writer of a compact text. It is internal to the encoder: the compact text of a
+-- drawing defines its output.
+use Rattle.std.specs.Prelude.{◌≡◌, ℕ, ◌+◌, ◌<◌, ◌≤◌, ◌⊎◌, List, length, slice_index}
+use Rattle.std.specs.Prelude.{slice_index_or, Option, Some, None}
+use Rattle.sixel_encoder.specs.declared.compact.BandWriter.{BandWriter}
+use Rattle.sixel_encoder.specs.declared.pen.Pen.{Pen as PenState}
+use Rattle.sixel_encoder.specs.declared.segment_rows.SegmentRows.{SegmentRows}
+use Rattle.sixel_encoder.specs.declared.segments.Segment.{Segment}
+use Rattle.sixel_encoder.specs.declared.text.IndexedImage.{IndexedImage}
+use Rattle.sixel_encoder.specs.Compact.{blocked_sixel, nth}
+use Rattle.sixel_encoder.specs.Marks.{Pen}
+use Rattle.sixel_encoder.specs.Numbers.{number_of, rank, runs_of}
+use Rattle.sixel_encoder.specs.Text.{Drawing}
+use Rattle.sixel_encoder.specs.inside.Indexed.{IsIndexed, drawing_of}
+
+-- how many runs each entry has
+pub record AreRuns (drawing : Drawing) (runs : List ℕ) : Type 0 where
+  pub size : length runs ≡ length drawing.colors
+  pub each : (entry : ℕ) → entry < length drawing.colors
+      → slice_index runs entry ≡ runs_of drawing entry
+
+-- the rank of each entry by its runs
+pub record AreRanks (runs numbers : List ℕ) : Type 0 where
+  pub size : length numbers ≡ length runs
+  pub each : (entry : ℕ) → entry < length runs
+      → slice_index numbers entry ≡ rank (slice_index runs) (length runs) entry
+
+-- The last segment of each entry, by its index. Each other segment ended a gap before the column.
+pub record AreLast (segments : List Segment) (last : List (Option ℕ)) (gap column : ℕ)
+    : Type 0 where
+  pub known : (entry k : ℕ) → slice_index_or last entry None ≡ Some k
+      → (k < length segments) × ((nth segments k).entry ≡ entry)
+  pub closed : (k : ℕ) → k < length segments
+      → (slice_index_or last (nth segments k).entry None ≡ Some k)
+      ⊎ ((nth segments k).end + gap ≤ column)
+  pub ended : (k : ℕ) → k < length segments → (nth segments k).end ≤ column + 1
+
+-- the pixels of a band that may not be covered once these segments are drawn
+abbrev pub AreBlocked : Drawing → ℕ → List Segment → List ℕ → Type 0
+AreBlocked drawing band segments blocked =
+    (column : ℕ) → column < drawing.width
+    → slice_index blocked column ≡ blocked_sixel drawing band segments column
+
+-- the rows are this wide
+pub record AreWide (width : ℕ) (rows : SegmentRows) : Type 0 where
+  pub one : length rows.own.items ≡ width
+  pub two : length rows.drawn.items ≡ width
+  pub three : length rows.blocked.items ≡ width
+
+-- the segment has an entry and columns of the image
+pub record IsWithin (image : IndexedImage) (segment : Segment) : Type 0 where
+  pub known : segment.entry < length image.colors.now
+  pub some : segment.first < segment.end
+  pub wide : segment.end ≤ image.width
+
+-- the register of each entry of the image
+pub record AreNumbersOf (image : IndexedImage) (numbers : List ℕ) : Type 0 where
+  pub size : length numbers ≡ length image.colors.now
+  pub each : (entry : ℕ) → entry < length image.colors.now
+      → slice_index numbers entry ≡ number_of (drawing_of image) entry
+
+-- the writer has rows as wide as the image, and the register of each entry
+pub record IsWriter (writer : BandWriter) : Type 0 where
+  pub indexed : IsIndexed writer.image.now
+  pub numbered : AreNumbersOf writer.image.now writer.numbers.now
+  pub wide : AreWide writer.image.now.width writer.rows
+
+-- the code's pen is at the column of a pen and has its register selected
+pub record IsAtPen (state : PenState) (pen : Pen) : Type 0 where
+  pub at : state.column ≡ pen.column
+  pub selected : state.register ≡ pen.register

@@ -1,0 +1,159 @@
+//! The compact SIXEL output of an image whose colors are chosen.
+
+ghost use Rattle.std.specs.Prelude.{◌≡◌, ℕ, List, ◌*◌, ◌<◌, ◌++◌, ◌∷◌, [], IfOk, OnOk};
+ghost use Rattle.std.specs.Prelude.{string_bytes};
+ghost use Rattle.sixel_encoder.specs.declared.segments.Segment.{Segment};
+ghost use Rattle.sixel_encoder.specs.Compact.{compact_text, marked_text, marks_after};
+ghost use Rattle.sixel_encoder.specs.Compact.{segments_marks};
+ghost use Rattle.sixel_encoder.specs.Marks.{Pen as MarkPen, first_pen, marks_text, moved_by};
+ghost use Rattle.sixel_encoder.specs.Numbers.{number_of};
+ghost use Rattle.sixel_encoder.specs.Segments.{drawn_segments};
+ghost use Rattle.sixel_encoder.specs.inside.Compact.{AreBlocked, AreNumbersOf, IsAtPen};
+ghost use Rattle.sixel_encoder.specs.inside.Compact.{IsWithin, IsWriter};
+ghost use Rattle.sixel_encoder.specs.inside.Indexed.{IsIndexed, drawing_of};
+
+use crate::numbers::{count_runs, number_entries, push_numbered};
+use crate::pen::Pen;
+use crate::pixels::used_bands;
+use crate::segment_rows::SegmentRows;
+use crate::segments::{Segment, drawn_segments};
+use crate::text::{IndexedImage, encode_indexed, push_parameters, push_raster};
+use std::alloc::{AllocError, Global};
+
+/// Returns the compact SIXEL output of an image, or the plain one if that is shorter.
+pub fn encode_compact(alloc: Global, image: &IndexedImage<'_>) -> Result<String, AllocError>
+    requires { IsIndexed image.now }
+    ensures { IfOk result (λ text. string_bytes text ≡ compact_text (drawing_of image.now)) }
+{
+    let marked = encode_marked(alloc, image)?;
+    let plain = encode_indexed(alloc, image)?;
+    if plain.len() < marked.len() {
+        return Ok(plain);
+    }
+    Ok(marked)
+}
+
+/// Returns the output in segments that share passes.
+fn encode_marked(alloc: Global, image: &IndexedImage<'_>) -> Result<String, AllocError>
+    requires { IsIndexed image.now }
+    ensures { IfOk result (λ text. string_bytes text ≡ marked_text (drawing_of image.now)) }
+{
+    let runs = count_runs(alloc, image)?;
+    let numbers = number_entries(alloc, &runs)?;
+    let mut text = String::new(alloc);
+    push_parameters(&mut text, image)?;
+    push_raster(&mut text, image)?;
+    push_numbered(&mut text, image, &runs, &numbers)?;
+    let mut writer = BandWriter::new(alloc, image, &numbers)?;
+    for band in 0..used_bands(image) {
+        writer.push_band(alloc, &mut text, band)?;
+    }
+    text.push_str("\x1b\\")?;
+    Ok(text)
+}
+
+/// Writes the bands of a compact output.
+#[derive(Drop)]
+struct BandWriter<'a> {
+    /// The image.
+    image: &'a IndexedImage<'a>,
+    /// The register of each palette entry.
+    numbers: &'a [usize],
+    /// Where the next sixel is written.
+    pen: Pen,
+    /// The rows of the band.
+    rows: SegmentRows,
+}
+
+impl<'a> BandWriter<'a> {
+    /// Returns a writer at the first band.
+    fn new(
+        alloc: Global,
+        image: &'a IndexedImage<'a>,
+        numbers: &'a [usize],
+    ) -> Result<BandWriter<'a>, AllocError>
+        requires image { IsIndexed image.now }
+        requires numbers { AreNumbersOf image.now numbers.now }
+        ensures writer { IfOk result IsWriter }
+        ensures image { IfOk result (λ writer. writer.image.now ≡ image.now) }
+        ensures pen { IfOk result (λ writer. IsAtPen writer.pen first_pen) }
+    {
+        let pen = Pen {
+            column: 0,
+            register: None,
+        };
+        let rows = SegmentRows::new(alloc, image.width)?;
+        Ok(BandWriter {
+            image,
+            numbers,
+            pen,
+            rows,
+        })
+    }
+
+    /// Appends a band.
+    fn push_band(
+        &mut self,
+        alloc: Global,
+        text: &mut String,
+        band: usize,
+    ) -> Result<(), AllocError>
+        requires writer { IsWriter self.old }
+        requires band { 6 * band < self.old.image.now.height }
+        ensures writer { OnOk result (IsWriter self.new) }
+        ensures image { self.new.image ≡ self.old.image }
+        ensures text { OnOk result ((pen : MarkPen) → IsAtPen self.old.pen pen
+            → string_bytes text.new ≡ string_bytes text.old ++ marks_text
+            (segments_marks (drawing_of self.old.image.now)
+            (number_of (drawing_of self.old.image.now))
+            (drawn_segments (drawing_of self.old.image.now)) band pen)) }
+        ensures pen { OnOk result ((pen : MarkPen) → IsAtPen self.old.pen pen → IsAtPen self.new.pen
+            (moved_by (segments_marks (drawing_of self.old.image.now)
+            (number_of (drawing_of self.old.image.now))
+            (drawn_segments (drawing_of self.old.image.now)) band pen) pen)) }
+    {
+        self.pen.begin_band(text, band)?;
+        let segments = drawn_segments(alloc, self.image, band)?;
+        self.rows.begin(self.image, band);
+        for segment in &segments {
+            self.push_segment(text, band, segment)?;
+        }
+        Ok(())
+    }
+
+    /// Appends a segment, from its register to its last sixel.
+    fn push_segment(
+        &mut self,
+        text: &mut String,
+        band: usize,
+        segment: &Segment,
+    ) -> Result<(), AllocError>
+        requires writer { IsWriter self.old }
+        requires band { 6 * band < self.old.image.now.height }
+        requires within { IsWithin self.old.image.now segment.now }
+        ensures writer { OnOk result (IsWriter self.new) }
+        ensures image { self.new.image ≡ self.old.image }
+        ensures text { OnOk result ((drawn : List Segment) (pen : MarkPen)
+            → AreBlocked (drawing_of self.old.image.now) band drawn self.old.rows.blocked.items
+            → IsAtPen self.old.pen pen
+            → string_bytes text.new ≡ string_bytes text.old ++ marks_text
+            (marks_after (drawing_of self.old.image.now) (number_of (drawing_of self.old.image.now))
+            band drawn segment.now pen)) }
+        ensures pen { OnOk result ((drawn : List Segment) (pen : MarkPen)
+            → IsAtPen self.old.pen pen → IsAtPen self.new.pen (moved_by
+            (marks_after (drawing_of self.old.image.now) (number_of (drawing_of self.old.image.now))
+            band drawn segment.now pen) pen)) }
+        ensures blocked { OnOk result ((drawn : List Segment)
+            → AreBlocked (drawing_of self.old.image.now) band drawn self.old.rows.blocked.items
+            → AreBlocked (drawing_of self.old.image.now) band (drawn ++ segment.now ∷ [])
+            self.new.rows.blocked.items) }
+    {
+        self.pen.go_to(text, segment)?;
+        let numbers = self.numbers;
+        self.pen.select(text, numbers[segment.entry])?;
+        let from = self.pen.column;
+        self.pen.column = segment.end;
+        self.rows.push(text, self.image, band, segment, from)?;
+        Ok(())
+    }
+}
