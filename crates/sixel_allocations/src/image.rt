@@ -2,6 +2,7 @@
 
 use crate::picture::error_if;
 use icy_sixel::canvas::Row;
+use icy_sixel::encoder::{Dither, palette_indices};
 use icy_sixel::{Result, SixelImage, choose_palette, refine_palette};
 use std::alloc::Global;
 
@@ -16,11 +17,18 @@ pub const TEXT: &str =
 pub const TEXT_OF_TWO_COLORS: &str =
     "\x1bP9;1;0q\"1;1;3;1#0;2;0;0;0#1;2;100;100;100#0@@?$#1??@$-\x1b\\";
 
+/// The compact text of the pixels in two colors: both rows in one pass.
+pub const COMPACT_TEXT: &str =
+    "\x1bP9;1;0q\"1;1;3;1#0;2;0;0;0#1;2;100;100;100#0@@#1@\x1b\\";
+
 /// The text of an image that cannot be encoded.
 pub const TEXT_OF_ERROR: &str = "[SIXEL encoding failed: invalid dimensions: 0x4]";
 
+/// Two of their colors.
+pub const COLORS: &[[u8; 3]] = &[[0, 0, 0], [255, 255, 255]];
+
 /// The indices of the pixels in two colors.
-const INDICES: &[u8] = &[0, 0, 1];
+pub const INDICES: &[u8] = &[0, 0, 1];
 
 /// The refined palette of two colors.
 const REFINED_COLORS: &[[u8; 3]] = &[[5, 0, 0], [255, 255, 255]];
@@ -73,6 +81,14 @@ pub fn refine_colors(alloc: Global) -> Result<bool> {
                 & (palette.error == 50)
                 & palette.witnesses.is_empty(),
         ),
+        Err(error) => Err(error),
+    }
+}
+
+/// Finds the palette indices of the pixels in two colors. Returns whether they are right.
+pub fn find_indices(alloc: Global, dither: Dither) -> Result<bool> {
+    match palette_indices(alloc, PIXELS, 3, COLORS, dither) {
+        Ok(indices) => Ok(indices.as_slice() == INDICES),
         Err(error) => Err(error),
     }
 }

@@ -10,10 +10,11 @@ mod session;
 mod steps;
 mod unallocated;
 
+use icy_sixel::encoder::Dither;
 use icy_sixel::{DcsSettings, EncodeOptions, Result, SixelDecoder, SixelImage};
 use image::{
-    PIXELS, TEXT, TEXT_OF_ERROR, TEXT_OF_TWO_COLORS, choose_colors, grow_row, is_shown, is_text,
-    refine_colors,
+    COLORS, COMPACT_TEXT, INDICES, PIXELS, TEXT, TEXT_OF_ERROR, TEXT_OF_TWO_COLORS, choose_colors,
+    find_indices, grow_row, is_shown, is_text, refine_colors,
 };
 use picture::{BANDS, DCS, FILLED, OVERDRAWN, PAYLOAD, RUN, RUNS, set_colors};
 use session::{DCS_CHUNKS, PAYLOAD_CHUNKS, Session, draw_payload};
@@ -28,6 +29,7 @@ fn main(rt: HostRuntime) -> io::Result<()> {
     for _pass in 0..2 {
         make_calls_of_decoder(&rt, &mut decoder)?;
         make_calls_of_image(&rt, &image)?;
+        make_calls_of_palette(&rt, &image)?;
     }
     Ok(())
 }
@@ -61,6 +63,8 @@ fn make_calls_of_image(rt: &HostRuntime, image: &SixelImage) -> io::Result<()> {
     let alloc = rt.alloc();
     let text = image.encode_with(alloc, &EncodeOptions { max_colors: 2 });
     tell(rt, "encode_with", is_text(text, TEXT_OF_TWO_COLORS))?;
+    let text = image.encode_compact(alloc, &EncodeOptions { max_colors: 2 });
+    tell(rt, "encode_compact", is_text(text, COMPACT_TEXT))?;
     let text = image.to_display_string(alloc);
     tell(rt, "to_display_string", is_text(text, TEXT))?;
     let text = SixelImage::from_rgba(Vec::new(alloc), 0, 4).to_display_string(alloc);
@@ -75,6 +79,20 @@ fn make_calls_of_image(rt: &HostRuntime, image: &SixelImage) -> io::Result<()> {
     tell(rt, "choose_palette", choose_colors(alloc))?;
     tell(rt, "refine_palette", refine_colors(alloc))?;
     tell(rt, "Row::reach", grow_row(alloc))
+}
+
+/// Makes the calls of an image and a given palette.
+fn make_calls_of_palette(rt: &HostRuntime, image: &SixelImage) -> io::Result<()> {
+    let alloc = rt.alloc();
+    let diffusion = Dither::Diffusion { strength: 8 };
+    let ordered = Dither::Ordered { amplitude: 8 };
+    let text = image.encode_with_palette(alloc, COLORS, diffusion);
+    tell(rt, "encode_with_palette", is_text(text, TEXT_OF_TWO_COLORS))?;
+    let text = image.encode_indexed(alloc, COLORS, INDICES);
+    tell(rt, "encode_indexed", is_text(text, TEXT_OF_TWO_COLORS))?;
+    tell(rt, "nearest indices", find_indices(alloc, Dither::Off))?;
+    tell(rt, "ordered indices", find_indices(alloc, ordered))?;
+    tell(rt, "diffused indices", find_indices(alloc, diffusion))
 }
 
 /// Writes whether a call was right, or its error.

@@ -7,6 +7,9 @@ pub mod host;
 pub mod in_one_call;
 pub mod lists;
 pub mod multiplexer;
+#[cfg(test)]
+mod palette_tests;
+pub mod palettes;
 pub mod pieces;
 pub mod streaming;
 pub mod terminal;

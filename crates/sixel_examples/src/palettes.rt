@@ -1,0 +1,17 @@
+//! Images in a palette of the caller.
+
+use icy_sixel::encoder::{Dither, palette_indices};
+use icy_sixel::{Result, SixelImage};
+use std::alloc::Global;
+
+/// The text of an image in a fixed palette, by error diffusion.
+pub fn encode_diffused(alloc: Global, image: &SixelImage, colors: &[[u8; 3]]) -> Result<String> {
+    let dither = Dither::Diffusion { strength: 8 };
+    image.encode_with_palette(alloc, colors, dither)
+}
+
+/// The text of an image by palette indices, as another quantizer may find them.
+pub fn encode_by_indices(alloc: Global, image: &SixelImage, colors: &[[u8; 3]]) -> Result<String> {
+    let indices = palette_indices(alloc, &image.pixels, image.width, colors, Dither::Off)?;
+    image.encode_indexed(alloc, colors, &indices)
+}
