@@ -21,8 +21,8 @@ SIXEL = [
 ]
 RUN, RUNS = "a run: out of memory", "runs over a run: out of memory"
 SESSIONS = ["decode", "decode_from_dcs", "payload session", "DCS session"]
-OTHERS = ["encode_with", "to_display_string", "to_display_string of an error", "clone"]
-OTHERS += ["from_str", "choose_palette", "Row::reach"]
+OTHERS = ["encode_with", "encode_compact", "to_display_string", "to_display_string of an error"]
+OTHERS += ["clone", "from_str", "choose_palette", "Row::reach"]
 # The lines of sixel_allocations that differ, in the order of the allocations of one pass. The
 # canvas draws without tags if an allocation of tags fails, so no line differs then.
 CALLS = [f"{it}: out of memory" for it in SESSIONS]

@@ -13,7 +13,8 @@ mod unallocated;
 
 use icy_sixel::{DcsSettings, EncodeOptions, Result, SixelDecoder, SixelImage};
 use image::{
-    PIXELS, TEXT, TEXT_OF_ERROR, TEXT_OF_TWO_COLORS, choose_colors, grow_row, is_shown, is_text,
+    COMPACT_TEXT, PIXELS, TEXT, TEXT_OF_ERROR, TEXT_OF_TWO_COLORS, choose_colors, grow_row,
+    is_shown, is_text,
 };
 use picture::{BANDS, DCS, FILLED, OVERDRAWN, PAYLOAD, RUN, RUNS, set_colors};
 use session::{DCS_CHUNKS, PAYLOAD_CHUNKS, Session, draw_payload};
@@ -61,6 +62,8 @@ fn make_calls_of_image(rt: &HostRuntime, image: &SixelImage) -> io::Result<()> {
     let alloc = rt.alloc();
     let text = image.encode_with(alloc, &EncodeOptions { max_colors: 2 });
     tell(rt, "encode_with", is_text(text, TEXT_OF_TWO_COLORS))?;
+    let text = image.encode_compact(alloc, &EncodeOptions { max_colors: 2 });
+    tell(rt, "encode_compact", is_text(text, COMPACT_TEXT))?;
     let text = image.to_display_string(alloc);
     tell(rt, "to_display_string", is_text(text, TEXT))?;
     let text = SixelImage::from_rgba(Vec::new(alloc), 0, 4).to_display_string(alloc);
