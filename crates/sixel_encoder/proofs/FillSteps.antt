@@ -201,8 +201,10 @@ fill-same own own1 blocked blocked1 bits ban count from from1 (suc n) os bs =
         ++ fill_after own1 blocked1 (own1 from1) (blocked1 from1) 1 (range_with_len (from1 + 1) n))
     go o b eo eb rest =
         rw (eo, eb)
-        (rw (rest (bit_or bits (own1 from1)) (bit_or ban (blocked1 from1)) (count + 1),
-        rest (own1 from1) (blocked1 from1) 1) refl)
+        (rw (
+          rest (bit_or bits (own1 from1)) (bit_or ban (blocked1 from1)) (count + 1),
+          rest (own1 from1) (blocked1 from1) 1,
+        ) refl)
 
 -- a fill has six bits in each column, if each own sixel has
 pub All-fill : (own blocked : ℕ → ℕ) → ((column : ℕ) → own column < 64)

@@ -140,9 +140,12 @@ IsFill-fill own blocked apart low bits ban count (column ∷ columns) now small 
                 let e : count + suc k ≡ count + 1 + k = omega arith in
                 rw e (rest.then k (omega arith))
     go false e longer fresh = record {
-      size = omega
-          (arith, fresh.size, length-replicate count bits,
-          length-append (replicate count bits) next);
+      size = omega (
+        arith,
+        fresh.size,
+        length-replicate count bits,
+        length-append (replicate count bits) next,
+      );
       first = λ k l. let same = left k l in rw same (IsFilled-self bits ban now);
       then = λ k l. later k l;
       small = λ k. elim (cases_lt k count) [

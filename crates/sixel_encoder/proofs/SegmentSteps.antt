@@ -184,10 +184,10 @@ AreLast-near segments last gap column entry k near are is at = record {
         ∙ (is ∙ ap Some (sym same)))))
     | inr apart ↦ elim (are.closed j
         (omega (arith, l, length-set segments k (grown column near)))) [
-      | inl own ↦ inl
-          (ap (λ (s : Segment). slice_index_or last s.entry None) (there j apart) ∙ own)
-      | inr far ↦ inr (omega (arith, far, ap (λ (s : Segment). s.end) (there j apart)))
-    ]
+          | inl own ↦ inl
+              (ap (λ (s : Segment). slice_index_or last s.entry None) (there j apart) ∙ own)
+          | inr far ↦ inr (omega (arith, far, ap (λ (s : Segment). s.end) (there j apart)))
+        ]
   ];
   ended = λ j l. elim (cases_eq j k) [
     | inl same ↦ omega (arith, ap (λ (s : Segment). s.end) (here j same))

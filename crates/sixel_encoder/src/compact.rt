@@ -92,12 +92,7 @@ impl<'a> BandWriter<'a> {
     }
 
     /// Appends a band.
-    fn push_band(
-        &mut self,
-        alloc: Global,
-        text: &mut String,
-        band: usize,
-    ) -> Result<(), AllocError>
+    fn push_band(&mut self, alloc: Global, text: &mut String, band: usize) -> Result<(), AllocError>
         requires writer { IsWriter self.old }
         requires band { 6 * band < self.old.image.now.height }
         ensures writer { OnOk result (IsWriter self.new) }

@@ -10,8 +10,12 @@ use Rattle.sixel_encoder.proofs.segment_rows.write_sixels.Goals as goal
 pub returns-clause-small : goal.returns-clause-small
 returns-clause-small c = λ k. elim (cases_lt k (length c.loop-index.own)) [
   | inl inside ↦
-      let low : k < c.loop-index.index = omega (arith, inside, c.loop-index-test.false,
-      c.loop-index.auto.own) in
+      let low : k < c.loop-index.index = omega (
+        arith,
+        inside,
+        c.loop-index-test.false,
+        c.loop-index.auto.own,
+      ) in
       let small =
       mask-small (λ bit. is_of (c.args.from + k)
       (entry_at (drawing_of c.args.image.now) (c.args.from + k) (6 * c.args.band + bit))
