@@ -190,49 +190,6 @@ impl SixelImage {
         encode_compact_source(alloc, &self.source(), options.max_colors)
     }
 
-    /// Returns the compact SIXEL output of this image: the same pixels in fewer bytes.
-    ///
-    /// Its palette is that of [`encode_with`](Self::encode_with), and so are its errors. A decoder
-    /// returns the same image from both outputs. The registers that it has afterwards differ: the
-    /// compact output defines only palette entries that a pixel has, and numbers them by their runs
-    /// of pixels. It is never longer.
-    ///
-    /// Runs may cover pixels that a later run draws over, rows of several colors share a pass, and
-    /// a row ends with its last set pixel.
-    pub fn encode_compact(&self, alloc: Global, options: &EncodeOptions) -> Result<String>
-        ensures refused { MatchOption (image_fault (image_value self.now))
-            (IfErr result (λ e. e ≡ SixelError.OutOfMemory))
-            (λ fault. result ≡ Err fault) }
-        ensures text { IfOk result (λ text.
-            IsCompactText (image_value self.now) options.now.max_colors (string_bytes text)) }
-        ensures hidden { (other : Image) (bytes : List ℕ)
-            → shown_image other ≡ shown_image (image_value self.now)
-            → IsCompactText other options.now.max_colors bytes
-            → IfOk result (λ text. string_bytes text ≡ bytes) }
-        ensures short { (plain : List ℕ)
-            → IsText (image_value self.now) options.now.max_colors plain
-            → IfOk result (λ text. length (string_bytes text) ≤ length plain) }
-        ensures one_string { (limit : ℕ) → self.now.width * banded self.now.height ≤ limit
-            → IfOk result (λ text. IsOneString limit (string_bytes text)) }
-        ensures readable { OnOk result (CanRead new_decoder self.now.width self.now.height) }
-        ensures read_back { (decoder : DecoderState)
-            → CanRead decoder self.now.width self.now.height
-            → IfOk result (λ text. (drawing : Drawing)
-            × IsDrawing (image_value self.now) options.now.max_colors drawing
-            × IsReadAs decoder (string_bytes text) (trip decoder.raster_crop drawing)) }
-    {
-        let source = Source {
-            pixels: &self.pixels,
-            width: self.width,
-            height: self.height,
-            aspect_ratio: self.aspect_ratio,
-            background_mode: self.background_mode,
-        };
-        // A law without work: the clauses `hidden` and `short` follow from it.
-        one_drawing();
-        encode_compact_source(alloc, &source, options.max_colors)
-    }
-
     /// Returns the output of [`encode`](Self::encode), or a line with its error.
     pub fn to_display_string(&self, alloc: Global) -> Result<String>
         ensures memory { IfErr result (λ e. e ≡ SixelError.OutOfMemory) }
