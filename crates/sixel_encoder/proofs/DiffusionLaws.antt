@@ -1,7 +1,7 @@
 -- The laws of error diffusion: errors are bounded, their shares add up to them, and there are none
 -- in an image whose colors the palette has.
-use Rattle.std.proofs.Common.{◌≡◌, ℕ, zero, suc, ◌+◌, ◌-◌, ◌*◌, ◌<◌, ◌≤◌, min, List, [], ◌∷◌, Bool}
-use Rattle.std.proofs.Common.{true, false, cond, length, get_or, refl, ap, sym, subst, ◌∙◌, arith}
+use Rattle.std.proofs.Common.{◌≡◌, ℕ, zero, suc, ◌+◌, ◌-◌, ◌*◌, ◌<◌, ◌≤◌, List, [], ◌∷◌, Bool}
+use Rattle.std.proofs.Common.{true, false, cond, length, refl, ap, sym, subst, ◌∙◌, arith}
 use Rattle.std.proofs.Common.{inl, inr, nat_le}
 use Rattle.std.specs.Prelude.{◌/◌, ◌%◌, ◌==◌, All, Contains, slice_index, slice_index_or}
 use Rattle.std.proofs.lemmas.Bool.{cases_lt}
@@ -11,7 +11,7 @@ use Rattle.std.proofs.lemmas.List.Elements.{All-cons, All-nil}
 use Rattle.std.proofs.lemmas.Nat.{mul-le}
 use Rattle.sixel_palette.specs.Palette.{AreIndices, IsNearest, IsOpaque, color_at, distance}
 use Rattle.sixel_palette.proofs.PaletteDistance.{below_three, distance_self, same_from_distance}
-use Rattle.sixel_encoder.specs.Dithering.{AreNearestTo, Diffused, HasTarget, before_share}
+use Rattle.sixel_encoder.specs.Dithering.{AreNearestTo, Diffused, before_share}
 use Rattle.sixel_encoder.specs.Dithering.{below_share, channel_error, diffused_color, error_back}
 use Rattle.sixel_encoder.specs.Dithering.{errors_of, next_share, no_error, opaque_error, passed_on}
 use Rattle.sixel_encoder.specs.Dithering.{received, rest_share, rounded_sixteenths, serpentine}

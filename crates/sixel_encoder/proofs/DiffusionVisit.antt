@@ -1,5 +1,5 @@
 -- One visit of error diffusion: its target, its error, and what its pixel receives.
-use Rattle.std.proofs.Common.{◌≡◌, ◌≢◌, ℕ, zero, suc, ◌+◌, ◌-◌, ◌*◌, ◌<◌, ◌≤◌, List, [], ◌∷◌, Bool}
+use Rattle.std.proofs.Common.{◌≡◌, ℕ, suc, ◌+◌, ◌-◌, ◌*◌, ◌<◌, ◌≤◌, List, [], ◌∷◌}
 use Rattle.std.proofs.Common.{true, false, cond, length, set, refl, ap, sym, subst, ◌∙◌, arith}
 use Rattle.std.proofs.Common.{inl, inr, nat_le}
 use Rattle.std.specs.Prelude.{slice_index, slice_index_or, ◌%◌, ◌==◌}
@@ -12,7 +12,7 @@ use Rattle.sixel_encoder.specs.declared.indices.diffusion.Neighbors.{Neighbors}
 use Rattle.sixel_encoder.specs.Dithering.{Diffused, channel_error, column_of_step, error_above}
 use Rattle.sixel_encoder.specs.Dithering.{error_back, error_before, error_behind, error_beyond}
 use Rattle.sixel_encoder.specs.Dithering.{no_error, opaque_error, passed_on, rounded_sixteenths}
-use Rattle.sixel_encoder.specs.Dithering.{serpentine, sixteenths, target_of_visit, visit_error}
+use Rattle.sixel_encoder.specs.Dithering.{serpentine, sixteenths, target_of_visit}
 use Rattle.sixel_encoder.specs.inside.Diffusion.{AreReceived, AreSixteenths, IsBeyond, IsLine}
 use Rattle.sixel_encoder.specs.inside.Diffusion.{IsVisit, color_error, diffused_of, received_of}
 use Rattle.sixel_encoder.specs.inside.Diffusion.{rounded_color}

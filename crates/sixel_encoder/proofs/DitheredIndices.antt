@@ -1,16 +1,13 @@
 -- Palette indices that are stored one after the other, and those of whole rows.
 use Rattle.std.proofs.Common.{◌≡◌, ℕ, ◌+◌, ◌*◌, ◌<◌, List, length, get_or, set, sym, subst, ap, ◌∙◌}
 use Rattle.std.proofs.Common.{arith, inl, inr}
-use Rattle.std.specs.Prelude.{◌/◌, ◌==◌, false, true, None, Option}
+use Rattle.std.specs.Prelude.{◌/◌, None}
 use Rattle.std.proofs.Math.Nat.{mul_comm}
 use Rattle.std.proofs.lemmas.Bool.{cases_lt}
 use Rattle.std.proofs.lemmas.Bool.Decides.{nat_tests}
 use Rattle.std.proofs.lemmas.List.{get_or-set_other, get_or-set_same}
 use Rattle.std.proofs.lemmas.Nat.{div-mul-add}
-use Rattle.sixel_base.specs.CallFault.{color_count_fault}
 use Rattle.sixel_base.specs.Payload.{Image}
-use Rattle.sixel_base.specs.Size.{verdict}
-use Rattle.sixel_base.specs.declared.error.SixelError.{SixelError}
 use Rattle.sixel_palette.specs.Palette.{AreIndices, color_at}
 use Rattle.sixel_encoder.specs.Dithering.{AreNearestTo, HasTarget, rows_fault, whole_rows}
 use Rattle.sixel_encoder.specs.Encoding.{image_fault}

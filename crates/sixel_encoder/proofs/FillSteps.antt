@@ -2,10 +2,9 @@
 use Rattle.std.specs.Int.Bits.{bit_and, bit_or}
 use Rattle.std.specs.List.{range_with_len}
 use Rattle.std.specs.Prelude.{All, slice_index, ◌==◌}
-use Rattle.std.proofs.Common.{Bool, List, [], ap, append_assoc, arith, cond, false, inl, inr}
+use Rattle.std.proofs.Common.{Bool, List, [], ap, append_assoc, arith, cond, false}
 use Rattle.std.proofs.Common.{length, refl, replicate, suc, sym, take, true, zero, ℕ, ◌++◌, ◌+◌}
 use Rattle.std.proofs.Common.{◌-◌, ◌<◌, ◌∙◌, ◌∷◌, ◌≡◌, ◌≢◌, ◌≤◌}
-use Rattle.std.proofs.lemmas.Bool.{cases_lt}
 use Rattle.std.proofs.lemmas.Bool.Decides.{nat_tests}
 use Rattle.std.proofs.lemmas.List.{get_or-drop, length-replicate}
 use Rattle.std.proofs.lemmas.List.Elements.{All-append, All-replicate}

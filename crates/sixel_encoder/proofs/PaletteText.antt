@@ -1,7 +1,7 @@
 -- What is known of the text of an image in a given palette once it is returned: the image has no
 -- fault, a new decoder can read the text, and colors of transparent pixels do not affect it.
-use Rattle.std.proofs.Common.{◌≡◌, ℕ, ◌*◌, List, length, refl, ap, sym, ◌∙◌, arith}
-use Rattle.std.specs.Prelude.{Option, Some, None, Result, Ok, Err, IfOk, OnOk, ◌/◌}
+use Rattle.std.proofs.Common.{◌≡◌, ℕ, List, length, refl, ap, sym, ◌∙◌, arith}
+use Rattle.std.specs.Prelude.{Option, Some, None, Result, Ok, Err, IfOk, OnOk}
 use Rattle.std.specs.Option.{option_or}
 use Rattle.std.proofs.Math.Nat.{mul_comm}
 use Rattle.sixel_base.specs.CallFault.{CallFault, FailsBy, color_count_fault}

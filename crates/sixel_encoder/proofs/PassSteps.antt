@@ -1,21 +1,17 @@
 -- One pixel more of a band, and one segment more of a pass.
-use Rattle.std.specs.Prelude.{None, Option, Some, nat_le, nat_lt, slice_index_or, ◌&&◌, ◌/◌, ◌==◌}
+use Rattle.std.specs.Prelude.{None, Option, Some, nat_le, slice_index_or, ◌/◌}
 use Rattle.std.specs.Prelude.{◌%◌}
-use Rattle.std.proofs.Common.{Bool, List, [], ap, append_assoc, arith, cond, drop, false, inl, inr}
-use Rattle.std.proofs.Common.{length, refl, replicate, set, subst, suc, sym, true, zero, ℕ, ◌*◌}
+use Rattle.std.proofs.Common.{List, [], ap, append_assoc, arith, cond, drop, false}
+use Rattle.std.proofs.Common.{length, refl, replicate, suc, sym, true, zero, ℕ, ◌*◌}
 use Rattle.std.proofs.Common.{◌++◌, ◌+◌, ◌<◌}
-use Rattle.std.proofs.Common.{◌-◌, ◌∙◌, ◌∷◌, ◌≡◌, ◌≢◌, ◌≤◌, ◌⊎◌, length-append}
-use Rattle.std.proofs.lemmas.Bool.{cases_eq, cases_lt}
+use Rattle.std.proofs.Common.{◌-◌, ◌∙◌, ◌∷◌, ◌≡◌, ◌≤◌}
 use Rattle.std.proofs.lemmas.Bool.Decides.{nat_tests}
-use Rattle.std.proofs.lemmas.Grind.{get_or-set_at}
-use Rattle.std.proofs.lemmas.List.{get_or-set_other, get_or_append_left, get_or_push, length-set}
 use Rattle.std.proofs.Math.Seq.{drop-cons}
 use Rattle.sixel_encoder.specs.declared.segments.Segment.{Segment}
 use Rattle.sixel_encoder.specs.Compact.{nth}
 use Rattle.sixel_encoder.specs.Segments.{after_pass, gap_of, in_pass, passes, segments_up_to}
 use Rattle.sixel_encoder.specs.Segments.{with_pixel, with_place}
 use Rattle.sixel_encoder.specs.Text.{Drawing, entry_at}
-use Rattle.sixel_encoder.specs.inside.Compact.{AreLast}
 
 -- ---- the segments of a band
 

@@ -1,13 +1,13 @@
 -- The text of a graphics new line and of a graphics carriage return, and the pen after it.
 use Rattle.std.specs.Prelude.{nat_le}
-use Rattle.std.proofs.Common.{Bool, List, [], ap, arith, cond, false, refl, suc, sym, true, zero, ℕ}
+use Rattle.std.proofs.Common.{List, [], ap, arith, cond, false, refl, suc, sym, true, zero, ℕ}
 use Rattle.std.proofs.Common.{◌++◌, ◌<◌, ◌∙◌, ◌∷◌, ◌≡◌, ◌≤◌}
 use Rattle.std.proofs.lemmas.Bool.Decides.{nat_tests}
 use Rattle.std.proofs.lemmas.List.{append-nil}
 use Rattle.sixel_encoder.specs.declared.pen.Pen.{Pen as PenState}
 use Rattle.sixel_encoder.specs.declared.segments.Segment.{Segment}
 use Rattle.sixel_encoder.specs.Compact.{to_band, to_segment}
-use Rattle.sixel_encoder.specs.Marks.{Back, Next, Pen, marks_text, moved, moved_by}
+use Rattle.sixel_encoder.specs.Marks.{Back, Pen, marks_text, moved, moved_by}
 use Rattle.sixel_encoder.specs.inside.Compact.{IsAtPen}
 
 -- nothing before the first band

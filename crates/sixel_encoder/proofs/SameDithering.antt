@@ -1,8 +1,8 @@
 -- Images that show the same have the same indices at their opaque pixels, so one drawing.
-use Rattle.std.proofs.Common.{◌≡◌, ℕ, zero, suc, ◌+◌, ◌-◌, ◌*◌, ◌<◌, ◌≤◌, List, [], ◌∷◌, cond}
+use Rattle.std.proofs.Common.{◌≡◌, ℕ, zero, suc, ◌+◌, ◌*◌, ◌<◌, ◌≤◌, List, [], ◌∷◌, cond}
 use Rattle.std.proofs.Common.{length, true, false, get_or, refl, ap, sym, subst, ◌∙◌, arith, inl}
 use Rattle.std.proofs.Common.{inr, nat_le}
-use Rattle.std.specs.Prelude.{◌/◌, ◌%◌, None, Option, Some, slice_index, slice_index_or}
+use Rattle.std.specs.Prelude.{◌/◌, ◌%◌, None, Some, slice_index, slice_index_or}
 use Rattle.std.proofs.lemmas.Bool.{cases_lt}
 use Rattle.std.proofs.lemmas.Bool.Decides.{nat_tests}
 use Rattle.std.proofs.lemmas.List.{ext_get_or}
@@ -13,9 +13,9 @@ use Rattle.sixel_palette.proofs.PaletteLaw.{index_same}
 use Rattle.sixel_base.specs.Payload.{Image}
 use Rattle.sixel_encoder.specs.declared.dither.Dither.{Dither}
 use Rattle.sixel_encoder.specs.declared.dither.Dither.TheVariants.{Diffusion, Off, Ordered}
-use Rattle.sixel_encoder.specs.Dithering.{AreDithered, Diffused, HasTarget, diffused_color}
+use Rattle.sixel_encoder.specs.Dithering.{AreDithered, Diffused}
 use Rattle.sixel_encoder.specs.Dithering.{eighths, errors_of, moved_channel, no_error}
-use Rattle.sixel_encoder.specs.Dithering.{opaque_error, ordered_color, passed_on, received}
+use Rattle.sixel_encoder.specs.Dithering.{opaque_error, passed_on, received}
 use Rattle.sixel_encoder.specs.Dithering.{rounded_sixteenths, serpentine, sixteenths, target_of}
 use Rattle.sixel_encoder.specs.Dithering.{target_of_visit, threshold, visit_error, with_received}
 use Rattle.sixel_encoder.specs.Encoding.{shown_image}

@@ -2,35 +2,30 @@
 -- segments of a drawing have to be.
 use Rattle.std.specs.Int.{bit_at}
 use Rattle.std.specs.List.{list_any, range_with_len}
-use Rattle.std.specs.Prelude.{All, None, Option, Some, is_some, nat_le, slice_index}
-use Rattle.std.specs.Prelude.{slice_index_or, ◌/◌, ◌==◌, ◌||◌}
-use Rattle.std.proofs.Common.{Bool, List, [], ap, arith, cond, false, inl, inr, length, max}
-use Rattle.std.proofs.Common.{refl, subst, suc, sym, take, true, zero, ℕ, ◌*◌, ◌++◌, ◌+◌, ◌-◌}
-use Rattle.std.proofs.Common.{◌<◌, ◌∙◌, ◌∷◌, ◌≡◌, ◌≤◌}
+use Rattle.std.specs.Prelude.{All, None, Option, Some, slice_index}
+use Rattle.std.specs.Prelude.{slice_index_or, ◌/◌, ◌==◌}
+use Rattle.std.proofs.Common.{Bool, List, arith, false, inl, inr, length}
+use Rattle.std.proofs.Common.{subst, suc, take, true, zero, ℕ, ◌*◌, ◌+◌, ◌-◌}
+use Rattle.std.proofs.Common.{◌<◌, ◌∙◌, ◌≡◌, ◌≤◌}
 use Rattle.std.proofs.lemmas.Bool.{both_ways, cases_Bool, cases_lt}
 use Rattle.std.proofs.lemmas.Bool.Decides.{nat_tests}
-use Rattle.std.proofs.lemmas.List.Elements.{All-from_get_or}
 use Rattle.std.proofs.lemmas.List.FromFn.{get_or-range_with_len, length-range_with_len}
 use Rattle.std.proofs.lemmas.Nat.Bits.{bit_at-lt, bit_at_above}
 use Rattle.sixel_base.specs.Picture.{is_set}
 use Rattle.sixel_encoder.specs.declared.segments.Segment.{Segment}
-use Rattle.sixel_encoder.specs.Compact.{blocked_sixel, follow, is_blocked, is_of, is_selected, nth}
-use Rattle.sixel_encoder.specs.Compact.{own_sixel, painted_marks, segment_marks, segment_row}
-use Rattle.sixel_encoder.specs.Compact.{segments_marks, to_band, to_register, to_segment}
-use Rattle.sixel_encoder.specs.Marks.{AreDefinitions, Back, Definition, Draw, Draws, Mark}
-use Rattle.sixel_encoder.specs.Marks.{Pen, Pick, first_pen, is_lit, moved, moved_by}
+use Rattle.sixel_encoder.specs.Compact.{blocked_sixel, follow, is_blocked, is_of, nth}
+use Rattle.sixel_encoder.specs.Compact.{own_sixel, segment_row}
+use Rattle.sixel_encoder.specs.Marks.{AreDefinitions, Definition, Mark}
+use Rattle.sixel_encoder.specs.Marks.{Pen, is_lit, moved_by}
 use Rattle.sixel_encoder.specs.Marks.{register_entry}
-use Rattle.sixel_encoder.specs.Text.{Drawing, bands, entry_at, mask}
-use Rattle.sixel_encoder.specs.Trip.{IsWritable, bands_up_to, is_used}
-use Rattle.sixel_encoder.proofs.DrawnHeight.{bands_up_to-le, bands_up_to-passed}
+use Rattle.sixel_encoder.specs.Text.{Drawing, entry_at, mask}
+use Rattle.sixel_encoder.specs.Trip.{is_used}
 use Rattle.sixel_encoder.proofs.EntryRows.{IsInBand}
 use Rattle.sixel_encoder.proofs.GreedyFill.{AreApart, IsFill, IsFill-fill, IsFilled}
-use Rattle.sixel_encoder.proofs.MarkSteps.{Leads, Leads-append, Places, painted-place}
+use Rattle.sixel_encoder.proofs.MarkSteps.{Leads, Leads-append, Places}
 use Rattle.sixel_encoder.proofs.MarkSteps.{painted_all}
-use Rattle.sixel_encoder.proofs.PlainMarks.{nothing_drawn}
 use Rattle.sixel_encoder.proofs.RowPixels.{is_lit-past}
 use Rattle.sixel_encoder.proofs.SixBits.{is_set-mask, mask-small}
-use Rattle.sixel_encoder.proofs.UsedBands.{used-here}
 
 -- ---- what the registers and the segments have to be
 

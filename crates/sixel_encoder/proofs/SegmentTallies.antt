@@ -1,22 +1,15 @@
 -- How many segments pass a test, pass by pass.
 use Rattle.std.specs.List.{list_any}
-use Rattle.std.specs.Prelude.{All, None, Option, Some, is_some, nat_le, nat_lt, slice_index_or}
-use Rattle.std.specs.Prelude.{◌%◌, ◌&&◌, ◌/◌, ◌==◌, ◌||◌}
-use Rattle.std.proofs.Common.{Bool, List, [], ap, arith, cond, false, inl, inr, length, not, refl}
-use Rattle.std.proofs.Common.{subst, suc, sym, take, true, zero, ℕ, ◌*◌, ◌++◌, ◌+◌, ◌<◌, ◌∙◌, ◌∷◌}
+use Rattle.std.specs.Prelude.{nat_le}
+use Rattle.std.specs.Prelude.{◌||◌}
+use Rattle.std.proofs.Common.{Bool, List, [], ap, arith, cond, false, length, not, refl}
+use Rattle.std.proofs.Common.{suc, take, true, zero, ℕ, ◌++◌, ◌+◌, ◌<◌, ◌∷◌}
 use Rattle.std.proofs.Common.{◌≡◌, ◌≤◌}
-use Rattle.std.proofs.lemmas.Bool.{both_ways, cases_Bool, cases_eq}
-use Rattle.std.proofs.lemmas.Bool.Decides.{nat_tests}
-use Rattle.std.proofs.lemmas.List.Elements.{All-from_get_or}
 use Rattle.sixel_encoder.specs.declared.segments.Segment.{Segment}
-use Rattle.sixel_encoder.specs.Compact.{is_of, nth}
-use Rattle.sixel_encoder.specs.Segments.{after_pass, band_segments, drawn_segments, gap_of, in_pass}
-use Rattle.sixel_encoder.specs.Segments.{passes, segments_up_to, with_pixel, with_place}
-use Rattle.sixel_encoder.specs.Text.{Drawing, entry_at}
-use Rattle.sixel_encoder.specs.Trip.{IsWritable, is_used}
-use Rattle.sixel_encoder.proofs.SegmentFill.{AreSegments, IsSegment}
-use Rattle.sixel_encoder.proofs.PlainMarks.{known_place}
-use Rattle.sixel_encoder.proofs.UsedBands.{unused-places}
+use Rattle.sixel_encoder.specs.Compact.{nth}
+use Rattle.sixel_encoder.specs.Segments.{after_pass, band_segments, drawn_segments, in_pass}
+use Rattle.sixel_encoder.specs.Segments.{passes}
+use Rattle.sixel_encoder.specs.Text.{Drawing}
 
 -- ---- how many segments pass a test
 

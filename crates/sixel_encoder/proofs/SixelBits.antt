@@ -3,7 +3,7 @@ use Rattle.std.specs.Int.{bit_at}
 use Rattle.std.specs.Int.Bits.{bit_or}
 use Rattle.std.specs.List.{list_any, range_with_len}
 use Rattle.std.specs.Prelude.{None, Option, Some, nat_le, nat_lt, slice_index, ◌&&◌, ◌||◌}
-use Rattle.std.proofs.Common.{Bool, List, [], ap, arith, cond, drop, false, inl, inr, length, max}
+use Rattle.std.proofs.Common.{Bool, List, [], ap, arith, cond, drop, false, inl, inr}
 use Rattle.std.proofs.Common.{refl}
 use Rattle.std.proofs.Common.{subst, sym, true, ℕ, ◌*◌, ◌++◌, ◌+◌, ◌-◌, ◌<◌, ◌^◌, ◌∙◌, ◌∷◌, ◌≡◌}
 use Rattle.std.proofs.Common.{◌≤◌}

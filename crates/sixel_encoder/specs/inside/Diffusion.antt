@@ -1,6 +1,6 @@
 -- The state of error diffusion between two visits: which pixels have their index, and the line of
 -- the latest errors, one a column. It only saves space: the definitions list all errors.
-use Rattle.std.specs.Prelude.{◌≡◌, ◌≢◌, ℕ, ◌+◌, ◌-◌, ◌*◌, ◌/◌, ◌%◌, ◌<◌, ◌≤◌, ◌==◌}
+use Rattle.std.specs.Prelude.{◌≡◌, ◌≢◌, ℕ, ◌+◌, ◌-◌, ◌*◌, ◌%◌, ◌<◌, ◌≤◌, ◌==◌}
 use Rattle.std.specs.Prelude.{if◌then◌else◌, List, [], ◌∷◌, length, slice_index, slice_index_or}
 use Rattle.sixel_encoder.specs.declared.indices.diffusion.DiffusedImage.{DiffusedImage}
 use Rattle.sixel_encoder.specs.declared.indices.diffusion.Neighbors.{Neighbors}

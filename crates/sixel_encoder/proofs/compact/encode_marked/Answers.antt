@@ -1,6 +1,6 @@
-use Rattle.std.proofs.Common.{◌≡◌, ℕ, ◌+◌, ◌++◌, ◌*◌, ◌<◌, ◌≤◌, List, length, ap, sym, refl, ◌∙◌}
+use Rattle.std.proofs.Common.{◌≡◌, ◌++◌, ap, ◌∙◌}
 use Rattle.std.proofs.Common.{arith}
-use Rattle.std.specs.Prelude.{string_bytes, ◌/◌}
+use Rattle.std.specs.Prelude.{string_bytes}
 use Rattle.sixel_encoder.specs.Compact.{follow, segments_marks}
 use Rattle.sixel_encoder.specs.Marks.{first_pen, marks_text, moved_by}
 use Rattle.sixel_encoder.specs.Numbers.{number_of}

@@ -1,4 +1,4 @@
-use Rattle.std.proofs.Common.{◌≡◌, length, slice_index, ℕ, ◌<◌, ◌≤◌}
+use Rattle.std.proofs.Common.{◌≡◌, slice_index, ℕ, ◌<◌, ◌≤◌}
 use Rattle.std.specs.Int.Bits.{bit_or}
 use Rattle.sixel_encoder.proofs.fill.cover.Given as goal
 

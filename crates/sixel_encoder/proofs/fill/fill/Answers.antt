@@ -1,5 +1,5 @@
-use Rattle.std.proofs.Common.{◌≡◌, length, refl, slice_index, ℕ, ◌+◌, ◌-◌, ◌<◌, ◌≤◌, take, drop}
-use Rattle.std.proofs.Common.{arith, ap, ◌∙◌, sym}
+use Rattle.std.proofs.Common.{◌≡◌, length, refl, slice_index, ℕ, ◌-◌, ◌<◌, ◌≤◌, drop}
+use Rattle.std.proofs.Common.{arith, ap, ◌∙◌}
 use Rattle.std.proofs.lemmas.List.{length-take, length-drop}
 use Rattle.sixel_encoder.proofs.FillSteps.{fill-stay, fill-go, behind, same-replicate}
 use Rattle.sixel_encoder.proofs.fill.fill.Goals as goal

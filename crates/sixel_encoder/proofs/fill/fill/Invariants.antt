@@ -1,4 +1,4 @@
-use Rattle.std.proofs.Common.{◌≡◌, length, slice_index, ℕ, ◌+◌, ◌-◌, ◌≤◌, ◌++◌, take}
+use Rattle.std.proofs.Common.{◌≡◌, length, slice_index, ℕ, ◌-◌, ◌≤◌, ◌++◌, take}
 use Rattle.std.specs.List.{range_with_len}
 use Rattle.sixel_encoder.specs.Compact.{fill_after}
 use Rattle.sixel_encoder.proofs.fill.fill.Given as goal

@@ -3,7 +3,7 @@ use Rattle.std.proofs.Common.{List, ℕ}
 use Rattle.std.specs.Prelude.{◌/◌, All}
 use Rattle.std.proofs.lemmas.List.{get_or_default}
 use Rattle.sixel_encoder.specs.declared.dither.Dither.{Dither}
-use Rattle.sixel_encoder.specs.Dithering.{AreDithered, Diffused, eighths, whole_rows}
+use Rattle.sixel_encoder.specs.Dithering.{AreDithered, Diffused, eighths}
 use Rattle.sixel_encoder.proofs.DiffusionLaws.{AreIndices-exact}
 use Rattle.sixel_encoder.proofs.DitheredIndices.{rows-sound}
 use Rattle.sixel_encoder.proofs.Serpentine.{serpentine-lt}

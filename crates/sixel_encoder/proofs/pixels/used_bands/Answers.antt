@@ -1,4 +1,4 @@
-use Rattle.std.proofs.Common.{◌≡◌, ℕ, ◌+◌, sym, ◌∙◌}
+use Rattle.std.proofs.Common.{◌+◌, sym, ◌∙◌}
 use Rattle.std.proofs.lemmas.Bool.{cond-true, cond-false}
 use Rattle.sixel_encoder.specs.Trip.{bands_up_to, is_used}
 use Rattle.sixel_encoder.specs.inside.Indexed.{drawing_of}

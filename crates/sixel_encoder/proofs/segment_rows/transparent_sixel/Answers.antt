@@ -1,4 +1,4 @@
-use Rattle.std.proofs.Common.{◌≡◌, Bool, ℕ, [], sym, refl, arith, ◌+◌, ◌*◌, ◌∙◌}
+use Rattle.std.proofs.Common.{Bool, ℕ, [], sym, refl, arith, ◌+◌, ◌*◌, ◌∙◌}
 use Rattle.sixel_encoder.specs.Compact.{is_blocked}
 use Rattle.sixel_encoder.specs.Text.{entry_at}
 use Rattle.sixel_encoder.specs.inside.Indexed.{drawing_of}

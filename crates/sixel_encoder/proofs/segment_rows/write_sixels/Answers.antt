@@ -1,4 +1,4 @@
-use Rattle.std.proofs.Common.{◌≡◌, ℕ, ◌+◌, ◌*◌, ◌<◌, length, inl, inr, arith}
+use Rattle.std.proofs.Common.{◌+◌, ◌*◌, ◌<◌, length, inl, inr, arith}
 use Rattle.std.proofs.lemmas.Bool.{cases_lt}
 use Rattle.std.proofs.lemmas.List.{get_or_past}
 use Rattle.sixel_encoder.specs.Compact.{is_of}

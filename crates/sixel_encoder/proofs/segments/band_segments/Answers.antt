@@ -1,5 +1,5 @@
-use Rattle.std.proofs.Common.{◌≡◌, ℕ, ◌+◌, ◌*◌, ◌≤◌, length, ap, sym, refl, ◌∙◌, arith}
-use Rattle.std.specs.Prelude.{None, ◌/◌}
+use Rattle.std.proofs.Common.{◌≡◌, ◌+◌, ◌≤◌, length, ap, sym, refl, ◌∙◌, arith}
+use Rattle.std.specs.Prelude.{◌/◌}
 use Rattle.sixel_encoder.specs.inside.Indexed.{drawing_of}
 use Rattle.sixel_encoder.proofs.SegmentSteps.{AreLast-later, AreLast-none}
 use Rattle.sixel_encoder.proofs.PassSteps.{none-replicated}

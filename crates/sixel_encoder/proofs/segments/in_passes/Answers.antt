@@ -1,4 +1,4 @@
-use Rattle.std.proofs.Common.{◌≡◌, ℕ, ◌+◌, ◌-◌, ◌++◌, length, ap, sym, refl, ◌∙◌, arith}
+use Rattle.std.proofs.Common.{◌≡◌, ◌-◌, ◌++◌, length, ap, sym, ◌∙◌, arith}
 use Rattle.sixel_encoder.specs.Segments.{passes}
 use Rattle.sixel_encoder.proofs.PassSteps.{passes-none, passes-step}
 use Rattle.sixel_encoder.proofs.segments.in_passes.Goals as goal

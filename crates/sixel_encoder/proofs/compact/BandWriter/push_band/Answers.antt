@@ -1,8 +1,8 @@
-use Rattle.std.proofs.Common.{◌≡◌, ℕ, ◌+◌, ◌<◌, List, length, take, ap, sym, subst, refl, ◌∙◌}
+use Rattle.std.proofs.Common.{◌≡◌, length, take, refl, ◌∙◌}
 use Rattle.std.proofs.Common.{arith}
 use Rattle.std.specs.Prelude.{string_bytes}
-use Rattle.sixel_encoder.specs.Compact.{follow, nth, segment_marks, to_band}
-use Rattle.sixel_encoder.specs.Marks.{Pen, moved_by}
+use Rattle.sixel_encoder.specs.Compact.{follow, segment_marks, to_band}
+use Rattle.sixel_encoder.specs.Marks.{moved_by}
 use Rattle.sixel_encoder.specs.Numbers.{number_of}
 use Rattle.sixel_encoder.specs.Segments.{drawn_segments}
 use Rattle.sixel_encoder.specs.inside.Indexed.{drawing_of}

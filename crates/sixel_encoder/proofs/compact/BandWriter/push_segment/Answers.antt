@@ -1,4 +1,4 @@
-use Rattle.std.proofs.Common.{◌≡◌, ◌++◌, ℕ, refl, ap, ◌∙◌, arith}
+use Rattle.std.proofs.Common.{◌++◌, refl, ap, ◌∙◌, arith}
 use Rattle.std.specs.Prelude.{Some, string_bytes}
 use Rattle.sixel_encoder.specs.Compact.{segment_row, to_register}
 use Rattle.sixel_encoder.specs.Marks.{marks_text}

@@ -1,4 +1,4 @@
-use Rattle.std.proofs.Common.{◌≡◌, ℕ, ◌+◌, ◌-◌, ◌*◌, ◌<◌, ◌≤◌, ◌++◌, length, ap, sym, ◌∙◌, arith}
+use Rattle.std.proofs.Common.{◌+◌, ◌*◌, ◌++◌, length, ap, ◌∙◌, arith}
 use Rattle.std.specs.Prelude.{slice_index, string_bytes}
 use Rattle.sixel_encoder.specs.Compact.{is_of}
 use Rattle.sixel_encoder.specs.RunTokens.{row_tokens, written}
