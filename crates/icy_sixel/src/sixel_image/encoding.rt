@@ -5,8 +5,10 @@ ghost use Rattle.std.specs.Prelude.{◌++◌, Some, MatchOption, codes, length, 
 
 use crate::sixel_image::{BackgroundMode, SixelImage};
 use sixel_base::{Result, SixelError};
-use sixel_encoder::{Dither, EncodeOptions, Source, encode_compact_source, encode_in_palette};
-use sixel_encoder::{encode_source, encode_with_indices, one_drawing};
+use sixel_encoder::{
+    Dither, EncodeOptions, Source, encode_compact_source, encode_in_palette, encode_source,
+    encode_with_indices, one_drawing,
+};
 use std::alloc::Global;
 
 impl SixelImage {

@@ -1,9 +1,9 @@
-use Rattle.std.proofs.Common.{◌≡◌, List, ℕ, sym, subst, ◌∙◌, ap}
+use Rattle.std.proofs.Common.{◌≡◌, List, ℕ, sym, subst}
 use Rattle.std.specs.Prelude.{All, IfErr, IfOk, MatchOption, OnOk, Result, Err, string_bytes, ◌<◌}
 use Rattle.sixel_base.specs.declared.error.SixelError.{SixelError}
 use Rattle.sixel_base.specs.declared.error.SixelError.TheVariants.{OutOfMemory}
 use Rattle.sixel_base.specs.Payload.{Image}
-use Rattle.sixel_encoder.specs.Encoding.{IsText, image_fault, shown_image}
+use Rattle.sixel_encoder.specs.Encoding.{IsText, image_fault}
 use Rattle.icy_sixel.specs.ImageView.{image_value}
 use Rattle.sixel_encoder.proofs.EncodedText.{shortest-written, hidden-written, one_string-written}
 use Rattle.sixel_encoder.proofs.EncodedText.{readable-written, read_back-written, again-written}

@@ -1,4 +1,4 @@
-use Rattle.std.proofs.Common.{List, length, sym, subst}
+use Rattle.std.proofs.Common.{length, sym, subst}
 use Rattle.std.specs.Prelude.{IfOk, string_bytes}
 use Rattle.sixel_base.specs.CallFault.{FailsBy, color_count_fault}
 use Rattle.sixel_base.specs.Payload.{Image}
