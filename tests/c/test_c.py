@@ -105,7 +105,7 @@ class TestC(unittest.TestCase):
         self.assertLessEqual(set(declared), set(called))
         *numbers, version = re.findall(r"_VERSION\w* \"?([\d.]+)", header)
         self.assertEqual(".".join(numbers), version)
-        self.assertIn(f"Version: {version}\n", (HEADERS.parent / "icysixel.pc.in").read_text())
+        self.assertIn(f"Version: {version}\n", (ROOT / "out/icysixel.pc").read_text())
         for archive in ARCHIVES:
             with self.subTest(archive=archive.name):
                 names = re.findall(r" (\w) (\w+)$", self.succeeds("nm", archive).decode(), re.M)

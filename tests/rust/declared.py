@@ -4,7 +4,7 @@ import re
 TYPES = {
     "": "void", "u8": "uint8_t", "u16": "uint16_t", "u32": "uint32_t", "u64": "uint64_t",
     "i32": "int32_t", "usize": "size_t", "c_void": "void", "Raw": "icysixel", "Fed": "icysixel_fed",
-    "Size": "icysixel_size", "Shape": "icysixel_shape", "Bytes": "icysixel_bytes",
+    "Size": "icysixel_size", "Shape": "icysixel_shape",
     "Color": "icysixel_color", "Palette": "icysixel_palette",
 }  # fmt: skip
 FUNCTION = r"\bfn (icysixel_\w+)\(([^)]*)\)\s*(?:-> (\w+))?;"

@@ -6,7 +6,6 @@
 
 use crate::codes::{OK, OUT_OF_MEMORY};
 use std::alloc::{Layout, alloc, dealloc, realloc};
-use std::cell::RefCell;
 use std::ffi::c_void;
 
 /// What C calls a handle: a place for a pointer that is the library's own, or zeros.
@@ -46,14 +45,6 @@ pub(crate) struct Shape {
     pub(crate) p2: u8,
 }
 
-/// Bytes in a block that the library has handed over.
-#[repr(C)]
-struct Bytes {
-    data: *mut u8,
-    length: usize,
-    capacity: usize,
-}
-
 /// A color.
 #[repr(C)]
 #[derive(Clone, Copy, Default)]
@@ -84,7 +75,7 @@ unsafe extern "C" {
     safe fn icysixel_get_size_so_far(handle: &mut Raw, size: &mut Size) -> u32;
     safe fn icysixel_get_canvas_paints(handle: &mut Raw) -> u64;
     safe fn icysixel_finish(handle: &mut Raw, shape: &mut Shape) -> u32;
-    safe fn icysixel_take_pixels(handle: &mut Raw, pixels: &mut Bytes) -> u32;
+    safe fn icysixel_discard_image(handle: &mut Raw) -> u32;
     safe fn icysixel_abort(handle: &mut Raw) -> u32;
     safe fn icysixel_get_register(handle: &mut Raw, number: u8, color: &mut Color) -> u32;
     safe fn icysixel_set_register(
@@ -111,6 +102,13 @@ unsafe extern "C" {
         p2: i32,
         grid: i32,
         shape: &mut Shape,
+    ) -> u32;
+    fn icysixel_copy_pixels(
+        handle: &mut Raw,
+        buf: *mut u8,
+        size: usize,
+        stride: usize,
+        wanted: &mut usize,
     ) -> u32;
     fn icysixel_get_registers(handle: &mut Raw, first: u8, colors: *mut Color, count: usize)
     -> u32;
@@ -257,28 +255,27 @@ impl Handle {
         })
     }
 
-    /// Gives the image that a call leaves, in the block in which the library has packed its pixels.
+    /// Copies the image that a call stores, and releases it.
+    ///
+    /// If the copy cannot be allocated, the registers are those from before the call.
     fn image(
         &mut self,
         call: impl FnOnce(&mut Raw, &mut Shape) -> u32,
     ) -> Answer<(Shape, Vec<u8>)> {
+        let before = self.registers();
         let mut shape = Shape::default();
-        let mut pixels = Bytes { data: std::ptr::null_mut(), length: 0, capacity: 0 };
-        BARE.with_borrow_mut(Bare::open);
-        let mut code = call(&mut self.0, &mut shape);
-        if code == OK {
-            code = icysixel_take_pixels(&mut self.0, &mut pixels);
+        answer(call(&mut self.0, &mut shape), ())?;
+        let mut pixels = Vec::new();
+        if pixels.try_reserve_exact(shape.bytes).is_err() {
+            icysixel_discard_image(&mut self.0);
+            self.set_registers(0, &before);
+            return Err(OUT_OF_MEMORY);
         }
-        let size = BARE.with_borrow_mut(|bare| bare.close(pixels.data));
-        let Bytes { data, length, capacity } = answer(code, pixels)?;
-        assert!(length <= capacity && size.is_none_or(|size| capacity <= size));
-        let pixels = match size {
-            // SAFETY: the block has no head, so it was had for so many bytes at an alignment of 1;
-            // the library has given it up, with its first bytes written.
-            Some(size) => unsafe { Vec::from_raw_parts(data, length, size) },
-            // SAFETY: the library has given the block up, with its first bytes written.
-            None => unsafe { copied(data, length) }?,
-        };
+        append(&mut pixels, |buf, size, wanted| {
+            // SAFETY: the pointer and the size are those of the vector's own spare capacity, which
+            // is only written to.
+            unsafe { icysixel_copy_pixels(&mut self.0, buf, size, 0, wanted) }
+        })?;
         Ok((shape, pixels))
     }
 
@@ -393,24 +390,6 @@ pub(crate) fn choose_palette(
     Ok(palette)
 }
 
-/// Copies the bytes out of a block with a head, and frees it.
-///
-/// # Safety
-///
-/// The block was answered by `rattle_alloc` or `rattle_realloc`, has so many bytes, and is nobody
-/// else's.
-unsafe fn copied(block: *mut u8, length: usize) -> Answer<Vec<u8>> {
-    let mut bytes = Vec::new();
-    let had = bytes.try_reserve_exact(length);
-    if had.is_ok() {
-        // SAFETY: the block has so many bytes, and nobody else writes to them.
-        bytes.extend_from_slice(unsafe { std::slice::from_raw_parts(block, length) });
-    }
-    // SAFETY: the block was answered, and is used no more.
-    unsafe { rattle_dealloc(block) };
-    had.map(|()| bytes).map_err(|_| OUT_OF_MEMORY)
-}
-
 /// Appends the bytes that a call writes to the spare capacity of a vector and counts.
 fn append(bytes: &mut Vec<u8>, call: impl FnOnce(*mut u8, usize, &mut usize) -> u32) -> Answer<()> {
     let spare = bytes.spare_capacity_mut();
@@ -459,97 +438,6 @@ impl Tried {
     }
 }
 
-/// The blocks without a head that a call has which makes an image: one of them is the image's, and
-/// becomes a `Vec`, whose memory is had by its own layout alone.
-///
-/// A call can't tell which request is for the pixels, but that is the last of its large ones: so a
-/// request at an alignment of 1 that is at least twice the largest one before it gets such a block,
-/// and the number of them is small. Between calls there is none.
-struct Bare {
-    is_open: bool,
-    largest: usize,
-    count: usize,
-    /// Where each of them is, and its size; a place for each doubling.
-    blocks: [(*mut u8, usize); 64],
-}
-
-thread_local! {
-    /// Those of the call that runs on this thread.
-    static BARE: RefCell<Bare> = const { RefCell::new(Bare::NONE) };
-}
-
-impl Bare {
-    const NONE: Self =
-        Self { is_open: false, largest: 0, count: 0, blocks: [(std::ptr::null_mut(), 0); 64] };
-
-    /// Begins a call that makes an image.
-    fn open(&mut self) {
-        self.is_open = true;
-    }
-
-    /// Ends the call, and gives the size of this block if it is one without a head. The others were
-    /// freed by the library before it answered; were one left, it could not be freed any more.
-    fn close(&mut self, block: *mut u8) -> Option<usize> {
-        let size = self.take(block);
-        if self.count > 0 {
-            std::process::abort();
-        }
-        self.is_open = false;
-        self.largest = 0;
-        size
-    }
-
-    /// Whether a request is answered by a block without a head.
-    fn wants(&self, size: usize, align: usize) -> bool {
-        let is_large = size > 0 && size / 2 >= self.largest;
-        self.is_open && align == 1 && is_large && self.count < self.blocks.len()
-    }
-
-    fn note(&mut self, block: *mut u8, size: usize) {
-        self.blocks[self.count] = (block, size);
-        self.count += 1;
-        self.largest = self.largest.max(size);
-    }
-
-    /// Where a block is noted, if it is one without a head.
-    fn place(&self, block: *mut u8) -> Option<usize> {
-        self.blocks[..self.count].iter().position(|&(at, _)| at == block)
-    }
-
-    /// Takes a block out, and gives its size, if it is one without a head.
-    fn take(&mut self, block: *mut u8) -> Option<usize> {
-        let place = self.place(block)?;
-        let (_, size) = self.blocks[place];
-        self.count -= 1;
-        self.blocks[place] = self.blocks[self.count];
-        Some(size)
-    }
-}
-
-/// The layout of a block without a head.
-fn bare_layout(size: usize) -> Option<Layout> {
-    Layout::from_size_align(size, 1).ok().filter(|_| size > 0)
-}
-
-/// A new block without a head, or a refusal.
-fn bare(size: usize) -> Tried {
-    let Some(layout) = bare_layout(size) else {
-        return Tried::REFUSED;
-    };
-    // SAFETY: the layout's bytes are not none.
-    let block = unsafe { alloc(layout) };
-    noted(block, size)
-}
-
-/// The answer with a block without a head, which is noted, or an error if it is null.
-fn noted(block: *mut u8, size: usize) -> Tried {
-    if block.is_null() {
-        return Tried::REFUSED;
-    }
-    BARE.with_borrow_mut(|bare| bare.note(block, size));
-    Tried { ok: true, block }
-}
-
 /// The layout of a block of so many bytes, with its head.
 fn layout(size: usize, align: usize) -> Option<Layout> {
     let all = size.checked_add(HEAD)?;
@@ -577,9 +465,6 @@ unsafe fn memory_of(block: *mut u8) -> (*mut u8, Layout) {
 // define it, since `links` lets one such archive in.
 #[unsafe(no_mangle)]
 extern "C" fn rattle_alloc(size: usize, align: usize) -> Tried {
-    if BARE.with_borrow(|bare| bare.wants(size, align)) {
-        return bare(size);
-    }
     let Some(layout) = layout(size, align) else {
         return Tried::REFUSED;
     };
@@ -602,10 +487,6 @@ unsafe extern "C" fn rattle_realloc(
     size: usize,
     align: usize,
 ) -> Tried {
-    if let Some(had) = BARE.with_borrow_mut(|bare| bare.take(block)) {
-        // SAFETY: the block was noted with this size, and is there still.
-        return unsafe { bare_again(block, had, size) };
-    }
     let Some(wanted) = layout(size, align) else {
         return Tried::REFUSED;
     };
@@ -618,26 +499,6 @@ unsafe extern "C" fn rattle_realloc(
     unsafe { Tried::of(start, wanted) }
 }
 
-/// Makes a block without a head one of so many bytes, and of one at least; an error leaves it as it
-/// was.
-///
-/// # Safety
-///
-/// The block has no head and this size.
-unsafe fn bare_again(block: *mut u8, had: usize, size: usize) -> Tried {
-    let size = size.max(1);
-    if let (Some(layout), Some(_)) = (bare_layout(had), bare_layout(size)) {
-        // SAFETY: this memory was had by that layout, and the new number of bytes is one of a layout
-        // with the same alignment, and not none.
-        let again = unsafe { realloc(block, layout, size) };
-        if !again.is_null() {
-            return noted(again, size);
-        }
-    }
-    noted(block, had);
-    Tried::REFUSED
-}
-
 /// Frees a block.
 ///
 /// # Safety
@@ -646,10 +507,6 @@ unsafe fn bare_again(block: *mut u8, had: usize, size: usize) -> Tried {
 // SAFETY: as of the name above.
 #[unsafe(no_mangle)]
 unsafe extern "C" fn rattle_dealloc(block: *mut u8) {
-    if let Some(layout) = BARE.with_borrow_mut(|bare| bare.take(block)).and_then(bare_layout) {
-        // SAFETY: the block was noted with this size, so this memory was had by that layout.
-        return unsafe { dealloc(block, layout) };
-    }
     // SAFETY: the block is one that was answered here, and is there still.
     let (start, had) = unsafe { memory_of(block) };
     // SAFETY: this memory was had by that layout.
@@ -690,41 +547,6 @@ mod tests {
                 unsafe { rattle_dealloc(block) };
             }
         }
-    }
-
-    /// A request of a call that makes an image has no head where it is twice the largest before it.
-    #[test]
-    fn blocks_without_a_head() {
-        BARE.with_borrow_mut(Bare::open);
-        let bytes: Vec<u8> = (0..=255).collect();
-        let made = |length| {
-            let Tried { ok, block } = rattle_alloc(length, 1);
-            assert!(ok);
-            // SAFETY: the block was answered for so many bytes, and is new.
-            unsafe { block.copy_from_nonoverlapping(bytes.as_ptr(), length) };
-            block
-        };
-        let [first, second, third, fourth] = [16, 31, 32, 100].map(made);
-        let sizes =
-            |block| BARE.with_borrow(|bare| bare.place(block).map(|place| bare.blocks[place].1));
-        assert_eq!(
-            [first, second, third, fourth].map(sizes),
-            [Some(16), None, Some(32), Some(100)]
-        );
-        // SAFETY: the block is one that was answered, and is given up for the new one.
-        let Tried { ok, block: third } = unsafe { rattle_realloc(third, 32, 40, 1) };
-        assert!(ok && holds(third, &bytes[..32]) && sizes(third) == Some(40));
-        // SAFETY: the block is one that was answered; an error leaves it unchanged.
-        let refused = unsafe { rattle_realloc(third, 32, usize::MAX, 1) };
-        assert!(!refused.ok && holds(third, &bytes[..32]) && sizes(third) == Some(40));
-        for block in [third, first, second] {
-            // SAFETY: the block is one that was answered, and is used no more.
-            unsafe { rattle_dealloc(block) };
-        }
-        assert_eq!(BARE.with_borrow_mut(|bare| bare.close(fourth)), Some(100));
-        // SAFETY: the block was had by `alloc` for so many bytes at an alignment of 1.
-        assert_eq!(unsafe { Vec::from_raw_parts(fourth, 100, 100) }, bytes[..100]);
-        assert!(BARE.with_borrow(|bare| !bare.wants(1000, 1)));
     }
 
     #[test]
