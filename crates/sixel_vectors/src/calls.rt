@@ -3,26 +3,49 @@
 use crate::notation::{bytes, color, push_error, push_fed, push_hexadecimal, push_outcome};
 use crate::session::{Session, check_decoder, settings};
 use anyhow::{Context, Result, bail, ensure};
-use icy_sixel::SixelError;
 use icy_sixel::receiver::{Received, SixelReceiver};
+use icy_sixel::{SixelDecoder, SixelError};
 use std::alloc::Global;
 
 /// Checks a vector of `sessions.tsv`, by a session that borrows its decoder and by a receiver.
 pub fn write_session(alloc: Global, found: &mut String, columns: &[&str]) -> Result<()> {
     let (start, calls) = columns.split_first().context("no settings")?;
-    let (form, mut decoder) = settings(start)?;
-    let mut receiver = SixelReceiver::with_decoder(decoder.clone()?);
+    let decoder = run_session(alloc, found, start, calls)?;
     let mut received = String::new(alloc);
+    run_receiver(alloc, &mut received, start, calls, &decoder)?;
+    ensure!(received == *found, "receiver: {received}");
+    Ok(())
+}
+
+/// Makes the calls on a session that borrows its decoder, and returns the decoder.
+fn run_session(
+    alloc: Global,
+    found: &mut String,
+    start: &str,
+    calls: &[&str],
+) -> Result<SixelDecoder> {
+    let (form, mut decoder) = settings(start)?;
     let session = Session::begin(alloc, &mut decoder, form)?;
     let is_finished = run(alloc, found, session, calls)?;
-    let session = Session::receive(alloc, &mut receiver, form);
-    run(alloc, &mut received, session, calls)?;
-    ensure!(received == *found, "receiver: {received}");
-    check_decoder(receiver.decoder(), &decoder)?;
-    if is_finished {
-        return Ok(());
+    if !is_finished {
+        check_decoder(&decoder, &settings(start)?.1)?;
     }
-    check_decoder(&decoder, &settings(start)?.1)
+    Ok(decoder)
+}
+
+/// Makes the calls on a receiver, whose decoder must then equal another one.
+fn run_receiver(
+    alloc: Global,
+    found: &mut String,
+    start: &str,
+    calls: &[&str],
+    expected: &SixelDecoder,
+) -> Result<()> {
+    let (form, decoder) = settings(start)?;
+    let mut receiver = SixelReceiver::with_decoder(decoder);
+    let session = Session::receive(alloc, &mut receiver, form);
+    run(alloc, found, session, calls)?;
+    check_decoder(receiver.decoder(), expected)
 }
 
 /// Feeds chunks, ends the session, writes the results and returns whether there is an image.

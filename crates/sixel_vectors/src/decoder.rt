@@ -110,20 +110,33 @@ pub fn check_beginnings(alloc: Global, [settings, text, after]: [&str; 3]) -> Re
 /// Checks a vector of `aborts.tsv`: aborted images, and one that defines every register.
 pub fn check_aborts(alloc: Global, [settings, count, text]: [&str; 3]) -> Result<()> {
     let (input, text) = (Input::parse(alloc, settings, text)?, bytes(alloc, text)?);
-    let mut decoder = input.start.clone()?;
-    let mut receiver = SixelReceiver::with_decoder(input.start.clone()?);
-    for _ in 0..count.parse::<usize>()? {
-        abort(Session::begin(alloc, &mut decoder, input.form)?, &text)?;
-        abort(Session::receive(alloc, &mut receiver, input.form), &text)?;
-    }
-    check_decoder(&decoder, &input.start)?;
-    check_decoder(receiver.decoder(), &input.start)?;
+    let count = count.parse::<usize>()?;
+    abort_sessions(alloc, &input, &text, count)?;
+    abort_images(alloc, &input, &text, count)?;
     let (after, _) = input.decode(alloc, &mut String::new(alloc))?;
     for register in 0..=255 {
-        let is_defined = after.register(register) != decoder.register(register);
+        let is_defined = after.register(register) != input.start.register(register);
         ensure!(is_defined, "register {register} is not defined");
     }
     Ok(())
+}
+
+/// Aborts sessions of one decoder, which must not change.
+fn abort_sessions(alloc: Global, input: &Input, text: &[u8], count: usize) -> Result<()> {
+    let mut decoder = input.start.clone()?;
+    for _ in 0..count {
+        abort(Session::begin(alloc, &mut decoder, input.form)?, text)?;
+    }
+    check_decoder(&decoder, &input.start)
+}
+
+/// Aborts images of one receiver, whose decoder must not change.
+fn abort_images(alloc: Global, input: &Input, text: &[u8], count: usize) -> Result<()> {
+    let mut receiver = SixelReceiver::with_decoder(input.start.clone()?);
+    for _ in 0..count {
+        abort(Session::receive(alloc, &mut receiver, input.form), text)?;
+    }
+    check_decoder(receiver.decoder(), &input.start)
 }
 
 /// Feeds a session and aborts it.
