@@ -108,7 +108,7 @@ pub extern "C" fn icysixel_copy_pixels(
     code
 }
 
-/// Copies the pixels of an image into the buf, and tells how many bytes that takes.
+/// Copies the pixels of an image to a buffer, and reports how many bytes they take.
 fn copied(image: &SixelImage, buf: &mut [u8], stride: usize, bytes: &mut usize) -> u32
     requires { length image.now.pixels.items ≡ 4 * (image.now.width * image.now.height) }
     ensures bad_stride { bytes_of stride (image_value image.now) ≡ None → result ≡ 7 }

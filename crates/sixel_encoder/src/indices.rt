@@ -102,8 +102,8 @@ pub fn dithered_indices(
 
 /// States laws of error diffusion. It does nothing.
 ///
-/// The shares of an error add up to it. What is passed on differs from nothing by at most 510
-/// sixteenths an eighth of the strength. A transparent pixel passes nothing on.
+/// The shares of an error add up to it. A pixel passes on at most 510 sixteenths for each eighth
+/// of the strength, in either direction. A transparent pixel passes on no error.
 pub fn error_diffusion()
     ensures shares { (error : ℕ) → next_share error + before_share error + below_share error
         + rest_share error ≡ error }
