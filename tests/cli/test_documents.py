@@ -12,9 +12,11 @@ from build import ROOT, needs, run
 # The sources that tests run, by the language of a block.
 EXAMPLES = {
     "rust": [*ROOT.glob("crates/sixel_examples/src/**/*.rt"), ROOT / "rust/icy_sixel/README.md"],
+    "rattle": [*ROOT.glob("crates/*/src/**/*.rt")],
     "c": [*ROOT.glob("examples/*.c")],
 }
-DOCUMENTS = [ROOT / "README.md", *sorted(ROOT.glob("docs/*.md"))]
+DOCUMENTS = [*ROOT.glob("*.md"), *sorted(ROOT.glob("docs/*.md"))]
+LINK = re.compile(r"\]\(([^)#:]+)(?:#[^)]*)?\)|^\[[^]]+\]: ([^#:\n]+)$", re.M)
 SESSION = re.compile(r"^```sh\n(.*?)^```\n(?:\n?^```text\n(.*?)^```\n)?", re.M | re.S)
 
 
@@ -25,7 +27,7 @@ def blocks():
     for source in sorted(ROOT.glob("crates/*/src/**/*.rt")):
         pages.append((source, "\n".join(comments.findall(source.read_text()))))
     for page, text in pages:
-        for language, block in re.findall(r"^```(rust|c)\n(.*?)^```", text, re.M | re.S):
+        for language, block in re.findall(r"^```(rust|rattle|c)\n(.*?)^```", text, re.M | re.S):
             yield page.relative_to(ROOT), language, block
 
 
@@ -51,6 +53,13 @@ class TestDocuments(unittest.TestCase):
             with self.subTest(page=str(page), block=block):
                 texts = (lines_of(it.read_text()) for it in EXAMPLES[language])
                 self.assertTrue(any(lines_of(block) in it for it in texts), "not in an example")
+
+    def test_links(self):
+        """Each link to a file leads to one."""
+        for page in [*DOCUMENTS, *ROOT.glob("examples/**/*.md"), *ROOT.glob("rust/*/*.md")]:
+            for link in LINK.finditer(page.read_text()):
+                with self.subTest(page=str(page), link=link[0]):
+                    self.assertTrue((page.parent / (link[1] or link[2])).exists())
 
     @needs("bash", "img2sixel", "sixel2png")
     def test_session(self):
