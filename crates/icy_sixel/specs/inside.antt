@@ -1,3 +1,3 @@
--- Words that hold inside the code alone: a reader of what lists of steps mean may pass them over.
+-- Definitions that private contracts cite. A reader of what lists of steps mean can skip them.
 pub mod Receiving
 pub mod Session

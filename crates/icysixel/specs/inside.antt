@@ -1,4 +1,4 @@
--- Words that hold inside the code alone.
+-- Definitions that private contracts cite.
 pub mod Bytes
 pub mod Handle
 pub mod Lending

@@ -1,7 +1,7 @@
--- What bytes mean that are fed to a control string session: DCS as one byte or as ESC and `P`, a
--- header, and after its `q` a payload that ends at the string terminator, as one byte or as ESC and
--- `\`, or is cut short: by CAN or SUB, by another byte after ESC, or by another C1 control, which
--- is left to the caller. From DEC's device control strings.
+-- The meaning of bytes that are fed to a DCS session: DCS as one byte or as ESC and `P`, a header,
+-- and after its `q` a payload. The payload ends at the string terminator, as one byte or as ESC and
+-- `\`. CAN or SUB cancels it. Another byte after ESC interrupts it, as another C1 control does,
+-- which is left to the caller. From DEC's device control strings.
 use Rattle.std.specs.Prelude.{ℕ, ◌≡◌, ◌+◌, ◌-◌, ◌==◌, Bool, true, false, ◌||◌, if◌then◌else◌, List}
 use Rattle.std.specs.Prelude.{[], ◌∷◌, length, Option, Some, None}
 use Rattle.sixel_base.specs.Fault.{Fault, NoIntroducer, Incomplete}
@@ -32,7 +32,7 @@ introduced [] = Waiting
 introduced (byte ∷ bytes) =
     if byte == 0x90 then Entered bytes else if byte == 27 then escaped bytes else Absent
 
--- where a control string stands: before its payload, refused, or in a payload of these bytes
+-- the stage of a DCS sequence: before its payload, rejected, or in a payload of these bytes
 pub data Stage : Type 0 where
   Heading : Stage
   Failing : Fault → Stage
@@ -184,7 +184,7 @@ abbrev pub has_come : Option SixelDcsFeedStatus → Bool
 has_come None = false
 has_come (Some status) = has_ended status
 
--- what the image of a string of this status is refused for: an end that has not come
+-- the fault of finishing a sequence of this status: it has not ended
 abbrev pub end_fault : SixelDcsFeedStatus → Option Fault
 end_fault status = if has_ended status then None else Some Incomplete
 

@@ -1,5 +1,5 @@
--- Why data are refused, apart from any code: the seven texts of invalid data, a missing introducer,
--- and a size that no number holds. The causes are those of the documentation of icy_sixel.
+-- The faults of data, apart from any code: the texts of invalid data, a missing introducer, and a
+-- size that overflows. The causes are those of the documentation of icy_sixel.
 use Rattle.std.specs.Prelude.{◌≡◌, List, ℕ, codes, Bool, IsTrue, Option, Some, None, IsSomeAnd}
 use Rattle.sixel_base.specs.declared.error.SixelError.{SixelError}
 use Rattle.sixel_base.specs.declared.error.SixelError.TheVariants.{InvalidDimensions}
@@ -39,8 +39,8 @@ IsFault NoSixelData fault = fault ≡ NoIntroducer
 IsFault IntegerOverflow fault = fault ≡ Overflow
 IsFault OutOfMemory fault = ⊥
 
--- What may be answered where this fault was found: the fault, or want of memory where that may
--- come.
+-- The errors that a call may return where this fault was found: the fault, or out of memory where
+-- an allocation may fail.
 abbrev pub Faults : SixelError → Bool → Option Fault → Type 0
 Faults OutOfMemory may_want found = IsTrue may_want
 Faults error may_want found = IsSomeAnd found (IsFault error)

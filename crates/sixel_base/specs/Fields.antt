@@ -1,12 +1,12 @@
--- The numeric parameters of a command: its text split at each semicolon, an empty piece being 0 and
--- any other the lesser of its decimal value and the limit. This is the parameter string of DEC's
--- control functions with a ceiling of our own.
+-- The numeric parameters of a command: its text split at each semicolon. An empty field is 0, any
+-- other the lesser of its decimal value and the limit. This is the parameter string of DEC's
+-- control functions with a limit of our own.
 use Rattle.sixel_base.specs.Limits.{parameter_limit}
 use Rattle.std.specs.Prelude.{ℕ, ◌==◌, min, List, [], ◌∷◌, map, slice_index}
 use Rattle.std.specs.List.{slice_split}
 use Rattle.std.specs.Str.Parse.{digits_value}
 
--- what one piece of digits stands for
+-- the value of one field of digits
 abbrev pub parameter : List ℕ → ℕ
 parameter piece = min (digits_value 10 piece) parameter_limit
 

@@ -1,6 +1,6 @@
--- The header of a control string: what stands between its introducer and its `q`. Digits,
--- semicolons and ignored controls are read as up to three parameters: P1, P2 and P3 of DEC's sixel
--- control string, each at most `header_limit` here.
+-- The header of a DCS sequence, the bytes between its introducer and its `q`. Digits, semicolons
+-- and ignored controls are read as up to three parameters: P1, P2 and P3 of DEC's sixel sequence,
+-- each at most `header_limit` here.
 use Rattle.std.specs.Prelude.{ℕ, ◌==◌, nat_lt, min, Bool, ◌||◌, if◌then◌else◌, List, [], ◌∷◌}
 use Rattle.std.specs.Prelude.{length, Option, Some, None}
 use Rattle.sixel_base.specs.Limits.{header_limit}

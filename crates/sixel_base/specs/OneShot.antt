@@ -1,6 +1,6 @@
--- What bytes mean that hold a control string anywhere, or are a bare payload: the first introducer,
--- DCS as one byte or as ESC and `P`, begins a header, and its payload is read up to the first
--- terminator or the end. Without an introducer all bytes are a payload.
+-- The meaning of bytes that contain a DCS sequence anywhere, or are a bare payload. The first
+-- introducer, DCS as one byte or as ESC and `P`, begins a header. Its payload is read up to the
+-- first terminator or the end. Without an introducer all bytes are a payload.
 use Rattle.std.specs.Prelude.{ℕ, ◌≡◌, ◌==◌, Bool, false, ◌&&◌, if◌then◌else◌, List, [], ◌∷◌, Option}
 use Rattle.std.specs.Prelude.{Some, None}
 use Rattle.sixel_base.specs.Fault.{Fault, MissingCommand}
@@ -55,7 +55,7 @@ abbrev pub found_fault : ℕ → Found → Option Fault
 found_fault limit (Payload settings payload) = payload_fault limit payload
 found_fault limit (NoPayload fault) = Some fault
 
--- whether decoding them may be refused for want of memory
+-- whether decoding them may run out of memory
 abbrev pub found_wants : ℕ → Found → Bool
 found_wants limit (Payload settings payload) = payload_wants limit payload
 found_wants limit (NoPayload fault) = false

@@ -29,8 +29,8 @@ extent_fault limit right lower history =
     if nat_lt side_limit right || nat_lt side_limit lower then Some Malformed
     else area_fault limit history
 
--- what is wrong with a token, after these: a repeat above the limit; raster attributes or a sixel
--- that reach too far; more new lines than a row number holds
+-- the fault of a token, after these: a repeat above the limit; raster attributes or a sixel past
+-- the limits; more new lines than a row number can count
 abbrev pub fault_of : ℕ → Token → History → Option Fault
 fault_of limit (Sixel bits) older =
     extent_fault limit (across older + span older) (down older + 6) (Sixel bits ∷ older)
@@ -114,8 +114,8 @@ growths (Sixel _ ∷ older) = growths older + 1
 growths (Raster _ ∷ older) = growths older + 1
 growths (_ ∷ older) = growths older
 
--- whether decoding a payload may be refused for want of memory: where it has an image, or a closed
--- command may have wanted some
+-- whether decoding a payload may run out of memory: where it has an image, or a closed command may
+-- have allocated
 abbrev pub payload_wants : ℕ → List ℕ → Bool
 payload_wants limit bytes =
     is_none (payload_fault limit bytes) || nat_lt 0 (growths (settled bytes))

@@ -1,5 +1,5 @@
--- The parameters P1 to P3 of a SIXEL control string: which background and which shape of a pixel
--- they ask for. The tables are those of DEC's terminals, where a P1 that DEC leaves open and a
+-- The parameters P1 to P3 of a SIXEL sequence: which background and which shape of a pixel they
+-- select. The tables are those of DEC's terminals, where a P1 that DEC leaves open and a
 -- missing one mean square pixels.
 use Rattle.std.specs.Prelude.{ℕ, ◌==◌, ◌||◌, if◌then◌else◌, Option, Some, None}
 use Rattle.sixel_base.specs.declared.settings.BackgroundMode.{BackgroundMode}

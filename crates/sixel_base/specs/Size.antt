@@ -43,7 +43,7 @@ buffer_fault width height bytes =
     if bytes == pixel_bytes width height then None
     else Some (BufferSizeMismatch (pixel_bytes width height) bytes)
 
--- the answer of a test that finds this fault
+-- the result of a test that finds this fault
 abbrev pub verdict : Option SixelError → Result (Unit {0}) SixelError
 verdict None = Ok tt
 verdict (Some fault) = Err fault

@@ -1,2 +1,2 @@
--- Words that hold inside the code alone: a reader of the format's meaning may pass them over.
+-- Definitions that private contracts cite. A reader of the format's meaning can skip them.
 pub mod Parameters

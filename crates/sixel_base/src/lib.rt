@@ -1,5 +1,5 @@
-//! What the SIXEL encoder and decoder stand on: errors, limits, registers, and the meaning of the
-//! format, which stands in `specs`.
+//! The base of the SIXEL encoder and decoder: errors, limits, registers, and in `specs` the
+//! definition of the format.
 #![tactic(auto)]
 
 pub mod error;

@@ -19,9 +19,9 @@ const MAX_VALUE: u64 = 2_147_483_647;
 /// A value that any digit can be added to; no command needs more.
 const ENOUGH: u32 = 100_000_000;
 
-/// The fields of a text of digits and semicolons, of which the first five are kept.
+/// The fields of a text of digits and semicolons, of which the first five are stored.
 ///
-/// The text is split at each semicolon. An empty piece is 0, and any other piece the lesser of its
+/// The text is split at each semicolon. An empty field is 0, and any other field the lesser of its
 /// decimal value and `MAX_VALUE`. A text of no bytes has no field.
 #[derive(Clone, Copy)]
 pub struct Parameters {

@@ -1,4 +1,4 @@
-//! What a device control string says of its image before the data: background, pixel shape, grid.
+//! The parameters of a DCS sequence before its data: background, pixel shape, grid.
 
 ghost use Rattle.std.specs.Prelude.{◌≡◌, ◌↔◌, IsTrue, Some};
 ghost use Rattle.sixel_base.specs.declared.settings.BackgroundMode.TheVariants.{Transparent};
@@ -8,7 +8,7 @@ ghost use Rattle.sixel_base.specs.Settings.{mode_of, ratio_of};
 
 use std::marker::Model;
 
-/// What a pixel that no sixel covers looks like, as parameter P2 of a control string says.
+/// The background, as parameter P2 of a DCS sequence selects it.
 #[derive(Debug, Clone, Copy, PartialEq, Eq, Default)]
 pub enum BackgroundMode {
     /// It has the color that register 0 had when the image began.
@@ -48,7 +48,7 @@ impl BackgroundMode {
     }
 }
 
-/// How many times as high as wide a pixel is, as parameter P1 of a control string says.
+/// The pixel aspect ratio, as parameter P1 of a DCS sequence selects it.
 #[derive(Debug, Clone, Copy, PartialEq, Eq, Default)]
 pub enum PixelAspectRatio {
     /// Five times as high as wide.
@@ -119,7 +119,7 @@ impl PixelAspectRatio {
     }
 }
 
-/// The parameters P1 to P3, which stand between a control string's introducer and its `q`.
+/// The parameters P1 to P3, between the introducer of a DCS sequence and its `q`.
 ///
 /// Each may be left out, and by default all are. An image is then opaque and its pixels square.
 #[derive(Debug, Clone, Copy, PartialEq, Eq, Default)]

@@ -14,8 +14,9 @@ const BAND_HEIGHT: usize = 6;
 /// How many color registers there are.
 const REGISTERS: usize = 256;
 
-/// The bytes of an image's pixels, four a pixel. A size of zero is refused, and then a number of
-/// bytes that a `usize` does not hold.
+/// Returns the number of bytes of an image's pixels, four a pixel.
+///
+/// The errors are a size of zero, and then a number of bytes above `usize::MAX`.
 pub fn pixel_bytes(width: usize, height: usize) -> Result<usize>
     ensures { MatchOption (size_fault width height)
         (result ≡ Ok (pixel_bytes width height)) (λ fault. result ≡ Err fault) }

@@ -1,4 +1,4 @@
-//! Whether a payload or a control string has ended, as far as it came.
+//! Whether a payload or a DCS sequence has ended.
 
 ghost use Rattle.std.specs.Prelude.{◌≡◌};
 ghost use Rattle.sixel_base.specs.Dcs.{has_ended};
@@ -28,28 +28,28 @@ impl SixelFeedStatus {
 /// What a feed of a payload session did.
 #[derive(Clone, Copy, Debug, PartialEq, Eq)]
 pub struct SixelFeedResult {
-    /// How many bytes of the piece are the payload's own.
+    /// How many bytes of the chunk belong to the payload.
     pub consumed: usize,
     /// What the caller does next.
     pub status: SixelFeedStatus,
 }
 
-/// Whether a control string has ended, as far as it was fed.
+/// Whether a DCS sequence has ended, as far as it was fed.
 #[derive(Clone, Copy, Debug, PartialEq, Eq)]
 pub enum SixelDcsFeedStatus {
     /// Every byte was consumed: feed the next ones.
     NeedMoreData,
     /// The string terminator came and was consumed: finish.
     Complete,
-    /// CAN or SUB, this byte, cut the string short and was consumed: finish or abort.
+    /// CAN or SUB, this byte, cancelled the sequence and was consumed: finish or abort.
     Cancelled(u8),
-    /// The string was cut short: by a C1 control, this byte, which is left to the caller, or by ESC
-    /// (consumed) before another byte than `\` (left to the caller). Finish or abort.
+    /// A control interrupted the sequence: a C1 control, this byte, which is left to the caller, or
+    /// ESC (consumed) before another byte than `\` (left to the caller). Finish or abort.
     Interrupted(u8),
 }
 
 impl SixelDcsFeedStatus {
-    /// Whether the control string has ended, and no byte more is its own.
+    /// Whether the DCS sequence has ended, and no later byte belongs to it.
     pub fn has_ended(self) -> bool
         ensures { result ≡ has_ended self }
     {
@@ -57,10 +57,10 @@ impl SixelDcsFeedStatus {
     }
 }
 
-/// What a feed of a control string session did.
+/// What a feed of a DCS session did.
 #[derive(Clone, Copy, Debug, PartialEq, Eq)]
 pub struct SixelDcsFeedResult {
-    /// How many bytes of the piece are the control string's own.
+    /// How many bytes of the chunk belong to the DCS sequence.
     pub consumed: usize,
     /// What the caller does next.
     pub status: SixelDcsFeedStatus,

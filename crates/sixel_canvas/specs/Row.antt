@@ -1,5 +1,5 @@
--- What a row of the canvas is: the pixels from the left up to the last column that was reached, and
--- what they cost. The rule is this library's own: a row that is too small doubles its room, up to
+-- A row of the canvas: the pixels from the left up to the last column that was drawn on, and what
+-- they cost. The rule is this library's own: a row that is too small doubles its capacity, up to
 -- the greatest side of an image.
 use Rattle.std.specs.Prelude.{ℕ, ◌+◌, ◌-◌, ◌*◌, ◌<◌, ◌≤◌, min, max, nat_lt, if◌then◌else◌, List, []}
 use Rattle.std.specs.Prelude.{◌++◌, length, take, drop, replicate}
@@ -21,11 +21,11 @@ row_state background pixels room writes = record {
   writes = writes;
 }
 
--- a row that no stroke has reached
+-- a row that was not drawn on
 abbrev pub empty_row : List ℕ → RowState
 empty_row background = row_state background [] 0 0
 
--- what is true of every row: its room is at most twice its pixels, and its writes are from once to
+-- true of every row: its capacity is at most twice its pixels, and its writes are from once to
 -- three times these
 pub record IsThrifty (row : RowState) : Type 0 where
   pub held : length row.pixels ≤ row.room
@@ -35,11 +35,11 @@ pub record IsThrifty (row : RowState) : Type 0 where
   pub at_most : row.writes ≤ 3 * length row.pixels
   pub growing : row.room < 1000000 → row.writes ≤ length row.pixels + row.room
 
--- the room of a row with this room, once it is to hold so many columns
+-- the capacity of a row with this capacity, after it grew to so many columns
 abbrev pub room_for : ℕ → ℕ → ℕ
 room_for columns room = if nat_lt room columns then max columns (min 1000000 (2 * room)) else room
 
--- the pixels that this writes: those that are added, and those that move to a greater room
+-- the pixels that this writes: those that are added, and those that move to a greater capacity
 abbrev pub writes_for : ℕ → RowState → ℕ
 writes_for columns row =
     columns - length row.pixels + (if nat_lt row.room columns then length row.pixels else 0)

@@ -1,4 +1,4 @@
--- What holds inside the code alone: a reader of the public contracts may skip it.
+-- Definitions that private contracts cite. A reader of the public contracts can skip them.
 pub mod Band
 pub mod BandCanvas
 pub mod Drawn

@@ -1,4 +1,4 @@
-//! A row of the canvas, which doubles its room if it is too small.
+//! A row of the canvas, which doubles its capacity if it is too small.
 ghost use Rattle.std.specs.Prelude.{◌≡◌, ◌+◌, ◌-◌, ◌*◌, ◌^◌, ◌<◌, ◌≤◌, ◌==◌, ◌++◌, length};
 ghost use Rattle.std.specs.Prelude.{slice_index_or, vec_len, vec_capacity};
 ghost use Rattle.std.specs.Prelude.{nat_lt, if◌then◌else◌, IfErr, IsOk, OnErr, OnOk};
@@ -16,7 +16,7 @@ use std::marker::Model;
 /// One row of a canvas: its pixels from the left, up to the last column that was drawn on.
 ///
 /// What lies further right is background that is not written yet. Contracts see the background,
-/// the list of pixels, the room and the writes.
+/// the list of pixels, the capacity and the writes.
 #[derive(Drop)]
 pub struct Row {
     bytes: Vec<u8>,
@@ -56,8 +56,8 @@ impl Row {
 
     /// Adds background until the row has so many columns, if it has fewer.
     ///
-    /// If they exceed the room, this becomes the greater of the columns and twice the room, the
-    /// latter at most a million, and the pixels move. Only then can an allocation fail.
+    /// If they exceed the capacity, it becomes the greater of the columns and twice the capacity,
+    /// the latter at most a million, and the pixels move. Only then can an allocation fail.
     pub fn reach(&mut self, columns: usize) -> Result<()>
         requires { columns ≤ 1000000 }
         ensures ok { OnOk result (self.new ≡ reached_to columns self.old) }
@@ -165,7 +165,7 @@ impl Row {
     }
 }
 
-/// Returns the room of a row with this room that is to have so many columns.
+/// Returns the capacity of a row with this capacity after it grew to so many columns.
 fn room_after(room: usize, columns: usize) -> usize
     requires side { room ≤ side_limit }
     ensures { result ≡ room_for columns room }

@@ -1,5 +1,6 @@
-//! A host that keeps its receiver in a struct and feeds it in a loop. It proves what it promises
-//! from the receiver's contracts alone.
+//! A host that stores its receiver in a struct and feeds it in a loop.
+//!
+//! It is proved from the receiver's contracts alone.
 
 ghost use Rattle.std.specs.Prelude.{◌≡◌, ◌<◌, [], None, OnErr, OnOk, IfOk, IfErr};
 ghost use Rattle.sixel_base.specs.Decoder.{origin_of};
@@ -12,23 +13,25 @@ ghost use Rattle.sixel_base.specs.OneShot.{found, found_fault, IsFoundImage, Are
 use icy_sixel::{DcsSettings, Result, SixelImage, SixelReceiver};
 use std::alloc::Global;
 
-/// A terminal, as far as its images go.
+/// A terminal, reduced to its images.
 #[derive(Drop)]
 pub struct Terminal {
     pub receiver: SixelReceiver,
 }
 
 impl Terminal {
-    /// Decodes a payload that comes in pieces of so many bytes. Image, registers and refusals are
-    /// those of [`decode_from_dcs`](icy_sixel::SixelDecoder::decode_from_dcs) for the whole.
+    /// Decodes a payload in chunks of so many bytes.
+    ///
+    /// Image, registers and errors are those of
+    /// [`decode_from_dcs`](icy_sixel::SixelDecoder::decode_from_dcs) for the whole.
     pub fn payload(
         &mut self,
         alloc: Global,
         settings: DcsSettings,
         bytes: &[u8],
-        piece_len: usize,
+        chunk_len: usize,
     ) -> Result<SixelImage>
-        requires { 0 < piece_len }
+        requires { 0 < chunk_len }
         ensures image { IfOk result (λ image. image_value image ≡ payload_image
             (origin_of self.old.receiver.decoder settings) bytes.now) }
         ensures registers { OnOk result (self.new.receiver.decoder.registers ≡ payload_registers
@@ -42,23 +45,24 @@ impl Terminal {
     {
         self.receiver.begin_frame(alloc, settings);
         let mut rest = bytes;
-        'pieces: while !rest.is_empty() {
-            let (piece, after) = rest.split_at(piece_len.min(rest.len()));
-            self.receiver.feed(piece)?;
+        'chunks: while !rest.is_empty() {
+            let (chunk, after) = rest.split_at(chunk_len.min(rest.len()));
+            self.receiver.feed(chunk)?;
             rest = after;
         }
         self.receiver.finish()
     }
 
-    /// Decodes a control string that comes in pieces of so many bytes. Image and registers are
-    /// those of [`decode`](icy_sixel::SixelDecoder::decode) for the whole.
-    pub fn control_string(
+    /// Decodes a DCS sequence in chunks of so many bytes.
+    ///
+    /// Image and registers are those of [`decode`](icy_sixel::SixelDecoder::decode) for the whole.
+    pub fn dcs_sequence(
         &mut self,
         alloc: Global,
         bytes: &[u8],
-        piece_len: usize,
+        chunk_len: usize,
     ) -> Result<SixelImage>
-        requires { 0 < piece_len }
+        requires { 0 < chunk_len }
         ensures image { IfOk result (λ image. IsFoundImage self.old.receiver.decoder
             (found bytes.now) (image_value image)) }
         ensures registers { OnOk result (AreFoundRegisters self.old.receiver.decoder
@@ -69,9 +73,9 @@ impl Terminal {
     {
         self.receiver.begin_dcs(alloc);
         let mut rest = bytes;
-        'pieces: while !rest.is_empty() {
-            let (piece, after) = rest.split_at(piece_len.min(rest.len()));
-            self.receiver.feed(piece)?;
+        'chunks: while !rest.is_empty() {
+            let (chunk, after) = rest.split_at(chunk_len.min(rest.len()));
+            self.receiver.feed(chunk)?;
             rest = after;
         }
         self.receiver.finish()

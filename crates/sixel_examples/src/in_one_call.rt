@@ -6,7 +6,7 @@ use icy_sixel::{
 };
 use std::alloc::Global;
 
-/// The first control string in the bytes; or, where there is none, all of them as a payload.
+/// Decodes the first DCS sequence in the bytes, or all of them as a payload.
 pub fn decode(alloc: Global, decoder: &mut SixelDecoder, bytes: &[u8]) -> Result<SixelImage> {
     decoder.decode(alloc, bytes)
 }

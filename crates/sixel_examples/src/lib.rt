@@ -1,8 +1,10 @@
-//! How hosts use the library: the code that README and docs/USING.md show. And two callers that are
-//! proved from the library's contracts alone: `host`, which keeps its receiver in a struct, and
-//! `pieces`, which feeds sessions.
+//! Hosts of the library: the code of README and docs/USING.md, and two callers with contracts.
+//!
+//! `host` stores its receiver in a struct, and `chunks` feeds sessions. Both are proved from the
+//! library's contracts alone.
 #![tactic(auto)]
 
+pub mod chunks;
 pub mod host;
 pub mod in_one_call;
 pub mod lists;
@@ -10,7 +12,6 @@ pub mod multiplexer;
 #[cfg(test)]
 mod palette_tests;
 pub mod palettes;
-pub mod pieces;
 pub mod streaming;
 pub mod terminal;
 #[cfg(test)]

@@ -15,7 +15,7 @@ pub enum Came {
     CutShort(SixelImage, usize),
 }
 
-/// Reads bytes of the control string that was begun by [`SixelReceiver::begin_dcs`].
+/// Reads bytes of the DCS sequence that was begun by [`SixelReceiver::begin_dcs`].
 pub fn read(receiver: &mut SixelReceiver, bytes: &[u8]) -> Result<Came> {
     let received = receiver.feed(bytes)?;
     match received.status {

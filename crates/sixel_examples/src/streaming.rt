@@ -1,10 +1,10 @@
-//! Control strings and payloads as they come.
+//! DCS sequences and payloads in chunks.
 
 use icy_sixel::{DcsSettings, Result, SixelDecoder, SixelImage};
 use std::alloc::Global;
 
-/// Decodes a control string of two pieces, the second of which goes on after its end.
-pub fn decode_pieces(alloc: Global) -> Result<SixelImage> {
+/// Decodes a DCS sequence in two chunks. The second has bytes after its end.
+pub fn decode_chunks(alloc: Global) -> Result<SixelImage> {
     let mut decoder = SixelDecoder::new();
     let mut session = decoder.begin_dcs(alloc);
     // A chunk can end anywhere, also inside a number.
@@ -15,8 +15,8 @@ pub fn decode_pieces(alloc: Global) -> Result<SixelImage> {
     session.finish()
 }
 
-/// Decodes a payload of two pieces, whose header the caller has read.
-pub fn decode_payload_pieces(alloc: Global, decoder: &mut SixelDecoder) -> Result<SixelImage> {
+/// Decodes a payload in two chunks, after the caller has read the header.
+pub fn decode_payload_chunks(alloc: Global, decoder: &mut SixelDecoder) -> Result<SixelImage> {
     let mut session = decoder.begin_frame(alloc, DcsSettings::default())?;
     session.feed(b"#1!1")?;
     // 2 bytes are consumed, and the status is Terminated(0x1b): the terminator is left.

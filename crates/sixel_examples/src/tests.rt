@@ -3,7 +3,7 @@
 use crate::in_one_call::{decode, decode_payload, encode, palette};
 use crate::lists::replay;
 use crate::multiplexer::{Came, read};
-use crate::streaming::{decode_payload_pieces, decode_pieces};
+use crate::streaming::{decode_payload_chunks, decode_chunks};
 use crate::terminal::{Images, Read};
 use crate::viewer::open;
 use icy_sixel::receiver::SixelReceiver;
@@ -56,8 +56,8 @@ fn decoders(rt: HostRuntime) {
     let mut decoder = SixelDecoder::new();
     let sequence = decode(rt.alloc(), &mut decoder, b"text\x1bPq#1~\x1b\\text");
     let payload = decode_payload(rt.alloc(), &mut decoder, b"#1~~");
-    let chunks = decode_pieces(rt.alloc());
-    let payload_chunks = decode_payload_pieces(rt.alloc(), &mut decoder);
+    let chunks = decode_chunks(rt.alloc());
+    let payload_chunks = decode_payload_chunks(rt.alloc(), &mut decoder);
     let are_drawn = is_drawn(sequence, (1, 6), INDIGO)
         & is_drawn(payload, (2, 6), INDIGO)
         & is_drawn(chunks, (12, 6), RED)

@@ -1,6 +1,6 @@
--- What is made of an image: a note of its size, its text in fewer colors, or nothing; and a note of
--- its error. The notes are this program's own; what an image and its error are is told by the
--- meaning of DCS sequences.
+-- The output for an image: a note of its size, its output in fewer colors, or nothing; and a note
+-- of its error. The notes are this program's own. An image and its error are those of the meaning
+-- of DCS sequences.
 use Rattle.std.specs.Prelude.{ℕ, ◌≡◌, ◌⊎◌, ◌||◌, Bool, nat_lt, is_none, List, [], ◌++◌, Option}
 use Rattle.std.specs.Prelude.{None, MatchOption, codes, decimal}
 use Rattle.std.specs.Option.{option_or}

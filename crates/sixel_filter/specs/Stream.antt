@@ -1,8 +1,8 @@
--- What a filter over a terminal's stream writes: each byte that is no image's own, in order, and in
--- the place of each image what is made of it. An image begins at DCS, as ESC and `P` or as one
--- byte, with parameters and `q` after it; it ends with ST, CAN or SUB. An ESC with another byte
--- after it and other C1 controls end it too, and are not its own. From DEC's device control
--- strings; how the stream is cut into pieces occurs nowhere in it.
+-- The output of a filter over a terminal's stream: each byte that belongs to no image, in order,
+-- and in the place of each image its replacement. An image begins at DCS, as ESC and `P` or as one
+-- byte, with parameters and `q` after it. It ends with ST, CAN or SUB. An ESC before another byte
+-- and other C1 controls end it too, and do not belong to it. From DEC's device control strings. No
+-- definition mentions chunks.
 use Rattle.std.specs.Prelude.{ℕ, ◌≡◌, ◌==◌, nat_le, Bool, true, false, ◌&&◌, ◌||◌, if◌then◌else◌}
 use Rattle.std.specs.Prelude.{List, [], ◌∷◌, ◌++◌}
 use Rattle.sixel_base.specs.Bytes.{is_terminator}

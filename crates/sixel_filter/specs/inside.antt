@@ -1,2 +1,2 @@
--- Words that hold inside the code alone: a reader of what the filter writes may pass them over.
+-- Definitions that private contracts cite. A reader of what the filter writes can skip them.
 pub mod Standing

@@ -42,7 +42,7 @@ fn main(rt: HostRuntime) -> io::Result<ExitCode> {
     }
 }
 
-/// Tells why nothing more is done, and gives the status that says so.
+/// Writes the reason to standard error, and returns the exit status.
 fn stop<T: Display + Drop>(rt: &HostRuntime, why: T, status: u8) -> io::Result<ExitCode> {
     rt.eprintln(why)?;
     Ok(ExitCode::from(status))

@@ -1,22 +1,22 @@
-//! The words of the command line.
+//! The arguments of the program.
 
 ghost use Rattle.std.specs.Prelude.{◌≡◌, ◌<◌, ◌^◌, ◌∷◌, [], ℕ, IfSome, IfNone, codes};
 ghost use Rattle.sixel_filter.specs.Words.{IsAskedBy, IsLength, IsNumber, words_of};
 
-/// What is made of an image that was decoded.
+/// The replacement of an image that was decoded.
 #[derive(Clone, Copy)]
 pub enum Work {
     /// A note of its width and height.
     Size,
-    /// The image, written anew in at most so many colors.
+    /// The image, encoded in at most so many colors.
     Colors(u16),
-    /// Nothing: only refusals are told.
+    /// Nothing: only errors are reported.
     Refusals,
 }
 
-/// The length of a piece and the work that the words after the program's own name ask for.
+/// The length of a chunk and the work that the arguments ask for.
 ///
-/// `None` is for words that ask for nothing that the program does.
+/// `None` means that they are wrong.
 pub fn asked(words: &[String]) -> Option<(usize, Work)>
     ensures asked { IfSome result (λ asked. IsAskedBy (words_of words.now) asked.0 asked.1) }
     ensures usage { IfNone result ((length : ℕ) (work : Work)
@@ -29,7 +29,7 @@ pub fn asked(words: &[String]) -> Option<(usize, Work)>
     }
 }
 
-/// What two words ask for: the length of a piece, and a work that takes no number.
+/// Reads two arguments: the length of a chunk, and work without a number.
 fn asked_by_two(piece: &str, word: &str) -> Option<(usize, Work)>
     ensures asked { IfSome result (λ asked. IsAskedBy (piece.now ∷ word.now ∷ []) asked.0 asked.1) }
     ensures usage { IfNone result ((length : ℕ) (work : Work)
@@ -43,7 +43,7 @@ fn asked_by_two(piece: &str, word: &str) -> Option<(usize, Work)>
     }
 }
 
-/// What three words ask for: the length of a piece, and a work with its number.
+/// Reads three arguments: the length of a chunk, and work with its number.
 fn asked_by_three(piece: &str, word: &str, count: &str) -> Option<(usize, Work)>
     ensures asked { IfSome result (λ asked.
         IsAskedBy (piece.now ∷ word.now ∷ count.now ∷ []) asked.0 asked.1) }
@@ -56,7 +56,7 @@ fn asked_by_three(piece: &str, word: &str, count: &str) -> Option<(usize, Work)>
     }
 }
 
-/// The number of colors that a word gives.
+/// The number of colors that an argument states.
 fn most(count: &str) -> Option<u16>
     ensures read { IfSome result (IsNumber count.now) }
     ensures other { IfNone result ((n : ℕ) → n < 2 ^ 16 → ¬ IsNumber count.now n) }
@@ -64,7 +64,7 @@ fn most(count: &str) -> Option<u16>
     u16::try_from(number(count)?).ok()
 }
 
-/// The length of a piece, of at least one byte.
+/// The length of a chunk, at least one byte.
 fn length(text: &str) -> Option<usize>
     ensures read { IfSome result (IsLength text.now) }
     ensures other { IfNone result ((length : ℕ) → ¬ IsLength text.now length) }

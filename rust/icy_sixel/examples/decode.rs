@@ -1,7 +1,7 @@
 //! The first image in standard input: `cargo run --example decode -- [LENGTH] < FILE`
 //!
-//! With a length, the control string is fed in pieces of so many bytes. A line `image WIDTH HEIGHT
-//! P1 P2`, the pixels and a line end are written, as by `sixel decode`.
+//! With a length, the DCS sequence is fed in chunks of so many bytes. The output is a line `image
+//! WIDTH HEIGHT P1 P2`, the pixels and a line end, as by `sixel decode`.
 
 use icy_sixel::{SixelDcsFeedStatus, SixelImage, SixelReceiver, Status};
 use std::env;
@@ -9,14 +9,14 @@ use std::error::Error;
 use std::io::{self, Read, Write};
 use std::process::ExitCode;
 
-/// The first control string of the bytes, in pieces.
-fn decode_in_pieces(bytes: &[u8], length: usize) -> icy_sixel::Result<SixelImage> {
+/// Decodes the first DCS sequence of the bytes, in chunks.
+fn decode_in_chunks(bytes: &[u8], length: usize) -> icy_sixel::Result<SixelImage> {
     let is_start = |at: &usize| bytes[*at..].starts_with(b"\x1bP") || bytes[*at] == 0x90;
     let start = (0..bytes.len()).find(is_start).unwrap_or(0);
     let mut receiver = SixelReceiver::new();
     receiver.begin_dcs();
-    for piece in bytes[start..].chunks(length) {
-        let received = receiver.feed(piece)?;
+    for chunk in bytes[start..].chunks(length) {
+        let received = receiver.feed(chunk)?;
         if received.status != Status::Dcs(SixelDcsFeedStatus::NeedMoreData) {
             break;
         }
@@ -28,7 +28,7 @@ fn run(length: Option<usize>) -> Result<(), Box<dyn Error>> {
     let mut bytes = Vec::new();
     io::stdin().read_to_end(&mut bytes)?;
     let image = match length {
-        Some(length) => decode_in_pieces(&bytes, length),
+        Some(length) => decode_in_chunks(&bytes, length),
         None => SixelImage::decode(&bytes),
     }?;
     let p1 = image.aspect_ratio.to_p1_value();

@@ -1,10 +1,10 @@
 //! Nanoseconds a pixel, in process:
 //! `cargo run --release --example speed -- [-k COLORS] [-t SECONDS] FILE..`
 //!
-//! A file of SIXEL data is decoded at once, then in pieces of 4096 bytes by a session on one
+//! A file of SIXEL data is decoded in one call, then in chunks of 4096 bytes by a session on one
 //! decoder, and its image is encoded. A file of raw RGBA, named as `FILE:WIDTHxHEIGHT`, is encoded.
-//! Each is done over and over, for one second or as many as named, and the best and the median run
-//! are told. A text has at most 256 colors, or as many as named.
+//! Each is repeated for one second or SECONDS. The example reports the best and the median run. An
+//! output has at most 256 colors, or COLORS.
 
 use icy_sixel::{EncodeOptions, SixelDcsFeedStatus, SixelDecoder, SixelImage};
 use std::env;
@@ -14,17 +14,17 @@ use std::hint::black_box;
 use std::process::ExitCode;
 use std::time::{Duration, Instant};
 
-const PIECE: usize = 4096;
+const CHUNK: usize = 4096;
 const LEAST_RUNS: usize = 5;
 
-type Answer<T> = Result<T, Box<dyn Error>>;
+type Outcome<T> = Result<T, Box<dyn Error>>;
 
 /// The best and the median run, in nanoseconds a pixel.
 fn measure<T>(
     time: Duration,
     pixels: usize,
     mut run: impl FnMut() -> icy_sixel::Result<T>,
-) -> Answer<String> {
+) -> Outcome<String> {
     let mut runs = Vec::new();
     let mut whole = Duration::ZERO;
     while whole < time || runs.len() < LEAST_RUNS {
@@ -42,11 +42,11 @@ fn measure<T>(
     Ok(format!("{best:8.2} {median:8.2}  {:6} runs", runs.len()))
 }
 
-/// The first control string of the bytes, fed in pieces.
-fn decode_in_pieces(decoder: &mut SixelDecoder, bytes: &[u8]) -> icy_sixel::Result<SixelImage> {
+/// Decodes the first DCS sequence of the bytes, in chunks.
+fn decode_in_chunks(decoder: &mut SixelDecoder, bytes: &[u8]) -> icy_sixel::Result<SixelImage> {
     let mut session = decoder.begin_dcs();
-    for piece in bytes.chunks(PIECE) {
-        if session.feed(piece)?.status != SixelDcsFeedStatus::NeedMoreData {
+    for chunk in bytes.chunks(CHUNK) {
+        if session.feed(chunk)?.status != SixelDcsFeedStatus::NeedMoreData {
             break;
         }
     }
@@ -86,7 +86,7 @@ fn plan(mut words: impl Iterator<Item = String>) -> Option<Plan> {
     (!plan.files.is_empty()).then_some(plan)
 }
 
-fn tell(plan: &Plan, word: &str) -> Answer<()> {
+fn tell(plan: &Plan, word: &str) -> Outcome<()> {
     let (file, size) = split(word);
     let bytes = fs::read(file)?;
     let title = |image: &SixelImage| println!("{file}, {}x{}", image.width, image.height);
@@ -106,8 +106,8 @@ fn tell(plan: &Plan, word: &str) -> Answer<()> {
     println!("  decode    {}", measure(plan.time, pixels, || SixelImage::decode(&bytes))?);
     let start = bytes.iter().position(|byte| matches!(byte, 0x1b | 0x90)).unwrap_or(0);
     let mut decoder = SixelDecoder::new();
-    let pieces = || decode_in_pieces(&mut decoder, &bytes[start..]);
-    println!("  in pieces {}", measure(plan.time, pixels, pieces)?);
+    let chunks = || decode_in_chunks(&mut decoder, &bytes[start..]);
+    println!("  in chunks {}", measure(plan.time, pixels, chunks)?);
     println!("  encode    {}", encode(&image)?);
     Ok(())
 }

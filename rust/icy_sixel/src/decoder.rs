@@ -179,7 +179,7 @@ impl SixelDecoder {
     ///
     /// [`InvalidData`](crate::SixelError::InvalidData) for a repeat above 65,535, a side above
     /// 1,000,000 or an area above [`pixel_limit`](Self::pixel_limit), `IntegerOverflow` for more
-    /// new lines than a row number holds, and `OutOfMemory`; after any of them the registers are
+    /// new lines than a row number can count, and `OutOfMemory`; after any of them the registers are
     /// those before.
     pub fn decode_from_dcs(&mut self, bytes: &[u8], settings: DcsSettings) -> Result<SixelImage> {
         self.by_copy(|copy| copy.decode_payload(bytes, settings))

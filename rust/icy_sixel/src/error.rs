@@ -10,7 +10,7 @@ pub type Result<T> = std::result::Result<T, SixelError>;
 /// Why a call failed.
 #[derive(Clone, Debug, PartialEq, Eq)]
 pub enum SixelError {
-    /// A size is zero, or above what the format can hold.
+    /// A size is zero, or above the limits of the format.
     InvalidDimensions {
         /// Pixels in a row.
         width: usize,

@@ -228,7 +228,7 @@ impl Handle {
         self.image(|handle, shape| icysixel_finish(handle, shape))
     }
 
-    /// Gives up the open image, if one is.
+    /// Aborts the open image, if there is one.
     pub(crate) fn abort(&mut self) {
         icysixel_abort(&mut self.0);
     }
@@ -411,7 +411,7 @@ struct Tried {
 }
 
 /// Before each block that the library has stands how many bytes were asked for in all, which Rust's
-/// allocator has to be told when they are freed. It takes as much room as the alignment of all
+/// allocator needs when they are freed. It takes as many bytes as the alignment of all
 /// blocks, which is the greatest that the library asks for.
 const HEAD: usize = 16;
 
@@ -425,12 +425,12 @@ impl Tried {
     ///
     /// # Safety
     ///
-    /// The pointer is null, or leads to memory of that layout, which holds a head.
+    /// The pointer is null, or leads to memory of that layout, which begins with a head.
     unsafe fn of(start: *mut u8, layout: Layout) -> Self {
         if start.is_null() {
             return Self::REFUSED;
         }
-        // SAFETY: there is room for a head, and it is aligned for a number as all of it is.
+        // SAFETY: the block begins with a head, which is aligned for a number as the whole block is.
         unsafe { start.cast::<usize>().write(layout.size()) };
         // SAFETY: a head is within the memory.
         let block = unsafe { start.add(HEAD) };
@@ -449,11 +449,11 @@ fn layout(size: usize, align: usize) -> Option<Layout> {
 ///
 /// # Safety
 ///
-/// The block was answered by one of the functions below, and was neither freed nor moved since.
+/// One of the functions below returned the block, and it was neither freed nor moved since.
 unsafe fn memory_of(block: *mut u8) -> (*mut u8, Layout) {
     // SAFETY: a block stands behind its head, in the same memory.
     let start = unsafe { block.sub(HEAD) };
-    // SAFETY: the size was written there when the block was answered, and blocks are written to
+    // SAFETY: the size was written there when the block was returned, and blocks are written to
     // from their own start on.
     let size = unsafe { start.cast::<usize>().read() };
     // SAFETY: the size is that of a layout with this alignment, from which it was written.
@@ -470,7 +470,7 @@ extern "C" fn rattle_alloc(size: usize, align: usize) -> Tried {
     };
     // SAFETY: the layout has the bytes of a head at least, so they are not none.
     let start = unsafe { alloc(layout) };
-    // SAFETY: that is what `alloc` answers for this layout.
+    // SAFETY: `alloc` returned it for this layout.
     unsafe { Tried::of(start, layout) }
 }
 
@@ -478,7 +478,7 @@ extern "C" fn rattle_alloc(size: usize, align: usize) -> Tried {
 ///
 /// # Safety
 ///
-/// The block is one that the library was answered and has not freed, as its proof says of it.
+/// The library received the block and has not freed it, as its proof shows.
 // SAFETY: as of the name above.
 #[unsafe(no_mangle)]
 unsafe extern "C" fn rattle_realloc(
@@ -490,12 +490,12 @@ unsafe extern "C" fn rattle_realloc(
     let Some(wanted) = layout(size, align) else {
         return Tried::REFUSED;
     };
-    // SAFETY: the block is one that was answered here, and is there still.
+    // SAFETY: the block was returned here, and was not freed.
     let (start, had) = unsafe { memory_of(block) };
     // SAFETY: this memory was had by that layout, and the new number of bytes is one of a layout
     // with the same alignment, and not none.
     let start = unsafe { realloc(start, had, wanted.size()) };
-    // SAFETY: that is what `realloc` answers for this layout, with the old head in it.
+    // SAFETY: `realloc` returned it for this layout, with the old head in it.
     unsafe { Tried::of(start, wanted) }
 }
 
@@ -507,7 +507,7 @@ unsafe extern "C" fn rattle_realloc(
 // SAFETY: as of the name above.
 #[unsafe(no_mangle)]
 unsafe extern "C" fn rattle_dealloc(block: *mut u8) {
-    // SAFETY: the block is one that was answered here, and is there still.
+    // SAFETY: the block was returned here, and was not freed.
     let (start, had) = unsafe { memory_of(block) };
     // SAFETY: this memory was had by that layout.
     unsafe { dealloc(start, had) };
@@ -521,7 +521,7 @@ mod tests {
     fn block(bytes: &[u8], align: usize) -> *mut u8 {
         let Tried { ok, block } = rattle_alloc(bytes.len(), align);
         assert!(ok && block.addr() % 16 == 0);
-        // SAFETY: the block was answered for so many bytes, and is new.
+        // SAFETY: the block was returned for so many bytes, and is new.
         unsafe { block.copy_from_nonoverlapping(bytes.as_ptr(), bytes.len()) };
         block
     }
@@ -539,11 +539,11 @@ mod tests {
         for (had, wanted) in [(0, 0), (0, 9), (1, 100_000), (256, 17), (256, 0), (100, 101)] {
             for align in [1, 2, 4, 8, 16] {
                 let old = block(&bytes[..had], align);
-                // SAFETY: the block is one that was answered, and is given up for the new one.
+                // SAFETY: the block was returned here, and the new one replaces it.
                 let Tried { ok, block } = unsafe { rattle_realloc(old, had, wanted, align) };
                 assert!(ok && block.addr() % 16 == 0);
                 assert!(holds(block, &bytes[..had.min(wanted)]));
-                // SAFETY: the block is one that was answered, and is used no more.
+                // SAFETY: the block was returned here, and is not used again.
                 unsafe { rattle_dealloc(block) };
             }
         }
@@ -554,10 +554,10 @@ mod tests {
         for size in [usize::MAX, usize::MAX - 15, isize::MAX as usize, isize::MAX as usize - 15] {
             assert!(!rattle_alloc(size, 1).ok);
             let old = block(b"kept", 1);
-            // SAFETY: the block is one that was answered; an error leaves it unchanged.
+            // SAFETY: the block was returned here; an error leaves it unchanged.
             let Tried { ok, block } = unsafe { rattle_realloc(old, 4, size, 1) };
             assert!(!ok && !block.is_null() && holds(old, b"kept"));
-            // SAFETY: the block is one that was answered, and is used no more.
+            // SAFETY: the block was returned here, and is not used again.
             unsafe { rattle_dealloc(old) };
         }
         assert!(!rattle_alloc(1, 32).ok);

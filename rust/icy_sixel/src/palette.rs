@@ -9,12 +9,13 @@ use crate::ffi::{self, Color};
 pub struct PaletteChoice {
     /// The entries: red, green, blue.
     pub colors: Vec<[u8; 3]>,
-    /// One place among the entries a pixel, 0 for a hidden pixel.
+    /// The palette index of each pixel, 0 for a transparent pixel.
     pub indices: Vec<u8>,
-    /// The greatest squared distance of a shown color to its nearest entry.
+    /// The greatest squared distance of an opaque color to its nearest entry.
     pub error: u32,
-    /// One shown color more than there are entries, every two at least `error` apart; none where
-    /// the entries hold all shown colors.
+    /// One opaque color more than there are entries, every two at least `error` apart.
+    ///
+    /// There are none if all opaque colors are entries.
     pub witnesses: Vec<[u8; 3]>,
 }
 
@@ -32,19 +33,19 @@ pub struct PaletteChoice {
 /// # Ok::<(), icy_sixel::SixelError>(())
 /// ```
 ///
-/// Only pixels whose alpha is at least 128 are shown and count; the others get index 0. The
-/// palette has room for `max_colors` entries, at least 2 and at most 256, and holds all shown
-/// colors if there is room for them. Otherwise it is chosen farthest first: the least shown color,
-/// by red, then green, then blue, and then again and again the shown color that is farthest from
-/// its nearest entry so far, the least of those. An opaque pixel's index is that of its nearest
-/// entry, the first of those. Distances are sums of squared differences of the channels.
+/// Only opaque pixels count, those whose alpha is at least 128; the others get index 0. The
+/// palette has at most `max_colors` entries, at least 2 and at most 256, and contains all opaque
+/// colors if they are not more. Otherwise it is chosen farthest first. The first entry is the
+/// least color, by red, then green, then blue. Each further entry is the color that is farthest
+/// from its nearest entry so far, the least of those. An opaque pixel's index is that of its
+/// nearest entry, the first of those. Distances are sums of squared differences of the channels.
 ///
-/// No palette of as many colors, whatever they are, has an error below a fourth of this one's:
-/// the witnesses show it, since two of them share an entry of any such palette.
+/// No palette of as many colors, whatever they are, has an error below a fourth of this one's. The
+/// witnesses prove it, because two of them share an entry of any such palette.
 ///
 /// # Errors
 ///
-/// `BufferSizeMismatch` if the length is no multiple of four, before any memory is asked for; it
+/// `BufferSizeMismatch` if the length is no multiple of four, before anything is allocated; it
 /// expects the length rounded down. Otherwise only `OutOfMemory`.
 pub fn choose_palette(pixels: &[u8], max_colors: u16) -> Result<PaletteChoice> {
     let beyond = pixels.len() % 4;
@@ -67,7 +68,7 @@ pub fn choose_palette(pixels: &[u8], max_colors: u16) -> Result<PaletteChoice> {
     })
 }
 
-/// Whether every two places of the list hold colors at a squared distance of at least `error`.
+/// Returns whether every two colors of the list have a squared distance of at least `error`.
 ///
 /// If so, whatever list of fewer colors one takes, some witness has to each of them a squared
 /// distance whose fourfold is at least `error`.

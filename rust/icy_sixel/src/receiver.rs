@@ -13,7 +13,7 @@ use crate::sixel_image::SixelImage;
 pub struct Received {
     /// How many bytes of the chunk are the image's own.
     pub consumed: usize,
-    /// What the caller does next, as a session of that form answers it.
+    /// The status, as a session of that form returns it.
     pub status: Status,
 }
 

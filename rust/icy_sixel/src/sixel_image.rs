@@ -100,15 +100,16 @@ impl SixelImage {
         (self.width, self.height)
     }
 
-    /// Width and height as shown, in units of a pixel's width; `usize::MAX` stands for any greater
-    /// height.
+    /// Returns the displayed width and height, in units of a pixel's width.
+    ///
+    /// A height above `usize::MAX` is `usize::MAX`.
     #[must_use]
     pub fn corrected_dimensions(&self) -> (usize, usize) {
         let pad = usize::from(self.aspect_ratio.pad());
         (self.width, self.height.saturating_mul(pad))
     }
 
-    /// Whether some pixel is hidden: its alpha, the last of its four bytes, is below 128.
+    /// Returns whether a pixel is transparent: its alpha is below 128.
     #[must_use]
     pub fn has_transparency(&self) -> bool {
         self.pixels.chunks_exact(4).any(|pixel| pixel[3] < 128)
@@ -123,7 +124,7 @@ impl SixelImage {
         self.encode_with(&EncodeOptions::default())
     }
 
-    /// The SIXEL text of this image.
+    /// Returns the SIXEL output of this image.
     ///
     /// ```
     /// use icy_sixel::{EncodeOptions, SixelImage};
@@ -134,8 +135,7 @@ impl SixelImage {
     /// # Ok::<(), icy_sixel::SixelError>(())
     /// ```
     ///
-    /// The text is the same for all images that show the same: the color of a hidden pixel, and
-    /// its alpha as long as it is below 128, have no effect.
+    /// Colors of transparent pixels never affect the output. Nor does an alpha below 128.
     ///
     /// # Errors
     ///

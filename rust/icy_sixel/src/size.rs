@@ -17,7 +17,7 @@ pub(crate) fn pixel_bytes(width: usize, height: usize) -> Result<usize> {
     pixels.checked_mul(4).ok_or(SixelError::IntegerOverflow)
 }
 
-/// Refuses pixels of another number of bytes than their sizes ask for.
+/// Returns an error unless the pixels have as many bytes as their sizes require.
 pub(crate) fn validate_buffer(expected: usize, actual: usize) -> Result<()> {
     if actual == expected {
         Ok(())

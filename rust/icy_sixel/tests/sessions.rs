@@ -72,7 +72,7 @@ fn a_session_ends_in_the_middle() {
     assert_filled(decoder.decode(b"#42~"), (1, 6), [0, 204, 102, 255]);
 }
 
-/// A decoder with a leaked session is dropped with what the session held.
+/// A decoder with a leaked session is dropped with the memory of the session.
 #[test]
 fn a_session_is_leaked() {
     let mut decoder = SixelDecoder::new();

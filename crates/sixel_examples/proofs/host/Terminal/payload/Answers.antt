@@ -12,17 +12,17 @@ use Rattle.sixel_examples.proofs.host.Terminal.payload.Goals as goal
 
 pub returns-in_err-feed-clause-refused : goal.returns-in_err-feed-clause-refused
 returns-in_err-feed-clause-refused c =
-    let now = c.pieces.invariant in
+    let now = c.chunks.invariant in
     let s = c.in_err-feed.ensures in
     let told : SixelError = c.in_err-feed.field-0.0 in
-    let before : List ℕ = c.pieces.self.receiver.image.bytes in
+    let before : List ℕ = c.chunks.self.receiver.image.bytes in
     let after : List ℕ = c.split_at.result.1.now in
     let fed : List ℕ = c.feed.new.self.image.bytes in
     let p = err_from_is_err_and c.from_residual.result c.from_residual.ensures.1 in
     let whole : fed ++ after ≡ c.args.bytes.now =
     rw (s.bytes (ap is_open now.form), c.split_at.ensures.front, c.split_at.ensures.back)
     (append_assoc before _ _
-    ∙ (ap (λ w. before ++ w) (take-append-drop _ c.pieces.rest.now) ∙ now.bytes)) in
+    ∙ (ap (λ w. before ++ w) (take-append-drop _ c.chunks.rest.now) ∙ now.bytes)) in
     let limit = c.args.self.now.receiver.decoder.pixel_limit in
     rw (p.1, p.2)
     (subst (λ (w : List ℕ). Faults told (payload_wants limit w) (payload_fault limit w)) whole
@@ -34,9 +34,9 @@ no_bytes (byte ∷ bytes) is = absurd (grind (arith, nat_tests))
 
 pub returns-clause-image : goal.returns-clause-image
 returns-clause-image c =
-    let now = c.pieces.invariant in
-    let none : c.pieces.rest.now ≡ [] = no_bytes c.pieces.rest.now c.pieces-test.ensures in
-    let whole : c.pieces.self.receiver.image.bytes ≡ c.args.bytes.now =
-    sym (append-nil c.pieces.self.receiver.image.bytes)
-    ∙ (ap (λ w. c.pieces.self.receiver.image.bytes ++ w) (sym none) ∙ now.bytes) in
+    let now = c.chunks.invariant in
+    let none : c.chunks.rest.now ≡ [] = no_bytes c.chunks.rest.now c.chunks-test.ensures in
+    let whole : c.chunks.self.receiver.image.bytes ≡ c.args.bytes.now =
+    sym (append-nil c.chunks.self.receiver.image.bytes)
+    ∙ (ap (λ w. c.chunks.self.receiver.image.bytes ++ w) (sym none) ∙ now.bytes) in
     rw (now.form, now.start, whole) at c.finish.ensures.image

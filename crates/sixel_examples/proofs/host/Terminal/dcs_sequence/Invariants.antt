@@ -1,9 +1,9 @@
 use Rattle.std.proofs.Common.{◌≡◌, ◌++◌, false, length}
 use Rattle.icy_sixel.specs.Receiver.{OfString}
-use Rattle.sixel_examples.proofs.host.Terminal.control_string.Given as goal
+use Rattle.sixel_examples.proofs.host.Terminal.dcs_sequence.Given as goal
 
-abbrev pub invariant-pieces : goal.invariant-pieces
-invariant-pieces l = record {
+abbrev pub invariant-chunks : goal.invariant-chunks
+invariant-chunks l = record {
   decoder : l.self.receiver.decoder ≡ l.fn.self.receiver.decoder;
   form : l.self.receiver.image.form ≡ OfString;
   start : l.self.receiver.image.start ≡ l.fn.self.receiver.decoder;
@@ -11,5 +11,5 @@ invariant-pieces l = record {
   bytes : l.self.receiver.image.bytes ++ l.rest ≡ l.bytes;
 }
 
-abbrev pub decreases-pieces : goal.decreases-pieces
-decreases-pieces l = length l.rest
+abbrev pub decreases-chunks : goal.decreases-chunks
+decreases-chunks l = length l.rest

@@ -1,4 +1,4 @@
-use Rattle.sixel_examples.proofs.pieces.decode_two_pieces.Goals as goal
+use Rattle.sixel_examples.proofs.chunks.decode_two_chunks.Goals as goal
 
 pub returns-clause-image : goal.returns-clause-image
 returns-clause-image c = λ image is.

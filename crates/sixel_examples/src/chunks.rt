@@ -1,4 +1,4 @@
-//! Callers of the payload session, which prove what they promise from its contracts alone.
+//! Callers of the payload session, proved from its contracts alone.
 
 ghost use Rattle.std.specs.Prelude.{◌≡◌, ◌++◌, Ok, Err, None, OnErr, OnOk};
 ghost use Rattle.sixel_base.specs.Decoder.{origin_of};
@@ -10,8 +10,8 @@ ghost use Rattle.icy_sixel.specs.ImageView.{image_value};
 use icy_sixel::{DcsSettings, Result, SixelDecoder, SixelError, SixelImage};
 use std::alloc::Global;
 
-/// Decodes a payload that comes in two pieces: image and registers are those of the pieces joined.
-pub fn decode_two_pieces(
+/// Decodes a payload in two chunks: image and registers are those of the chunks joined.
+pub fn decode_two_chunks(
     alloc: Global,
     decoder: &mut SixelDecoder,
     first: &[u8],
@@ -41,12 +41,12 @@ pub fn decode_two_pieces(
     session.finish()
 }
 
-/// Begins a session, feeds it and gives it up: the decoder is as it was.
-pub fn give_up(alloc: Global, decoder: &mut SixelDecoder, piece: &[u8], settings: DcsSettings)
+/// Begins a session, feeds it and aborts it: the decoder is unchanged.
+pub fn abort_payload(alloc: Global, decoder: &mut SixelDecoder, chunk: &[u8], settings: DcsSettings)
     ensures { decoder.new ≡ decoder.old }
 {
     if let Ok(mut session) = decoder.begin_frame(alloc, settings) {
-        let _ = session.feed(piece);
+        let _ = session.feed(chunk);
         session.abort();
     }
 }
