@@ -1,4 +1,5 @@
 pub mod Chunks
+pub mod FinalRows
 pub mod Outcomes
 pub mod RegisterRange
 pub mod Steps

@@ -1,3 +1,4 @@
+pub mod FinalRows
 pub mod ImageView
 pub mod Script
 pub mod Receiver

@@ -9,7 +9,10 @@ ghost use Rattle.icy_sixel.specs.ReceiverCalls.{IsBegun, IsFed, IsFinished, IsAb
 ghost use Rattle.icy_sixel.specs.ReceiverCalls.{IsPaintCount, IsSizeSoFar};
 ghost use Rattle.icy_sixel.specs.inside.Receiving.{reception_of};
 
+mod final_rows;
 mod settings;
+
+pub use final_rows::stable_rows;
 
 use crate::decoder::{DcsSettings, SixelDcsFeedResult, SixelDecoder, SixelFeedResult};
 use crate::script::Status;

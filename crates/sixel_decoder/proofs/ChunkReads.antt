@@ -42,7 +42,7 @@ whole_fault limit (Newline ∷ h) f is = is
 whole_fault limit (Skip _ ∷ h) f is = is
 
 -- a command that goes on closes nothing
-closed-longer : (h : History) (byte : ℕ) → goes_on h byte ≡ true → closed (longer h byte) ≡ closed h
+pub closed-longer : (h : History) (byte : ℕ) → goes_on h byte ≡ true → closed (longer h byte) ≡ closed h
 closed-longer [] byte goes = absurd cc
 closed-longer (Sixel _ ∷ h) byte goes = absurd cc
 closed-longer (Repeat _ ∷ h) byte goes = refl

@@ -45,18 +45,18 @@ settled_ended bytes more t is =
     rw (is, first_terminator-ended bytes more t is, before_terminator-ended bytes more t is) refl
 
 -- the tokens of the bytes so far, and how they go on with more
-history_more : (bytes more : List ℕ) → first_terminator bytes ≡ None
+pub history_more : (bytes more : List ℕ) → first_terminator bytes ≡ None
     → history_of (front (bytes ++ more)) ≡ fold read (history_of (front bytes)) (front more)
 history_more bytes more none =
     ap history_of (front-append bytes more none) ∙ fold-append read [] (front bytes) (front more)
 
-settled_open : (bytes : List ℕ) → first_terminator bytes ≡ None
+pub settled_open : (bytes : List ℕ) → first_terminator bytes ≡ None
     → settled bytes ≡ closed (history_of (front bytes))
 settled_open bytes none =
     ap (λ t. cond (is_some t) (history_of (front bytes)) (closed (history_of (front bytes)))) none
 
 -- what holds of the closed tokens and of all holds of those that are settled
-of_settled : (P : History → Type 0) (bytes : List ℕ) → P (history_of (front bytes))
+pub of_settled : (P : History → Type 0) (bytes : List ℕ) → P (history_of (front bytes))
     → P (closed (history_of (front bytes))) → P (settled bytes)
 of_settled P bytes all some =
     elim (is_some (first_terminator bytes)) as

@@ -16,6 +16,7 @@ pub mod DcsEnds
 pub mod DcsChunks
 pub mod DcsPayloads
 pub mod Finality
+pub mod FinalRows
 pub mod Sessions
 pub mod Lanes
 pub mod SixelRuns

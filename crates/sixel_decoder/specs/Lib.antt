@@ -1,4 +1,5 @@
 pub mod DcsCalls
+pub mod FinalRows
 pub mod OneShotCalls
 pub mod Paints
 pub mod PayloadCalls

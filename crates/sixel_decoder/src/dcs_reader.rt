@@ -8,6 +8,8 @@ ghost use Rattle.sixel_decoder.specs.DcsCalls.{begun, IsFed, IsFinished, IsSizeS
 ghost use Rattle.sixel_decoder.specs.DcsCalls.{IsWriteCount, IsPaintCount, IsBandPaintCount};
 ghost use Rattle.sixel_decoder.specs.PictureView.{picture_value};
 
+mod final_rows;
+
 use crate::dcs_parser::{DcsParser, DcsState};
 use crate::decoded_payload::DecodedPayload;
 use crate::log::Log;

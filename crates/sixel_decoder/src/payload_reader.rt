@@ -8,6 +8,8 @@ ghost use Rattle.sixel_decoder.specs.PayloadCalls.{begun, IsFed, IsFinished, IsS
 ghost use Rattle.sixel_decoder.specs.PayloadCalls.{IsWriteCount, IsPaintCount, IsBandPaintCount};
 ghost use Rattle.sixel_decoder.specs.PictureView.{picture_value};
 
+mod final_rows;
+
 use crate::decoded_payload::DecodedPayload;
 use crate::log::Log;
 use crate::payload_parser::PayloadParser;

@@ -1,0 +1,47 @@
+-- Final rows stay, in an image of either form.
+use Rattle.std.proofs.Common.{◌≡◌, ℕ, ◌<◌, ◌≤◌, List, ◌++◌, refl, ap, sym, ◌∙◌, subst, arith}
+use Rattle.sixel_base.specs.Decoder.{origin_of}
+use Rattle.sixel_base.specs.OneShot.{Found, Payload, NoPayload, IsFoundImage}
+use Rattle.sixel_base.specs.Payload.{Image, settled}
+use Rattle.sixel_base.specs.Picture.{picture}
+use Rattle.sixel_base.specs.declared.state.DecoderState.{DecoderState}
+use Rattle.sixel_decoder.specs.FinalRows.{stage_final_rows}
+use Rattle.sixel_decoder.specs.FinalRows as rows
+use Rattle.sixel_decoder.proofs.DcsPayloads.{found_reading}
+use Rattle.sixel_decoder.proofs.FinalRows.{final_rows_stay, final_pixels_stay}
+use Rattle.sixel_decoder.proofs.FinalRows.{dcs_final_rows_stay, has_begun}
+use Rattle.sixel_decoder.proofs.Terminators.{stage_reading}
+use Rattle.icy_sixel.specs.FinalRows.{final_rows, found_pixel, pixel_so_far}
+use Rattle.icy_sixel.specs.Receiver.{Form, Nothing, OfPayload, OfString, found}
+
+pub rows_stay : (form : Form) (bytes more : List ℕ)
+    → final_rows form bytes ≤ final_rows form (bytes ++ more)
+rows_stay Nothing bytes more = omega arith
+rows_stay (OfPayload settings) bytes more = final_rows_stay bytes more
+rows_stay OfString bytes more = dcs_final_rows_stay bytes more
+
+pub pixels_stay : (start : DecoderState) (form : Form) (bytes more : List ℕ) (column row : ℕ)
+    → row < final_rows form bytes
+    → pixel_so_far start form (bytes ++ more) column row ≡ pixel_so_far start form bytes column row
+pixels_stay start Nothing bytes more column row final = refl
+pixels_stay start (OfPayload settings) bytes more column row final =
+    final_pixels_stay (origin_of start settings) bytes more column row final
+pixels_stay start OfString bytes more column row final =
+    let begun = has_begun bytes (omega (arith, final)) in
+    let on = stage_reading bytes more begun.settings begun.payload begun.reading in
+    let above : row < rows.final_rows (settled begun.payload) =
+    omega (arith, final, ap stage_final_rows begun.reading) in
+    ap (λ (f : Found). found_pixel start f column row)
+    (found_reading (bytes ++ more) begun.settings (begun.payload ++ more) on)
+    ∙ final_pixels_stay (origin_of start begun.settings) begun.payload more column row above
+    ∙ sym (ap (λ (f : Found). found_pixel start f column row)
+    (found_reading bytes begun.settings begun.payload begun.reading))
+
+-- the pixels of an image are those of the picture
+pub image_pixels : (start : DecoderState) (payload : Found) (image : Image)
+    → IsFoundImage start payload image
+    → image.pixels ≡ picture (found_pixel start payload) image.width image.height
+image_pixels start (Payload settings bytes) image is =
+    subst (λ (i : Image).
+    i.pixels ≡ picture (found_pixel start (Payload settings bytes)) i.width i.height) (sym is) refl
+image_pixels start (NoPayload fault) image is = absurd is

@@ -1,0 +1,227 @@
+-- Final rows stay: no token that follows draws above the band of the next sixel.
+use Rattle.std.proofs.Common.{◌≡◌, ℕ, ◌+◌, ◌<◌, ◌≤◌, Bool, true, false, cond, List, [], ◌∷◌, ◌++◌}
+use Rattle.std.proofs.Common.{refl, ap, sym, ◌∙◌, subst, arith, Option, Some, None}
+use Rattle.std.specs.Prelude.{fold, nat_le, nat_lt, min, ◌&&◌}
+use Rattle.std.proofs.lemmas.Bool.Decides.{nat_tests}
+use Rattle.sixel_base.specs.Bytes.{front, first_terminator}
+use Rattle.sixel_base.specs.Dcs.{Stage, Heading, Failing, Reading, stage}
+use Rattle.sixel_base.specs.History.{Token, Sixel, Repeat, Raster, Color, Return, Newline, Skip}
+use Rattle.sixel_base.specs.History.{History, begun, longer, goes_on, read, history_of}
+use Rattle.sixel_base.specs.Payload.{closed, settled}
+use Rattle.sixel_base.specs.Picture.{covers, is_set}
+use Rattle.sixel_base.specs.Place.{across, span, down, height}
+use Rattle.sixel_base.specs.Settings.{Settings}
+use Rattle.sixel_base.specs.Stroke.{Origin, pixel}
+use Rattle.sixel_decoder.specs.FinalRows.{final_rows, stage_final_rows, dcs_final_rows}
+use Rattle.sixel_decoder.proofs.ChunkReads.{closed-longer}
+use Rattle.sixel_decoder.proofs.Finality.{history_more, settled_open, of_settled, settled_ended}
+use Rattle.sixel_decoder.proofs.Finality.{front_ended}
+use Rattle.sixel_decoder.proofs.Terminators.{stage_reading}
+
+-- A history continues another: its band is no higher, its picture no lower, and the rows above the
+-- band of the other have the same pixels.
+pub record Continues (older newer : History) : Type 0 where
+  pub lower : down older ≤ down newer
+  pub taller : height older ≤ height newer
+  pub pixels : (origin : Origin) (column row : ℕ) → row < down older
+      → pixel origin newer column row ≡ pixel origin older column row
+
+-- a sixel covers no pixel above its band
+above_band : (from to top bits column row : ℕ) → row < top
+    → covers from to top bits column row ≡ false
+above_band from to top bits column row above =
+    let higher : nat_le top row ≡ false = grind (arith, nat_tests) in
+    rw higher (elim (nat_le from column) as (λ a. (a && nat_lt column to && false) ≡ false) [
+      | true ↦ elim (nat_lt column to) as (λ b. (b && false) ≡ false) [ true ↦ refl | false ↦ refl ]
+      | false ↦ refl
+    ])
+
+-- one more token
+continues_token : (token : Token) (older newer : History) → Continues older newer
+    → Continues older (token ∷ newer)
+continues_token (Sixel bits) older newer is = record {
+  lower = is.lower;
+  taller = omega (arith, is.taller);
+  pixels = λ origin column row above.
+      rw (above_band (across newer) (across newer + span newer) (down newer) bits column row
+      (omega (arith, above, is.lower))) (is.pixels origin column row above);
+}
+continues_token (Repeat t) older newer is = record {
+  lower = is.lower;
+  taller = is.taller;
+  pixels = is.pixels;
+}
+continues_token (Raster t) older newer is = record {
+  lower = is.lower;
+  taller = omega (arith, is.taller);
+  pixels = is.pixels;
+}
+continues_token (Color t) older newer is = record {
+  lower = is.lower;
+  taller = is.taller;
+  pixels = is.pixels;
+}
+continues_token Return older newer is = record {
+  lower = is.lower;
+  taller = is.taller;
+  pixels = is.pixels;
+}
+continues_token Newline older newer is = record {
+  lower = omega (arith, is.lower);
+  taller = is.taller;
+  pixels = is.pixels;
+}
+continues_token (Skip byte) older newer is = record {
+  lower = is.lower;
+  taller = is.taller;
+  pixels = is.pixels;
+}
+
+-- all tokens continue what the closed ones do
+continues_whole : (older h : History) → Continues older (closed h) → Continues older h
+continues_whole older [] is = is
+continues_whole older (Sixel b ∷ h) is = is
+continues_whole older (Repeat t ∷ h) is = continues_token (Repeat t) older h is
+continues_whole older (Raster t ∷ h) is = continues_token (Raster t) older h is
+continues_whole older (Color t ∷ h) is = continues_token (Color t) older h is
+continues_whole older (Return ∷ h) is = is
+continues_whole older (Newline ∷ h) is = is
+continues_whole older (Skip b ∷ h) is = is
+
+-- the closed ones of a history with one more token
+continues_closed : (token : Token) (older h : History) → Continues older h
+    → Continues older (closed (token ∷ h))
+continues_closed (Sixel b) older h is = continues_token (Sixel b) older h is
+continues_closed (Repeat t) older h is = is
+continues_closed (Raster t) older h is = is
+continues_closed (Color t) older h is = is
+continues_closed Return older h is = continues_token Return older h is
+continues_closed Newline older h is = continues_token Newline older h is
+continues_closed (Skip b) older h is = continues_token (Skip b) older h is
+
+continues_read : (older h : History) (byte : ℕ) → Continues older (closed h)
+    → Continues older (closed (read h byte))
+continues_read older h byte is =
+    (elim (goes_on h byte) as
+    (λ g. goes_on h byte ≡ g
+    → Continues older (closed (cond g (longer h byte) (begun byte ∷ h)))) [
+      | true ↦ λ goes. subst (λ (w : History). Continues older w) (sym (closed-longer h byte goes)) is
+      | false ↦ λ ends. continues_closed (begun byte) older h (continues_whole older h is)
+    ]) refl
+
+continues_fold : (older h : History) (bytes : List ℕ) → Continues older (closed h)
+    → Continues older (closed (fold read h bytes))
+continues_fold older h [] is = is
+continues_fold older h (byte ∷ bytes) is =
+    continues_fold older (read h byte) bytes (continues_read older h byte is)
+
+continues_self : (h : History) → Continues h h
+continues_self h = record {
+  lower = omega arith;
+  taller = omega arith;
+  pixels = λ origin column row above. refl;
+}
+
+-- the tokens of a payload so far, and those once more bytes came: settled or all
+record GoesOn (bytes more : List ℕ) : Type 0 where
+  some : Continues (settled bytes) (settled (bytes ++ more))
+  all : Continues (settled bytes) (history_of (front (bytes ++ more)))
+
+goes_on_by : (bytes more : List ℕ) (o : Option ℕ) → first_terminator bytes ≡ o → GoesOn bytes more
+goes_on_by bytes more None none =
+    let h : History = history_of (front bytes) in
+    let next : History = history_of (front (bytes ++ more)) in
+    let closed_on : Continues (closed h) (closed next) =
+    subst (λ (w : History). Continues (closed h) (closed w)) (sym (history_more bytes more none))
+    (continues_fold (closed h) h (front more) (continues_self (closed h))) in
+    let whole_on : Continues (closed h) next = continues_whole (closed h) next closed_on in
+    let start : closed h ≡ settled bytes = sym (settled_open bytes none) in
+    record {
+      some = subst (λ (w : History). Continues w (settled (bytes ++ more))) start
+          (of_settled (Continues (closed h)) (bytes ++ more) whole_on closed_on);
+      all = subst (λ (w : History). Continues w next) start whole_on;
+    }
+goes_on_by bytes more (Some t) some =
+    let all : settled bytes ≡ history_of (front bytes) = rw some refl in
+    record {
+      some = subst (λ (w : History). Continues (settled bytes) w)
+          (sym (settled_ended bytes more t some)) (continues_self (settled bytes));
+      all = subst (λ (w : History). Continues (settled bytes) w)
+          (all ∙ ap history_of (sym (front_ended bytes more t some)))
+          (continues_self (settled bytes));
+    }
+
+goes_on_more : (bytes more : List ℕ) → GoesOn bytes more
+goes_on_more bytes more = goes_on_by bytes more (first_terminator bytes) refl
+
+-- no open command draws
+pixel-closed : (origin : Origin) (h : History) (column row : ℕ)
+    → pixel origin (closed h) column row ≡ pixel origin h column row
+pixel-closed origin [] column row = refl
+pixel-closed origin (Sixel b ∷ h) column row = refl
+pixel-closed origin (Repeat t ∷ h) column row = refl
+pixel-closed origin (Raster t ∷ h) column row = refl
+pixel-closed origin (Color t ∷ h) column row = refl
+pixel-closed origin (Return ∷ h) column row = refl
+pixel-closed origin (Newline ∷ h) column row = refl
+pixel-closed origin (Skip b ∷ h) column row = refl
+
+-- ---- a payload
+
+-- a picture shows the settled tokens
+pub pixel_settled : (origin : Origin) (bytes : List ℕ) (column row : ℕ)
+    → pixel origin (settled bytes) column row ≡ pixel origin (history_of (front bytes)) column row
+pixel_settled origin bytes column row =
+    of_settled (λ h. pixel origin h column row ≡ pixel origin (history_of (front bytes)) column row)
+    bytes refl (pixel-closed origin (history_of (front bytes)) column row)
+
+-- final rows never become fewer
+pub final_rows_stay : (bytes more : List ℕ)
+    → final_rows (settled bytes) ≤ final_rows (settled (bytes ++ more))
+final_rows_stay bytes more =
+    let on = (goes_on_more bytes more).some in
+    omega (arith, on.lower, on.taller)
+
+-- they have the same pixels, whatever bytes follow
+pub final_pixels_stay : (origin : Origin) (bytes more : List ℕ) (column row : ℕ)
+    → row < final_rows (settled bytes)
+    → pixel origin (history_of (front (bytes ++ more))) column row
+    ≡ pixel origin (history_of (front bytes)) column row
+final_pixels_stay origin bytes more column row final =
+    (goes_on_more bytes more).all.pixels origin column row (omega (arith, final))
+    ∙ pixel_settled origin bytes column row
+
+-- ---- a DCS sequence
+
+rows_in : (bytes more : List ℕ) (w : Stage) → stage bytes ≡ w
+    → stage_final_rows w ≤ dcs_final_rows (bytes ++ more)
+rows_in bytes more Heading is = omega arith
+rows_in bytes more (Failing f) is = omega arith
+rows_in bytes more (Reading s payload) is =
+    omega (
+      arith,
+      ap stage_final_rows (stage_reading bytes more s payload is),
+      final_rows_stay payload more,
+    )
+
+pub dcs_final_rows_stay : (bytes more : List ℕ)
+    → dcs_final_rows bytes ≤ dcs_final_rows (bytes ++ more)
+dcs_final_rows_stay bytes more = rows_in bytes more (stage bytes) refl
+
+-- where there are final rows, the payload has begun
+pub record HasBegun (bytes : List ℕ) : Type 0 where
+  pub settings : Settings
+  pub payload : List ℕ
+  pub reading : stage bytes ≡ Reading settings payload
+
+begun_in : (bytes : List ℕ) (w : Stage) → stage bytes ≡ w → 0 < stage_final_rows w → HasBegun bytes
+begun_in bytes Heading is some = absurd (omega (arith, some))
+begun_in bytes (Failing f) is some = absurd (omega (arith, some))
+begun_in bytes (Reading s payload) is some = record {
+  settings = s;
+  payload = payload;
+  reading = is;
+}
+
+pub has_begun : (bytes : List ℕ) → 0 < dcs_final_rows bytes → HasBegun bytes
+has_begun bytes some = begun_in bytes (stage bytes) refl some
