@@ -1,5 +1,5 @@
--- The six rows of a band in one block of pixels: what a run, eight sixels and a greater width do to
--- a pixel.
+-- The six rows of a band in one block of pixels: what a run, sixels of one column and a greater
+-- width do to a pixel.
 use Rattle.std.proofs.Common.{◌≡◌, ℕ, zero, suc, ◌+◌, ◌-◌, ◌*◌, ◌<◌, ◌≤◌, Bool, true, false, List}
 use Rattle.std.proofs.Common.{[], ◌∷◌, ◌++◌, length, get_or, take, drop, replicate, refl, sym, ap}
 use Rattle.std.proofs.Common.{◌∙◌, inl, inr, eq-eqb, length-append, length-take, get_or-take}
@@ -9,9 +9,10 @@ use Rattle.std.proofs.lemmas.Bool.{cases_lt, cases_order, lt-ltb, le-ltb, lt-leb
 use Rattle.std.proofs.lemmas.Bool.{eqb-true, leb-true, true≢false}
 use Rattle.std.proofs.lemmas.Nat.{row_fits}
 use Rattle.std.proofs.lemmas.List.{get_or_append_left, get_or-append_right, get_or_past}
+use Rattle.sixel_canvas.proofs.Lanes.{each_of_four, four_lanes, get_or-twice}
 use Rattle.sixel_base.specs.Picture.{covers, is_set, is_struck}
 use Rattle.sixel_canvas.specs.inside.Drawn.{covers_block}
-use Rattle.sixel_canvas.specs.inside.Band.{filled, mixed_at, stored}
+use Rattle.sixel_canvas.specs.inside.Band.{covers_four, filled, mixed_at, stored}
 
 leb_shift : (c a b : ℕ) → nat_le (c + a) (c + b) ≡ nat_le a b
 leb_shift c a b = grind arith
@@ -147,28 +148,28 @@ mixed_here true false s false a b t same is = refl
 mixed_here true false s true false b t same is = refl
 mixed_here true false s true true false t same is = refl
 
--- one row of eight sixels more
+-- one row of four sixels more
 pub mixed_more :
     (px mid new : List (List ℕ)) (wide from bit : ℕ) (sixels color d : List ℕ) (column k : ℕ) →
-    column < wide → k < 6 → from + 8 ≤ wide →
+    column < wide → k < 6 → from + 4 ≤ wide →
     stored mid wide d column k
-    ≡ (if nat_lt k bit && covers_block from sixels 0 column k then color
+    ≡ (if nat_lt k bit && covers_four from sixels column k then color
     else stored px wide d column k) →
     ((i : ℕ) → get_or new i d ≡ mixed_at (bit * wide + from) sixels bit color i (get_or mid i d)) →
     stored new wide d column k
-    ≡ (if nat_lt k (bit + 1) && covers_block from sixels 0 column k then color
+    ≡ (if nat_lt k (bit + 1) && covers_four from sixels column k then color
     else stored px wide d column k)
 mixed_more px mid new wide from bit sixels color d column k inside six within before change =
-    let end : bit * wide + from + 8 ≡ bit * wide + (from + 8) = omega arith in
+    let end : bit * wide + from + 4 ≡ bit * wide + (from + 4) = omega arith in
     let placed =
     ap (λ e. nat_le (bit * wide + from) (k * wide + column) && nat_lt (k * wide + column) e) end
-    ∙ within_row wide from (from + 8) bit column k inside (omega arith) within in
-    more_rows _ _ _ (k == bit) (covers_block from sixels 0 column k) _ _ _ color
+    ∙ within_row wide from (from + 4) bit column k inside (omega arith) within in
+    more_rows _ _ _ (k == bit) (covers_four from sixels column k) _ _ _ color
     (change (k * wide + column))
     (mixed_here (nat_le (bit * wide + from) (k * wide + column))
-    (nat_lt (k * wide + column) (bit * wide + from + 8))
+    (nat_lt (k * wide + column) (bit * wide + from + 4))
     (is_set (get_or sixels (k * wide + column - (bit * wide + from)) 0) bit) (k == bit)
-    (nat_le from column) (nat_lt column (from + 8))
+    (nat_le from column) (nat_lt column (from + 4))
     (is_struck 0 (get_or sixels (column - from) 0) k) placed
     (λ here after. sixel_here sixels wide from bit column k six (leb-true from column after) here))
     before (rows_up k bit)
@@ -244,6 +245,105 @@ struck_blank : (k : ℕ) → is_struck 0 0 k ≡ false
 struck_blank k =
     let blank : is_set 0 (k - 0) ≡ false = grind arith in
     ap (λ s. nat_le 0 k && nat_lt k 6 && s) blank ∙ and_none (nat_le 0 k) (nat_lt k 6)
+
+-- four blank sixels cover nothing
+pub blank_four : (from column k : ℕ) (sixels : List ℕ) →
+    ((j : ℕ) → j < 4 → get_or sixels j 0 ≡ 0) → covers_four from sixels column k ≡ false
+blank_four from column k sixels blank = elim (cases_lt column from) [
+  | inl left ↦ rw (lt-leb from column left) refl
+  | inr after ↦ elim (cases_lt column (from + 4)) [
+    | inl inside ↦ rw (blank (column - from) (omega (arith, inside, after)))
+        (ap (λ s. nat_le from column && nat_lt column (from + 4) && s) (struck_blank k)
+        ∙ and_none (nat_le from column) (nat_lt column (from + 4)))
+    | inr right ↦ rw (le-leb from column after, le-ltb column (from + 4) right) refl
+  ]
+]
+
+-- eight sixels cover what their first four and their last four do
+halves_cover :
+    (from column k : ℕ) (sixels first last : List ℕ) (color x y z : List ℕ) →
+    ((j : ℕ) → j < 4 → get_or first j 0 ≡ get_or sixels j 0) →
+    ((j : ℕ) → j < 4 → get_or last j 0 ≡ get_or sixels (4 + j) 0) →
+    y ≡ (if covers_four from first column k then color else x) →
+    z ≡ (if covers_four (from + 4) last column k then color else y) →
+    z ≡ (if covers_block from sixels 0 column k then color else x)
+halves_cover from column k sixels first last color x y z start end before after =
+    elim (cases_lt column from) [
+      | inl left ↦
+          after
+          ∙ rw (lt-leb (from + 4) column (omega (arith, left)))
+          (before ∙ rw (lt-leb from column left) refl)
+      | inr from_on ↦ elim (cases_lt column (from + 4)) [
+        | inl inside ↦
+            after
+            ∙ rw (lt-leb (from + 4) column inside)
+            (before
+            ∙ rw (
+              le-leb from column from_on,
+              lt-ltb column (from + 4) inside,
+              lt-ltb column (from + 8) (omega (arith, inside)),
+              start (column - from) (omega (arith, inside, from_on)),
+            ) refl)
+        | inr past ↦
+            let place : 4 + (column - (from + 4)) ≡ column - from = omega (arith, past) in
+            let old : y ≡ x =
+            before ∙ rw (le-leb from column from_on, le-ltb column (from + 4) past) refl in
+            elim (cases_lt column (from + 8)) [
+              | inl here ↦
+                  let same : get_or last (column - (from + 4)) 0 ≡ get_or sixels (column - from) 0 =
+                  end (column - (from + 4)) (omega (arith, here, past))
+                  ∙ ap (λ n. get_or sixels n 0) place in
+                  after
+                  ∙ rw (
+                    le-leb (from + 4) column past,
+                    lt-ltb column (from + 4 + 4) (omega (arith, here)),
+                    le-leb from column from_on,
+                    lt-ltb column (from + 8) here,
+                    same,
+                    old,
+                  ) refl
+              | inr right ↦
+                  after
+                  ∙ rw (
+                    le-leb (from + 4) column past,
+                    le-ltb column (from + 4 + 4) (omega (arith, right)),
+                    le-leb from column from_on,
+                    le-ltb column (from + 8) right,
+                    old,
+                  ) refl
+            ]
+      ]
+    ]
+
+module _ (from column k : ℕ) (sixels : List ℕ) (long : length sixels ≡ 8) where
+  first_lanes : (j : ℕ) → j < 4 → get_or (four_lanes sixels 0) j 0 ≡ get_or sixels j 0
+  first_lanes =
+      each_of_four (λ j. get_or (four_lanes sixels 0) j 0 ≡ get_or sixels j 0)
+      (get_or-twice sixels 0 (omega (arith, long))) (get_or-twice sixels 1 (omega (arith, long)))
+      (get_or-twice sixels 2 (omega (arith, long))) (get_or-twice sixels 3 (omega (arith, long)))
+
+  last_lanes : (j : ℕ) → j < 4 → get_or (four_lanes sixels 4) j 0 ≡ get_or sixels (4 + j) 0
+  last_lanes =
+      each_of_four (λ j. get_or (four_lanes sixels 4) j 0 ≡ get_or sixels (4 + j) 0)
+      (get_or-twice sixels 4 (omega (arith, long))) (get_or-twice sixels 5 (omega (arith, long)))
+      (get_or-twice sixels 6 (omega (arith, long))) (get_or-twice sixels 7 (omega (arith, long)))
+
+  pub covers_halves : (color x y z : List ℕ) →
+      y ≡ (if covers_four from (four_lanes sixels 0) column k then color else x) →
+      z ≡ (if covers_four (from + 4) (four_lanes sixels 4) column k then color else y) →
+      z ≡ (if covers_block from sixels 0 column k then color else x)
+  covers_halves color x y z before after =
+      halves_cover from column k sixels (four_lanes sixels 0) (four_lanes sixels 4) color x y z
+      first_lanes last_lanes before after
+
+  -- or what their first four do, where the others are blank
+  pub covers_first : (color x y : List ℕ) →
+      ((j : ℕ) → j < 4 → get_or (four_lanes sixels 4) j 0 ≡ 0) →
+      y ≡ (if covers_four from (four_lanes sixels 0) column k then color else x) →
+      y ≡ (if covers_block from sixels 0 column k then color else x)
+  covers_first color x y blank before =
+      covers_halves color x y y before
+      (rw (blank_four (from + 4) column k (four_lanes sixels 4) blank) refl)
 
 -- one sixel so many times, and blank ones after it, cover what a run of it does
 pub covers_repeated : (from to bits column k : ℕ) (sixels : List ℕ) → from ≤ to → to ≤ from + 8 →

@@ -2,7 +2,7 @@ pub mod BandRows
 pub mod BandStates
 pub mod BandTags
 pub mod CopiedRows
-pub mod EightLanes
+pub mod Lanes
 pub mod HandedRows
 pub mod Pictures
 pub mod PixelBytes

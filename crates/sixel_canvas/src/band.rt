@@ -3,12 +3,13 @@ ghost use Rattle.std.specs.Prelude.{◌≡◌, ℕ, ◌+◌, ◌*◌, ◌≤◌,
 ghost use Rattle.std.specs.Prelude.{false, nat_le, nat_lt, ◌&&◌, ◌==◌, slice_index_or};
 ghost use Rattle.std.specs.Prelude.{IfOk, if◌then◌else◌};
 ghost use Rattle.sixel_base.specs.Picture.{covers};
-ghost use Rattle.sixel_canvas.specs.inside.Band.{cell, stored, IsBand};
+ghost use Rattle.sixel_canvas.specs.inside.Band.{cell, covers_four, stored, IsBand};
 ghost use Rattle.sixel_canvas.specs.inside.Drawn.{covers_block};
 
 use crate::pixel_row::{fill, mix};
 use std::alloc::{AllocError, Global};
 use std::marker::Model;
+use std::simd::prelude::*;
 
 /// The most columns that a band has memory for: those of an image, and eight blank ones.
 pub const MAX_CAP: usize = 1_000_008;
@@ -250,24 +251,10 @@ fn repeated(bits: u8, count: usize) -> [u8; 8]
     requires { count ≤ 8 }
     ensures { (j : ℕ) → slice_index_or result j 0 ≡ (if nat_lt j count then bits else 0) }
 {
-    [
-        lane(bits, 0, count),
-        lane(bits, 1, count),
-        lane(bits, 2, count),
-        lane(bits, 3, count),
-        lane(bits, 4, count),
-        lane(bits, 5, count),
-        lane(bits, 6, count),
-        lane(bits, 7, count),
-    ]
-}
-
-/// Returns the sixel where lane `j` is one of so many, and else a blank one.
-#[inline(always)]
-fn lane(bits: u8, j: usize, count: usize) -> u8
-    ensures { result ≡ (if nat_lt j count then bits else 0) }
-{
-    if j < count { bits } else { 0 }
+    u8x8::from_array([0, 1, 2, 3, 4, 5, 6, 7])
+        .simd_lt(u8x8::splat(count as u8))
+        .select(u8x8::splat(bits), u8x8::splat(0))
+        .to_array()
 }
 
 /// Draws a sixel row by row.
@@ -291,6 +278,8 @@ fn fill_rows(pixels: &mut [[u8; 4]], cap: usize, from: usize, to: usize, bits: u
 }
 
 /// Draws eight sixels of one column each, from `from` on, in six rows.
+///
+/// The last four are often blank, because most colors change after a few columns.
 #[inline(always)]
 fn mix_rows(pixels: &mut [[u8; 4]], cap: usize, from: usize, sixels: [u8; 8], color: [u8; 4])
     requires within { from + 8 ≤ cap }
@@ -301,6 +290,25 @@ fn mix_rows(pixels: &mut [[u8; 4]], cap: usize, from: usize, sixels: [u8; 8], co
         → stored pixels.new cap d column k
         ≡ (if covers_block from sixels 0 column k then color
         else stored pixels.old cap d column k) }
+{
+    let lanes = u8x8::from_array(sixels);
+    let last = lanes.extract::<4, 4>().to_array();
+    mix_four(pixels, cap, from, lanes.extract::<0, 4>().to_array(), color);
+    if u32::from_le_bytes(last) > 0 {
+        mix_four(pixels, cap, from + 4, last, color);
+    }
+}
+
+/// Draws four sixels of one column each, from `from` on, in six rows.
+#[inline(always)]
+fn mix_four(pixels: &mut [[u8; 4]], cap: usize, from: usize, sixels: [u8; 4], color: [u8; 4])
+    requires within { from + 4 ≤ cap }
+    requires few { cap ≤ 1000008 }
+    requires fits { length pixels.old ≡ 6 * cap }
+    ensures len { length pixels.new ≡ length pixels.old }
+    ensures drawn { (d : List ℕ) (column k : ℕ) → column < cap → k < 6
+        → stored pixels.new cap d column k
+        ≡ (if covers_four from sixels column k then color else stored pixels.old cap d column k) }
 {
     'mixed: for bit in 0..6 {
         mix(pixels, bit * cap + from, sixels, bit, color);

@@ -1,11 +1,15 @@
 -- The bits of the sixels at the front of bytes, one after another.
-use Rattle.std.proofs.Common.{◌≡◌, ℕ, zero, suc, ◌<◌, ◌≤◌, ◌-◌}
-use Rattle.std.proofs.Common.{List, [], ◌∷◌, length, set, get_or, take}
-use Rattle.std.proofs.Common.{subst, refl}
-use Rattle.std.proofs.Common.{sym, inl, inr, arith}
-use Rattle.std.proofs.lemmas.List.{get_or-set_same, get_or-set_other}
-use Rattle.std.proofs.lemmas.Bool.{cases_lt}
-use Rattle.sixel_decoder.specs.inside.Runs.{bits_of}
+use Rattle.std.proofs.Common.{◌≡◌, ℕ, zero, suc, ◌+◌, ◌<◌, ◌≤◌, ◌-◌, Bool, true, false, cond}
+use Rattle.std.proofs.Common.{List, [], ◌∷◌, length, get_or, replicate, take}
+use Rattle.std.proofs.Common.{refl, ap, ◌∙◌, inl, inr, arith}
+use Rattle.std.specs.Prelude.{nat_lt, if◌then◌else◌}
+use Rattle.std.proofs.lemmas.Bool.{cases_lt, lt-ltb, le-ltb}
+use Rattle.std.proofs.lemmas.List.{get_or_past, get_or-replicate}
+use Rattle.std.proofs.lemmas.Simd.{get_or-chunk, get_or-sel_l, get_or-zip2, length-chunk}
+use Rattle.std.proofs.lemmas.Simd.{length-sel_l, length-zip2}
+use lib.Lanes.{chunk, sel_l, top, zip2}
+use Rattle.sixel_decoder.specs.inside.Runs.{IsSixelByte, bits_of}
+use Rattle.sixel_decoder.proofs.Lanes.{lowered}
 
 -- the bits of bytes at the front, by the bits of each
 pub bits_front : (len : ℕ) (bits bytes : List ℕ) → len ≤ length bits → len ≤ length bytes
@@ -22,20 +26,82 @@ bits_front (suc n) (bit ∷ bits) (byte ∷ bytes) le le' same =
           (λ k lt. same (suc k) (omega (arith, lt))),
     ) refl
 
--- a fact of each element, after one was replaced
-pub each-set : (P : ℕ → ℕ → Type 0) (xs : List ℕ) (k x : ℕ) → k < length xs → P k x
-    → ((j : ℕ) → (j ≡ k → ⊥) → P j (get_or xs j 0)) → (j : ℕ) → P j (get_or (set xs k x) j 0)
-each-set P xs k x within here others j = elim (cases_lt j k) [
-  | inl below ↦
-      subst (P j) (sym (get_or-set_other xs k j x 0 (λ is. omega (arith, below, is))))
-      (others j (λ is. omega (arith, below, is)))
-  | inr from ↦ elim (cases_lt k j) [
-    | inl above ↦
-        subst (P j) (sym (get_or-set_other xs k j x 0 (λ is. omega (arith, above, is))))
-        (others j (λ is. omega (arith, above, is)))
-    | inr to ↦
-        let same : k ≡ j = omega (arith, from, to) in
-        subst (λ (i : ℕ). P i (get_or (set xs k x) i 0)) same
-        (subst (P k) (sym (get_or-set_same xs k x 0 within)) here)
+-- whether a lane of eight is among so many at the front
+abbrev front_mask : ℕ → List Bool
+front_mask len =
+    top 7 (cond (nat_lt 0 len) 255 0) ∷ top 7 (cond (nat_lt 1 len) 255 0)
+    ∷ top 7 (cond (nat_lt 2 len) 255 0) ∷ top 7 (cond (nat_lt 3 len) 255 0)
+    ∷ top 7 (cond (nat_lt 4 len) 255 0) ∷ top 7 (cond (nat_lt 5 len) 255 0)
+    ∷ top 7 (cond (nat_lt 6 len) 255 0) ∷ top 7 (cond (nat_lt 7 len) 255 0) ∷ []
+
+top_is : (hit : Bool) → top 7 (cond hit 255 0) ≡ hit
+top_is true = refl
+top_is false = refl
+
+get_or-front_mask : (len k : ℕ) → k < 8 → get_or (front_mask len) k false ≡ nat_lt k len
+get_or-front_mask len zero less = top_is (nat_lt 0 len)
+get_or-front_mask len (suc zero) less = top_is (nat_lt 1 len)
+get_or-front_mask len (suc (suc zero)) less = top_is (nat_lt 2 len)
+get_or-front_mask len (suc (suc (suc zero))) less = top_is (nat_lt 3 len)
+get_or-front_mask len (suc (suc (suc (suc zero)))) less = top_is (nat_lt 4 len)
+get_or-front_mask len (suc (suc (suc (suc (suc zero))))) less = top_is (nat_lt 5 len)
+get_or-front_mask len (suc (suc (suc (suc (suc (suc zero)))))) less = top_is (nat_lt 6 len)
+get_or-front_mask len (suc (suc (suc (suc (suc (suc (suc zero))))))) less = top_is (nat_lt 7 len)
+get_or-front_mask len (suc (suc (suc (suc (suc (suc (suc (suc k)))))))) less =
+    absurd (omega (arith, less))
+
+-- the bits of eight bytes, of which so many at the front are sixels, and no bits past those
+abbrev pub front_bits : ℕ → List ℕ → List ℕ
+front_bits len bytes =
+    sel_l (front_mask len) (zip2 lowered (chunk 0 8 bytes) (replicate 8 63)) (replicate 8 0)
+
+module _ (len : ℕ) (bytes : List ℕ) (long : 8 ≤ length bytes) (few : len ≤ 8)
+    (fits : (k : ℕ) → get_or bytes k 0 < 256)
+    (sixels : (k : ℕ) → k < len → IsSixelByte (get_or bytes k 0)) where
+  abbrev low : List ℕ
+  low = zip2 lowered (chunk 0 8 bytes) (replicate 8 63)
+
+  long_low : length low ≡ 8
+  long_low =
+      length-zip2 lowered (chunk 0 8 bytes) (replicate 8 63) (length-chunk 0 8 bytes long)
+      ∙ length-chunk 0 8 bytes long
+
+  lane : (k : ℕ) → k < 8 → get_or (front_bits len bytes) k 0
+      ≡ (if nat_lt k len then lowered (get_or bytes k 0) 63 else 0)
+  lane k less =
+      let eight : length (chunk 0 8 bytes) ≡ 8 = length-chunk 0 8 bytes long in
+      let start : 0 + k ≡ k = omega arith in
+      let here : get_or low k 0 ≡ lowered (get_or bytes k 0) 63 =
+      get_or-zip2 lowered (chunk 0 8 bytes) (replicate 8 63) k 0 0 0 (omega (arith, less, eight))
+      less
+      ∙ rw (get_or-chunk 0 8 bytes k 0 less, get_or-replicate {A = ℕ} 8 k 63 0 less)
+      (ap (λ n. lowered (get_or bytes n 0) 63) start) in
+      get_or-sel_l (front_mask len) low (replicate 8 0) k 0 less (omega (arith, less, long_low))
+      less
+      ∙ rw (get_or-front_mask len k less, here, get_or-replicate {A = ℕ} 8 k 0 0 less) refl
+
+  pub front_sixel : (k : ℕ) → k < len → get_or (front_bits len bytes) k 0 ≡ get_or bytes k 0 - 63
+  front_sixel k less =
+      let sixel = sixels k less in
+      lane k (omega (arith, less, few)) ∙ rw (lt-ltb k len less) (omega (arith, sixel.0, sixel.1))
+
+  length_bits : length (front_bits len bytes) ≡ 8
+  length_bits = length-sel_l (front_mask len) low (replicate 8 0) (omega (arith, long_low)) refl
+
+  pub front_blank : (k : ℕ) → len ≤ k → get_or (front_bits len bytes) k 0 ≡ 0
+  front_blank k past = elim (cases_lt k 8) [
+    | inl inside ↦ lane k inside ∙ rw (le-ltb k len past) refl
+    | inr after ↦
+        get_or_past (front_bits len bytes) k 0 (omega (arith, after, length_bits))
   ]
-]
+
+  pub front_list : take len (front_bits len bytes) ≡ bits_of (take len bytes)
+  front_list =
+      bits_front len (front_bits len bytes) bytes (omega (arith, few, length_bits))
+      (omega (arith, few, long)) front_sixel
+
+  pub front_six : (k : ℕ) → get_or (front_bits len bytes) k 0 < 64
+  front_six k = elim (cases_lt k len) [
+    | inl less ↦ rw (front_sixel k less) (omega (arith, (sixels k less).1))
+    | inr past ↦ rw (front_blank k past) (omega arith)
+  ]

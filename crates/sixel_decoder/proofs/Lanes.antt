@@ -13,7 +13,7 @@ use lib.Lanes.{chunk, zip2, mask_l, top}
 use Rattle.sixel_decoder.specs.inside.Runs.{IsSixelByte}
 
 -- a byte less 63, which goes round below
-abbrev lowered : ℕ → ℕ → ℕ
+abbrev pub lowered : ℕ → ℕ → ℕ
 lowered a b = (a + (256 - b)) % 256
 
 -- whether a byte is no sixel

@@ -28,11 +28,12 @@ impl FrontSixels {
         ensures six { (k : ℕ) → slice_index_or result.bits k 0 < 64 }
     {
         let len = sixels_in_lanes(bytes);
-        let mut bits = [0; 8];
-        'bits: for k in 0..8 {
-            bits[k] = bits_if(k < len, bytes[k]);
+        let front = u8x8::from_array([0, 1, 2, 3, 4, 5, 6, 7]).simd_lt(u8x8::splat(len as u8));
+        let bits = front.select(u8x8::from_slice(bytes) - u8x8::splat(0x3f), u8x8::splat(0));
+        FrontSixels {
+            len,
+            bits: bits.to_array(),
         }
-        FrontSixels { len, bits }
     }
 }
 
@@ -50,16 +51,4 @@ fn sixels_in_lanes(bytes: &[u8]) -> usize
     } else {
         others.trailing_zeros() as usize
     }
-}
-
-/// Returns the bits of a byte that is a sixel of the front, and none of any other.
-#[inline(always)]
-fn bits_if(of_front: bool, byte: u8) -> u8
-    requires { IsTrue of_front → IsSixelByte byte }
-    ensures sixel { IsTrue of_front → result ≡ byte - 63 }
-    ensures other { of_front ≡ false → result ≡ 0 }
-    ensures six { result < 64 }
-{
-    let bits = byte.wrapping_sub(0x3f);
-    if of_front { bits } else { 0 }
 }

@@ -1,18 +1,24 @@
 -- What a band shows: six rows of cap columns each, one after another in one block of pixels, and
 -- background from reach on. The layout is this library's own.
 use Rattle.std.specs.Prelude.{◌≡◌, ℕ, ◌+◌, ◌-◌, ◌*◌, ◌≤◌, List, length, slice_index_or}
-use Rattle.std.specs.Prelude.{◌&&◌, nat_le, nat_lt, if◌then◌else◌}
-use Rattle.sixel_base.specs.Picture.{is_set}
+use Rattle.std.specs.Prelude.{Bool, ◌&&◌, nat_le, nat_lt, if◌then◌else◌}
+use Rattle.sixel_base.specs.Picture.{is_set, is_struck}
 
 -- a row of pixels, those from from up to before to in this color
 abbrev pub filled : ℕ → ℕ → List ℕ → ℕ → List ℕ → List ℕ
 filled from to color i pixel = if nat_le from i && nat_lt i to then color else pixel
 
--- a pixel of the row of this bit, where eight sixels start at place at
+-- a pixel of the row of this bit, where four sixels start at place at
 abbrev pub mixed_at : ℕ → List ℕ → ℕ → List ℕ → ℕ → List ℕ → List ℕ
 mixed_at at sixels bit color i pixel =
-    if nat_le at i && nat_lt i (at + 8) && is_set (slice_index_or sixels (i - at) 0) bit then color
+    if nat_le at i && nat_lt i (at + 4) && is_set (slice_index_or sixels (i - at) 0) bit then color
     else pixel
+
+-- whether four sixels of one column each, the first at column from, cover the pixel of row k
+abbrev pub covers_four : ℕ → List ℕ → ℕ → ℕ → Bool
+covers_four from sixels column k =
+    nat_le from column && nat_lt column (from + 4)
+    && is_struck 0 (slice_index_or sixels (column - from) 0) k
 
 -- the pixel at a column of row k, in rows of cap columns
 abbrev pub stored : List (List ℕ) → ℕ → List ℕ → ℕ → ℕ → List ℕ

@@ -1,13 +1,20 @@
-use Rattle.std.proofs.Common.{◌∙◌}
-use Rattle.sixel_canvas.proofs.BandRows.{mixed_more}
+use Rattle.std.proofs.Common.{◌≡◌, ℕ, ◌<◌, get_or, length, arith}
+use Rattle.sixel_canvas.proofs.BandRows.{covers_first, covers_halves}
+use Rattle.sixel_canvas.proofs.Lanes.{each_of_four, four_lanes}
 use Rattle.sixel_canvas.proofs.band.mix_rows.Goals as goal
 
-pub mixed-preserved : goal.mixed-preserved
-mixed-preserved c =
-    let before = c.mixed.invariant in (
-      c.mix.ensures.len ∙ before.0,
-      λ d column k inside six.
-          mixed_more c.args.pixels.now c.mixed.pixels c.mix.new.pixels c.args.cap c.args.from
-          c.mixed.bit c.args.sixels c.args.color d column k inside six c.requires.within
-          (before.1 d column k inside six) (c.mix.ensures.mixed d),
-    )
+pub returns-then-from_le_bytes-gt0-clause-drawn : goal.returns-then-from_le_bytes-gt0-clause-drawn
+returns-then-from_le_bytes-gt0-clause-drawn c = λ d column k inside six.
+    covers_halves c.args.from column k c.args.sixels (omega arith) c.args.color _ _ _
+    (c.mix_four.ensures.drawn d column k inside six)
+    (c.mix_four-then-from_le_bytes-gt0.ensures.drawn d column k inside six)
+
+pub returns-else-from_le_bytes-gt0-clause-drawn : goal.returns-else-from_le_bytes-gt0-clause-drawn
+returns-else-from_le_bytes-gt0-clause-drawn c = λ d column k inside six.
+    let number = c.from_le_bytes.ensures in
+    let none = c.if-from_le_bytes-gt0.false in
+    let blank : (j : ℕ) → j < 4 → get_or (four_lanes c.args.sixels 4) j 0 ≡ 0 =
+    each_of_four (λ j. get_or (four_lanes c.args.sixels 4) j 0 ≡ 0) (omega (arith, number, none))
+    (omega (arith, number, none)) (omega (arith, number, none)) (omega (arith, number, none)) in
+    covers_first c.args.from column k c.args.sixels (omega arith) c.args.color _ _ blank
+    (c.mix_four.ensures.drawn d column k inside six)

@@ -3,7 +3,7 @@ use Rattle.std.specs.Prelude.{slice_index, if◌then◌else◌}
 use Rattle.std.specs.Int.{to_le_bytes, w32}
 use Rattle.std.proofs.lemmas.List.{length-set}
 use Rattle.sixel_base.specs.Picture.{is_set}
-use Rattle.sixel_canvas.proofs.EightLanes.{bytes_of, each_of_eight, mixed_step, none_mixed, read_at}
+use Rattle.sixel_canvas.proofs.Lanes.{bytes_of, each_of_four, mixed_step, none_mixed, read_at}
 use Rattle.sixel_canvas.proofs.pixel_row.mix.Goals as goal
 
 pub mixed-init : goal.mixed-init
@@ -16,47 +16,27 @@ mixed-init c =
     let new = c.chosen-new.result in (
       refl,
       λ d k less.
-          each_of_eight (λ k. to_le_bytes w32 (slice_index new k)
+          each_of_four (λ k. to_le_bytes w32 (slice_index new k)
           ≡ (if is_set (slice_index sixels k) bit then color else get_or pixels (at + k) d))
-          (bytes_of (is_set (slice_index sixels 0) bit) (slice_index new 0) c.number-9.result
+          (bytes_of (is_set (slice_index sixels 0) bit) (slice_index new 0) c.number-5.result
           c.number.result color (get_or pixels (at + 0) d) (c.chosen-new.ensures 0 (omega arith))
-          c.number-9.ensures
+          c.number-5.ensures
           (c.number.ensures ∙ read_at pixels at 0 at d (omega arith)
           (omega (arith, c.requires.within))))
-          (bytes_of (is_set (slice_index sixels 1) bit) (slice_index new 1) c.number-9.result
+          (bytes_of (is_set (slice_index sixels 1) bit) (slice_index new 1) c.number-5.result
           c.number-2.result color (get_or pixels (at + 1) d) (c.chosen-new.ensures 1 (omega arith))
-          c.number-9.ensures
+          c.number-5.ensures
           (c.number-2.ensures ∙ read_at pixels at 1 (at + 1) d (omega arith)
           (omega (arith, c.requires.within))))
-          (bytes_of (is_set (slice_index sixels 2) bit) (slice_index new 2) c.number-9.result
+          (bytes_of (is_set (slice_index sixels 2) bit) (slice_index new 2) c.number-5.result
           c.number-3.result color (get_or pixels (at + 2) d) (c.chosen-new.ensures 2 (omega arith))
-          c.number-9.ensures
+          c.number-5.ensures
           (c.number-3.ensures ∙ read_at pixels at 2 (at + 2) d (omega arith)
           (omega (arith, c.requires.within))))
-          (bytes_of (is_set (slice_index sixels 3) bit) (slice_index new 3) c.number-9.result
+          (bytes_of (is_set (slice_index sixels 3) bit) (slice_index new 3) c.number-5.result
           c.number-4.result color (get_or pixels (at + 3) d) (c.chosen-new.ensures 3 (omega arith))
-          c.number-9.ensures
+          c.number-5.ensures
           (c.number-4.ensures ∙ read_at pixels at 3 (at + 3) d (omega arith)
-          (omega (arith, c.requires.within))))
-          (bytes_of (is_set (slice_index sixels 4) bit) (slice_index new 4) c.number-9.result
-          c.number-5.result color (get_or pixels (at + 4) d) (c.chosen-new.ensures 4 (omega arith))
-          c.number-9.ensures
-          (c.number-5.ensures ∙ read_at pixels at 4 (at + 4) d (omega arith)
-          (omega (arith, c.requires.within))))
-          (bytes_of (is_set (slice_index sixels 5) bit) (slice_index new 5) c.number-9.result
-          c.number-6.result color (get_or pixels (at + 5) d) (c.chosen-new.ensures 5 (omega arith))
-          c.number-9.ensures
-          (c.number-6.ensures ∙ read_at pixels at 5 (at + 5) d (omega arith)
-          (omega (arith, c.requires.within))))
-          (bytes_of (is_set (slice_index sixels 6) bit) (slice_index new 6) c.number-9.result
-          c.number-7.result color (get_or pixels (at + 6) d) (c.chosen-new.ensures 6 (omega arith))
-          c.number-9.ensures
-          (c.number-7.ensures ∙ read_at pixels at 6 (at + 6) d (omega arith)
-          (omega (arith, c.requires.within))))
-          (bytes_of (is_set (slice_index sixels 7) bit) (slice_index new 7) c.number-9.result
-          c.number-8.result color (get_or pixels (at + 7) d) (c.chosen-new.ensures 7 (omega arith))
-          c.number-9.ensures
-          (c.number-8.ensures ∙ read_at pixels at 7 (at + 7) d (omega arith)
           (omega (arith, c.requires.within))))
           k less,
       λ d i. none_mixed at i (is_set (get_or sixels (i - at) 0) bit) color (get_or pixels i d),

@@ -7,7 +7,7 @@ use Rattle.sixel_canvas.proofs.pixel_row.mix.Given as goal
 abbrev pub invariant-mixed : goal.invariant-mixed
 invariant-mixed l =
     (length l.pixels ≡ length l.fn.pixels)
-    × ((d : List ℕ) (k : ℕ) → k < 8
+    × ((d : List ℕ) (k : ℕ) → k < 4
     → to_le_bytes w32 (slice_index l.new k)
     ≡ (if is_set (slice_index l.fn.sixels k) l.bit then l.fn.color
     else get_or l.fn.pixels (l.at + k) d))
