@@ -1,5 +1,6 @@
 //! The SIXEL text of an image, by [`sixel_encoder`].
 
 pub use sixel_encoder::{
-    Dither, EncodeOptions, one_drawing, palette_indices, sixel_encode, sixel_encode_default,
+    Dither, EncodeOptions, TextForm, one_drawing, palette_indices, sixel_encode,
+    sixel_encode_default,
 };

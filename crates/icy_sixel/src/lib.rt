@@ -12,7 +12,9 @@ pub use decoder::{
     DcsSettings, SixelDcsFeedResult, SixelDcsFeedStatus, SixelDcsStreamDecoder, SixelDecoder,
     SixelFeedResult, SixelFeedStatus, SixelStreamDecoder, sixel_decode, sixel_decode_from_dcs,
 };
-pub use encoder::{Dither, EncodeOptions, palette_indices, sixel_encode, sixel_encode_default};
+pub use encoder::{
+    Dither, EncodeOptions, TextForm, palette_indices, sixel_encode, sixel_encode_default,
+};
 pub use receiver::{Received, SixelReceiver};
 pub use script::Status;
 pub use sixel_base::size::validate_encode_dimensions;

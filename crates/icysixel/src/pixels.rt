@@ -12,7 +12,7 @@ ghost use Rattle.icysixel.specs.Rows.{bytes_of, extent, rows_of, stride_of, want
 use crate::code::{Code, code_of};
 use crate::rows::{Layout, stride_of};
 use icy_sixel::{DcsSettings, validate_encode_dimensions};
-use sixel_encoder::{Source, encode_source};
+use sixel_encoder::{Source, TextForm, encode_source};
 use std::alloc::Global;
 
 /// The pixels of an image as C passes them.
@@ -137,7 +137,7 @@ impl<'a> Pixels<'a> {
             aspect_ratio: self.settings.pixel_aspect_ratio(),
             background_mode: self.settings.background_mode(),
         };
-        match encode_source(alloc, &source, max_colors) {
+        match encode_source(alloc, &source, max_colors, TextForm::Plain) {
             Ok(text) => Ok(text),
             Err(error) => Err(code_of(&error)),
         }

@@ -20,6 +20,13 @@ pub const TEXT_OF_TWO_COLORS: &str =
 /// The compact text of the pixels in two colors: both rows in one pass.
 pub const COMPACT_TEXT: &str = "\x1bP9;1;0q\"1;1;3;1#0;2;0;0;0#1;2;100;100;100#0@@#1@\x1b\\";
 
+/// The text of the pixels in their refined palette of two colors.
+pub const REFINED_TEXT: &str = "\x1bP9;1;0q\"1;1;3;1#0;2;2;0;0#1;2;100;100;100#0@@?$#1??@$-\x1b\\";
+
+/// The compact text of the pixels in that palette.
+pub const COMPACT_REFINED_TEXT: &str =
+    "\x1bP9;1;0q\"1;1;3;1#0;2;2;0;0#1;2;100;100;100#0@@#1@\x1b\\";
+
 /// The text of an image that cannot be encoded.
 pub const TEXT_OF_ERROR: &str = "[SIXEL encoding failed: invalid dimensions: 0x4]";
 

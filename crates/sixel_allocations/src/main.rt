@@ -10,11 +10,11 @@ mod session;
 mod steps;
 mod unallocated;
 
-use icy_sixel::encoder::Dither;
+use icy_sixel::encoder::{Dither, TextForm};
 use icy_sixel::{DcsSettings, EncodeOptions, Result, SixelDecoder, SixelImage};
 use image::{
-    COLORS, COMPACT_TEXT, INDICES, PIXELS, TEXT, TEXT_OF_ERROR, TEXT_OF_TWO_COLORS, choose_colors,
-    find_indices, grow_row, is_shown, is_text, refine_colors,
+    COLORS, COMPACT_REFINED_TEXT, COMPACT_TEXT, INDICES, PIXELS, REFINED_TEXT, TEXT, TEXT_OF_ERROR,
+    TEXT_OF_TWO_COLORS, choose_colors, find_indices, grow_row, is_shown, is_text, refine_colors,
 };
 use picture::{BANDS, DCS, FILLED, OVERDRAWN, PAYLOAD, RUN, RUNS, set_colors};
 use session::{DCS_CHUNKS, PAYLOAD_CHUNKS, Session, draw_payload};
@@ -86,10 +86,18 @@ fn make_calls_of_palette(rt: &HostRuntime, image: &SixelImage) -> io::Result<()>
     let alloc = rt.alloc();
     let diffusion = Dither::Diffusion { strength: 8 };
     let ordered = Dither::Ordered { amplitude: 8 };
-    let text = image.encode_with_palette(alloc, COLORS, diffusion);
+    let text = image.encode_with_palette(alloc, COLORS, diffusion, TextForm::Plain);
     tell(rt, "encode_with_palette", is_text(text, TEXT_OF_TWO_COLORS))?;
-    let text = image.encode_indexed(alloc, COLORS, INDICES);
-    tell(rt, "encode_indexed", is_text(text, TEXT_OF_TWO_COLORS))?;
+    let text = image.encode_indexed(alloc, COLORS, INDICES, TextForm::Compact);
+    tell(rt, "encode_indexed", is_text(text, COMPACT_TEXT))?;
+    let text = image.encode_refined(alloc, 2, Dither::Off, TextForm::Plain);
+    tell(rt, "encode_refined", is_text(text, REFINED_TEXT))?;
+    let text = image.encode_refined(alloc, 2, ordered, TextForm::Compact);
+    tell(
+        rt,
+        "encode_refined, dithered",
+        is_text(text, COMPACT_REFINED_TEXT),
+    )?;
     tell(rt, "nearest indices", find_indices(alloc, Dither::Off))?;
     tell(rt, "ordered indices", find_indices(alloc, ordered))?;
     tell(rt, "diffused indices", find_indices(alloc, diffusion))

@@ -1,7 +1,7 @@
 -- What the text of an image that was encoded is: in the fewest bytes, blind to what is hidden, and
 -- read back as its trip.
 use Rattle.std.proofs.Common.{◌≡◌, ℕ, ◌*◌, ◌<◌, ◌≤◌, List, Option, Some, None, Result, Ok, Err}
-use Rattle.std.proofs.Common.{refl, sym, ap, ◌∙◌}
+use Rattle.std.proofs.Common.{refl, sym, ap, ◌∙◌, arith, length}
 use Rattle.std.specs.Prelude.{All, IfErr, IfOk, OnOk, MatchOption}
 use Rattle.sixel_base.specs.declared.error.SixelError.{SixelError}
 use Rattle.sixel_base.specs.declared.error.SixelError.TheVariants.{OutOfMemory}
@@ -10,21 +10,24 @@ use Rattle.sixel_base.specs.Size.{banded}
 use Rattle.sixel_base.specs.Decoder.{new_decoder}
 use Rattle.sixel_base.specs.declared.state.DecoderState.{DecoderState}
 use Rattle.sixel_base.specs.Payload.{Image}
+use Rattle.sixel_encoder.specs.declared.form.TextForm.{TextForm}
 use Rattle.sixel_encoder.specs.Text.{Drawing, row_of, text_of}
 use Rattle.sixel_encoder.specs.Encoding.{image_fault, AreShortest, IsDrawing, IsText}
+use Rattle.sixel_encoder.specs.Form.{IsFormText, form_text}
+use Rattle.sixel_encoder.proofs.FormText.{image-form_back, image-one_form, length-form}
 use Rattle.sixel_encoder.proofs.ShortestRows.{spells, shortest}
 use Rattle.sixel_encoder.specs.Trip.{CanRead, trip, IsTrip, IsReadAs, IsOneString}
 use Rattle.sixel_encoder.proofs.TripLimits.{CanRead-new}
-use Rattle.sixel_encoder.proofs.SecondTrip.{image-read_back, image-one_string, text-again}
+use Rattle.sixel_encoder.proofs.SecondTrip.{text-again}
 
 -- an image that was encoded has no fault
-pub accepted : {S : Type 0} (result : Result S SixelError) (text : S) (fault : Option SixelError)
+accepted : {S : Type 0} (result : Result S SixelError) (text : S) (fault : Option SixelError)
     → result ≡ Ok text
     → MatchOption fault (IfErr result (λ e. e ≡ OutOfMemory)) (λ f. result ≡ Err f) → fault ≡ None
 accepted result text None ok is = refl
 accepted result text (Some f) ok is = absurd cc
 
--- it is the text of a drawing whose rows are all in the fewest bytes
+-- the plain text is that of a drawing whose rows are all in the fewest bytes
 pub shortest-written : {S : Type 0} (bytes : S → List ℕ) (result : Result S SixelError)
     (image : Image) (k : ℕ)
     → IfOk result (λ text. IsText image k (bytes text))
@@ -41,16 +44,35 @@ shortest-written bytes (Ok text) image k is = (
 shortest-written bytes (Err e) image k is = tt
 
 -- where the drawings are one, so are the texts
-pub hidden-written : {S : Type 0} (bytes : S → List ℕ) (result : Result S SixelError)
-    (image other : Image) (k : ℕ) (others : List ℕ)
+pub hidden-written : {S : Type 0} (form : TextForm) (bytes : S → List ℕ)
+    (result : Result S SixelError) (image other : Image) (k : ℕ) (others : List ℕ)
     → ((drawing another : Drawing) → All (λ byte. byte < 256) image.pixels
     → IsDrawing image k drawing → IsDrawing other k another → drawing ≡ another)
     → OnOk result (All (λ byte. byte < 256) image.pixels)
-    → IfOk result (λ text. IsText image k (bytes text)) → IsText other k others
+    → IfOk result (λ text. IsFormText form image k (bytes text)) → IsFormText form other k others
     → IfOk result (λ text. bytes text ≡ others)
-hidden-written bytes (Ok text) image other k others one fits is also =
-    is.2 ∙ (ap text_of (one is.0 also.0 fits is.1 also.1) ∙ sym also.2)
-hidden-written bytes (Err e) image other k others one fits is also = tt
+hidden-written form bytes (Ok text) image other k others one fits is also =
+    is.2 ∙ (ap (form_text form) (one is.0 also.0 fits is.1 also.1) ∙ sym also.2)
+hidden-written form bytes (Err e) image other k others one fits is also = tt
+
+-- and none is longer than the plain one
+pub short-written : {S : Type 0} (form : TextForm) (bytes : S → List ℕ)
+    (result : Result S SixelError) (image : Image) (k : ℕ) (plain : List ℕ)
+    → ((drawing another : Drawing) → All (λ byte. byte < 256) image.pixels
+    → IsDrawing image k drawing → IsDrawing image k another → drawing ≡ another)
+    → OnOk result (All (λ byte. byte < 256) image.pixels)
+    → IfOk result (λ text. IsFormText form image k (bytes text)) → IsText image k plain
+    → IfOk result (λ text. length (bytes text) ≤ length plain)
+short-written form bytes (Ok text) image k plain one fits is also =
+    let same : is.0 ≡ also.0 = one is.0 also.0 fits is.1 also.1 in
+    omega (
+      arith,
+      ap length is.2,
+      ap length also.2,
+      ap (λ (d : Drawing). length (form_text form d)) same,
+      length-form form also.0,
+    )
+short-written form bytes (Err e) image k plain one fits is also = tt
 
 -- so a new decoder can read it
 pub readable-written : {S : Type 0} (result : Result S SixelError) (image : Image)
@@ -60,31 +82,32 @@ readable-written (Ok text) image refused =
     CanRead-new image (accepted (Ok text) text (image_fault image) refl refused)
 readable-written (Err e) image refused = tt
 
-pub one_string-written : {S : Type 0} (bytes : S → List ℕ) (result : Result S SixelError)
-    (limit : ℕ) (image : Image) (k : ℕ)
+pub one_string-written : {S : Type 0} (form : TextForm) (bytes : S → List ℕ)
+    (result : Result S SixelError) (limit : ℕ) (image : Image) (k : ℕ)
     → MatchOption (image_fault image) (IfErr result (λ e. e ≡ OutOfMemory)) (λ f. result ≡ Err f)
     → OnOk result (All (λ byte. byte < 256) image.pixels)
-    → IfOk result (λ text. IsText image k (bytes text))
+    → IfOk result (λ text. IsFormText form image k (bytes text))
     → image.width * banded image.height ≤ limit
     → IfOk result (λ text. IsOneString limit (bytes text))
-one_string-written bytes (Ok text) limit image k refused fits is room =
-    image-one_string limit image k (bytes text)
+one_string-written form bytes (Ok text) limit image k refused fits is room =
+    image-one_form form limit image k (bytes text)
     (accepted (Ok text) text (image_fault image) refl refused) fits room is
-one_string-written bytes (Err e) limit image k refused fits is room = tt
+one_string-written form bytes (Err e) limit image k refused fits is room = tt
 
-pub read_back-written : {S : Type 0} (bytes : S → List ℕ) (result : Result S SixelError)
-    (decoder : DecoderState) (image : Image) (k : ℕ)
+pub read_back-written : {S : Type 0} (form : TextForm) (bytes : S → List ℕ)
+    (result : Result S SixelError) (decoder : DecoderState) (image : Image) (k : ℕ)
     → MatchOption (image_fault image) (IfErr result (λ e. e ≡ OutOfMemory)) (λ f. result ≡ Err f)
     → OnOk result (All (λ byte. byte < 256) image.pixels)
-    → IfOk result (λ text. IsText image k (bytes text)) → CanRead decoder image.width image.height
+    → IfOk result (λ text. IsFormText form image k (bytes text))
+    → CanRead decoder image.width image.height
     → IfOk result
     (λ text.
     (drawing : Drawing) × IsDrawing image k drawing
     × IsReadAs decoder (bytes text) (trip decoder.raster_crop drawing))
-read_back-written bytes (Ok text) decoder image k refused fits is reads =
-    image-read_back decoder image k (bytes text)
+read_back-written form bytes (Ok text) decoder image k refused fits is reads =
+    image-form_back form decoder image k (bytes text)
     (accepted (Ok text) text (image_fault image) refl refused) fits reads is
-read_back-written bytes (Err e) decoder image k refused fits is reads = tt
+read_back-written form bytes (Err e) decoder image k refused fits is reads = tt
 
 pub again-written : {S : Type 0} (bytes : S → List ℕ) (result : Result S SixelError)
     (decoder : DecoderState) (image : Image) (k : ℕ)

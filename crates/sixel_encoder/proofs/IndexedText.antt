@@ -10,29 +10,36 @@ use Rattle.std.proofs.lemmas.List.FromFn.{length-map-range_with_len, length-rang
 use Rattle.std.proofs.lemmas.List.Folds.{list_any_at}
 use Rattle.std.proofs.lemmas.Bool.Decides.{nat_tests}
 use Rattle.sixel_base.specs.Payload.{Image}
+use Rattle.sixel_encoder.specs.declared.form.TextForm.{TextForm}
 use Rattle.sixel_encoder.specs.Encoding.{image_fault}
+use Rattle.sixel_encoder.specs.Form.{form_text}
 use Rattle.sixel_encoder.specs.IndexedDrawing.{IsTextOf, entries_of, entry_of, index_range_fault}
 use Rattle.sixel_encoder.specs.IndexedDrawing.{indexed_drawing, is_past}
-use Rattle.sixel_encoder.specs.Text.{Drawing, row_of, text_of}
+use Rattle.sixel_encoder.specs.Text.{Drawing, row_of}
 use Rattle.sixel_encoder.specs.Trip.{IsColor, IsOneString, IsReadAs, IsWritable, trip}
 use Rattle.sixel_encoder.proofs.IndexedDrawing.{entry_of-opaque, entry_of-transparent}
-use Rattle.sixel_encoder.proofs.PlainText.{IsOneString-text, text-trip}
+use Rattle.sixel_encoder.proofs.DcsText.{IsOneString-drawn, IsReadAs-drawn}
+use Rattle.sixel_encoder.proofs.FormText.{IsDrawnText-form, length-form}
 use Rattle.sixel_encoder.proofs.ShortestRows.{shortest, spells}
 use Rattle.sixel_encoder.proofs.Sizes.{within-sound}
 
--- a drawing that can be written has a text that is read back
-pub IsTextOf-written : (drawing : Drawing) (bytes : List ℕ) → IsWritable drawing
-    → bytes ≡ text_of drawing → IsTextOf drawing bytes
-IsTextOf-written drawing bytes is same = record {
-  text = same;
-  shortest = λ band entry.
-      (spells (row_of drawing band entry), shortest (row_of drawing band entry));
-  one_string = λ limit room.
-      subst (IsOneString limit) (sym same) (IsOneString-text limit drawing is room);
-  read_back = λ decoder reads.
-      subst (λ (t : List ℕ). IsReadAs decoder t (trip decoder.raster_crop drawing)) (sym same)
-      (text-trip decoder drawing is reads);
-}
+-- a drawing that can be written has a text in either form that is read back
+pub IsTextOf-written : (form : TextForm) (drawing : Drawing) (bytes : List ℕ) → IsWritable drawing
+    → bytes ≡ form_text form drawing → IsTextOf form drawing bytes
+IsTextOf-written form drawing bytes is same =
+    let drawn = IsDrawnText-form form drawing is in
+    record {
+      text = same;
+      shortest = λ band entry.
+          (spells (row_of drawing band entry), shortest (row_of drawing band entry));
+      short = omega (arith, ap length same, length-form form drawing);
+      one_string = λ limit room.
+          subst (IsOneString limit) (sym same)
+          (IsOneString-drawn limit drawing (form_text form drawing) is drawn room);
+      read_back = λ decoder reads.
+          subst (λ (t : List ℕ). IsReadAs decoder t (trip decoder.raster_crop drawing)) (sym same)
+          (IsReadAs-drawn decoder drawing (form_text form drawing) is drawn reads);
+    }
 
 -- an opaque pixel with an index past so many colors is found
 pub list_any-past : (pixels indices : List ℕ) (colors pixel : ℕ) → pixel < length indices

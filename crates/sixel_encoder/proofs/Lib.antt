@@ -61,9 +61,10 @@ pub mod SegmentSteps
 pub mod SixelBits
 pub mod CompactSteps
 pub mod PenStates
-pub mod EncodedCompact
+pub mod FormText
 pub mod CutSegments
 pub mod PassSteps
 pub mod SegmentFill
 pub mod SegmentMarks
 pub mod SegmentTallies
+pub mod RefinedText

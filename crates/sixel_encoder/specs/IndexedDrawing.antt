@@ -11,8 +11,10 @@ use Rattle.sixel_base.specs.declared.state.DecoderState.{DecoderState}
 use Rattle.sixel_base.specs.Payload.{Image}
 use Rattle.sixel_base.specs.Size.{banded}
 use Rattle.sixel_encoder.specs.declared.dither.Dither.{Dither}
+use Rattle.sixel_encoder.specs.declared.form.TextForm.{TextForm}
 use Rattle.sixel_encoder.specs.Dithering.{AreDithered}
 use Rattle.sixel_encoder.specs.Encoding.{AreShortest, image_fault}
+use Rattle.sixel_encoder.specs.Form.{form_text}
 use Rattle.sixel_encoder.specs.Text.{Drawing, text_of}
 use Rattle.sixel_encoder.specs.Trip.{CanRead, IsOneString, IsReadAs, trip}
 
@@ -41,22 +43,24 @@ indexed_drawing image colors indices = record {
 
 -- ---- texts
 
--- The bytes are the text of the drawing: one DCS sequence, with no row in more bytes than it needs.
--- Each decoder that can read it, as a new one can, returns the drawing's trip.
-pub record IsTextOf (drawing : Drawing) (bytes : List ℕ) : Type 0 where
-  pub text : bytes ≡ text_of drawing
+-- The bytes are the text of the drawing in this form: one DCS sequence, no longer than the plain
+-- text, in which no row takes more bytes than it needs. Each decoder that can read it, as a new one
+-- can, returns the drawing's trip.
+pub record IsTextOf (form : TextForm) (drawing : Drawing) (bytes : List ℕ) : Type 0 where
+  pub text : bytes ≡ form_text form drawing
   pub shortest : AreShortest drawing
+  pub short : length bytes ≤ length (text_of drawing)
   pub one_string : (limit : ℕ) → drawing.width * banded drawing.height ≤ limit
       → IsOneString limit bytes
   pub read_back : (decoder : DecoderState) → CanRead decoder drawing.width drawing.height
       → IsReadAs decoder bytes (trip decoder.raster_crop drawing)
 
--- the bytes are the text of the image in this palette
+-- the bytes are the text of the image in this palette and form
 pub record IsPaletteText (image : Image) (colors : List (List ℕ)) (dither : Dither)
-    (bytes : List ℕ) : Type 0 where
+    (form : TextForm) (bytes : List ℕ) : Type 0 where
   pub indices : List ℕ
   pub dithered : AreDithered dither image.width image.pixels colors indices
-  pub text : IsTextOf (indexed_drawing image colors indices) bytes
+  pub text : IsTextOf form (indexed_drawing image colors indices) bytes
 
 -- ---- errors of a call
 

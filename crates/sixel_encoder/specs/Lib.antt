@@ -7,5 +7,7 @@ pub mod Marks
 pub mod Segments
 pub mod Numbers
 pub mod Compact
+pub mod Form
 pub mod Dithering
 pub mod IndexedDrawing
+pub mod RefinedText

@@ -2,7 +2,7 @@
 
 /// How each pixel of an image gets an entry of a palette.
 ///
-/// ```text
+/// ```rust
 /// let dither = Dither::Diffusion { strength: 8 };
 /// ```
 #[derive(Debug, Clone, Copy, PartialEq, Eq)]

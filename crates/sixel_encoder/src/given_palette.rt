@@ -12,9 +12,10 @@ ghost use Rattle.sixel_encoder.specs.IndexedDrawing.{index_range_fault, indexed_
 
 use crate::band::is_opaque;
 use crate::dither::Dither;
+use crate::form::{TextForm, encode_in_form};
 use crate::indices::dithered_indices;
 use crate::source::Source;
-use crate::text::{IndexedImage, encode_indexed};
+use crate::text::IndexedImage;
 use sixel_base::size::{validate_buffer, validate_color_count, validate_encode_dimensions};
 use sixel_base::{Result, SixelError};
 use sixel_palette::palette::nearest_indices::color_bytes;
@@ -31,15 +32,16 @@ pub fn encode_in_palette(
     source: &Source<'_>,
     colors: &[[u8; 3]],
     dither: Dither,
+    form: TextForm,
 ) -> Result<String>
     ensures fault { FailsBy (palette_fault (source_value source.now) (length colors.now)) result }
     ensures text { IfOk result (λ text.
-        IsPaletteText (source_value source.now) colors.now dither (string_bytes text)) }
+        IsPaletteText (source_value source.now) colors.now dither form (string_bytes text)) }
 {
     validate_source(source)?;
     validate_color_count(colors.len())?;
     let indices = dithered_indices(alloc, source.pixels, source.width, colors, dither)?;
-    encode_drawing(alloc, source, colors, &indices)
+    encode_drawing(alloc, source, colors, &indices, form)
 }
 
 /// Returns the SIXEL output of an image whose opaque pixels have these palette indices.
@@ -54,10 +56,11 @@ pub fn encode_with_indices(
     source: &Source<'_>,
     colors: &[[u8; 3]],
     indices: &[u8],
+    form: TextForm,
 ) -> Result<String>
     ensures fault { FailsBy
         (indexed_fault (source_value source.now) (length colors.now) indices.now) result }
-    ensures text { IfOk result (λ text. IsTextOf
+    ensures text { IfOk result (λ text. IsTextOf form
         (indexed_drawing (source_value source.now) colors.now indices.now)
         (string_bytes text)) }
 {
@@ -65,11 +68,11 @@ pub fn encode_with_indices(
     validate_color_count(colors.len())?;
     validate_index_count(source, indices.len())?;
     validate_indices(source.pixels, indices, colors.len())?;
-    encode_drawing(alloc, source, colors, indices)
+    encode_drawing(alloc, source, colors, indices, form)
 }
 
 /// Returns an error unless an image has valid sizes and as many bytes as they require.
-fn validate_source(source: &Source<'_>) -> Result<()>
+pub fn validate_source(source: &Source<'_>) -> Result<()>
     ensures { result ≡ verdict (image_fault (source_value source.now)) }
 {
     validate_encode_dimensions(source.width, source.height)?;
@@ -105,11 +108,12 @@ fn validate_indices(pixels: &[u8], indices: &[u8], colors: usize) -> Result<()>
 }
 
 /// Returns the SIXEL output of the drawing of an image by valid indices.
-fn encode_drawing(
+pub fn encode_drawing(
     alloc: Global,
     source: &Source<'_>,
     colors: &[[u8; 3]],
     indices: &[u8],
+    form: TextForm,
 ) -> Result<String>
     requires sound { image_fault (source_value source.now) ≡ None }
     requires few { length colors.now ≤ 256 }
@@ -118,7 +122,7 @@ fn encode_drawing(
         → 128 ≤ slice_index source.now.pixels.now (4 * pixel + 3)
         → slice_index indices.now pixel < length colors.now }
     ensures memory { IfErr result (λ e. e ≡ SixelError.OutOfMemory) }
-    ensures text { IfOk result (λ text. IsTextOf
+    ensures text { IfOk result (λ text. IsTextOf form
         (indexed_drawing (source_value source.now) colors.now indices.now)
         (string_bytes text)) }
 {
@@ -132,5 +136,5 @@ fn encode_drawing(
         pixels: source.pixels,
         indices,
     };
-    Ok(encode_indexed(alloc, &image)?)
+    Ok(encode_in_form(alloc, &image, form)?)
 }

@@ -28,7 +28,7 @@ use std::alloc::{AllocError, Global};
 /// the squared differences of the channels. A transparent pixel, whose alpha is below 128, has
 /// index 0. Its color has no effect: it neither receives nor passes on a difference.
 ///
-/// ```text
+/// ```rust
 /// let indices = palette_indices(alloc, &image.pixels, image.width, colors, Dither::Off)?;
 /// ```
 ///

@@ -17,12 +17,14 @@ mod decimal;
 mod dither;
 mod entries;
 mod fill;
+mod form;
 mod given_palette;
 mod indices;
 pub mod laws;
 mod numbers;
 mod pen;
 mod pixels;
+mod refined;
 mod run_tokens;
 mod runs;
 mod segment_rows;
@@ -31,12 +33,14 @@ mod source;
 mod text;
 
 pub use dither::Dither;
+pub use form::TextForm;
 pub use given_palette::{encode_in_palette, encode_with_indices};
 pub use indices::{error_diffusion, palette_indices};
+pub use refined::encode_refined;
 use sixel_base::settings::{BackgroundMode, PixelAspectRatio};
 use sixel_base::{Result, SixelError};
 use sixel_palette::palette::one_palette;
-pub use source::{Source, encode_compact_source, encode_source};
+pub use source::{Source, encode_source};
 use std::alloc::Global;
 
 /// How an image is encoded.
@@ -93,7 +97,7 @@ pub fn sixel_encode(
         aspect_ratio: PixelAspectRatio::Square,
         background_mode: BackgroundMode::Transparent,
     };
-    encode_source(alloc, &source, options.max_colors)
+    encode_source(alloc, &source, options.max_colors, TextForm::Plain)
 }
 
 /// Returns what [`sixel_encode`] returns with the default options.

@@ -1,11 +1,11 @@
 //! An image whose pixels are borrowed, and its SIXEL output.
 
 ghost use Rattle.std.specs.Prelude.{◌≡◌, ◌<◌, All, IfErr, IfOk, MatchOption, OnOk, string_bytes};
-ghost use Rattle.sixel_encoder.specs.Compact.{IsCompactText};
-ghost use Rattle.sixel_encoder.specs.Encoding.{image_fault, source_value, IsText};
+ghost use Rattle.sixel_encoder.specs.Encoding.{image_fault, source_value};
+ghost use Rattle.sixel_encoder.specs.Form.{IsFormText};
 
-use crate::compact::encode_compact;
-use crate::text::{IndexedImage, encode_indexed};
+use crate::form::{TextForm, encode_in_form};
+use crate::text::IndexedImage;
 use sixel_base::settings::{BackgroundMode, PixelAspectRatio};
 use sixel_base::size::{validate_buffer, validate_encode_dimensions};
 use sixel_base::{Result, SixelError};
@@ -26,15 +26,22 @@ pub struct Source<'a> {
 
 /// Returns the SIXEL output of an image, in at most `max_colors` colors.
 ///
+/// Both forms have the same palette.
+///
 /// # Errors
 ///
 /// Those of [`sixel_encode`](crate::sixel_encode).
-pub fn encode_source(alloc: Global, source: &Source<'_>, max_colors: u16) -> Result<String>
+pub fn encode_source(
+    alloc: Global,
+    source: &Source<'_>,
+    max_colors: u16,
+    form: TextForm,
+) -> Result<String>
     ensures refused { MatchOption (image_fault (source_value source.now))
         (IfErr result (λ e. e ≡ SixelError.OutOfMemory))
         (λ fault. result ≡ Err fault) }
     ensures text { IfOk result
-        (λ text. IsText (source_value source.now) max_colors (string_bytes text)) }
+        (λ text. IsFormText form (source_value source.now) max_colors (string_bytes text)) }
     ensures bytes { OnOk result (All (λ byte. byte < 256) source.now.pixels.now) }
 {
     validate_encode_dimensions(source.width, source.height)?;
@@ -49,35 +56,5 @@ pub fn encode_source(alloc: Global, source: &Source<'_>, max_colors: u16) -> Res
         pixels: source.pixels,
         indices: &choice.indices,
     };
-    Ok(encode_indexed(alloc, &image)?)
-}
-
-/// Returns the compact SIXEL output of an image, in at most `max_colors` colors.
-///
-/// It has the palette of [`encode_source`].
-///
-/// # Errors
-///
-/// Those of [`sixel_encode`](crate::sixel_encode).
-pub fn encode_compact_source(alloc: Global, source: &Source<'_>, max_colors: u16) -> Result<String>
-    ensures refused { MatchOption (image_fault (source_value source.now))
-        (IfErr result (λ e. e ≡ SixelError.OutOfMemory))
-        (λ fault. result ≡ Err fault) }
-    ensures text { IfOk result
-        (λ text. IsCompactText (source_value source.now) max_colors (string_bytes text)) }
-    ensures bytes { OnOk result (All (λ byte. byte < 256) source.now.pixels.now) }
-{
-    validate_encode_dimensions(source.width, source.height)?;
-    validate_buffer(source.width, source.height, source.pixels.len())?;
-    let choice = choose_palette(alloc, source.pixels, max_colors)?;
-    let image = IndexedImage {
-        width: source.width,
-        height: source.height,
-        aspect_ratio: source.aspect_ratio,
-        background_mode: source.background_mode,
-        colors: &choice.colors,
-        pixels: source.pixels,
-        indices: &choice.indices,
-    };
-    Ok(encode_compact(alloc, &image)?)
+    Ok(encode_in_form(alloc, &image, form)?)
 }

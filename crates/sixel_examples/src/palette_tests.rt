@@ -1,9 +1,10 @@
 //! Palette indices worked out by hand, and the texts and errors of the calls that take a palette.
 
-use crate::palettes::{encode_by_indices, encode_diffused};
-use icy_sixel::encoder::{Dither, palette_indices};
-use icy_sixel::{Result, SixelError, SixelImage};
+use crate::palettes::{encode_by_indices, encode_diffused, encode_photograph};
+use icy_sixel::encoder::{Dither, TextForm, palette_indices};
+use icy_sixel::{Result, SixelError, SixelImage, refine_palette};
 use std::alloc::Global;
+use std::test::Fail;
 
 /// Black and white.
 const COLORS: &[[u8; 3]] = &[[0, 0, 0], [255, 255, 255]];
@@ -81,32 +82,149 @@ fn is_error(text: Result<String>, expected: &SixelError) -> bool {
     }
 }
 
+/// An image of one row of three pixels.
+fn row_of_three(alloc: Global, pixels: &[u8]) -> Result<SixelImage> {
+    Ok(SixelImage::from_rgba(Vec::from_slice(alloc, pixels)?, 3, 1))
+}
+
+/// The gray pixels in black and white, diffused: white in the middle.
+const DIFFUSED: &str = "\x1bP9;1;0q\"1;1;3;1#0;2;0;0;0#1;2;100;100;100#0@?@$#1?@?$-\x1b\\";
+
+/// The same in compact form. Black covers the column that white draws over.
+const COMPACT_DIFFUSED: &str = "\x1bP9;1;0q\"1;1;3;1#0;2;0;0;0#1;2;100;100;100#0@@@$#1?@\x1b\\";
+
+/// The gray pixels in black.
+const BLACK: &str = "\x1bP9;1;0q\"1;1;3;1#0;2;0;0;0#1;2;100;100;100#0@@@$-\x1b\\";
+
+/// A black pixel, a transparent one and a white one.
+const BLACK_GAP_WHITE: &str = "\x1bP9;1;0q\"1;1;3;1#0;2;0;0;0#1;2;100;100;100#0@??$#1??@$-\x1b\\";
+
 #[test]
-fn texts(rt: HostRuntime) {
+fn texts(rt: HostRuntime) -> std::result::Result<(), Fail> {
     let alloc = rt.alloc();
-    let pixels = Vec::from_slice(alloc, GRAYS);
-    let Ok(pixels) = pixels else {
-        return;
-    };
-    let image = SixelImage::from_rgba(pixels, 3, 1);
-    let diffused = encode_diffused(alloc, &image, COLORS);
-    let nearest = encode_by_indices(alloc, &image, COLORS);
-    let are_texts = is_text(
-        diffused,
-        "\x1bP9;1;0q\"1;1;3;1#0;2;0;0;0#1;2;100;100;100#0@?@$#1?@?$-\x1b\\",
-    ) & is_text(
-        nearest,
-        "\x1bP9;1;0q\"1;1;3;1#0;2;0;0;0#1;2;100;100;100#0@@@$-\x1b\\",
-    );
+    let image = row_of_three(alloc, GRAYS)?;
+    let whole = Dither::Diffusion { strength: 8 };
+    let plain = image.encode_with_palette(alloc, COLORS, whole, TextForm::Plain);
+    let are_diffused = is_text(plain, DIFFUSED)
+        & is_text(encode_diffused(alloc, &image, COLORS), COMPACT_DIFFUSED);
+    let compact = image.encode_indexed(alloc, COLORS, &[0, 1, 0], TextForm::Compact);
+    let gap = row_of_three(alloc, GAP)?.encode_indexed(alloc, COLORS, &[0, 9, 1], TextForm::Plain);
+    let are_indexed = is_text(encode_by_indices(alloc, &image, COLORS), BLACK)
+        & is_text(compact, COMPACT_DIFFUSED)
+        & is_text(gap, BLACK_GAP_WHITE);
+    assert!(rt; are_diffused & are_indexed);
+    Ok(())
+}
+
+#[test]
+fn errors(rt: HostRuntime) -> std::result::Result<(), Fail> {
+    let alloc = rt.alloc();
+    let image = row_of_three(alloc, GRAYS)?;
     let count = SixelError::InvalidData("number of colors is not 1 to 256");
     let range = SixelError::InvalidData("palette index out of range");
     let length = SixelError::BufferSizeMismatch {
         expected: 3,
         actual: 2,
     };
+    let plain = TextForm::Plain;
     let are_errors = is_error(encode_diffused(alloc, &image, &[]), &count)
         & is_error(encode_diffused(alloc, &image, &[[0, 0, 0]; 257]), &count)
-        & is_error(image.encode_indexed(alloc, COLORS, &[0, 1, 2]), &range)
-        & is_error(image.encode_indexed(alloc, COLORS, &[0, 1]), &length);
-    assert!(rt; are_texts & are_errors);
+        & is_error(image.encode_refined(alloc, 0, Dither::Off, plain), &count)
+        & is_error(image.encode_refined(alloc, 257, Dither::Off, plain), &count)
+        & is_error(
+            image.encode_indexed(alloc, COLORS, &[0, 1, 2], plain),
+            &range,
+        )
+        & is_error(image.encode_indexed(alloc, COLORS, &[0, 1], plain), &length);
+    assert!(rt; are_errors);
+    Ok(())
+}
+
+/// The gray pixels in their refined palette: 100 of 255 is 39 percent.
+const REFINED: &str = "\x1bP9;1;0q\"1;1;3;1#0;2;39;39;39#0@@@$-\x1b\\";
+
+/// The same in compact form.
+const COMPACT_REFINED: &str = "\x1bP9;1;0q\"1;1;3;1#0;2;39;39;39#0@@@\x1b\\";
+
+/// The gray pixels without the one in the middle.
+const REFINED_GAP: &str = "\x1bP9;1;0q\"1;1;3;1#0;2;39;39;39#0@?@$-\x1b\\";
+
+#[test]
+fn refined_texts(rt: HostRuntime) -> std::result::Result<(), Fail> {
+    let alloc = rt.alloc();
+    let image = row_of_three(alloc, GRAYS)?;
+    let text = image.encode_refined(alloc, 256, Dither::Off, TextForm::Plain);
+    let are_refined = is_text(text, REFINED)
+        & is_text(encode_photograph(alloc, &image), COMPACT_REFINED);
+    // The color of a transparent pixel has no effect.
+    let gap = row_of_three(alloc, GAP)?;
+    let white = row_of_three(alloc, b"\x64\x64\x64\xff\xff\xff\xff\x00\x64\x64\x64\xff")?;
+    let dither = Dither::Diffusion { strength: 6 };
+    let are_blind = is_text(
+        gap.encode_refined(alloc, 1, dither, TextForm::Plain),
+        REFINED_GAP,
+    ) & is_text(
+        white.encode_refined(alloc, 1, dither, TextForm::Plain),
+        REFINED_GAP,
+    );
+    assert!(rt; are_refined & are_blind);
+    Ok(())
+}
+
+/// An image without opaque pixels.
+const NOTHING: &str = "\x1bP9;1;0q\"1;1;3;1-\x1b\\";
+
+/// The same in compact form.
+const COMPACT_NOTHING: &str = "\x1bP9;1;0q\"1;1;3;1\x1b\\";
+
+#[test]
+fn no_opaque_pixel(rt: HostRuntime) -> std::result::Result<(), Fail> {
+    let alloc = rt.alloc();
+    let image = row_of_three(alloc, &[127; 12])?;
+    let dithers = [
+        Dither::Off,
+        Dither::Diffusion { strength: 6 },
+        Dither::Ordered { amplitude: 51 },
+    ];
+    for dither in dithers {
+        let plain = image.encode_refined(alloc, 16, dither, TextForm::Plain);
+        let compact = image.encode_refined(alloc, 16, dither, TextForm::Compact);
+        assert!(rt; is_text(plain, NOTHING) & is_text(compact, COMPACT_NOTHING));
+    }
+    Ok(())
+}
+
+/// Whether an image has the same text in its refined palette as in a palette of these colors.
+fn is_encoded_in(
+    alloc: Global,
+    image: &SixelImage,
+    colors: &[[u8; 3]],
+    dither: Dither,
+) -> Result<bool> {
+    let form = TextForm::Compact;
+    let refined = image.encode_refined(alloc, 3, dither, form)?;
+    let given = image.encode_with_palette(alloc, colors, dither, form)?;
+    Ok(refined.as_str() == given.as_str())
+}
+
+#[test]
+fn refined_colors(rt: HostRuntime) -> std::result::Result<(), Fail> {
+    let alloc = rt.alloc();
+    // Gray from black to white, 16 pixels in a row.
+    let mut pixels = Vec::new(alloc);
+    for step in 0..16u8 {
+        let gray = step * 17;
+        pixels.extend_from_slice(&[gray, gray, gray, 255])?;
+    }
+    let image = SixelImage::from_rgba(pixels, 16, 1);
+    let palette = refine_palette(alloc, &image.pixels, 3)?;
+    let diffusion = Dither::Diffusion { strength: 6 };
+    let ordered = Dither::Ordered { amplitude: 80 };
+    for dither in [Dither::Off, diffusion, ordered] {
+        assert!(rt; is_encoded_in(alloc, &image, &palette.colors, dither)?);
+    }
+    let off = image.encode_refined(alloc, 3, Dither::Off, TextForm::Plain)?;
+    let diffused = image.encode_refined(alloc, 3, diffusion, TextForm::Plain)?;
+    assert!(rt; off.as_str() != diffused.as_str());
+    Ok(())
 }

@@ -1,6 +1,6 @@
--- The output for an image: a note of its size, its output in fewer colors, or nothing; and a note
--- of its error. The notes are this program's own. An image and its error are those of the meaning
--- of DCS sequences.
+-- The output for an image: a note of its size, its compact output in fewer colors, or nothing; and
+-- a note of its error. The notes are this program's own. An image and its error are those of the
+-- meaning of DCS sequences.
 use Rattle.std.specs.Prelude.{ℕ, ◌≡◌, ◌⊎◌, ◌||◌, Bool, nat_lt, is_none, List, [], ◌++◌, Option}
 use Rattle.std.specs.Prelude.{None, MatchOption, codes, decimal}
 use Rattle.std.specs.Option.{option_or}
@@ -12,7 +12,8 @@ use Rattle.sixel_base.specs.Decoder.{IsSetAs}
 use Rattle.sixel_base.specs.Fault.{Fault, Faults}
 use Rattle.sixel_base.specs.OneShot.{found, IsDecodedAs}
 use Rattle.sixel_base.specs.Payload.{Image}
-use Rattle.sixel_encoder.specs.Encoding.{image_fault, IsText}
+use Rattle.sixel_encoder.specs.Compact.{IsCompactText}
+use Rattle.sixel_encoder.specs.Encoding.{image_fault}
 use Rattle.sixel_filter.specs.declared.words.Work.{Work}
 use Rattle.sixel_filter.specs.declared.words.Work.TheVariants.{Size, Colors, Refusals}
 
@@ -35,7 +36,7 @@ IsRefusedText image text =
 -- what is written of an image
 abbrev pub IsWritten : Work → Image → List ℕ → Type 0
 IsWritten Size image text = text ≡ size_note image
-IsWritten (Colors most) image text = IsText image most text ⊎ IsRefusedText image text
+IsWritten (Colors most) image text = IsCompactText image most text ⊎ IsRefusedText image text
 IsWritten Refusals image text = text ≡ []
 
 -- what is wrong with the image that the bytes begin with, where no more come after them: a fault,

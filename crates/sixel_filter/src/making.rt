@@ -40,7 +40,7 @@ fn write_size(alloc: Global, image: &SixelImage, output: &mut Vec<u8>) -> Result
     Ok(())
 }
 
-/// Writes the image in at most so many colors, or a note of why it can't be.
+/// Writes the compact output of the image in at most so many colors, or a note of the error.
 fn write_anew(
     alloc: Global,
     max_colors: u16,
@@ -52,7 +52,7 @@ fn write_anew(
         × (output.new.items ≡ output.old.items ++ text)) }
     ensures error { IfErr result (λ e. e ≡ OutOfMemory) }
 {
-    match image.encode_with(alloc, &EncodeOptions { max_colors }) {
+    match image.encode_compact(alloc, &EncodeOptions { max_colors }) {
         Ok(text) => {
             output.extend_from_slice(text.as_bytes())?;
             Ok(())

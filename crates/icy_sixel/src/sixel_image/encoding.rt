@@ -6,7 +6,7 @@ ghost use Rattle.std.specs.Prelude.{◌++◌, Some, MatchOption, codes, length, 
 use crate::sixel_image::{BackgroundMode, SixelImage};
 use sixel_base::{Result, SixelError};
 use sixel_encoder::{
-    Dither, EncodeOptions, Source, encode_compact_source, encode_in_palette, encode_source,
+    Dither, EncodeOptions, Source, TextForm, encode_in_palette, encode_refined, encode_source,
     encode_with_indices, one_drawing,
 };
 use std::alloc::Global;
@@ -27,6 +27,7 @@ impl SixelImage {
     ghost use Rattle.sixel_encoder.specs.IndexedDrawing.{IsPaletteText, IsTextOf};
     ghost use Rattle.sixel_encoder.specs.IndexedDrawing.{indexed_drawing, indexed_fault};
     ghost use Rattle.sixel_encoder.specs.IndexedDrawing.{palette_fault};
+    ghost use Rattle.sixel_encoder.specs.RefinedText.{IsRefinedText};
 
     /// Returns the SIXEL output of this image with the default options.
     pub fn encode(&self, alloc: Global) -> Result<String>
@@ -79,38 +80,43 @@ impl SixelImage {
     {
         // A law without work: the clause `hidden` follows from it.
         one_drawing();
-        encode_source(alloc, &self.source(), options.max_colors)
+        encode_source(alloc, &self.source(), options.max_colors, TextForm::Plain)
     }
 
     /// Returns the SIXEL output of this image in a given palette of 1 to 256 colors.
     ///
     /// The palette may be fixed, shared by the frames of an animation, or from another quantizer.
     ///
-    /// ```text
+    /// ```rust
     /// let dither = Dither::Diffusion { strength: 8 };
-    /// image.encode_with_palette(alloc, colors, dither)
+    /// image.encode_with_palette(alloc, colors, dither, TextForm::Compact)
     /// ```
     ///
-    /// The palette indices are those of [`palette_indices`](crate::encoder::palette_indices). The
-    /// errors are those of [`encode_with`](Self::encode_with), then
+    /// The palette indices are those of [`palette_indices`](crate::encoder::palette_indices).
+    /// Colors of transparent pixels never affect the output.
+    ///
+    /// # Errors
+    ///
+    /// Those of [`encode_with`](Self::encode_with), then
     /// `InvalidData("number of colors is not 1 to 256")`.
     pub fn encode_with_palette(
         &self,
         alloc: Global,
         colors: &[[u8; 3]],
         dither: Dither,
+        form: TextForm,
     ) -> Result<String>
         ensures fault { FailsBy
             (palette_fault (image_value self.now) (length colors.now)) result }
         ensures text { IfOk result (λ text.
-            IsPaletteText (image_value self.now) colors.now dither (string_bytes text)) }
+            IsPaletteText (image_value self.now) colors.now dither form (string_bytes text)) }
         ensures hidden { (other : Image) (bytes : List ℕ)
             → shown_image other ≡ shown_image (image_value self.now)
-            → IsPaletteText other colors.now dither bytes
+            → IsPaletteText other colors.now dither form bytes
             → IfOk result (λ text. string_bytes text ≡ bytes) }
         ensures readable { OnOk result (CanRead new_decoder self.now.width self.now.height) }
     {
-        encode_in_palette(alloc, &self.source(), colors, dither)
+        encode_in_palette(alloc, &self.source(), colors, dither, form)
     }
 
     /// Returns the SIXEL output of this image in a given palette by given palette indices.
@@ -118,13 +124,15 @@ impl SixelImage {
     /// There is an index for each pixel, row by row. Those of transparent pixels have no effect, as
     /// the colors of all pixels have none.
     ///
-    /// ```text
+    /// ```rust
     /// let indices = palette_indices(alloc, &image.pixels, image.width, colors, Dither::Off)?;
-    /// image.encode_indexed(alloc, colors, &indices)
+    /// image.encode_indexed(alloc, colors, &indices, TextForm::Plain)
     /// ```
     ///
-    /// The errors are those of [`encode_with_palette`](Self::encode_with_palette). Then
-    /// `BufferSizeMismatch` for another number of indices than there are pixels, and
+    /// # Errors
+    ///
+    /// Those of [`encode_with_palette`](Self::encode_with_palette). Then `BufferSizeMismatch` for
+    /// another number of indices than there are pixels, and
     /// `InvalidData("palette index out of range")` for an opaque pixel whose index is past the
     /// palette.
     pub fn encode_indexed(
@@ -132,15 +140,46 @@ impl SixelImage {
         alloc: Global,
         colors: &[[u8; 3]],
         indices: &[u8],
+        form: TextForm,
     ) -> Result<String>
         ensures fault { FailsBy
             (indexed_fault (image_value self.now) (length colors.now) indices.now) result }
-        ensures text { IfOk result (λ text. IsTextOf
+        ensures text { IfOk result (λ text. IsTextOf form
             (indexed_drawing (image_value self.now) colors.now indices.now)
             (string_bytes text)) }
         ensures readable { OnOk result (CanRead new_decoder self.now.width self.now.height) }
     {
-        encode_with_indices(alloc, &self.source(), colors, indices)
+        encode_with_indices(alloc, &self.source(), colors, indices, form)
+    }
+
+    /// Returns the SIXEL output of this image in a refined palette.
+    ///
+    /// The palette is that of [`refine_palette`](crate::palette::refine_palette), of 1 to 256
+    /// colors. Its colors are colors of registers, so a decoder shows the very palette. Without
+    /// dithering each opaque pixel has its nearest entry.
+    ///
+    /// ```rust
+    /// let dither = Dither::Diffusion { strength: 6 };
+    /// image.encode_refined(alloc, 16, dither, TextForm::Compact)
+    /// ```
+    ///
+    /// # Errors
+    ///
+    /// Those of [`encode_with_palette`](Self::encode_with_palette), with `max_colors` as the number
+    /// of colors.
+    pub fn encode_refined(
+        &self,
+        alloc: Global,
+        max_colors: u16,
+        dither: Dither,
+        form: TextForm,
+    ) -> Result<String>
+        ensures fault { FailsBy (palette_fault (image_value self.now) max_colors) result }
+        ensures text { IfOk result (λ text.
+            IsRefinedText (image_value self.now) max_colors dither form (string_bytes text)) }
+        ensures readable { OnOk result (CanRead new_decoder self.now.width self.now.height) }
+    {
+        encode_refined(alloc, &self.source(), max_colors, dither, form)
     }
 
     /// Returns this image with its pixels borrowed.
@@ -189,7 +228,7 @@ impl SixelImage {
     {
         // A law without work: the clauses `hidden` and `short` follow from it.
         one_drawing();
-        encode_compact_source(alloc, &self.source(), options.max_colors)
+        encode_source(alloc, &self.source(), options.max_colors, TextForm::Compact)
     }
 
     /// Returns the output of [`encode`](Self::encode), or a line with its error.

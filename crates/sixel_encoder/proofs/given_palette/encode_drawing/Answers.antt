@@ -14,7 +14,7 @@ returns-clause-text c =
     λ k d l.
     subst IsColor (get_or_default colors k [] d l)
     (record { channels = c.told-colors k l; bytes = c.color_bytes.ensures k [] l }) in
-    IsTextOf-written _ _
+    IsTextOf-written c.args.form _ _
     (IsWritable-indexed (source_value c.args.source.now) colors c.args.indices.now c.requires.sound
     c.requires.few bytes c.requires.count c.requires.opaque)
-    c.in_ok-encode_indexed.ensures
+    c.in_ok-encode_in_form.ensures

@@ -8,8 +8,8 @@ use Rattle.sixel_encoder.proofs.IndexedDrawing.{IsDrawing-chosen, IsIndexed-chos
 use Rattle.sixel_encoder.proofs.Verdicts.{none-found}
 use Rattle.sixel_encoder.proofs.source.encode_source.Goals as goal
 
-pub encode_indexed-requires : goal.encode_indexed-requires
-encode_indexed-requires c =
+pub encode_in_form-requires : goal.encode_in_form-requires
+encode_in_form-requires c =
     let source = c.args.source.now in
     let told = c.in_ok-choice.ensures in
     let sizes = none-found _ _ _ c.validate_encode_dimensions.ensures
@@ -41,5 +41,5 @@ returns-clause-text c =
     rw (c.deref.ensures.value, c.deref-2.ensures.value) told.indices in (
       drawing_of image,
       IsDrawing-chosen image c.args.max_colors palette indices,
-      c.in_ok-encode_indexed.ensures,
+      c.in_ok-encode_in_form.ensures,
     )

@@ -20,6 +20,6 @@ pub returns-in-Err-clause-written : goal.returns-in-Err-clause-written
 returns-in-Err-clause-written c =
     let image = image_value c.args.image.now in
     on_ok c.write_refusal.result
-    (noted image c.args.max_colors c.in-Err.error c.encode_with.result c.args.output.now.items
-    c.write_refusal.new.output.items c.in-Err.is c.encode_with.ensures.refused)
+    (noted image c.args.max_colors c.in-Err.error c.encode_compact.result c.args.output.now.items
+    c.write_refusal.new.output.items c.in-Err.is c.encode_compact.ensures.refused)
     c.write_refusal.ensures.written

@@ -4,11 +4,11 @@ use Rattle.sixel_base.specs.declared.error.SixelError.{SixelError}
 use Rattle.sixel_base.specs.declared.error.SixelError.TheVariants.{OutOfMemory}
 use Rattle.sixel_base.specs.Payload.{Image}
 use Rattle.sixel_encoder.specs.Compact.{IsCompactText}
+use Rattle.sixel_encoder.specs.declared.form.TextForm.TheVariants.{Compact}
 use Rattle.sixel_encoder.specs.Encoding.{image_fault}
 use Rattle.icy_sixel.specs.ImageView.{image_value}
-use Rattle.sixel_encoder.proofs.EncodedCompact.{hidden-compact, one_string-compact}
-use Rattle.sixel_encoder.proofs.EncodedCompact.{read_back-compact, short-compact}
-use Rattle.sixel_encoder.proofs.EncodedText.{readable-written}
+use Rattle.sixel_encoder.proofs.EncodedText.{hidden-written, one_string-written}
+use Rattle.sixel_encoder.proofs.EncodedText.{read_back-written, readable-written, short-written}
 use Rattle.icy_sixel.proofs.sixel_image.SixelImage.encode_compact.Goals as goal
 
 -- what is ensured of a compact output
@@ -20,12 +20,12 @@ record Encoded {S : Type 0} (bytes : S → List ℕ) (result : Result S SixelErr
   bytes_of : OnOk result (All (λ byte. byte < 256) image.pixels)
 
 -- it is ensured of this image, which its source is
-told : (c : goal.After-encode_compact_source)
-    → Encoded string_bytes c.encode_compact_source.result c.args.options.now.max_colors
+told : (c : goal.After-encode_source)
+    → Encoded string_bytes c.encode_source.result c.args.options.now.max_colors
     (image_value c.args.self.now)
 told c =
-    let ensured = c.encode_compact_source.ensures in
-    subst (Encoded string_bytes c.encode_compact_source.result c.args.options.now.max_colors)
+    let ensured = c.encode_source.ensures in
+    subst (Encoded string_bytes c.encode_source.result c.args.options.now.max_colors)
     c.source.ensures
     (record { refused = ensured.refused; text = ensured.text; bytes_of = ensured.bytes })
 
@@ -37,7 +37,7 @@ returns-clause-text c = (told c).text
 
 pub returns-clause-hidden : goal.returns-clause-hidden
 returns-clause-hidden c = λ other bytes same also.
-    hidden-compact string_bytes c.encode_compact_source.result (image_value c.args.self.now) other
+    hidden-written Compact string_bytes c.encode_source.result (image_value c.args.self.now) other
     c.args.options.now.max_colors bytes
     (λ drawing another fits is of.
     c.one_drawing.ensures _ other _ drawing another fits (sym same) is of)
@@ -45,7 +45,7 @@ returns-clause-hidden c = λ other bytes same also.
 
 pub returns-clause-short : goal.returns-clause-short
 returns-clause-short c = λ plain also.
-    short-compact string_bytes c.encode_compact_source.result (image_value c.args.self.now)
+    short-written Compact string_bytes c.encode_source.result (image_value c.args.self.now)
     c.args.options.now.max_colors plain
     (λ drawing another fits is of.
     c.one_drawing.ensures _ (image_value c.args.self.now) _ drawing another fits refl is of)
@@ -53,16 +53,16 @@ returns-clause-short c = λ plain also.
 
 pub returns-clause-one_string : goal.returns-clause-one_string
 returns-clause-one_string c = λ limit room.
-    one_string-compact string_bytes c.encode_compact_source.result limit
+    one_string-written Compact string_bytes c.encode_source.result limit
     (image_value c.args.self.now) c.args.options.now.max_colors
     (told c).refused (told c).bytes_of (told c).text room
 
 pub returns-clause-readable : goal.returns-clause-readable
 returns-clause-readable c =
-    readable-written c.encode_compact_source.result (image_value c.args.self.now) (told c).refused
+    readable-written c.encode_source.result (image_value c.args.self.now) (told c).refused
 
 pub returns-clause-read_back : goal.returns-clause-read_back
 returns-clause-read_back c = λ decoder reads.
-    read_back-compact string_bytes c.encode_compact_source.result decoder
+    read_back-written Compact string_bytes c.encode_source.result decoder
     (image_value c.args.self.now) c.args.options.now.max_colors
     (told c).refused (told c).bytes_of (told c).text reads

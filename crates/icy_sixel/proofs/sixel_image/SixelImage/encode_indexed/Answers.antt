@@ -19,7 +19,8 @@ returns-clause-text c =
     subst (λ (image : Image).
     IfOk c.encode_with_indices.result
     (λ text.
-    IsTextOf (indexed_drawing image c.args.colors.now c.args.indices.now) (string_bytes text)))
+    IsTextOf c.args.form (indexed_drawing image c.args.colors.now c.args.indices.now)
+    (string_bytes text)))
     c.source.ensures c.encode_with_indices.ensures.text
 
 pub returns-clause-readable : goal.returns-clause-readable

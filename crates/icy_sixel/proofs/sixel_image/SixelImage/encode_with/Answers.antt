@@ -3,6 +3,7 @@ use Rattle.std.specs.Prelude.{All, IfErr, IfOk, MatchOption, OnOk, Result, Err, 
 use Rattle.sixel_base.specs.declared.error.SixelError.{SixelError}
 use Rattle.sixel_base.specs.declared.error.SixelError.TheVariants.{OutOfMemory}
 use Rattle.sixel_base.specs.Payload.{Image}
+use Rattle.sixel_encoder.specs.declared.form.TextForm.TheVariants.{Plain}
 use Rattle.sixel_encoder.specs.Encoding.{IsText, image_fault}
 use Rattle.icy_sixel.specs.ImageView.{image_value}
 use Rattle.sixel_encoder.proofs.EncodedText.{shortest-written, hidden-written, one_string-written}
@@ -35,7 +36,7 @@ returns-clause-text c = (told c).text
 
 pub returns-clause-hidden : goal.returns-clause-hidden
 returns-clause-hidden c = λ other bytes same also.
-    hidden-written string_bytes c.encode_source.result (image_value c.args.self.now) other
+    hidden-written Plain string_bytes c.encode_source.result (image_value c.args.self.now) other
     c.args.options.now.max_colors bytes
     (λ drawing another fits is of.
     c.one_drawing.ensures _ other _ drawing another fits (sym same) is of)
@@ -48,7 +49,7 @@ returns-clause-shortest c =
 
 pub returns-clause-one_string : goal.returns-clause-one_string
 returns-clause-one_string c = λ limit room.
-    one_string-written string_bytes c.encode_source.result limit (image_value c.args.self.now)
+    one_string-written Plain string_bytes c.encode_source.result limit (image_value c.args.self.now)
     c.args.options.now.max_colors (told c).refused (told c).bytes_of (told c).text room
 
 pub returns-clause-readable : goal.returns-clause-readable
@@ -57,7 +58,7 @@ returns-clause-readable c =
 
 pub returns-clause-read_back : goal.returns-clause-read_back
 returns-clause-read_back c = λ decoder reads.
-    read_back-written string_bytes c.encode_source.result decoder (image_value c.args.self.now)
+    read_back-written Plain string_bytes c.encode_source.result decoder (image_value c.args.self.now)
     c.args.options.now.max_colors (told c).refused (told c).bytes_of (told c).text reads
 
 pub returns-clause-again : goal.returns-clause-again

@@ -1,0 +1,42 @@
+//! The SIXEL output of an image in a refined palette.
+
+ghost use Rattle.std.specs.Prelude.{◌≡◌, ℕ, ◌*◌, ◌≤◌, IfOk, None, string_bytes};
+ghost use Rattle.sixel_base.specs.CallFault.{FailsBy};
+ghost use Rattle.sixel_encoder.specs.Encoding.{source_value};
+ghost use Rattle.sixel_encoder.specs.IndexedDrawing.{palette_fault};
+ghost use Rattle.sixel_encoder.specs.RefinedText.{IsRefinedText};
+
+use crate::dither::Dither;
+use crate::form::TextForm;
+use crate::given_palette::{encode_drawing, validate_source};
+use crate::indices::dithered_indices;
+use crate::source::Source;
+use sixel_base::Result;
+use sixel_palette::palette::{RefinedPalette, refine_palette};
+use std::alloc::Global;
+
+/// Returns the SIXEL output of an image in a refined palette of at most `max_colors` colors.
+///
+/// # Errors
+///
+/// Those of [`encode_in_palette`](crate::encode_in_palette), for `max_colors` as the number of
+/// colors.
+pub fn encode_refined(
+    alloc: Global,
+    source: &Source<'_>,
+    max_colors: u16,
+    dither: Dither,
+    form: TextForm,
+) -> Result<String>
+    ensures fault { FailsBy (palette_fault (source_value source.now) max_colors) result }
+    ensures text { IfOk result (λ text.
+        IsRefinedText (source_value source.now) max_colors dither form (string_bytes text)) }
+{
+    validate_source(source)?;
+    let palette = refine_palette(alloc, source.pixels, max_colors)?;
+    if dither == Dither::Off || palette.colors.is_empty() {
+        return encode_drawing(alloc, source, &palette.colors, &palette.indices, form);
+    }
+    let indices = dithered_indices(alloc, source.pixels, source.width, &palette.colors, dither)?;
+    encode_drawing(alloc, source, &palette.colors, &indices, form)
+}
