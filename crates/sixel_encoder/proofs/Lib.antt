@@ -11,6 +11,7 @@ pub mod IndexedDrawing
 pub mod SameDrawing
 pub mod EqualRuns
 pub mod Lanes
+pub mod EntryLaneMasks
 pub mod EntryLanes
 pub mod Lines
 pub mod Parts
@@ -27,6 +28,7 @@ pub mod SixBits
 pub mod RasterAttributes
 pub mod TextPalette
 pub mod TextHistory
+pub mod TextLength
 pub mod TextPixels
 pub mod Percentages
 pub mod RowSteps

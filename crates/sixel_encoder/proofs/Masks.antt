@@ -126,7 +126,8 @@ entry_of-past image e pixel is inside past =
           ap (is_entry e) (entry_of-opaque image.pixels.now image.indices.now pixel opaque) ∙ other
     ]
 
-hits-past : (image : IndexedImage) (band e x bit : ℕ) → IsIndexed image → x < image.width
+-- nor does a pixel of a band
+pub hits-past : (image : IndexedImage) (band e x bit : ℕ) → IsIndexed image → x < image.width
     → length image.colors.now ≤ e → hits image band e x bit ≡ false
 hits-past image band e x bit is lx past =
     let row = 6 * band + bit in

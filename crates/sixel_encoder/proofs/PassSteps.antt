@@ -1,7 +1,7 @@
 -- One pixel more of a band, and one segment more of a pass.
 use Rattle.std.specs.Prelude.{None, Option, Some, nat_le, slice_index_or, ◌/◌}
 use Rattle.std.specs.Prelude.{◌%◌}
-use Rattle.std.proofs.Common.{List, [], ap, append_assoc, arith, cond, drop, false}
+use Rattle.std.proofs.Common.{Bool, List, [], ap, append_assoc, arith, cond, drop, false}
 use Rattle.std.proofs.Common.{length, refl, replicate, suc, sym, true, zero, ℕ, ◌*◌}
 use Rattle.std.proofs.Common.{◌++◌, ◌+◌, ◌<◌}
 use Rattle.std.proofs.Common.{◌-◌, ◌∙◌, ◌∷◌, ◌≡◌, ◌≤◌}
@@ -12,6 +12,7 @@ use Rattle.sixel_encoder.specs.Compact.{nth}
 use Rattle.sixel_encoder.specs.Segments.{after_pass, gap_of, in_pass, passes, segments_up_to}
 use Rattle.sixel_encoder.specs.Segments.{with_pixel, with_place}
 use Rattle.sixel_encoder.specs.Text.{Drawing, entry_at}
+use Rattle.sixel_encoder.proofs.SegmentSteps.{grown, is_near, near-own, new_segment}
 
 -- ---- the segments of a band
 
@@ -116,27 +117,75 @@ pub passes-more : (n : ℕ) (segments : List Segment)
 unfolding passes
 passes-more n segments = let e : n + 1 ≡ suc n = omega arith in ap (λ m. passes m segments) e
 
--- the segments after a pixel with an entry
-pub segment-pixel : (drawing : Drawing) (band n gap entry : ℕ) (items new : List Segment)
-    → gap ≡ gap_of drawing → items ≡ segments_up_to drawing band n
-    → entry_at drawing (n / 6) (6 * band + n % 6) ≡ Some entry
-    → new ≡ with_pixel gap (n / 6) entry items → new ≡ segments_up_to drawing band (n + 1)
-segment-pixel drawing band n gap entry items new wide was at is =
+-- a pixel that is added twice
+pub with_pixel-twice : (gap column entry : ℕ) (segments : List Segment)
+    → with_pixel gap column entry (with_pixel gap column entry segments)
+    ≡ with_pixel gap column entry segments
+with_pixel-twice gap column entry [] =
+    ap (λ t. cond t (new_segment column entry ∷ [])
+    (new_segment column entry ∷ new_segment column entry ∷ []))
+    (near-own gap column entry (new_segment column entry) refl (omega arith))
+with_pixel-twice gap column entry (segment ∷ segments) =
+    go (is_near gap column entry segment) refl (with_pixel-twice gap column entry segments)
+  where
+    go : (b : Bool) → is_near gap column entry segment ≡ b
+        → with_pixel gap column entry (with_pixel gap column entry segments)
+        ≡ with_pixel gap column entry segments
+        → with_pixel gap column entry
+        (cond b (grown column segment ∷ segments) (segment ∷ with_pixel gap column entry segments))
+        ≡ cond b (grown column segment ∷ segments)
+        (segment ∷ with_pixel gap column entry segments)
+    go true near rest =
+        let same : segment.entry ≡ entry = grind (arith, nat_tests) in
+        ap (λ t. cond t (grown column segment ∷ segments)
+        (grown column segment ∷ with_pixel gap column entry segments))
+        (near-own gap column entry (grown column segment) same (omega arith))
+    go false far rest =
+        ap (λ t. cond t (grown column segment ∷ with_pixel gap column entry segments)
+        (segment ∷ with_pixel gap column entry (with_pixel gap column entry segments))) far
+        ∙ ap (λ s. segment ∷ s) rest
+
+-- the segments after one pixel more of a column
+segments_up_to-bit : (drawing : Drawing) (band column bit : ℕ) → bit < 6
+    → segments_up_to drawing band (6 * column + (bit + 1))
+    ≡ with_place (gap_of drawing) column (entry_at drawing column (6 * band + bit))
+    (segments_up_to drawing band (6 * column + bit))
+segments_up_to-bit drawing band column bit l =
+    let n : ℕ = 6 * column + bit in
+    let next : 6 * column + (bit + 1) ≡ n + 1 = omega arith in
+    let quotient : n / 6 ≡ column = omega arith in
+    let rest : n % 6 ≡ bit = omega arith in
+    ap (segments_up_to drawing band) next
+    ∙ (segments_up_to-more drawing band n
+    ∙ (ap (λ c. with_place (gap_of drawing) c (entry_at drawing c (6 * band + n % 6))
+    (segments_up_to drawing band n)) quotient
+    ∙ ap (λ b. with_place (gap_of drawing) column (entry_at drawing column (6 * band + b))
+    (segments_up_to drawing band n)) rest))
+
+-- after a pixel with an entry
+pub segment-pixel : (drawing : Drawing) (band column bit gap entry : ℕ) (items new : List Segment)
+    → bit < 6 → gap ≡ gap_of drawing → items ≡ segments_up_to drawing band (6 * column + bit)
+    → entry_at drawing column (6 * band + bit) ≡ Some entry
+    → new ≡ with_pixel gap column entry items
+    → new ≡ segments_up_to drawing band (6 * column + (bit + 1))
+segment-pixel drawing band column bit gap entry items new l wide was at is =
     is
-    ∙ (ap (λ g. with_pixel g (n / 6) entry items) wide
-    ∙ (ap (with_pixel (gap_of drawing) (n / 6) entry) was
-    ∙ sym (segments_up_to-more drawing band n
-    ∙ ap (λ p. with_place (gap_of drawing) (n / 6) p (segments_up_to drawing band n)) at)))
+    ∙ (ap (λ g. with_pixel g column entry items) wide
+    ∙ (ap (with_pixel (gap_of drawing) column entry) was
+    ∙ sym (segments_up_to-bit drawing band column bit l
+    ∙ ap (λ p. with_place (gap_of drawing) column p
+    (segments_up_to drawing band (6 * column + bit))) at)))
 
 -- after a transparent one
-pub segment-skip : (drawing : Drawing) (band n : ℕ) (items : List Segment)
-    → items ≡ segments_up_to drawing band n
-    → entry_at drawing (n / 6) (6 * band + n % 6) ≡ None
-    → items ≡ segments_up_to drawing band (n + 1)
-segment-skip drawing band n items was none =
+pub segment-skip : (drawing : Drawing) (band column bit : ℕ) (items : List Segment)
+    → bit < 6 → items ≡ segments_up_to drawing band (6 * column + bit)
+    → entry_at drawing column (6 * band + bit) ≡ None
+    → items ≡ segments_up_to drawing band (6 * column + (bit + 1))
+segment-skip drawing band column bit items l was none =
     was
-    ∙ sym (segments_up_to-more drawing band n
-    ∙ ap (λ p. with_place (gap_of drawing) (n / 6) p (segments_up_to drawing band n)) none)
+    ∙ sym (segments_up_to-bit drawing band column bit l
+    ∙ ap (λ p. with_place (gap_of drawing) column p
+    (segments_up_to drawing band (6 * column + bit))) none)
 
 -- one pass of those that are left
 pub passes-step : (n counter : ℕ) (ordered left next rest whole : List Segment) → counter < n

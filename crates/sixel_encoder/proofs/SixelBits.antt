@@ -17,37 +17,13 @@ use Rattle.std.proofs.lemmas.Nat.Bits.{same_from_bits_below}
 use Rattle.sixel_encoder.specs.declared.segments.Segment.{Segment}
 use Rattle.sixel_encoder.specs.Compact.{blocked_sixel, fill_after, is_blocked, is_of, own_sixel}
 use Rattle.sixel_encoder.specs.Compact.{segment_row}
-use Rattle.sixel_encoder.specs.Text.{Drawing, entry_at, is_entry, mask}
+use Rattle.sixel_encoder.specs.Text.{Drawing, entry_at, is_entry, mask, sixel_of}
 use Rattle.sixel_encoder.specs.inside.Compact.{AreBlocked}
+use Rattle.sixel_encoder.proofs.EntryLaneMasks.{mask-same}
 use Rattle.sixel_encoder.proofs.FillSteps.{fill-same}
-use Rattle.sixel_encoder.proofs.Masks.{mask-lt, mask-more, weight-le}
 use Rattle.sixel_encoder.proofs.SegmentFill.{bit-mask, no_bit-mask}
 use Rattle.sixel_encoder.proofs.SixBits.{mask-small}
 use Rattle.sixel_encoder.proofs.UsedBands.{mask-nothing}
-
--- one bit more, if its test passes
-pub bit-yes : (test : ℕ → Bool) (n bits more weight : ℕ) → bits ≡ mask test n → weight ≡ 2 ^ n
-    → test n ≡ true → more ≡ bits + weight → more ≡ mask test (n + 1)
-bit-yes test n bits more weight was is on e =
-    omega (arith, mask-more test n, was, is, e, ap (λ b. cond b (2 ^ n) 0) on)
-
--- and if it fails
-pub bit-no : (test : ℕ → Bool) (n bits more : ℕ) → bits ≡ mask test n → test n ≡ false
-    → more ≡ bits → more ≡ mask test (n + 1)
-bit-no test n bits more was off e =
-    omega (arith, mask-more test n, was, e, ap (λ b. cond b (2 ^ n) 0) off)
-
--- the next weight
-pub weight-more : (n weight more : ℕ) → weight ≡ 2 ^ n → more ≡ weight * 2 → more ≡ 2 ^ (n + 1)
-weight-more n weight more is e = omega (arith, pow_more 2 n, is, e)
-
--- the bits so far and the next weight fit a byte
-pub bits-fit : (test : ℕ → Bool) (n bits weight : ℕ) → n < 6 → bits ≡ mask test n
-    → weight ≡ 2 ^ n → (bits + weight < 64) × (weight * 2 ≤ 64)
-bits-fit test n bits weight l was is = (
-  omega (arith, mask-lt test n, weight-le n l, was, is),
-  omega (arith, weight-le n l, is),
-)
 
 -- a segment has no pixel before its first column
 pub own-before : (drawing : Drawing) (band : ℕ) (segment : Segment) (column : ℕ)
@@ -78,6 +54,16 @@ of-inside column place segment low high =
     and_true : (b : Bool) → b && true ≡ b
     and_true true = refl
     and_true false = refl
+
+-- so its sixel is that of its entry
+pub own-inside : (drawing : Drawing) (band : ℕ) (segment : Segment) (column : ℕ)
+    → segment.first ≤ column → column < segment.end
+    → own_sixel drawing band segment column ≡ sixel_of drawing band segment.entry column
+own-inside drawing band segment column low high =
+    mask-same
+    (λ bit. is_of column (entry_at drawing column (6 * band + bit)) segment)
+    (λ bit. is_entry segment.entry (entry_at drawing column (6 * band + bit))) 6
+    (λ bit l. of-inside column (entry_at drawing column (6 * band + bit)) segment low high)
 
 -- ---- what may not be covered
 

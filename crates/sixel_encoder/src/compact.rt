@@ -8,16 +8,17 @@ ghost use Rattle.sixel_encoder.specs.Compact.{segments_marks};
 ghost use Rattle.sixel_encoder.specs.Marks.{Pen as MarkPen, first_pen, marks_text, moved_by};
 ghost use Rattle.sixel_encoder.specs.Numbers.{number_of};
 ghost use Rattle.sixel_encoder.specs.Segments.{drawn_segments};
-ghost use Rattle.sixel_encoder.specs.inside.Compact.{AreBlocked, AreNumbersOf, IsAtPen};
+ghost use Rattle.sixel_encoder.specs.inside.Compact.{AreBlocked, AreLanes, AreNumbersOf, IsAtPen};
 ghost use Rattle.sixel_encoder.specs.inside.Compact.{IsWithin, IsWriter};
 ghost use Rattle.sixel_encoder.specs.inside.Indexed.{IsIndexed, drawing_of};
 
+use crate::band_entries::BandEntries;
 use crate::numbers::{count_runs, number_entries, push_numbered};
 use crate::pen::Pen;
 use crate::pixels::used_bands;
 use crate::segment_rows::SegmentRows;
 use crate::segments::{Segment, drawn_segments};
-use crate::text::{IndexedImage, encode_indexed, push_parameters, push_raster};
+use crate::text::{IndexedImage, encode_below, push_parameters, push_raster};
 use std::alloc::{AllocError, Global};
 
 /// Returns the compact SIXEL output of an image, or the plain one if that is shorter.
@@ -26,11 +27,10 @@ pub fn encode_compact(alloc: Global, image: &IndexedImage<'_>) -> Result<String,
     ensures { IfOk result (λ text. string_bytes text ≡ compact_text (drawing_of image.now)) }
 {
     let marked = encode_marked(alloc, image)?;
-    let plain = encode_indexed(alloc, image)?;
-    if plain.len() < marked.len() {
-        return Ok(plain);
+    match encode_below(alloc, image, marked.len())? {
+        Some(plain) => Ok(plain),
+        None => Ok(marked),
     }
-    Ok(marked)
 }
 
 /// Returns the output in segments that share passes.
@@ -55,8 +55,8 @@ fn encode_marked(alloc: Global, image: &IndexedImage<'_>) -> Result<String, Allo
 /// Writes the bands of a compact output.
 #[derive(Drop)]
 struct BandWriter<'a> {
-    /// The image.
-    image: &'a IndexedImage<'a>,
+    /// The palette entries of the band.
+    entries: BandEntries<'a>,
     /// The register of each palette entry.
     numbers: &'a [usize],
     /// Where the next sixel is written.
@@ -75,16 +75,17 @@ impl<'a> BandWriter<'a> {
         requires image { IsIndexed image.now }
         requires numbers { AreNumbersOf image.now numbers.now }
         ensures writer { IfOk result IsWriter }
-        ensures image { IfOk result (λ writer. writer.image.now ≡ image.now) }
+        ensures image { IfOk result (λ writer. writer.entries.image.now ≡ image.now) }
         ensures pen { IfOk result (λ writer. IsAtPen writer.pen first_pen) }
     {
         let pen = Pen {
             column: 0,
             register: None,
         };
+        let entries = BandEntries::new(alloc, image)?;
         let rows = SegmentRows::new(alloc, image.width)?;
         Ok(BandWriter {
-            image,
+            entries,
             numbers,
             pen,
             rows,
@@ -94,61 +95,59 @@ impl<'a> BandWriter<'a> {
     /// Appends a band.
     fn push_band(&mut self, alloc: Global, text: &mut String, band: usize) -> Result<(), AllocError>
         requires writer { IsWriter self.old }
-        requires band { 6 * band < self.old.image.now.height }
+        requires band { 6 * band < self.old.entries.image.now.height }
         ensures writer { OnOk result (IsWriter self.new) }
-        ensures image { self.new.image ≡ self.old.image }
+        ensures image { self.new.entries.image ≡ self.old.entries.image }
         ensures text { OnOk result ((pen : MarkPen) → IsAtPen self.old.pen pen
             → string_bytes text.new ≡ string_bytes text.old ++ marks_text
-            (segments_marks (drawing_of self.old.image.now)
-            (number_of (drawing_of self.old.image.now))
-            (drawn_segments (drawing_of self.old.image.now)) band pen)) }
+            (segments_marks (drawing_of self.old.entries.image.now)
+            (number_of (drawing_of self.old.entries.image.now))
+            (drawn_segments (drawing_of self.old.entries.image.now)) band pen)) }
         ensures pen { OnOk result ((pen : MarkPen) → IsAtPen self.old.pen pen → IsAtPen self.new.pen
-            (moved_by (segments_marks (drawing_of self.old.image.now)
-            (number_of (drawing_of self.old.image.now))
-            (drawn_segments (drawing_of self.old.image.now)) band pen) pen)) }
+            (moved_by (segments_marks (drawing_of self.old.entries.image.now)
+            (number_of (drawing_of self.old.entries.image.now))
+            (drawn_segments (drawing_of self.old.entries.image.now)) band pen) pen)) }
     {
         self.pen.begin_band(text, band)?;
-        let segments = drawn_segments(alloc, self.image, band)?;
-        self.rows.begin(self.image, band);
+        self.entries.read(band);
+        let segments = drawn_segments(alloc, &self.entries)?;
+        self.rows.begin(&self.entries);
         for segment in &segments {
-            self.push_segment(text, band, segment)?;
+            self.push_segment(text, segment)?;
         }
         Ok(())
     }
 
     /// Appends a segment, from its register to its last sixel.
-    fn push_segment(
-        &mut self,
-        text: &mut String,
-        band: usize,
-        segment: &Segment,
-    ) -> Result<(), AllocError>
+    fn push_segment(&mut self, text: &mut String, segment: &Segment) -> Result<(), AllocError>
         requires writer { IsWriter self.old }
-        requires band { 6 * band < self.old.image.now.height }
-        requires within { IsWithin self.old.image.now segment.now }
+        requires entries { AreLanes self.old.entries }
+        requires within { IsWithin self.old.entries.image.now segment.now }
         ensures writer { OnOk result (IsWriter self.new) }
-        ensures image { self.new.image ≡ self.old.image }
+        ensures entries { self.new.entries ≡ self.old.entries }
         ensures text { OnOk result ((drawn : List Segment) (pen : MarkPen)
-            → AreBlocked (drawing_of self.old.image.now) band drawn self.old.rows.blocked.items
+            → AreBlocked (drawing_of self.old.entries.image.now) self.old.entries.band drawn
+            self.old.rows.blocked.items
             → IsAtPen self.old.pen pen
             → string_bytes text.new ≡ string_bytes text.old ++ marks_text
-            (marks_after (drawing_of self.old.image.now) (number_of (drawing_of self.old.image.now))
-            band drawn segment.now pen)) }
+            (marks_after (drawing_of self.old.entries.image.now)
+            (number_of (drawing_of self.old.entries.image.now)) self.old.entries.band drawn segment.now pen)) }
         ensures pen { OnOk result ((drawn : List Segment) (pen : MarkPen)
             → IsAtPen self.old.pen pen → IsAtPen self.new.pen (moved_by
-            (marks_after (drawing_of self.old.image.now) (number_of (drawing_of self.old.image.now))
-            band drawn segment.now pen) pen)) }
+            (marks_after (drawing_of self.old.entries.image.now)
+            (number_of (drawing_of self.old.entries.image.now)) self.old.entries.band drawn segment.now pen) pen)) }
         ensures blocked { OnOk result ((drawn : List Segment)
-            → AreBlocked (drawing_of self.old.image.now) band drawn self.old.rows.blocked.items
-            → AreBlocked (drawing_of self.old.image.now) band (drawn ++ segment.now ∷ [])
-            self.new.rows.blocked.items) }
+            → AreBlocked (drawing_of self.old.entries.image.now) self.old.entries.band drawn
+            self.old.rows.blocked.items
+            → AreBlocked (drawing_of self.old.entries.image.now) self.old.entries.band
+            (drawn ++ segment.now ∷ []) self.new.rows.blocked.items) }
     {
         self.pen.go_to(text, segment)?;
         let numbers = self.numbers;
         self.pen.select(text, numbers[segment.entry])?;
         let from = self.pen.column;
         self.pen.column = segment.end;
-        self.rows.push(text, self.image, band, segment, from)?;
+        self.rows.push(text, &self.entries, segment, from)?;
         Ok(())
     }
 }

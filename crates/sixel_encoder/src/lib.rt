@@ -12,6 +12,7 @@ ghost use Rattle.sixel_encoder.specs.Encoding.{image_fault, IsDrawing, IsText, s
 ghost use Rattle.sixel_encoder.specs.Encoding.{square_value};
 
 mod band;
+mod band_entries;
 mod compact;
 mod decimal;
 mod dither;

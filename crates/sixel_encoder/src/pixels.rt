@@ -36,19 +36,6 @@ pub fn entry_at(image: &IndexedImage<'_>, column: usize, row: usize) -> Option<u
     entry_of(image, pixel)
 }
 
-/// Returns whether a pixel has this palette entry.
-#[inline(always)]
-pub fn has_entry_at(image: &IndexedImage<'_>, column: usize, row: usize, entry: usize) -> bool
-    requires image { IsIndexed image.now }
-    requires column { column < image.now.width }
-    ensures { result ≡ is_entry entry (entry_at (drawing_of image.now) column row) }
-{
-    match entry_at(image, column, row) {
-        Some(other) => other == entry,
-        None => false,
-    }
-}
-
 /// Returns whether a pixel has this palette entry, where there is one.
 #[inline(always)]
 pub fn has_entry(image: &IndexedImage<'_>, pixel: usize, entry: usize) -> bool

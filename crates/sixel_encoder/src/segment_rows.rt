@@ -5,17 +5,14 @@ ghost use Rattle.std.specs.Prelude.{OnOk, drop, length, slice_index, string_byte
 ghost use Rattle.std.specs.Int.Bits.{bit_or};
 ghost use Rattle.std.specs.List.{range_with_len};
 ghost use Rattle.sixel_encoder.specs.declared.segments.Segment.{Segment};
-ghost use Rattle.sixel_encoder.specs.Compact.{own_sixel, blocked_sixel, fill_after, is_blocked};
-ghost use Rattle.sixel_encoder.specs.Compact.{segment_row};
-ghost use Rattle.sixel_encoder.specs.Text.{entry_at};
+ghost use Rattle.sixel_encoder.specs.Compact.{own_sixel, fill_after, segment_row};
 ghost use Rattle.sixel_encoder.specs.RunTokens.{written, row_tokens};
-ghost use Rattle.sixel_encoder.specs.inside.Compact.{AreBlocked, AreWide, IsWithin};
-ghost use Rattle.sixel_encoder.specs.inside.Indexed.{IsIndexed, drawing_of};
+ghost use Rattle.sixel_encoder.specs.inside.Compact.{AreBlocked, AreLanes, AreWide, IsWithin};
+ghost use Rattle.sixel_encoder.specs.inside.Indexed.{drawing_of};
 
+use crate::band_entries::BandEntries;
 use crate::fill::{cover, push_filled};
-use crate::pixels::{entry_at, has_entry_at};
 use crate::segments::Segment;
-use crate::text::IndexedImage;
 use std::alloc::{AllocError, Global};
 
 /// The rows of sixels that drawing a segment needs, each as wide as the image.
@@ -45,15 +42,15 @@ impl SegmentRows {
     }
 
     /// Begins a band: only its transparent pixels are blocked.
-    pub fn begin(&mut self, image: &IndexedImage<'_>, band: usize)
-        requires image { IsIndexed image.now }
-        requires band { 6 * band < image.now.height }
-        requires wide { AreWide image.now.width self.old }
-        ensures wide { AreWide image.now.width self.new }
-        ensures blocked { AreBlocked (drawing_of image.now) band [] self.new.blocked.items }
+    pub fn begin(&mut self, entries: &BandEntries<'_>)
+        requires entries { AreLanes entries.now }
+        requires wide { AreWide entries.now.image.now.width self.old }
+        ensures wide { AreWide entries.now.image.now.width self.new }
+        ensures blocked { AreBlocked (drawing_of entries.now.image.now) entries.now.band []
+            self.new.blocked.items }
     {
         for column in 0..self.blocked.len() {
-            self.blocked[column] = transparent_sixel(image, band, column);
+            self.blocked[column] = entries.transparent(column);
         }
     }
 
@@ -61,51 +58,51 @@ impl SegmentRows {
     pub fn push(
         &mut self,
         text: &mut String,
-        image: &IndexedImage<'_>,
-        band: usize,
+        entries: &BandEntries<'_>,
         segment: &Segment,
         from: usize,
     ) -> Result<(), AllocError>
-        requires image { IsIndexed image.now }
-        requires band { 6 * band < image.now.height }
-        requires wide { AreWide image.now.width self.old }
+        requires entries { AreLanes entries.now }
+        requires wide { AreWide entries.now.image.now.width self.old }
         requires from { from ≤ segment.now.first }
-        requires within { IsWithin image.now segment.now }
+        requires within { IsWithin entries.now.image.now segment.now }
         ensures own { length self.new.own.items ≡ length self.old.own.items }
         ensures drawn { length self.new.drawn.items ≡ length self.old.drawn.items }
         ensures wide { OnOk result
             (length self.new.blocked.items ≡ length self.old.blocked.items) }
         ensures text { OnOk result ((drawn : List Segment)
-            → AreBlocked (drawing_of image.now) band drawn self.old.blocked.items
+            → AreBlocked (drawing_of entries.now.image.now) entries.now.band drawn
+            self.old.blocked.items
             → string_bytes text.new ≡ string_bytes text.old ++ written (row_tokens
-            (segment_row (drawing_of image.now) band drawn segment.now from))) }
+            (segment_row (drawing_of entries.now.image.now) entries.now.band drawn segment.now
+            from))) }
         ensures blocked { OnOk result ((drawn : List Segment)
-            → AreBlocked (drawing_of image.now) band drawn self.old.blocked.items
-            → AreBlocked (drawing_of image.now) band (drawn ++ segment.now ∷ [])
-            self.new.blocked.items) }
+            → AreBlocked (drawing_of entries.now.image.now) entries.now.band drawn
+            self.old.blocked.items
+            → AreBlocked (drawing_of entries.now.image.now) entries.now.band
+            (drawn ++ segment.now ∷ []) self.new.blocked.items) }
     {
-        self.write_own(image, band, segment, from);
+        self.write_own(entries, segment, from);
         self.draw_own(text, from, segment.end)?;
         self.block_own(from, segment.end);
         Ok(())
     }
 
     /// Writes the own sixels of a segment from a column on.
-    fn write_own(&mut self, image: &IndexedImage<'_>, band: usize, segment: &Segment, from: usize)
-        requires image { IsIndexed image.now }
-        requires band { 6 * band < image.now.height }
-        requires wide { AreWide image.now.width self.old }
+    fn write_own(&mut self, entries: &BandEntries<'_>, segment: &Segment, from: usize)
+        requires entries { AreLanes entries.now }
+        requires wide { AreWide entries.now.image.now.width self.old }
         requires from { from ≤ segment.now.first }
-        requires within { IsWithin image.now segment.now }
+        requires within { IsWithin entries.now.image.now segment.now }
         ensures own { (k : ℕ) → k < segment.now.end - from
             → slice_index self.new.own.items (from + k)
-            ≡ own_sixel (drawing_of image.now) band segment.now (from + k) }
+            ≡ own_sixel (drawing_of entries.now.image.now) entries.now.band segment.now (from + k) }
         ensures size { length self.new.own.items ≡ length self.old.own.items }
         ensures drawn { self.new.drawn ≡ self.old.drawn }
         ensures blocked { self.new.blocked ≡ self.old.blocked }
     {
         let own = &mut self.own[from..segment.end];
-        write_sixels(own, image, band, segment, from);
+        write_sixels(own, entries, segment, from);
     }
 
     /// Appends runs from a column to another that cover the own sixels and none that is blocked.
@@ -155,77 +152,31 @@ impl SegmentRows {
 }
 
 /// Writes the own sixels of a segment from a column on into a slice.
-fn write_sixels(
-    own: &mut [u8],
-    image: &IndexedImage<'_>,
-    band: usize,
-    segment: &Segment,
-    from: usize,
-)
-    requires image { IsIndexed image.now }
-    requires band { 6 * band < image.now.height }
-    requires within { IsWithin image.now segment.now }
+fn write_sixels(own: &mut [u8], entries: &BandEntries<'_>, segment: &Segment, from: usize)
+    requires entries { AreLanes entries.now }
+    requires within { IsWithin entries.now.image.now segment.now }
     requires end { from + length own.old ≤ segment.now.end }
     ensures own { (k : ℕ) → k < length own.old
-        → slice_index own.new k ≡ own_sixel (drawing_of image.now) band segment.now (from + k) }
+        → slice_index own.new k ≡ own_sixel (drawing_of entries.now.image.now) entries.now.band
+        segment.now (from + k) }
     ensures small { (k : ℕ) → slice_index own.new k < 64 }
 {
     for index in 0..own.len() {
-        own[index] = own_sixel(image, band, segment, from + index);
+        own[index] = own_sixel(entries, segment, from + index);
     }
 }
 
 /// Returns the own sixel of a segment in a column before its end.
 #[inline(always)]
-fn own_sixel(image: &IndexedImage<'_>, band: usize, segment: &Segment, column: usize) -> u8
-    requires image { IsIndexed image.now }
-    requires band { 6 * band < image.now.height }
-    requires within { IsWithin image.now segment.now }
+fn own_sixel(entries: &BandEntries<'_>, segment: &Segment, column: usize) -> u8
+    requires entries { AreLanes entries.now }
+    requires within { IsWithin entries.now.image.now segment.now }
     requires column { column < segment.now.end }
-    ensures { result ≡ own_sixel (drawing_of image.now) band segment.now column }
+    ensures { result
+        ≡ own_sixel (drawing_of entries.now.image.now) entries.now.band segment.now column }
 {
     if column < segment.first {
         return 0;
     }
-    let mut bits = 0;
-    let mut weight = 1;
-    for bit in 0..6 {
-        if has_entry_at(image, column, 6 * band + bit, segment.entry) {
-            bits += weight;
-        }
-        weight *= 2;
-    }
-    bits
-}
-
-/// Returns the transparent pixels of a column.
-#[inline(always)]
-fn transparent_sixel(image: &IndexedImage<'_>, band: usize, column: usize) -> u8
-    requires image { IsIndexed image.now }
-    requires band { 6 * band < image.now.height }
-    requires column { column < image.now.width }
-    ensures { result ≡ blocked_sixel (drawing_of image.now) band [] column }
-{
-    let mut bits = 0;
-    let mut weight = 1;
-    for bit in 0..6 {
-        if is_transparent_at(image, column, 6 * band + bit) {
-            bits += weight;
-        }
-        weight *= 2;
-    }
-    bits
-}
-
-/// Returns whether a pixel has no palette entry.
-#[inline(always)]
-fn is_transparent_at(image: &IndexedImage<'_>, column: usize, row: usize) -> bool
-    requires image { IsIndexed image.now }
-    requires column { column < image.now.width }
-    ensures { result ≡ is_blocked [] column (entry_at (drawing_of image.now) column row) }
-{
-    match entry_at(image, column, row) {
-        Some(_entry) => false,
-        None => true,
-    }
+    entries.sixel(column, segment.entry)
 }

@@ -1,12 +1,13 @@
 //! The segments of a band: pixels of one palette entry, close together.
 
-ghost use Rattle.std.specs.Prelude.{◌≡◌, ◌+◌, ◌*◌, ◌<◌, ◌^◌, ◌++◌, IfOk, OnOk, length};
+ghost use Rattle.std.specs.Prelude.{◌≡◌, ◌≢◌, ◌+◌, ◌<◌, ◌^◌, ◌++◌, IfOk, OnOk, true, false};
+ghost use Rattle.std.specs.Prelude.{length};
 ghost use Rattle.sixel_encoder.specs.Segments.{band_segments, drawn_segments, gap_of, passes};
 ghost use Rattle.sixel_encoder.specs.Segments.{with_pixel, in_pass, after_pass};
-ghost use Rattle.sixel_encoder.specs.inside.Indexed.{IsIndexed, drawing_of};
-ghost use Rattle.sixel_encoder.specs.inside.Compact.{AreLast};
+ghost use Rattle.sixel_encoder.specs.inside.Indexed.{drawing_of};
+ghost use Rattle.sixel_encoder.specs.inside.Compact.{AreLanes, AreLast};
 
-use crate::pixels::entry_at;
+use crate::band_entries::{BandEntries, TRANSPARENT};
 use crate::text::IndexedImage;
 use std::alloc::{AllocError, Global};
 
@@ -22,41 +23,44 @@ pub struct Segment {
 }
 
 /// Returns the segments of a band in the order in which they are drawn.
-pub fn drawn_segments(
-    alloc: Global,
-    image: &IndexedImage<'_>,
-    band: usize,
-) -> Result<Vec<Segment>, AllocError>
-    requires image { IsIndexed image.now }
-    requires band { 6 * band < image.now.height }
+pub fn drawn_segments(alloc: Global, entries: &BandEntries<'_>) -> Result<Vec<Segment>, AllocError>
+    requires { AreLanes entries.now }
     ensures { IfOk result (λ segments.
-        segments.items ≡ drawn_segments (drawing_of image.now) band) }
+        segments.items ≡ drawn_segments (drawing_of entries.now.image.now) entries.now.band) }
 {
-    let segments = band_segments(alloc, image, band)?;
+    let segments = band_segments(alloc, entries)?;
     in_passes(alloc, &segments)
 }
 
 /// Returns the segments of a band, in the order in which they begin.
-fn band_segments(
-    alloc: Global,
-    image: &IndexedImage<'_>,
-    band: usize,
-) -> Result<Vec<Segment>, AllocError>
-    requires image { IsIndexed image.now }
-    requires band { 6 * band < image.now.height }
+fn band_segments(alloc: Global, entries: &BandEntries<'_>) -> Result<Vec<Segment>, AllocError>
+    requires { AreLanes entries.now }
     ensures { IfOk result (λ segments.
-        segments.items ≡ band_segments (drawing_of image.now) band) }
+        segments.items ≡ band_segments (drawing_of entries.now.image.now) entries.now.band) }
 {
-    let gap = gap_of(image);
+    let gap = gap_of(entries.image);
     let mut segments = Vec::new(alloc);
     let mut last: [Option<usize>; 256] = [None; 256];
-    for pixel in 0..6 * image.width {
-        let column = pixel / 6;
-        if let Some(entry) = entry_at(image, column, 6 * band + pixel % 6) {
-            push_pixel(&mut segments, &mut last, gap, column, entry)?;
+    for column in 0..entries.image.width {
+        let mut above = TRANSPARENT;
+        for bit in 0..6 {
+            let lane = entries.lane(column, bit);
+            if is_new(lane, above) {
+                push_pixel(&mut segments, &mut last, gap, column, usize::from(lane))?;
+            }
+            above = lane;
         }
     }
     Ok(segments)
+}
+
+/// Returns whether the pixel of a lane is opaque, and has another entry than the one above it.
+#[inline(always)]
+fn is_new(lane: u16, above: u16) -> bool
+    ensures opaque { result ≡ true → lane ≢ 256 }
+    ensures same { result ≡ false → lane ≢ 256 → lane ≡ above }
+{
+    lane != above && lane != TRANSPARENT
 }
 
 /// Returns how many blank columns cut a row: as many as none has, if there are few colors.

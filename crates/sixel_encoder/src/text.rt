@@ -1,6 +1,7 @@
 //! The SIXEL output of an image whose colors are chosen.
 
-ghost use Rattle.std.specs.Prelude.{◌≡◌, ◌++◌, IfOk, OnOk, string_bytes};
+ghost use Rattle.std.specs.Prelude.{◌≡◌, ◌<◌, ◌≤◌, ◌++◌, IfOk, IfSome, MatchOption, OnOk, length};
+ghost use Rattle.std.specs.Prelude.{string_bytes};
 ghost use Rattle.sixel_encoder.specs.Text.{percent, color_definition, parameters_text, raster_text};
 ghost use Rattle.sixel_encoder.specs.Text.{palette_text, bands_text, text_of};
 ghost use Rattle.sixel_encoder.specs.inside.Indexed.{IsIndexed, drawing_of};
@@ -26,12 +27,51 @@ pub fn encode_indexed(alloc: Global, image: &IndexedImage<'_>) -> Result<String,
     requires { IsIndexed image.now }
     ensures { IfOk result (λ text. string_bytes text ≡ text_of (drawing_of image.now)) }
 {
+    let mut text = begin_text(alloc, image)?;
+    push_bands(alloc, &mut text, image)?;
+    text.push_str("\x1b\\")?;
+    Ok(text)
+}
+
+/// Returns the SIXEL output of an image, if it is shorter than a limit.
+///
+/// Stops at the first band that begins at the limit or past it.
+pub fn encode_below(
+    alloc: Global,
+    image: &IndexedImage<'_>,
+    limit: usize,
+) -> Result<Option<String>, AllocError>
+    requires { IsIndexed image.now }
+    ensures text { IfOk result (λ found. IfSome found
+        (λ text. string_bytes text ≡ text_of (drawing_of image.now))) }
+    ensures shorter { IfOk result (λ found. MatchOption found
+        (limit ≤ length (text_of (drawing_of image.now)))
+        (λ text. length (string_bytes text) < limit)) }
+{
+    let mut text = begin_text(alloc, image)?;
+    let mut rows = BandRows::new(alloc, image)?;
+    for band in 0..image.height.div_ceil(6) {
+        if text.len() >= limit {
+            return Ok(None);
+        }
+        rows.push_band(&mut text, image, band)?;
+    }
+    text.push_str("\x1b\\")?;
+    if text.len() >= limit {
+        return Ok(None);
+    }
+    Ok(Some(text))
+}
+
+/// Returns the output before the first band: parameters, raster attributes and palette.
+fn begin_text(alloc: Global, image: &IndexedImage<'_>) -> Result<String, AllocError>
+    ensures { IfOk result (λ text. string_bytes text ≡ parameters_text (drawing_of image.now)
+        ++ raster_text (drawing_of image.now) ++ palette_text (drawing_of image.now)) }
+{
     let mut text = String::new(alloc);
     push_parameters(&mut text, image)?;
     push_raster(&mut text, image)?;
     push_palette(&mut text, image)?;
-    push_bands(alloc, &mut text, image)?;
-    text.push_str("\x1b\\")?;
     Ok(text)
 }
 

@@ -1,7 +1,8 @@
 -- The state of the writer of a compact text. It is internal to the encoder: the compact text of a
 -- drawing defines its output.
-use Rattle.std.specs.Prelude.{◌≡◌, ℕ, ◌+◌, ◌<◌, ◌≤◌, ◌⊎◌, List, length, slice_index}
+use Rattle.std.specs.Prelude.{◌≡◌, ℕ, ◌+◌, ◌*◌, ◌<◌, ◌≤◌, ◌⊎◌, List, length, slice_index}
 use Rattle.std.specs.Prelude.{slice_index_or, Option, Some, None}
+use Rattle.sixel_encoder.specs.declared.band_entries.BandEntries.{BandEntries}
 use Rattle.sixel_encoder.specs.declared.compact.BandWriter.{BandWriter}
 use Rattle.sixel_encoder.specs.declared.pen.Pen.{Pen as PenState}
 use Rattle.sixel_encoder.specs.declared.segment_rows.SegmentRows.{SegmentRows}
@@ -10,7 +11,7 @@ use Rattle.sixel_encoder.specs.declared.text.IndexedImage.{IndexedImage}
 use Rattle.sixel_encoder.specs.Compact.{blocked_sixel, nth}
 use Rattle.sixel_encoder.specs.Marks.{Pen}
 use Rattle.sixel_encoder.specs.Numbers.{number_of, rank, runs_of}
-use Rattle.sixel_encoder.specs.Text.{Drawing}
+use Rattle.sixel_encoder.specs.Text.{Drawing, entry_at}
 use Rattle.sixel_encoder.specs.inside.Indexed.{IsIndexed, drawing_of}
 
 -- how many runs each entry has
@@ -41,6 +42,25 @@ AreBlocked drawing band segments blocked =
     (column : ℕ) → column < drawing.width
     → slice_index blocked column ≡ blocked_sixel drawing band segments column
 
+-- the lane of a pixel: its entry, or 256 if it is transparent
+abbrev pub lane_of : Option ℕ → ℕ
+lane_of None = 256
+lane_of (Some entry) = entry
+
+-- There are eight lanes for each column, and the last two are transparent.
+pub record AreSpare (image : IndexedImage) (lanes : List ℕ) : Type 0 where
+  pub size : length lanes ≡ 8 * image.width
+  pub spare : (column bit : ℕ) → column < image.width → 6 ≤ bit → bit < 8
+      → slice_index lanes (8 * column + bit) ≡ 256
+
+-- The first six lanes of a column are its pixels in the band.
+pub record AreLanes (entries : BandEntries) : Type 0 where
+  pub indexed : IsIndexed entries.image.now
+  pub spare : AreSpare entries.image.now entries.lanes.items
+  pub pixels : (column bit : ℕ) → column < entries.image.now.width → bit < 6
+      → slice_index entries.lanes.items (8 * column + bit)
+      ≡ lane_of (entry_at (drawing_of entries.image.now) column (6 * entries.band + bit))
+
 -- the rows are this wide
 pub record AreWide (width : ℕ) (rows : SegmentRows) : Type 0 where
   pub one : length rows.own.items ≡ width
@@ -59,11 +79,12 @@ pub record AreNumbersOf (image : IndexedImage) (numbers : List ℕ) : Type 0 whe
   pub each : (entry : ℕ) → entry < length image.colors.now
       → slice_index numbers entry ≡ number_of (drawing_of image) entry
 
--- the writer has rows as wide as the image, and the register of each entry
+-- the writer has lanes and rows as wide as the image, and the register of each entry
 pub record IsWriter (writer : BandWriter) : Type 0 where
-  pub indexed : IsIndexed writer.image.now
-  pub numbered : AreNumbersOf writer.image.now writer.numbers.now
-  pub wide : AreWide writer.image.now.width writer.rows
+  pub indexed : IsIndexed writer.entries.image.now
+  pub spare : AreSpare writer.entries.image.now writer.entries.lanes.items
+  pub numbered : AreNumbersOf writer.entries.image.now writer.numbers.now
+  pub wide : AreWide writer.entries.image.now.width writer.rows
 
 -- the code's pen is at the column of a pen and has its register selected
 pub record IsAtPen (state : PenState) (pen : Pen) : Type 0 where

@@ -10,7 +10,7 @@ use Rattle.sixel_encoder.proofs.compact.encode_marked.Given as goal
 abbrev pub invariant-loop-band : goal.invariant-loop-band
 invariant-loop-band l = record {
   writer : IsWriter l.writer;
-  image : l.writer.image.now ≡ l.fn.image;
+  image : l.writer.entries.image.now ≡ l.fn.image;
   text : string_bytes l.text
       ≡ string_bytes l.initial.text
       ++ marks_text

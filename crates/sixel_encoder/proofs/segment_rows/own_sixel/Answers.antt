@@ -1,66 +1,15 @@
-use Rattle.std.proofs.Common.{Bool, ℕ, sym, refl, arith, ◌+◌, ◌*◌, ◌∙◌}
-use Rattle.sixel_encoder.specs.Compact.{is_of}
-use Rattle.sixel_encoder.specs.Text.{entry_at}
+use Rattle.std.proofs.Common.{sym, ◌∙◌}
 use Rattle.sixel_encoder.specs.inside.Indexed.{drawing_of}
-use Rattle.sixel_encoder.proofs.Masks.{mask-none}
-use Rattle.sixel_encoder.proofs.SixelBits.{bit-no, bit-yes, bits-fit, of-inside, own-before}
-use Rattle.sixel_encoder.proofs.SixelBits.{weight-more}
+use Rattle.sixel_encoder.proofs.SixelBits.{own-before, own-inside}
 use Rattle.sixel_encoder.proofs.segment_rows.own_sixel.Goals as goal
-use Rattle.sixel_encoder.proofs.segment_rows.own_sixel.Goals.{then-has_entry_at}
-use Rattle.sixel_encoder.proofs.segment_rows.own_sixel.Goals.{else-has_entry_at}
 
 pub returns-then-column-segment : goal.returns-then-column-segment
 returns-then-column-segment c =
-    sym (own-before (drawing_of c.args.image.now) c.args.band c.args.segment.now c.args.column
-    c.if-column-segment.true)
+    sym (own-before (drawing_of c.args.entries.now.image.now) c.args.entries.now.band
+    c.args.segment.now c.args.column c.if-column-segment.true)
 
-pub loop-bit-preserved : goal.loop-bit-preserved
-loop-bit-preserved c =
-    let test : ℕ → Bool = λ bit. is_of c.args.column
-    (entry_at (drawing_of c.args.image.now) c.args.column (6 * c.args.band + bit))
-    c.args.segment.now in
-    let is = c.loop-bit.invariant in
-    let same =
-    of-inside c.args.column
-    (entry_at (drawing_of c.args.image.now) c.args.column (6 * c.args.band + c.loop-bit.bit))
-    c.args.segment.now c.if-column-segment.false c.requires.column in
-    record {
-      bits = elim c.if-has_entry_at.branch [
-        | then-has_entry_at w ↦
-            bit-yes test c.loop-bit.bit c.loop-bit.bits _ c.loop-bit.weight is.bits is.weight
-            (same ∙ (sym c.has_entry_at.ensures ∙ w.if-has_entry_at.true)) w.bits-is
-        | else-has_entry_at w ↦
-            bit-no test c.loop-bit.bit c.loop-bit.bits _ is.bits
-            (same ∙ (sym c.has_entry_at.ensures ∙ w.if-has_entry_at.false)) w.bits-is
-      ];
-      weight = weight-more c.loop-bit.bit c.loop-bit.weight _ is.weight refl;
-    }
-
-pub loop-bit-init : goal.loop-bit-init
-loop-bit-init c =
-    let test : ℕ → Bool = λ bit. is_of c.args.column
-    (entry_at (drawing_of c.args.image.now) c.args.column (6 * c.args.band + bit))
-    c.args.segment.now in
-    record { bits = sym (mask-none test); weight = refl }
-
-pub overflow_add-bits : goal.overflow_add-bits
-overflow_add-bits c =
-    let test : ℕ → Bool = λ bit. is_of c.args.column
-    (entry_at (drawing_of c.args.image.now) c.args.column (6 * c.args.band + bit))
-    c.args.segment.now in
-    let is = c.loop-bit.invariant in
-    let fit =
-    bits-fit test c.loop-bit.bit c.loop-bit.bits c.loop-bit.weight c.loop-bit-test.true is.bits
-    is.weight in
-    omega (arith, fit.0)
-
-pub overflow_mul-weight : goal.overflow_mul-weight
-overflow_mul-weight c =
-    let test : ℕ → Bool = λ bit. is_of c.args.column
-    (entry_at (drawing_of c.args.image.now) c.args.column (6 * c.args.band + bit))
-    c.args.segment.now in
-    let is = c.loop-bit.invariant in
-    let fit =
-    bits-fit test c.loop-bit.bit c.loop-bit.bits c.loop-bit.weight c.loop-bit-test.true is.bits
-    is.weight in
-    omega (arith, fit.1)
+pub returns : goal.returns
+returns c =
+    c.sixel.ensures
+    ∙ sym (own-inside (drawing_of c.args.entries.now.image.now) c.args.entries.now.band
+    c.args.segment.now c.args.column c.if-column-segment.false c.requires.column)

@@ -18,7 +18,8 @@ returns-clause-small c = λ k. elim (cases_lt k (length c.loop-index.own)) [
       ) in
       let small =
       mask-small (λ bit. is_of (c.args.from + k)
-      (entry_at (drawing_of c.args.image.now) (c.args.from + k) (6 * c.args.band + bit))
+      (entry_at (drawing_of c.args.entries.now.image.now) (c.args.from + k)
+      (6 * c.args.entries.now.band + bit))
       c.args.segment.now) in
       omega (arith, c.loop-index.invariant k low, small)
   | inr past ↦ omega (arith, get_or_past c.loop-index.own k 0 past)

@@ -6,4 +6,5 @@ use Rattle.sixel_encoder.proofs.segment_rows.write_sixels.Given as goal
 abbrev pub invariant-loop-index : goal.invariant-loop-index
 invariant-loop-index l =
     (k : ℕ) → k < l.index
-    → slice_index l.own k ≡ own_sixel (drawing_of l.image) l.band l.segment (l.from + k)
+    → slice_index l.own k
+    ≡ own_sixel (drawing_of l.entries.image.now) l.entries.band l.segment (l.from + k)

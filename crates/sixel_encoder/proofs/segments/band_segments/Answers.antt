@@ -1,52 +1,91 @@
-use Rattle.std.proofs.Common.{◌≡◌, ◌+◌, ◌≤◌, length, ap, sym, refl, ◌∙◌, arith}
-use Rattle.std.specs.Prelude.{◌/◌}
+use Rattle.std.proofs.Common.{◌≡◌, ◌+◌, ◌<◌, length, ap, sym, refl, ◌∙◌, inl, inr, arith, ℕ}
+use Rattle.std.proofs.lemmas.Bool.{cases_eq}
+use Rattle.sixel_encoder.specs.Segments.{with_pixel}
 use Rattle.sixel_encoder.specs.inside.Indexed.{drawing_of}
-use Rattle.sixel_encoder.proofs.SegmentSteps.{AreLast-later, AreLast-none}
-use Rattle.sixel_encoder.proofs.PassSteps.{none-replicated}
-use Rattle.sixel_encoder.proofs.PassSteps.{segment-pixel, segment-skip, segments_up_to-none}
+use Rattle.sixel_encoder.proofs.EntryLaneMasks.{opaque-lane, transparent-lane}
+use Rattle.sixel_encoder.proofs.SegmentSteps.{AreLast-none}
+use Rattle.sixel_encoder.proofs.PassSteps.{none-replicated, segment-pixel, segment-skip}
+use Rattle.sixel_encoder.proofs.PassSteps.{segments_up_to-none, with_pixel-twice}
 use Rattle.sixel_encoder.proofs.segments.band_segments.Goals as goal
-use Rattle.sixel_encoder.proofs.segments.band_segments.Goals.{in-Some+in_ok-push_pixel, in_default}
+use Rattle.sixel_encoder.proofs.segments.band_segments.Goals.{then-is_new+in_ok-push_pixel}
+use Rattle.sixel_encoder.proofs.segments.band_segments.Goals.{else-is_new}
 
-pub loop-pixel-init : goal.loop-pixel-init
-loop-pixel-init c = record {
+pub loop-column-init : goal.loop-column-init
+loop-column-init c = record {
   segments = c.new-segments.ensures.items
-      ∙ sym (segments_up_to-none (drawing_of c.args.image.now) c.args.band);
+      ∙ sym (segments_up_to-none (drawing_of c.args.entries.now.image.now) c.args.entries.now.band);
   last = rw c.new-segments.ensures.items
       (AreLast-none _ c.gap_of-gap.result 0 (λ e. none-replicated 256 e));
   size = refl;
 }
 
-pub loop-pixel-preserved : goal.loop-pixel-preserved
-loop-pixel-preserved c =
-    let drawing = drawing_of c.args.image.now in
-    let n = c.loop-pixel.pixel in
+pub push_pixel-requires-clause-entry : goal.push_pixel-requires-clause-entry
+push_pixel-requires-clause-entry c =
+    let lane =
+    opaque-lane c.args.entries.now c.loop-column.column c.loop-bit.bit c.lane-lane.result c.requires
+    (omega (arith, c.loop-column-test.true, c.loop-column.auto.column-end)) c.lane-lane.ensures
+    (c.is_new.ensures.opaque c.if-is_new.true) in
+    omega (arith, c.from.ensures, lane.1, c.loop-bit.invariant.size)
+
+pub loop-bit-preserved : goal.loop-bit-preserved
+loop-bit-preserved c =
+    let entries = c.args.entries.now in
+    let drawing = drawing_of entries.image.now in
+    let column = c.loop-column.column in
+    let bit = c.loop-bit.bit in
+    let lane = c.lane-lane.result in
     let gap = c.gap_of-gap.result in
-    let is = c.loop-pixel.invariant in
-    let next : n / 6 ≤ (n + 1) / 6 = omega arith in
-    elim c.match-entry_at.branch [
-      | in-Some+in_ok-push_pixel w ↦
-          let items : c.match-entry_at.segments.items ≡ w.push_pixel.new.segments.items =
+    let was = c.loop-bit.segments.items in
+    let is = c.loop-bit.invariant in
+    let lc : column < entries.image.now.width =
+    omega (arith, c.loop-column-test.true, c.loop-column.auto.column-end) in
+    let lb : bit < 6 = omega (arith, c.loop-bit-test.true, c.loop-bit.auto.bit-end) in
+    elim c.if-is_new.branch [
+      | then-is_new+in_ok-push_pixel w ↦
+          let at =
+          opaque-lane entries column bit lane c.requires lc c.lane-lane.ensures
+          (c.is_new.ensures.opaque w.if-is_new.true) in
+          let items : c.if-is_new.segments.items ≡ w.push_pixel.new.segments.items =
           ap (λ v. v.items) w.segments-is in
+          let pushed : w.push_pixel.new.segments.items ≡ with_pixel gap column lane was =
+          w.in_ok-push_pixel.ensures.segments
+          ∙ ap (λ (e : ℕ). with_pixel gap column e was) w.from.ensures in
           record {
             segments =
                 items
-                ∙ segment-pixel drawing c.args.band n gap w.in-Some.entry
-                c.loop-pixel.segments.items w.push_pixel.new.segments.items c.gap_of-gap.ensures
-                is.segments (sym c.entry_at.ensures.entry ∙ w.in-Some.is)
-                w.in_ok-push_pixel.ensures.segments;
-            last = rw (items, w.last-is)
-                (AreLast-later w.push_pixel.new.segments.items w.push_pixel.new.last gap (n / 6)
-                ((n + 1) / 6) next w.in_ok-push_pixel.ensures.last);
+                ∙ segment-pixel drawing entries.band column bit gap lane was
+                w.push_pixel.new.segments.items lb c.gap_of-gap.ensures is.segments at.0 pushed;
+            last = rw (items, w.last-is) w.in_ok-push_pixel.ensures.last;
             size = ap length w.last-is ∙ (w.push_pixel.auto.last ∙ is.size);
+            above = λ l. rw (items, pushed) (with_pixel-twice gap column lane was);
           }
-      | in_default w ↦ record {
-        segments =
-            ap (λ v. v.items) w.segments-is
-            ∙ segment-skip drawing c.args.band n c.loop-pixel.segments.items is.segments
-            (sym w.in_default.ensures.entry);
-        last = rw (w.segments-is, w.last-is)
-            (AreLast-later c.loop-pixel.segments.items c.loop-pixel.last gap (n / 6)
-            ((n + 1) / 6) next is.last);
-        size = ap length w.last-is ∙ is.size;
-      }
+      | else-is_new w ↦
+          let items : c.if-is_new.segments.items ≡ was = ap (λ v. v.items) w.segments-is in
+          elim (cases_eq lane 256) [
+            | inl none ↦ record {
+              segments =
+                  items
+                  ∙ segment-skip drawing entries.band column bit was lb is.segments
+                  (transparent-lane entries column bit lane c.requires lc c.lane-lane.ensures none);
+              last = rw (items, w.last-is) is.last;
+              size = ap length w.last-is ∙ is.size;
+              above = λ l. absurd (omega (arith, none, l));
+            }
+            | inr other ↦
+                let same = c.is_new.ensures.same w.if-is_new.false other in
+                let at =
+                opaque-lane entries column bit lane c.requires lc c.lane-lane.ensures other in
+                let kept : with_pixel gap column lane was ≡ was =
+                ap (λ (e : ℕ). with_pixel gap column e was) same
+                ∙ is.above (omega (arith, same, at.1)) in
+                record {
+                  segments =
+                      items
+                      ∙ segment-pixel drawing entries.band column bit gap lane was was lb
+                      c.gap_of-gap.ensures is.segments at.0 (sym kept);
+                  last = rw (items, w.last-is) is.last;
+                  size = ap length w.last-is ∙ is.size;
+                  above = λ l. rw items kept;
+                }
+          ]
     ]

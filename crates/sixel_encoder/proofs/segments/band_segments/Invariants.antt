@@ -1,13 +1,23 @@
-use Rattle.std.proofs.Common.{◌≡◌, length}
-use Rattle.std.specs.Prelude.{◌/◌}
-use Rattle.sixel_encoder.specs.Segments.{segments_up_to}
+use Rattle.std.proofs.Common.{◌≡◌, length, ◌+◌, ◌*◌, ◌<◌}
+use Rattle.sixel_encoder.specs.Segments.{segments_up_to, with_pixel}
 use Rattle.sixel_encoder.specs.inside.Compact.{AreLast}
 use Rattle.sixel_encoder.specs.inside.Indexed.{drawing_of}
 use Rattle.sixel_encoder.proofs.segments.band_segments.Given as goal
 
-abbrev pub invariant-loop-pixel : goal.invariant-loop-pixel
-invariant-loop-pixel l = record {
-  segments : l.segments.items ≡ segments_up_to (drawing_of l.image) l.band l.pixel;
-  last : AreLast l.segments.items l.last l.gap (l.pixel / 6);
+abbrev pub invariant-loop-column : goal.invariant-loop-column
+invariant-loop-column l = record {
+  segments : l.segments.items
+      ≡ segments_up_to (drawing_of l.entries.image.now) l.entries.band (6 * l.column);
+  last : AreLast l.segments.items l.last l.gap l.column;
   size : length l.last ≡ 256;
+}
+
+abbrev pub invariant-loop-bit : goal.invariant-loop-bit
+invariant-loop-bit l = record {
+  segments : l.segments.items
+      ≡ segments_up_to (drawing_of l.entries.image.now) l.entries.band (6 * l.column + l.bit);
+  last : AreLast l.segments.items l.last l.gap l.column;
+  size : length l.last ≡ 256;
+  above : l.above < 256
+      → with_pixel l.gap l.column l.above l.segments.items ≡ l.segments.items;
 }

@@ -12,7 +12,8 @@ pub draw_own-requires-clause-small : goal.draw_own-requires-clause-small
 draw_own-requires-clause-small c = λ k l.
     let small =
     mask-small (λ bit. is_of (c.args.from + k)
-    (entry_at (drawing_of c.args.image.now) (c.args.from + k) (6 * c.args.band + bit))
+    (entry_at (drawing_of c.args.entries.now.image.now) (c.args.from + k)
+    (6 * c.args.entries.now.band + bit))
     c.args.segment.now) in
     omega (arith, c.write_own.ensures.own k l, small)
 
@@ -21,7 +22,8 @@ returns-clause-text c = λ drawn are.
     let rows = c.write_own.new.self in
     c.in_ok-draw_own.ensures.text
     ∙ ap (λ r. string_bytes c.args.text.now ++ written (row_tokens r))
-    (fill-row (drawing_of c.args.image.now) c.args.band drawn c.args.segment.now c.args.from
+    (fill-row (drawing_of c.args.entries.now.image.now) c.args.entries.now.band drawn
+    c.args.segment.now c.args.from
     rows.own.items rows.blocked.items c.requires.within.wide c.write_own.ensures.own
     (rw c.write_own.ensures.blocked are))
 
@@ -29,7 +31,8 @@ pub returns-clause-blocked : goal.returns-clause-blocked
 returns-clause-blocked c = λ drawn are.
     let rows = c.draw_own.new.self in
     let told = c.block_own.ensures in
-    AreBlocked-after (drawing_of c.args.image.now) c.args.band drawn c.args.segment.now c.args.from
+    AreBlocked-after (drawing_of c.args.entries.now.image.now) c.args.entries.now.band drawn
+    c.args.segment.now c.args.from
     rows.own.items rows.blocked.items c.block_own.new.self.blocked.items c.requires.from
     (λ k l. ap (λ v. slice_index v.items (c.args.from + k)) c.draw_own.ensures.own
     ∙ c.write_own.ensures.own k l)

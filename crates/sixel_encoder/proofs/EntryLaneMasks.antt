@@ -1,0 +1,195 @@
+-- The lanes of a column that have a value, as the bits of a number.
+use Rattle.std.specs.Prelude.{None, Option, Some, ◌==◌, ◌≢◌}
+use Rattle.std.proofs.Common.{Bool, List, [], ap, arith, cond, eqb, false, inl, inr, length, map}
+use Rattle.std.proofs.Common.{refl, replicate, suc, sym, true, w16, zero, ℕ, ◌%◌, ◌*◌, ◌+◌}
+use Rattle.std.proofs.Common.{◌<◌, ◌^◌, ◌∙◌, ◌∷◌, ◌≡◌, ◌≤◌, get_or}
+use Rattle.std.proofs.lemmas.Bool.{both_ways, cases_lt}
+use Rattle.std.proofs.lemmas.Bool.Decides.{nat_tests}
+use Rattle.std.proofs.lemmas.Grind.{pow_more}
+use Rattle.std.proofs.lemmas.List.{get_or-map, length-map}
+use Rattle.std.proofs.lemmas.Simd.{bitmask_splat, get_or-chunk, length-chunk}
+use lib.Lanes.{chunk, mask_l, top, zip2}
+use Rattle.sixel_encoder.specs.declared.band_entries.BandEntries.{BandEntries}
+use Rattle.sixel_encoder.specs.declared.text.IndexedImage.{IndexedImage}
+use Rattle.sixel_encoder.specs.Compact.{blocked_sixel, is_blocked}
+use Rattle.sixel_encoder.specs.Text.{entry_at, is_entry, mask, sixel_of}
+use Rattle.sixel_encoder.specs.inside.Compact.{AreLanes, lane_of}
+use Rattle.sixel_encoder.specs.inside.Indexed.{IsIndexed, drawing_of}
+use Rattle.sixel_encoder.proofs.Masks.{hits, hits-past, mask-more, mask-none}
+
+-- ---- the mask of a list of answers
+
+double : (b : Bool) (n : ℕ) → cond b (2 ^ suc n) 0 ≡ 2 * cond b (2 ^ n) 0
+double true n =
+    let e : suc n ≡ n + 1 = omega arith in
+    omega (arith, ap (λ k. 2 ^ k) e, pow_more 2 n)
+double false n = refl
+
+-- a mask by its lowest bit and the others
+mask-low : (test : ℕ → Bool) (n : ℕ)
+    → mask test (suc n) ≡ cond (test 0) 1 0 + 2 * mask (λ k. test (suc k)) n
+unfolding mask
+mask-low test zero = omega arith
+mask-low test (suc n) =
+    omega (arith, mask-low test n, double (test (suc n)) n)
+
+-- tests that agree have one mask
+pub mask-same : (p q : ℕ → Bool) (n : ℕ) → ((k : ℕ) → k < n → p k ≡ q k) → mask p n ≡ mask q n
+unfolding mask
+mask-same p q zero same = refl
+mask-same p q (suc n) same =
+    omega (
+      arith,
+      mask-same p q n (λ k l. same k (omega arith)),
+      ap (λ b. cond b (2 ^ n) 0) (same n (omega arith)),
+    )
+
+-- the number of a list of answers is their mask
+mask_l-mask : (answers : List Bool)
+    → mask_l answers ≡ mask (λ k. get_or answers k false) (length answers)
+mask_l-mask [] = sym (mask-none (λ k. get_or [] k false))
+mask_l-mask (b ∷ answers) =
+    omega (
+      arith,
+      mask_l-mask answers,
+      mask-low (λ k. get_or (b ∷ answers) k false) (length answers),
+    )
+
+-- ---- the lanes that have a value
+
+-- the mask of the comparison has a bit for each lane that has it
+pub mask_is : (lanes : List ℕ) (at value : ℕ) → at + 8 ≤ length lanes
+    → mask_l
+    (map (top 15) (zip2 (λ a b. cond (eqb a b) 65535 0) (chunk at 8 lanes) (replicate 8 value)))
+    % 18446744073709551616 ≡ mask (λ bit. get_or lanes (at + bit) 0 == value) 8
+mask_is lanes at value inside =
+    let part = chunk at 8 lanes in
+    let long = length-chunk at 8 lanes inside in
+    let test : ℕ → Bool = λ x. x == value in
+    let size : length (map test part) ≡ 8 = length-map part test ∙ long in
+    bitmask_splat w16 (λ a b. eqb a b) part 8 value long (omega arith)
+    ∙ (mask_l-mask (map test part)
+    ∙ (ap (mask (λ k. get_or (map test part) k false)) size
+    ∙ mask-same (λ k. get_or (map test part) k false) (λ bit. get_or lanes (at + bit) 0 == value) 8
+    (λ k l.
+    get_or-map test part k 0 false (omega (arith, long, l))
+    ∙ ap test (get_or-chunk at 8 lanes k 0 l))))
+
+-- ---- the sixels of a column
+
+-- no pixel of an image has an entry past 255
+known : (image : IndexedImage) (band column bit e : ℕ) → IsIndexed image → column < image.width
+    → entry_at (drawing_of image) column (6 * band + bit) ≡ Some e → e < 256
+known image band column bit e is lc at =
+    elim (cases_lt e 256) [
+      | inl l ↦ l
+      | inr past ↦
+          let own : is_entry e (Some e) ≡ true = grind (arith, nat_tests) in
+          absurd (both_ways (hits image band e column bit)
+          (hits-past image band e column bit is lc (omega (arith, past, is.colors)))
+          (ap (is_entry e) at ∙ own))
+    ]
+
+-- the lane of an opaque pixel is an entry
+pub opaque-lane : (entries : BandEntries) (column bit lane : ℕ) → AreLanes entries
+    → column < entries.image.now.width
+    → lane ≡ lane_of (entry_at (drawing_of entries.image.now) column (6 * entries.band + bit))
+    → lane ≢ 256
+    → (entry_at (drawing_of entries.image.now) column (6 * entries.band + bit) ≡ Some lane)
+    × (lane < 256)
+opaque-lane entries column bit lane are lc is other =
+    go (entry_at (drawing_of entries.image.now) column (6 * entries.band + bit)) refl is
+  where
+    go : (place : Option ℕ)
+        → entry_at (drawing_of entries.image.now) column (6 * entries.band + bit) ≡ place
+        → lane ≡ lane_of place
+        → (place ≡ Some lane) × (lane < 256)
+    go None at e = absurd (other e)
+    go (Some entry) at e = (
+      ap Some (sym e),
+      omega (arith, e, known entries.image.now entries.band column bit entry are.indexed lc at),
+    )
+
+-- that of any other has none
+pub transparent-lane : (entries : BandEntries) (column bit lane : ℕ) → AreLanes entries
+    → column < entries.image.now.width
+    → lane ≡ lane_of (entry_at (drawing_of entries.image.now) column (6 * entries.band + bit))
+    → lane ≡ 256
+    → entry_at (drawing_of entries.image.now) column (6 * entries.band + bit) ≡ None
+transparent-lane entries column bit lane are lc is none =
+    go (entry_at (drawing_of entries.image.now) column (6 * entries.band + bit)) refl is
+  where
+    go : (place : Option ℕ)
+        → entry_at (drawing_of entries.image.now) column (6 * entries.band + bit) ≡ place
+        → lane ≡ lane_of place → place ≡ None
+    go None at e = refl
+    go (Some entry) at e =
+        absurd
+        (omega (arith, e, none, known entries.image.now entries.band column bit entry are.indexed lc at))
+
+-- whether a lane has an entry
+lane-entry : (entry : ℕ) (place : Option ℕ) → entry < 256
+    → (lane_of place == entry) ≡ is_entry entry place
+lane-entry entry None l = grind (arith, nat_tests)
+lane-entry entry (Some other) l = refl
+
+-- whether a lane of a pixel is transparent
+lane-none : (column : ℕ) (place : Option ℕ) → ((e : ℕ) → place ≡ Some e → e < 256)
+    → (lane_of place == 256) ≡ is_blocked [] column place
+lane-none column None known = refl
+lane-none column (Some other) known = let l = known other refl in grind (arith, nat_tests)
+
+-- the lanes with an entry are the sixel of the entry
+pub sixel-lanes : (entries : BandEntries) (column entry : ℕ) → AreLanes entries
+    → column < entries.image.now.width → entry < 256
+    → mask (λ bit. get_or entries.lanes.items (8 * column + bit) 0 == entry) 8
+    ≡ sixel_of (drawing_of entries.image.now) entries.band entry column
+sixel-lanes entries column entry are lc le =
+    let test : ℕ → Bool = λ bit. get_or entries.lanes.items (8 * column + bit) 0 == entry in
+    let six : get_or entries.lanes.items (8 * column + 6) 0 ≡ 256 =
+    are.spare.spare column 6 lc (omega arith) (omega arith) in
+    let seven : get_or entries.lanes.items (8 * column + 7) 0 ≡ 256 =
+    are.spare.spare column 7 lc (omega arith) (omega arith) in
+    let off6 : test 6 ≡ false = grind (arith, nat_tests) in
+    let off7 : test 7 ≡ false = grind (arith, nat_tests) in
+    omega (
+      arith,
+      mask-more test 6,
+      mask-more test 7,
+      ap {B = ℕ} (λ b. cond b 64 0) off6,
+      ap {B = ℕ} (λ b. cond b 128 0) off7,
+      mask-same test
+          (λ bit. is_entry entry
+          (entry_at (drawing_of entries.image.now) column (6 * entries.band + bit))) 6
+          (λ k l. ap (λ x. x == entry) (are.pixels column k lc l)
+          ∙ lane-entry entry
+          (entry_at (drawing_of entries.image.now) column (6 * entries.band + k)) le),
+    )
+
+-- the transparent lanes are the sixel of the transparent pixels and two more bits
+pub transparent-lanes : (entries : BandEntries) (column : ℕ) → AreLanes entries
+    → column < entries.image.now.width
+    → mask (λ bit. get_or entries.lanes.items (8 * column + bit) 0 == 256) 8
+    ≡ blocked_sixel (drawing_of entries.image.now) entries.band [] column + 192
+transparent-lanes entries column are lc =
+    let test : ℕ → Bool = λ bit. get_or entries.lanes.items (8 * column + bit) 0 == 256 in
+    let six : get_or entries.lanes.items (8 * column + 6) 0 ≡ 256 =
+    are.spare.spare column 6 lc (omega arith) (omega arith) in
+    let seven : get_or entries.lanes.items (8 * column + 7) 0 ≡ 256 =
+    are.spare.spare column 7 lc (omega arith) (omega arith) in
+    let on6 : test 6 ≡ true = grind (arith, nat_tests) in
+    let on7 : test 7 ≡ true = grind (arith, nat_tests) in
+    omega (
+      arith,
+      mask-more test 6,
+      mask-more test 7,
+      ap {B = ℕ} (λ b. cond b 64 0) on6,
+      ap {B = ℕ} (λ b. cond b 128 0) on7,
+      mask-same test
+          (λ bit. is_blocked [] column
+          (entry_at (drawing_of entries.image.now) column (6 * entries.band + bit))) 6
+          (λ k l. ap (λ x. x == 256) (are.pixels column k lc l)
+          ∙ lane-none column
+          (entry_at (drawing_of entries.image.now) column (6 * entries.band + k))
+          (λ e at. known entries.image.now entries.band column k e are.indexed lc at)),
+    )

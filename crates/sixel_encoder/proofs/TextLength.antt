@@ -1,0 +1,43 @@
+-- A text up to some band is no longer than the whole text.
+use Rattle.std.proofs.Common.{List, ap, append_assoc, arith, length, length-append, ℕ, ◌++◌, ◌+◌}
+use Rattle.std.proofs.Common.{◌-◌, ◌∷◌, ◌≡◌, ◌≤◌}
+use Rattle.std.specs.Prelude.{codes}
+use Rattle.sixel_base.specs.Picture.{joined}
+use Rattle.sixel_encoder.specs.Text.{Drawing, band_text, bands, bands_text, palette_text}
+use Rattle.sixel_encoder.specs.Text.{parameters_text, raster_text, text_of}
+use Rattle.sixel_encoder.proofs.JoinedLists.{joined-add}
+
+-- the first n lists are no longer than more of them
+length-joined : (f : ℕ → List ℕ) (n m : ℕ) → n ≤ m → length (joined f n) ≤ length (joined f m)
+length-joined f n m l =
+    let e : m ≡ n + (m - n) = omega arith in
+    omega (
+      arith,
+      ap (λ x. length (joined f x)) e,
+      ap length (joined-add f n (m - n)),
+      length-append (joined f n) (joined (λ k. f (n + k)) (m - n)),
+    )
+
+-- a list of three parts is no shorter than a shorter second part makes it
+length-parts : (head part whole tail : List ℕ) (limit : ℕ) → length part ≤ length whole
+    → limit ≤ length (head ++ part) → limit ≤ length (head ++ whole ++ tail)
+length-parts head part whole tail limit l long =
+    omega (
+      arith,
+      length-append head part,
+      length-append head whole,
+      length-append (head ++ whole) tail,
+      l,
+      long,
+    )
+
+-- where the text so far reaches a limit the whole text does, too
+pub length-stopped : (drawing : Drawing) (band limit : ℕ) (begun text : List ℕ)
+    → begun ≡ parameters_text drawing ++ raster_text drawing ++ palette_text drawing
+    → text ≡ begun ++ joined (band_text drawing) band → band ≤ bands drawing.height
+    → limit ≤ length text → limit ≤ length (text_of drawing)
+length-stopped drawing band limit begun text is more low long =
+    length-parts (parameters_text drawing ++ raster_text drawing ++ palette_text drawing)
+    (joined (band_text drawing) band) (bands_text drawing) (27 ∷ codes "\\") limit
+    (length-joined (band_text drawing) band (bands drawing.height) low)
+    (rw is at (rw more at long))

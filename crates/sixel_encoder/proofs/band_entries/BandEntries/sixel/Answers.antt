@@ -1,0 +1,15 @@
+use Rattle.std.proofs.Common.{List, ap, ℕ, ◌*◌, ◌+◌, ◌∙◌}
+use Rattle.std.specs.Prelude.{slice_index, ◌==◌}
+use Rattle.sixel_encoder.specs.Text.{mask}
+use Rattle.sixel_encoder.proofs.EntryLaneMasks.{sixel-lanes}
+use Rattle.sixel_encoder.proofs.band_entries.BandEntries.sixel.Goals as goal
+
+pub returns : goal.returns
+returns c =
+    c.equal_lanes.ensures
+    ∙ (ap
+    (λ (lanes : List ℕ).
+    mask (λ bit. slice_index lanes (8 * c.args.column + bit) == c.args.entry) 8)
+    c.deref.ensures.value
+    ∙ sixel-lanes c.args.self.now c.args.column c.args.entry c.requires.entries c.requires.column
+    c.requires.entry)

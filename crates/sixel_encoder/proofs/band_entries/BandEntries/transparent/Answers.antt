@@ -1,0 +1,25 @@
+use Rattle.std.proofs.Common.{List, ap, arith, ℕ, ◌*◌, ◌+◌}
+use Rattle.std.specs.Prelude.{slice_index, ◌==◌}
+use Rattle.sixel_encoder.specs.Text.{mask}
+use Rattle.sixel_encoder.proofs.EntryLaneMasks.{transparent-lanes}
+use Rattle.sixel_encoder.proofs.band_entries.BandEntries.transparent.Goals as goal
+
+pub overflow_sub-result : goal.overflow_sub-result
+overflow_sub-result c =
+    omega (
+      arith,
+      c.equal_lanes.ensures,
+      ap (λ (lanes : List ℕ). mask (λ bit. slice_index lanes (8 * c.args.column + bit) == 256) 8)
+          c.deref.ensures.value,
+      transparent-lanes c.args.self.now c.args.column c.requires.entries c.requires.column,
+    )
+
+pub returns : goal.returns
+returns c =
+    omega (
+      arith,
+      c.equal_lanes.ensures,
+      ap (λ (lanes : List ℕ). mask (λ bit. slice_index lanes (8 * c.args.column + bit) == 256) 8)
+          c.deref.ensures.value,
+      transparent-lanes c.args.self.now c.args.column c.requires.entries c.requires.column,
+    )

@@ -1,0 +1,38 @@
+use Rattle.std.proofs.Common.{arith, refl}
+use Rattle.std.specs.Prelude.{string_bytes}
+use Rattle.sixel_encoder.specs.Text.{band_text}
+use Rattle.sixel_encoder.specs.inside.Indexed.{drawing_of}
+use Rattle.sixel_encoder.proofs.Dots.{appended-start, appended-more}
+use Rattle.sixel_encoder.proofs.TextLength.{length-stopped}
+use Rattle.sixel_encoder.proofs.text.encode_below.Goals as goal
+
+pub loop-band-init : goal.loop-band-init
+loop-band-init c = record {
+  text = appended-start (band_text (drawing_of c.args.image.now)) (string_bytes c.in_ok-text.text);
+  empty = c.in_ok-rows.ensures;
+}
+
+pub loop-band-preserved : goal.loop-band-preserved
+loop-band-preserved c =
+    let image = c.args.image.now in
+    let told = c.in_ok-push_band.ensures in
+    record {
+      text = appended-more (band_text (drawing_of image)) c.loop-band.band
+          (string_bytes c.in_ok-text.text) (string_bytes c.loop-band.text)
+          (string_bytes c.push_band.new.text) (band_text (drawing_of image) c.loop-band.band)
+          c.loop-band.invariant.text told.text refl;
+      empty = told.empty;
+    }
+
+pub returns-then-len-limit-clause-shorter : goal.returns-then-len-limit-clause-shorter
+returns-then-len-limit-clause-shorter c =
+    length-stopped (drawing_of c.args.image.now) c.loop-band.band c.args.limit
+    (string_bytes c.in_ok-text.text) (string_bytes c.loop-band.text) c.in_ok-text.ensures
+    c.loop-band.invariant.text
+    (omega (
+      arith,
+      c.loop-band-test.true,
+      c.loop-band.auto.band-end,
+      c.div_ceil-band-end.ensures,
+    ))
+    (omega (arith, c.if-len-limit.true, c.len.ensures))

@@ -1,0 +1,13 @@
+use Rattle.std.proofs.Common.{◌≡◌, ◌++◌, string_bytes}
+use Rattle.sixel_base.specs.Picture.{joined}
+use Rattle.sixel_encoder.specs.Text.{band_text}
+use Rattle.sixel_encoder.specs.inside.Indexed.{drawing_of}
+use Rattle.sixel_encoder.specs.inside.Grid.{AreEmptyRows}
+use Rattle.sixel_encoder.proofs.text.encode_below.Given as goal
+
+abbrev pub invariant-loop-band : goal.invariant-loop-band
+invariant-loop-band l = record {
+  text : string_bytes l.text ≡ string_bytes l.initial.text
+      ++ joined (band_text (drawing_of l.image)) l.band;
+  empty : AreEmptyRows l.image l.rows;
+}

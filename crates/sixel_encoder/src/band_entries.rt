@@ -1,0 +1,134 @@
+//! The palette entries of a band's pixels, column by column.
+
+ghost use Rattle.std.specs.Prelude.{◌≡◌, ◌≢◌, ℕ, [], ◌+◌, ◌*◌, ◌^◌, ◌<◌, ◌≤◌, ◌==◌, IfOk, length};
+ghost use Rattle.std.specs.Prelude.{slice_index};
+ghost use Rattle.sixel_encoder.specs.Compact.{blocked_sixel};
+ghost use Rattle.sixel_encoder.specs.Text.{entry_at, mask, sixel_of};
+ghost use Rattle.sixel_encoder.specs.inside.Compact.{AreLanes, AreSpare, lane_of};
+ghost use Rattle.sixel_encoder.specs.inside.Indexed.{IsIndexed, drawing_of};
+
+use crate::pixels::entry_at;
+use crate::text::IndexedImage;
+use std::alloc::{AllocError, Global};
+use std::simd::prelude::*;
+
+/// The lane of a transparent pixel.
+pub const TRANSPARENT: u16 = 256;
+
+/// The palette entries of the pixels of one band.
+#[derive(Drop)]
+pub struct BandEntries<'a> {
+    /// The image.
+    pub image: &'a IndexedImage<'a>,
+    /// The band.
+    pub band: usize,
+    /// Eight lanes for each column: those of its six pixels from the top, and two transparent ones.
+    lanes: Vec<u16>,
+}
+
+impl<'a> BandEntries<'a> {
+    /// Returns entries that have yet to be read.
+    pub fn new(alloc: Global, image: &'a IndexedImage<'a>) -> Result<BandEntries<'a>, AllocError>
+        requires { IsIndexed image.now }
+        ensures image { IfOk result (λ entries. entries.image.now ≡ image.now) }
+        ensures spare { IfOk result (λ entries. AreSpare image.now entries.lanes.items) }
+    {
+        let lanes = vec![in alloc; TRANSPARENT; 8 * image.width]?;
+        Ok(BandEntries {
+            image,
+            band: 0,
+            lanes,
+        })
+    }
+
+    /// Reads the entries of a band.
+    #[inline(never)]
+    pub fn read(&mut self, band: usize)
+        requires image { IsIndexed self.old.image.now }
+        requires band { 6 * band < self.old.image.now.height }
+        requires spare { AreSpare self.old.image.now self.old.lanes.items }
+        ensures image { self.new.image ≡ self.old.image }
+        ensures band { self.new.band ≡ band }
+        ensures entries { AreLanes self.new }
+    {
+        self.band = band;
+        for bit in 0..6 {
+            write_line(&mut self.lanes, self.image, 6 * band + bit, bit);
+        }
+    }
+
+    /// Returns the lane of a pixel: its entry, or [`TRANSPARENT`].
+    #[inline(always)]
+    pub fn lane(&self, column: usize, bit: usize) -> u16
+        requires entries { AreLanes self.now }
+        requires column { column < self.now.image.now.width }
+        requires bit { bit < 6 }
+        ensures { result
+            ≡ lane_of (entry_at (drawing_of self.now.image.now) column (6 * self.now.band + bit)) }
+    {
+        self.lanes[8 * column + bit]
+    }
+
+    /// Returns the pixels of a column that have an entry.
+    #[inline(always)]
+    pub fn sixel(&self, column: usize, entry: usize) -> u8
+        requires entries { AreLanes self.now }
+        requires column { column < self.now.image.now.width }
+        requires entry { entry < 256 }
+        ensures { result ≡ sixel_of (drawing_of self.now.image.now) self.now.band entry column }
+    {
+        equal_lanes(&self.lanes, 8 * column, entry as u16)
+    }
+
+    /// Returns the transparent pixels of a column.
+    #[inline(always)]
+    pub fn transparent(&self, column: usize) -> u8
+        requires entries { AreLanes self.now }
+        requires column { column < self.now.image.now.width }
+        ensures { result
+            ≡ blocked_sixel (drawing_of self.now.image.now) self.now.band [] column }
+    {
+        equal_lanes(&self.lanes, 8 * column, TRANSPARENT) - 192
+    }
+}
+
+/// Writes the lanes of one row of pixels.
+fn write_line(lanes: &mut [u16], image: &IndexedImage<'_>, row: usize, bit: usize)
+    requires image { IsIndexed image.now }
+    requires size { length lanes.old ≡ 8 * image.now.width }
+    requires bit { bit < 8 }
+    requires row { row < 2 ^ 32 }
+    ensures line { (column : ℕ) → column < image.now.width
+        → slice_index lanes.new (8 * column + bit)
+        ≡ lane_of (entry_at (drawing_of image.now) column row) }
+    ensures others { (column other : ℕ) → other < 8 → other ≢ bit
+        → slice_index lanes.new (8 * column + other)
+        ≡ slice_index lanes.old (8 * column + other) }
+{
+    for column in 0..image.width {
+        lanes[8 * column + bit] = lane_at(image, column, row);
+    }
+}
+
+/// Returns the lane of a pixel, a transparent one below the last row.
+#[inline(always)]
+fn lane_at(image: &IndexedImage<'_>, column: usize, row: usize) -> u16
+    requires image { IsIndexed image.now }
+    requires column { column < image.now.width }
+    ensures { result ≡ lane_of (entry_at (drawing_of image.now) column row) }
+{
+    match entry_at(image, column, row) {
+        Some(entry) => entry as u16,
+        None => TRANSPARENT,
+    }
+}
+
+/// Returns which of eight lanes have a value, the first one in the lowest bit.
+#[inline(always)]
+fn equal_lanes(lanes: &[u16], at: usize, value: u16) -> u8
+    requires { at + 8 ≤ length lanes.now }
+    ensures { result ≡ mask (λ bit. slice_index lanes.now (at + bit) == value) 8 }
+{
+    let chunk = u16x8::from_slice(&lanes[at..]);
+    chunk.simd_eq(u16x8::splat(value)).to_bitmask() as u8
+}
