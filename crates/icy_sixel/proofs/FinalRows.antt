@@ -5,13 +5,14 @@ use Rattle.sixel_base.specs.OneShot.{Found, Payload, NoPayload, IsFoundImage}
 use Rattle.sixel_base.specs.Payload.{Image, settled}
 use Rattle.sixel_base.specs.Picture.{picture}
 use Rattle.sixel_base.specs.declared.state.DecoderState.{DecoderState}
+use Rattle.sixel_decoder.specs.CopiedImage.{found_pixel}
 use Rattle.sixel_decoder.specs.FinalRows.{stage_final_rows}
 use Rattle.sixel_decoder.specs.FinalRows as rows
 use Rattle.sixel_decoder.proofs.DcsPayloads.{found_reading}
 use Rattle.sixel_decoder.proofs.FinalRows.{final_rows_stay, final_pixels_stay}
 use Rattle.sixel_decoder.proofs.FinalRows.{dcs_final_rows_stay, has_begun}
 use Rattle.sixel_decoder.proofs.Terminators.{stage_reading}
-use Rattle.icy_sixel.specs.FinalRows.{final_rows, found_pixel, pixel_so_far}
+use Rattle.icy_sixel.specs.FinalRows.{final_rows, pixel_so_far}
 use Rattle.icy_sixel.specs.Receiver.{Form, Nothing, OfPayload, OfString, found}
 
 pub rows_stay : (form : Form) (bytes more : List ℕ)

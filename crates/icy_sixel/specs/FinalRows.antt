@@ -1,16 +1,27 @@
--- The final rows of an open image, in the words that Receiver has for both forms, and what calls of
--- a receiver do with them. Which rows are final is in FinalRows of sixel_decoder.
-use Rattle.std.specs.Prelude.{ℕ, List, []}
-use Rattle.sixel_base.specs.Bytes.{front}
-use Rattle.sixel_base.specs.Decoder.{origin_of}
-use Rattle.sixel_base.specs.History.{history_of}
-use Rattle.sixel_base.specs.OneShot.{Found, Payload, NoPayload}
+-- The final rows of an open image, in the words that Receiver has for both forms, and what the
+-- calls of a receiver do with rows. Which rows are final is in FinalRows of sixel_decoder.
+use Rattle.std.specs.Prelude.{ℕ, ◌≡◌, ◌+◌, ◌-◌, ◌*◌, max, nat_lt, if◌then◌else◌, List, length}
+use Rattle.std.specs.Prelude.{Option, Some, None, Result, IfOk, OnOk, IfErr, OnErr, IsSomeAnd}
+use Rattle.std.specs.Prelude.{MatchOption}
+use Rattle.sixel_base.specs.CallFault.{CallFault, Exactly, RowsNotFinal, ShortStride, IsCallFault}
+use Rattle.sixel_base.specs.CallFault.{IsVerdict}
+use Rattle.sixel_base.specs.Decoder.{IsSetAs}
+use Rattle.sixel_base.specs.Fault.{Fault, IsFault}
+use Rattle.sixel_base.specs.OneShot.{AreFoundRegisters}
 use Rattle.sixel_base.specs.Payload.{settled}
-use Rattle.sixel_base.specs.Stroke.{pixel}
+use Rattle.sixel_base.specs.declared.error.SixelError.{SixelError}
+use Rattle.sixel_base.specs.declared.error.SixelError.TheVariants.{BufferSizeMismatch}
+use Rattle.sixel_base.specs.declared.error.SixelError.TheVariants.{IntegerOverflow}
 use Rattle.sixel_base.specs.declared.state.DecoderState.{DecoderState}
-use Rattle.sixel_decoder.specs.FinalRows.{dcs_final_rows}
+pub use Rattle.sixel_canvas.specs.Layout.{AreCopied, rows_len}
+pub use Rattle.sixel_canvas.specs.declared.channels.RowLayout.{RowLayout}
+pub use Rattle.sixel_decoder.specs.CopiedImage.{found_height, found_pixel, last_fault}
+pub use Rattle.sixel_decoder.specs.CopiedImage.{shape_of, IsFoundShape}
+use Rattle.sixel_decoder.specs.FinalRows.{dcs_final_rows, row_count}
 use Rattle.sixel_decoder.specs.FinalRows as rows
-use Rattle.icy_sixel.specs.Receiver.{Form, Nothing, OfPayload, OfString, found}
+pub use Rattle.sixel_decoder.specs.declared.copied_payload.ImageShape.{ImageShape}
+use Rattle.icy_sixel.specs.Receiver.{Form, Nothing, OfPayload, OfString, Receiver, Reception}
+use Rattle.icy_sixel.specs.Receiver.{end_fault, failed, found, no_image}
 
 -- how many rows from the top are final
 abbrev pub final_rows : Form → List ℕ → ℕ
@@ -18,12 +29,84 @@ final_rows Nothing bytes = 0
 final_rows (OfPayload settings) bytes = rows.final_rows (settled bytes)
 final_rows OfString bytes = dcs_final_rows bytes
 
--- the pixel at a column and a row of the picture of a payload, and no byte where there is none
-abbrev pub found_pixel : DecoderState → Found → ℕ → ℕ → List ℕ
-found_pixel decoder (Payload settings payload) =
-    pixel (origin_of decoder settings) (history_of (front payload))
-found_pixel decoder (NoPayload fault) = λ column row. []
+-- how many of these the open image has: none after an error
+abbrev pub rows_so_far : Reception → ℕ
+rows_so_far image = row_count image.is_refused (final_rows image.form image.bytes)
 
--- the same for the bytes so far: the picture of the image if it ended now
+-- the pixel at a column and a row of the picture so far: that of the image if it ended now
 abbrev pub pixel_so_far : DecoderState → Form → List ℕ → ℕ → ℕ → List ℕ
 pixel_so_far decoder form bytes = found_pixel decoder (found form bytes)
+
+-- how many bytes so many rows take in a caller's memory
+abbrev pub buffer_len : RowLayout → ℕ → ℕ
+buffer_len layout rows = if nat_lt 0 rows then rows_len layout rows else 0
+
+-- what is wrong with memory of so many bytes for so many rows: they overlap, no usize counts their
+-- bytes, or there are too few
+abbrev pub layout_fault : RowLayout → ℕ → ℕ → Option CallFault
+layout_fault layout rows len =
+    if nat_lt layout.stride (4 * max 1 layout.columns) then Some ShortStride
+    else if nat_lt 0xffff_ffff_ffff_ffff (buffer_len layout rows)
+    then Some (Exactly IntegerOverflow)
+    else if nat_lt len (buffer_len layout rows)
+    then Some (Exactly (BufferSizeMismatch (buffer_len layout rows) len))
+    else None
+
+-- what is wrong with a copy of so many rows of the open image from this one on
+abbrev pub copy_fault : Reception → ℕ → ℕ → RowLayout → ℕ → Option CallFault
+copy_fault image first rows layout len =
+    if nat_lt (rows_so_far image) (first + rows) then Some RowsNotFinal
+    else layout_fault layout rows len
+
+-- Final rows of the open image are copied to the caller's memory, or the call fails.
+pub record AreRowsCopied (image : Reception) (first rows : ℕ) (layout : RowLayout)
+    (old new : List ℕ) (result : Result (Unit {0}) SixelError) : Type 0 where
+  -- the call fails exactly for what is wrong with it
+  pub verdict : IsVerdict (copy_fault image first rows layout (length old)) result
+  -- each byte of the memory is that of a pixel or as it was
+  pub pixels : OnOk result
+      (AreCopied (pixel_so_far image.start image.form image.bytes) first rows layout old new)
+  -- an error leaves the memory as it was
+  pub untouched : OnErr result (new ≡ old)
+
+-- why the open image is rejected if it ends now
+abbrev pub image_fault : Reception → Option Fault
+image_fault image =
+    last_fault image.is_refused (failed image.form)
+    (end_fault image.start.pixel_limit image.form image.bytes)
+
+-- how many rows its image has from this one on
+abbrev pub rows_from : Reception → ℕ → ℕ
+rows_from image first = found_height image.start (found image.form image.bytes) - first
+
+-- The open image ends, its rows from this one on are copied to the caller's memory, and the decoder
+-- has the registers after it; or the call fails.
+pub record IsFinishedInto (old new : Receiver) (first : ℕ) (layout : RowLayout)
+    (before after : List ℕ) (result : Result ImageShape SixelError) : Type 0 where
+  -- no image is open then
+  pub closed : OnOk result (new.image ≡ no_image)
+  -- the shape is that of the image of its bytes
+  pub shape : IfOk result (λ shape.
+      IsFoundShape old.image.start (found old.image.form old.image.bytes) shape)
+  -- each byte of the memory is that of a pixel or as it was
+  pub pixels : OnOk result
+      (AreCopied (pixel_so_far old.image.start old.image.form old.image.bytes)
+      first (rows_from old.image first) layout before after)
+  -- the registers are those that its payload leaves
+  pub registers : OnOk result (AreFoundRegisters old.image.start
+      (found old.image.form old.image.bytes) new.decoder.registers)
+  -- crop and limit of the decoder stay
+  pub set : IsSetAs old.decoder new.decoder
+  -- the call succeeds only if nothing is wrong with the image and with the memory
+  pub sound : OnOk result ((image_fault old.image ≡ None)
+      × (layout_fault layout (rows_from old.image first) (length before) ≡ None))
+  -- an error is what is wrong: with the image, which is closed then, or with the memory alone, and
+  -- then the image stays open as it was
+  pub error : IfErr result (λ error. MatchOption (image_fault old.image)
+      (IsSomeAnd (layout_fault layout (rows_from old.image first) (length before))
+      (IsCallFault error) × (new ≡ old))
+      (λ fault. IsFault error fault × (new.image ≡ no_image)))
+  -- an error leaves the decoder as it was
+  pub kept : OnErr result (new.decoder ≡ old.decoder)
+  -- an error leaves the memory as it was
+  pub untouched : OnErr result (after ≡ before)

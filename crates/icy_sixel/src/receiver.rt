@@ -10,13 +10,13 @@ ghost use Rattle.icy_sixel.specs.ReceiverCalls.{IsPaintCount, IsSizeSoFar};
 ghost use Rattle.icy_sixel.specs.inside.Receiving.{reception_of};
 
 mod final_rows;
+mod row_buffer;
 mod settings;
-
-pub use final_rows::stable_rows;
 
 use crate::decoder::{DcsSettings, SixelDcsFeedResult, SixelDecoder, SixelFeedResult};
 use crate::script::Status;
 use crate::sixel_image::SixelImage;
+pub use final_rows::stable_rows;
 use sixel_base::{Result, SixelError};
 use sixel_canvas::band_canvas::BandCanvas;
 use sixel_decoder::{DcsReader, PayloadReader};

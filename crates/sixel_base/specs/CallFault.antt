@@ -1,6 +1,6 @@
 -- What is wrong with the arguments of a call on an image and a palette, apart from any code: an
 -- error that its sizes or lengths determine, or a palette or an index that SIXEL has no registers
--- for. The two texts are this library's own.
+-- for; rows of an image, and where they lie. The texts are this library's own.
 use Rattle.std.specs.Prelude.{◌≡◌, ℕ, ◌==◌, ◌||◌, nat_lt, if◌then◌else◌, List, codes, Option, Some}
 use Rattle.std.specs.Prelude.{None, Result, Ok, IfErr, MatchResult}
 use Rattle.sixel_base.specs.declared.error.SixelError.{SixelError}
@@ -9,11 +9,14 @@ use Rattle.sixel_base.specs.declared.error.SixelError.TheVariants.{BufferSizeMis
 use Rattle.sixel_base.specs.declared.error.SixelError.TheVariants.{NoSixelData, IntegerOverflow}
 use Rattle.sixel_base.specs.declared.error.SixelError.TheVariants.{OutOfMemory}
 
--- this very error, a palette of no colors or of more than there are registers, an index past it
+-- this very error, a palette of no colors or of more than there are registers, an index past it,
+-- rows of an image that are not final, rows that overlap in the caller's memory
 pub data CallFault : Type 0 where
   Exactly : SixelError → CallFault
   ColorCount : CallFault
   IndexRange : CallFault
+  RowsNotFinal : CallFault
+  ShortStride : CallFault
 
 -- the error is invalid data with this text
 abbrev pub HasText : SixelError → List ℕ → Type 0
@@ -29,6 +32,8 @@ abbrev pub IsCallFault : SixelError → CallFault → Type 0
 IsCallFault error (Exactly fault) = error ≡ fault
 IsCallFault error ColorCount = HasText error (codes "number of colors is not 1 to 256")
 IsCallFault error IndexRange = HasText error (codes "palette index out of range")
+IsCallFault error RowsNotFinal = HasText error (codes "rows are not final")
+IsCallFault error ShortStride = HasText error (codes "stride is shorter than a row")
 
 -- a call with this fault fails by it; a call with none only if an allocation fails
 abbrev pub FailsBy : {X : Type 0} → Option CallFault → Result X SixelError → Type 0

@@ -5,6 +5,7 @@ ghost use Rattle.sixel_base.specs.declared.error.SixelError.TheVariants.{OutOfMe
 ghost use Rattle.sixel_base.specs.Fault.{IsFault, Malformed, TooLarge, MissingCommand, BadHeader};
 ghost use Rattle.sixel_base.specs.Fault.{StreamFailed, DcsStreamFailed, Incomplete};
 ghost use Rattle.sixel_base.specs.CallFault.{IsCallFault, ColorCount, IndexRange};
+ghost use Rattle.sixel_base.specs.CallFault.{RowsNotFinal, ShortStride};
 
 use std::alloc::{AllocError, AllocFailed};
 use thiserror::Error;
@@ -27,6 +28,10 @@ pub const INCOMPLETE: &str = "incomplete SIXEL DCS sequence";
 pub const COLOR_COUNT: &str = "number of colors is not 1 to 256";
 /// The text of a palette index that no color of the palette has.
 pub const INDEX_RANGE: &str = "palette index out of range";
+/// The text of rows that bytes to come can change, or that the image so far does not have.
+pub const ROWS_NOT_FINAL: &str = "rows are not final";
+/// The text of a stride that is shorter than a row of the caller's memory.
+pub const SHORT_STRIDE: &str = "stride is shorter than a row";
 
 /// The result of a call that can fail.
 pub type Result<T> = std::result::Result<T, SixelError>;
@@ -116,6 +121,20 @@ impl SixelError {
         ensures { IsCallFault result IndexRange }
     {
         SixelError::InvalidData(INDEX_RANGE)
+    }
+
+    /// The error of rows that are not final.
+    pub fn rows_not_final() -> SixelError
+        ensures { IsCallFault result RowsNotFinal }
+    {
+        SixelError::InvalidData(ROWS_NOT_FINAL)
+    }
+
+    /// The error of a stride that is shorter than a row.
+    pub fn short_stride() -> SixelError
+        ensures { IsCallFault result ShortStride }
+    {
+        SixelError::InvalidData(SHORT_STRIDE)
     }
 }
 

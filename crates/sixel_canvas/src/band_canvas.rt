@@ -143,14 +143,17 @@ impl BandCanvas {
         self.rows.copy(first, rows, layout, out);
     }
 
-    /// Copies the picture of so many rows to a caller's memory. All that was drawn is final then.
-    pub fn copy_picture(&mut self, rows: usize, layout: RowLayout, out: &mut [u8])
-        requires { AreRowsIn layout rows (length out.old) }
+    /// Copies so many rows of the picture from row `first` on to a caller's memory.
+    ///
+    /// All that was drawn is final then.
+    pub fn copy_picture(&mut self, first: usize, rows: usize, layout: RowLayout, out: &mut [u8])
+        requires within { first + rows < 2 ^ 64 }
+        requires fits { AreRowsIn layout rows (length out.old) }
         ensures len { length out.new ≡ length out.old }
-        ensures copied { AreCopied (band_canvas_shown self.old) 0 rows layout out.old out.new }
+        ensures copied { AreCopied (band_canvas_shown self.old) first rows layout out.old out.new }
     {
         self.finish_rows();
-        self.rows.copy(0, rows, layout, out);
+        self.rows.copy(first, rows, layout, out);
     }
 
     /// Makes memory for so many columns of the band, and for its rows among the final ones.

@@ -60,7 +60,7 @@ use Rattle.sixel_decoder.proofs.ParserSteps.{Faults-along}
 use Rattle.sixel_decoder.proofs.DcsEnds.{count-fits, count_open, count_at, status_at}
 
 -- nothing is rejected without a fault or a failed allocation
-never_refused : (e : SixelError) (may : Bool) → may ≡ false → Faults e may None → ⊥
+pub never_refused : (e : SixelError) (may : Bool) → may ≡ false → Faults e may None → ⊥
 never_refused (InvalidDimensions w h) may not is = is
 never_refused (BufferSizeMismatch w h) may not is = is
 never_refused (InvalidData t) may not is = is
@@ -329,7 +329,7 @@ string_ended reader decoder ended bytes is =
     ∙ has_come-ended (first_terminator reader.bytes) (after_terminator reader.bytes)
     ∙ ap has_come (sym is.ending)
 
-sound_by : (limit : ℕ) (payload rest : List ℕ) (o : Option ℕ) → first_terminator payload ≡ o
+pub sound_by : (limit : ℕ) (payload rest : List ℕ) (o : Option ℕ) → first_terminator payload ≡ o
     → has_come (ended_by o rest) ≡ true
     → fed_fault limit payload ≡ None → payload_fault limit payload ≡ None
 sound_by limit payload rest None is come sound = absurd cc

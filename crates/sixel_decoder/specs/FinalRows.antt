@@ -1,7 +1,7 @@
 -- Which rows of a picture are final: no byte that follows changes a pixel of them. By DEC's manual
 -- a graphics new line goes down six rows and nothing goes up. So these are the rows above the band
 -- of the next sixel. The measure is this library's own.
-use Rattle.std.specs.Prelude.{◌≡◌, ℕ, min, Bool, true, false, List}
+use Rattle.std.specs.Prelude.{ℕ, min, Bool, if◌then◌else◌, List}
 use Rattle.sixel_base.specs.Dcs.{Stage, Heading, Failing, Reading, stage}
 use Rattle.sixel_base.specs.History.{History}
 use Rattle.sixel_base.specs.Payload.{settled}
@@ -21,7 +21,6 @@ stage_final_rows (Reading settings payload) = final_rows (settled payload)
 abbrev pub dcs_final_rows : List ℕ → ℕ
 dcs_final_rows bytes = stage_final_rows (stage bytes)
 
--- A session has so many final rows, and none after an error.
-pub record IsRowCount (is_refused : Bool) (final rows : ℕ) : Type 0 where
-  pub accepted : is_refused ≡ false → rows ≡ final
-  pub refused : is_refused ≡ true → rows ≡ 0
+-- how many of these a session has: none after an error
+abbrev pub row_count : Bool → ℕ → ℕ
+row_count is_refused final = if is_refused then 0 else final

@@ -1,3 +1,4 @@
+pub mod CopiedImage
 pub mod DcsCalls
 pub mod FinalRows
 pub mod OneShotCalls

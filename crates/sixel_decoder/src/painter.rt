@@ -13,6 +13,8 @@ ghost use Rattle.sixel_canvas.specs.inside.Tags.{is_tag};
 ghost use Rattle.sixel_decoder.specs.inside.Runs.{IsSixelByte};
 ghost use Rattle.sixel_decoder.specs.inside.Sizes.{IsTooLarge};
 
+mod copied_image;
+
 use crate::colors::{background, define, opaque};
 use crate::decoded_payload::DecodedPayload;
 use crate::front_sixels::FrontSixels;
@@ -271,7 +273,7 @@ impl<C: Canvas + Drop> Painter<C> {
     }
 
     /// Returns the height of the image: with crop, the last positive raster height.
-    fn image_height(&self) -> usize
+    pub fn image_height(&self) -> usize
         ensures { result ≡ (if self.now.raster_crop && nat_lt 0 self.now.raster_height
             then self.now.raster_height else self.now.height) }
     {

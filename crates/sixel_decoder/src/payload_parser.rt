@@ -17,6 +17,8 @@ ghost use Rattle.sixel_decoder.specs.declared.payload_parser.OpenCommand.TheVari
 ghost use Rattle.sixel_decoder.specs.declared.payload_parser.OpenCommand.TheVariants.{InRepeat};
 ghost use Rattle.sixel_decoder.specs.declared.payload_parser.OpenCommand.TheVariants.{InColor};
 
+mod copied_image;
+
 use crate::bytes::{is_ignored, is_numbered, is_parameter, is_sixel, is_terminator, tail};
 use crate::decoded_payload::DecodedPayload;
 use crate::painter::Painter;

@@ -12,6 +12,9 @@ pub mod multiplexer;
 #[cfg(test)]
 mod palette_tests;
 pub mod palettes;
+#[cfg(test)]
+mod row_tests;
+pub mod rows;
 pub mod streaming;
 pub mod terminal;
 #[cfg(test)]

@@ -3,7 +3,7 @@
 use crate::in_one_call::{decode, decode_payload, encode, palette};
 use crate::lists::replay;
 use crate::multiplexer::{Came, read};
-use crate::streaming::{decode_payload_chunks, decode_chunks};
+use crate::streaming::{decode_chunks, decode_payload_chunks};
 use crate::terminal::{Images, Read};
 use crate::viewer::open;
 use icy_sixel::receiver::SixelReceiver;

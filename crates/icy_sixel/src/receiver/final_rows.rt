@@ -1,38 +1,167 @@
-//! The rows of an open image that are final.
+//! The rows of an open image that are final, and copies of rows to a caller's memory.
 //!
 //! In SIXEL the drawing position never goes up. Once a graphics new line is read, no byte that
 //! follows changes a row above it.
 
-ghost use Rattle.std.specs.Prelude.{◌≡◌, ◌≤◌, ◌<◌, ◌++◌, ℕ, List};
+ghost use Rattle.std.specs.Prelude.{◌≡◌, ◌≤◌, ◌<◌, ◌+◌, ◌^◌, ◌++◌, nat_le, ℕ, List, length};
 ghost use Rattle.sixel_base.specs.OneShot.{IsFoundImage};
 ghost use Rattle.sixel_base.specs.Payload.{Image};
 ghost use Rattle.sixel_base.specs.Picture.{picture};
 ghost use Rattle.sixel_base.specs.declared.state.DecoderState.{DecoderState};
-ghost use Rattle.sixel_decoder.specs.FinalRows.{IsRowCount};
-ghost use Rattle.icy_sixel.specs.FinalRows.{final_rows, pixel_so_far};
+ghost use Rattle.sixel_canvas.specs.Layout.{AreRowsIn};
+ghost use Rattle.sixel_decoder.specs.CopiedImage.{IsEndHeight, IsImageCopied};
+ghost use Rattle.icy_sixel.specs.FinalRows.{final_rows, image_fault, pixel_so_far, rows_so_far};
+ghost use Rattle.icy_sixel.specs.FinalRows.{AreRowsCopied, IsFinishedInto};
 ghost use Rattle.icy_sixel.specs.Receiver.{Form, found};
+ghost use Rattle.icy_sixel.specs.inside.Receiving.{reception_of};
 
+use crate::receiver::row_buffer::check_rows;
 use crate::receiver::{Open, SixelReceiver};
+use sixel_base::{Result, SixelError};
+use sixel_canvas::channels::RowLayout;
+use sixel_decoder::{CopiedPayload, ImageShape};
+use std::mem;
 
 impl SixelReceiver {
     /// Returns how many rows from the top of the open image are final.
     ///
     /// No byte that follows changes a pixel of these rows, and the number never becomes smaller, by
-    /// the law [`stable_rows`]. These are the rows of the image so far that lie above the band of
+    /// the law [`stable_rows`]. They are the rows of the image so far that lie above the band of
     /// the next sixel. The call does not allocate.
     ///
     /// - It is 0 before the payload, after an error, and if no image is open.
-    /// - The image may still become wider. The new pixels on the right of final rows are background.
-    /// - With crop the image may end above rows that are final, because crop names the height of the
-    ///   image at its end.
+    /// - The image may still become wider. New pixels on the right of a final row are background.
+    /// - With crop the image may end above rows that are final, because the last raster attributes
+    ///   name its height.
     pub fn rows_so_far(&self) -> usize
-        ensures { IsRowCount self.now.image.is_refused
-            (final_rows self.now.image.form self.now.image.bytes) result }
+        ensures { result ≡ rows_so_far self.now.image }
     {
         match &self.open {
             Open::Nothing => 0,
             Open::Payload(reader) => reader.rows_so_far(),
             Open::ControlString(reader) => reader.rows_so_far(),
+        }
+    }
+
+    /// Copies final rows of the open image to the caller's memory.
+    ///
+    /// The rows are `first` up to before `first + rows`. The first of them begins at the first byte
+    /// of `out`, and each other one a stride after the one before it. Columns on the right of the
+    /// image so far are background. The other bytes of `out` stay. A later error takes no row back.
+    /// The call does not allocate.
+    ///
+    /// The errors, in this order, leave `out` as it was:
+    ///
+    /// - `InvalidData("rows are not final")`: `first + rows` is greater than
+    ///   [`rows_so_far`](Self::rows_so_far).
+    /// - `InvalidData("stride is shorter than a row")`: the stride has fewer bytes than the columns
+    ///   of a row, or than a pixel.
+    /// - `IntegerOverflow`: no `usize` counts the bytes of the rows.
+    /// - `BufferSizeMismatch`: `out` has fewer bytes than the rows take.
+    pub fn copy_rows(
+        &self,
+        first: usize,
+        rows: usize,
+        layout: RowLayout,
+        out: &mut [u8],
+    ) -> Result<()>
+        ensures len { length out.new ≡ length out.old }
+        ensures copied { AreRowsCopied self.now.image first rows layout out.old out.new result }
+    {
+        if !self.are_final(first, rows) {
+            return Err(SixelError::rows_not_final());
+        }
+        check_rows(layout, rows, out.len())?;
+        match &self.open {
+            Open::Nothing => {}
+            Open::Payload(reader) => reader.copy_rows(first, rows, layout, out),
+            Open::ControlString(reader) => reader.copy_rows(first, rows, layout, out),
+        }
+        Ok(())
+    }
+
+    /// Whether so many rows from row `first` on are final.
+    fn are_final(&self, first: usize, rows: usize) -> bool
+        ensures { result ≡ nat_le (first + rows) (rows_so_far self.now.image) }
+    {
+        let so_far = self.rows_so_far();
+        first <= so_far && rows <= so_far - first
+    }
+
+    /// Ends the image, and copies its rows from `first` on to the caller's memory.
+    ///
+    /// It does what [`finish`](Self::finish) does, and returns the image without its pixels. The
+    /// rows lie as those of [`copy_rows`](Self::copy_rows). With `first` 0 they are all rows of the
+    /// image, and with the rows that were copied before they are the others. No row is copied if
+    /// crop ends the image above `first`. The call does not allocate.
+    ///
+    /// The errors, in this order, leave the decoder and `out` as they were:
+    ///
+    /// - those of `finish` but for `OutOfMemory`, which close the image,
+    /// - those of `copy_rows` about the stride and `out`, which leave the image open as it was. The
+    ///   rows take at most those that [`size_so_far`](Self::size_so_far) reports once the image has
+    ///   ended.
+    pub fn finish_into(
+        &mut self,
+        first: usize,
+        layout: RowLayout,
+        out: &mut [u8],
+    ) -> Result<ImageShape>
+        ensures len { length out.new ≡ length out.old }
+        ensures finished { IsFinishedInto self.old self.new first layout out.old out.new result }
+    {
+        let height = match self.end_height() {
+            Ok(height) => height,
+            Err(error) => {
+                self.replace_open(Open::Nothing);
+                return Err(error);
+            }
+        };
+        let rows = height.saturating_sub(first);
+        check_rows(layout, rows, out.len())?;
+        let open = mem::replace(&mut self.open, Open::Nothing);
+        match open.finish_into(first, rows, layout, out) {
+            Ok(copied) => {
+                self.decoder.state.registers = copied.registers;
+                Ok(copied.shape)
+            }
+            Err(error) => Err(error),
+        }
+    }
+
+    /// Returns the height of the image if it ends now.
+    fn end_height(&self) -> Result<usize>
+        ensures { IsEndHeight self.now.image.start (found self.now.image.form self.now.image.bytes)
+            (image_fault self.now.image) result }
+    {
+        match &self.open {
+            Open::Nothing => Err(SixelError::stream_failed()),
+            Open::Payload(reader) => reader.end_height(),
+            Open::ControlString(reader) => reader.end_height(),
+        }
+    }
+}
+
+impl Open {
+    /// Ends the image, and copies rows of it to the caller's memory.
+    fn finish_into(
+        self,
+        first: usize,
+        rows: usize,
+        layout: RowLayout,
+        out: &mut [u8],
+    ) -> Result<CopiedPayload>
+        requires within { first + rows < 2 ^ 64 }
+        requires fits { AreRowsIn layout rows (length out.old) }
+        ensures len { length out.new ≡ length out.old }
+        ensures copied { IsImageCopied (reception_of self).start
+            (found (reception_of self).form (reception_of self).bytes)
+            (image_fault (reception_of self)) first rows layout out.old out.new result }
+    {
+        match self {
+            Open::Nothing => Err(SixelError::stream_failed()),
+            Open::Payload(reader) => reader.finish_into(first, rows, layout, out),
+            Open::ControlString(reader) => reader.finish_into(first, rows, layout, out),
         }
     }
 }

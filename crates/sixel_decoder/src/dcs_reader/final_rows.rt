@@ -1,19 +1,100 @@
-//! The final rows of a DCS sequence's image.
+//! The rows of a DCS sequence's image, final or all, in a caller's memory.
 
-ghost use Rattle.sixel_decoder.specs.FinalRows.{dcs_final_rows, IsRowCount};
+ghost use Rattle.std.specs.Prelude.{◌≡◌, ◌≤◌, ◌<◌, ◌+◌, ◌^◌, false, length};
+ghost use Rattle.sixel_base.specs.Dcs.{dcs_status, end_fault};
+ghost use Rattle.sixel_base.specs.Fault.{DcsStreamFailed};
+ghost use Rattle.sixel_base.specs.OneShot.{found};
+ghost use Rattle.sixel_canvas.specs.Layout.{AreCopied, AreRowsIn};
+ghost use Rattle.sixel_decoder.specs.CopiedImage.{found_pixel, last_fault};
+ghost use Rattle.sixel_decoder.specs.CopiedImage.{IsEndHeight, IsImageCopied};
+ghost use Rattle.sixel_decoder.specs.FinalRows.{dcs_final_rows, row_count};
 
-use crate::dcs_parser::DcsState;
-use crate::dcs_reader::DcsReader;
+use crate::copied_payload::CopiedPayload;
+use crate::dcs_parser::{DcsParser, DcsState};
+use crate::dcs_reader::{DcsReader, has_come};
+use sixel_base::{Result, SixelError};
+use sixel_canvas::band_canvas::BandCanvas;
+use sixel_canvas::channels::RowLayout;
 use sixel_canvas::drawing::Canvas;
 
 impl<C: Canvas + Drop> DcsReader<C> {
     /// Returns how many rows from the top are final, and 0 after a failed feed.
     pub fn rows_so_far(&self) -> usize
-        ensures { IsRowCount self.now.is_refused (dcs_final_rows self.now.bytes) result }
+        ensures { result ≡ row_count self.now.is_refused (dcs_final_rows self.now.bytes) }
     {
         match &self.parser.state {
             DcsState::Payload(reader) => reader.rows_so_far(),
             DcsState::Start | DcsState::Escape | DcsState::Header(_) | DcsState::Failed => 0,
+        }
+    }
+
+    /// Returns the height of the image, once the DCS sequence has ended.
+    pub fn end_height(&self) -> Result<usize>
+        ensures { IsEndHeight self.now.decoder (found self.now.bytes)
+            (last_fault self.now.is_refused DcsStreamFailed
+            (end_fault (dcs_status self.now.bytes))) result }
+    {
+        match &self.parser.state {
+            DcsState::Failed => Err(SixelError::dcs_stream_failed()),
+            DcsState::Payload(reader) => {
+                if has_come(self.parser.ended) {
+                    reader.end_height()
+                } else {
+                    Err(SixelError::incomplete())
+                }
+            }
+            DcsState::Start | DcsState::Escape | DcsState::Header(_) => {
+                Err(SixelError::incomplete())
+            }
+        }
+    }
+}
+
+impl DcsReader<BandCanvas> {
+    /// Copies final rows to a caller's memory.
+    pub fn copy_rows(&self, first: usize, rows: usize, layout: RowLayout, out: &mut [u8])
+        requires above { first + rows ≤ dcs_final_rows self.now.bytes }
+        requires accepted { 0 < rows → self.now.is_refused ≡ false }
+        requires fits { AreRowsIn layout rows (length out.old) }
+        ensures len { length out.new ≡ length out.old }
+        ensures copied { AreCopied (found_pixel self.now.decoder (found self.now.bytes))
+            first rows layout out.old out.new }
+    {
+        let DcsState::Payload(reader) = &self.parser.state else {
+            return;
+        };
+        reader.copy_rows(first, rows, layout, out);
+    }
+
+    /// Ends the image, and copies rows of it to a caller's memory.
+    pub fn finish_into(
+        self,
+        first: usize,
+        rows: usize,
+        layout: RowLayout,
+        out: &mut [u8],
+    ) -> Result<CopiedPayload>
+        requires within { first + rows < 2 ^ 64 }
+        requires fits { AreRowsIn layout rows (length out.old) }
+        ensures len { length out.new ≡ length out.old }
+        ensures copied { IsImageCopied self.decoder (found self.bytes)
+            (last_fault self.is_refused DcsStreamFailed (end_fault (dcs_status self.bytes)))
+            first rows layout out.old out.new result }
+    {
+        let DcsReader { parser, .. } = self;
+        let DcsParser { state, ended, .. } = parser;
+        match state {
+            DcsState::Failed => Err(SixelError::dcs_stream_failed()),
+            DcsState::Payload(reader) => {
+                if has_come(ended) {
+                    reader.finish_into(first, rows, layout, out)
+                } else {
+                    Err(SixelError::incomplete())
+                }
+            }
+            DcsState::Start | DcsState::Escape | DcsState::Header(_) => {
+                Err(SixelError::incomplete())
+            }
         }
     }
 }

@@ -1,19 +1,86 @@
-//! The final rows of a payload's image.
+//! The rows of a payload's image, final or all, in a caller's memory.
 
-ghost use Rattle.sixel_base.specs.Payload.{settled};
-ghost use Rattle.sixel_decoder.specs.FinalRows.{final_rows, IsRowCount};
+ghost use Rattle.std.specs.Prelude.{◌≡◌, ◌≤◌, ◌<◌, ◌+◌, ◌^◌, false, length};
+ghost use Rattle.sixel_base.specs.Bytes.{front};
+ghost use Rattle.sixel_base.specs.Fault.{StreamFailed};
+ghost use Rattle.sixel_base.specs.History.{history_of};
+ghost use Rattle.sixel_base.specs.OneShot.{Payload};
+ghost use Rattle.sixel_base.specs.Payload.{payload_fault, settled};
+ghost use Rattle.sixel_base.specs.Stroke.{pixel};
+ghost use Rattle.sixel_canvas.specs.Layout.{AreCopied, AreRowsIn};
+ghost use Rattle.sixel_decoder.specs.CopiedImage.{decoder_of, last_fault};
+ghost use Rattle.sixel_decoder.specs.CopiedImage.{IsEndHeight, IsImageCopied};
+ghost use Rattle.sixel_decoder.specs.FinalRows.{final_rows, row_count};
 
+use crate::copied_payload::CopiedPayload;
 use crate::payload_reader::PayloadReader;
+use sixel_base::{Result, SixelError};
+use sixel_canvas::band_canvas::BandCanvas;
+use sixel_canvas::channels::RowLayout;
 use sixel_canvas::drawing::Canvas;
 
 impl<C: Canvas + Drop> PayloadReader<C> {
     /// Returns how many rows from the top are final, and 0 after a failed feed.
     pub fn rows_so_far(&self) -> usize
-        ensures { IsRowCount self.now.is_refused (final_rows (settled self.now.bytes)) result }
+        ensures { result ≡ row_count self.now.is_refused (final_rows (settled self.now.bytes)) }
     {
         match &self.parser {
             Some(parser) => parser.painter.canvas.top().min(parser.painter.height),
             None => 0,
+        }
+    }
+
+    /// Returns the height of the image if the payload ends here.
+    pub fn end_height(&self) -> Result<usize>
+        ensures { IsEndHeight (decoder_of self.now.origin)
+            (Payload self.now.origin.settings self.now.bytes)
+            (last_fault self.now.is_refused StreamFailed
+            (payload_fault self.now.origin.pixel_limit self.now.bytes)) result }
+    {
+        match &self.parser {
+            Some(parser) => parser.end_height(),
+            None => Err(SixelError::stream_failed()),
+        }
+    }
+}
+
+impl PayloadReader<BandCanvas> {
+    /// Copies final rows to a caller's memory.
+    pub fn copy_rows(&self, first: usize, rows: usize, layout: RowLayout, out: &mut [u8])
+        requires above { first + rows ≤ final_rows (settled self.now.bytes) }
+        requires accepted { 0 < rows → self.now.is_refused ≡ false }
+        requires fits { AreRowsIn layout rows (length out.old) }
+        ensures len { length out.new ≡ length out.old }
+        ensures copied { AreCopied (pixel self.now.origin (history_of (front self.now.bytes)))
+            first rows layout out.old out.new }
+    {
+        let Some(parser) = &self.parser else {
+            return;
+        };
+        parser.painter.canvas.copy_rows(first, rows, layout, out);
+    }
+
+    /// Ends the image, and copies rows of it to a caller's memory.
+    pub fn finish_into(
+        self,
+        first: usize,
+        rows: usize,
+        layout: RowLayout,
+        out: &mut [u8],
+    ) -> Result<CopiedPayload>
+        requires within { first + rows < 2 ^ 64 }
+        requires fits { AreRowsIn layout rows (length out.old) }
+        ensures len { length out.new ≡ length out.old }
+        ensures copied { IsImageCopied (decoder_of self.origin)
+            (Payload self.origin.settings self.bytes)
+            (last_fault self.is_refused StreamFailed
+            (payload_fault self.origin.pixel_limit self.bytes))
+            first rows layout out.old out.new result }
+    {
+        let PayloadReader { parser, .. } = self;
+        match parser {
+            Some(parser) => parser.finish_into(first, rows, layout, out),
+            None => Err(SixelError::stream_failed()),
         }
     }
 }

@@ -13,7 +13,5 @@ returns-in-Some g c =
     shown_settled origin c.in-Some.parser inside.terminator inside.log.bytes
     (subst (λ (w : Option (PayloadParser _ _)). HasRead w origin inside.terminator inside.log.bytes)
     c.in-Some.is c.self.invariant) in
-    rw (← c.self.view_is, c.in-Some.is) (record {
-      accepted = λ accepted. c.min.ensures ∙ rw (c.top.ensures, shows.top, shows.height) refl;
-      refused = λ is. absurd cc;
-    })
+    rw (← c.self.view_is, c.in-Some.is)
+    (c.min.ensures ∙ rw (c.top.ensures, shows.top, shows.height) refl)

@@ -1,0 +1,44 @@
+//! The memory of a caller that rows of pixels are copied to.
+
+ghost use Rattle.std.specs.Prelude.{◌≡◌, ◌≤◌, ◌*◌, nat_lt, if◌then◌else◌, Some, None, OnOk};
+ghost use Rattle.sixel_base.specs.CallFault.{IsVerdict};
+ghost use Rattle.sixel_canvas.specs.Layout.{AreRowsIn};
+ghost use Rattle.icy_sixel.specs.FinalRows.{buffer_len, layout_fault};
+
+use sixel_base::{Result, SixelError};
+use sixel_canvas::channels::RowLayout;
+
+/// Checks that so many rows lie apart from each other in memory of so many bytes.
+pub fn check_rows(layout: RowLayout, rows: usize, len: usize) -> Result<()>
+    ensures verdict { IsVerdict (layout_fault layout rows len) result }
+    ensures fits { OnOk result (AreRowsIn layout rows len) }
+{
+    if layout.columns.max(1) > layout.stride / 4 {
+        return Err(SixelError::short_stride());
+    }
+    let Some(expected) = buffer_len(layout, rows) else {
+        return Err(SixelError::IntegerOverflow);
+    };
+    if len < expected {
+        return Err(SixelError::BufferSizeMismatch {
+            expected,
+            actual: len,
+        });
+    }
+    Ok(())
+}
+
+/// Returns how many bytes so many rows take, if a `usize` counts them.
+fn buffer_len(layout: RowLayout, rows: usize) -> Option<usize>
+    requires { 4 * layout.columns ≤ layout.stride }
+    ensures { result ≡ (if nat_lt 0xffff_ffff_ffff_ffff (buffer_len layout rows) then None
+        else Some (buffer_len layout rows)) }
+{
+    if rows == 0 {
+        return Some(0);
+    }
+    layout
+        .stride
+        .checked_mul(rows - 1)
+        .and_then(|above| above.checked_add(4 * layout.columns))
+}

@@ -1,0 +1,82 @@
+//! The image of a painter, copied to a caller's memory.
+
+ghost use Rattle.std.specs.Prelude.{◌≡◌, ◌<◌, ◌+◌, ◌∷◌, ◌^◌, List, ℕ, length};
+ghost use Rattle.sixel_base.specs.History.{History, Repeat, Raster};
+ghost use Rattle.sixel_base.specs.Stroke.{Origin};
+ghost use Rattle.sixel_base.specs.inside.Parameters.{Keeps};
+ghost use Rattle.sixel_canvas.specs.Layout.{AreRowsIn};
+ghost use Rattle.sixel_decoder.specs.inside.CopiedImage.{HasHeight, IsCopied};
+ghost use Rattle.sixel_decoder.specs.inside.Painter.{Shows};
+
+use crate::copied_payload::{CopiedPayload, ImageShape};
+use crate::painter::Painter;
+use crate::raster::{check_size, last_height};
+use sixel_base::limits::MAX_REPEAT;
+use sixel_base::parameters::Parameters;
+use sixel_base::{Result, SixelError};
+use sixel_canvas::band_canvas::BandCanvas;
+use sixel_canvas::channels::RowLayout;
+use sixel_canvas::drawing::Canvas;
+
+impl<C: Canvas + Drop> Painter<C> {
+    /// Returns the height of the image that ends with this repeat count.
+    pub fn height_after_repeat(&self, parameters: &Parameters) -> Result<usize>
+        ensures { (o : Origin) (h : History) (text : List ℕ) → Keeps parameters.now text
+            → Shows o self.now h → HasHeight result o (Repeat text ∷ h) }
+    {
+        if parameters.get(0) > MAX_REPEAT {
+            return Err(SixelError::malformed());
+        }
+        Ok(self.image_height())
+    }
+
+    /// Returns the height of the image that ends with these raster attributes.
+    pub fn height_after_raster(&self, parameters: &Parameters) -> Result<usize>
+        ensures { (o : Origin) (h : History) (text : List ℕ) → Keeps parameters.now text
+            → Shows o self.now h → HasHeight result o (Raster text ∷ h) }
+    {
+        let wide = parameters.get(2) as usize;
+        let high = parameters.get(3) as usize;
+        let height = self.height.max(high);
+        match check_size(self.width.max(wide), height, self.pixel_limit) {
+            Ok(()) => {
+                let named = last_height(self.raster_height, high);
+                if self.raster_crop && named > 0 {
+                    Ok(named)
+                } else {
+                    Ok(height)
+                }
+            }
+            Err(error) => Err(error),
+        }
+    }
+}
+
+impl Painter<BandCanvas> {
+    /// Copies rows of the image to a caller's memory, and returns the image without its pixels.
+    pub fn copy_image(
+        &mut self,
+        first: usize,
+        rows: usize,
+        layout: RowLayout,
+        out: &mut [u8],
+    ) -> CopiedPayload
+        requires within { first + rows < 2 ^ 64 }
+        requires fits { AreRowsIn layout rows (length out.old) }
+        ensures len { length out.new ≡ length out.old }
+        ensures copied { (o : Origin) (h : History) → Shows o self.old h
+            → IsCopied o h first rows layout out.old out.new result }
+    {
+        let height = self.image_height();
+        self.canvas.copy_picture(first, rows, layout, out);
+        CopiedPayload {
+            shape: ImageShape {
+                width: self.width,
+                height,
+                aspect_ratio: self.ratio,
+                background_mode: self.settings.background_mode(),
+            },
+            registers: self.registers,
+        }
+    }
+}

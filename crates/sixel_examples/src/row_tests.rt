@@ -1,0 +1,240 @@
+//! Rows worked out by hand: final rows, their copies, and images that end in a caller's memory.
+
+use crate::rows::{draw_rest, draw_rows};
+use icy_sixel::{
+    BackgroundMode, ChannelOrder, DcsSettings, ImageShape, PixelAspectRatio, Result, RowLayout,
+    SixelError, SixelReceiver,
+};
+use std::alloc::Global;
+
+const RED: [u8; 4] = [255, 0, 0, 255];
+
+const CLEAR: [u8; 4] = [0, 0, 0, 0];
+
+/// A byte that no pixel here has.
+const UNTOUCHED: [u8; 4] = [9, 9, 9, 9];
+
+/// Three pixels a row, the third of which is no column of the copy.
+const NARROW: RowLayout = RowLayout {
+    stride: 12,
+    columns: 2,
+    order: ChannelOrder::Rgba,
+};
+
+/// A receiver with an open payload on a transparent background, in which register 1 is red.
+fn receiver(alloc: Global) -> SixelReceiver {
+    let mut receiver = SixelReceiver::new();
+    receiver.set_register(1, [255, 0, 0]);
+    receiver.begin_frame(alloc, DcsSettings::new(None, Some(1), None));
+    receiver
+}
+
+/// Whether a chunk is read, and so many rows are final then.
+fn reads(receiver: &mut SixelReceiver, chunk: &[u8], rows: usize) -> bool {
+    receiver.feed(chunk).is_ok() & (receiver.rows_so_far() == rows)
+}
+
+/// Whether each row of three pixels is this one.
+fn are_rows(bytes: &[u8], row: [[u8; 4]; 3]) -> bool {
+    let mut are_equal = true;
+    for part in bytes.chunks(12) {
+        are_equal &= part == row.as_flattened();
+    }
+    are_equal
+}
+
+/// Whether the result is an error of invalid data with this text.
+fn has_text(copied: Result<()>, text: &str) -> bool {
+    match copied {
+        Err(SixelError::InvalidData(found)) => found == text,
+        _ => false,
+    }
+}
+
+/// Whether the call returned a shape of this size, with square pixels on a transparent background.
+fn has_size(finished: Result<ImageShape>, width: usize, height: usize) -> bool {
+    let expected = ImageShape {
+        width,
+        height,
+        aspect_ratio: PixelAspectRatio::Square,
+        background_mode: BackgroundMode::Transparent,
+    };
+    match finished {
+        Ok(shape) => shape == expected,
+        Err(_) => false,
+    }
+}
+
+/// Whether memory was too small by these numbers of bytes.
+fn is_too_small(finished: Result<ImageShape>, expected: usize, actual: usize) -> bool {
+    match finished {
+        Err(
+            SixelError::BufferSizeMismatch {
+                expected: wanted,
+                actual: found,
+            },
+        ) => (wanted == expected) & (found == actual),
+        _ => false,
+    }
+}
+
+#[test]
+fn final_rows(rt: HostRuntime) {
+    let mut receiver = receiver(rt.alloc());
+    let is_drawn = reads(&mut receiver, b"#1~", 0) & reads(&mut receiver, b"-#2!3", 6);
+    let mut rows = [9; 72];
+    let is_copied = receiver.copy_rows(0, 6, NARROW, &mut rows).is_ok();
+    let are_red = are_rows(&rows, [RED, CLEAR, UNTOUCHED]);
+    let is_wider = reads(&mut receiver, b"~$-", 12);
+    let mut again = [9; 72];
+    let is_same = receiver.copy_rows(0, 6, NARROW, &mut again).is_ok() & (rows == again);
+    assert!(rt; is_drawn & is_copied & are_red & is_wider & is_same);
+}
+
+#[test]
+fn rows_of_an_image_that_is_higher(rt: HostRuntime) {
+    let mut receiver = receiver(rt.alloc());
+    let are_final = reads(&mut receiver, b"---", 1) & reads(&mut receiver, b"\"1;1;2;20-", 20);
+    let mut rows = [9; 240];
+    let is_copied = receiver.copy_rows(0, 20, NARROW, &mut rows).is_ok();
+    assert!(rt; are_final & is_copied & are_rows(&rows, [CLEAR, CLEAR, UNTOUCHED]));
+}
+
+#[test]
+fn rows_in_bgra(rt: HostRuntime) {
+    let layout = RowLayout {
+        order: ChannelOrder::Bgra,
+        ..NARROW
+    };
+    let mut receiver = receiver(rt.alloc());
+    let are_final = reads(&mut receiver, b"#1~-", 6);
+    let mut rows = [9; 24];
+    let is_copied = receiver.copy_rows(4, 2, layout, &mut rows).is_ok();
+    assert!(rt; are_final & is_copied & are_rows(&rows, [[0, 0, 255, 255], CLEAR, UNTOUCHED]));
+}
+
+#[test]
+fn rows_that_are_not_copied(rt: HostRuntime) {
+    let mut receiver = receiver(rt.alloc());
+    let mut rows = [9; 72];
+    let are_final = reads(&mut receiver, b"#1~-", 6);
+    let is_below = has_text(
+        receiver.copy_rows(1, 6, NARROW, &mut rows),
+        "rows are not final",
+    );
+    let is_past = has_text(
+        receiver.copy_rows(usize::MAX, 1, NARROW, &mut rows),
+        "rows are not final",
+    );
+    let close = RowLayout {
+        stride: 7,
+        ..NARROW
+    };
+    let overlaps = has_text(
+        receiver.copy_rows(0, 1, close, &mut rows),
+        "stride is shorter than a row",
+    );
+    let far = RowLayout {
+        stride: usize::MAX,
+        ..NARROW
+    };
+    let is_far = receiver.copy_rows(0, 3, far, &mut rows) == Err(SixelError::IntegerOverflow);
+    let short = receiver.copy_rows(0, 6, NARROW, &mut rows[..67]);
+    let is_short = short
+        == Err(SixelError::BufferSizeMismatch {
+            expected: 68,
+            actual: 67,
+        });
+    let is_failed = receiver.feed(b"!65536~").is_err();
+    let is_lost = has_text(
+        receiver.copy_rows(0, 1, NARROW, &mut rows),
+        "rows are not final",
+    );
+    let are_left = are_rows(&rows, [UNTOUCHED, UNTOUCHED, UNTOUCHED]);
+    assert!(rt;
+        are_final
+            & is_below
+            & is_past
+            & overlaps
+            & is_far
+            & is_short
+            & is_failed
+            & is_lost
+            & are_left
+    );
+}
+
+#[test]
+fn image_in_memory(rt: HostRuntime) {
+    let mut receiver = receiver(rt.alloc());
+    let is_drawn = reads(&mut receiver, b"#1~~#1;2;0;100;0-!3~", 6);
+    let mut rows = [9; 144];
+    let is_ended = has_size(receiver.finish_into(0, NARROW, &mut rows), 3, 12);
+    let are_red = are_rows(&rows[..72], [RED, RED, UNTOUCHED]);
+    let are_green = are_rows(&rows[72..], [[0, 255, 0, 255], [0, 255, 0, 255], UNTOUCHED]);
+    let is_closed = !receiver.is_receiving() & (receiver.register(1) == [0, 255, 0]);
+    assert!(rt; is_drawn & is_ended & are_red & are_green & is_closed);
+}
+
+#[test]
+fn image_that_crop_ends_above(rt: HostRuntime) {
+    let mut receiver = SixelReceiver::new();
+    receiver.set_raster_crop(true);
+    receiver.begin_frame(rt.alloc(), DcsSettings::new(None, Some(1), None));
+    let is_drawn = reads(&mut receiver, b"\"1;1;1;3~-~", 6);
+    let mut rows = [9; 12];
+    let is_ended = has_size(receiver.finish_into(6, NARROW, &mut rows), 1, 3);
+    assert!(rt; is_drawn & is_ended & are_rows(&rows, [UNTOUCHED, UNTOUCHED, UNTOUCHED]));
+}
+
+#[test]
+fn image_that_memory_is_too_small_for(rt: HostRuntime) {
+    let mut receiver = receiver(rt.alloc());
+    let is_drawn = reads(&mut receiver, b"#1~\"1;1;1;9", 0);
+    let mut rows = [9; 72];
+    let is_small = is_too_small(receiver.finish_into(0, NARROW, &mut rows), 104, 72);
+    let goes_on = reads(&mut receiver, b"0", 0);
+    let is_smaller = is_too_small(receiver.finish_into(0, NARROW, &mut rows), 1076, 72);
+    let is_left = receiver.is_receiving() & are_rows(&rows, [UNTOUCHED, UNTOUCHED, UNTOUCHED]);
+    let is_ended = has_size(receiver.finish_into(84, NARROW, &mut rows), 1, 90);
+    let are_last = are_rows(&rows, [CLEAR, CLEAR, UNTOUCHED]);
+    assert!(rt; is_drawn & is_small & goes_on & is_smaller & is_left & is_ended & are_last);
+}
+
+#[test]
+fn image_that_is_rejected(rt: HostRuntime) {
+    let mut rows = [9; 72];
+    let mut payload = receiver(rt.alloc());
+    let is_open = reads(&mut payload, b"#1;2;0;0;0~!65536", 0);
+    let is_malformed = payload.finish_into(0, NARROW, &mut rows).is_err();
+    let is_closed = !payload.is_receiving() & (payload.register(1) == [255, 0, 0]);
+    let mut sequence = SixelReceiver::new();
+    sequence.begin_dcs(rt.alloc());
+    let is_begun = reads(&mut sequence, b"\x1bPq~-", 6);
+    let is_incomplete = sequence.finish_into(0, NARROW, &mut rows).is_err();
+    let is_gone = !sequence.is_receiving() & (sequence.rows_so_far() == 0);
+    let are_left = are_rows(&rows, [UNTOUCHED, UNTOUCHED, UNTOUCHED]);
+    assert!(rt; is_open & is_malformed & is_closed & is_begun & is_incomplete & is_gone & are_left);
+}
+
+/// Whether a window shows a DCS sequence of two bands in chunks.
+fn is_shown(alloc: Global) -> Result<bool> {
+    let mut window = vec![in alloc; 9; 30_720]?;
+    let mut receiver = SixelReceiver::new();
+    receiver.begin_dcs(alloc);
+    let first = draw_rows(&mut receiver, b"\x1bPq#1;2;100;0;0!640~", 0, &mut window)?;
+    let second = draw_rows(&mut receiver, b"-!640", first, &mut window)?;
+    let last = draw_rows(&mut receiver, b"~\x1b\\", second, &mut window)?;
+    let shape = draw_rest(&mut receiver, last, &mut window)?;
+    let mut are_red = true;
+    for pixel in window.chunks(4) {
+        are_red &= pixel == [0, 0, 255, 255].as_slice();
+    }
+    let are_drawn = (first == 0) & (second == 6) & (last == 6);
+    Ok(are_drawn & are_red & (shape.width == 640) & (shape.height == 12))
+}
+
+#[test]
+fn window(rt: HostRuntime) {
+    assert!(rt; matches!(is_shown(rt.alloc()), Ok(true)));
+}

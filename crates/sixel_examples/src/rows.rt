@@ -1,0 +1,39 @@
+//! A window that shows the rows of an image while it comes.
+
+use icy_sixel::{ChannelOrder, ImageShape, Result, RowLayout, SixelReceiver};
+
+/// How rows lie in the memory of a window: 640 columns in BGRA.
+pub const WINDOW: RowLayout = RowLayout {
+    stride: 2560,
+    columns: 640,
+    order: ChannelOrder::Bgra,
+};
+
+/// Reads a chunk, draws the rows that are final now, and returns how many rows are drawn then.
+pub fn draw_rows(
+    receiver: &mut SixelReceiver,
+    chunk: &[u8],
+    drawn: usize,
+    window: &mut [u8],
+) -> Result<usize> {
+    receiver.feed(chunk)?;
+    let rows = receiver.rows_so_far();
+    let start = drawn.saturating_mul(WINDOW.stride).min(window.len());
+    receiver.copy_rows(
+        drawn,
+        rows.saturating_sub(drawn),
+        WINDOW,
+        &mut window[start..],
+    )?;
+    Ok(rows)
+}
+
+/// Ends the image, and draws the rows that are left.
+pub fn draw_rest(
+    receiver: &mut SixelReceiver,
+    drawn: usize,
+    window: &mut [u8],
+) -> Result<ImageShape> {
+    let start = drawn.saturating_mul(WINDOW.stride).min(window.len());
+    receiver.finish_into(drawn, WINDOW, &mut window[start..])
+}
