@@ -1,7 +1,7 @@
 -- Lanes: what holds of each of four, and pixels that are chosen among two as numbers.
 use Rattle.std.proofs.Common.{◌≡◌, ℕ, zero, suc, ◌+◌, ◌-◌, ◌/◌, ◌^◌, ◌%◌, ◌<◌, ◌≤◌, Bool, true}
-use Rattle.std.proofs.Common.{false, cond, List, [], ◌∷◌, ◌++◌, length, map, get_or, bit_and, refl, sym}
-use Rattle.std.proofs.Common.{ap, subst, ◌∙◌, inl, inr, arith}
+use Rattle.std.proofs.Common.{false, cond, List, [], ◌∷◌, ◌++◌, length, map, get_or, bit_and, refl}
+use Rattle.std.proofs.Common.{sym, ap, subst, ◌∙◌, inl, inr, arith}
 use Rattle.std.specs.Prelude.{slice_set, nat_le, nat_lt, ◌==◌, ◌&&◌, if◌then◌else◌}
 use Rattle.std.specs.Int.{to_le_bytes, w32}
 use Rattle.std.proofs.lemmas.Bool.{cases_lt, cases_order, lt-ltb, le-ltb, lt-leb, le-leb}
@@ -18,7 +18,7 @@ each_of_four P a b c d (suc (suc zero)) less = c
 each_of_four P a b c d (suc (suc (suc zero))) less = d
 each_of_four P a b c d (suc (suc (suc (suc k)))) less = absurd (omega (arith, less))
 
--- four lanes of a list, which the logic joins to itself
+-- four lanes of a list, as `extract` reads them in the list joined to itself
 abbrev pub four_lanes : List ℕ → ℕ → List ℕ
 four_lanes xs at =
     get_or (xs ++ xs) at 0 ∷ get_or (xs ++ xs) (at + 1) 0 ∷ get_or (xs ++ xs) (at + 2) 0
@@ -53,27 +53,27 @@ get_or-lanes x a b c d e f g h pa pb pc pd pe pf pg ph past
     sym (past (suc (suc (suc (suc (suc (suc (suc (suc j)))))))) (omega arith))
 
 -- one of two numbers by a mask
-picked : (hit : Bool) (new old : ℕ) →
+by_mask : (hit : Bool) (new old : ℕ) →
     cond (top 31 (cond hit 4294967295 0)) new old ≡ (if hit then new else old)
-picked true new old = refl
-picked false new old = refl
+by_mask true new old = refl
+by_mask false new old = refl
 
 -- a lane's number where its sixel has the bit
 chosen_lane : (sixel bit new old : ℕ) →
     cond (top 31 (cond (bit_and (sixel / 2 ^ bit) 1 == 1) 4294967295 0)) new old
     ≡ (if is_set sixel bit then new else old)
 chosen_lane sixel bit new old =
-    rw (and_numeral (sixel / 2 ^ bit) 0 refl) (picked (sixel / 2 ^ bit % 2 == 1) new old)
+    rw (and_numeral (sixel / 2 ^ bit) 0 refl) (by_mask (sixel / 2 ^ bit % 2 == 1) new old)
 
 -- a list of four
-listed : (xs : List ℕ) → length xs ≡ 4 →
+four_list : (xs : List ℕ) → length xs ≡ 4 →
     (get_or xs 0 0 ∷ get_or xs 1 0 ∷ get_or xs 2 0 ∷ get_or xs 3 0 ∷ []) ≡ xs
-listed [] four = absurd (omega (arith, four))
-listed (a ∷ []) four = absurd (omega (arith, four))
-listed (a ∷ b ∷ []) four = absurd (omega (arith, four))
-listed (a ∷ b ∷ c ∷ []) four = absurd (omega (arith, four))
-listed (a ∷ b ∷ c ∷ d ∷ []) four = refl
-listed (a ∷ b ∷ c ∷ d ∷ e ∷ xs) four = absurd (omega (arith, four))
+four_list [] four = absurd (omega (arith, four))
+four_list (a ∷ []) four = absurd (omega (arith, four))
+four_list (a ∷ b ∷ []) four = absurd (omega (arith, four))
+four_list (a ∷ b ∷ c ∷ []) four = absurd (omega (arith, four))
+four_list (a ∷ b ∷ c ∷ d ∷ []) four = refl
+four_list (a ∷ b ∷ c ∷ d ∷ e ∷ xs) four = absurd (omega (arith, four))
 
 -- four lanes, of which those whose sixel has the bit are a new number
 abbrev chosen : List ℕ → ℕ → ℕ → List ℕ → List ℕ
@@ -89,11 +89,11 @@ pub get_or-chosen : (sixels old : List ℕ) (bit new : ℕ) → length sixels �
     ≡ (if is_set (get_or sixels k 0) bit then new else get_or old k 0)
 get_or-chosen sixels old bit new four same =
     subst (λ (xs : List ℕ). (k : ℕ) → k < 4 → get_or (chosen xs bit new old) k 0
-    ≡ (if is_set (get_or xs k 0) bit then new else get_or old k 0)) (listed sixels four)
+    ≡ (if is_set (get_or xs k 0) bit then new else get_or old k 0)) (four_list sixels four)
     (subst (λ (ys : List ℕ). (k : ℕ) → k < 4 → get_or (chosen (get_or sixels 0 0
     ∷ get_or sixels 1 0 ∷ get_or sixels 2 0 ∷ get_or sixels 3 0 ∷ []) bit new ys) k 0
     ≡ (if is_set (get_or (get_or sixels 0 0 ∷ get_or sixels 1 0 ∷ get_or sixels 2 0
-    ∷ get_or sixels 3 0 ∷ []) k 0) bit then new else get_or ys k 0)) (listed old same)
+    ∷ get_or sixels 3 0 ∷ []) k 0) bit then new else get_or ys k 0)) (four_list old same)
     (each_of_four _ (chosen_lane (get_or sixels 0 0) bit new (get_or old 0 0))
     (chosen_lane (get_or sixels 1 0) bit new (get_or old 1 0))
     (chosen_lane (get_or sixels 2 0) bit new (get_or old 2 0))

@@ -20,7 +20,7 @@ const NARROW: usize = 24;
 /// Six rows of `cap` columns each, which are background from `reach` on.
 ///
 /// A row never moves while a band is drawn in memory that is wide enough, and blank columns
-/// past a run's end are written as they are. So a block of eight sixels needs no branch.
+/// past a run's end are written as they are. So a block of eight sixels needs no branch for a bit.
 #[derive(Drop)]
 pub struct Band {
     pixels: Vec<[u8; 4]>,
@@ -229,7 +229,7 @@ fn draw_narrow(pixels: &mut [[u8; 4]], cap: usize, from: usize, to: usize, bits:
     }
 }
 
-/// Draws a sixel over at most eight columns of six rows, without a branch.
+/// Draws a sixel over at most eight columns of six rows, without a branch for each.
 #[inline(always)]
 fn draw_eight(pixels: &mut [[u8; 4]], cap: usize, from: usize, to: usize, bits: u8, color: [u8; 4])
     requires ordered { from ≤ to }
