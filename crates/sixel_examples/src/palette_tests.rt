@@ -210,13 +210,13 @@ fn is_encoded_in(
 #[test]
 fn refined_colors(rt: HostRuntime) -> std::result::Result<(), Fail> {
     let alloc = rt.alloc();
-    // Gray from black to white, 16 pixels in a row.
+    // Eight rows of gray from black to white.
     let mut pixels = Vec::new(alloc);
-    for step in 0..16u8 {
-        let gray = step * 17;
+    for step in 0..128u8 {
+        let gray = step % 16 * 17;
         pixels.extend_from_slice(&[gray, gray, gray, 255])?;
     }
-    let image = SixelImage::from_rgba(pixels, 16, 1);
+    let image = SixelImage::from_rgba(pixels, 16, 8);
     let palette = refine_palette(alloc, &image.pixels, 3)?;
     let diffusion = Dither::Diffusion { strength: 6 };
     let ordered = Dither::Ordered { amplitude: 80 };
