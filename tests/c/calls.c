@@ -30,7 +30,7 @@ static void test_empty_handle(icysixel *h)
     CHECK(icysixel_abort(h) == ICYSIXEL_NO_HANDLE);
     CHECK(icysixel_discard_image(h) == ICYSIXEL_NO_HANDLE);
     CHECK(icysixel_is_receiving(h) == 0 && icysixel_in_payload(h) == 0);
-    CHECK(icysixel_get_canvas_paints(h) == 0);
+    CHECK(icysixel_get_canvas_paints(h) == 0 && icysixel_get_drawn_height(h) == 0);
     CHECK(icysixel_get_size_so_far(h, &size) == ICYSIXEL_NO_HANDLE && size.width == 7);
     CHECK(icysixel_decode(h, BYTES(red), &shape) == ICYSIXEL_NO_HANDLE);
     CHECK(icysixel_decode_payload(h, BYTES("~"), 9, 1, -1, &shape) == ICYSIXEL_NO_HANDLE);
@@ -66,11 +66,15 @@ static void test_session(icysixel *h)
         CHECK(icysixel_feed(h, (const uint8_t *)red + at, 1, &fed) == ICYSIXEL_OK);
     CHECK(fed.status == ICYSIXEL_COMPLETE && fed.byte == 0 && at == sizeof red - 5);
     CHECK(icysixel_in_payload(h) == 1 && icysixel_get_size_so_far(h, &size) == ICYSIXEL_OK);
-    CHECK(size.width == 12 && size.height == 6);
+    CHECK(size.width == 12 && size.height == 6 && icysixel_get_drawn_height(h) == 6);
     CHECK(icysixel_get_canvas_paints(h) >= 12 && icysixel_get_canvas_paints(h) <= 12 + 1151);
     CHECK(icysixel_finish(h, &shape) == ICYSIXEL_OK && icysixel_is_receiving(h) == 0);
     CHECK(shape.width == 12 && shape.height == 6 && shape.bytes == 288);
     CHECK(shape.pixel_width == 1 && shape.pixel_height == 1 && shape.p1 == 9 && shape.p2 == 1);
+    CHECK(icysixel_begin_payload(h, 9, 1, -1) == ICYSIXEL_OK && icysixel_get_drawn_height(h) == 0);
+    CHECK(icysixel_feed(h, BYTES("~-~-~-!9B"), &fed) == ICYSIXEL_OK);
+    CHECK(icysixel_get_drawn_height(h) == 20 && icysixel_finish(h, &shape) == ICYSIXEL_OK);
+    CHECK(shape.height == 24 && icysixel_get_drawn_height(h) == 0);
 }
 
 /* Pixels are copied row by row with a stride, only into a buffer that is large enough, and once. */

@@ -2,6 +2,7 @@
 -- mean what they mean in a session, of a payload or of a DCS sequence. Chunks are not mentioned.
 use Rattle.std.specs.Prelude.{ℕ, Bool, true, false, List, [], ◌++◌, Option, Some, None, is_none}
 use Rattle.sixel_base.specs.Bytes.{first_terminator, is_terminated}
+use Rattle.sixel_base.specs.DrawnHeight.{dcs_drawn_height, payload_drawn_height}
 use Rattle.sixel_base.specs.Fault.{Fault, StreamFailed, DcsStreamFailed}
 use Rattle.sixel_base.specs.Payload.{fed_fault, payload_fault, settled}
 use Rattle.sixel_base.specs.Bytes as own
@@ -129,6 +130,12 @@ abbrev pub size : Form → List ℕ → Option (ℕ × ℕ)
 size Nothing bytes = None
 size (OfPayload settings) bytes = Some (reach.size (settled bytes))
 size OfString bytes = dcs_size bytes
+
+-- the last row with a set pixel, plus one, or 0 if there is none
+abbrev pub drawn_height : Form → List ℕ → ℕ
+drawn_height Nothing bytes = 0
+drawn_height (OfPayload settings) bytes = payload_drawn_height bytes
+drawn_height OfString bytes = dcs_drawn_height bytes
 
 -- the payload that is drawn
 abbrev pub found : Form → List ℕ → Found

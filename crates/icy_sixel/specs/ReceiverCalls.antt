@@ -163,3 +163,10 @@ pub record IsSizeSoFar (image : Reception) (answer : Option (ℕ × ℕ)) : Type
   pub accepted : image.is_refused ≡ false → answer ≡ receivers.size image.form image.bytes
   -- a rejected image has none
   pub refused : image.is_refused ≡ true → answer ≡ None
+
+-- The last row of the open image with a set pixel, plus one, or 0 if there is none.
+pub record IsDrawnHeight (image : Reception) (rows : ℕ) : Type 0 where
+  -- that of the finished image, because an open command sets no pixel
+  pub accepted : image.is_refused ≡ false → rows ≡ receivers.drawn_height image.form image.bytes
+  -- a rejected image has none
+  pub refused : image.is_refused ≡ true → rows ≡ 0

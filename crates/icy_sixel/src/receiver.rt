@@ -6,7 +6,7 @@ ghost use Rattle.std.specs.Prelude.{◌≡◌, true, false};
 ghost use Rattle.sixel_base.specs.Decoder.{new_decoder};
 ghost use Rattle.icy_sixel.specs.Receiver.{OfPayload, OfString, no_image, is_open, in_payload};
 ghost use Rattle.icy_sixel.specs.ReceiverCalls.{IsBegun, IsFed, IsFinished, IsAborted};
-ghost use Rattle.icy_sixel.specs.ReceiverCalls.{IsPaintCount, IsSizeSoFar};
+ghost use Rattle.icy_sixel.specs.ReceiverCalls.{IsDrawnHeight, IsPaintCount, IsSizeSoFar};
 ghost use Rattle.icy_sixel.specs.inside.Receiving.{reception_of};
 
 mod final_rows;
@@ -233,6 +233,20 @@ impl SixelReceiver {
             Open::Nothing => None,
             Open::Payload(reader) => reader.size_so_far(),
             Open::ControlString(reader) => reader.size_so_far(),
+        }
+    }
+
+    /// Returns the last row with a set pixel, plus one, or 0 if there is none.
+    ///
+    /// See [`drawn_height`](crate::SixelStreamDecoder::drawn_height). It is 0 before the payload,
+    /// after an error, and if no image is open. The call does not allocate.
+    pub fn drawn_height(&self) -> usize
+        ensures { IsDrawnHeight self.now.image result }
+    {
+        match &self.open {
+            Open::Nothing => 0,
+            Open::Payload(reader) => reader.drawn_height(),
+            Open::ControlString(reader) => reader.drawn_height(),
         }
     }
 }

@@ -169,6 +169,12 @@ uint8_t icysixel_in_payload(icysixel *handle);
  * and ICYSIXEL_NO_SIZE before the payload and after an error. It does not allocate. */
 uint32_t icysixel_get_size_so_far(icysixel *handle, icysixel_size *size);
 
+/* Returns the last row of the open image with a set pixel, plus one. It is 0 if there is none, if
+ * no image is open, and after an error. The height of an image with sixels and without raster
+ * attributes is a multiple of six, and this number can be less. Call it before icysixel_finish,
+ * which does not change it. A cropped image can be lower. It does not allocate. */
+size_t icysixel_get_drawn_height(icysixel *handle);
+
 /* Returns how many columns of six pixels the sixels of the open image have painted so far, at most.
  * It is 0 if no image is open, and after an error. It is at most the right edges of all bands of six
  * rows together, and 1151 for each sixel. */

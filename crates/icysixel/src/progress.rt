@@ -1,8 +1,8 @@
 //! The calls that report the progress of the open image.
 
 ghost use Rattle.std.specs.Prelude.{◌≡◌, ◌≢◌, ◌+◌, ◌*◌, ◌≤◌, Some, None, ℕ, true, false, cond};
-ghost use Rattle.icy_sixel.specs.Receiver.{band_columns, in_payload, is_open, sixels};
-ghost use Rattle.icy_sixel.specs.Receiver.{most_run_paints};
+ghost use Rattle.icy_sixel.specs.Receiver.{band_columns, drawn_height, in_payload, is_open};
+ghost use Rattle.icy_sixel.specs.Receiver.{most_run_paints, sixels};
 ghost use Rattle.icy_sixel.specs.Receiver.{size as size_of};
 ghost use Rattle.icysixel.specs.declared.state.State.{State};
 
@@ -65,6 +65,23 @@ pub extern "C" fn icysixel_get_canvas_paints(slot: &mut Slot) -> u64
         return 0;
     }
     slot.state().receiver.canvas_paints()
+}
+
+/// Returns the last row of the open image with a set pixel, plus one, or 0.
+#[unsafe(no_mangle)]
+pub extern "C" fn icysixel_get_drawn_height(slot: &mut Slot) -> usize
+    ensures same { slot.new.handle.state ≡ slot.old.handle.state }
+    ensures none { slot.old.handle.state ≡ None → result ≡ 0 }
+    ensures accepted { (state : State) → slot.old.handle.state ≡ Some state
+        → state.receiver.image.is_refused ≡ false
+        → result ≡ drawn_height state.receiver.image.form state.receiver.image.bytes }
+    ensures refused { (state : State) → slot.old.handle.state ≡ Some state
+        → state.receiver.image.is_refused ≡ true → result ≡ 0 }
+{
+    if !slot.is_held() {
+        return 0;
+    }
+    slot.state().receiver.drawn_height()
 }
 
 /// Writes the size of the open image so far.

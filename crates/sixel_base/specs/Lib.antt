@@ -17,4 +17,5 @@ pub mod Reach
 pub mod Header
 pub mod OneShot
 pub mod Dcs
+pub mod DrawnHeight
 pub mod inside

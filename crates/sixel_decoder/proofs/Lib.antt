@@ -22,3 +22,6 @@ pub mod Lanes
 pub mod SixelRuns
 pub mod PaintedRuns
 pub mod FrontBits
+pub mod SetRows
+pub mod DrawnHeights
+pub mod ShownRows

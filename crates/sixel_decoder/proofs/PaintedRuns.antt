@@ -7,6 +7,8 @@ use Rattle.std.proofs.Common.{sym, ap, ◌∙◌, inl, inr, arith}
 use Rattle.std.specs.Prelude.{nat_lt, nat_le, ◌&&◌, if◌then◌else◌}
 use Rattle.std.proofs.lemmas.List.{get_or_past}
 use Rattle.std.proofs.lemmas.Bool.{cases_lt, le-ltb, lt-leb, le-leb, lt-ltb}
+use Rattle.std.proofs.Math.Nat.{max-zero}
+use Rattle.sixel_base.specs.DrawnHeight.{lowered, set_rows}
 use Rattle.sixel_base.specs.History.{Sixel, History}
 use Rattle.sixel_base.specs.Picture.{covers, is_struck}
 use Rattle.sixel_base.specs.Place.{span, across, down}
@@ -15,9 +17,11 @@ use Rattle.sixel_base.proofs.Sixels.{blank_set}
 use Rattle.sixel_canvas.specs.declared.drawing.Canvas.{Ghosts}
 use Rattle.sixel_decoder.specs.declared.painter.Painter.{Painter}
 use Rattle.sixel_decoder.specs.inside.Painter.{FitsColumn, Shows}
-use Rattle.sixel_decoder.specs.inside.Runs.{runs_of}
+use Rattle.sixel_decoder.specs.inside.DrawnRows.{drawn_rows}
+use Rattle.sixel_decoder.specs.inside.Runs.{most_rows, runs_of}
 use Rattle.sixel_canvas.specs.inside.Drawn.{Run, run, covers_block}
 use Rattle.sixel_canvas.specs.inside.Drawn.{with_sixels as with_runs}
+use Rattle.sixel_decoder.proofs.DrawnHeights.{drawn_height-sixels, most_rows-first}
 use Rattle.sixel_decoder.proofs.SixelRuns.{with_sixels, IsInside, IsPassed-sixels}
 
 -- whether some of these sixels of one column each covers the pixel
@@ -163,14 +167,16 @@ Shows-sixels : {C : Type 0} {canvas : Ghosts C} (o : Origin) (h : History)
     → canvas.shown new.canvas column row ≡ pixel o (with_sixels h sixels) column row)
     → canvas.paid new.canvas (runs_of (with_sixels h sixels))
     → canvas.top new.canvas ≡ canvas.top old.canvas
+    → ((row : ℕ)
+    → drawn_rows new.drawn row ≡ lowered (drawn_rows old.drawn row) row (most_rows sixels))
     → new.registers ≡ old.registers → new.color ≡ old.color → new.repeat ≡ old.repeat
     → new.column ≡ old.column + length sixels
     → new.width ≡ old.width → new.height ≡ old.height → new.raster_height ≡ old.raster_height
     → new.ratio ≡ old.ratio → new.settings ≡ old.settings
     → new.raster_crop ≡ old.raster_crop → new.pixel_limit ≡ old.pixel_limit
     → Shows o new (with_sixels h sixels)
-Shows-sixels o h old new sixels shows inside drawn paid' top' registers' color' repeat' column'
-    width' height' raster' ratio' settings' crop' limit' =
+Shows-sixels o h old new sixels shows inside drawn paid' top' lower' registers' color' repeat'
+    column' width' height' raster' ratio' settings' crop' limit' =
     let passed = IsPassed-sixels o.pixel_limit o h sixels inside in
     record {
       pixels = drawn;
@@ -183,6 +189,10 @@ Shows-sixels o h old new sixels shows inside drawn paid' top' registers' color' 
       width = width' ∙ shows.width ∙ sym passed.width;
       height = height' ∙ shows.height ∙ sym passed.height;
       raster_height = raster' ∙ shows.raster_height ∙ sym passed.raster_height;
+      drawn =
+          ap (drawn_rows new.drawn) passed.down ∙ lower' (down h)
+          ∙ ap (λ (rows : ℕ). lowered rows (down h) (most_rows sixels)) shows.drawn
+          ∙ sym (drawn_height-sixels h sixels);
       ratio = ratio' ∙ shows.ratio ∙ sym passed.ratio;
       settings = settings' ∙ shows.settings;
       crop = crop' ∙ shows.crop;
@@ -206,6 +216,8 @@ pub Shows-block : {C : Type 0} {canvas : Ghosts C} (o : Origin) (h after : Histo
     → canvas.paid old.canvas runs
     → canvas.paid new.canvas (with_runs old.column sixels (canvas.top old.canvas) runs))
     → canvas.top new.canvas ≡ canvas.top old.canvas
+    → ((row : ℕ)
+    → drawn_rows new.drawn row ≡ lowered (drawn_rows old.drawn row) row (most_rows eight))
     → new.registers ≡ old.registers → new.color ≡ old.color → new.repeat ≡ old.repeat
     → new.column ≡ old.column + length sixels
     → new.width ≡ old.width → new.height ≡ old.height → new.raster_height ≡ old.raster_height
@@ -213,8 +225,8 @@ pub Shows-block : {C : Type 0} {canvas : Ghosts C} (o : Origin) (h after : Histo
     → new.raster_crop ≡ old.raster_crop → new.pixel_limit ≡ old.pixel_limit
     → Shows o new after
 Shows-block {C} {canvas} o h after old new sixels eight whole shows single right lower few first
-    blank drawn paid' top' registers' color' repeat' column' width' height' raster' ratio' settings'
-    crop' limit' =
+    blank drawn paid' top' lower' registers' color' repeat' column' width' height' raster' ratio'
+    settings' crop' limit' =
     let inside = inside_from o old h (length sixels) shows single right lower in
     subst (λ (w : History). Shows o new w) (sym whole)
     (Shows-sixels o h old new sixels shows inside
@@ -229,7 +241,11 @@ Shows-block {C} {canvas} o h after old new sixels eight whole shows single right
     ) (sym (pixel-sixels o h sixels column row inside.single))))
     (subst (canvas.paid new.canvas) (runs_of-sixels h sixels inside.single)
     (rw (shows.column, shows.top) at (paid' (runs_of h) shows.paid)))
-    top' registers' color' repeat' column' width' height' raster' ratio' settings' crop' limit')
+    top'
+    (λ row.
+    lower' row
+    ∙ ap (lowered (drawn_rows old.drawn row) row) (most_rows-first sixels eight first blank))
+    registers' color' repeat' column' width' height' raster' ratio' settings' crop' limit')
 
 -- the painter once one sixel was drawn that stands alone
 pub Shows-column : {C : Type 0} {canvas : Ghosts C} (o : Origin) (h : History)
@@ -244,14 +260,16 @@ pub Shows-column : {C : Type 0} {canvas : Ghosts C} (o : Origin) (h : History)
     → canvas.paid new.canvas
     (run old.column (old.column + 1) (canvas.top old.canvas) bits ∷ runs))
     → canvas.top new.canvas ≡ canvas.top old.canvas
+    → ((row : ℕ)
+    → drawn_rows new.drawn row ≡ lowered (drawn_rows old.drawn row) row (set_rows bits))
     → new.registers ≡ old.registers → new.color ≡ old.color → new.repeat ≡ old.repeat
     → new.column ≡ old.column + 1
     → new.width ≡ old.width → new.height ≡ old.height → new.raster_height ≡ old.raster_height
     → new.ratio ≡ old.ratio → new.settings ≡ old.settings
     → new.raster_crop ≡ old.raster_crop → new.pixel_limit ≡ old.pixel_limit
     → Shows o new (Sixel bits ∷ h)
-Shows-column {C} {canvas} o h old new bits shows alone drawn paid' top' registers' color' repeat'
-    column' width' height' raster' ratio' settings' crop' limit' =
+Shows-column {C} {canvas} o h old new bits shows alone drawn paid' top' lower' registers' color'
+    repeat' column' width' height' raster' ratio' settings' crop' limit' =
     let inside =
     inside_from o old h 1 shows alone.single (omega (arith, alone.inside)) alone.above_bottom in
     Shows-sixels o h old new (bits ∷ []) shows inside
@@ -259,4 +277,8 @@ Shows-column {C} {canvas} o h old new bits shows alone drawn paid' top' register
     drawn column row
     ∙ rw (shows.column, shows.top, shows.color, shows.pixels column row, inside.single) refl)
     (rw inside.single (rw (shows.column, shows.top) at (paid' (runs_of h) shows.paid)))
-    top' registers' color' repeat' column' width' height' raster' ratio' settings' crop' limit'
+    top'
+    (λ row.
+    lower' row
+    ∙ ap (lowered (drawn_rows old.drawn row) row) (sym (max-zero (set_rows bits))))
+    registers' color' repeat' column' width' height' raster' ratio' settings' crop' limit'

@@ -4,6 +4,7 @@ use Rattle.std.proofs.Common.{Some, refl, ap, ◌∙◌}
 use Rattle.std.proofs.Common.{inl, inr, arith}
 use Rattle.std.specs.Prelude.{nat_lt, if◌then◌else◌}
 use Rattle.std.proofs.lemmas.Bool.{lt-ltb, le-ltb}
+use Rattle.sixel_base.specs.DrawnHeight.{lowered, set_rows}
 use Rattle.sixel_base.specs.Fault.{Malformed, TooLarge, Faults}
 use Rattle.sixel_base.specs.History.{Sixel, History}
 use Rattle.sixel_base.specs.Limits.{side_limit}
@@ -13,7 +14,9 @@ use Rattle.sixel_base.specs.Place.{width, height, across, down, span}
 use Rattle.sixel_base.specs.Stroke.{Origin, color}
 use Rattle.sixel_base.specs.declared.error.SixelError.{SixelError}
 use Rattle.sixel_canvas.specs.declared.drawing.Canvas.{Ghosts}
+use Rattle.sixel_decoder.specs.declared.drawn_rows.DrawnRows.{DrawnRows}
 use Rattle.sixel_decoder.specs.declared.painter.Painter.{Painter}
+use Rattle.sixel_decoder.specs.inside.DrawnRows.{drawn_rows}
 use Rattle.sixel_decoder.specs.inside.Painter.{Shows, IsExtended}
 use Rattle.sixel_canvas.specs.inside.Drawn.{Run, run}
 use Rattle.sixel_decoder.specs.inside.Runs.{runs_of}
@@ -85,14 +88,16 @@ pub Shows-drawn : {C : Type 0} {canvas : Ghosts C} (o : Origin) (h : History)
     → ((runs : List Run)
     → canvas.paid wide.canvas runs
     → canvas.paid new.canvas (run wide.column right (canvas.top wide.canvas) bits ∷ runs))
+    → ((row : ℕ)
+    → drawn_rows new.drawn row ≡ lowered (drawn_rows wide.drawn row) row (set_rows bits))
     → new.registers ≡ wide.registers → new.color ≡ wide.color → new.repeat ≡ 1
     → new.column ≡ right
     → new.width ≡ wide.width → new.height ≡ wide.height → new.raster_height ≡ wide.raster_height
     → new.ratio ≡ wide.ratio → new.settings ≡ wide.settings → new.raster_crop ≡ wide.raster_crop
     → new.pixel_limit ≡ wide.pixel_limit
     → Shows o new (Sixel bits ∷ h)
-Shows-drawn {C} {canvas} o h old wide new bits right shows is ends area drawn top' paid' registers'
-    color' repeat' column' width' height' raster' ratio' settings' crop' limit' =
+Shows-drawn {C} {canvas} o h old wide new bits right shows is ends area drawn top' paid' lower'
+    registers' color' repeat' column' width' height' raster' ratio' settings' crop' limit' =
     let inked : wide.color ≡ color o.registers h ++ 255 ∷ [] = is.color ∙ shows.color in
     let from : wide.column ≡ across h = is.column ∙ shows.column in
     let to : right ≡ across h + span h =
@@ -113,6 +118,10 @@ Shows-drawn {C} {canvas} o h old wide new bits right shows is ends area drawn to
       width = width' ∙ across;
       height = height' ∙ high;
       raster_height = raster' ∙ is.raster_height ∙ shows.raster_height;
+      drawn =
+          lower' (down h)
+          ∙ ap (λ (rows : ℕ). lowered rows (down h) (set_rows bits))
+          (ap (λ (w : DrawnRows). drawn_rows w (down h)) is.drawn ∙ shows.drawn);
       ratio = ratio' ∙ is.ratio ∙ shows.ratio;
       settings = settings' ∙ is.settings ∙ shows.settings;
       crop = crop' ∙ is.crop ∙ shows.crop;

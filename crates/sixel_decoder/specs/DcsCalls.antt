@@ -9,6 +9,7 @@ use Rattle.sixel_base.specs.declared.status.SixelDcsFeedResult.{SixelDcsFeedResu
 use Rattle.sixel_base.specs.Dcs.{dcs_count, dcs_status, dcs_fault, dcs_growths}
 use Rattle.sixel_base.specs.Dcs.{dcs_reached_area, dcs_size, has_ended, end_fault, stage}
 use Rattle.sixel_base.specs.Dcs.{IsSameString, IsStringImage, AreStringRegisters}
+use Rattle.sixel_base.specs.DrawnHeight.{dcs_drawn_height}
 use Rattle.sixel_base.specs.Fault.{Faults, IsFault, DcsStreamFailed}
 use Rattle.sixel_base.specs.OneShot.{found, found_fault, IsFoundImage, AreFoundRegisters}
 use Rattle.sixel_base.specs.OneShot.{IsDecodedAs}
@@ -147,3 +148,10 @@ pub record IsSizeSoFar (session : DcsSession) (answer : Option (ℕ × ℕ)) : T
   pub accepted : session.is_refused ≡ false → answer ≡ dcs_size session.bytes
   -- a rejected session has none
   pub refused : session.is_refused ≡ true → answer ≡ None
+
+-- The last row with a set pixel, plus one, or 0 if there is none.
+pub record IsDrawnHeight (session : DcsSession) (rows : ℕ) : Type 0 where
+  -- that of the image of the payload, once it has begun, because an open command sets no pixel
+  pub accepted : session.is_refused ≡ false → rows ≡ dcs_drawn_height session.bytes
+  -- a rejected session has none
+  pub refused : session.is_refused ≡ true → rows ≡ 0

@@ -7,6 +7,7 @@ use Rattle.sixel_base.specs.declared.error.SixelError.{SixelError}
 use Rattle.sixel_base.specs.declared.status.SixelFeedResult.{SixelFeedResult}
 use Rattle.sixel_base.specs.declared.status.SixelFeedStatus.TheVariants.{Terminated}
 use Rattle.sixel_base.specs.Bytes.{count, first_terminator}
+use Rattle.sixel_base.specs.DrawnHeight.{payload_drawn_height}
 use Rattle.sixel_base.specs.Fault.{Faults, IsFault, StreamFailed}
 use Rattle.sixel_base.specs.Payload.{Image, fed_fault, settled, growths}
 use Rattle.sixel_base.specs.Payload.{payload_fault, payload_wants, payload_image, payload_registers}
@@ -146,3 +147,10 @@ pub record IsSizeSoFar (session : Session) (answer : Option (ℕ × ℕ)) : Type
   pub accepted : session.is_refused ≡ false → answer ≡ Some (size (settled session.bytes))
   -- a rejected session has none
   pub refused : session.is_refused ≡ true → answer ≡ None
+
+-- The last row with a set pixel, plus one, or 0 if there is none.
+pub record IsDrawnHeight (session : Session) (rows : ℕ) : Type 0 where
+  -- that of the image of the payload, because an open command sets no pixel
+  pub accepted : session.is_refused ≡ false → rows ≡ payload_drawn_height session.bytes
+  -- a rejected session has none
+  pub refused : session.is_refused ≡ true → rows ≡ 0

@@ -5,6 +5,7 @@
 ghost use Rattle.std.specs.Prelude.{◌≡◌, true, false};
 ghost use Rattle.sixel_base.specs.Dcs.{dcs_in_payload, has_come};
 ghost use Rattle.sixel_decoder.specs.DcsCalls.{begun, IsFed, IsFinished, IsSizeSoFar};
+ghost use Rattle.sixel_decoder.specs.DcsCalls.{IsDrawnHeight};
 ghost use Rattle.sixel_decoder.specs.DcsCalls.{IsWriteCount, IsPaintCount, IsBandPaintCount};
 ghost use Rattle.sixel_decoder.specs.PictureView.{picture_value};
 
@@ -81,6 +82,16 @@ impl<C: Canvas + Drop> DcsReader<C> {
         match &self.parser.state {
             DcsState::Payload(reader) => reader.size_so_far(),
             DcsState::Start | DcsState::Escape | DcsState::Header(_) | DcsState::Failed => None,
+        }
+    }
+
+    /// Returns the last row with a set pixel, plus one, or 0 if there is none.
+    pub fn drawn_height(&self) -> usize
+        ensures { IsDrawnHeight self.now result }
+    {
+        match &self.parser.state {
+            DcsState::Payload(reader) => reader.drawn_height(),
+            DcsState::Start | DcsState::Escape | DcsState::Header(_) | DcsState::Failed => 0,
         }
     }
 

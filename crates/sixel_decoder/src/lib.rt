@@ -10,6 +10,7 @@ mod dcs_end;
 mod dcs_parser;
 mod dcs_reader;
 mod decoded_payload;
+mod drawn_rows;
 mod front_sixels;
 mod header;
 mod log;

@@ -4,6 +4,7 @@ ghost use Rattle.std.specs.Prelude.{◌≡◌, ◌<◌, ◌≤◌, ◌+◌, ◌*
 ghost use Rattle.std.specs.Prelude.{length, max, nat_lt, if◌then◌else◌, ◌&&◌};
 ghost use Rattle.std.specs.Prelude.{slice_index, IfOk, IsTrue, MatchResult};
 ghost use Rattle.sixel_base.specs.Decoder.{origin_of};
+ghost use Rattle.sixel_base.specs.DrawnHeight.{drawn_height};
 ghost use Rattle.sixel_base.specs.History.{History, Sixel, Repeat, Raster, Color, Return, Newline};
 ghost use Rattle.sixel_base.specs.Limits.{area_limit, repeat_limit, side_limit};
 ghost use Rattle.sixel_base.specs.Stroke.{Origin};
@@ -17,6 +18,7 @@ mod copied_image;
 
 use crate::colors::{background, define, opaque};
 use crate::decoded_payload::DecodedPayload;
+use crate::drawn_rows::DrawnRows;
 use crate::front_sixels::FrontSixels;
 use crate::raster::{check_size, last_height, shape};
 use sixel_base::limits::MAX_REPEAT;
@@ -45,6 +47,8 @@ pub struct Painter<C: Canvas + Drop> {
     pub width: usize,
     pub height: usize,
     pub raster_height: usize,
+    /// The rows down to the last one with a set pixel.
+    pub drawn: DrawnRows,
     ghost visible: { is_tag color ≡ true },
     ghost repeat_some: { 0 < repeat },
     ghost repeat_fits: { repeat ≤ repeat_limit },
@@ -79,6 +83,7 @@ impl<C: Canvas + Drop> Painter<C> {
             width: 1,
             height: 1,
             raster_height: 0,
+            drawn: DrawnRows::new(),
         }
     }
 
@@ -101,6 +106,7 @@ impl<C: Canvas + Drop> Painter<C> {
             let len = front.len;
             if len > 0 && self.column + len <= self.width {
                 self.canvas.block(self.column, len, front.bits, self.color)?;
+                self.drawn.add_eight(front.bits);
                 self.column += len;
                 return Ok(len);
             }
@@ -135,6 +141,7 @@ impl<C: Canvas + Drop> Painter<C> {
         match self.extend(right, bottom) {
             Ok(()) => {
                 self.canvas.draw(from, right, bits, self.color)?;
+                self.drawn.add(bits);
                 self.column = right;
                 self.repeat = 1;
                 Ok(())
@@ -184,6 +191,7 @@ impl<C: Canvas + Drop> Painter<C> {
             → Shows o self.new (Sixel bits ∷ h) }
     {
         self.canvas.column(self.column, bits, self.color);
+        self.drawn.add(bits);
         self.column += 1;
     }
 
@@ -248,12 +256,21 @@ impl<C: Canvas + Drop> Painter<C> {
         ensures { (o : Origin) (h : History) → Shows o self.old h
             → Draws result o self.new (Newline ∷ h) false }
     {
-        if self.canvas.top().checked_add(6).is_none() {
+        let top = self.canvas.top();
+        if top.checked_add(6).is_none() {
             return Err(SixelError::IntegerOverflow);
         }
+        self.drawn.end_band(top);
         self.canvas.new_line();
         self.column = 0;
         Ok(())
+    }
+
+    /// Returns the last row with a set pixel, plus one, or 0 if there is none.
+    pub fn drawn_height(&self) -> usize
+        ensures { (o : Origin) (h : History) → Shows o self.now h → result ≡ drawn_height h }
+    {
+        self.drawn.height(self.canvas.top())
     }
 
     /// Takes the image that was drawn off the canvas, and returns it with the registers.

@@ -5,6 +5,7 @@
 ghost use Rattle.std.specs.Prelude.{◌≡◌, None, Some};
 ghost use Rattle.sixel_base.specs.Decoder.{origin_of};
 ghost use Rattle.sixel_decoder.specs.PayloadCalls.{begun, IsFed, IsFinished, IsSizeSoFar};
+ghost use Rattle.sixel_decoder.specs.PayloadCalls.{IsDrawnHeight};
 ghost use Rattle.sixel_decoder.specs.PayloadCalls.{IsWriteCount, IsPaintCount, IsBandPaintCount};
 ghost use Rattle.sixel_decoder.specs.PictureView.{picture_value};
 
@@ -96,6 +97,16 @@ impl<C: Canvas + Drop> PayloadReader<C> {
         match &self.parser {
             Some(parser) => Some((parser.painter.width, parser.painter.height)),
             None => None,
+        }
+    }
+
+    /// Returns the last row with a set pixel, plus one, or 0 if there is none.
+    pub fn drawn_height(&self) -> usize
+        ensures { IsDrawnHeight self.now result }
+    {
+        match &self.parser {
+            Some(parser) => parser.painter.drawn_height(),
+            None => 0,
         }
     }
 

@@ -5,6 +5,8 @@
 #![tactic(auto)]
 
 pub mod chunks;
+#[cfg(test)]
+mod drawn_tests;
 pub mod host;
 pub mod in_one_call;
 pub mod lists;

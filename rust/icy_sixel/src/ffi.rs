@@ -73,6 +73,7 @@ unsafe extern "C" {
     safe fn icysixel_begin_payload(handle: &mut Raw, p1: i32, p2: i32, grid: i32) -> u32;
     safe fn icysixel_in_payload(handle: &mut Raw) -> u8;
     safe fn icysixel_get_size_so_far(handle: &mut Raw, size: &mut Size) -> u32;
+    safe fn icysixel_get_drawn_height(handle: &mut Raw) -> usize;
     safe fn icysixel_get_canvas_paints(handle: &mut Raw) -> u64;
     safe fn icysixel_finish(handle: &mut Raw, shape: &mut Shape) -> u32;
     safe fn icysixel_discard_image(handle: &mut Raw) -> u32;
@@ -216,6 +217,11 @@ impl Handle {
     pub(crate) fn size_so_far(&mut self) -> Answer<Size> {
         let mut size = Size::default();
         answer(icysixel_get_size_so_far(&mut self.0, &mut size), size)
+    }
+
+    /// The last row of the open image with a set pixel, plus one.
+    pub(crate) fn drawn_height(&mut self) -> usize {
+        icysixel_get_drawn_height(&mut self.0)
     }
 
     /// How many columns sixels of the image that is open have painted so far, at most.

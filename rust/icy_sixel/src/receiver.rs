@@ -163,6 +163,13 @@ impl SixelReceiver {
         self.decoder.size_so_far()
     }
 
+    /// The last row of the open image with a set pixel, plus one, as of a payload session, by
+    /// [`drawn_height`](crate::SixelStreamDecoder::drawn_height). 0 if no image is open.
+    #[must_use]
+    pub fn drawn_height(&self) -> usize {
+        self.decoder.shared().drawn_height()
+    }
+
     /// The color of a register of the decoder: red, green and blue, a byte each.
     #[must_use]
     pub fn register(&self, register: u8) -> [u8; 3] {

@@ -67,7 +67,7 @@ fn a_payload_is_received() {
     let received = receiver.feed(b"\"1;1;2;3?\x9c").unwrap();
     let status = Status::Payload(Payload::Terminated(0x9c));
     assert_eq!(received, Received { consumed: 9, status });
-    assert_eq!(receiver.size_so_far(), Some((2, 6)));
+    assert_eq!((receiver.size_so_far(), receiver.drawn_height()), (Some((2, 6)), 0));
     assert_filled(receiver.finish(), (2, 3), [1, 2, 3, 255]);
     assert_eq!(receiver.register(0), [1, 2, 3]);
     assert!(!receiver.is_receiving());

@@ -21,12 +21,14 @@ fn a_session_reports_its_progress() {
     assert!(session.feed(b"Pq#1!100~-!50~").is_ok());
     assert!(session.in_payload());
     assert_eq!(session.size_so_far(), Some((100, 12)));
+    assert_eq!(session.drawn_height(), 12);
     assert!((150..=150 + 2 * 1151).contains(&session.canvas_paints()));
     drop(session);
 
     let mut session = decoder.begin_frame(DcsSettings::default()).unwrap();
     assert_eq!((session.canvas_paints(), session.size_so_far()), (0, Some((1, 1))));
-    assert!(session.feed(b"!100~-!50~").is_ok());
+    assert!(session.feed(b"!100~-!50B").is_ok());
+    assert_eq!(session.drawn_height(), 8);
     assert_eq!(session.finish().unwrap().dimensions(), (100, 12));
 }
 

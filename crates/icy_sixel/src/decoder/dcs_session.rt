@@ -6,7 +6,7 @@ ghost use Rattle.std.specs.Prelude.{◌≡◌, true, false, OnErr};
 ghost use Rattle.sixel_base.specs.Dcs.{dcs_in_payload};
 ghost use Rattle.sixel_base.specs.Decoder.{IsSetAs};
 ghost use Rattle.sixel_decoder.specs.DcsCalls.{begun, IsFed, IsFinished, IsSizeSoFar};
-ghost use Rattle.sixel_decoder.specs.DcsCalls.{IsWriteCount, IsPaintCount};
+ghost use Rattle.sixel_decoder.specs.DcsCalls.{IsDrawnHeight, IsWriteCount, IsPaintCount};
 ghost use Rattle.icy_sixel.specs.ImageView.{image_value};
 
 use crate::decoder::{SixelDcsFeedResult, SixelDecoder};
@@ -116,6 +116,16 @@ impl<'a> SixelDcsStreamDecoder<'a> {
         ensures { IsSizeSoFar (sequence self.now) result }
     {
         self.reader.size_so_far()
+    }
+
+    /// Returns the last row with a set pixel, plus one, or 0 if there is none.
+    ///
+    /// See [`drawn_height`](crate::SixelStreamDecoder::drawn_height). It is 0 before the payload
+    /// and after an error. The call does not allocate.
+    pub fn drawn_height(&self) -> usize
+        ensures { IsDrawnHeight (sequence self.now) result }
+    {
+        self.reader.drawn_height()
     }
 
     /// Returns the image of a sequence that has ended, and stores its registers.

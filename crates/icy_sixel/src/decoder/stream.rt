@@ -6,7 +6,7 @@ ghost use Rattle.std.specs.Prelude.{◌≡◌, ◌<◌, ◌+◌, ◌*◌, ◌≤
 ghost use Rattle.sixel_base.specs.Decoder.{IsSetAs, origin_of};
 ghost use Rattle.sixel_base.specs.Payload.{payload_area};
 ghost use Rattle.sixel_decoder.specs.PayloadCalls.{begun, IsFed, IsFinished, IsSizeSoFar};
-ghost use Rattle.sixel_decoder.specs.PayloadCalls.{IsWriteCount, IsPaintCount};
+ghost use Rattle.sixel_decoder.specs.PayloadCalls.{IsDrawnHeight, IsWriteCount, IsPaintCount};
 ghost use Rattle.icy_sixel.specs.ImageView.{image_value};
 
 use crate::decoder::{DcsSettings, SixelDecoder, SixelFeedResult, SixelFeedStatus};
@@ -106,6 +106,19 @@ impl<'a> SixelStreamDecoder<'a> {
         ensures { IsSizeSoFar (payload self.now) result }
     {
         self.reader.size_so_far()
+    }
+
+    /// Returns the last row with a set pixel, plus one, or 0 if there is none.
+    ///
+    /// Each sixel makes the image as high as its six rows. So the height is a multiple of six in an
+    /// image with sixels and without raster attributes. This number is less if the last rows have
+    /// no set pixel. Finishing the image does not change it. A cropped image can be lower.
+    ///
+    /// It is 0 after an error. The call does not allocate.
+    pub fn drawn_height(&self) -> usize
+        ensures { IsDrawnHeight (payload self.now) result }
+    {
+        self.reader.drawn_height()
     }
 
     /// Ends the payload, returns its image, and stores its registers in the decoder.

@@ -4,6 +4,7 @@
 use Rattle.std.specs.Prelude.{ℕ, ◌≡◌, ◌+◌, ◌*◌, ◌<◌, ◌≤◌, Bool, true, ◌-◌, MatchResult, Result}
 use Rattle.std.specs.Prelude.{None, is_none, [], ◌∷◌, ◌++◌, List, max, fold, take, slice_index}
 use Rattle.sixel_base.specs.declared.error.SixelError.{SixelError}
+use Rattle.sixel_base.specs.DrawnHeight.{drawn_height}
 use Rattle.sixel_base.specs.Fault.{Faults}
 use Rattle.sixel_base.specs.History.{History, Sixel, read}
 use Rattle.sixel_base.specs.Limits.{side_limit}
@@ -15,6 +16,7 @@ use Rattle.sixel_canvas.specs.declared.drawing.Canvas.{Ghosts}
 use Rattle.sixel_decoder.specs.PictureView.{picture_value}
 use Rattle.sixel_decoder.specs.declared.decoded_payload.DecodedPayload.{DecodedPayload}
 use Rattle.sixel_decoder.specs.declared.painter.Painter.{Painter}
+use Rattle.sixel_decoder.specs.inside.DrawnRows.{drawn_rows}
 use Rattle.sixel_decoder.specs.inside.Runs.{runs_of}
 
 -- The painter has drawn these tokens, none of which has a fault, on its canvas.
@@ -31,6 +33,7 @@ pub record Shows {C : Type 0} {canvas : Ghosts C} (origin : Origin) (painter : P
   pub width : painter.width ≡ width history
   pub height : painter.height ≡ height history
   pub raster_height : painter.raster_height ≡ raster_height history
+  pub drawn : drawn_rows painter.drawn (down history) ≡ drawn_height history
   pub ratio : painter.ratio ≡ ratio (ratio_of origin.settings) history
   pub settings : painter.settings ≡ origin.settings
   pub crop : painter.raster_crop ≡ origin.raster_crop
@@ -72,6 +75,7 @@ pub record IsExtended {C : Type 0} {members : Ghosts C} (old new : Painter C mem
   pub repeat : new.repeat ≡ old.repeat
   pub column : new.column ≡ old.column
   pub raster_height : new.raster_height ≡ old.raster_height
+  pub drawn : new.drawn ≡ old.drawn
 
 -- The history has no fault, and this is its image, within the limit, with the registers after it;
 -- or it is rejected by its first fault, and by a failed allocation only if it has an image.

@@ -71,6 +71,13 @@ impl<'a> SixelDcsStreamDecoder<'a> {
         self.owner.size_so_far()
     }
 
+    /// The last row with a set pixel, plus one, as of a payload session, by
+    /// [`drawn_height`](crate::SixelStreamDecoder::drawn_height). 0 before the payload.
+    #[must_use]
+    pub fn drawn_height(&self) -> usize {
+        self.owner.shared().drawn_height()
+    }
+
     /// Gives the image of a DCS sequence that has ended, and then gives the decoder the registers
     /// that its payload defined. A string that was cut short has the image of what came.
     ///

@@ -56,6 +56,16 @@ impl<'a> SixelStreamDecoder<'a> {
         self.owner.size_so_far()
     }
 
+    /// The last row with a set pixel, plus one, or 0 if there is none.
+    ///
+    /// The height of an image with sixels and without raster attributes is a multiple of six, and
+    /// this number can be less. Finishing the image does not change it. A cropped image can be
+    /// lower. It is 0 after an error, and does not allocate.
+    #[must_use]
+    pub fn drawn_height(&self) -> usize {
+        self.owner.shared().drawn_height()
+    }
+
     /// Ends the payload, gives its image, and then gives the decoder the registers that it defined.
     ///
     /// It need not have met a terminator; an open command then ends here, and may fail.

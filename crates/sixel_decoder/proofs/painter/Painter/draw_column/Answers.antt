@@ -6,4 +6,4 @@ pub returns : goal.returns
 returns g c = λ o h shows.
     let drawn = c.column.ensures in
     Shows-column o h c.args.self.now _ c.args.bits shows c.requires.fits drawn.drawn drawn.paid
-    drawn.top refl refl refl refl refl refl refl refl refl refl refl
+    drawn.top c.add.ensures refl refl refl refl refl refl refl refl refl refl refl

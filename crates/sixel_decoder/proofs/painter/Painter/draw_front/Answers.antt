@@ -32,7 +32,8 @@ returns-then-self-len-clause-draws g c = λ o h shows.
     (omega (arith, long, front.few))
     (ap (λ (n : ℕ). take n eight) long)
     (λ k past. front.blank k (omega (arith, past, long)))
-    drawn.drawn drawn.paid drawn.top refl refl refl (ap (λ (n : ℕ). old.column + n) (sym long))
+    drawn.drawn drawn.paid drawn.top c.add_eight.ensures refl refl refl
+    (ap (λ (n : ℕ). old.column + n) (sym long))
     refl refl refl refl refl refl refl
 
 pub returns-in-Ok-clause-draws : goal.returns-in-Ok-clause-draws

@@ -18,6 +18,7 @@ returns-in-Ok g c =
       repeat = refl;
       column = refl;
       raster_height = refl;
+      drawn = refl;
     }
 
 pub returns-in-Err : goal.returns-in-Err

@@ -22,6 +22,7 @@ returns-clause-shows g c = λ o h text keeps shows.
       width = shows.width;
       height = shows.height;
       raster_height = shows.raster_height;
+      drawn = shows.drawn;
       ratio = shows.ratio;
       settings = shows.settings;
       crop = shows.crop;

@@ -1,5 +1,8 @@
-use Rattle.std.proofs.Common.{◌≡◌, ◌∙◌, arith, refl}
+use Rattle.std.proofs.Common.{◌≡◌, ◌∙◌, ap, arith, refl}
 use Rattle.sixel_base.specs.Fields.{field}
+use Rattle.sixel_base.specs.Place.{down}
+use Rattle.sixel_decoder.specs.declared.drawn_rows.DrawnRows.{DrawnRows}
+use Rattle.sixel_decoder.specs.inside.DrawnRows.{drawn_rows}
 use Rattle.sixel_decoder.specs.inside.Runs.{runs_of}
 use Rattle.sixel_decoder.proofs.RasterAttributes.{refused_raster, sound_raster}
 use Rattle.sixel_decoder.proofs.painter.Painter.set_raster.Goals as goal
@@ -25,6 +28,7 @@ returns-in-Ok g c = λ o h text keeps shows.
       height = is.height ∙ rw (shows.height, high) refl;
       raster_height =
           c.last_height-self.ensures ∙ rw (high, is.raster_height, shows.raster_height) refl;
+      drawn = ap (λ (w : DrawnRows). drawn_rows w (down h)) is.drawn ∙ shows.drawn;
       ratio =
           c.shape-self.ensures text keeps
           ∙ rw (c.pixel_aspect_ratio.ensures, is.settings, is.ratio, shows.settings, shows.ratio)

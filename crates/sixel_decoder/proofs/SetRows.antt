@@ -1,0 +1,114 @@
+-- The rows that bits set, of several sixels together.
+use Rattle.std.proofs.Common.{◌≡◌, ℕ, zero, suc, ◌+◌, ◌/◌, ◌%◌, ◌^◌, ◌<◌, ◌≤◌, Bool, true, false}
+use Rattle.std.proofs.Common.{cond, List, [], ◌∷◌, max, length, refl, ap, sym, ◌∙◌, arith}
+use Rattle.std.specs.Prelude.{◌||◌, ◌==◌}
+use Rattle.std.specs.Int.{bit_at, to_le_bytes, w64}
+use Rattle.std.specs.Int.Bits.{bit_or}
+use Rattle.std.specs.Simd.Lanes.{fold_l, zip2}
+use Rattle.std.proofs.lemmas.Bool.{lt-ltb}
+use Rattle.std.proofs.Math.Nat.{max-zero, zero-max}
+use Rattle.std.proofs.lemmas.Nat.{or_mod, or_shr}
+use Rattle.std.proofs.lemmas.Nat.Bits.{bit_at_or, bit_at-lt}
+use Rattle.sixel_base.specs.DrawnHeight.{set_rows_within, set_rows, lowered}
+use Rattle.sixel_base.specs.Picture.{is_set}
+use Rattle.sixel_decoder.specs.inside.Runs.{most_rows}
+
+-- a bit of two numbers together
+one_of : (m n : ℕ) → m ≤ 1 → n ≤ 1 → (max m n == 1) ≡ ((m == 1) || (n == 1))
+one_of zero zero a b = refl
+one_of zero (suc zero) a b = refl
+one_of zero (suc (suc n)) a b = absurd (omega (arith, b))
+one_of (suc zero) zero a b = refl
+one_of (suc zero) (suc zero) a b = refl
+one_of (suc zero) (suc (suc n)) a b = absurd (omega (arith, b))
+one_of (suc (suc m)) n a b = absurd (omega (arith, a))
+
+is_set-or : (a b k : ℕ) → is_set (bit_or a b) k ≡ (is_set a k || is_set b k)
+is_set-or a b k =
+    ap (λ n. n == 1) (bit_at_or a b k)
+    ∙ one_of (bit_at a k) (bit_at b k) (omega (arith, bit_at-lt a k)) (omega (arith, bit_at-lt b k))
+
+few : (bits k : ℕ) → set_rows_within bits k ≤ k
+few bits zero = omega arith
+few bits (suc k) = elim (is_set bits k) as (λ t. cond t (suc k) (set_rows_within bits k) ≤ suc k) [
+  | true ↦ omega arith
+  | false ↦ omega (arith, few bits k)
+]
+
+pub set_rows_few : (bits : ℕ) → set_rows bits ≤ 6
+set_rows_few bits = few bits 6
+
+or-cases : (s t : Bool) (k m n : ℕ) → m ≤ k → n ≤ k
+    → cond (s || t) (suc k) (max m n) ≡ max (cond s (suc k) m) (cond t (suc k) n)
+or-cases true true k m n a b = omega arith
+or-cases true false k m n a b = omega (arith, b)
+or-cases false true k m n a b = omega (arith, a)
+or-cases false false k m n a b = refl
+
+within-or : (a b k : ℕ)
+    → set_rows_within (bit_or a b) k ≡ max (set_rows_within a k) (set_rows_within b k)
+within-or a b zero = refl
+within-or a b (suc k) =
+    rw (is_set-or a b k, within-or a b k)
+    (or-cases (is_set a k) (is_set b k) k (set_rows_within a k) (set_rows_within b k)
+    (few a k) (few b k))
+
+-- the rows of sixels together are the greatest of theirs
+pub set_rows-or : (a b : ℕ) → set_rows (bit_or a b) ≡ max (set_rows a) (set_rows b)
+set_rows-or a b = within-or a b 6
+
+pub set_rows-fold : (start : ℕ) (lanes : List ℕ)
+    → set_rows (fold_l bit_or start lanes) ≡ max (set_rows start) (most_rows lanes)
+set_rows-fold start [] = omega arith
+set_rows-fold start (bits ∷ lanes) =
+    omega (arith, set_rows-fold (bit_or start bits) lanes, set_rows-or start bits)
+
+pub most_rows-zip : (lanes more : List ℕ) → length lanes ≡ length more
+    → most_rows (zip2 bit_or lanes more) ≡ max (most_rows lanes) (most_rows more)
+most_rows-zip [] [] same = refl
+most_rows-zip [] (b ∷ more) same = absurd (omega (arith, same))
+most_rows-zip (a ∷ lanes) [] same = absurd (omega (arith, same))
+most_rows-zip (a ∷ lanes) (b ∷ more) same =
+    omega (arith, set_rows-or a b, most_rows-zip lanes more (omega (arith, same)))
+
+-- some rows of a band
+pub lowered_some : (before top rows : ℕ) → 0 < rows
+    → lowered before top rows ≡ max before (top + rows)
+lowered_some before top rows some = rw (lt-ltb 0 rows some) refl
+
+-- rows of one band, and then more of them
+pub lowered-again : (before top a b : ℕ)
+    → lowered (lowered before top a) top b ≡ lowered before top (max a b)
+lowered-again before top zero b = ap (lowered before top) (sym (zero-max b))
+lowered-again before top (suc a) zero =
+    ap (lowered before top) (sym (max-zero (suc a)))
+lowered-again before top (suc a) (suc b) =
+    omega (
+      arith,
+      lowered_some before top (suc a) (omega arith),
+      lowered_some (lowered before top (suc a)) top (suc b) (omega arith),
+      lowered_some before top (max (suc a) (suc b)) (omega arith),
+    )
+
+byte-or : (a b k : ℕ)
+    → bit_or a b / 2 ^ k % 256 ≡ bit_or (a / 2 ^ k % 256) (b / 2 ^ k % 256)
+byte-or a b k = ap (λ n. n % 256) (or_shr a b k) ∙ or_mod (a / 2 ^ k) (b / 2 ^ k) 8
+
+cons-same : (x y : ℕ) (xs ys : List ℕ) → x ≡ y → xs ≡ ys → x ∷ xs ≡ y ∷ ys
+cons-same x y xs ys first rest = cc
+
+-- the bytes of two numbers together
+pub bytes-or : (a b : ℕ)
+    → to_le_bytes w64 (bit_or a b) ≡ zip2 bit_or (to_le_bytes w64 a) (to_le_bytes w64 b)
+bytes-or a b =
+    cons-same _ _ _ _ (or_mod a b 8)
+    (cons-same _ _ _ _ (byte-or a b 8)
+    (cons-same _ _ _ _ (byte-or a b 16)
+    (cons-same _ _ _ _ (byte-or a b 24)
+    (cons-same _ _ _ _ (byte-or a b 32)
+    (cons-same _ _ _ _ (byte-or a b 40)
+    (cons-same _ _ _ _ (byte-or a b 48)
+    (cons-same _ _ _ _ (byte-or a b 56) refl)))))))
+
+pub length-bytes : (a : ℕ) → length (to_le_bytes w64 a) ≡ 8
+length-bytes a = refl
