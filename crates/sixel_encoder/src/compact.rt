@@ -131,11 +131,13 @@ impl<'a> BandWriter<'a> {
             → IsAtPen self.old.pen pen
             → string_bytes text.new ≡ string_bytes text.old ++ marks_text
             (marks_after (drawing_of self.old.entries.image.now)
-            (number_of (drawing_of self.old.entries.image.now)) self.old.entries.band drawn segment.now pen)) }
+            (number_of (drawing_of self.old.entries.image.now)) self.old.entries.band drawn
+            segment.now pen)) }
         ensures pen { OnOk result ((drawn : List Segment) (pen : MarkPen)
             → IsAtPen self.old.pen pen → IsAtPen self.new.pen (moved_by
             (marks_after (drawing_of self.old.entries.image.now)
-            (number_of (drawing_of self.old.entries.image.now)) self.old.entries.band drawn segment.now pen) pen)) }
+            (number_of (drawing_of self.old.entries.image.now)) self.old.entries.band drawn
+            segment.now pen) pen)) }
         ensures blocked { OnOk result ((drawn : List Segment)
             → AreBlocked (drawing_of self.old.entries.image.now) self.old.entries.band drawn
             self.old.rows.blocked.items
