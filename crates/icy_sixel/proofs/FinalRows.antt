@@ -13,7 +13,7 @@ use Rattle.sixel_decoder.proofs.FinalRows.{final_rows_stay, final_pixels_stay}
 use Rattle.sixel_decoder.proofs.FinalRows.{dcs_final_rows_stay, has_begun}
 use Rattle.sixel_decoder.proofs.Terminators.{stage_reading}
 use Rattle.icy_sixel.specs.FinalRows.{final_rows, pixel_so_far}
-use Rattle.icy_sixel.specs.Receiver.{Form, Nothing, OfPayload, OfString, found}
+use Rattle.icy_sixel.specs.Receiver.{Form, Nothing, OfPayload, OfString}
 
 pub rows_stay : (form : Form) (bytes more : List ℕ)
     → final_rows form bytes ≤ final_rows form (bytes ++ more)

@@ -1,3 +1,4 @@
+pub mod Bands
 pub mod Chunks
 pub mod FinalRows
 pub mod Outcomes

@@ -1,6 +1,7 @@
 -- The final rows of an open image, in the words that Receiver has for both forms, and what the
 -- calls of a receiver do with rows. Which rows are final is in FinalRows of sixel_decoder.
-use Rattle.std.specs.Prelude.{ℕ, ◌≡◌, ◌+◌, ◌-◌, ◌*◌, max, nat_lt, if◌then◌else◌, List, length}
+use Rattle.std.specs.Prelude.{ℕ, ◌≡◌, ◌+◌, ◌-◌, ◌*◌, ◌==◌, max, nat_lt, if◌then◌else◌, List, []}
+use Rattle.std.specs.Prelude.{◌∷◌, length}
 use Rattle.std.specs.Prelude.{Option, Some, None, Result, IfOk, OnOk, IfErr, OnErr, IsSomeAnd}
 use Rattle.std.specs.Prelude.{MatchOption}
 use Rattle.sixel_base.specs.CallFault.{CallFault, Exactly, RowsNotFinal, ShortStride, IsCallFault}
@@ -36,6 +37,11 @@ rows_so_far image = row_count image.is_refused (final_rows image.form image.byte
 -- the pixel at a column and a row of the picture so far: that of the image if it ended now
 abbrev pub pixel_so_far : DecoderState → Form → List ℕ → ℕ → ℕ → List ℕ
 pixel_so_far decoder form bytes = found_pixel decoder (found form bytes)
+
+-- the bytes up to and with the first graphics new line, or all
+abbrev pub band_of : List ℕ → List ℕ
+band_of [] = []
+band_of (byte ∷ bytes) = if byte == 45 then byte ∷ [] else byte ∷ band_of bytes
 
 -- how many bytes so many rows take in a caller's memory
 abbrev pub buffer_len : RowLayout → ℕ → ℕ

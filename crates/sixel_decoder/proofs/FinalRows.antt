@@ -1,5 +1,5 @@
 -- Final rows stay: no token that follows draws above the band of the next sixel.
-use Rattle.std.proofs.Common.{◌≡◌, ℕ, ◌+◌, ◌<◌, ◌≤◌, Bool, true, false, cond, List, [], ◌∷◌, ◌++◌}
+use Rattle.std.proofs.Common.{◌≡◌, ℕ, ◌+◌, ◌<◌, ◌≤◌, true, false, cond, List, [], ◌∷◌, ◌++◌}
 use Rattle.std.proofs.Common.{refl, ap, sym, ◌∙◌, subst, arith, Option, Some, None}
 use Rattle.std.specs.Prelude.{fold, nat_le, nat_lt, min, ◌&&◌}
 use Rattle.std.proofs.lemmas.Bool.Decides.{nat_tests}
@@ -8,7 +8,7 @@ use Rattle.sixel_base.specs.Dcs.{Stage, Heading, Failing, Reading, stage}
 use Rattle.sixel_base.specs.History.{Token, Sixel, Repeat, Raster, Color, Return, Newline, Skip}
 use Rattle.sixel_base.specs.History.{History, begun, longer, goes_on, read, history_of}
 use Rattle.sixel_base.specs.Payload.{closed, settled}
-use Rattle.sixel_base.specs.Picture.{covers, is_set}
+use Rattle.sixel_base.specs.Picture.{covers}
 use Rattle.sixel_base.specs.Place.{across, span, down, height}
 use Rattle.sixel_base.specs.Settings.{Settings}
 use Rattle.sixel_base.specs.Stroke.{Origin, pixel}

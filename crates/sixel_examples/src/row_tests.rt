@@ -34,6 +34,14 @@ fn reads(receiver: &mut SixelReceiver, chunk: &[u8], rows: usize) -> bool {
     receiver.feed(chunk).is_ok() & (receiver.rows_so_far() == rows)
 }
 
+/// Whether so many bytes of the rest of a chunk are a band, and so many rows are final then.
+fn reads_band(receiver: &mut SixelReceiver, rest: &[u8], consumed: usize, rows: usize) -> bool {
+    match receiver.feed_band(rest) {
+        Ok(received) => (received.consumed == consumed) & (receiver.rows_so_far() == rows),
+        Err(_) => false,
+    }
+}
+
 /// Whether each row of three pixels is this one.
 fn are_rows(bytes: &[u8], row: [[u8; 4]; 3]) -> bool {
     let mut are_equal = true;
@@ -89,6 +97,16 @@ fn final_rows(rt: HostRuntime) {
     let mut again = [9; 72];
     let is_same = receiver.copy_rows(0, 6, NARROW, &mut again).is_ok() & (rows == again);
     assert!(rt; is_drawn & is_copied & are_red & is_wider & is_same);
+}
+
+#[test]
+fn bands_of_a_chunk(rt: HostRuntime) {
+    let mut receiver = receiver(rt.alloc());
+    let first = reads_band(&mut receiver, b"#1~-~-~", 4, 6);
+    let second = reads_band(&mut receiver, b"~-~", 2, 12);
+    let last = reads_band(&mut receiver, b"~", 1, 12);
+    let ended = reads_band(&mut receiver, b"~\x1b-~-", 1, 12);
+    assert!(rt; first & second & last & ended);
 }
 
 #[test]

@@ -1,8 +1,8 @@
-use Rattle.std.proofs.Common.{◌≡◌, ℕ, ◌+◌, ◌≤◌, true, false, rules, refl, arith, ap, sym, ◌∙◌}
-use Rattle.std.specs.Prelude.{nat_le, nat_lt}
+use Rattle.std.proofs.Common.{◌≡◌, ◌+◌, false, refl, arith}
+use Rattle.std.specs.Prelude.{nat_lt}
 use Rattle.std.proofs.lemmas.Bool.Decides.{nat_tests}
 use Rattle.icy_sixel.specs.FinalRows.{rows_so_far}
-use Rattle.icy_sixel.specs.Receiver.{Reception, Receiver}
+use Rattle.icy_sixel.specs.Receiver.{Reception}
 use Rattle.icy_sixel.proofs.receiver.SixelReceiver.copy_rows.Goals as goal
 use Rattle.icy_sixel.proofs.receiver.SixelReceiver.copy_rows.Goals.{in-Nothing, in-Payload}
 use Rattle.icy_sixel.proofs.receiver.SixelReceiver.copy_rows.Goals.{in-ControlString}
