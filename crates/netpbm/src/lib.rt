@@ -1,0 +1,16 @@
+//! Images in netpbm's formats PAM, PPM and PGM, read to four bytes a pixel.
+//!
+//! The rules are those of netpbm's manual pages pam(5), ppm(5) and pgm(5).
+#![tactic(auto)]
+
+mod error;
+mod header;
+mod image;
+mod pam;
+mod raster;
+#[cfg(test)]
+mod tests;
+mod words;
+
+pub use error::NetpbmError;
+pub use image::{RgbaImage, read_image};
