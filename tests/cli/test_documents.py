@@ -17,6 +17,8 @@ EXAMPLES = {
 }
 DOCUMENTS = [*ROOT.glob("*.md"), *sorted(ROOT.glob("docs/*.md"))]
 LINK = re.compile(r"\]\(([^)#:]+)(?:#[^)]*)?\)|^\[[^]]+\]: ([^#:\n]+)$", re.M)
+# The lines of README on other image formats.
+LINES = re.compile(r"`((?:convert|sixel pam) [^`]*)`")
 SESSION = re.compile(r"^```sh\n(.*?)^```\n(?:\n?^```text\n(.*?)^```\n)?", re.M | re.S)
 
 
@@ -60,6 +62,19 @@ class TestDocuments(unittest.TestCase):
             for link in LINK.finditer(page.read_text()):
                 with self.subTest(page=str(page), link=link[0]):
                     self.assertTrue((page.parent / (link[1] or link[2])).exists())
+
+    def test_readme_lines(self):
+        """The lines of README on PNG files keep an image in black and white."""
+        lines = LINES.findall((ROOT / "README.md").read_text())
+        back, draw = (it.replace("\\|", "|") for it in lines)
+        folders = [folder_of_imagemagick(), ROOT / "crates/sixel/out", os.environ["PATH"]]
+        paths = {**os.environ, "PATH": ":".join(map(str, folders))}
+        made = "convert -size 9x4 pattern:hexagons -scale 40x30! cat.png"
+        same = "compare -metric AE before.png cat.png null:"
+        script = f"{made}; cp cat.png before.png; {draw} > cat.six; {back}; {same}"
+        with tempfile.TemporaryDirectory() as room:
+            ended = run("sh", "-eu", "-c", script, cwd=room, env=paths)
+        self.assertEqual(ended, (0, b"", b"0"))
 
     @needs("bash", "img2sixel", "sixel2png")
     def test_session(self):

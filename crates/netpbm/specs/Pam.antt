@@ -1,6 +1,6 @@
--- The header of a PAM file, by netpbm's page pam(5): after the magic number lines of a name and a
--- value in any order, each name once, up to the line `ENDHDR`. Empty lines and lines that begin with
--- `#` are comments. A known tuple type has its number of samples.
+-- The header of a PAM file, by netpbm's page pam(5). Lines of a name and a value follow the magic
+-- number in any order, each name once, up to the line `ENDHDR`. Empty lines and lines that begin
+-- with `#` are comments. A known tuple type has its number of samples.
 use Rattle.std.specs.Prelude.{◌≡◌, ℕ, ◌||◌, ◌==◌, nat_lt, nat_eq, not, if◌then◌else◌, List, []}
 use Rattle.std.specs.Prelude.{◌∷◌, ◌++◌, codes, length, Option, None, Some, option_and_then, Bool}
 use Rattle.std.specs.Prelude.{option_map, Result, Ok, Err, false}
@@ -85,8 +85,8 @@ with_line fields line =
 abbrev pub is_end : List ℕ → Bool
 is_end line = bytes_eq (name_of line) (codes "ENDHDR")
 
--- the fields with those of the lines before the last one, and the bytes after that, from inside of a
--- line that begins with these bytes
+-- the fields with those of the lines before the last one, and the bytes after that, from inside of
+-- a line that begins with these bytes
 abbrev pub read_lines : Fields → List ℕ → List ℕ → Option (Fields × List ℕ)
 read_lines fields line [] = None
 read_lines fields line (byte ∷ bytes) =

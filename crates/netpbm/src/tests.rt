@@ -22,12 +22,12 @@ fn check_error(rt: &impl Abort, alloc: Global, file: &[u8], expected: NetpbmErro
 
 #[test]
 fn formats(rt: HostRuntime) {
-    let rgba = b"\x01\x02\x03\xff\x04\x05\x06\xff";
+    let rgba = b"abc\xffdef\xff";
     for file in [
-        b"P6\n2 1\n255\n\x01\x02\x03\x04\x05\x06".as_slice(),
-        b"P6 # a comment\n# another\r 02\t#\n1 255 \x01\x02\x03\x04\x05\x06 more",
-        b"P7\nWIDTH 2\nHEIGHT 1\nDEPTH 3\nMAXVAL 255\nTUPLTYPE RGB\nENDHDR\n\x01\x02\x03\x04\x05\x06",
-        b"P7\n\n# c\n MAXVAL\t255 \r\nDEPTH 3\nHEIGHT 1\nWIDTH 2\nENDHDR\n\x01\x02\x03\x04\x05\x06",
+        b"P6\n2 1\n255\nabcdef".as_slice(),
+        b"P6 # a comment\n# another\r 02\t#\n1 255 abcdef more",
+        b"P7\nWIDTH 2\nHEIGHT 1\nDEPTH 3\nMAXVAL 255\nTUPLTYPE RGB\nENDHDR\nabcdef",
+        b"P7\n\n# c\n MAXVAL\t255 \r\nDEPTH 3\nHEIGHT 1\nWIDTH 2\nENDHDR\nabcdef",
     ] {
         check(&rt, rt.alloc(), file, (2, 1), rgba);
     }

@@ -6,7 +6,7 @@ use Rattle.std.specs.declared.alloc.Global.{Global}
 use Rattle.std.proofs.lemmas.Option.{none-some, same_Some, slice_get-map, slice_get_read}
 use Rattle.std.proofs.lemmas.Option.{slice_get_past}
 use Rattle.sixel.specs.declared.words.Word.{Word}
-use Rattle.sixel.specs.Words.{Asks, IsAskedBy, words_of}
+use Rattle.sixel.specs.Words.{Asks, IsAskedInFour, words_of}
 
 -- an argument that is there
 pub word_there : (words : List (String Global)) (place : ℕ) (word : String Global)
@@ -32,7 +32,7 @@ pub record Places (words : List (List ℕ)) (word : List ℕ) (a b c : Option (L
   pub few : length words ≤ 4
 
 asks_there : (words : List (List ℕ)) (word : List ℕ) (a b c : Option (List ℕ)) (asked : Word)
-    → Places words word a b c → Asks asked word a b c → IsAskedBy words asked
+    → Places words word a b c → Asks asked word a b c → IsAskedInFour words asked
 asks_there [] word a b c asked p asks = absurd (none-some word p.first)
 asks_there (w ∷ []) word a b c asked p asks =
     rw (sym (same_Some w word p.first), p.second, p.third, p.fourth) at asks
@@ -45,7 +45,7 @@ asks_there (w ∷ x ∷ y ∷ z ∷ []) word a b c asked p asks =
 asks_there (w ∷ x ∷ y ∷ z ∷ more ∷ rest) word a b c asked p asks = absurd (omega (arith, p.few))
 
 there_asks : (words : List (List ℕ)) (word : List ℕ) (a b c : Option (List ℕ)) (asked : Word)
-    → Places words word a b c → IsAskedBy words asked → Asks asked word a b c
+    → Places words word a b c → IsAskedInFour words asked → Asks asked word a b c
 there_asks [] word a b c asked p by = absurd by
 there_asks (w ∷ []) word a b c asked p by =
     rw (sym (same_Some w word p.first), p.second, p.third, p.fourth) by
@@ -61,7 +61,7 @@ there_asks (w ∷ x ∷ y ∷ z ∷ more ∷ rest) word a b c asked p by = absur
 pub asked_there :
     (words : List (List ℕ)) (word : List ℕ) (a b c : Option (List ℕ)) (result : Option Word)
     → Places words word a b c
-    → IfSome result (λ asked. Asks asked word a b c) → IfSome result (IsAskedBy words)
+    → IfSome result (λ asked. Asks asked word a b c) → IfSome result (IsAskedInFour words)
 asked_there words word a b c None p asks = tt
 asked_there words word a b c (Some asked) p asks = asks_there words word a b c asked p asks
 
@@ -70,7 +70,7 @@ pub none_there :
     (words : List (List ℕ)) (word : List ℕ) (a b c : Option (List ℕ)) (result : Option Word)
     → Places words word a b c
     → IfNone result ((asked : Word) → ¬ Asks asked word a b c)
-    → IfNone result ((asked : Word) → ¬ IsAskedBy words asked)
+    → IfNone result ((asked : Word) → ¬ IsAskedInFour words asked)
 none_there words word a b c None p none = λ asked by.
     none asked (there_asks words word a b c asked p by)
 none_there words word a b c (Some asked) p none = tt

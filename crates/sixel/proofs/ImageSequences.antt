@@ -18,9 +18,9 @@ use Rattle.sixel_base.specs.declared.status.SixelDcsFeedStatus.TheVariants.{Canc
 use Rattle.sixel_base.specs.Dcs.{dcs_status, dcs_count, has_ended}
 use Rattle.sixel_base.specs.OneShot.{found, IsFoundImage, AreFoundRegisters}
 use Rattle.sixel_io.specs.declared.fault.Fault.{Fault}
-use Rattle.sixel_io.specs.declared.fault.Fault.TheVariants.{Sixel, Input, Output}
+use Rattle.sixel_io.specs.declared.fault.Fault.TheVariants.{Sixel, Netpbm, Input, Output}
 use Rattle.sixel.specs.Form.{image_form}
-use Rattle.sixel.specs.Ending.{Ending, Done, Refused}
+use Rattle.sixel.specs.Ending.{Ending, Done, Refused, Unreadable}
 use Rattle.sixel.specs.Strings.{string_fault, is_cut_short, AreAnswered, Over, Broken, CutShort}
 use Rattle.sixel.specs.Strings.{Followed}
 use Rattle.sixel_io.specs.Output.{Writes}
@@ -48,6 +48,11 @@ Serves-led (Ok _) start bytes now rest a b c l (more, is, grown) = (
 Serves-led (Err (Sixel e)) start bytes now rest a b c l (more, is, grown) = (
   l.text ++ more,
   l.completes more (Refused e) is,
+  Appends-trans a b c _ _ l.written grown,
+)
+Serves-led (Err (Netpbm e)) start bytes now rest a b c l (more, is, grown) = (
+  l.text ++ more,
+  l.completes more (Unreadable e) is,
   Appends-trans a b c _ _ l.written grown,
 )
 Serves-led (Err Input) start bytes now rest a b c l served = served
@@ -138,6 +143,7 @@ begun_image now after bytes text left image (Refused e) string is = (
   Refused e,
   refused_image now after bytes (text ++ left) image e string is,
 )
+begun_image now after bytes text left image (Unreadable e) string is = absurd is
 
 -- an image that could not be written whole ends the output
 pub Serves-broken : (A B : Type 0) (fault : Fault) (now after : DecoderState) (bytes : List ℕ)
@@ -149,6 +155,7 @@ Serves-broken A B (Sixel e) now after bytes image a b string (text, is, grown) =
   refused_image now after bytes text image e string is,
   grown,
 )
+Serves-broken A B (Netpbm e) now after bytes image a b string (text, is, grown) = absurd is
 Serves-broken A B Input now after bytes image a b string served = served
 Serves-broken A B Output now after bytes image a b string (text, (left, ending, is), grown) = (
   text,
@@ -191,6 +198,7 @@ pub Serves-stopped :
     → Serves {A = A} (Err fault) IsText a b
     → Serves {A = B} (Err fault) IsText a b
 Serves-stopped A B (Sixel e) IsText a b served = served
+Serves-stopped A B (Netpbm e) IsText a b served = served
 Serves-stopped A B Input IsText a b served = served
 Serves-stopped A B Output IsText a b served = served
 

@@ -1,6 +1,9 @@
 pub mod ArgumentPlaces
+pub mod AskedWords
 pub mod ByteCounts
 mod Chunks
 pub mod DcsSequences
+pub mod Drawings
 pub mod ImageSequences
+pub mod OptionSteps
 pub mod Outputs

@@ -12,12 +12,13 @@ use Rattle.sixel_base.specs.Decoder.{new_decoder}
 use Rattle.sixel_base.specs.Payload.{Image}
 use Rattle.sixel_base.specs.Fault as data_fault
 use Rattle.sixel_io.specs.declared.fault.Fault.{Fault}
-use Rattle.sixel_io.specs.declared.fault.Fault.TheVariants.{Sixel, Input, Output}
+use Rattle.sixel_io.specs.declared.fault.Fault.TheVariants.{Sixel, Netpbm, Input, Output}
 use Rattle.sixel.specs.declared.words.Word.{Word}
 use Rattle.sixel.specs.declared.words.Word.TheVariants.{Payload, Decode, Pam, Frames, Encode}
+use Rattle.sixel.specs.declared.words.Word.TheVariants.{Draw}
 use Rattle.sixel.specs.Form.{line_end, image_line, image_form, pam_header}
 use Rattle.sixel.specs.Form.{pam_form}
-use Rattle.sixel.specs.Ending.{Ending, Done, Refused}
+use Rattle.sixel.specs.Ending.{Ending, Done, Refused, Unreadable}
 use Rattle.sixel.specs.Strings.{Broken}
 use Rattle.sixel_io.specs.Output.{Writes}
 use Rattle.sixel.specs.Answer.{IsAnswer, IsImageAnswer, Begins, Serves}
@@ -79,6 +80,7 @@ wanting Decode bytes = (refl, refl)
 wanting Pam bytes = (refl, refl)
 wanting (Frames length) bytes = Broken new_decoder bytes OutOfMemory refl
 wanting (Encode width height colors) bytes = (refl, inl refl)
+wanting (Draw options) bytes = (refl, inl refl)
 
 -- an allocation can fail before anything is written
 pub Writes-wanting : (word : Word) (remaining held : Option (List ℕ)) (error : SixelError)
@@ -125,6 +127,11 @@ Serves-weaker (Err (Sixel error)) P Q a b also (text, is, grown) = (
   also text (Refused error) is,
   grown,
 )
+Serves-weaker (Err (Netpbm error)) P Q a b also (text, is, grown) = (
+  text,
+  also text (Unreadable error) is,
+  grown,
+)
 Serves-weaker (Err Input) P Q a b also served = served
 Serves-weaker (Err Output) P Q a b also (text, (rest, ending, is), grown) = (
   text,
@@ -143,6 +150,7 @@ IsImageAnswer-of form fault IsImage image none is text Done (_, (i, same, writte
 )
 IsImageAnswer-of form fault IsImage image none is text (Refused error) (nothing, why) =
     (nothing, subst (λ f. data_fault.Faults error true f) (sym none) why)
+IsImageAnswer-of form fault IsImage image none is text (Unreadable error) never = absurd never
 
 -- the image that was decoded is written
 pub Serves-image : {A : Type 0} (result : Result A Fault) (form : Image → List ℕ)

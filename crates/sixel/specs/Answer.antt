@@ -11,12 +11,15 @@ use Rattle.sixel_base.specs.Payload.{Image, payload_fault, payload_image}
 use Rattle.sixel_encoder.specs.Encoding.{image_fault, IsText, square_value}
 use Rattle.sixel_base.specs.OneShot.{no_settings, found, found_fault, IsFoundImage}
 use Rattle.sixel_io.specs.declared.fault.Fault.{Fault}
-use Rattle.sixel_io.specs.declared.fault.Fault.TheVariants.{Sixel, Input, Output}
+use Rattle.sixel_io.specs.declared.fault.Fault.TheVariants.{Sixel, Netpbm, Input, Output}
 use Rattle.sixel_io.specs.Output.{Writes}
 use Rattle.sixel.specs.declared.words.Word.{Word}
 use Rattle.sixel.specs.declared.words.Word.TheVariants.{Payload, Decode, Pam, Frames, Encode}
+use Rattle.sixel.specs.declared.words.Word.TheVariants.{Draw}
 use Rattle.sixel.specs.Form.{image_form, pam_form}
-use Rattle.sixel.specs.Ending.{Ending, Done, Refused}
+use Rattle.sixel.specs.Ending.{Ending, Done, Refused, Unreadable}
+use Rattle.netpbm.specs.Image.{image_of}
+use Rattle.sixel.specs.Drawing.{IsDrawAnswer}
 use Rattle.sixel.specs.Strings.{AreAnswered}
 
 -- a new decoder, and no settings
@@ -30,12 +33,14 @@ IsImageAnswer form fault IsImage text Done =
     (fault ≡ None) × ((image : Image) × IsImage image × (text ≡ form image))
 IsImageAnswer form fault IsImage text (Refused error) =
     (text ≡ []) × data_fault.Faults error true fault
+IsImageAnswer form fault IsImage text (Unreadable error) = ⊥
 
 -- the SIXEL output of square pixels on a transparent background, or its error with nothing written
 abbrev pub IsTextAnswer : Image → ℕ → List ℕ → Ending → Type 0
 IsTextAnswer image colors text Done = (image_fault image ≡ None) × IsText image colors text
 IsTextAnswer image colors text (Refused error) =
     (text ≡ []) × ((error ≡ OutOfMemory) ⊎ (image_fault image ≡ Some error))
+IsTextAnswer image colors text (Unreadable error) = ⊥
 
 -- the image that the bytes are found to have, in this form, or its error with nothing written
 abbrev pub IsFoundAnswer : (Image → List ℕ) → List ℕ → List ℕ → Ending → Type 0
@@ -52,6 +57,7 @@ IsAnswer Decode bytes = IsFoundAnswer image_form bytes
 IsAnswer Pam bytes = IsFoundAnswer pam_form bytes
 IsAnswer (Frames length) bytes = AreAnswered new_decoder bytes
 IsAnswer (Encode width height colors) bytes = IsTextAnswer (square_value bytes width height) colors
+IsAnswer (Draw options) bytes = IsDrawAnswer options (image_of bytes)
 
 -- an output, whatever its ending, begins with this text
 abbrev pub Begins : (List ℕ → Ending → Type 0) → List ℕ → Type 0
@@ -63,5 +69,6 @@ abbrev pub Serves : {A : Type 0} → Result A Fault → (List ℕ → Ending →
     → Option (List ℕ) → Type 0
 Serves (Ok _) IsText old new = Writes (λ text. IsText text Done) old new
 Serves (Err (Sixel error)) IsText old new = Writes (λ text. IsText text (Refused error)) old new
+Serves (Err (Netpbm error)) IsText old new = Writes (λ text. IsText text (Unreadable error)) old new
 Serves (Err Input) IsText old new = ⊥
 Serves (Err Output) IsText old new = Writes (Begins IsText) old new

@@ -3,15 +3,13 @@
 use Rattle.std.specs.Prelude.{◌≡◌, ◌^◌, ◌<◌, ◌∷◌, [], List, ℕ, codes, map, Option, None, Some}
 use Rattle.std.specs.Prelude.{String, string_bytes}
 use Rattle.std.specs.declared.alloc.Global.{Global}
-use Rattle.std.specs.Str.Parse.{IsNumeral, digits_value}
+use Rattle.sixel.specs.Number.{IsNumber}
+use Rattle.sixel.specs.Options.{AreOptions, default_options}
 use Rattle.sixel.specs.declared.notice.Notice.{Notice}
 use Rattle.sixel.specs.declared.notice.Notice.TheVariants.{Help, Version}
 use Rattle.sixel.specs.declared.words.Word.{Word}
 use Rattle.sixel.specs.declared.words.Word.TheVariants.{Payload, Decode, Pam, Frames, Encode}
-
--- the text is this number in decimal digits
-abbrev pub IsNumber : List ℕ → ℕ → Type 0
-IsNumber text number = IsNumeral 10 text × (digits_value 10 text ≡ number)
+use Rattle.sixel.specs.declared.words.Word.TheVariants.{Draw}
 
 -- an argument is there, and is this number
 abbrev pub Gives : Option (List ℕ) → ℕ → Type 0
@@ -34,14 +32,27 @@ Asks (Frames length) word a b c =
 Asks (Encode width height colors) word a b c =
     (word ≡ codes "encode") × (Gives a width × (width < 2 ^ 64))
     × (Gives b height × (height < 2 ^ 64)) × (Gives c colors × (colors < 2 ^ 16))
+Asks (Draw options) word a b c = ⊥
 
--- the work that the arguments after the program's own name ask for: one, and up to three more
+-- the work that one argument asks for, with up to three more
+abbrev pub IsAskedInFour : List (List ℕ) → Word → Type 0
+IsAskedInFour (word ∷ []) asked = Asks asked word None None None
+IsAskedInFour (word ∷ a ∷ []) asked = Asks asked word (Some a) None None
+IsAskedInFour (word ∷ a ∷ b ∷ []) asked = Asks asked word (Some a) (Some b) None
+IsAskedInFour (word ∷ a ∷ b ∷ c ∷ []) asked = Asks asked word (Some a) (Some b) (Some c)
+IsAskedInFour _ asked = ⊥
+
+-- the first argument is `draw`
+abbrev pub BeginsWithDraw : List (List ℕ) → Type 0
+BeginsWithDraw [] = ⊥
+BeginsWithDraw (word ∷ words) = word ≡ codes "draw"
+
+-- the work that the arguments after the program's own name ask for
 abbrev pub IsAskedBy : List (List ℕ) → Word → Type 0
-IsAskedBy (word ∷ []) asked = Asks asked word None None None
-IsAskedBy (word ∷ a ∷ []) asked = Asks asked word (Some a) None None
-IsAskedBy (word ∷ a ∷ b ∷ []) asked = Asks asked word (Some a) (Some b) None
-IsAskedBy (word ∷ a ∷ b ∷ c ∷ []) asked = Asks asked word (Some a) (Some b) (Some c)
-IsAskedBy _ asked = ⊥
+IsAskedBy [] asked = ⊥
+IsAskedBy (word ∷ words) (Draw options) =
+    (word ≡ codes "draw") × AreOptions default_options words options
+IsAskedBy (word ∷ words) asked = IsAskedInFour (word ∷ words) asked
 
 -- the arguments after the program's own name ask for this notice, whatever the input is
 abbrev pub IsNoticeFor : List (List ℕ) → Notice → Type 0

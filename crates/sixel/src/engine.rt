@@ -3,18 +3,22 @@
 ghost use Rattle.std.specs.Prelude.{◌≡◌, OnOk, IfSome};
 ghost use Rattle.std.specs.Io.KnownBytes.{Keeps, IsAtEnd};
 ghost use Rattle.sixel_base.specs.declared.error.SixelError.{SixelError};
-ghost use Rattle.sixel_io.specs.declared.fault.Fault.TheVariants.{Sixel, Input, Output};
+ghost use Rattle.netpbm.specs.declared.error.NetpbmError.{NetpbmError};
+ghost use Rattle.sixel_io.specs.declared.fault.Fault.TheVariants.{Sixel, Netpbm, Input, Output};
 ghost use Rattle.sixel.specs.declared.words.Word.TheVariants.{Payload, Decode, Pam, Encode};
+ghost use Rattle.sixel.specs.declared.words.Word.TheVariants.{Draw};
 ghost use Rattle.sixel.specs.Words.{IsServable};
-ghost use Rattle.sixel.specs.Ending.{Done, Refused};
+ghost use Rattle.sixel.specs.Ending.{Done, Refused, Unreadable};
 ghost use Rattle.sixel.specs.Answer.{IsAnswer, Begins, Serves};
 ghost use Rattle.sixel_io.specs.Output.{Writes};
 
+use crate::draw_options::DrawOptions;
 use crate::images::write_image;
 use crate::pam::write_pam;
 use crate::strings::write_strings;
 use crate::words::Word;
-use icy_sixel::{DcsSettings, EncodeOptions, SixelImage, sixel_encode};
+use icy_sixel::{DcsSettings, EncodeOptions, SixelImage, TextForm, sixel_encode};
+use netpbm::read_image;
 use sixel_io::{Fault, read_to_end, write_all};
 use std::alloc::Global;
 use std::io::{Read, Write};
@@ -39,6 +43,10 @@ pub fn serve<R: Read, O: Write>(
         IfSome (R.remaining input.old) (λ bytes.
         Writes (λ text. IsAnswer word bytes text (Refused error))
         (O.contents output.old) (O.contents output.new)) }
+    ensures unreadable { (error : NetpbmError) → result ≡ Err (Netpbm error) →
+        IfSome (R.remaining input.old) (λ bytes.
+        Writes (λ text. IsAnswer word bytes text (Unreadable error))
+        (O.contents output.old) (O.contents output.new)) }
     ensures unread { result ≡ Err Input → Keeps (O.contents output.old) (O.contents output.new) }
     ensures unwritten { result ≡ Err Output → IfSome (R.remaining input.old) (λ bytes.
         Writes (Begins (IsAnswer word bytes)) (O.contents output.old) (O.contents output.new)) }
@@ -54,7 +62,7 @@ pub fn serve<R: Read, O: Write>(
 fn input_len(word: Word) -> usize {
     match word {
         Word::Encode(width, height, _) => width.saturating_mul(height).saturating_mul(4),
-        Word::Payload | Word::Decode | Word::Pam | Word::Frames(_) => 0,
+        Word::Payload | Word::Decode | Word::Pam | Word::Frames(_) | Word::Draw(_) => 0,
     }
 }
 
@@ -76,6 +84,7 @@ fn answer<O: Write>(alloc: Global, word: Word, bytes: &[u8], output: &mut O) -> 
             colors,
             output,
         ),
+        Word::Draw(options) => draw(alloc, bytes, options, output),
     }
 }
 
@@ -120,5 +129,22 @@ fn encode<O: Write>(
 {
     let options = EncodeOptions { max_colors };
     let text = sixel_encode(alloc, pixels, size.0, size.1, &options)?;
+    write_all(output, text.as_bytes())
+}
+
+/// Writes the SIXEL output of the image of a PAM, a PPM or a PGM file.
+fn draw<O: Write>(
+    alloc: Global,
+    file: &[u8],
+    options: DrawOptions,
+    output: &mut O,
+) -> Result<(), Fault>
+    ensures { Serves result (IsAnswer (Draw options) file.now)
+        (O.contents output.old) (O.contents output.new) }
+{
+    let file = read_image(alloc, file)?;
+    let image = SixelImage::from_rgba(file.pixels, file.width, file.height);
+    let (colors, dither) = (options.max_colors, options.dither);
+    let text = image.encode_refined(alloc, colors, dither, TextForm::Compact)?;
     write_all(output, text.as_bytes())
 }

@@ -1,6 +1,7 @@
 //! The command `sixel`: reads SIXEL data from standard input and writes images to standard output.
 #![tactic(auto)]
 
+mod draw_options;
 mod engine;
 mod images;
 mod notice;

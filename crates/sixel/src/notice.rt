@@ -49,13 +49,16 @@ impl Notice {
 
 /// The text of [`Notice::Help`].
 const HELP: &str = "\
-usage: sixel payload | decode | pam | frames N | encode W H K
+usage: sixel payload | decode | pam | frames N | encode W H K | draw [OPTION VALUE ..]
 
   payload       decode a payload, the data of a DCS sequence after its q
   decode        decode the first DCS sequence, or all bytes as a payload
   pam           the same, and write a PAM file
   frames N      decode DCS sequences one after another, in chunks of N bytes
   encode W H K  encode raw RGBA of W x H pixels in at most K colors
+  draw          encode a PAM, PPM or PGM file in a palette of its own
+    -c COLORS     of at most COLORS colors; 256 by default
+    -d DITHER     none, ordered or diffusion; diffusion by default
 
 Reads standard input and writes standard output. sixel(1) has the details.
 ";

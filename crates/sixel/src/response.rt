@@ -3,10 +3,11 @@
 ghost use Rattle.std.specs.Prelude.{◌≡◌, ◌≢◌, true, Err, IfSome, is_ok};
 ghost use Rattle.std.specs.Io.KnownBytes.{Keeps};
 ghost use Rattle.sixel_base.specs.declared.error.SixelError.{SixelError};
-ghost use Rattle.sixel_io.specs.declared.fault.Fault.TheVariants.{Sixel, Input, Output};
+ghost use Rattle.netpbm.specs.declared.error.NetpbmError.{NetpbmError};
+ghost use Rattle.sixel_io.specs.declared.fault.Fault.TheVariants.{Sixel, Netpbm, Input, Output};
 ghost use Rattle.sixel.specs.declared.response.Response.TheVariants.{Done, Usage, Failed};
 ghost use Rattle.sixel.specs.declared.words.Word.{Word};
-ghost use Rattle.sixel.specs.Ending.{Done as Whole, Refused};
+ghost use Rattle.sixel.specs.Ending.{Done as Whole, Refused, Unreadable};
 ghost use Rattle.sixel.specs.Words.{IsAskedBy, words_of};
 ghost use Rattle.sixel.specs.Answer.{IsAnswer, Begins};
 ghost use Rattle.sixel_io.specs.Output.{Writes};
@@ -64,6 +65,11 @@ pub fn respond<R: Read, O: Write>(
         → IfSome (R.remaining input.old) (λ bytes.
         (asked : Word) × IsAskedBy (words_of words.now) asked
         × Writes (λ text. IsAnswer asked bytes text (Refused error))
+        (O.contents output.old) (O.contents output.new)) }
+    ensures unreadable { (error : NetpbmError) → result ≡ Failed (Netpbm error)
+        → IfSome (R.remaining input.old) (λ bytes.
+        (asked : Word) × IsAskedBy (words_of words.now) asked
+        × Writes (λ text. IsAnswer asked bytes text (Unreadable error))
         (O.contents output.old) (O.contents output.new)) }
     ensures unread { result ≡ Failed Input → Keeps (O.contents output.old) (O.contents output.new) }
     ensures unwritten { result ≡ Failed Output → IfSome (R.remaining input.old) (λ bytes.

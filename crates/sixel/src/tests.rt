@@ -3,8 +3,10 @@
 ghost use Rattle.std.specs.Prelude.{◌≤◌, IfOk};
 ghost use Rattle.sixel.specs.Words.{IsServable};
 
+use crate::draw_options::DrawOptions;
 use crate::engine::serve;
-use crate::words::{Word, read_word};
+use crate::words::{Word, asked, read_word};
+use icy_sixel::Dither;
 use sixel_io::Fault;
 use std::alloc::Global;
 use std::io;
@@ -140,6 +142,46 @@ fn runs(rt: HostRuntime) -> Result<(), Fail> {
         red,
         "",
     );
+    Ok(())
+}
+
+/// These arguments.
+fn words(alloc: Global, texts: &[&str]) -> Result<Vec<String>, Fail> {
+    let mut words = Vec::new(alloc);
+    for text in texts {
+        words.push(String::from_str(alloc, text)?)?;
+    }
+    Ok(words)
+}
+
+#[test]
+fn draws(rt: HostRuntime) -> Result<(), Fail> {
+    let alloc = rt.alloc();
+    let arguments = words(alloc, &["draw", "-c", "16", "-d", "none", "-c", "2"])?;
+    let Some(Word::Draw(options)) = asked(&arguments) else {
+        panic!(rt; "{arguments:?}");
+    };
+    assert_eq!(rt; (options.max_colors, options.dither), (2, Dither::Off));
+    let red = b"\x1bP9;1;0q\"1;1;1;1#0;2;100;0;0#0@\x1b\\";
+    let file = b"P6 1 1 255\n\xff\0\0";
+    check(&rt, outcome(alloc, Word::Draw(options), file)?, red, "");
+    let short = "incomplete netpbm image";
+    check(
+        &rt,
+        outcome(alloc, Word::Draw(options), &file[..13])?,
+        b"",
+        short,
+    );
+    let none = DrawOptions {
+        max_colors: 0,
+        ..options
+    };
+    let count = "invalid SIXEL data: number of colors is not 1 to 256";
+    check(&rt, outcome(alloc, Word::Draw(none), file)?, b"", count);
+    for (first, second) in [("draw", "-c"), ("draw", "1"), ("-d", "none")] {
+        assert!(rt; asked(&words(alloc, &[first, second])?).is_none());
+    }
+    assert!(rt; asked(&words(alloc, &["draw", "-d", "off"])?).is_none());
     Ok(())
 }
 

@@ -1,8 +1,12 @@
 //! The arguments that ask for work on the input.
 
 ghost use Rattle.std.specs.Prelude.{◌≡◌, ◌<◌, ◌^◌, ℕ, IfSome, IfNone, option_map, slice_get};
-ghost use Rattle.std.specs.Prelude.{Some, None, codes};
-ghost use Rattle.sixel.specs.Words.{Asks, IsAskedBy, IsNumber, IsServable, words_of};
+ghost use Rattle.std.specs.Prelude.{Some, None, MatchOption, codes, ◌∷◌};
+ghost use Rattle.sixel.specs.Number.{IsNumber};
+ghost use Rattle.sixel.specs.Words.{Asks, BeginsWithDraw, IsAskedBy, IsAskedInFour};
+ghost use Rattle.sixel.specs.Words.{IsServable, words_of};
+
+use crate::draw_options::{DrawOptions, read_options};
 
 /// Work on the input.
 #[derive(Clone, Copy)]
@@ -18,6 +22,8 @@ pub enum Word {
     Frames(usize),
     /// Encode raw pixels of this width and height in at most so many colors.
     Encode(usize, usize, u16),
+    /// Encode the image of a PAM, a PPM or a PGM file in a refined palette.
+    Draw(DrawOptions),
 }
 
 /// The work that the arguments after the program's own name ask for.
@@ -26,6 +32,31 @@ pub enum Word {
 pub fn asked(words: &[String]) -> Option<Word>
     ensures asked { IfSome result (IsAskedBy (words_of words.now)) }
     ensures usage { IfNone result ((asked : Word) → ¬ IsAskedBy (words_of words.now) asked) }
+    ensures servable { IfSome result IsServable }
+{
+    match after_draw(words) {
+        Some(rest) => Some(Word::Draw(read_options(rest)?)),
+        None => asked_in_four(words),
+    }
+}
+
+/// The arguments after `draw`, if it is the first one.
+fn after_draw(words: &[String]) -> Option<&[String]>
+    ensures { MatchOption result (¬ BeginsWithDraw (words_of words.now))
+        (λ rest. words_of words.now ≡ codes "draw" ∷ words_of rest.now) }
+{
+    match words {
+        [first, rest @ ..] if first.as_str() == "draw" => Some(rest),
+        _ => None,
+    }
+}
+
+/// The work that at most four arguments ask for.
+///
+/// `None` means that they are wrong.
+fn asked_in_four(words: &[String]) -> Option<Word>
+    ensures asked { IfSome result (IsAskedInFour (words_of words.now)) }
+    ensures usage { IfNone result ((asked : Word) → ¬ IsAskedInFour (words_of words.now) asked) }
     ensures servable { IfSome result IsServable }
 {
     match words.len() {
@@ -144,7 +175,7 @@ fn encode(width: &str, height: &str, colors: &str) -> Option<Word>
 }
 
 /// The number below 65536 that decimal digits spell, with no sign before them.
-fn number_of_colors(text: &str) -> Option<u16>
+pub fn number_of_colors(text: &str) -> Option<u16>
     ensures read { IfSome result (λ n. IsNumber text.now n × (n < 65536)) }
     ensures other { IfNone result ((n : ℕ) → n < 65536 → ¬ IsNumber text.now n) }
 {

@@ -18,12 +18,13 @@ bytes-preserved c =
           let read : with_line fields line ≡ Some after =
           sym w.with_line.ensures ∙ w.in_ok-fields.was in
           let none : index + 1 - (index + 1) ≡ 0 = omega arith in
+          let rest = drop (index + 1) bytes in
           record {
             within = omega arith;
             read =
                 rw (w.start-is, w.fields-is)
                 (ap
-                (λ n. read_lines after (take n (drop (index + 1) bytes)) (drop (index + 1) bytes)) none
+                (λ n. read_lines after (take n rest) rest) none
                 ∙ sym (step-end fields after bytes c.bytes.start index c.bytes-test.true
                 w.if-byte-eq10.true goes_on read)
                 ∙ c.bytes.invariant.read);

@@ -1,6 +1,6 @@
 use Rattle.std.proofs.Common.{arith}
-use Rattle.sixel_io.specs.declared.fault.Fault.TheVariants.{Sixel, Output}
-use Rattle.sixel.specs.Ending.{Refused}
+use Rattle.sixel_io.specs.declared.fault.Fault.TheVariants.{Sixel, Netpbm, Output}
+use Rattle.sixel.specs.Ending.{Refused, Unreadable}
 use Rattle.sixel.specs.Words.{IsAskedBy, words_of}
 use Rattle.sixel_io.specs.Output.{Writes}
 use Rattle.sixel.specs.Answer.{IsAnswer, Begins}
@@ -25,6 +25,13 @@ returns-clause-refused g c = λ error is.
     (λ asked bytes. Writes (λ text. IsAnswer asked bytes text (Refused error)) _ _)
     _ c.in-Some.word c.in-Some.ensures.asked
     (c.serve.ensures.refused error (c.response_of.ensures.failed (Sixel error) is))
+
+pub returns-clause-unreadable : goal.returns-clause-unreadable
+returns-clause-unreadable g c = λ error is.
+    asked-for (IsAskedBy (words_of c.args.words.now))
+    (λ asked bytes. Writes (λ text. IsAnswer asked bytes text (Unreadable error)) _ _)
+    _ c.in-Some.word c.in-Some.ensures.asked
+    (c.serve.ensures.unreadable error (c.response_of.ensures.failed (Netpbm error) is))
 
 pub returns-clause-unread : goal.returns-clause-unread
 returns-clause-unread g c = grind arith
