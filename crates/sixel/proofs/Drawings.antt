@@ -1,14 +1,9 @@
 -- What a call on the image of a file reports.
-use Rattle.std.proofs.Common.{◌≡◌, ◌⊎◌, Option, None, Some, Result, Ok, Err, inl, inr, refl, sym}
-use Rattle.std.proofs.Common.{MatchOption, subst}
-use Rattle.netpbm.specs.Image.{Rgba}
-use Rattle.netpbm.specs.declared.error.NetpbmError.{NetpbmError}
+use Rattle.std.proofs.Common.{◌≡◌, ◌⊎◌, Option, None, Some, Ok, Err, inl, inr, refl}
+use Rattle.std.proofs.Common.{MatchOption}
 use Rattle.sixel_base.specs.CallFault.{CallFault, FailsBy, IsCallFault}
 use Rattle.sixel_base.specs.declared.error.SixelError.{SixelError}
 use Rattle.sixel_base.specs.declared.error.SixelError.TheVariants.{OutOfMemory}
-use Rattle.sixel.specs.Drawing.{IsDrawAnswer, draw_fault}
-use Rattle.sixel.specs.Ending.{Refused}
-use Rattle.sixel.specs.declared.draw_options.DrawOptions.{DrawOptions}
 
 -- a call that returned a value has no fault
 pub no_call_fault : {X : Type 0} (fault : Option CallFault) (x : X) → FailsBy fault (Ok x)
