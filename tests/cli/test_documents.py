@@ -69,7 +69,7 @@ class TestDocuments(unittest.TestCase):
         back, draw = (it.replace("\\|", "|") for it in lines)
         folders = [folder_of_imagemagick(), ROOT / "crates/sixel/out", os.environ["PATH"]]
         paths = {**os.environ, "PATH": ":".join(map(str, folders))}
-        made = "convert -size 9x4 pattern:hexagons -scale 40x30! cat.png"
+        made = "convert -size 9x4 pattern:hexagons -sample 40x30! cat.png"
         same = "compare -metric AE before.png cat.png null:"
         script = f"{made}; cp cat.png before.png; {draw} > cat.six; {back}; {same}"
         with tempfile.TemporaryDirectory() as room:
