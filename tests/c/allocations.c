@@ -90,6 +90,78 @@ static uint32_t make_encode(icysixel *h, struct bytes *made)
     return code;
 }
 
+/* How the same columns are encoded by the calls that are passed an encoding. */
+static const icysixel_encoding compact = {
+    .stride = 128, .width = 31, .height = 40, .p1 = 9, .p2 = 1,
+    .dithering = {ICYSIXEL_DITHER_DIFFUSION, 6}, .form = ICYSIXEL_FORM_COMPACT,
+};
+
+/* Copies the stored text if the code is that of success. Otherwise there is none. */
+static uint32_t with_text(icysixel *h, uint32_t code, size_t length, struct bytes *made)
+{
+    size_t wanted;
+    if (code == ICYSIXEL_OK) *made = (struct bytes){malloc(length), length};
+    CHECK(icysixel_copy_text(h, made->at, made->length, &wanted)
+          == (code == ICYSIXEL_OK ? ICYSIXEL_OK : ICYSIXEL_NO_TEXT));
+    return code;
+}
+
+static uint32_t make_compact(icysixel *h, struct bytes *made)
+{
+    size_t length = 0;
+    uint32_t code = icysixel_encode_compact(h, pixels, sizeof pixels, &compact, 16, &length);
+    return with_text(h, code, length, made);
+}
+
+static uint32_t make_refined_text(icysixel *h, struct bytes *made)
+{
+    size_t length = 0;
+    uint32_t code = icysixel_encode_refined(h, pixels, sizeof pixels, &compact, 16, &length);
+    return with_text(h, code, length, made);
+}
+
+static const icysixel_color two_colors[] = {{0, 0, 9}, {200, 200, 9}};
+
+static uint32_t make_text_in_palette(icysixel *h, struct bytes *made)
+{
+    size_t length = 0;
+    uint32_t code = icysixel_encode_with_palette(h, pixels, sizeof pixels, &compact, two_colors, 2,
+                                                 &length);
+    return with_text(h, code, length, made);
+}
+
+static uint32_t make_indexed(icysixel *h, struct bytes *made)
+{
+    static const uint8_t indices[31 * 40] = {1};
+    size_t length = 0;
+    uint32_t code = icysixel_encode_indexed(h, pixels, sizeof pixels, &compact, two_colors, 2,
+                                            indices, sizeof indices, &length);
+    return with_text(h, code, length, made);
+}
+
+static uint32_t make_indices(icysixel *h, struct bytes *made)
+{
+    (void)h;
+    uint8_t indices[sizeof pixels / 4] = {0};
+    uint32_t code = icysixel_palette_indices(pixels, sizeof pixels, 32, two_colors, 2,
+                                             &compact.dithering, indices, sizeof indices);
+    append(made, indices, code == ICYSIXEL_OK ? sizeof indices : 0);
+    return code;
+}
+
+static uint32_t make_refined(icysixel *h, struct bytes *made)
+{
+    (void)h;
+    icysixel_color colors[16], witnesses[17];
+    icysixel_refined refined = {0};
+    uint8_t indices[sizeof pixels / 4] = {0};
+    uint32_t code = icysixel_refine_palette(pixels, sizeof pixels, 16, colors, 16, witnesses, 17,
+                                            indices, sizeof indices, &refined);
+    CHECK(refined.colors == (code == ICYSIXEL_OK ? 16 : 0));
+    append(made, indices, code == ICYSIXEL_OK ? sizeof indices : 0);
+    return code;
+}
+
 static uint32_t make_palette(icysixel *h, struct bytes *made)
 {
     (void)h;
@@ -119,7 +191,13 @@ static const struct call calls[] = {
     {"decode", make_decode},
     {"decode_payload", make_decode_payload},
     {"encode", make_encode},
+    {"encode_compact", make_compact},
+    {"encode_refined", make_refined_text},
+    {"encode_with_palette", make_text_in_palette},
+    {"encode_indexed", make_indexed},
     {"choose_palette", make_palette},
+    {"palette_indices", make_indices},
+    {"refine_palette", make_refined},
     {"new", make_new},
 };
 

@@ -45,6 +45,13 @@ static void test_empty_handle(icysixel *h)
     CHECK(icysixel_get_crop(h) == 0 && icysixel_set_crop(h, 1) == ICYSIXEL_NO_HANDLE);
     CHECK(icysixel_get_limit(h) == 0 && icysixel_set_limit(h, 1) == ICYSIXEL_NO_HANDLE);
     CHECK(icysixel_encode(h, BYTES("rgba"), 0, 1, 1, 9, 1, 9, &length) == ICYSIXEL_NO_HANDLE);
+    icysixel_encoding e = {.width = 1, .height = 1, .p1 = 9, .p2 = 1};
+    CHECK(icysixel_encode_compact(h, BYTES("rgba"), &e, 9, &length) == ICYSIXEL_NO_HANDLE);
+    CHECK(icysixel_encode_refined(h, BYTES("rgba"), &e, 9, &length) == ICYSIXEL_NO_HANDLE);
+    CHECK(icysixel_encode_with_palette(h, BYTES("rgba"), &e, &color, 1, &length)
+          == ICYSIXEL_NO_HANDLE);
+    CHECK(icysixel_encode_indexed(h, BYTES("rgba"), &e, &color, 1, BYTES("0"), &length)
+          == ICYSIXEL_NO_HANDLE);
     CHECK(length == 7 && wanted == 0);
     wanted = 7;
     CHECK(icysixel_copy_text(h, NULL, 0, &wanted) == ICYSIXEL_NO_HANDLE && wanted == 0);
@@ -250,6 +257,112 @@ static void test_encode(icysixel *h)
     CHECK(icysixel_copy_text(h, text, sizeof text, &wanted) == ICYSIXEL_NO_TEXT);
 }
 
+/* Whether the stored text is this one, which releases it. */
+static bool has_text(icysixel *h, const char *expected)
+{
+    uint8_t text[128];
+    size_t wanted;
+    return icysixel_copy_text(h, text, sizeof text, &wanted) == ICYSIXEL_OK
+        && wanted == strlen(expected) && memcmp(text, expected, wanted) == 0;
+}
+
+/* Black, 10 of 255 red and white, and the text of a row of them in black and white. */
+#define ROW "\033P9;1;0q\"1;1;3;1"
+#define BLACK_WHITE ROW "#0;2;0;0;0#1;2;100;100;100"
+static const uint8_t row[] = {0, 0, 0, 255, 10, 0, 0, 255, 255, 255, 255, 255};
+static const icysixel_color black_white[] = {{0, 0, 0}, {255, 255, 255}};
+
+/* Palettes of the library and of the caller, in both forms. The mean of the first two pixels is 2
+ * percent of red. Compact rows end at their last pixel, and both fit one pass. */
+static void test_encodings(icysixel *h)
+{
+    icysixel_encoding e = {.width = 3, .height = 1, .p1 = 9, .p2 = 1};
+    icysixel_encoding short_row = {.stride = 11, .width = 3, .height = 2, .p1 = 9, .p2 = 1};
+    size_t n = 7;
+    subject = "encodings";
+    CHECK(icysixel_encode_compact(h, row, 12, &e, 2, &n) == ICYSIXEL_OK);
+    CHECK(n == 51 && has_text(h, BLACK_WHITE "#0@@#1@\033\\"));
+    CHECK(icysixel_encode_refined(h, row, 12, &e, 2, &n) == ICYSIXEL_OK);
+    CHECK(has_text(h, ROW "#0;2;2;0;0#1;2;100;100;100#0@@?$#1??@$-\033\\"));
+    CHECK(icysixel_encode_with_palette(h, row, 12, &e, black_white, 2, &n) == ICYSIXEL_OK);
+    CHECK(has_text(h, BLACK_WHITE "#0@@?$#1??@$-\033\\"));
+    CHECK(icysixel_encode_indexed(h, row, 12, &e, black_white, 2, BYTES("\1\0\1"), &n)
+          == ICYSIXEL_OK);
+    CHECK(has_text(h, BLACK_WHITE "#0?@?$#1@?@$-\033\\"));
+    e.form = ICYSIXEL_FORM_COMPACT;
+    CHECK(icysixel_encode_refined(h, row, 12, &e, 2, &n) == ICYSIXEL_OK);
+    CHECK(has_text(h, ROW "#0;2;2;0;0#1;2;100;100;100#0@@#1@\033\\"));
+    CHECK(icysixel_encode_with_palette(h, row, 12, &e, black_white, 2, &n) == ICYSIXEL_OK);
+    CHECK(has_text(h, BLACK_WHITE "#0@@#1@\033\\"));
+    CHECK(icysixel_encode_indexed(h, row, 12, &e, black_white, 2, BYTES("\0\0\1"), &n)
+          == ICYSIXEL_OK);
+    n = 7;
+    CHECK(icysixel_encode_refined(h, row, 12, &e, 0, &n) == ICYSIXEL_COLOR_COUNT);
+    CHECK(icysixel_copy_text(h, NULL, 0, &n) == ICYSIXEL_NO_TEXT);
+    n = 7;
+    CHECK(icysixel_encode_refined(h, row, 12, &e, 257, &n) == ICYSIXEL_COLOR_COUNT);
+    CHECK(icysixel_encode_with_palette(h, row, 12, &e, NULL, 0, &n) == ICYSIXEL_COLOR_COUNT);
+    CHECK(icysixel_encode_indexed(h, row, 12, &e, black_white, 2, BYTES("\0\2\1"), &n)
+          == ICYSIXEL_INDEX_RANGE);
+    CHECK(icysixel_encode_indexed(h, row, 12, &e, black_white, 2, BYTES("\0\1"), &n)
+          == ICYSIXEL_BUFFER_MISMATCH);
+    CHECK(icysixel_encode_compact(h, row, 12, &short_row, 2, &n) == ICYSIXEL_BAD_STRIDE);
+    short_row.stride = 0;
+    CHECK(icysixel_encode_compact(h, row, 12, &short_row, 2, &n) == ICYSIXEL_BUFFER_MISMATCH);
+    short_row.height = 0;
+    CHECK(icysixel_encode_compact(h, row, 12, &short_row, 2, &n) == ICYSIXEL_BAD_DIMENSIONS);
+    CHECK(n == 7);
+}
+
+/* Three pixels of gray 100. The first passes 700 of 1600 sixteenths on, so the second is white. */
+static void test_indices(void)
+{
+    static const uint8_t gray[] = {100, 100, 100, 255, 100, 100, 100, 255, 100, 100, 100, 255};
+    icysixel_dithering off = {0}, diffusion = {ICYSIXEL_DITHER_DIFFUSION, 8};
+    icysixel_dithering unknown = {9, 8}, ordered = {ICYSIXEL_DITHER_ORDERED, 255};
+    uint8_t i[4] = {7, 7, 7, 7};
+    subject = "indices";
+    CHECK(icysixel_palette_indices(gray, 12, 3, black_white, 2, &off, i, 2)
+          == ICYSIXEL_BUFFER_TOO_SMALL);
+    CHECK(icysixel_palette_indices(gray, 12, 0, black_white, 2, &off, i, 4)
+          == ICYSIXEL_BAD_DIMENSIONS);
+    CHECK(icysixel_palette_indices(gray, 12, 2, black_white, 2, &off, i, 4)
+          == ICYSIXEL_BUFFER_MISMATCH);
+    CHECK(icysixel_palette_indices(gray, 12, 3, NULL, 0, &off, i, 4) == ICYSIXEL_COLOR_COUNT);
+    CHECK(memcmp(i, "\7\7\7\7", 4) == 0);
+    CHECK(icysixel_palette_indices(gray, 12, 3, black_white, 2, &diffusion, i, 4) == ICYSIXEL_OK);
+    CHECK(memcmp(i, "\0\1\0\7", 4) == 0);
+    CHECK(icysixel_palette_indices(gray, 12, 3, black_white, 2, &unknown, i, 4) == ICYSIXEL_OK);
+    CHECK(memcmp(i, "\0\0\0\7", 4) == 0);
+    /* Thresholds of the third pixel: 238, 254 and 14, which add 110, 126 and -114. */
+    CHECK(icysixel_palette_indices(gray, 12, 3, black_white, 2, &ordered, i, 3) == ICYSIXEL_OK);
+    CHECK(memcmp(i, "\0\0\1\7", 4) == 0);
+}
+
+/* Buffers of a refined palette. Both darker pixels have the entry of their mean, 5 from each. */
+static void test_refined(void)
+{
+    icysixel_color c[3], w[3];
+    uint8_t i[4] = {7, 7, 7, 7};
+    icysixel_refined r = {7, 7, 7, 7};
+    subject = "refined palette";
+    memset(c, 7, sizeof c), memset(w, 7, sizeof w);
+    static const size_t small[][3] = {{1, 3, 4}, {2, 2, 4}, {2, 3, 2}};
+    for (const size_t(*n)[3] = small; n < small + 3; n++)
+        CHECK(icysixel_refine_palette(row, 12, 2, c, (*n)[0], w, (*n)[1], i, (*n)[2], &r)
+              == ICYSIXEL_BUFFER_TOO_SMALL);
+    CHECK(icysixel_refine_palette(row, 11, 2, c, 3, w, 3, i, 4, &r) == ICYSIXEL_BUFFER_MISMATCH);
+    CHECK(icysixel_refine_palette(row, 12, 0, c, 3, w, 3, i, 4, &r) == ICYSIXEL_COLOR_COUNT);
+    icysixel_color all[256], certificate[257];
+    CHECK(icysixel_refine_palette(row, 12, 257, all, 256, certificate, 257, i, 4, &r)
+          == ICYSIXEL_COLOR_COUNT);
+    CHECK(r.colors == 7 && r.error == 7 && i[0] == 7 && c[0].red == 7 && w[0].red == 7);
+    CHECK(icysixel_refine_palette(row, 12, 2, c, 3, w, 3, i, 4, &r) == ICYSIXEL_OK);
+    CHECK(r.colors == 2 && r.witnesses == 0 && r.error == 50);
+    CHECK(memcmp(c, "\5\0\0\377\377\377\7\7\7", 9) == 0);
+    CHECK(memcmp(i, "\0\0\1\7", 4) == 0 && w[0].red == 7);
+}
+
 /* Buffers of a palette: those that are too small, and what is left of larger ones. */
 static void test_palette(void)
 {
@@ -277,11 +390,11 @@ static void test_text(void)
 {
     char buffer[64];
     subject = "text";
-    for (line_number = 0; line_number <= 20; line_number++) {
+    for (line_number = 0; line_number <= 22; line_number++) {
         uint32_t code = (uint32_t)line_number;
         size_t length = icysixel_strerror(code, buffer, sizeof buffer);
         CHECK(length > 0 && length < sizeof buffer && strlen(buffer) == length);
-        CHECK((strcmp(buffer, "unknown code") == 0) == (code > ICYSIXEL_DCS_STREAM_FAILED));
+        CHECK((strcmp(buffer, "unknown code") == 0) == (code > ICYSIXEL_INDEX_RANGE));
         CHECK(icysixel_strerror(code, buffer, length) == length && buffer[0] == 0);
         CHECK(icysixel_strerror(code, buffer, length + 1) == length);
         CHECK(strlen(buffer) == length);
@@ -301,9 +414,12 @@ int main(void)
     test_registers(&h);
     test_settings(&h);
     test_encode(&h);
+    test_encodings(&h);
     icysixel_free(&h);
     test_empty_handle(&h);
     test_palette();
+    test_indices();
+    test_refined();
     test_text();
     return 0;
 }

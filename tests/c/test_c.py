@@ -46,6 +46,7 @@ RUNS = [
     ("decode", RED[:-2], 1, b"", b"incomplete SIXEL DCS sequence\n"),
     ("filter", STREAM, 0, FILTERED, b""),
     ("terminal", TERMINAL, 0, DISPLAYED, b""),
+    ("encode", b"", 0, b'\x1bP9;1;0q"1;1;12;6#0;2;100;0;0#0!12~\x1b\\', b""),
 ]
 # Images, and each again in a form that libsixel shows as the example preload.c does. None has no
 # such form: libsixel rounds the channels of a hue to percentages.

@@ -96,6 +96,31 @@ typedef struct {
     uint32_t error;   /* the maximum squared distance of an opaque color to its nearest entry */
 } icysixel_palette;
 
+/* The properties of a refined palette, without its colors. */
+typedef struct {
+    size_t colors;    /* number of entries */
+    size_t witnesses; /* number of witnesses, or 0 */
+    uint64_t error;   /* the summed squared distances of opaque pixels to their nearest entries */
+    uint32_t apart;   /* the minimum squared distance of two witnesses */
+} icysixel_refined;
+
+/* How each pixel gets an entry of the palette. Zeros mean the nearest entry. */
+typedef struct {
+    uint8_t kind;   /* an enum icysixel_dither; any other number is ICYSIXEL_DITHER_OFF */
+    uint8_t amount; /* diffusion: 1 to 8 eighths of the error; ordered: the amplitude in levels */
+} icysixel_dithering;
+
+/* The layout of pixels, and how they are encoded. */
+typedef struct {
+    size_t stride;                /* bytes from the start of a row to the next, or 0 */
+    size_t width;                 /* pixels in a row */
+    size_t height;                /* rows */
+    int32_t p1;                   /* the shape of a pixel, as in icysixel_begin_payload */
+    int32_t p2;                   /* the background, as in icysixel_begin_payload */
+    icysixel_dithering dithering; /* for refined and given palettes */
+    uint8_t form;                 /* an enum icysixel_form; numbers above 1 are compact, too */
+} icysixel_encoding;
+
 /* Result codes. */
 enum icysixel_code {
     ICYSIXEL_OK = 0,
@@ -121,7 +146,23 @@ enum icysixel_code {
     ICYSIXEL_MISSING_COMMAND = 16,   /* the data end in the header; from icysixel_decode only */
     ICYSIXEL_INCOMPLETE = 17,        /* the DCS sequence has no terminator yet */
     ICYSIXEL_STREAM_FAILED = 18,     /* an earlier feed of this payload failed */
-    ICYSIXEL_DCS_STREAM_FAILED = 19  /* an earlier feed of this sequence failed */
+    ICYSIXEL_DCS_STREAM_FAILED = 19, /* an earlier feed of this sequence failed */
+    /* about palettes */
+    ICYSIXEL_COLOR_COUNT = 20, /* the number of colors is not 1 to 256 */
+    ICYSIXEL_INDEX_RANGE = 21  /* the palette index of an opaque pixel is past the palette */
+};
+
+/* Kinds of dithering. */
+enum icysixel_dither {
+    ICYSIXEL_DITHER_OFF = 0,       /* none: each pixel gets its nearest entry */
+    ICYSIXEL_DITHER_DIFFUSION = 1, /* error diffusion (Floyd and Steinberg), serpentine */
+    ICYSIXEL_DITHER_ORDERED = 2    /* a fixed pattern, stable from frame to frame */
+};
+
+/* Forms of output. A decoder returns the same image from both. */
+enum icysixel_form {
+    ICYSIXEL_FORM_PLAIN = 0,  /* each entry of a band in a pass of its own */
+    ICYSIXEL_FORM_COMPACT = 1 /* the same pixels in fewer bytes */
 };
 
 /* What to do after a feed. */
@@ -281,6 +322,39 @@ uint32_t icysixel_encode(icysixel *handle, const uint8_t *pixels, size_t length,
                          size_t width, size_t height, int32_t p1, int32_t p2, uint16_t max_colors,
                          size_t *text_length);
 
+/* Encodes pixels in compact form with the palette of icysixel_encode. A decoder returns the same
+ * image from both texts. Only registers that a pixel has are defined. The text is never longer than
+ * that of icysixel_encode. `dithering` and `form` have no effect. The errors are those of
+ * icysixel_encode. */
+uint32_t icysixel_encode_compact(icysixel *handle, const uint8_t *pixels, size_t length,
+                                 const icysixel_encoding *encoding, uint16_t max_colors,
+                                 size_t *text_length);
+
+/* Encodes pixels in the palette of icysixel_refine_palette, stores the text and writes its length.
+ * A decoder shows the entries of this palette without rounding. The errors are those of
+ * icysixel_encode, and ICYSIXEL_COLOR_COUNT unless max_colors is 1 to 256. */
+uint32_t icysixel_encode_refined(icysixel *handle, const uint8_t *pixels, size_t length,
+                                 const icysixel_encoding *encoding, uint16_t max_colors,
+                                 size_t *text_length);
+
+/* Encodes pixels in a given palette of 1 to 256 colors, stores the text and writes its length. The
+ * indices are those of icysixel_palette_indices. The errors are those of icysixel_encode, and
+ * ICYSIXEL_COLOR_COUNT for any other number of colors. */
+uint32_t icysixel_encode_with_palette(icysixel *handle, const uint8_t *pixels, size_t length,
+                                      const icysixel_encoding *encoding,
+                                      const icysixel_color *colors, size_t count,
+                                      size_t *text_length);
+
+/* Encodes pixels in a given palette by given indices: one byte for each pixel, row by row without
+ * gaps. Colors of pixels have no effect, nor do indices of transparent pixels, nor `dithering`. The
+ * errors are those of icysixel_encode_with_palette. Then ICYSIXEL_BUFFER_MISMATCH for another
+ * number of indices than there are pixels, and ICYSIXEL_INDEX_RANGE if the index of an opaque pixel
+ * is not below `count`. */
+uint32_t icysixel_encode_indexed(icysixel *handle, const uint8_t *pixels, size_t length,
+                                 const icysixel_encoding *encoding, const icysixel_color *colors,
+                                 size_t count, const uint8_t *indices, size_t index_count,
+                                 size_t *text_length);
+
 /* Copies the stored text to `buf` and releases it. It has no zero at its end. `wanted` is the
  * length of the text, also with ICYSIXEL_BUFFER_TOO_SMALL. With another error it is 0. After an
  * error the text is still stored. It does not allocate. */
@@ -314,6 +388,50 @@ uint32_t icysixel_choose_palette(const uint8_t *pixels, size_t length, uint16_t 
                                  icysixel_color *witnesses, size_t witness_capacity,
                                  uint8_t *indices, size_t index_capacity,
                                  icysixel_palette *palette);
+
+/* Refines a palette of pixels for a small summed squared error, with a certificate. It needs no
+ * handle.
+ *
+ * The palette has at most max_colors entries, 1 to 256, each a color that a register can have. If
+ * there are no more opaque colors than that, each has an entry: the color, rounded to percentages.
+ * Otherwise the colors are cut into boxes where the error falls most, two rounds of Lloyd's
+ * algorithm move the entries, and the last entries are chosen farthest first.
+ *
+ * The buffers receive what those of icysixel_choose_palette receive. A buffer is too small if
+ * `colors` has fewer than max_colors, `witnesses` fewer than max_colors + 1, or `indices` fewer than
+ * one byte for each pixel. For more than 256 colors 256 and 257 are enough. The witnesses are for
+ * the last entries. In any palette with fewer entries than there are witnesses, some witness has a
+ * squared distance of at least a fourth of `apart` to its nearest entry.
+ *
+ * The errors, in this order, are:
+ *
+ * - ICYSIXEL_BUFFER_MISMATCH if `length` is no multiple of four;
+ * - ICYSIXEL_BUFFER_TOO_SMALL;
+ * - ICYSIXEL_COLOR_COUNT unless max_colors is 1 to 256;
+ * - ICYSIXEL_TOO_LARGE for more than 67,108,864 pixels;
+ * - ICYSIXEL_OUT_OF_MEMORY. */
+uint32_t icysixel_refine_palette(const uint8_t *pixels, size_t length, uint16_t max_colors,
+                                 icysixel_color *colors, size_t color_capacity,
+                                 icysixel_color *witnesses, size_t witness_capacity,
+                                 uint8_t *indices, size_t index_capacity,
+                                 icysixel_refined *refined);
+
+/* Writes the palette index of each pixel in a given palette of 1 to 256 colors. It needs no handle.
+ *
+ * The pixels are rows of `width` without gaps. Without dithering an opaque pixel has the index of
+ * its nearest entry, the first of these. A transparent pixel has index 0, and its color has no
+ * effect. `indices` has a capacity of at least one byte for each pixel, and the bytes after these
+ * are unchanged. The errors, in this order, are:
+ *
+ * - ICYSIXEL_BUFFER_TOO_SMALL;
+ * - ICYSIXEL_BAD_DIMENSIONS if `width` is 0;
+ * - ICYSIXEL_BUFFER_MISMATCH if the pixels are not whole rows;
+ * - ICYSIXEL_COLOR_COUNT;
+ * - ICYSIXEL_OUT_OF_MEMORY. */
+uint32_t icysixel_palette_indices(const uint8_t *pixels, size_t length, size_t width,
+                                  const icysixel_color *colors, size_t count,
+                                  const icysixel_dithering *dithering, uint8_t *indices,
+                                  size_t index_capacity);
 
 /* -- Errors -- */
 

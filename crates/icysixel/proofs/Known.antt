@@ -1,5 +1,5 @@
 -- The errors of the library's calls are known: each text of invalid data is that of a fault.
-use Rattle.std.proofs.Common.{Bool, true, false, Option, Some, None, Result, Ok, Err}
+use Rattle.std.proofs.Common.{Bool, true, false, Option, Some, None, Result, Ok, Err, inl}
 use Rattle.std.specs.Prelude.{IfErr, MatchBool}
 use Rattle.sixel_base.specs.Fault.{Fault, Faults, IsFault}
 use Rattle.sixel_base.specs.declared.error.SixelError.{SixelError}
@@ -13,7 +13,7 @@ use Rattle.icysixel.specs.Code.{IsKnown}
 pub fault_known : (error : SixelError) (fault : Fault) → IsFault error fault → IsKnown error
 fault_known (InvalidDimensions width height) fault is = tt
 fault_known (BufferSizeMismatch expected actual) fault is = tt
-fault_known (InvalidData text) fault is = (fault, is)
+fault_known (InvalidData text) fault is = inl (fault, is)
 fault_known NoSixelData fault is = tt
 fault_known IntegerOverflow fault is = tt
 fault_known OutOfMemory fault is = tt
@@ -22,7 +22,7 @@ fault_known OutOfMemory fault is = tt
 pub found_known : (error : SixelError) (wants : Bool) (found : Option Fault)
     → Faults error wants found → IsKnown error
 found_known (InvalidData text) wants None is = absurd is
-found_known (InvalidData text) wants (Some fault) is = (fault, is)
+found_known (InvalidData text) wants (Some fault) is = inl (fault, is)
 found_known (InvalidDimensions width height) wants found is = tt
 found_known (BufferSizeMismatch expected actual) wants found is = tt
 found_known NoSixelData wants found is = tt

@@ -1,5 +1,6 @@
 pub mod AsBox
 pub mod AsBytes
+pub mod Calls
 pub mod Dense
 pub mod Ended
 pub mod Known

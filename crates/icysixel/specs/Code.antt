@@ -1,8 +1,9 @@
 -- The numbers that C receives: a code for each cause of an error, and the status of a feed. They
 -- are this library's own, and include/icysixel.h names them. 8 is out of memory, 9 an overflow, and
 -- the codes from 10 on are errors of sizes and data.
-use Rattle.std.specs.Prelude.{◌≡◌, ℕ, nat_le, ℤ, pos, negsuc, Bool, IsTrue, if◌then◌else◌, ◌⊎◌}
-use Rattle.std.specs.Prelude.{List, Option, Some, None, IsSomeAnd}
+use Rattle.std.specs.Prelude.{◌≡◌, ◌≢◌, ℕ, nat_le, ℤ, pos, negsuc, Bool, IsTrue, if◌then◌else◌}
+use Rattle.std.specs.Prelude.{◌⊎◌, List, Option, Some, None, IsSomeAnd, codes}
+use Rattle.sixel_base.specs.CallFault.{CallFault, Exactly, ColorCount, IndexRange}
 use Rattle.sixel_base.specs.Fault.{Fault, text_of, Malformed, TooLarge, MissingCommand, BadHeader}
 use Rattle.sixel_base.specs.Fault.{StreamFailed, DcsStreamFailed, Incomplete, NoIntroducer}
 use Rattle.sixel_base.specs.Fault.{Overflow}
@@ -41,9 +42,24 @@ IsCodeOf code error.NoSixelData = code ≡ 12
 IsCodeOf code (error.InvalidData text) =
     (fault : Fault) → text_of fault ≡ Some text.now → code ≡ fault_code fault
 
--- a text of an error of invalid data: that of a fault
+-- the code of a fault of a call on an image and a palette
+abbrev pub IsCallCode : ℕ → CallFault → Type 0
+IsCallCode code (Exactly error) = IsCodeOf code error
+IsCallCode code ColorCount = code ≡ 20
+IsCallCode code IndexRange = code ≡ 21
+
+-- A call with this fault returns its code, or out of memory if an allocation fails before. A call
+-- with none fails only by out of memory.
+abbrev pub ReturnsBy : Option CallFault → ℕ → Type 0
+ReturnsBy None code = code ≢ 0 → code ≡ 8
+ReturnsBy (Some fault) code = IsCallCode code fault ⊎ (code ≡ 8)
+
+-- a text of an error of invalid data: that of a fault, of a wrong palette or of a wrong index
 abbrev pub IsFaultText : List ℕ → Type 0
-IsFaultText text = (fault : Fault) × (text_of fault ≡ Some text)
+IsFaultText text =
+    ((fault : Fault) × (text_of fault ≡ Some text))
+    ⊎ ((text ≡ codes "number of colors is not 1 to 256")
+    ⊎ (text ≡ codes "palette index out of range"))
 
 -- an error whose text, if it has one, is that of a fault
 abbrev pub IsKnown : SixelError → Type 0

@@ -1,9 +1,11 @@
 pub mod Code
 pub mod Colors
 pub mod Drawn
+pub mod Encodings
 pub mod Feed
 pub mod Finish
 pub mod Kept
+pub mod RefinedOutput
 pub mod Rows
 pub mod Shape
 pub mod Words

@@ -1,4 +1,5 @@
--- The description of each code in English. Those of SIXEL data are the texts of its errors.
+-- The description of each code in English. Those of SIXEL data and of palettes are
+-- the texts of their errors.
 use Rattle.std.specs.Prelude.{ℕ, ◌==◌, if◌then◌else◌, List, codes}
 
 abbrev pub words : ℕ → List ℕ
@@ -23,4 +24,6 @@ words code =
     else if code == 17 then codes "incomplete SIXEL DCS sequence"
     else if code == 18 then codes "stream decoder has failed"
     else if code == 19 then codes "DCS stream decoder has failed"
+    else if code == 20 then codes "number of colors is not 1 to 256"
+    else if code == 21 then codes "palette index out of range"
     else codes "unknown code"

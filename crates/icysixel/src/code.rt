@@ -1,8 +1,10 @@
 //! The numbers that C receives: result codes and statuses of a feed.
 
-ghost use Rattle.std.specs.Prelude.{◌≡◌, ◌≢◌, Bool, Option, Some};
+ghost use Rattle.std.specs.Prelude.{◌≡◌, ◌≢◌, Bool, Option, Some, codes};
+ghost use Rattle.sixel_base.specs.CallFault.{CallFault, IsCallFault};
 ghost use Rattle.sixel_base.specs.Fault.{Fault, Faults, IsFault, text_of};
-ghost use Rattle.icysixel.specs.Code.{IsCodeOf, IsFaultText, IsKnown, IsTold, fault_code};
+ghost use Rattle.icysixel.specs.Code.{IsCallCode, IsCodeOf, IsFaultText, IsKnown, IsTold};
+ghost use Rattle.icysixel.specs.Code.{fault_code};
 ghost use Rattle.icysixel.specs.Code.{status_code, status_byte};
 
 use icy_sixel::script::Status;
@@ -52,6 +54,10 @@ pub enum Code {
     StreamFailed = 18,
     /// An earlier feed of the DCS sequence failed.
     DcsStreamFailed = 19,
+    /// The number of colors is not 1 to 256.
+    ColorCount = 20,
+    /// A palette index is past the palette.
+    IndexRange = 21,
 }
 
 /// The code of an error.
@@ -61,6 +67,7 @@ pub fn code_of(error: &SixelError) -> u32
     ensures told { (may_want : Bool) (found : Option Fault) → Faults error.now may_want found
         → IsTold result may_want found }
     ensures code { IsCodeOf result error.now }
+    ensures call { (fault : CallFault) → IsCallFault error.now fault → IsCallCode result fault }
     ensures memory { error.now ≡ SixelError.OutOfMemory → result ≡ 8 }
     ensures refused { result ≢ 0 }
 {
@@ -78,6 +85,8 @@ pub fn code_of(error: &SixelError) -> u32
 fn text_code(text: &str) -> u32
     requires { IsFaultText text.now }
     ensures fault { (fault : Fault) → text_of fault ≡ Some text.now → result ≡ fault_code fault }
+    ensures count { text.now ≡ codes "number of colors is not 1 to 256" → result ≡ 20 }
+    ensures index { text.now ≡ codes "palette index out of range" → result ≡ 21 }
     ensures refused { result ≢ 0 }
 {
     match text {
@@ -88,6 +97,8 @@ fn text_code(text: &str) -> u32
         error::INCOMPLETE => Code::Incomplete as u32,
         error::STREAM_FAILED => Code::StreamFailed as u32,
         error::DCS_STREAM_FAILED => Code::DcsStreamFailed as u32,
+        error::COLOR_COUNT => Code::ColorCount as u32,
+        error::INDEX_RANGE => Code::IndexRange as u32,
         _ => unreachable!(),
     }
 }

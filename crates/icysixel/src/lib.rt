@@ -6,14 +6,17 @@
 
 mod bytes;
 mod code;
+pub mod encoding;
 mod handle;
 pub mod images;
+pub mod indices;
 pub mod limits;
 pub mod once;
 pub mod palette;
 pub mod parameters;
 mod pixels;
 pub mod progress;
+pub mod refined;
 pub mod registers;
 mod rows;
 pub mod sessions;

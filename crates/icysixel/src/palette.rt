@@ -107,7 +107,7 @@ pub extern "C" fn icysixel_choose_palette(
     let bytes = pixels.len();
     let code = buffers_code(
         bytes,
-        max_colors,
+        usize::from(max_colors.clamp(2, 256)),
         colors.len(),
         witnesses.len(),
         indices.len(),
@@ -124,30 +124,29 @@ pub extern "C" fn icysixel_choose_palette(
     }
 }
 
-/// Success if these are whole pixels and the buffers are large enough, else the error.
-fn buffers_code(
+/// Success if these are whole pixels and the buffers have enough capacity, else the error.
+pub fn buffers_code(
     bytes: usize,
-    max_colors: u16,
+    capacity: usize,
     colors: usize,
     witnesses: usize,
     indices: usize,
 ) -> u32
     ensures mismatch { bytes % 4 ≢ 0 → result ≡ 11 }
-    ensures few_colors { bytes % 4 ≡ 0 → colors < palette_room max_colors → result ≡ 6 }
-    ensures few_witnesses { bytes % 4 ≡ 0 → witnesses < palette_room max_colors + 1
-        → result ≡ 6 }
+    ensures few_colors { bytes % 4 ≡ 0 → colors < capacity → result ≡ 6 }
+    ensures few_witnesses { bytes % 4 ≡ 0 → witnesses < capacity + 1 → result ≡ 6 }
     ensures few_indices { bytes % 4 ≡ 0 → indices < bytes / 4 → result ≡ 6 }
-    ensures enough { bytes % 4 ≡ 0 → palette_room max_colors ≤ colors
-        → palette_room max_colors + 1 ≤ witnesses → bytes / 4 ≤ indices → result ≡ 0 }
-    ensures colors { result ≡ 0 → palette_room max_colors ≤ colors }
-    ensures witnesses { result ≡ 0 → palette_room max_colors + 1 ≤ witnesses }
+    ensures enough { bytes % 4 ≡ 0 → capacity ≤ colors → capacity + 1 ≤ witnesses
+        → bytes / 4 ≤ indices → result ≡ 0 }
+    ensures whole { result ≡ 0 → bytes % 4 ≡ 0 }
+    ensures colors { result ≡ 0 → capacity ≤ colors }
+    ensures witnesses { result ≡ 0 → capacity + 1 ≤ witnesses }
     ensures indices { result ≡ 0 → bytes / 4 ≤ indices }
 {
     if bytes % 4 != 0 {
         return Code::BufferMismatch as u32;
     }
-    let capacity = usize::from(max_colors.clamp(2, 256));
-    if colors < capacity || witnesses < capacity + 1 || indices < bytes / 4 {
+    if colors < capacity || witnesses <= capacity || indices < bytes / 4 {
         return Code::BufferTooSmall as u32;
     }
     Code::Success as u32
@@ -184,7 +183,7 @@ fn write_choice(
 }
 
 /// Writes colors to the start of a buffer.
-fn write_colors(buf: &mut [Color], colors: &[[u8; 3]])
+pub fn write_colors(buf: &mut [Color], colors: &[[u8; 3]])
     requires { length colors.now ≤ length buf.old }
     ensures colors { first_colors (length colors.now) buf.new ≡ colors.now }
     ensures after { drop (length colors.now) buf.new ≡ drop (length colors.now) buf.old }

@@ -4,16 +4,49 @@ ghost use Rattle.std.specs.Prelude.{◌≡◌, ◌≢◌, ◌*◌, ◌<◌, ◌�
 ghost use Rattle.std.specs.Prelude.{Ok, OnOk, IfOk, IfErr, IsErrAnd, length, string_bytes};
 ghost use Rattle.sixel_base.specs.Size.{encode_fault};
 ghost use Rattle.sixel_base.specs.declared.error.SixelError.{SixelError};
-ghost use Rattle.sixel_encoder.specs.Encoding.{IsText};
+ghost use Rattle.sixel_base.specs.CallFault.{FailsBy};
+ghost use Rattle.sixel_encoder.specs.Encoding.{image_fault, source_value};
 ghost use Rattle.icysixel.specs.Code.{IsCodeOf};
 ghost use Rattle.icysixel.specs.Drawn.{drawn, drawn_rows};
 ghost use Rattle.icysixel.specs.Rows.{bytes_of, extent, rows_of, stride_of, wanted};
+ghost use Rattle.icysixel.specs.inside.Encoded.{FailsByCode, IsOutputOf, output_fault};
 
 use crate::code::{Code, code_of};
 use crate::rows::{Layout, stride_of};
-use icy_sixel::{DcsSettings, validate_encode_dimensions};
-use sixel_encoder::{Source, TextForm, encode_source};
+use icy_sixel::encoder::{Dither, TextForm};
+use icy_sixel::{DcsSettings, SixelError, validate_encode_dimensions};
+use sixel_encoder::{
+    Source, encode_in_palette, encode_refined, encode_source, encode_with_indices,
+};
 use std::alloc::Global;
+
+/// An output of an image: its palette and its form.
+#[derive(Clone, Copy)]
+pub enum Output<'a> {
+    /// In a palette of at most so many colors, chosen farthest first.
+    Chosen {
+        max_colors: u16,
+        form: TextForm,
+    },
+    /// In a refined palette of at most so many colors.
+    Refined {
+        max_colors: u16,
+        dither: Dither,
+        form: TextForm,
+    },
+    /// In the palette of the caller.
+    Given {
+        colors: &'a [[u8; 3]],
+        dither: Dither,
+        form: TextForm,
+    },
+    /// In the palette of the caller, with the palette index of each pixel.
+    Indexed {
+        colors: &'a [[u8; 3]],
+        indices: &'a [u8],
+        form: TextForm,
+    },
+}
 
 /// The pixels of an image as C passes them.
 #[derive(Clone, Copy)]
@@ -30,7 +63,7 @@ pub struct Pixels<'a> {
 
 impl<'a> Pixels<'a> {
     /// The SIXEL output of the pixels, or the code of the error.
-    pub fn encoded(&self, alloc: Global, max_colors: u16) -> Result<String, u32>
+    pub fn encoded(&self, alloc: Global, output: Output<'_>) -> Result<String, u32>
         ensures sizes { (fault : SixelError)
             → encode_fault self.now.width self.now.height ≡ Some fault
             → IsErrAnd result (λ code. IsCodeOf code fault) }
@@ -41,17 +74,20 @@ impl<'a> Pixels<'a> {
             → bytes_of self.now.stride (drawn_rows self.now.stride self.now.width self.now.height
             self.now.settings self.now.bytes.now) ≡ Some size
             → length self.now.bytes.now < size → result ≡ Err 11 }
-        ensures memory { (size : ℕ) → encode_fault self.now.width self.now.height ≡ None
+        ensures call { (size : ℕ) → encode_fault self.now.width self.now.height ≡ None
             → bytes_of self.now.stride (drawn_rows self.now.stride self.now.width self.now.height
             self.now.settings self.now.bytes.now) ≡ Some size
-            → size ≤ length self.now.bytes.now → IfErr result (λ code. code ≡ 8) }
+            → size ≤ length self.now.bytes.now → FailsByCode (output_fault output.entry
+            (drawn_rows self.now.stride self.now.width self.now.height
+            self.now.settings self.now.bytes.now)) result }
         ensures refused { IfErr result (λ code. code ≢ 0) }
-        ensures text { IfOk result (λ text. IsText (drawn_rows self.now.stride self.now.width
-            self.now.height self.now.settings self.now.bytes.now) max_colors
+        ensures text { IfOk result (λ text. IsOutputOf output.entry
+            (drawn_rows self.now.stride self.now.width
+            self.now.height self.now.settings self.now.bytes.now)
             (string_bytes text)) }
     {
         match self.fitting_stride() {
-            Ok(stride) => self.text_of_rows(alloc, stride, max_colors),
+            Ok(stride) => self.text_of_rows(alloc, stride, output),
             Err(code) => Err(code),
         }
     }
@@ -95,16 +131,20 @@ impl<'a> Pixels<'a> {
         }
     }
 
-    /// The SIXEL output of the rows at this stride, or the code of the error: out of memory.
-    fn text_of_rows(&self, alloc: Global, stride: usize, max_colors: u16) -> Result<String, u32>
+    /// The SIXEL output of the rows at this stride, or the code of the error.
+    fn text_of_rows(&self, alloc: Global, stride: usize, output: Output<'_>) -> Result<String, u32>
         requires sizes { encode_fault self.now.width self.now.height ≡ None }
         requires stride { 4 * self.now.width ≤ stride }
         requires within { extent stride (4 * self.now.width) self.now.height
             ≤ length self.now.bytes.now }
-        ensures memory { IfErr result (λ code. code ≡ 8) }
-        ensures text { IfOk result (λ text. IsText (drawn self.now.width self.now.height
+        ensures call { FailsByCode (output_fault output.entry (drawn self.now.width self.now.height
             self.now.settings (rows_of stride (4 * self.now.width) self.now.height
-            self.now.bytes.now)) max_colors (string_bytes text)) }
+            self.now.bytes.now))) result }
+        ensures refused { IfErr result (λ code. code ≢ 0) }
+        ensures text { IfOk result (λ text. IsOutputOf output.entry
+            (drawn self.now.width self.now.height self.now.settings
+            (rows_of stride (4 * self.now.width) self.now.height self.now.bytes.now))
+            (string_bytes text)) }
     {
         let layout = Layout {
             stride,
@@ -113,22 +153,24 @@ impl<'a> Pixels<'a> {
         };
         if stride == layout.row_len {
             let rows = layout.dense(self.bytes);
-            return self.text_of(alloc, rows, max_colors);
+            return self.text_of(alloc, rows, output);
         }
         match layout.gathered(alloc, self.bytes) {
-            Ok(rows) => self.text_of(alloc, &rows, max_colors),
+            Ok(rows) => self.text_of(alloc, &rows, output),
             Err(_) => Err(Code::OutOfMemory as u32),
         }
     }
 
     /// The SIXEL output of these rows without gaps, or the code of the error.
-    fn text_of(&self, alloc: Global, rows: &[u8], max_colors: u16) -> Result<String, u32>
-        ensures memory { encode_fault self.now.width self.now.height ≡ None
-            → length rows.now ≡ 4 * self.now.width * self.now.height
-            → IfErr result (λ code. code ≡ 8) }
+    fn text_of(&self, alloc: Global, rows: &[u8], output: Output<'_>) -> Result<String, u32>
+        requires sizes { encode_fault self.now.width self.now.height ≡ None }
+        requires rows { length rows.now ≡ 4 * self.now.width * self.now.height }
+        ensures call { FailsByCode (output_fault output.entry (drawn self.now.width self.now.height
+            self.now.settings rows.now)) result }
         ensures refused { IfErr result (λ code. code ≢ 0) }
-        ensures text { IfOk result (λ text. IsText (drawn self.now.width self.now.height
-            self.now.settings rows.now) max_colors (string_bytes text)) }
+        ensures text { IfOk result (λ text. IsOutputOf output.entry
+            (drawn self.now.width self.now.height self.now.settings rows.now)
+            (string_bytes text)) }
     {
         let source = Source {
             pixels: rows,
@@ -137,9 +179,36 @@ impl<'a> Pixels<'a> {
             aspect_ratio: self.settings.pixel_aspect_ratio(),
             background_mode: self.settings.background_mode(),
         };
-        match encode_source(alloc, &source, max_colors, TextForm::Plain) {
+        match encode(alloc, &source, output) {
             Ok(text) => Ok(text),
             Err(error) => Err(code_of(&error)),
         }
+    }
+}
+
+/// The SIXEL output of an image with valid sizes.
+fn encode(alloc: Global, source: &Source<'_>, output: Output<'_>) -> Result<String, SixelError>
+    requires { image_fault (source_value source.now) ≡ None }
+    ensures fault { FailsBy (output_fault output.entry (source_value source.now)) result }
+    ensures text { IfOk result (λ text.
+        IsOutputOf output.entry (source_value source.now) (string_bytes text)) }
+{
+    match output {
+        Output::Chosen { max_colors, form } => encode_source(alloc, source, max_colors, form),
+        Output::Refined {
+            max_colors,
+            dither,
+            form,
+        } => encode_refined(alloc, source, max_colors, dither, form),
+        Output::Given {
+            colors,
+            dither,
+            form,
+        } => encode_in_palette(alloc, source, colors, dither, form),
+        Output::Indexed {
+            colors,
+            indices,
+            form,
+        } => encode_with_indices(alloc, source, colors, indices, form),
     }
 }

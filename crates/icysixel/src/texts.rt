@@ -4,7 +4,15 @@ ghost use Rattle.std.specs.Prelude.{◌≡◌, ◌≢◌, ◌<◌, ◌≤◌, �
 ghost use Rattle.std.specs.Prelude.{length, drop, ◌++◌};
 ghost use Rattle.sixel_base.specs.Size.{encode_fault};
 ghost use Rattle.sixel_base.specs.declared.error.SixelError.{SixelError};
+ghost use Rattle.std.specs.Option.{option_or};
+ghost use Rattle.sixel_base.specs.CallFault.{color_count_fault};
+ghost use Rattle.sixel_encoder.specs.Compact.{IsCompactText};
 ghost use Rattle.sixel_encoder.specs.Encoding.{IsText};
+ghost use Rattle.sixel_encoder.specs.IndexedDrawing.{IsPaletteText, IsTextOf, indexed_drawing};
+ghost use Rattle.sixel_encoder.specs.IndexedDrawing.{index_count_fault, index_range_fault};
+ghost use Rattle.sixel_encoder.specs.RefinedText.{IsRefinedText};
+ghost use Rattle.icysixel.specs.Encodings.{IsEncodeCall, dither_of, encoded_image, form_of};
+ghost use Rattle.icysixel.specs.inside.Encoded.{IsOutputOf, output_fault};
 ghost use Rattle.icysixel.specs.Code.{IsCodeOf};
 ghost use Rattle.icysixel.specs.Drawn.{image_of};
 ghost use Rattle.icysixel.specs.Kept.{kept_text};
@@ -12,9 +20,11 @@ ghost use Rattle.icysixel.specs.Rows.{bytes_of};
 ghost use Rattle.icysixel.specs.declared.state.State.{State};
 
 use crate::code::Code;
+use crate::encoding::Encoding;
 use crate::parameters::settings;
-use crate::pixels::Pixels;
+use crate::pixels::{Output, Pixels};
 use crate::slot::Slot;
+use icy_sixel::encoder::TextForm;
 use std::alloc::Global;
 
 /// Encodes pixels, stores their text and writes its length.
@@ -71,7 +81,144 @@ pub extern "C" fn icysixel_encode(
         height,
         settings: settings(p1, p2, -1),
     };
-    let text = pixels.encoded(alloc, max_colors);
+    let output = Output::Chosen {
+        max_colors,
+        form: TextForm::Plain,
+    };
+    let text = pixels.encoded(alloc, output);
+    slot.state().store_encoded(text, bytes)
+}
+
+/// Encodes pixels in compact form, stores their text and writes its length.
+///
+/// The palette is that of [`icysixel_encode`].
+#[unsafe(no_mangle)]
+pub extern "C" fn icysixel_encode_compact(
+    alloc: Global,
+    slot: &mut Slot,
+    pixels: &[u8],
+    encoding: &Encoding,
+    max_colors: u16,
+    bytes: &mut usize,
+) -> u32
+    ensures { IsEncodeCall slot.old.handle.state slot.new.handle.state
+        encoding.now.stride (encoded_image encoding.now pixels.now) (length pixels.now)
+        None (IsCompactText (encoded_image encoding.now pixels.now) max_colors)
+        result bytes.old bytes.new }
+{
+    let output = Output::Chosen {
+        max_colors,
+        form: TextForm::Compact,
+    };
+    store_text(alloc, slot, pixels, encoding, output, bytes)
+}
+
+/// Encodes pixels in a refined palette, stores their text and writes its length.
+#[unsafe(no_mangle)]
+pub extern "C" fn icysixel_encode_refined(
+    alloc: Global,
+    slot: &mut Slot,
+    pixels: &[u8],
+    encoding: &Encoding,
+    max_colors: u16,
+    bytes: &mut usize,
+) -> u32
+    ensures { IsEncodeCall slot.old.handle.state slot.new.handle.state
+        encoding.now.stride (encoded_image encoding.now pixels.now) (length pixels.now)
+        (color_count_fault max_colors)
+        (IsRefinedText (encoded_image encoding.now pixels.now) max_colors
+        (dither_of encoding.now.dithering) (form_of encoding.now))
+        result bytes.old bytes.new }
+{
+    let output = Output::Refined {
+        max_colors,
+        dither: encoding.dithering.dither(),
+        form: encoding.text_form(),
+    };
+    store_text(alloc, slot, pixels, encoding, output, bytes)
+}
+
+/// Encodes pixels in a given palette, stores their text and writes its length.
+#[unsafe(no_mangle)]
+pub extern "C" fn icysixel_encode_with_palette(
+    alloc: Global,
+    slot: &mut Slot,
+    pixels: &[u8],
+    encoding: &Encoding,
+    colors: &[[u8; 3]],
+    bytes: &mut usize,
+) -> u32
+    ensures { IsEncodeCall slot.old.handle.state slot.new.handle.state
+        encoding.now.stride (encoded_image encoding.now pixels.now) (length pixels.now)
+        (color_count_fault (length colors.now))
+        (IsPaletteText (encoded_image encoding.now pixels.now) colors.now
+        (dither_of encoding.now.dithering) (form_of encoding.now))
+        result bytes.old bytes.new }
+{
+    let output = Output::Given {
+        colors,
+        dither: encoding.dithering.dither(),
+        form: encoding.text_form(),
+    };
+    store_text(alloc, slot, pixels, encoding, output, bytes)
+}
+
+/// Encodes pixels by their palette indices, stores their text and writes its length.
+#[unsafe(no_mangle)]
+pub extern "C" fn icysixel_encode_indexed(
+    alloc: Global,
+    slot: &mut Slot,
+    pixels: &[u8],
+    encoding: &Encoding,
+    colors: &[[u8; 3]],
+    indices: &[u8],
+    bytes: &mut usize,
+) -> u32
+    ensures { IsEncodeCall slot.old.handle.state slot.new.handle.state
+        encoding.now.stride (encoded_image encoding.now pixels.now) (length pixels.now)
+        (option_or (color_count_fault (length colors.now))
+        (option_or (index_count_fault (encoded_image encoding.now pixels.now)
+        (length indices.now))
+        (index_range_fault (encoded_image encoding.now pixels.now).pixels indices.now
+        (length colors.now))))
+        (IsTextOf (form_of encoding.now) (indexed_drawing
+        (encoded_image encoding.now pixels.now) colors.now indices.now))
+        result bytes.old bytes.new }
+{
+    let output = Output::Indexed {
+        colors,
+        indices,
+        form: encoding.text_form(),
+    };
+    store_text(alloc, slot, pixels, encoding, output, bytes)
+}
+
+/// Encodes pixels, stores this output of them and writes its length.
+fn store_text(
+    alloc: Global,
+    slot: &mut Slot,
+    pixels: &[u8],
+    encoding: &Encoding,
+    output: Output<'_>,
+    bytes: &mut usize,
+) -> u32
+    ensures { IsEncodeCall slot.old.handle.state slot.new.handle.state
+        encoding.now.stride (encoded_image encoding.now pixels.now) (length pixels.now)
+        (output_fault output.entry (encoded_image encoding.now pixels.now))
+        (IsOutputOf output.entry (encoded_image encoding.now pixels.now))
+        result bytes.old bytes.new }
+{
+    if !slot.is_held() {
+        return Code::NoHandle as u32;
+    }
+    let pixels = Pixels {
+        bytes: pixels,
+        stride: encoding.stride,
+        width: encoding.width,
+        height: encoding.height,
+        settings: settings(encoding.p1, encoding.p2, -1),
+    };
+    let text = pixels.encoded(alloc, output);
     slot.state().store_encoded(text, bytes)
 }
 

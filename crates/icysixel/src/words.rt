@@ -61,6 +61,8 @@ fn words(code: u32) -> &'static str
         17 => error::INCOMPLETE,
         18 => error::STREAM_FAILED,
         19 => error::DCS_STREAM_FAILED,
+        20 => error::COLOR_COUNT,
+        21 => error::INDEX_RANGE,
         _ => "unknown code",
     }
 }

@@ -7,7 +7,6 @@ pub(crate) const NO_SESSION: u32 = 2;
 pub(crate) const OUT_OF_MEMORY: u32 = 8;
 pub(crate) const OVERFLOW: u32 = 9;
 pub(crate) const BAD_DIMENSIONS: u32 = 10;
-#[cfg(test)]
 pub(crate) const BUFFER_MISMATCH: u32 = 11;
 pub(crate) const NO_SIXEL_DATA: u32 = 12;
 pub(crate) const MALFORMED: u32 = 13;
@@ -17,6 +16,8 @@ pub(crate) const MISSING_COMMAND: u32 = 16;
 pub(crate) const INCOMPLETE: u32 = 17;
 pub(crate) const STREAM_FAILED: u32 = 18;
 pub(crate) const DCS_STREAM_FAILED: u32 = 19;
+pub(crate) const COLOR_COUNT: u32 = 20;
+pub(crate) const INDEX_RANGE: u32 = 21;
 
 /// The image needs more data.
 pub(crate) const MORE: u32 = 0;
@@ -38,6 +39,8 @@ pub(crate) fn error_of(code: u32) -> SixelError {
         INCOMPLETE => SixelError::of_data("incomplete SIXEL DCS sequence"),
         STREAM_FAILED | NO_SESSION => SixelError::of_data("stream decoder has failed"),
         DCS_STREAM_FAILED => SixelError::of_data("DCS stream decoder has failed"),
+        COLOR_COUNT => SixelError::of_data("number of colors is not 1 to 256"),
+        INDEX_RANGE => SixelError::of_data("palette index out of range"),
         other => unreachable!("the library returned {other}"),
     }
 }

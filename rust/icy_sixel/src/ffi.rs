@@ -63,6 +63,37 @@ pub(crate) struct Palette {
     pub(crate) error: u32,
 }
 
+/// A refined palette, without its colors.
+#[repr(C)]
+#[derive(Clone, Copy, Default)]
+pub(crate) struct Refined {
+    pub(crate) colors: usize,
+    pub(crate) witnesses: usize,
+    pub(crate) error: u64,
+    pub(crate) apart: u32,
+}
+
+/// How pixels get entries of a palette.
+#[repr(C)]
+#[derive(Clone, Copy, Default)]
+pub(crate) struct Dithering {
+    pub(crate) kind: u8,
+    pub(crate) amount: u8,
+}
+
+/// The layout of pixels, and how they are encoded.
+#[repr(C)]
+#[derive(Clone, Copy, Default)]
+pub(crate) struct Encoding {
+    pub(crate) stride: usize,
+    pub(crate) width: usize,
+    pub(crate) height: usize,
+    pub(crate) p1: i32,
+    pub(crate) p2: i32,
+    pub(crate) dithering: Dithering,
+    pub(crate) form: u8,
+}
+
 // SAFETY: these are the declarations of `icysixel.h`. Those that are `safe` take numbers, a handle
 // and places to write to, and are defined for all of these: a `Raw` is zeros or what the library
 // left there, because nothing else writes to one, and a `&mut` is a place that nothing else uses.
@@ -131,6 +162,42 @@ unsafe extern "C" {
         max_colors: u16,
         text_length: &mut usize,
     ) -> u32;
+    fn icysixel_encode_compact(
+        handle: &mut Raw,
+        pixels: *const u8,
+        length: usize,
+        encoding: *const Encoding,
+        max_colors: u16,
+        text_length: &mut usize,
+    ) -> u32;
+    fn icysixel_encode_refined(
+        handle: &mut Raw,
+        pixels: *const u8,
+        length: usize,
+        encoding: *const Encoding,
+        max_colors: u16,
+        text_length: &mut usize,
+    ) -> u32;
+    fn icysixel_encode_with_palette(
+        handle: &mut Raw,
+        pixels: *const u8,
+        length: usize,
+        encoding: *const Encoding,
+        colors: *const Color,
+        count: usize,
+        text_length: &mut usize,
+    ) -> u32;
+    fn icysixel_encode_indexed(
+        handle: &mut Raw,
+        pixels: *const u8,
+        length: usize,
+        encoding: *const Encoding,
+        colors: *const Color,
+        count: usize,
+        indices: *const u8,
+        index_count: usize,
+        text_length: &mut usize,
+    ) -> u32;
     fn icysixel_copy_text(handle: &mut Raw, buf: *mut u8, size: usize, wanted: &mut usize) -> u32;
     fn icysixel_choose_palette(
         pixels: *const u8,
@@ -143,6 +210,28 @@ unsafe extern "C" {
         indices: *mut u8,
         index_capacity: usize,
         palette: &mut Palette,
+    ) -> u32;
+    fn icysixel_refine_palette(
+        pixels: *const u8,
+        length: usize,
+        max_colors: u16,
+        colors: *mut Color,
+        color_capacity: usize,
+        witnesses: *mut Color,
+        witness_capacity: usize,
+        indices: *mut u8,
+        index_capacity: usize,
+        refined: &mut Refined,
+    ) -> u32;
+    fn icysixel_palette_indices(
+        pixels: *const u8,
+        length: usize,
+        width: usize,
+        colors: *const Color,
+        count: usize,
+        dithering: *const Dithering,
+        indices: *mut u8,
+        index_capacity: usize,
     ) -> u32;
 }
 
@@ -165,6 +254,19 @@ pub(crate) struct Source<'a> {
     pub(crate) p1: u8,
     pub(crate) p2: u8,
     pub(crate) max_colors: u16,
+}
+
+/// The colors of an output.
+#[derive(Clone, Copy)]
+pub(crate) enum Colors<'a> {
+    /// A palette of at most so many colors, chosen farthest first, in compact form.
+    Chosen(u16),
+    /// A refined palette of at most so many colors.
+    Refined(u16),
+    /// A palette of the caller.
+    Given(&'a [[u8; 3]]),
+    /// A palette of the caller, and the palette index of each pixel.
+    Indexed(&'a [[u8; 3]], &'a [u8]),
 }
 
 /// A decoder of the library, with its open image, its stored image and its stored text.
@@ -355,6 +457,56 @@ impl Handle {
         answer(code, bytes)
     }
 
+    /// Encodes pixels in these colors, stores their text and returns its length.
+    pub(crate) fn encode(
+        &mut self,
+        pixels: &[u8],
+        encoding: &Encoding,
+        colors: Colors<'_>,
+    ) -> Answer<usize> {
+        let handle = &mut self.0;
+        let (start, length) = (pixels.as_ptr(), pixels.len());
+        let mut bytes = 0;
+        let code = match colors {
+            // SAFETY: the pointer and the length are those of a slice, which is only read.
+            Colors::Chosen(most) => unsafe {
+                icysixel_encode_compact(handle, start, length, encoding, most, &mut bytes)
+            },
+            // SAFETY: the same.
+            Colors::Refined(most) => unsafe {
+                icysixel_encode_refined(handle, start, length, encoding, most, &mut bytes)
+            },
+            Colors::Given(colors) => {
+                let (colors, count) = (colors.as_ptr().cast(), colors.len());
+                // SAFETY: the same of two slices, and a `Color` has the layout of three bytes.
+                unsafe {
+                    icysixel_encode_with_palette(
+                        handle, start, length, encoding, colors, count, &mut bytes,
+                    )
+                }
+            }
+            Colors::Indexed(colors, indices) => {
+                let (colors, count) = (colors.as_ptr().cast(), colors.len());
+                let (indices, index_count) = (indices.as_ptr(), indices.len());
+                // SAFETY: the same of three slices.
+                unsafe {
+                    icysixel_encode_indexed(
+                        handle,
+                        start,
+                        length,
+                        encoding,
+                        colors,
+                        count,
+                        indices,
+                        index_count,
+                        &mut bytes,
+                    )
+                }
+            }
+        };
+        answer(code, bytes)
+    }
+
     /// Appends the stored text and releases it. After an error it is still stored.
     pub(crate) fn take_text(&mut self, text: &mut Vec<u8>) -> Answer<()> {
         append(text, |buf, size, wanted| {
@@ -394,6 +546,65 @@ pub(crate) fn choose_palette(
         }
     })?;
     Ok(palette)
+}
+
+/// Writes the refined palette of pixels and its witnesses, and appends the index of each pixel.
+pub(crate) fn refine_palette(
+    pixels: &[u8],
+    max_colors: u16,
+    colors: &mut [Color],
+    witnesses: &mut [Color],
+    indices: &mut Vec<u8>,
+) -> Answer<Refined> {
+    let mut refined = Refined::default();
+    append(indices, |buf, size, written| {
+        *written = pixels.len() / 4;
+        // SAFETY: the pointers and the lengths are those of slices, the first of which is only
+        // read, and of the vector's own spare capacity, which is only written to.
+        unsafe {
+            icysixel_refine_palette(
+                pixels.as_ptr(),
+                pixels.len(),
+                max_colors,
+                colors.as_mut_ptr(),
+                colors.len(),
+                witnesses.as_mut_ptr(),
+                witnesses.len(),
+                buf,
+                size,
+                &mut refined,
+            )
+        }
+    })?;
+    Ok(refined)
+}
+
+/// Appends the palette index of each pixel in a palette.
+pub(crate) fn palette_indices(
+    pixels: &[u8],
+    width: usize,
+    colors: &[[u8; 3]],
+    dithering: Dithering,
+    indices: &mut Vec<u8>,
+) -> Answer<()> {
+    append(indices, |buf, size, written| {
+        *written = pixels.len() / 4;
+        // SAFETY: the pointers and the lengths are those of slices, which are only read, and of
+        // the vector's own spare capacity, which is only written to. A `Color` has the layout of
+        // three bytes.
+        unsafe {
+            icysixel_palette_indices(
+                pixels.as_ptr(),
+                pixels.len(),
+                width,
+                colors.as_ptr().cast(),
+                colors.len(),
+                &raw const dithering,
+                buf,
+                size,
+            )
+        }
+    })
 }
 
 /// Appends the bytes that a call writes to the spare capacity of a vector and counts.

@@ -19,9 +19,11 @@ pub use decoder::{
     DcsSettings, SixelDcsFeedResult, SixelDcsFeedStatus, SixelDcsStreamDecoder, SixelDecoder,
     SixelFeedResult, SixelFeedStatus, SixelStreamDecoder, sixel_decode, sixel_decode_from_dcs,
 };
-pub use encoder::{EncodeOptions, sixel_encode, sixel_encode_default};
+pub use encoder::{
+    Dither, EncodeOptions, TextForm, palette_indices, sixel_encode, sixel_encode_default,
+};
 pub use error::{Result, SixelError};
-pub use palette::{PaletteChoice, choose_palette, witnesses_hold};
+pub use palette::{PaletteChoice, RefinedPalette, choose_palette, refine_palette, witnesses_hold};
 pub use receiver::{Received, SixelReceiver};
 pub use script::Status;
 pub use sixel_image::{BackgroundMode, PixelAspectRatio, SixelImage};

@@ -48,11 +48,7 @@ pub struct PaletteChoice {
 /// `BufferSizeMismatch` if the length is no multiple of four, before anything is allocated; it
 /// expects the length rounded down. Otherwise only `OutOfMemory`.
 pub fn choose_palette(pixels: &[u8], max_colors: u16) -> Result<PaletteChoice> {
-    let beyond = pixels.len() % 4;
-    if beyond != 0 {
-        let (expected, actual) = (pixels.len() - beyond, pixels.len());
-        return Err(SixelError::BufferSizeMismatch { expected, actual });
-    }
+    validate_pixels(pixels)?;
     let mut colors = [Color::default(); MOST_COLORS];
     let mut witnesses = [Color::default(); MOST_COLORS + 1];
     let mut indices = Vec::new();
@@ -66,6 +62,74 @@ pub fn choose_palette(pixels: &[u8], max_colors: u16) -> Result<PaletteChoice> {
         error: palette.error,
         witnesses: listed(&witnesses[..palette.witnesses])?,
     })
+}
+
+/// A refined palette, each pixel's palette index, and its summed squared error.
+#[derive(Clone, Debug, PartialEq, Eq)]
+pub struct RefinedPalette {
+    /// The entries: red, green, blue, as a register shows them.
+    pub colors: Vec<[u8; 3]>,
+    /// The palette index of each pixel, 0 for a transparent pixel.
+    pub indices: Vec<u8>,
+    /// The sum over all opaque pixels of the squared distance to the nearest entry.
+    pub error: u64,
+    /// The colors that the last entries are for, and then the farthest color, or none.
+    ///
+    /// Every two have at least the squared distance `apart`.
+    pub witnesses: Vec<[u8; 3]>,
+    /// The least squared distance of two witnesses.
+    pub apart: u32,
+}
+
+/// Returns a refined palette of an image of RGBA pixels, four bytes each.
+///
+/// ```
+/// use icy_sixel::palette::refine_palette;
+///
+/// let pixels = [[255, 255, 255, 255], [10, 0, 0, 255], [0, 0, 0, 255]].concat();
+/// let palette = refine_palette(&pixels, 2)?;
+/// assert_eq!(palette.colors, [[5, 0, 0], [255, 255, 255]]);
+/// assert_eq!(palette.indices, [1, 0, 0]);
+/// assert_eq!(palette.error, 50);
+/// # Ok::<(), icy_sixel::SixelError>(())
+/// ```
+///
+/// Only opaque pixels count. There are at most `max_colors` entries, 1 to 256, each a color that a
+/// register shows. If the opaque pixels have at most `max_colors` colors, each has its entry,
+/// rounded to percentages. Otherwise the summed squared error is small, and the last entries are chosen
+/// farthest first.
+///
+/// # Errors
+///
+/// `BufferSizeMismatch` if the length is no multiple of four; it expects the length rounded down.
+/// `InvalidData` if `max_colors` is 0 or above 256, and for more than 67,108,864 pixels. Otherwise
+/// only `OutOfMemory`.
+pub fn refine_palette(pixels: &[u8], max_colors: u16) -> Result<RefinedPalette> {
+    validate_pixels(pixels)?;
+    let mut colors = [Color::default(); MOST_COLORS];
+    let mut witnesses = [Color::default(); MOST_COLORS + 1];
+    let mut indices = Vec::new();
+    indices.try_reserve_exact(pixels.len() / 4)?;
+    let refined =
+        ffi::refine_palette(pixels, max_colors, &mut colors, &mut witnesses, &mut indices)
+            .map_err(error_of)?;
+    Ok(RefinedPalette {
+        colors: listed(&colors[..refined.colors])?,
+        indices,
+        error: refined.error,
+        witnesses: listed(&witnesses[..refined.witnesses])?,
+        apart: refined.apart,
+    })
+}
+
+/// Returns an error unless the pixels have four bytes each.
+fn validate_pixels(pixels: &[u8]) -> Result<()> {
+    let beyond = pixels.len() % 4;
+    if beyond == 0 {
+        return Ok(());
+    }
+    let (expected, actual) = (pixels.len() - beyond, pixels.len());
+    Err(SixelError::BufferSizeMismatch { expected, actual })
 }
 
 /// Returns whether every two colors of the list have a squared distance of at least `error`.

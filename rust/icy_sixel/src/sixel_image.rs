@@ -1,9 +1,9 @@
 //! An image as its pixels, sizes, pixel shape and background.
 
 use crate::codes::error_of;
-use crate::encoder::{EncodeOptions, encode};
+use crate::encoder::{Dither, EncodeOptions, TextForm, encode, encode_in};
 use crate::error::{Result, SixelError};
-use crate::ffi::Handle;
+use crate::ffi::{Colors, Handle};
 use crate::settings::DcsSettings;
 pub use crate::settings::{BackgroundMode, PixelAspectRatio};
 use crate::size::{pixel_bytes, validate_buffer};
@@ -145,6 +145,96 @@ impl SixelImage {
     pub fn encode_with(&self, options: &EncodeOptions) -> Result<String> {
         let shape = (self.aspect_ratio, self.background_mode);
         encode(&self.pixels, self.dimensions(), shape, options)
+    }
+
+    /// Returns the compact SIXEL output of this image: the same pixels in fewer bytes.
+    ///
+    /// Its palette is that of [`encode_with`](Self::encode_with), and so are its errors. A decoder
+    /// returns the same image from both outputs. The registers that it has afterwards differ.
+    ///
+    /// # Errors
+    ///
+    /// As of [`encode_with`](Self::encode_with).
+    pub fn encode_compact(&self, options: &EncodeOptions) -> Result<String> {
+        encode_in(self, Colors::Chosen(options.max_colors), Dither::Off, TextForm::Compact)
+    }
+
+    /// Returns the SIXEL output of this image in a given palette of 1 to 256 colors.
+    ///
+    /// ```
+    /// use icy_sixel::encoder::{Dither, TextForm};
+    /// use icy_sixel::SixelImage;
+    ///
+    /// let gray = SixelImage::try_from_rgba([100, 100, 100, 255].repeat(3), 3, 1)?;
+    /// let dither = Dither::Diffusion { strength: 8 };
+    /// let colors = [[0, 0, 0], [255, 255, 255]];
+    /// let text = gray.encode_with_palette(&colors, dither, TextForm::Compact)?;
+    /// assert!(text.ends_with("#0;2;0;0;0#1;2;100;100;100#0@@@$#1?@\x1b\\"));
+    /// # Ok::<(), icy_sixel::SixelError>(())
+    /// ```
+    ///
+    /// The palette indices are those of [`palette_indices`](crate::encoder::palette_indices).
+    /// Colors of transparent pixels never affect the output.
+    ///
+    /// # Errors
+    ///
+    /// Those of [`encode_with`](Self::encode_with), then
+    /// `InvalidData("number of colors is not 1 to 256")`.
+    pub fn encode_with_palette(
+        &self,
+        colors: &[[u8; 3]],
+        dither: Dither,
+        form: TextForm,
+    ) -> Result<String> {
+        encode_in(self, Colors::Given(colors), dither, form)
+    }
+
+    /// Returns the SIXEL output of this image in a given palette by given palette indices.
+    ///
+    /// There is an index for each pixel, row by row. Those of transparent pixels have no effect, as
+    /// the colors of all pixels have none.
+    ///
+    /// # Errors
+    ///
+    /// Those of [`encode_with_palette`](Self::encode_with_palette). Then `BufferSizeMismatch` for
+    /// another number of indices than there are pixels, and
+    /// `InvalidData("palette index out of range")` for an opaque pixel whose index is past the
+    /// palette.
+    pub fn encode_indexed(
+        &self,
+        colors: &[[u8; 3]],
+        indices: &[u8],
+        form: TextForm,
+    ) -> Result<String> {
+        encode_in(self, Colors::Indexed(colors, indices), Dither::Off, form)
+    }
+
+    /// Returns the SIXEL output of this image in a refined palette.
+    ///
+    /// ```
+    /// use icy_sixel::encoder::{Dither, TextForm};
+    /// use icy_sixel::SixelImage;
+    ///
+    /// let gray = SixelImage::try_from_rgba([100, 100, 100, 255].repeat(3), 3, 1)?;
+    /// let text = gray.encode_refined(16, Dither::Diffusion { strength: 6 }, TextForm::Compact)?;
+    /// assert!(text.ends_with("#0;2;39;39;39#0@@@\x1b\\"));
+    /// # Ok::<(), icy_sixel::SixelError>(())
+    /// ```
+    ///
+    /// The palette is that of [`refine_palette`](crate::palette::refine_palette), of 1 to 256
+    /// colors. A decoder shows its colors without rounding.
+    ///
+    /// # Errors
+    ///
+    /// Those of [`encode_with_palette`](Self::encode_with_palette), with `max_colors` as the number
+    /// of colors.
+    pub fn encode_refined(
+        &self,
+        max_colors: u16,
+        dither: Dither,
+        form: TextForm,
+    ) -> Result<String> {
+        encode_in(self, Colors::Refined(max_colors), dither, form)
     }
 }
 

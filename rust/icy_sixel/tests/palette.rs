@@ -1,6 +1,8 @@
-//! A palette of more colors than it has entries for.
+//! A palette of more colors than it has entries for, and images in palettes.
 
-use icy_sixel::{EncodeOptions, choose_palette, sixel_encode, witnesses_hold};
+use icy_sixel::SixelError::{BufferSizeMismatch, InvalidData, InvalidDimensions};
+use icy_sixel::{Dither, EncodeOptions, SixelImage, TextForm, choose_palette, palette_indices};
+use icy_sixel::{refine_palette, sixel_encode, witnesses_hold};
 
 /// With more colors than entries the buffers of entries and of witnesses are full, and the entries
 /// are those of the text.
@@ -21,5 +23,74 @@ fn a_full_palette() {
             let [red, green, blue] = color.map(percent);
             assert!(text.contains(&format!("#{entry};2;{red};{green};{blue}")), "{entry}");
         }
+    }
+}
+
+/// Black, 10 of 255 red and white.
+const ROW: [u8; 12] = [0, 0, 0, 255, 10, 0, 0, 255, 255, 255, 255, 255];
+
+const BLACK_WHITE: &[[u8; 3]] = &[[0, 0, 0], [255, 255, 255]];
+
+/// The text of the row up to its palette.
+const HEAD: &str = "\x1bP9;1;0q\"1;1;3;1";
+
+#[test]
+fn texts_in_palettes() {
+    let image = SixelImage::from_rgba(ROW.to_vec(), 3, 1);
+    let diffusion = Dither::Diffusion { strength: 6 };
+    let definitions = format!("{HEAD}#0;2;0;0;0#1;2;100;100;100");
+    let plain = format!("{definitions}#0@@?$#1??@$-\x1b\\");
+    let compact = format!("{definitions}#0@@#1@\x1b\\");
+    let text = |form| image.encode_with_palette(BLACK_WHITE, diffusion, form).unwrap();
+    assert_eq!(text(TextForm::Plain), plain);
+    assert_eq!(text(TextForm::Compact), compact);
+    assert_eq!(image.encode_compact(&EncodeOptions { max_colors: 2 }).unwrap(), compact);
+    let text = |form| image.encode_indexed(BLACK_WHITE, &[0, 0, 1], form).unwrap();
+    assert_eq!(text(TextForm::Plain), plain);
+    assert_eq!(text(TextForm::Compact), compact);
+    // The mean of the first two pixels is 2 percent of red.
+    let refined = format!("{HEAD}#0;2;2;0;0#1;2;100;100;100#0@@#1@\x1b\\");
+    for dither in [Dither::Off, diffusion, Dither::Ordered { amplitude: 8 }] {
+        assert_eq!(image.encode_refined(2, dither, TextForm::Compact).unwrap(), refined);
+    }
+}
+
+#[test]
+fn errors_of_palettes() {
+    let count = InvalidData("number of colors is not 1 to 256".into());
+    let image = SixelImage::from_rgba(ROW.to_vec(), 3, 1);
+    let (off, plain) = (Dither::Off, TextForm::Plain);
+    assert_eq!(image.encode_with_palette(&[], off, plain), Err(count.clone()));
+    assert_eq!(image.encode_with_palette(&[[0; 3]; 257], off, plain), Err(count.clone()));
+    for max_colors in [0, 257, 65535] {
+        assert_eq!(image.encode_refined(max_colors, off, plain), Err(count.clone()));
+        assert_eq!(refine_palette(&ROW, max_colors), Err(count.clone()));
+    }
+    let range = InvalidData("palette index out of range".into());
+    assert_eq!(image.encode_indexed(BLACK_WHITE, &[0, 2, 1], plain), Err(range));
+    let length = |expected, actual| BufferSizeMismatch { expected, actual };
+    assert_eq!(image.encode_indexed(BLACK_WHITE, &[0, 1], plain), Err(length(3, 2)));
+    let empty = SixelImage::from_rgba(vec![], 0, 1);
+    let sizes = InvalidDimensions { width: 0, height: 1 };
+    assert_eq!(empty.encode_refined(16, off, plain), Err(sizes));
+    assert_eq!(refine_palette(&ROW[..11], 2), Err(length(8, 11)));
+    assert_eq!(palette_indices(&ROW, 2, BLACK_WHITE, off), Err(length(8, 12)));
+    let width = InvalidDimensions { width: 0, height: 0 };
+    assert_eq!(palette_indices(&ROW, 0, BLACK_WHITE, off), Err(width));
+    assert_eq!(palette_indices(&ROW, 3, &[], off), Err(count));
+}
+
+#[test]
+fn a_refined_palette() {
+    let palette = refine_palette(&ROW, 2).unwrap();
+    assert_eq!(palette.colors, [[5, 0, 0], [255, 255, 255]]);
+    assert_eq!(palette.indices, [0, 0, 1]);
+    assert_eq!((palette.error, palette.witnesses.len()), (50, 0));
+    let transparent = refine_palette(&[127; 12], 16).unwrap();
+    assert_eq!((transparent.colors.len(), transparent.indices), (0, vec![0; 3]));
+    let none = SixelImage::from_rgba(vec![127; 12], 3, 1);
+    for dither in [Dither::Off, Dither::Diffusion { strength: 8 }] {
+        let text = none.encode_refined(16, dither, TextForm::Compact).unwrap();
+        assert_eq!(text, format!("{HEAD}\x1b\\"));
     }
 }

@@ -119,6 +119,21 @@ fn what_is_ours() {
     let _: fn(&[[u8; 3]], u32) -> bool = palette::witnesses_hold;
     let _: fn(&[[u8; 3]], u32) -> bool = icy_sixel::witnesses_hold;
     is_shared::<Choice>();
+    type Palette = icy_sixel::RefinedPalette;
+    let _: fn(&[u8], u16) -> Answer<palette::RefinedPalette> = palette::refine_palette;
+    let _: fn(&[u8], u16) -> Answer<Palette> = icy_sixel::refine_palette;
+    is_shared::<Palette>();
+    type Dither = icy_sixel::Dither;
+    type Form = icy_sixel::TextForm;
+    is_value::<Dither>();
+    is_value::<Form>();
+    type Colors<'a> = &'a [[u8; 3]];
+    type Indices = Answer<Vec<u8>>;
+    let _: fn(&[u8], usize, Colors<'_>, Dither) -> Indices = icy_sixel::palette_indices;
+    let _: fn(&Image, &Options) -> Answer<String> = Image::encode_compact;
+    let _: fn(&Image, u16, Dither, Form) -> Answer<String> = Image::encode_refined;
+    let _: fn(&Image, Colors<'_>, Dither, Form) -> Answer<String> = Image::encode_with_palette;
+    let _: fn(&Image, Colors<'_>, &[u8], Form) -> Answer<String> = Image::encode_indexed;
     let _: fn() -> icy_sixel::SixelReceiver = receiver::SixelReceiver::new;
     let _: fn(&mut receiver::SixelReceiver, &[u8]) -> Answer<icy_sixel::Received> =
         receiver::SixelReceiver::feed;

@@ -57,3 +57,9 @@ returns-in-18 c = grind arith
 
 pub returns-in-19 : goal.returns-in-19
 returns-in-19 c = grind arith
+
+pub returns-in-20 : goal.returns-in-20
+returns-in-20 c = grind arith
+
+pub returns-in-21 : goal.returns-in-21
+returns-in-21 c = grind arith

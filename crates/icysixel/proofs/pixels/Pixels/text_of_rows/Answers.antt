@@ -4,8 +4,8 @@ use Rattle.icysixel.proofs.pixels.Pixels.text_of_rows.Goals as goal
 pub dense-rows-requires : goal.dense-rows-requires
 dense-rows-requires c = grind arith
 
-pub returns-then-stride-layout-clause-memory : goal.returns-then-stride-layout-clause-memory
-returns-then-stride-layout-clause-memory c = grind arith
+pub returns-then-stride-layout-clause-call : goal.returns-then-stride-layout-clause-call
+returns-then-stride-layout-clause-call c = grind arith
 
 pub returns-in-Ok-clause-text : goal.returns-in-Ok-clause-text
 returns-in-Ok-clause-text c = grind arith
@@ -19,5 +19,5 @@ gathered-requires-clause-stride c = grind arith
 pub gathered-requires-clause-within : goal.gathered-requires-clause-within
 gathered-requires-clause-within c = grind arith
 
-pub returns-in-Ok-clause-memory : goal.returns-in-Ok-clause-memory
-returns-in-Ok-clause-memory c = grind arith
+pub returns-in-Ok-clause-call : goal.returns-in-Ok-clause-call
+returns-in-Ok-clause-call c = grind arith

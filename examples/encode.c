@@ -1,0 +1,34 @@
+/* Writes a red square to standard output, as compact SIXEL in a refined palette. */
+#include "icysixel.h"
+#include <stdio.h>
+#include <stdlib.h>
+
+enum { WIDTH = 12, HEIGHT = 6 };
+
+int main(void)
+{
+    uint8_t pixels[4 * WIDTH * HEIGHT];
+    for (size_t i = 0; i < sizeof pixels; i++) pixels[i] = i % 4 == 0 || i % 4 == 3 ? 255 : 0;
+
+    icysixel handle = {0};
+    size_t length = 0;
+    icysixel_encoding encoding = {.width = WIDTH, .height = HEIGHT, .p1 = 9, .p2 = 1};
+    encoding.dithering = (icysixel_dithering){ICYSIXEL_DITHER_DIFFUSION, 6};
+    encoding.form = ICYSIXEL_FORM_COMPACT;
+    uint32_t code = icysixel_new(&handle);
+    if (code == ICYSIXEL_OK)
+        code = icysixel_encode_refined(&handle, pixels, sizeof pixels, &encoding, 16, &length);
+
+    uint8_t *text = malloc(length);
+    if (code == ICYSIXEL_OK) code = icysixel_copy_text(&handle, text, text ? length : 0, &length);
+    if (code == ICYSIXEL_OK) {
+        fwrite(text, 1, length, stdout);
+    } else {
+        char message[64];
+        icysixel_strerror(code, message, sizeof message);
+        fprintf(stderr, "%s\n", message);
+    }
+    free(text);
+    icysixel_free(&handle);
+    return code == ICYSIXEL_OK ? 0 : 1;
+}
