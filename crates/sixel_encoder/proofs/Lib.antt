@@ -70,3 +70,4 @@ pub mod SegmentFill
 pub mod SegmentMarks
 pub mod SegmentTallies
 pub mod RefinedText
+pub mod RefinedAlike

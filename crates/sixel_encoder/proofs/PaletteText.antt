@@ -49,7 +49,7 @@ readable-returned (Ok value) image rest fails =
 readable-returned (Err e) image rest fails = tt
 
 -- the rows of an image without a fault
-rows-sound : (image : Image) → image_fault image ≡ None → AreRowsOf image.pixels image.width
+pub rows-sound : (image : Image) → image_fault image ≡ None → AreRowsOf image.pixels image.width
 rows-sound image sound =
     let is = within-sound image sound in
     record {

@@ -66,13 +66,15 @@ with_pixels d q = record {
   colors = d.colors;
 }
 
--- pixels of whole rows that show the same, each with its index
+-- pixels of whole rows that show the same, each with its index: that of an opaque pixel is the same
+-- where the errors before it are
 record AreBoth (d : Diffused) (q a b : List ℕ) (count : ℕ) : Type 0 where
   alike : AreAlike d.pixels q
   some : 0 < d.width
   whole : length d.pixels / 4 ≡ count * d.width
-  first : AreVisited d a (count * d.width)
-  second : AreVisited (with_pixels d q) b (count * d.width)
+  same : (n : ℕ) → n < count * d.width → errors_of d a n ≡ errors_of (with_pixels d q) b n
+      → IsOpaque d.pixels (serpentine d.width n)
+      → slice_index a (serpentine d.width n) ≡ slice_index b (serpentine d.width n)
 
 -- the sixteenths of a visit are the same where the errors before it are
 sixteenths-alike : (d : Diffused) (q : List ℕ) (errors : List (List ℕ)) (n k : ℕ)
@@ -107,24 +109,28 @@ error-alike d q entry errors n same =
         ap (λ value. passed_on d.strength value (slice_index entry k))
         (sixteenths-alike d q errors n k same l)
 
--- the index of a visit is the same
-index-alike : (d : Diffused) (q a b : List ℕ) (count n : ℕ) → AreBoth d q a b count
-    → n < count * d.width → errors_of d a n ≡ errors_of (with_pixels d q) b n
-    → IsOpaque d.pixels (serpentine d.width n)
-    → slice_index a (serpentine d.width n) ≡ slice_index b (serpentine d.width n)
-index-alike d q a b count n both l before light =
-    let at = serpentine d.width n in
-    let inside : at < length d.pixels / 4 =
-    omega (arith, both.whole, serpentine-lt d.width count n both.some l) in
-    let there = both.alike.opaque at inside light in
-    let target : target_of_visit (with_pixels d q) (errors_of (with_pixels d q) b n) n
-    ≡ target_of_visit d (errors_of d a n) n =
-    ap (λ errors. target_of_visit (with_pixels d q) errors n) (sym before)
-    ∙ sym (target-alike d q (errors_of d a n) n there.1) in
-    index_same d.colors (target_of_visit d (errors_of d a n) n) (slice_index a at)
-    (slice_index b at) ((both.first n l).opaque light)
-    (subst (λ (c : List ℕ). IsNearest d.colors c (slice_index b at)) target
-    ((both.second n l).opaque there.0))
+-- indices that were found by the same rule
+AreBoth-visited : (d : Diffused) (q a b : List ℕ) (count : ℕ) → AreAlike d.pixels q → 0 < d.width
+    → length d.pixels / 4 ≡ count * d.width → AreVisited d a (count * d.width)
+    → AreVisited (with_pixels d q) b (count * d.width) → AreBoth d q a b count
+AreBoth-visited d q a b count alike some whole first second = record {
+  alike = alike;
+  some = some;
+  whole = whole;
+  same = λ n l before light.
+      let at = serpentine d.width n in
+      let inside : at < length d.pixels / 4 =
+      omega (arith, whole, serpentine-lt d.width count n some l) in
+      let there = alike.opaque at inside light in
+      let target : target_of_visit (with_pixels d q) (errors_of (with_pixels d q) b n) n
+      ≡ target_of_visit d (errors_of d a n) n =
+      ap (λ errors. target_of_visit (with_pixels d q) errors n) (sym before)
+      ∙ sym (target-alike d q (errors_of d a n) n there.1) in
+      index_same d.colors (target_of_visit d (errors_of d a n) n) (slice_index a at)
+      (slice_index b at) ((first n l).opaque light)
+      (subst (λ (c : List ℕ). IsNearest d.colors c (slice_index b at)) target
+      ((second n l).opaque there.0));
+}
 
 -- so is its error, where those before it are
 visit-alike : (d : Diffused) (q a b : List ℕ) (count n : ℕ) → AreBoth d q a b count
@@ -156,7 +162,7 @@ visit-alike d q a b count n both l before =
           grind (arith, nat_tests) in
           ap (λ test. cond test first (no_error d.strength)) here_test
           ∙ (ap (λ index. opaque_error d errors n (slice_index_or d.colors index []))
-          (index-alike d q a b count n both l before light)
+          (both.same n l before light)
           ∙ (error-alike d q (slice_index_or d.colors (slice_index b at) []) errors n there.1
           ∙ sym (ap (λ test. cond test second (no_error d.strength)) there_test)))
     ]
@@ -180,15 +186,53 @@ pub record AreRowsOf (p : List ℕ) (width : ℕ) : Type 0 where
   pub count : ℕ
   pub whole : length p / 4 ≡ count * width
 
+-- the same diffusion
+abbrev diffused : ℕ → ℕ → List ℕ → List (List ℕ) → Diffused
+diffused strength width p colors =
+    record { strength = eighths strength; width = width; pixels = p; colors = colors }
+
+-- indices of pixels that show the same, which the kind of dithering makes the same
+abbrev AreBothBy : Dither → ℕ → List ℕ → List ℕ → List (List ℕ) → List ℕ → List ℕ → ℕ → Type 0
+AreBothBy Off width p q colors a b count = Unit {0}
+AreBothBy (Ordered amplitude) width p q colors a b count = Unit {0}
+AreBothBy (Diffusion strength) width p q colors a b count =
+    AreBoth (diffused strength width p colors) q a b count
+
+-- indices that were found by the same rule
+AreBothBy-dithered : (dither : Dither) (width : ℕ) (p q : List ℕ) (colors : List (List ℕ))
+    (a b : List ℕ) → AreAlike p q → (rows : AreRowsOf p width) → AreDithered dither width p colors a
+    → AreDithered dither width q colors b → AreBothBy dither width p q colors a b rows.count
+AreBothBy-dithered Off width p q colors a b alike rows first second = tt
+AreBothBy-dithered (Ordered amplitude) width p q colors a b alike rows first second = tt
+AreBothBy-dithered (Diffusion strength) width p q colors a b alike rows first second =
+    let d = diffused strength width p colors in
+    AreBoth-visited d q a b rows.count alike rows.some rows.whole
+    (AreVisited-nearest d a rows.count rows.some rows.whole first)
+    (AreVisited-nearest (with_pixels d q) b rows.count rows.some
+    (omega (arith, alike.count, rows.whole)) second)
+
+-- the same indices
+AreBothBy-same : (dither : Dither) (width : ℕ) (p q : List ℕ) (colors : List (List ℕ))
+    (a : List ℕ) → AreAlike p q → (rows : AreRowsOf p width)
+    → AreBothBy dither width p q colors a a rows.count
+AreBothBy-same Off width p q colors a alike rows = tt
+AreBothBy-same (Ordered amplitude) width p q colors a alike rows = tt
+AreBothBy-same (Diffusion strength) width p q colors a alike rows = record {
+  alike = alike;
+  some = rows.some;
+  whole = rows.whole;
+  same = λ n l before light. refl;
+}
+
 -- the targets of an opaque pixel are the same
 target_of-alike : (dither : Dither) (width : ℕ) (p q : List ℕ) (colors : List (List ℕ))
-    (a b : List ℕ) (pixel : ℕ) → AreAlike p q → AreRowsOf p width
-    → AreDithered dither width p colors a → AreDithered dither width q colors b
+    (a b : List ℕ) (pixel : ℕ) → AreAlike p q → (rows : AreRowsOf p width)
+    → AreBothBy dither width p q colors a b rows.count
     → pixel < length p / 4 → IsOpaque p pixel
     → target_of dither width p colors a pixel ≡ target_of dither width q colors b pixel
-target_of-alike Off width p q colors a b pixel alike rows first second l light =
+target_of-alike Off width p q colors a b pixel alike rows both l light =
     sym (alike.opaque pixel l light).1
-target_of-alike (Ordered amplitude) width p q colors a b pixel alike rows first second l light =
+target_of-alike (Ordered amplitude) width p q colors a b pixel alike rows both l light =
     λ i. moved 0 (omega arith) i ∷ moved 1 (omega arith) i ∷ moved 2 (omega arith) i ∷ []
   where
     moved : (k : ℕ) → k < 3
@@ -199,7 +243,7 @@ target_of-alike (Ordered amplitude) width p q colors a b pixel alike rows first 
     moved k lk =
         ap (moved_channel amplitude (threshold (pixel % width) (pixel / width) k))
         (channel-alike p q pixel k (alike.opaque pixel l light).1 lk)
-target_of-alike (Diffusion strength) width p q colors a b pixel alike rows first second l light =
+target_of-alike (Diffusion strength) width p q colors a b pixel alike rows both l light =
     target-alike d q (errors_of d a n) n
     (subst (λ (at : ℕ). color_at q at ≡ color_at p at)
     (sym (serpentine-serpentine width pixel rows.some)) (alike.opaque pixel l light).1)
@@ -207,7 +251,7 @@ target_of-alike (Diffusion strength) width p q colors a b pixel alike rows first
     (errors-alike d q a b rows.count n both (omega (arith, visit)))
   where
     d : Diffused
-    d = record { strength = eighths strength; width = width; pixels = p; colors = colors }
+    d = diffused strength width p colors
 
     n : ℕ
     n = serpentine width pixel
@@ -215,15 +259,31 @@ target_of-alike (Diffusion strength) width p q colors a b pixel alike rows first
     visit : n < rows.count * width
     visit = serpentine-lt width rows.count pixel rows.some (omega (arith, rows.whole))
 
-    both : AreBoth d q a b rows.count
-    both = record {
-      alike = alike;
-      some = rows.some;
-      whole = rows.whole;
-      first = AreVisited-nearest d a rows.count rows.some rows.whole first;
-      second =
-          AreVisited-nearest (with_pixels d q) b rows.count rows.some
-          (omega (arith, alike.count, rows.whole)) second;
+-- so indices of the one are indices of the other
+pub AreDithered-alike : (dither : Dither) (width : ℕ) (p q : List ℕ) (colors : List (List ℕ))
+    (a : List ℕ) → AreAlike p q → AreRowsOf p width → AreDithered dither width p colors a
+    → AreDithered dither width q colors a
+AreDithered-alike dither width p q colors a alike rows are =
+    let both = AreBothBy-same dither width p q colors a alike rows in
+    record {
+      one_each = omega (arith, are.one_each, alike.count);
+      each = λ pixel l.
+          let here : pixel < length p / 4 = omega (arith, l, alike.count) in
+          record {
+            opaque = λ light.
+                elim (cases_lt (slice_index p (4 * pixel + 3)) 128) [
+                  | inl dark ↦ absurd (omega (arith, alike.dark pixel here dark, light))
+                  | inr lit ↦
+                      subst (λ (c : List ℕ). IsNearest colors c (slice_index a pixel))
+                      (target_of-alike dither width p q colors a a pixel alike rows both here lit)
+                      ((are.each pixel here).opaque lit)
+                ];
+            hidden = λ dark.
+                elim (cases_lt (slice_index p (4 * pixel + 3)) 128) [
+                  | inl too ↦ (are.each pixel here).hidden too
+                  | inr lit ↦ absurd (omega (arith, (alike.opaque pixel here lit).0, dark))
+                ];
+          };
     }
 
 -- so are the entries of all pixels
@@ -239,7 +299,8 @@ entry-alike dither width p q colors a b pixel alike rows first second l =
       | inr light ↦
           let there = alike.opaque pixel l light in
           let target =
-          target_of-alike dither width p q colors a b pixel alike rows first second l light in
+          target_of-alike dither width p q colors a b pixel alike rows
+          (AreBothBy-dithered dither width p q colors a b alike rows first second) l light in
           let near =
           subst (λ (c : List ℕ). IsNearest colors c (slice_index b pixel)) (sym target)
           ((second.each pixel (omega (arith, alike.count))).opaque there.0) in

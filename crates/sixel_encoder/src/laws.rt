@@ -11,11 +11,14 @@ ghost use Rattle.sixel_base.specs.declared.state.DecoderState.{DecoderState};
 ghost use Rattle.sixel_base.specs.Size.{banded};
 ghost use Rattle.sixel_base.specs.Payload.{Image, payload_fault, payload_image};
 ghost use Rattle.sixel_encoder.specs.Text.{Drawing, percent, parameters_text, text_of};
-ghost use Rattle.sixel_encoder.specs.Encoding.{image_fault, IsDrawing, IsText};
+ghost use Rattle.sixel_encoder.specs.Encoding.{image_fault, IsDrawing, IsText, shown_image};
 ghost use Rattle.sixel_base.specs.Dcs.{Reading, stage};
 ghost use Rattle.sixel_base.specs.OneShot.{Payload, found};
 ghost use Rattle.sixel_encoder.specs.Compact.{compact_text};
+ghost use Rattle.sixel_encoder.specs.declared.dither.Dither.{Dither};
+ghost use Rattle.sixel_encoder.specs.declared.form.TextForm.{TextForm};
 ghost use Rattle.sixel_encoder.specs.Marks.{IsDrawnText};
+ghost use Rattle.sixel_encoder.specs.RefinedText.{IsRefinedText};
 ghost use Rattle.sixel_encoder.specs.Trip.{IsWritable, payload_text, drawing_settings};
 ghost use Rattle.sixel_encoder.specs.Trip.{rounded, trip, CanRead, IsTrip, IsReadAs, IsOneString};
 
@@ -139,4 +142,14 @@ pub fn second_trip()
         → IsTrip decoder.raster_crop image max_colors → image.background_mode ≡ Transparent
         → CanRead decoder image.width image.height
         → IsText image max_colors text → IsReadAs decoder text image }
+{}
+
+/// States that a refined output of an image is one of each image that looks the same.
+///
+/// So colors of transparent pixels are no part of what a refined output has to be.
+pub fn refined_text()
+    ensures { (image other : Image) (max_colors : ℕ) (dither : Dither) (form : TextForm)
+        (text : List ℕ) → image_fault image ≡ None → shown_image image ≡ shown_image other
+        → IsRefinedText image max_colors dither form text
+        → IsRefinedText other max_colors dither form text }
 {}
