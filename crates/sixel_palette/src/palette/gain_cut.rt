@@ -31,6 +31,13 @@ struct Cut {
     gain: u64,
 }
 
+/// The least and the greatest value of a channel of some bins.
+#[derive(Clone, Copy)]
+struct Sides {
+    low: usize,
+    high: usize,
+}
+
 /// A channel of a color.
 #[derive(Clone, Copy)]
 enum Channel {
@@ -145,58 +152,123 @@ fn box_of(
         value: 0,
         gain: 0,
     };
-    gather(part, Channel::Blue, lower);
-    let blue = cut_along(lower, upper, Channel::Blue, none);
-    gather(part, Channel::Green, lower);
-    let green = cut_along(lower, upper, Channel::Green, blue);
-    gather(part, Channel::Red, lower);
-    let red = cut_along(lower, upper, Channel::Red, green);
+    let blue = cut_along(part, Channel::Blue, lower, upper, none);
+    let green = cut_along(part, Channel::Green, lower, upper, blue);
+    let red = cut_along(part, Channel::Red, lower, upper, green);
+    let least = sides_of(part, Channel::Red).low;
     ColorBox {
         start,
         end,
-        sums: lower[0].plus(upper[0]),
+        sums: lower[least].plus(upper[least]),
         cut: red,
     }
 }
 
-/// Sums the bins of each value of a channel.
+/// The better one of a cut and the cuts of some bins along a channel.
+///
+/// The sums at each value of the bins are stored in `lower`, and those above it in `upper`.
 #[inline(never)]
-fn gather(bins: &[Bin], channel: Channel, sums: &mut [ColorSums])
-    requires { length sums.old ≡ 64 }
+fn cut_along(
+    bins: &[Bin],
+    channel: Channel,
+    lower: &mut [ColorSums],
+    upper: &mut [ColorSums],
+    cut: Cut,
+) -> Cut
+    requires lower { length lower.old ≡ 64 }
+    requires upper { length upper.old ≡ 64 }
+    ensures lower { length lower.new ≡ 64 }
+    ensures upper { length upper.new ≡ 64 }
 {
-    for value in 0..sums.len() {
+    let sides = sides_of(bins, channel);
+    gather(bins, channel, sides, lower);
+    sum_above(lower, sides, upper);
+    best_cut(lower, upper, channel, sides, cut)
+}
+
+/// The least and the greatest value of a channel, or of all if there are many bins.
+fn sides_of(bins: &[Bin], channel: Channel) -> Sides
+    ensures low { result.low < 64 }
+    ensures high { result.high < 64 }
+{
+    if bins.len() > SIDES {
+        return Sides {
+            low: 0,
+            high: SIDES - 1,
+        };
+    }
+    let mut low = SIDES - 1;
+    let mut high = 0;
+    for bin in bins {
+        let value = side_of(bin, channel);
+        low = value.min(low);
+        high = value.max(high);
+    }
+    Sides { low, high }
+}
+
+/// The value of a channel of a bin's corner.
+#[inline(always)]
+fn side_of(bin: &Bin, channel: Channel) -> usize
+    ensures { result < 64 }
+{
+    usize::from(channel.of(bin)) % SIDES
+}
+
+/// Sums the bins of each value of a channel.
+#[inline(always)]
+fn gather(bins: &[Bin], channel: Channel, sides: Sides, sums: &mut [ColorSums])
+    requires high { sides.high < 64 }
+    requires sums { length sums.old ≡ 64 }
+    ensures { length sums.new ≡ 64 }
+{
+    for value in sides.low..sides.high + 1 {
         sums[value] = ColorSums::none();
     }
     for bin in bins {
-        let value = usize::from(channel.of(bin)) % SIDES;
+        let value = side_of(bin, channel);
         sums[value] = sums[value].plus(bin.sums);
     }
 }
 
-/// The better one of a cut and the cuts along a channel, whose sums at each value are given.
-///
-/// The sums above each value are stored in `upper`.
-#[inline(never)]
-fn cut_along(sums: &[ColorSums], upper: &mut [ColorSums], channel: Channel, cut: Cut) -> Cut
+/// Sums what is above each value.
+#[inline(always)]
+fn sum_above(sums: &[ColorSums], sides: Sides, upper: &mut [ColorSums])
+    requires high { sides.high < 64 }
     requires sums { length sums.now ≡ 64 }
     requires upper { length upper.old ≡ 64 }
+    ensures { length upper.new ≡ 64 }
 {
     let mut above = ColorSums::none();
-    for below in 0..SIDES {
-        upper[SIDES - 1 - below] = above;
-        above = above.plus(sums[SIDES - 1 - below]);
+    for value in (sides.low..sides.high + 1).rev() {
+        upper[value] = above;
+        above = above.plus(sums[value]);
     }
+}
+
+/// The better one of a cut and the cuts along a channel, by the sums at and above each value.
+#[inline(always)]
+fn best_cut(
+    lower: &[ColorSums],
+    upper: &[ColorSums],
+    channel: Channel,
+    sides: Sides,
+    cut: Cut,
+) -> Cut
+    requires high { sides.high < 64 }
+    requires lower { length lower.now ≡ 64 }
+    requires upper { length upper.now ≡ 64 }
+{
     let mut best = cut;
     let mut left = ColorSums::none();
-    for value in 0..63u8 {
-        let at = usize::from(value);
-        if sums[at].count > 0 {
-            left = left.plus(sums[at]);
-            let gain = left.gain(upper[at]);
+    for value in sides.low..sides.high {
+        if lower[value].count > 0 {
+            left = left.plus(lower[value]);
+            let gain = left.gain(upper[value]);
             if best.gain < gain {
                 best = Cut {
                     channel,
-                    value,
+                    value: value as u8,
                     gain,
                 };
             }
