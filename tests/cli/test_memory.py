@@ -13,6 +13,7 @@ IMAGE = b"image 300 6 9 0\n" + 1800 * b"\x33\x33\xcc\xff" + b"\n"
 PAM = b"P7\nWIDTH 300\nHEIGHT 6\nDEPTH 4\nMAXVAL 255\nTUPLTYPE RGB_ALPHA\nENDHDR\n" + IMAGE[16:-1]
 PIXELS = bytes.fromhex("000000ff 0a0000ff ffffffff")
 TEXT = b'\x1bP9;1;0q"1;1;3;1#0;2;0;0;0#1;2;100;100;100#0@@?$#1??@$-\x1b\\'
+PPM, DRAWN = b"P6 1 1 255\n\xff\0\0", b'\x1bP9;1;0q"1;1;1;1#0;2;100;0;0#0@\x1b\\'
 # Arguments of sixel, its input, its output, and what it writes before allocations that fail.
 SIXEL = [
     ("payload", PAYLOAD, IMAGE, [b""]),
@@ -20,6 +21,7 @@ SIXEL = [
     ("pam", DCS, PAM, [b""]),
     ("frames 7", 2 * DCS, 2 * IMAGE, [b"", IMAGE]),
     ("encode 3 1 2", PIXELS, TEXT, [b""]),
+    ("draw", PPM, DRAWN, [b""]),
 ]
 RUN, RUNS = "a run: out of memory", "runs over a run: out of memory"
 SESSIONS = ["decode", "decode_from_dcs", "payload session", "DCS session"]
