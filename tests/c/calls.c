@@ -31,6 +31,7 @@ static void test_empty_handle(icysixel *h)
     CHECK(icysixel_discard_image(h) == ICYSIXEL_NO_HANDLE);
     CHECK(icysixel_is_receiving(h) == 0 && icysixel_in_payload(h) == 0);
     CHECK(icysixel_get_canvas_paints(h) == 0 && icysixel_get_drawn_height(h) == 0);
+    CHECK(icysixel_get_rows_so_far(h) == 0);
     CHECK(icysixel_get_size_so_far(h, &size) == ICYSIXEL_NO_HANDLE && size.width == 7);
     CHECK(icysixel_decode(h, BYTES(red), &shape) == ICYSIXEL_NO_HANDLE);
     CHECK(icysixel_decode_payload(h, BYTES("~"), 9, 1, -1, &shape) == ICYSIXEL_NO_HANDLE);
@@ -56,6 +57,23 @@ static void test_empty_handle(icysixel *h)
     wanted = 7;
     CHECK(icysixel_copy_text(h, NULL, 0, &wanted) == ICYSIXEL_NO_HANDLE && wanted == 0);
     icysixel_free(h);
+}
+
+/* The rows above the band of the next sixel are final, if they are rows of the image. */
+static void test_final_rows(icysixel *h)
+{
+    icysixel_fed fed = {0};
+    subject = "final rows";
+    CHECK(icysixel_get_rows_so_far(h) == 0 && icysixel_begin(h) == ICYSIXEL_OK);
+    CHECK(icysixel_feed(h, BYTES("\x1bPq~~"), &fed) == ICYSIXEL_OK);
+    CHECK(icysixel_get_rows_so_far(h) == 0);
+    CHECK(icysixel_feed(h, BYTES("-"), &fed) == ICYSIXEL_OK && icysixel_get_rows_so_far(h) == 6);
+    CHECK(icysixel_feed(h, BYTES("---"), &fed) == ICYSIXEL_OK && icysixel_get_rows_so_far(h) == 6);
+    CHECK(icysixel_feed(h, BYTES("~"), &fed) == ICYSIXEL_OK && icysixel_get_rows_so_far(h) == 24);
+    CHECK(icysixel_feed(h, BYTES("!0"), &fed) == ICYSIXEL_OK && icysixel_get_rows_so_far(h) == 24);
+    CHECK(icysixel_feed(h, BYTES("!65536~"), &fed) == ICYSIXEL_MALFORMED);
+    CHECK(icysixel_get_rows_so_far(h) == 0 && icysixel_abort(h) == ICYSIXEL_OK);
+    CHECK(icysixel_get_rows_so_far(h) == 0);
 }
 
 /* A session reports its progress, leaves what follows the image, and finishes it. */
@@ -407,6 +425,7 @@ int main(void)
     test_empty_handle(&h);
     CHECK(icysixel_new(&h) == ICYSIXEL_OK);
     test_session(&h);
+    test_final_rows(&h);
     test_pixels(&h);
     test_errors(&h);
     test_take_pixels(&h);

@@ -216,6 +216,13 @@ uint32_t icysixel_get_size_so_far(icysixel *handle, icysixel_size *size);
  * which does not change it. A cropped image can be lower. It does not allocate. */
 size_t icysixel_get_drawn_height(icysixel *handle);
 
+/* Returns how many rows from the top of the open image are final. No byte that follows changes a
+ * pixel of these rows, and the number never becomes smaller while the image is open and no feed
+ * fails. The image may still become wider, and then these rows show the background on the right.
+ * With crop the image may end above them. It is 0 before the payload, after an error, and if no
+ * image is open. It does not allocate. */
+size_t icysixel_get_rows_so_far(icysixel *handle);
+
 /* Returns how many columns of six pixels the sixels of the open image have painted so far, at most.
  * It is 0 if no image is open, and after an error. It is at most the right edges of all bands of six
  * rows together, and 1151 for each sixel. */

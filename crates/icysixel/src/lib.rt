@@ -7,6 +7,7 @@
 mod bytes;
 mod code;
 pub mod encoding;
+pub mod final_rows;
 mod handle;
 pub mod images;
 pub mod indices;

@@ -105,6 +105,7 @@ unsafe extern "C" {
     safe fn icysixel_in_payload(handle: &mut Raw) -> u8;
     safe fn icysixel_get_size_so_far(handle: &mut Raw, size: &mut Size) -> u32;
     safe fn icysixel_get_drawn_height(handle: &mut Raw) -> usize;
+    safe fn icysixel_get_rows_so_far(handle: &mut Raw) -> usize;
     safe fn icysixel_get_canvas_paints(handle: &mut Raw) -> u64;
     safe fn icysixel_finish(handle: &mut Raw, shape: &mut Shape) -> u32;
     safe fn icysixel_discard_image(handle: &mut Raw) -> u32;
@@ -324,6 +325,11 @@ impl Handle {
     /// The last row of the open image with a set pixel, plus one.
     pub(crate) fn drawn_height(&mut self) -> usize {
         icysixel_get_drawn_height(&mut self.0)
+    }
+
+    /// How many rows from the top of the open image are final.
+    pub(crate) fn rows_so_far(&mut self) -> usize {
+        icysixel_get_rows_so_far(&mut self.0)
     }
 
     /// How many columns sixels of the image that is open have painted so far, at most.

@@ -170,6 +170,19 @@ impl SixelReceiver {
         self.decoder.shared().drawn_height()
     }
 
+    /// Returns how many rows from the top of the open image are final.
+    ///
+    /// No byte that follows changes a pixel of these rows, and the number never becomes smaller.
+    /// The call does not allocate.
+    ///
+    /// - It is 0 before the payload, after an error, and if no image is open.
+    /// - The image may still become wider. New pixels on the right of a final row are background.
+    /// - With crop the image may end above rows that are final.
+    #[must_use]
+    pub fn rows_so_far(&self) -> usize {
+        self.decoder.shared().rows_so_far()
+    }
+
     /// The color of a register of the decoder: red, green and blue, a byte each.
     #[must_use]
     pub fn register(&self, register: u8) -> [u8; 3] {

@@ -74,12 +74,24 @@ fn a_payload_is_received() {
 }
 
 #[test]
+fn rows_above_the_band_are_final() {
+    let mut receiver = SixelReceiver::new();
+    receiver.begin_frame(DcsSettings::default());
+    for (chunk, rows) in [("~", 0), ("-", 6), ("--", 6), ("~", 18), ("-", 24), ("$@", 24)] {
+        assert!(receiver.feed(chunk.as_bytes()).is_ok());
+        assert_eq!(receiver.rows_so_far(), rows, "{chunk}");
+    }
+    assert_eq!(receiver.feed(b"!65536~"), Err(invalid(MALFORMED)));
+    assert_eq!(receiver.rows_so_far(), 0);
+}
+
+#[test]
 fn nothing_is_open() {
     let mut receiver = SixelReceiver::new();
     assert_eq!(receiver.feed(b"~"), Err(invalid(STREAM_FAILED)));
     assert_eq!(receiver.finish(), Err(invalid(STREAM_FAILED)));
     assert_eq!(receiver.size_so_far(), None);
-    assert_eq!(receiver.canvas_paints(), 0);
+    assert_eq!((receiver.canvas_paints(), receiver.rows_so_far()), (0, 0));
     assert!(!receiver.in_payload() && !receiver.is_receiving());
     receiver.abort();
     assert_filled(receiver.into_decoder().decode(b"#1~"), (1, 6), [51, 51, 204, 255]);
