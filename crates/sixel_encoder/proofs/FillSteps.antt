@@ -1,17 +1,18 @@
 -- One column of a greedy fill, and a fill of another part of the columns.
-use Rattle.std.specs.Int.Bits.{bit_and, bit_or}
+use Rattle.std.specs.Int.Bits.{and_zero_l, bit_and, bit_or}
 use Rattle.std.specs.List.{range_with_len}
 use Rattle.std.specs.Prelude.{All, slice_index, ◌==◌}
 use Rattle.std.proofs.Common.{Bool, List, [], ap, append_assoc, arith, cond, false}
 use Rattle.std.proofs.Common.{length, refl, replicate, suc, sym, take, true, zero, ℕ, ◌++◌, ◌+◌}
 use Rattle.std.proofs.Common.{◌-◌, ◌<◌, ◌∙◌, ◌∷◌, ◌≡◌, ◌≢◌, ◌≤◌}
 use Rattle.std.proofs.lemmas.Bool.Decides.{nat_tests}
-use Rattle.std.proofs.lemmas.List.{get_or-drop, length-replicate}
+use Rattle.std.proofs.lemmas.List.{get_or-drop, length-replicate, take_all}
 use Rattle.std.proofs.lemmas.List.Elements.{All-append, All-replicate}
 use Rattle.std.proofs.lemmas.Nat.{or_lt}
 use Rattle.std.proofs.lemmas.Slice.{drop-put_mid, take-put_mid}
 use borrow.Rule.Slice.PartMut.{put_mid}
 use Rattle.sixel_encoder.specs.Compact.{fill_after}
+use Rattle.sixel_encoder.proofs.RowParts.{length-put}
 
 -- the columns from one on
 range-more : (column len : ℕ) → column < len
@@ -36,6 +37,21 @@ fill-more own blocked bits ban count column len l none =
     (fill_after own blocked (bit_or bits (own column)) (bit_or ban (blocked column)) (count + 1)
     rest)
     (replicate count bits ++ fill_after own blocked (own column) (blocked column) 1 rest)) test
+
+-- a blank column goes on with a run without own sixels
+pub fill-blank : (own blocked : ℕ → ℕ) (ban column len : ℕ) → column < len → own column ≡ 0
+    → fill_after own blocked 0 ban column (range_with_len column (len - column))
+    ≡ fill_after own blocked 0 (bit_or ban (blocked column)) (column + 1)
+    (range_with_len (column + 1) (len - (column + 1)))
+fill-blank own blocked ban column len l none =
+    let bits : bit_or 0 (own column) ≡ 0 = ap (bit_or 0) none in
+    let wider : ℕ = bit_or ban (blocked column) in
+    let apart : bit_and (bit_or 0 (own column)) wider ≡ 0 =
+    ap (λ b. bit_and b wider) bits ∙ and_zero_l wider in
+    fill-more own blocked 0 ban column column len l apart
+    ∙ ap
+    (λ b. fill_after own blocked b wider (column + 1)
+    (range_with_len (column + 1) (len - (column + 1)))) bits
 
 -- a column that begins a run
 fill-cut : (own blocked : ℕ → ℕ) (bits ban count column len : ℕ) → column < len
@@ -147,6 +163,30 @@ fill-go initial blocked row next ys whole column start start1 bits bits1 ban ban
     (sym (fill-cut (slice_index initial) (slice_index blocked) bits ban (column - start) column
     (length initial) l test))
     ∙ was))))))
+
+-- the last run ends the fill
+pub fill-end : (initial blocked row ys whole : List ℕ) (column start bits ban : ℕ)
+    → column ≡ length initial → start ≤ column → length row ≡ length initial
+    → ys ≡ replicate (length initial - start) bits
+    → state initial blocked column row start bits ban ≡ whole
+    → put_mid start (length initial - start) row ys ≡ whole
+fill-end initial blocked row ys whole column start bits ban all within size is was =
+    let n : ℕ = length initial - start in
+    let long : length ys ≡ n = ap length is ∙ length-replicate n bits in
+    let inside : start + n ≤ length row = omega (arith, size, within, all) in
+    let put = length-put row ys start n inside long in
+    let none : length initial - column ≡ 0 = omega (arith, all) in
+    let count : column - start ≡ n = omega (arith, all) in
+    let rest : fill_after (slice_index initial) (slice_index blocked) bits ban (column - start)
+    (range_with_len column (length initial - column)) ≡ replicate n bits =
+    ap
+    (λ (k : ℕ). fill_after (slice_index initial) (slice_index blocked) bits ban (column - start)
+    (range_with_len column k)) none
+    ∙ ap (λ (k : ℕ). replicate k bits) count in
+    sym (take_all (length initial) (put_mid start n row ys) (omega (arith, put, size)))
+    ∙ (take-put_mid start n row ys (length initial) (omega (arith, long, within, all))
+    (omega (arith, size, within, all))
+    ∙ (ap (λ (t : List ℕ). take start row ++ t) (is ∙ sym rest) ∙ was))
 
 -- behind what is written the row is as it was
 pub behind : (row ys : List ℕ) (start n k : ℕ) → start + n ≤ k → start ≤ length row

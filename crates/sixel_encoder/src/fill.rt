@@ -1,12 +1,14 @@
 //! Greedy runs of sixels, which cover more than they have to.
 
-ghost use Rattle.std.specs.Prelude.{◌≡◌, ℕ, ◌<◌, ◌++◌, OnOk, length, slice_index, string_bytes};
+ghost use Rattle.std.specs.Prelude.{◌≡◌, ℕ, ◌-◌, ◌<◌, ◌≤◌, ◌++◌, OnOk, length, slice_index};
+ghost use Rattle.std.specs.Prelude.{string_bytes};
 ghost use Rattle.std.specs.Int.Bits.{bit_or};
 ghost use Rattle.std.specs.List.{range_with_len};
 ghost use Rattle.sixel_encoder.specs.Compact.{fill_after};
 ghost use Rattle.sixel_encoder.specs.RunTokens.{written, row_tokens};
 
 use crate::run_tokens::push_row;
+use crate::runs::equal_from;
 use std::alloc::AllocError;
 
 /// Appends a row in runs that cover its own sixels and none that is blocked.
@@ -35,10 +37,11 @@ fn fill(row: &mut [u8], blocked: &[u8])
         (range_with_len 0 (length row.old)) }
 {
     let end = row.len();
+    let blank = blank_columns(row);
     let mut start = 0;
     let mut bits = 0u8;
-    let mut ban = 0u8;
-    for column in 0..end {
+    let mut ban = union_of(blocked, blank);
+    for column in blank..end {
         let own = row[column];
         let more = bits | own;
         let wider = ban | blocked[column];
@@ -53,6 +56,39 @@ fn fill(row: &mut [u8], blocked: &[u8])
         }
     }
     row[start..end].fill(bits);
+}
+
+/// Returns how many columns at the start of a row are blank.
+fn blank_columns(row: &[u8]) -> usize
+    ensures within { result ≤ length row.now }
+    ensures blank { (k : ℕ) → k < result → slice_index row.now k ≡ 0 }
+{
+    let mut column = 0;
+    'blanks: while column < row.len() {
+        let same = equal_from(row, column, 0);
+        if same == 0 {
+            return column;
+        }
+        column += same;
+    }
+    column
+}
+
+/// Returns the bits that some of the first columns have.
+///
+/// A run without own sixels goes on over these columns.
+fn union_of(blocked: &[u8], count: usize) -> u8
+    requires { count ≤ length blocked.now }
+    ensures { (own : ℕ → ℕ) (end : ℕ) → count ≤ end → ((k : ℕ) → k < count → own k ≡ 0)
+        → fill_after own (slice_index blocked.now) 0 result count
+        (range_with_len count (end - count))
+        ≡ fill_after own (slice_index blocked.now) 0 0 0 (range_with_len 0 end) }
+{
+    let mut union = 0;
+    for column in 0..count {
+        union |= blocked[column];
+    }
+    union
 }
 
 /// Adds the bits of a row to another.

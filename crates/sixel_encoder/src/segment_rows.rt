@@ -155,28 +155,18 @@ impl SegmentRows {
 fn write_sixels(own: &mut [u8], entries: &BandEntries<'_>, segment: &Segment, from: usize)
     requires entries { AreLanes entries.now }
     requires within { IsWithin entries.now.image.now segment.now }
-    requires end { from + length own.old ≤ segment.now.end }
+    requires from { from ≤ segment.now.first }
+    requires end { from + length own.old ≡ segment.now.end }
     ensures own { (k : ℕ) → k < length own.old
         → slice_index own.new k ≡ own_sixel (drawing_of entries.now.image.now) entries.now.band
         segment.now (from + k) }
     ensures small { (k : ℕ) → slice_index own.new k < 64 }
 {
-    for index in 0..own.len() {
-        own[index] = own_sixel(entries, segment, from + index);
+    let blank = segment.first - from;
+    for column in 0..blank {
+        own[column] = 0;
     }
-}
-
-/// Returns the own sixel of a segment in a column before its end.
-#[inline(always)]
-fn own_sixel(entries: &BandEntries<'_>, segment: &Segment, column: usize) -> u8
-    requires entries { AreLanes entries.now }
-    requires within { IsWithin entries.now.image.now segment.now }
-    requires column { column < segment.now.end }
-    ensures { result
-        ≡ own_sixel (drawing_of entries.now.image.now) entries.now.band segment.now column }
-{
-    if column < segment.first {
-        return 0;
+    for index in blank..own.len() {
+        own[index] = entries.sixel(from + index, segment.entry);
     }
-    entries.sixel(column, segment.entry)
 }

@@ -5,6 +5,23 @@ use borrow.Rule.Slice.PartMut.{put_mid}
 use Rattle.sixel_encoder.proofs.RowParts.{length-part, length-put, put-within}
 use Rattle.sixel_encoder.proofs.segment_rows.SegmentRows.write_own.Goals as goal
 
+pub write_sixels-requires-clause-end : goal.write_sixels-requires-clause-end
+write_sixels-requires-clause-end c =
+    let from = c.args.from in
+    let n = c.args.segment.now.end - from in
+    let was = c.deref_mut.result.now in
+    let part =
+    length-part was from n
+    (omega (
+      arith,
+      ap length c.deref_mut.ensures.value,
+      c.requires.wide.one,
+      c.requires.within.wide,
+      c.requires.within.some,
+      c.requires.from,
+    )) in
+    omega (arith, part, c.requires.within.some, c.requires.from)
+
 pub returns-clause-own : goal.returns-clause-own
 returns-clause-own c = λ k l.
     let rows = c.args.self.now in
