@@ -289,17 +289,21 @@ fn interval_from(low: u32, more: u32) -> Interval
 }
 
 /// Appends those of the entries that may be nearest to a color of the cube.
+///
+/// Each entry is stored, and the next one replaces it if it is not one of those: no branch.
 fn push_nearest(list: &mut Vec<Entry>, cube: &Cube, entries: &[Entry]) -> Result<(), AllocError>
     ensures { OnOk result (Appends entries.now cube.now list.old.items list.new.items) }
 {
     let greatest = cube.greatest_key(entries);
+    let mut end = list.len();
+    list.extend_from_slice(entries)?;
     for position in 0..entries.len() {
         let entry = entries[position];
         let least = key(cube.gap(entry.color), entry.index);
-        if least <= greatest {
-            list.push(entry)?;
-        }
+        list[end] = entry;
+        end += usize::from(least <= greatest);
     }
+    list.truncate(end);
     Ok(())
 }
 

@@ -1,7 +1,11 @@
-use Rattle.std.proofs.Common.{take}
+use Rattle.std.proofs.Common.{◌≡◌, ◌+◌, ◌≤◌, length, take}
 use Rattle.sixel_palette.proofs.PaletteKeys.{ArePushed}
 use Rattle.sixel_palette.proofs.palette.cubes.push_nearest.Given as goal
 
 abbrev pub invariant-loop-position : goal.invariant-loop-position
-invariant-loop-position l =
-    ArePushed l.cube l.greatest (take l.position l.entries) l.initial.list.items l.list.items
+invariant-loop-position l = record {
+  pushed : ArePushed l.cube l.greatest (take l.position l.entries) l.fn.list.items
+      (take l.end l.list.items);
+  size : length l.list.items ≡ length l.fn.list.items + length l.entries;
+  end : l.end ≤ length l.fn.list.items + l.position;
+}
