@@ -106,7 +106,7 @@ continues_read older h byte is =
     (λ g. goes_on h byte ≡ g
     → Continues older (closed (cond g (longer h byte) (begun byte ∷ h)))) [
       | true ↦ λ goes. subst (λ (w : History). Continues older w)
-        (sym (closed-longer h byte goes)) is
+          (sym (closed-longer h byte goes)) is
       | false ↦ λ ends. continues_closed (begun byte) older h (continues_whole older h is)
     ]) refl
 

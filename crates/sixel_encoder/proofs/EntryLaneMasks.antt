@@ -125,8 +125,13 @@ transparent-lane entries column bit lane are lc is none =
     go None at e = refl
     go (Some entry) at e =
         absurd
-        (omega (arith, e, none, known entries.image.now entries.band column bit entry
-        are.indexed lc at))
+        (omega (
+          arith,
+          e,
+          none,
+          known entries.image.now entries.band column bit entry
+              are.indexed lc at,
+        ))
 
 -- whether a lane has an entry
 lane-entry : (entry : ℕ) (place : Option ℕ) → entry < 256
