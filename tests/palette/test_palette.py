@@ -1,0 +1,216 @@
+"""Tests palette indices, refined palettes and compact output of the C library against models.
+
+The models are written from the documents. Images are random and small. FUZZ_COUNT and FUZZ_SEED
+choose others.
+"""
+import ctypes
+import itertools
+import os
+import random
+import tempfile
+import unittest
+from pathlib import Path
+
+from build import ROOT, needs, run
+
+SHARED = ROOT / "out/shared/libicysixel.so"
+COUNT, SEED = int(os.environ.get("FUZZ_COUNT", "300")), int(os.environ.get("FUZZ_SEED", "1"))
+OFF, DIFFUSION, ORDERED = range(3)
+PLAIN, COMPACT = range(2)
+# Where the error of a pixel goes: sixteenths, columns ahead, rows down. The last takes the rest.
+SHARES = [(7, 1, 0), (3, -1, 1), (5, 0, 1), (None, 1, 1)]
+LIBSIXEL = "sixel2png -i {file} -o - | convert png:- -depth 8 rgb:-"
+# ImageMagick 6 applies the palette of a SIXEL file only as it writes a format with a palette.
+IMAGEMAGICK = "convert six:{file} miff:- | convert miff:- -depth 8 rgb:-"
+
+SMALLEST = "convert ppm:{file} png24:- | img2sixel -E size -d none -p {few}"
+
+
+class Dithering(ctypes.Structure):
+    _fields_ = [("kind", ctypes.c_uint8), ("amount", ctypes.c_uint8)]
+
+
+class Encoding(ctypes.Structure):
+    _fields_ = [(it, ctypes.c_size_t) for it in ("stride", "width", "height")]
+    _fields_ += [("p1", ctypes.c_int32), ("p2", ctypes.c_int32)]
+    _fields_ += [("dithering", Dithering), ("form", ctypes.c_uint8)]
+
+
+class Refined(ctypes.Structure):
+    _fields_ = [("colors", ctypes.c_size_t), ("witnesses", ctypes.c_size_t)]
+    _fields_ += [("error", ctypes.c_uint64), ("apart", ctypes.c_uint32)]
+
+
+def distance(one, other):
+    return sum((a - b) ** 2 for a, b in zip(one, other))
+
+
+def nearest(colors, color):
+    """The index of the nearest entry, the first of equals."""
+    return min(range(len(colors)), key=lambda it: (distance(colors[it], color), it))
+
+
+def nearest_of(colors, pixels):
+    return [nearest(colors, it) if it[3] >= 128 else 0 for it in pixels]
+
+
+def grid_color(color):
+    """The color that a register shows for a color: its percentages, rounded, as bytes."""
+    return tuple(((it * 100 + 127) // 255 * 255 + 50) // 100 for it in color)
+
+
+def ordered(width, pixels, colors, amplitude):
+    """Indices with the pattern of Kolas, which moves a channel by up to half the amplitude."""
+    targets = []
+    for place, (*color, alpha) in enumerate(pixels):
+        row, column = divmod(place, width)
+        for channel in range(3):
+            threshold = (column + 237 * row + 112 * channel) * 119 % 256
+            moved = color[channel] + (2 * threshold - 255) * amplitude // 512
+            color[channel] = min(max(moved, 0), 255)
+        targets.append((*color, alpha))
+    return nearest_of(colors, targets)
+
+
+def diffused(width, pixels, colors, strength):
+    """Indices by error diffusion: each visit adds shares of its error to pixels still to come."""
+    height = len(pixels) // width
+    received = [[0, 0, 0] for _ in pixels]
+    indices = [0] * len(pixels)
+    for row, step in itertools.product(range(height), range(width)):
+        ahead = -1 if row % 2 else 1
+        column = width - 1 - step if row % 2 else step
+        place = row * width + column
+        *color, alpha = pixels[place]
+        if alpha < 128:
+            continue
+        wanted = [min(max(16 * c + e, 0), 4080) for c, e in zip(color, received[place])]
+        indices[place] = nearest(colors, [(it + 8) // 16 for it in wanted])
+        for channel, entry in enumerate(colors[indices[place]]):
+            error = rest = (wanted[channel] - 16 * entry) * strength // 8
+            for part, right, down in SHARES:
+                share = rest if part is None else part * error // 16
+                rest -= share
+                at, below = column + right * ahead, row + down
+                if 0 <= at < width and below < height:
+                    received[below * width + at][channel] += share
+    return indices
+
+
+def image(rng):
+    """A random image: its width, and pixels of few or many colors, some of them transparent."""
+    width, height = rng.randint(1, 12), rng.randint(1, 9)
+    step, clear = rng.choice([(1, 0), (1, 0.3), (51, 0.1), (85, 0)])
+    pixels = []
+    for _ in range(width * height):
+        color = (rng.randrange(0, 256, step) for _ in range(3))
+        pixels.append((*color, 127 if rng.random() < clear else 128))
+    return width, pixels
+
+
+@unittest.skipUnless(SHARED.exists(), f"not built: {SHARED}")
+class PaletteTest(unittest.TestCase):
+    """The calls on random images."""
+
+    def setUp(self):
+        self.library = ctypes.CDLL(str(SHARED))
+
+    def call(self, name, *arguments):
+        """Calls a function that returns a code. Numbers are passed as 64 bits, lists as bytes."""
+        passed = []
+        for it in arguments:
+            it = bytes(itertools.chain(*it)) if isinstance(it, list) else it
+            passed.append(ctypes.c_size_t(it) if isinstance(it, int) else it)
+        self.assertEqual(self.library[name](*passed), 0)
+
+    def test_indices(self):
+        """Undithered, ordered and diffused indices are those of the models."""
+        rng = random.Random(SEED)
+        for turn in range(COUNT):
+            width, pixels = image(rng)
+            colors = [tuple(rng.randbytes(3)) for _ in range(rng.randint(1, 9))]
+            colors += rng.sample(colors, rng.randint(0, 1))
+            amount = rng.choice([1, 3, 7, 8, 64, 255])
+            cases = [
+                (OFF, nearest_of(colors, pixels)),
+                (ORDERED, ordered(width, pixels, colors, amount)),
+                (DIFFUSION, diffused(width, pixels, colors, min(amount, 8))),
+            ]
+            for kind, expected in cases:
+                with self.subTest(turn=turn, kind=kind, amount=amount):
+                    found = ctypes.create_string_buffer(len(pixels))
+                    self.call(
+                        "icysixel_palette_indices", pixels, 4 * len(pixels), width, colors,
+                        len(colors), ctypes.byref(Dithering(kind, amount)), found, len(pixels),
+                    )
+                    self.assertEqual(list(found.raw), expected)
+
+    def test_refined(self):
+        """A refined palette is of register colors, and its error and witnesses are true."""
+        rng = random.Random(SEED)
+        for turn in range(COUNT):
+            _, pixels = image(rng)
+            most, count = rng.choice([1, 2, 5, 16, 256]), len(pixels)
+            colors, witnesses = (ctypes.create_string_buffer(3 * 257) for _ in range(2))
+            found, properties = ctypes.create_string_buffer(count), Refined()
+            with self.subTest(turn=turn, most=most):
+                self.call(
+                    "icysixel_refine_palette", pixels, 4 * count, most, colors, 257, witnesses,
+                    257, found, count, ctypes.byref(properties),
+                )
+                parts = [tuple(colors.raw[it : it + 3]) for it in range(0, 768, 3)]
+                entries = parts[: properties.colors]
+                seen = {it[:3] for it in pixels if it[3] >= 128}
+                self.assertLessEqual(len(entries), most)
+                self.assertEqual(entries, [grid_color(it) for it in entries])
+                if len(seen) <= most:
+                    self.assertLessEqual({grid_color(it) for it in seen}, set(entries))
+                indices = nearest_of(entries, pixels)
+                self.assertEqual(list(found.raw), indices)
+                opaque = [(at, it) for at, it in zip(indices, pixels) if it[3] >= 128]
+                error = sum(distance(entries[at], it) for at, it in opaque)
+                self.assertEqual(properties.error, error)
+                points = [tuple(witnesses.raw[it : it + 3]) for it in range(0, 771, 3)]
+                points = points[: properties.witnesses]
+                self.assertLessEqual(set(points), seen)
+                for one, other in itertools.combinations(points, 2):
+                    self.assertGreaterEqual(distance(one, other), properties.apart)
+
+    def text_of(self, width, pixels, colors, form):
+        """The output in a palette that has the color of each pixel."""
+        handle, size = (ctypes.c_void_p * 2)(), ctypes.c_size_t()
+        shape = Encoding(0, width, len(pixels) // width, 7, 1, Dithering(OFF, 0), form)
+        self.call("icysixel_new", handle)
+        self.call(
+            "icysixel_encode_with_palette", handle, pixels, 4 * len(pixels), ctypes.byref(shape),
+            colors, len(colors), ctypes.byref(size),
+        )
+        text = ctypes.create_string_buffer(size.value)
+        self.call("icysixel_copy_text", handle, text, size.value, ctypes.byref(size))
+        self.library.icysixel_free(handle)
+        return text.raw
+
+    @needs("sixel2png", "img2sixel", "convert")
+    def test_compact(self):
+        """Other programs decode the compact output, and libsixel's is no shorter."""
+        rng = random.Random(SEED)
+        for turn, few in itertools.product(range(10), (6, 40)):
+            width, height = rng.randint(40, 80), rng.randint(20, 60)
+            colors = [grid_color(rng.randbytes(3)) for _ in range(few)]
+            pixels = [(*rng.choice(colors), 255) for _ in range(width * height)]
+            # Most pixels equal the one before them or the one above, so that there are runs.
+            for place in range(width, len(pixels)):
+                pixels[place] = pixels[place - rng.choice([0, 1, 1, width, width])]
+            text = self.text_of(width, pixels, colors, COMPACT)
+            expected = bytes(itertools.chain(*(it[:3] for it in pixels)))
+            with self.subTest(turn=turn, few=few), tempfile.TemporaryDirectory() as folder:
+                self.assertLessEqual(len(text), len(self.text_of(width, pixels, colors, PLAIN)))
+                file = Path(folder) / "image"
+                file.write_bytes(text)
+                for command in (LIBSIXEL, IMAGEMAGICK):
+                    self.assertEqual(run("sh", "-c", command.format(file=file))[1], expected)
+                file.write_bytes(b"P6 %d %d 255\n%s" % (width, height, expected))
+                other = run("sh", "-c", SMALLEST.format(file=file, few=few))[1]
+                # From the palette on, because libsixel writes no parameters.
+                ours, theirs = (len(it) - it.index(b"#") for it in (text, other))
+                self.assertLessEqual(ours, theirs)
