@@ -1,14 +1,14 @@
 -- The errors of a call on an image and a palette are known, and have the code of their fault. What
 -- an encoding leaves in the handle.
 use Rattle.std.proofs.Common.{◌≡◌, ◌≢◌, ℕ, ◌*◌, Bool, true, false, cond, length, refl, ap, sym}
-use Rattle.std.proofs.Common.{subst, ◌∙◌, inl, inr}
+use Rattle.std.proofs.Common.{absurd, subst, ◌∙◌, inl, inr}
 use Rattle.std.proofs.lemmas.Bool.{cases_lt}
 use Rattle.std.specs.Prelude.{◌==◌, ◌||◌, ◌<◌, ◌≤◌, nat_lt, List, Option, Some, None, Result, Ok}
 use Rattle.std.specs.Prelude.{Err, OnOk, OnErr, IfOk, IfErr, IsErrAnd}
 use Rattle.std.specs.List.{list_any, range_with_len}
 use Rattle.std.specs.Option.{option_map, option_or}
 use Rattle.sixel_base.specs.CallFault.{CallFault, ColorCount, Exactly, FailsBy, IndexRange}
-use Rattle.sixel_base.specs.CallFault.{IsCallFault, color_count_fault}
+use Rattle.sixel_base.specs.CallFault.{IsCallFault, RowsNotFinal, ShortStride, color_count_fault}
 use Rattle.sixel_base.specs.Fault.{IsFault, TooLarge}
 use Rattle.sixel_base.specs.Limits.{area_limit}
 use Rattle.sixel_base.specs.Payload.{Image}
@@ -32,11 +32,15 @@ IsSized None = Unit {0}
 IsSized (Some (Exactly error)) = IsKnown error
 IsSized (Some ColorCount) = Unit {0}
 IsSized (Some IndexRange) = Unit {0}
+IsSized (Some RowsNotFinal) = ⊥
+IsSized (Some ShortStride) = ⊥
 
 known_by : (X : Type 0) (error : SixelError) (fault : Option CallFault) → IsSized fault
     → FailsBy {X = X} fault (Err error) → IsKnown error
 known_by X error None sized is = subst IsKnown (sym is) tt
 known_by X error (Some (Exactly other)) sized is = subst IsKnown (sym is) sized
+known_by X error (Some RowsNotFinal) sized is = absurd sized
+known_by X error (Some ShortStride) sized is = absurd sized
 known_by X (InvalidData text) (Some ColorCount) sized is = inr (inl is)
 known_by X (InvalidData text) (Some IndexRange) sized is = inr (inr is)
 known_by X (InvalidDimensions width height) (Some ColorCount) sized is = tt
