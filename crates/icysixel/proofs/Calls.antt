@@ -1,7 +1,7 @@
 -- The errors of a call on an image and a palette are known, and have the code of their fault. What
 -- an encoding leaves in the handle.
 use Rattle.std.proofs.Common.{◌≡◌, ◌≢◌, ℕ, ◌*◌, Bool, true, false, cond, length, refl, ap, sym}
-use Rattle.std.proofs.Common.{absurd, subst, ◌∙◌, inl, inr}
+use Rattle.std.proofs.Common.{subst, ◌∙◌, inl, inr}
 use Rattle.std.proofs.lemmas.Bool.{cases_lt}
 use Rattle.std.specs.Prelude.{◌==◌, ◌||◌, ◌<◌, ◌≤◌, nat_lt, List, Option, Some, None, Result, Ok}
 use Rattle.std.specs.Prelude.{Err, OnOk, OnErr, IfOk, IfErr, IsErrAnd}
