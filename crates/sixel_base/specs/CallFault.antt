@@ -1,6 +1,7 @@
--- What is wrong with the arguments of a call on an image and a palette, apart from any code: an
--- error that its sizes or lengths determine, or a palette or an index that SIXEL has no registers
--- for; rows of an image, and where they lie. The texts are this library's own.
+-- The faults of the arguments of a call on an image, a palette or rows, apart from any code. Sizes
+-- and lengths determine some of them. Others are a number of colors or an index that SIXEL has no
+-- registers for, rows that are not final, and a stride that is too short. The texts are this
+-- library's own.
 use Rattle.std.specs.Prelude.{◌≡◌, ℕ, ◌==◌, ◌||◌, nat_lt, if◌then◌else◌, List, codes, Option, Some}
 use Rattle.std.specs.Prelude.{None, Result, Ok, IfErr, MatchResult}
 use Rattle.sixel_base.specs.declared.error.SixelError.{SixelError}
