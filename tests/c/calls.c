@@ -76,6 +76,18 @@ static void test_final_rows(icysixel *h)
     CHECK(icysixel_get_rows_so_far(h) == 0);
 }
 
+/* Without raster attributes 20 drawn rows are an image of 24 rows. */
+static void test_drawn_height(icysixel *h)
+{
+    icysixel_fed fed = {0};
+    icysixel_shape shape = {0};
+    subject = "drawn height";
+    CHECK(icysixel_begin_payload(h, 9, 1, -1) == ICYSIXEL_OK && icysixel_get_drawn_height(h) == 0);
+    CHECK(icysixel_feed(h, BYTES("~-~-~-!9B"), &fed) == ICYSIXEL_OK);
+    CHECK(icysixel_get_drawn_height(h) == 20 && icysixel_finish(h, &shape) == ICYSIXEL_OK);
+    CHECK(shape.height == 24 && icysixel_get_drawn_height(h) == 0);
+}
+
 /* A session reports its progress, leaves what follows the image, and finishes it. */
 static void test_session(icysixel *h)
 {
@@ -96,10 +108,6 @@ static void test_session(icysixel *h)
     CHECK(icysixel_finish(h, &shape) == ICYSIXEL_OK && icysixel_is_receiving(h) == 0);
     CHECK(shape.width == 12 && shape.height == 6 && shape.bytes == 288);
     CHECK(shape.pixel_width == 1 && shape.pixel_height == 1 && shape.p1 == 9 && shape.p2 == 1);
-    CHECK(icysixel_begin_payload(h, 9, 1, -1) == ICYSIXEL_OK && icysixel_get_drawn_height(h) == 0);
-    CHECK(icysixel_feed(h, BYTES("~-~-~-!9B"), &fed) == ICYSIXEL_OK);
-    CHECK(icysixel_get_drawn_height(h) == 20 && icysixel_finish(h, &shape) == ICYSIXEL_OK);
-    CHECK(shape.height == 24 && icysixel_get_drawn_height(h) == 0);
 }
 
 /* Pixels are copied row by row with a stride, only into a buffer that is large enough, and once. */
@@ -424,6 +432,7 @@ int main(void)
     icysixel h = {0};
     test_empty_handle(&h);
     CHECK(icysixel_new(&h) == ICYSIXEL_OK);
+    test_drawn_height(&h);
     test_session(&h);
     test_final_rows(&h);
     test_pixels(&h);
