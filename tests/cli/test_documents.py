@@ -66,7 +66,7 @@ class TestDocuments(unittest.TestCase):
     def test_readme_lines(self):
         """The lines of README on PNG files keep an image in black and white."""
         lines = LINES.findall((ROOT / "README.md").read_text())
-        back, draw = (it.replace("\\|", "|") for it in lines)
+        draw, back = (it.replace("\\|", "|") for it in lines)
         folders = [folder_of_imagemagick(), ROOT / "crates/sixel/out", os.environ["PATH"]]
         paths = {**os.environ, "PATH": ":".join(map(str, folders))}
         made = "convert -size 9x4 pattern:hexagons -sample 40x30! cat.png"
