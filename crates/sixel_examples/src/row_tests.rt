@@ -51,6 +51,16 @@ fn are_rows(bytes: &[u8], row: [[u8; 4]; 3]) -> bool {
     are_equal
 }
 
+/// Whether each row of the first band has these pixels, and each row below it those.
+fn are_bands(bytes: &[u8], first: [[u8; 4]; 3], second: [[u8; 4]; 3]) -> bool {
+    let mut are_equal = true;
+    for (index, part) in bytes.chunks(12).enumerate() {
+        let row = if index < 6 { first } else { second };
+        are_equal &= part == row.as_flattened();
+    }
+    are_equal
+}
+
 /// Whether the result is an error of invalid data with this text.
 fn has_text(copied: Result<()>, text: &str) -> bool {
     match copied {
@@ -157,7 +167,8 @@ fn rows_that_are_not_copied(rt: HostRuntime) {
         ..NARROW
     };
     let is_far = receiver.copy_rows(0, 3, far, &mut rows) == Err(SixelError::IntegerOverflow);
-    let short = receiver.copy_rows(0, 6, NARROW, &mut rows[..67]);
+    let mut few = [9; 67];
+    let short = receiver.copy_rows(0, 6, NARROW, &mut few);
     let is_short = short
         == Err(SixelError::BufferSizeMismatch {
             expected: 68,
@@ -188,10 +199,13 @@ fn image_in_memory(rt: HostRuntime) {
     let is_drawn = reads(&mut receiver, b"#1~~#1;2;0;100;0-!3~", 6);
     let mut rows = [9; 144];
     let is_ended = has_size(receiver.finish_into(0, NARROW, &mut rows), 3, 12);
-    let are_red = are_rows(&rows[..72], [RED, RED, UNTOUCHED]);
-    let are_green = are_rows(&rows[72..], [[0, 255, 0, 255], [0, 255, 0, 255], UNTOUCHED]);
+    let are_drawn = are_bands(
+        &rows,
+        [RED, RED, UNTOUCHED],
+        [[0, 255, 0, 255], [0, 255, 0, 255], UNTOUCHED],
+    );
     let is_closed = !receiver.is_receiving() & (receiver.register(1) == [0, 255, 0]);
-    assert!(rt; is_drawn & is_ended & are_red & are_green & is_closed);
+    assert!(rt; is_drawn & is_ended & are_drawn & is_closed);
 }
 
 #[test]
