@@ -1,4 +1,5 @@
 pub mod Histories
+pub mod FaultlessParts
 pub mod Fields
 pub mod KeptFields
 pub mod DefaultCodes

@@ -1,7 +1,7 @@
 -- The faults of the arguments of a call on an image, a palette or rows, apart from any code. Sizes
 -- and lengths determine some of them. Others are a number of colors or an index that SIXEL has no
--- registers for, rows that are not final, and a stride that is too short. The texts are this
--- library's own.
+-- registers for, rows that are not final or were released, and a stride that is too short. The
+-- texts are this library's own.
 use Rattle.std.specs.Prelude.{◌≡◌, ℕ, ◌==◌, ◌||◌, nat_lt, if◌then◌else◌, List, codes, Option, Some}
 use Rattle.std.specs.Prelude.{None, Result, Ok, IfErr, MatchResult}
 use Rattle.sixel_base.specs.declared.error.SixelError.{SixelError}
@@ -11,12 +11,14 @@ use Rattle.sixel_base.specs.declared.error.SixelError.TheVariants.{NoSixelData, 
 use Rattle.sixel_base.specs.declared.error.SixelError.TheVariants.{OutOfMemory}
 
 -- this very error, a palette of no colors or of more than there are registers, an index past it,
--- rows of an image that are not final, rows that overlap in the caller's memory
+-- rows of an image that are not final, rows that were released, rows that overlap in the caller's
+-- memory
 pub data CallFault : Type 0 where
   Exactly : SixelError → CallFault
   ColorCount : CallFault
   IndexRange : CallFault
   RowsNotFinal : CallFault
+  RowsReleased : CallFault
   ShortStride : CallFault
 
 -- the error is invalid data with this text
@@ -34,6 +36,7 @@ IsCallFault error (Exactly fault) = error ≡ fault
 IsCallFault error ColorCount = HasText error (codes "number of colors is not 1 to 256")
 IsCallFault error IndexRange = HasText error (codes "palette index out of range")
 IsCallFault error RowsNotFinal = HasText error (codes "rows are not final")
+IsCallFault error RowsReleased = HasText error (codes "rows were released")
 IsCallFault error ShortStride = HasText error (codes "stride is shorter than a row")
 
 -- a call with this fault fails by it; a call with none only if an allocation fails

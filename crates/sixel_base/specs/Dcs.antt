@@ -6,6 +6,7 @@ use Rattle.std.specs.Prelude.{ℕ, ◌≡◌, ◌+◌, ◌-◌, ◌==◌, Bool, 
 use Rattle.std.specs.Prelude.{[], ◌∷◌, length, Option, Some, None}
 use Rattle.sixel_base.specs.Fault.{Fault, NoIntroducer, Incomplete}
 use Rattle.sixel_base.specs.Bytes.{is_terminator, count, first_terminator}
+use Rattle.sixel_base.specs.Limits.{Limit}
 use Rattle.sixel_base.specs.Settings.{Settings}
 use Rattle.sixel_base.specs.Payload.{Image, fed_fault, settled, growths, payload_image}
 use Rattle.sixel_base.specs.Payload.{payload_registers}
@@ -109,7 +110,7 @@ stage_count bytes (Failing fault) = 0
 stage_count bytes (Reading settings payload) =
     (length bytes - length payload) + payload_count payload
 
-abbrev pub stage_fault : ℕ → Stage → Option Fault
+abbrev pub stage_fault : Limit → Stage → Option Fault
 stage_fault limit Heading = None
 stage_fault limit (Failing fault) = Some fault
 stage_fault limit (Reading settings payload) = fed_fault limit payload
@@ -121,12 +122,12 @@ dcs_status bytes = stage_status (stage bytes)
 abbrev pub dcs_count : List ℕ → ℕ
 dcs_count bytes = stage_count bytes (stage bytes)
 
-abbrev pub dcs_fault : ℕ → List ℕ → Option Fault
+abbrev pub dcs_fault : Limit → List ℕ → Option Fault
 dcs_fault limit bytes = stage_fault limit (stage bytes)
 
 -- bytes that mean the same string as these: as many are its own, it stands the same, and the same
 -- is wrong with it
-pub record IsSameString (limit : ℕ) (bytes other : List ℕ) : Type 0 where
+pub record IsSameString (limit : Limit) (bytes other : List ℕ) : Type 0 where
   pub count : dcs_count other ≡ dcs_count bytes
   pub status : dcs_status other ≡ dcs_status bytes
   pub fault : dcs_fault limit other ≡ dcs_fault limit bytes
@@ -141,13 +142,13 @@ abbrev pub dcs_growths : List ℕ → ℕ
 dcs_growths bytes = stage_growths (stage bytes)
 
 -- how far the closed sixels of its payload reach
-abbrev pub stage_reached_area : Stage → ℕ
-stage_reached_area Heading = 0
-stage_reached_area (Failing fault) = 0
-stage_reached_area (Reading settings payload) = reached_area (settled payload)
+abbrev pub stage_reached_area : Limit → Stage → ℕ
+stage_reached_area limit Heading = 0
+stage_reached_area limit (Failing fault) = 0
+stage_reached_area limit (Reading settings payload) = reached_area limit (settled payload)
 
-abbrev pub dcs_reached_area : List ℕ → ℕ
-dcs_reached_area bytes = stage_reached_area (stage bytes)
+abbrev pub dcs_reached_area : Limit → List ℕ → ℕ
+dcs_reached_area limit bytes = stage_reached_area limit (stage bytes)
 
 -- whether its header is read and its payload has begun
 abbrev pub stage_in_payload : Stage → Bool
@@ -159,13 +160,13 @@ abbrev pub dcs_in_payload : List ℕ → Bool
 dcs_in_payload bytes = stage_in_payload (stage bytes)
 
 -- the width and the height that its picture has so far, once the payload has begun
-abbrev pub stage_size : Stage → Option (ℕ × ℕ)
-stage_size Heading = None
-stage_size (Failing fault) = None
-stage_size (Reading settings payload) = Some (size (settled payload))
+abbrev pub stage_size : Limit → Stage → Option (ℕ × ℕ)
+stage_size limit Heading = None
+stage_size limit (Failing fault) = None
+stage_size limit (Reading settings payload) = Some (size limit (settled payload))
 
-abbrev pub dcs_size : List ℕ → Option (ℕ × ℕ)
-dcs_size bytes = stage_size (stage bytes)
+abbrev pub dcs_size : Limit → List ℕ → Option (ℕ × ℕ)
+dcs_size limit bytes = stage_size limit (stage bytes)
 
 -- how a string has ended, once a terminator of its payload came
 abbrev pub ended_by : Option ℕ → List ℕ → Option SixelDcsFeedStatus

@@ -1,11 +1,11 @@
 -- What a decoder keeps from one image to the next: its 256 color registers, which the data define,
--- and what its host has set: whether images are cropped to their raster attributes, and how many
--- pixels one may reach. The last two are this library's own.
+-- and what its host has set: whether images are cropped to their raster attributes, and which
+-- pixels one may have. The last two are this library's own.
 use Rattle.std.specs.Prelude.{ℕ, ◌≡◌, min, max, false}
 use Rattle.sixel_base.specs.Settings.{Settings}
 use Rattle.sixel_base.specs.Color.{default_registers}
 use Rattle.sixel_base.specs.Stroke.{Origin}
-use Rattle.sixel_base.specs.Limits.{area_limit}
+use Rattle.sixel_base.specs.Limits.{area_limit, side_limit, whole_limit}
 use Rattle.sixel_base.specs.declared.state.DecoderState.{DecoderState}
 
 -- the limit that a host gets who asks for so many pixels: at least one, at most the limit of a new
@@ -13,12 +13,17 @@ use Rattle.sixel_base.specs.declared.state.DecoderState.{DecoderState}
 abbrev pub limit_of : ℕ → ℕ
 limit_of pixels = max 1 (min pixels area_limit)
 
+-- the side of the clip that a host gets who asks for so many columns or rows: at least one, at most
+-- as many as any image has
+abbrev pub clip_side_of : ℕ → ℕ
+clip_side_of side = max 1 (min side side_limit)
+
 -- a decoder of which no call was made
 abbrev pub new_decoder : DecoderState
 new_decoder = record {
   registers = default_registers;
   raster_crop = false;
-  pixel_limit = area_limit;
+  pixel_limit = whole_limit;
 }
 
 -- what a picture with these settings begins from
@@ -28,6 +33,21 @@ origin_of decoder settings = record {
   settings = settings;
   raster_crop = decoder.raster_crop;
   pixel_limit = decoder.pixel_limit;
+}
+
+-- a decoder whose images may have so many pixels
+abbrev pub with_pixel_limit : DecoderState → ℕ → DecoderState
+with_pixel_limit decoder pixels = record decoder {
+  pixel_limit = record decoder.pixel_limit { pixels = limit_of pixels };
+}
+
+-- a decoder whose images are clipped to so many columns and rows
+abbrev pub with_clip : DecoderState → ℕ → ℕ → DecoderState
+with_clip decoder width height = record decoder {
+  pixel_limit = record decoder.pixel_limit {
+    columns = clip_side_of width;
+    rows = clip_side_of height;
+  };
 }
 
 -- what the host has set is the same

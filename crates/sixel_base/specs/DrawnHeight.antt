@@ -1,11 +1,13 @@
--- How high the drawn part of a picture is: the last row with a set pixel, plus one. A picture
--- without raster attributes is a whole number of bands high, and this is not. The measure is this
--- library's own; where sixels are drawn, by DEC's manual, is in Place.
+-- How high the drawn part of a picture is inside the clip: the last row with a set pixel, plus one.
+-- A picture without raster attributes is a whole number of bands high, and this is not. The measure
+-- is this library's own; where sixels are drawn, by DEC's manual, is in Place.
 use Rattle.std.specs.Prelude.{ℕ, zero, suc, ◌+◌, max, nat_lt, if◌then◌else◌, List, [], ◌∷◌}
 use Rattle.sixel_base.specs.Bytes.{front}
+use Rattle.sixel_base.specs.Clip.{clipped_bits, is_inside}
 use Rattle.sixel_base.specs.Dcs.{Stage, Heading, Failing, Reading, stage}
 use Rattle.sixel_base.specs.History.{Sixel, History, history_of}
 use Rattle.sixel_base.specs.Picture.{is_set}
+use Rattle.sixel_base.specs.Limits.{Limit}
 use Rattle.sixel_base.specs.Place.{down}
 
 -- the last of the first k rows that a sixel with these bits sets, plus one, or 0 if there is none
@@ -22,20 +24,24 @@ abbrev pub lowered : ℕ → ℕ → ℕ → ℕ
 lowered before top rows = if nat_lt 0 rows then max before (top + rows) else before
 
 -- the last row of the picture with a set pixel, plus one, or 0 if there is none
-abbrev pub drawn_height : History → ℕ
-drawn_height [] = 0
-drawn_height (Sixel bits ∷ older) = lowered (drawn_height older) (down older) (set_rows bits)
-drawn_height (_ ∷ older) = drawn_height older
+abbrev pub drawn_height : Limit → History → ℕ
+drawn_height limit [] = 0
+drawn_height limit (Sixel bits ∷ older) =
+    if is_inside limit older
+    then lowered (drawn_height limit older) (down older)
+    (set_rows (clipped_bits limit (down older) bits))
+    else drawn_height limit older
+drawn_height limit (_ ∷ older) = drawn_height limit older
 
 -- that of a payload: a command that is open draws nothing, so the end changes nothing
-abbrev pub payload_drawn_height : List ℕ → ℕ
-payload_drawn_height bytes = drawn_height (history_of (front bytes))
+abbrev pub payload_drawn_height : Limit → List ℕ → ℕ
+payload_drawn_height limit bytes = drawn_height limit (history_of (front bytes))
 
 -- that of a DCS sequence, and 0 before its payload
-abbrev pub stage_drawn_height : Stage → ℕ
-stage_drawn_height Heading = 0
-stage_drawn_height (Failing fault) = 0
-stage_drawn_height (Reading settings payload) = payload_drawn_height payload
+abbrev pub stage_drawn_height : Limit → Stage → ℕ
+stage_drawn_height limit Heading = 0
+stage_drawn_height limit (Failing fault) = 0
+stage_drawn_height limit (Reading settings payload) = payload_drawn_height limit payload
 
-abbrev pub dcs_drawn_height : List ℕ → ℕ
-dcs_drawn_height bytes = stage_drawn_height (stage bytes)
+abbrev pub dcs_drawn_height : Limit → List ℕ → ℕ
+dcs_drawn_height limit bytes = stage_drawn_height limit (stage bytes)

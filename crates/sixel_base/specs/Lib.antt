@@ -9,6 +9,7 @@ pub mod Bytes
 pub mod History
 pub mod Place
 pub mod Stroke
+pub mod Clip
 pub mod Picture
 pub mod Payload
 pub mod Decoder
@@ -16,6 +17,7 @@ pub mod Status
 pub mod Reach
 pub mod Header
 pub mod OneShot
+pub mod Partial
 pub mod Dcs
 pub mod DrawnHeight
 pub mod inside

@@ -1,4 +1,4 @@
--- The limits of the format, as this library sets them.
+-- The limits of the format, as this library sets them, and those that a host sets.
 use Rattle.std.specs.Prelude.{ℕ}
 
 -- the greatest width, height, edge of a sixel and raster size, in pixels
@@ -20,3 +20,14 @@ parameter_limit = 2147483647
 -- the greatest value of a header's parameter, which greater ones are read as
 abbrev pub header_limit : ℕ
 header_limit = 65535
+
+-- which pixels an image may have: at most so many, in so many columns from the left and so many
+-- rows from the top, its clip
+pub record Limit : Type 0 where
+  pub pixels : ℕ
+  pub columns : ℕ
+  pub rows : ℕ
+
+-- the limit that a host sets none above: it clips nothing
+abbrev pub whole_limit : Limit
+whole_limit = record { pixels = area_limit; columns = side_limit; rows = side_limit }

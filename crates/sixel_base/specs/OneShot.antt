@@ -4,6 +4,7 @@
 use Rattle.std.specs.Prelude.{ℕ, ◌≡◌, ◌==◌, Bool, false, ◌&&◌, if◌then◌else◌, List, [], ◌∷◌, Option}
 use Rattle.std.specs.Prelude.{Some, None}
 use Rattle.sixel_base.specs.Fault.{Fault, MissingCommand}
+use Rattle.sixel_base.specs.Limits.{Limit}
 use Rattle.sixel_base.specs.Settings.{Settings}
 use Rattle.sixel_base.specs.Payload.{Image, payload_fault, payload_image, payload_registers}
 use Rattle.sixel_base.specs.Payload.{payload_wants}
@@ -51,12 +52,12 @@ abbrev pub found : List ℕ → Found
 found bytes = found_in bytes (after_introducer bytes)
 
 -- what is wrong with the bytes
-abbrev pub found_fault : ℕ → Found → Option Fault
+abbrev pub found_fault : Limit → Found → Option Fault
 found_fault limit (Payload settings payload) = payload_fault limit payload
 found_fault limit (NoPayload fault) = Some fault
 
 -- whether decoding them may run out of memory
-abbrev pub found_wants : ℕ → Found → Bool
+abbrev pub found_wants : Limit → Found → Bool
 found_wants limit (Payload settings payload) = payload_wants limit payload
 found_wants limit (NoPayload fault) = false
 

@@ -2,15 +2,16 @@
 -- leaves. While bytes still come, a command that could go on is open and counts for nothing yet.
 -- The limits are this library's own.
 use Rattle.std.specs.Prelude.{ℕ, Bool, ◌+◌, ◌*◌, nat_lt, ◌&&◌, ◌||◌, if◌then◌else◌, List, [], ◌∷◌}
-use Rattle.std.specs.Prelude.{Option, Some, None, is_none}
+use Rattle.std.specs.Prelude.{Option, Some, None, is_none, min}
 use Rattle.std.specs.Option.{option_or}
-use Rattle.sixel_base.specs.Limits.{side_limit, repeat_limit}
+use Rattle.sixel_base.specs.Limits.{Limit, side_limit, repeat_limit}
 pub use Rattle.sixel_base.specs.Limits.{area_limit}
 use Rattle.sixel_base.specs.declared.settings.BackgroundMode.{BackgroundMode}
 use Rattle.sixel_base.specs.declared.settings.PixelAspectRatio.{PixelAspectRatio}
 use Rattle.sixel_base.specs.Settings.{mode_of, ratio_of}
 use Rattle.sixel_base.specs.Fault.{Fault, Malformed, TooLarge, Overflow}
 use Rattle.sixel_base.specs.Fields.{field}
+use Rattle.sixel_base.specs.Clip.{clipped_width, clipped_height}
 use Rattle.sixel_base.specs.Picture.{picture}
 use Rattle.sixel_base.specs.Bytes.{front, is_terminated}
 use Rattle.sixel_base.specs.History.{Token, Sixel, Repeat, Raster, Color, Return, Newline, Skip}
@@ -18,20 +19,21 @@ use Rattle.sixel_base.specs.History.{History, history_of}
 use Rattle.sixel_base.specs.Place.{span, across, down, width, height, raster_height}
 use Rattle.sixel_base.specs.Stroke.{Origin, pixel, ratio, registers}
 
--- a picture whose area is above the limit
-abbrev pub area_fault : ℕ → History → Option Fault
+-- a picture whose area inside the clip is above the limit
+abbrev pub area_fault : Limit → History → Option Fault
 area_fault limit history =
-    if nat_lt limit (width history * height history) then Some TooLarge else None
+    if nat_lt limit.pixels (clipped_width limit history * clipped_height limit history)
+    then Some TooLarge else None
 
 -- A side above the limit comes before the area that it makes.
-abbrev pub extent_fault : ℕ → ℕ → ℕ → History → Option Fault
+abbrev pub extent_fault : Limit → ℕ → ℕ → History → Option Fault
 extent_fault limit right lower history =
     if nat_lt side_limit right || nat_lt side_limit lower then Some Malformed
     else area_fault limit history
 
 -- the fault of a token, after these: a repeat above the limit; raster attributes or a sixel past
 -- the limits; more new lines than a row number can count
-abbrev pub fault_of : ℕ → Token → History → Option Fault
+abbrev pub fault_of : Limit → Token → History → Option Fault
 fault_of limit (Sixel bits) older =
     extent_fault limit (across older + span older) (down older + 6) (Sixel bits ∷ older)
 fault_of limit (Repeat text) older =
@@ -45,7 +47,7 @@ fault_of limit Newline older =
 fault_of limit (Skip byte) older = None
 
 -- the fault of the first token that has one
-abbrev pub first_fault : ℕ → History → Option Fault
+abbrev pub first_fault : Limit → History → Option Fault
 first_fault limit [] = None
 first_fault limit (token ∷ older) = option_or (first_fault limit older) (fault_of limit token older)
 
@@ -62,11 +64,11 @@ settled bytes =
     if is_terminated bytes then history_of (front bytes) else closed (history_of (front bytes))
 
 -- what is wrong with bytes that have been fed
-abbrev pub fed_fault : ℕ → List ℕ → Option Fault
+abbrev pub fed_fault : Limit → List ℕ → Option Fault
 fed_fault limit bytes = first_fault limit (settled bytes)
 
 -- what is wrong with a payload that has ended
-abbrev pub payload_fault : ℕ → List ℕ → Option Fault
+abbrev pub payload_fault : Limit → List ℕ → Option Fault
 payload_fault limit bytes = first_fault limit (history_of (front bytes))
 
 -- an image apart from where its bytes lie
@@ -77,19 +79,25 @@ pub record Image : Type 0 where
   pub aspect_ratio : PixelAspectRatio
   pub background_mode : BackgroundMode
 
--- how high an image is: with crop as high as its last raster attributes say that name a height,
--- else as its extent
-abbrev pub image_height : Bool → History → ℕ
-image_height raster_crop history =
+-- how high an image is without a clip: with crop as high as its last raster attributes say that
+-- name a height, else as its extent
+abbrev pub cropped_height : Bool → History → ℕ
+cropped_height raster_crop history =
     if raster_crop && nat_lt 0 (raster_height history) then raster_height history
     else height history
 
--- the image of a history
+-- how high an image is inside the clip
+abbrev pub image_height : Limit → Bool → History → ℕ
+image_height limit raster_crop history = min (cropped_height raster_crop history) limit.rows
+
+-- the image of a history: its picture, restricted to the clip
 abbrev pub image_of : Origin → History → Image
 image_of origin history = record {
-  pixels = picture (pixel origin history) (width history) (image_height origin.raster_crop history);
-  width = width history;
-  height = image_height origin.raster_crop history;
+  pixels =
+      picture (pixel origin history) (clipped_width origin.pixel_limit history)
+      (image_height origin.pixel_limit origin.raster_crop history);
+  width = clipped_width origin.pixel_limit history;
+  height = image_height origin.pixel_limit origin.raster_crop history;
   aspect_ratio = ratio (ratio_of origin.settings) history;
   background_mode = mode_of origin.settings;
 }
@@ -116,6 +124,6 @@ growths (_ ∷ older) = growths older
 
 -- whether decoding a payload may run out of memory: where it has an image, or a closed command may
 -- have allocated
-abbrev pub payload_wants : ℕ → List ℕ → Bool
+abbrev pub payload_wants : Limit → List ℕ → Bool
 payload_wants limit bytes =
     is_none (payload_fault limit bytes) || nat_lt 0 (growths (settled bytes))

@@ -13,6 +13,7 @@ use Rattle.sixel_base.specs.Fields.{fields, field}
 use Rattle.sixel_base.specs.Color.{rgb, hls}
 use Rattle.sixel_base.specs.Picture.{covers}
 use Rattle.sixel_base.specs.History.{Sixel, Raster, Color, History}
+use Rattle.sixel_base.specs.Limits.{Limit}
 use Rattle.sixel_base.specs.Place.{span, across, down}
 
 -- the register that a color introducer selects
@@ -49,12 +50,12 @@ abbrev pub color : List (List ℕ) → History → List ℕ
 color start history = slice_index_or (registers start history) (selected history) []
 
 -- what a picture begins from: the registers, the settings, whether it is cropped to its raster
--- attributes, and the greatest area of its extent in pixels
+-- attributes, and which pixels it may have
 pub record Origin : Type 0 where
   pub registers : List (List ℕ)
   pub settings : Settings
   pub raster_crop : Bool
-  pub pixel_limit : ℕ
+  pub pixel_limit : Limit
 
 -- a pixel where nothing was drawn: transparent, or register 0 as the picture began
 abbrev pub background_of : List (List ℕ) → BackgroundMode → List ℕ

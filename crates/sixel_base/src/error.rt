@@ -3,9 +3,9 @@
 ghost use Rattle.std.specs.Prelude.{◌≡◌};
 ghost use Rattle.sixel_base.specs.declared.error.SixelError.TheVariants.{OutOfMemory};
 ghost use Rattle.sixel_base.specs.Fault.{IsFault, Malformed, TooLarge, MissingCommand, BadHeader};
-ghost use Rattle.sixel_base.specs.Fault.{StreamFailed, DcsStreamFailed, Incomplete};
+ghost use Rattle.sixel_base.specs.Fault.{StreamFailed, DcsStreamFailed, Incomplete, is_fault};
 ghost use Rattle.sixel_base.specs.CallFault.{IsCallFault, ColorCount, IndexRange};
-ghost use Rattle.sixel_base.specs.CallFault.{RowsNotFinal, ShortStride};
+ghost use Rattle.sixel_base.specs.CallFault.{RowsNotFinal, RowsReleased, ShortStride};
 
 use std::alloc::{AllocError, AllocFailed};
 use thiserror::Error;
@@ -30,6 +30,8 @@ pub const COLOR_COUNT: &str = "number of colors is not 1 to 256";
 pub const INDEX_RANGE: &str = "palette index out of range";
 /// The text of rows that bytes to come can change, or that the image so far does not have.
 pub const ROWS_NOT_FINAL: &str = "rows are not final";
+/// The text of rows that were released, so that no memory has them.
+pub const ROWS_RELEASED: &str = "rows were released";
 /// The text of a stride that is shorter than a row of the caller's memory.
 pub const SHORT_STRIDE: &str = "stride is shorter than a row";
 
@@ -60,6 +62,13 @@ pub enum SixelError {
 }
 
 impl SixelError {
+    /// Whether the data are wrong. An allocation that failed is no fault of the data.
+    pub fn is_fault(&self) -> bool
+        ensures { result ≡ is_fault self.now }
+    {
+        !matches!(self, SixelError::OutOfMemory)
+    }
+
     /// The error of data that break the grammar or a limit of one command.
     pub fn malformed() -> SixelError
         ensures { IsFault result Malformed }
@@ -128,6 +137,13 @@ impl SixelError {
         ensures { IsCallFault result RowsNotFinal }
     {
         SixelError::InvalidData(ROWS_NOT_FINAL)
+    }
+
+    /// The error of rows that were released.
+    pub fn rows_released() -> SixelError
+        ensures { IsCallFault result RowsReleased }
+    {
+        SixelError::InvalidData(ROWS_RELEASED)
     }
 
     /// The error of a stride that is shorter than a row.

@@ -1,49 +1,109 @@
 //! What a decoder keeps from one image to the next.
 
 ghost use Rattle.std.specs.Prelude.{◌≡◌, ◌≤◌};
-ghost use Rattle.sixel_base.specs.Limits.{area_limit};
-ghost use Rattle.sixel_base.specs.Decoder.{limit_of, new_decoder};
+ghost use Rattle.sixel_base.specs.Limits.{area_limit, side_limit, whole_limit};
+ghost use Rattle.sixel_base.specs.Decoder.{clip_side_of, limit_of, new_decoder};
 
-use crate::limits::MAX_AREA;
+use crate::limits::{MAX_AREA, MAX_SIDE};
 use crate::registers::Registers;
 use std::marker::Model;
 
-/// How many pixels an image may reach: at least 1, at most [`MAX_AREA`].
+/// Which pixels an image may have: how many, in which columns and rows.
+///
+/// The columns from the left and the rows from the top are its clip. Nothing outside is drawn,
+/// stored or counted.
 #[derive(Debug, Clone, Copy)]
 pub struct PixelLimit {
     pixels: usize,
+    columns: usize,
+    rows: usize,
 }
 
 impl Model for PixelLimit {
-    ghost use Rattle.std.specs.Prelude.{ℕ, ◌≤◌};
-    ghost use Rattle.sixel_base.specs.Limits.{area_limit};
+    ghost use Rattle.std.specs.Prelude.{◌≤◌};
+    ghost use Rattle.sixel_base.specs.Limits.{Limit, area_limit, side_limit};
 
-    ghost Value = { ℕ };
+    ghost Value = { Limit };
 
-    ghost view = { λ limit. limit.pixels };
+    ghost view = { λ limit. record {
+      pixels = limit.pixels;
+      columns = limit.columns;
+      rows = limit.rows;
+    } };
 
-    ghost inverse = { λ pixels. record { pixels = pixels } };
+    ghost inverse = { λ limit. record {
+      pixels = limit.pixels;
+      columns = limit.columns;
+      rows = limit.rows;
+    } };
 
-    ghost invariant = { λ limit. (1 ≤ limit.pixels) × (limit.pixels ≤ area_limit) };
+    ghost invariant = { λ limit. (1 ≤ limit.pixels) × (limit.pixels ≤ area_limit)
+        × (1 ≤ limit.columns) × (limit.columns ≤ side_limit)
+        × (1 ≤ limit.rows) × (limit.rows ≤ side_limit) };
 }
 
 impl PixelLimit {
-    /// The limit that is nearest to so many pixels.
-    pub fn new(pixels: usize) -> Self
-        ensures { result ≡ limit_of pixels }
+    /// The limit of a new decoder, which clips nothing.
+    pub fn new() -> Self
+        ensures { result ≡ whole_limit }
     {
         Self {
-            pixels: pixels.clamp(1, MAX_AREA),
+            pixels: MAX_AREA,
+            columns: MAX_SIDE,
+            rows: MAX_SIDE,
         }
     }
 
-    /// The limit in pixels.
+    /// The same limit with the number of pixels that is nearest to this one.
+    pub fn with_pixels(self, pixels: usize) -> Self
+        ensures { result ≡ record self { pixels = limit_of pixels } }
+    {
+        Self {
+            pixels: pixels.clamp(1, MAX_AREA),
+            ..self
+        }
+    }
+
+    /// The same limit with the clip that is nearest to this one.
+    pub fn with_clip(self, width: usize, height: usize) -> Self
+        ensures { result
+            ≡ record self { columns = clip_side_of width; rows = clip_side_of height } }
+    {
+        Self {
+            columns: width.clamp(1, MAX_SIDE),
+            rows: height.clamp(1, MAX_SIDE),
+            ..self
+        }
+    }
+
+    /// How many pixels an image may have.
+    #[inline(always)]
     pub fn pixels(self) -> usize
-        ensures value { result ≡ self }
-        ensures some { 1 ≤ self }
-        ensures within { self ≤ area_limit }
+        ensures value { result ≡ self.pixels }
+        ensures some { 1 ≤ self.pixels }
+        ensures within { self.pixels ≤ area_limit }
     {
         self.pixels
+    }
+
+    /// How many columns of an image are inside the clip.
+    #[inline(always)]
+    pub fn columns(self) -> usize
+        ensures value { result ≡ self.columns }
+        ensures some { 1 ≤ self.columns }
+        ensures within { self.columns ≤ side_limit }
+    {
+        self.columns
+    }
+
+    /// How many rows of an image are inside the clip.
+    #[inline(always)]
+    pub fn rows(self) -> usize
+        ensures value { result ≡ self.rows }
+        ensures some { 1 ≤ self.rows }
+        ensures within { self.rows ≤ side_limit }
+    {
+        self.rows
     }
 }
 
@@ -54,7 +114,7 @@ pub struct DecoderState {
     pub registers: Registers,
     /// Whether an image has the height that its raster attributes name.
     pub raster_crop: bool,
-    /// How many pixels the extent of an image may have.
+    /// Which pixels an image may have.
     pub pixel_limit: PixelLimit,
 }
 
@@ -66,7 +126,7 @@ impl DecoderState {
         Self {
             registers: Registers::new(),
             raster_crop: false,
-            pixel_limit: PixelLimit::new(MAX_AREA),
+            pixel_limit: PixelLimit::new(),
         }
     }
 }
