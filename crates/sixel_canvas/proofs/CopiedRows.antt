@@ -97,3 +97,22 @@ copied_row shown first rows k n layout old mid part fits less is len copied befo
     ∙ if_same (nat_le start at && nat_lt at (start + n)) (get_or part (at - start) 0) pixel
     (get_or mid at 0) here)
     hit (before row byte inside) (rows_up row k)
+
+-- the same rows under other numbers were copied
+pub copied_same :
+    (p q : ℕ → ℕ → List ℕ) (first' first rows : ℕ) (layout : RowLayout) (old new : List ℕ) →
+    ((column row : ℕ) → row < rows → q column (first + row) ≡ p column (first' + row)) →
+    AreCopied p first' rows layout old new → AreCopied q first rows layout old new
+copied_same p q first' first rows layout old new same copied row byte inside =
+    copied row byte inside ∙ elim (cases_lt row rows) [
+      | inl above ↦
+          let pixel : q (byte / 4) (first + row) ≡ p (byte / 4) (first' + row) =
+          same (byte / 4) row above in
+          rw (lt-ltb row rows above)
+          (ap
+          (λ x.
+          if nat_lt byte (4 * layout.columns) then get_or (in_order layout.order x) (byte % 4) 0
+          else get_or old (row * layout.stride + byte) 0)
+          (sym pixel))
+      | inr below ↦ rw (le-ltb row rows below) refl
+    ]

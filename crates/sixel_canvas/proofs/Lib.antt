@@ -8,6 +8,7 @@ pub mod Pictures
 pub mod PixelBytes
 pub mod PixelLists
 pub mod Pixels
+pub mod ReleasedRows
 pub mod Results
 pub mod RowBytes
 pub mod Runs

@@ -73,6 +73,12 @@ pixel_part bytes from n i inside =
     ∙ take-take_less 4 (4 * (n - i)) (drop (4 * i) rest) (omega (arith, inside))
     ∙ ap (take 4) (drop-drop_sum (4 * from) (4 * i) (4 * (from + i)) bytes at)
 
+-- a pixel of the bytes below some pixels
+pub pixel_dropped : (bytes : List ℕ) (from i : ℕ) →
+    pixel_at (drop (4 * from) bytes) i ≡ pixel_at bytes (from + i)
+pixel_dropped bytes from i =
+    ap (take 4) (drop-drop_sum (4 * from) (4 * i) (4 * (from + i)) bytes (omega arith))
+
 -- bytes are their pixels, one after another
 pub pixels_joined : (f : ℕ → List ℕ) (bytes : List ℕ) (n : ℕ) → length bytes ≡ 4 * n →
     ((i : ℕ) → i < n → pixel_at bytes i ≡ f i) → bytes ≡ joined f n
@@ -282,12 +288,12 @@ row_copied old bytes part new background held width row rows kept least four ins
           ])
     ]
 
-products : (a b n : ℕ) → a ≤ b → b * n ≡ a * n + (b - a) * n
+pub products : (a b n : ℕ) → a ≤ b → b * n ≡ a * n + (b - a) * n
 products a b n le =
     let on : a + (b - a) ≡ b = omega (arith, le) in
     ap (λ m. m * n) (sym on) ∙ omega arith
 
-and_false : (a : Bool) → (a && false) ≡ false
+pub and_false : (a : Bool) → (a && false) ≡ false
 and_false true = refl
 and_false false = refl
 

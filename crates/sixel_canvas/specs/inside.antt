@@ -5,6 +5,7 @@ pub mod Drawn
 pub mod FinalRows
 pub mod Paints
 pub mod Pixels
+pub mod ReleasedRows
 pub mod RowCanvas
 pub mod TaggedBand
 pub mod TaggedRow

@@ -3,13 +3,14 @@ ghost use Rattle.std.specs.Prelude.{◌≡◌, ℕ, ◌+◌, ◌*◌, ◌^◌, �
 ghost use Rattle.std.specs.Prelude.{◌-◌, length, nat_lt, if◌then◌else◌};
 ghost use Rattle.sixel_canvas.specs.Layout.{AreCopied, AreRowsIn};
 ghost use Rattle.sixel_canvas.specs.inside.Band.{cell};
-ghost use Rattle.sixel_canvas.specs.inside.BandCanvas.{band_canvas_shown, IsHeld, IsPaid};
+ghost use Rattle.sixel_canvas.specs.inside.BandCanvas.{above_band, band_canvas_shown, IsPaid};
 ghost use Rattle.sixel_canvas.specs.inside.FinalRows.{final};
 ghost use Rattle.sixel_canvas.specs.inside.TaggedBand.{capacity, tagged_cell};
 
 use crate::channels::RowLayout;
 use crate::drawing::Canvas;
 use crate::final_rows::FinalRows;
+use crate::released_rows::ReleasedRows;
 use crate::tagged_band::TaggedBand;
 use sixel_base::limits::MAX_SIDE;
 use std::alloc::{AllocError, Global};
@@ -19,8 +20,12 @@ use std::marker::Model;
 ///
 /// Once the band moves down, its six rows are appended to the final ones, if anything was drawn
 /// on them. Their memory is reserved before the band is drawn on, so that moving never fails.
+///
+/// The first final rows can be released. Then the canvas stores only the rows below them.
 #[derive(Drop)]
 pub struct BandCanvas {
+    gone: ReleasedRows,
+    released: usize,
     rows: FinalRows,
     band: TaggedBand,
     top: usize,
@@ -34,10 +39,11 @@ impl Model for BandCanvas {
 
     ghost Value = { BandCanvasState };
 
-    ghost view = { λ canvas. band_canvas_state canvas.rows canvas.band canvas.top canvas.held };
+    ghost view = { λ canvas. band_canvas_state canvas.gone.rows canvas.released canvas.rows
+        canvas.band canvas.top canvas.held };
 
-    ghost invariant = { λ canvas. IsBandCanvas
-        (band_canvas_state canvas.rows canvas.band canvas.top canvas.held) };
+    ghost invariant = { λ canvas. IsBandCanvas (band_canvas_state canvas.gone.rows canvas.released
+        canvas.rows canvas.band canvas.top canvas.held) };
 }
 
 impl Canvas for BandCanvas {
@@ -46,6 +52,8 @@ impl Canvas for BandCanvas {
     ghost top = { λ canvas. canvas.top };
 
     ghost held = { λ canvas. canvas.held };
+
+    ghost released = { λ canvas. canvas.released };
 
     ghost work = { λ canvas. record {
       writes = 0;
@@ -58,6 +66,8 @@ impl Canvas for BandCanvas {
 
     fn new(alloc: Global, background: [u8; 4]) -> BandCanvas {
         BandCanvas {
+            gone: ReleasedRows::new(),
+            released: 0,
             rows: FinalRows::new(alloc, background),
             band: TaggedBand::new(alloc, background),
             top: 0,
@@ -118,6 +128,9 @@ impl Canvas for BandCanvas {
     }
 
     fn take_picture(&mut self, width: usize, height: usize) -> Result<Vec<u8>, AllocError> {
+        if self.released > 0 {
+            return Err(AllocError);
+        }
         self.finish_rows();
         self.rows.take(width, height)
     }
@@ -131,8 +144,16 @@ impl BandCanvas {
         self.band.painted()
     }
 
+    /// Returns how many rows from the top are released.
+    pub fn released_rows(&self) -> usize
+        ensures { result ≡ self.now.released }
+    {
+        self.released
+    }
+
     /// Copies so many final rows from row `first` on to a caller's memory.
     pub fn copy_rows(&self, first: usize, rows: usize, layout: RowLayout, out: &mut [u8])
+        requires stored { self.now.released ≤ first }
         requires above { first + rows ≤ self.now.top }
         requires fits { AreRowsIn layout rows (length out.old) }
         ensures len { length out.new ≡ length out.old }
@@ -140,20 +161,57 @@ impl BandCanvas {
     {
         // The proof reads the top for the range of its type.
         let _top = self.top;
-        self.rows.copy(first, rows, layout, out);
+        self.rows.copy(first - self.released, rows, layout, out);
     }
 
     /// Copies so many rows of the picture from row `first` on to a caller's memory.
     ///
     /// All that was drawn is final then.
     pub fn copy_picture(&mut self, first: usize, rows: usize, layout: RowLayout, out: &mut [u8])
+        requires stored { self.old.released ≤ first }
         requires within { first + rows < 2 ^ 64 }
         requires fits { AreRowsIn layout rows (length out.old) }
         ensures len { length out.new ≡ length out.old }
         ensures copied { AreCopied (band_canvas_shown self.old) first rows layout out.old out.new }
     {
         self.finish_rows();
-        self.rows.copy(first, rows, layout, out);
+        self.rows.copy(first - self.released, rows, layout, out);
+    }
+
+    /// Releases the final rows above row `rows`.
+    ///
+    /// Their memory is reused. It is freed if no other row is stored and the band is empty.
+    pub fn release_rows(&mut self, rows: usize)
+        requires above { rows ≤ self.old.top }
+        ensures shown { (column row : ℕ) → band_canvas_shown self.new column row
+            ≡ band_canvas_shown self.old column row }
+        ensures released { self.new.released ≡ max self.old.released rows }
+        ensures top { self.new.top ≡ self.old.top }
+        ensures band { self.new.band ≡ self.old.band }
+        ensures room { self.old.band.pixels.reach ≡ 0
+            → self.old.released + self.old.rows.rows ≤ rows → self.new.rows.room ≡ 0 }
+    {
+        let count = rows.saturating_sub(self.released);
+        self.gone.extend(&self.rows, count);
+        self.rows.remove(count);
+        self.released += count;
+        self.free_unused();
+    }
+
+    /// Frees the memory of the rows, if none is stored and the band is empty.
+    fn free_unused(&mut self)
+        ensures shown { (column row : ℕ) → band_canvas_shown self.new column row
+            ≡ band_canvas_shown self.old column row }
+        ensures released { self.new.released ≡ self.old.released }
+        ensures top { self.new.top ≡ self.old.top }
+        ensures band { self.new.band ≡ self.old.band }
+        ensures room { self.old.band.pixels.reach ≡ 0 → self.old.rows.rows ≡ 0
+            → self.new.rows.room ≡ 0 }
+    {
+        if self.band.reach() == 0 {
+            self.rows.free_unused();
+            self.held = 0;
+        }
     }
 
     /// Makes memory for so many columns of the band, and for its rows among the final ones.
@@ -166,6 +224,7 @@ impl BandCanvas {
         ensures shown { OnOk result ((column row : ℕ) → band_canvas_shown self.new column row
             ≡ band_canvas_shown self.old column row) }
         ensures top { OnOk result (self.new.top ≡ self.old.top) }
+        ensures released { OnOk result (self.new.released ≡ self.old.released) }
         ensures capacity { OnOk result (capacity self.new.band
             ≤ max (capacity self.old.band) (2 * columns + 16)) }
         ensures reach { OnOk result (self.new.band.pixels.reach ≡ self.old.band.pixels.reach) }
@@ -188,6 +247,7 @@ impl BandCanvas {
         ensures shown { OnOk result ((column row : ℕ) → band_canvas_shown self.new column row
             ≡ band_canvas_shown self.old column row) }
         ensures top { OnOk result (self.new.top ≡ self.old.top) }
+        ensures released { OnOk result (self.new.released ≡ self.old.released) }
         ensures capacity { OnOk result (capacity self.new.band
             ≤ max (capacity self.old.band) (2 * columns + 16)) }
         ensures reach { OnOk result (self.new.band.pixels.reach ≡ self.old.band.pixels.reach) }
@@ -196,7 +256,7 @@ impl BandCanvas {
         let least = columns
             .max(self.held)
             .max(self.expected_width.min(MAX_SIDE));
-        self.rows.reserve(least, self.top + 6)?;
+        self.rows.reserve(least, self.top - self.released + 6)?;
         if self.band.cap() < columns + 8 {
             self.band.widen(columns + 8)?;
         }
@@ -206,19 +266,21 @@ impl BandCanvas {
 
     /// Makes all that was drawn final, and moves the band below it.
     fn finish_rows(&mut self)
-        ensures shown { (column row : ℕ) → final self.new.rows column row
+        ensures shown { (column row : ℕ) → above_band self.new column row
             ≡ band_canvas_shown self.old column row }
         ensures empty { (column k : ℕ) → tagged_cell self.new.band column k
             ≡ self.new.rows.background }
         ensures reach { self.new.band.pixels.reach ≡ 0 }
         ensures capacity { capacity self.new.band ≡ capacity self.old.band }
         ensures top { self.new.top ≤ self.old.top + 6 }
+        ensures released { self.new.released ≡ self.old.released }
         ensures held { self.new.held ≡ 0 }
         ensures painted { self.new.band.painted ≡ self.old.band.painted }
     {
         if self.band.reach() > 0 {
             let width = self.expected_width;
-            hand_out(&mut self.rows, &mut self.band, self.top, width);
+            let top = self.top - self.released;
+            hand_out(&mut self.rows, &mut self.band, top, width);
             self.top += 6;
         }
         self.held = 0;

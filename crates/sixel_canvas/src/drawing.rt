@@ -23,6 +23,9 @@ pub trait Canvas {
     /// So many columns of the band are drawn on without an allocation.
     ghost held: { Self → ℕ };
 
+    /// So many rows from the top are released: the canvas does not store them any more.
+    ghost released: { Self → ℕ };
+
     /// What it has cost: pixels written as it grew, capacity, and pixels painted.
     ghost work: { Self → Work };
 
@@ -33,6 +36,7 @@ pub trait Canvas {
     fn new(alloc: Global, background: [u8; 4]) -> Self
         ensures shown { (column row : ℕ) → shown result column row ≡ background }
         ensures top { top result ≡ 0 }
+        ensures released { released result ≡ 0 }
         ensures work { work result ≡ no_work }
         ensures paid { paid result [] };
 
@@ -49,6 +53,7 @@ pub trait Canvas {
         ensures shown { (column row : ℕ) → shown self.new column row ≡ shown self.old column row }
         ensures top { top self.new ≡ top self.old }
         ensures held { held self.new ≡ held self.old }
+        ensures released { released self.new ≡ released self.old }
         ensures paid { (runs : List Run) → paid self.old runs → paid self.new runs };
 
     /// Draws a sixel over the columns from `from` up to before `to` of the band.
@@ -62,6 +67,7 @@ pub trait Canvas {
             ≡ (if covers from to (top self.old) bits column row then color
             else shown self.old column row)) }
         ensures top { OnOk result (top self.new ≡ top self.old) }
+        ensures released { OnOk result (released self.new ≡ released self.old) }
         ensures paid { OnOk result ((runs : List Run) → paid self.old runs
             → paid self.new (run from to (top self.old) bits ∷ runs)) };
 
@@ -76,6 +82,7 @@ pub trait Canvas {
             ≡ (if covers at (at + 1) (top self.old) bits column row then color
             else shown self.old column row) }
         ensures top { top self.new ≡ top self.old }
+        ensures released { released self.new ≡ released self.old }
         ensures paid { (runs : List Run) → paid self.old runs
             → paid self.new (run at (at + 1) (top self.old) bits ∷ runs) };
 
@@ -98,6 +105,7 @@ pub trait Canvas {
             ≡ (if covers_block from sixels (top self.old) column row then color
             else shown self.old column row)) }
         ensures top { OnOk result (top self.new ≡ top self.old) }
+        ensures released { OnOk result (released self.new ≡ released self.old) }
         ensures paid { OnOk result ((runs : List Run) → paid self.old runs
             → paid self.new (with_sixels from (take len sixels) (top self.old) runs)) }
     {
@@ -112,13 +120,17 @@ pub trait Canvas {
         requires { top self.old + 6 < 2 ^ 64 }
         ensures shown { (column row : ℕ) → shown self.new column row ≡ shown self.old column row }
         ensures top { top self.new ≡ top self.old + 6 }
+        ensures released { released self.new ≡ released self.old }
         ensures paid { (runs : List Run) → paid self.old runs → paid self.new runs };
 
     /// Returns the bytes of the picture of this size, and leaves the canvas without it.
+    ///
+    /// It fails if rows were released, because no memory has them.
     fn take_picture(&mut self, width: usize, height: usize) -> Result<Vec<u8>, AllocError>
         requires narrow { width ≤ side_limit }
         requires few { height ≤ side_limit }
         requires small { width * height ≤ area_limit }
         ensures ok { IfOk result (λ bytes. bytes.items ≡ picture (shown self.old) width height) }
-        ensures len { IfOk result (λ bytes. length bytes.items ≡ 4 * (width * height)) };
+        ensures len { IfOk result (λ bytes. length bytes.items ≡ 4 * (width * height)) }
+        ensures whole { OnOk result (released self.old ≡ 0) };
 }

@@ -1,12 +1,12 @@
 //! The rows of an image that are final, in the bytes of the image.
 ghost use Rattle.std.specs.Prelude.{◌≡◌, ℕ, ◌+◌, ◌-◌, ◌*◌, ◌^◌, ◌≤◌, ◌<◌, ◌++◌, ◌==◌};
 ghost use Rattle.std.specs.Prelude.{◌/◌, ◌%◌, List, length, max, nat_lt, ◌&&◌};
-ghost use Rattle.std.specs.Prelude.{slice_index, slice_index_or};
+ghost use Rattle.std.specs.Prelude.{drop, slice_index, slice_index_or};
 ghost use Rattle.std.specs.Prelude.{IfOk, IsOk, OnErr, OnOk, if◌then◌else◌};
 ghost use Rattle.std.specs.Prelude.{vec_len, vec_capacity};
 ghost use Rattle.sixel_base.specs.Picture.{joined, picture};
 ghost use Rattle.sixel_canvas.specs.Layout.{AreCopied, AreRowsIn, in_order};
-ghost use Rattle.sixel_canvas.specs.inside.FinalRows.{final, pixel_at};
+ghost use Rattle.sixel_canvas.specs.inside.FinalRows.{AreRows, final, pixel_at};
 
 use crate::channels::{ChannelOrder, RowLayout, copy_row};
 use crate::span::add_pixels;
@@ -159,6 +159,34 @@ impl FinalRows {
         self.rows += 1;
     }
 
+    /// Removes so many rows from the top, or all. Their memory is reused.
+    pub fn remove(&mut self, count: usize)
+        ensures sound { AreRows self.old }
+        ensures shown { (column row : ℕ) → final self.new column row
+            ≡ final self.old column (row + count) }
+        ensures rows { self.new.rows ≡ self.old.rows - count }
+        ensures width { self.new.width ≡ self.old.width }
+        ensures room { self.new.room ≡ self.old.room }
+        ensures background { self.new.background ≡ self.old.background }
+    {
+        let count = count.min(self.rows);
+        remove_front(&mut self.bytes, 4 * (count * self.width));
+        self.rows -= count;
+    }
+
+    /// Frees the memory, if there is no row.
+    pub fn free_unused(&mut self)
+        ensures shown { (column row : ℕ) → final self.new column row ≡ final self.old column row }
+        ensures rows { self.new.rows ≡ self.old.rows }
+        ensures width { self.new.width ≡ self.old.width }
+        ensures room { self.old.rows ≡ 0 → self.new.room ≡ 0 }
+        ensures background { self.new.background ≡ self.old.background }
+    {
+        if self.rows == 0 {
+            self.bytes.shrink_to_fit();
+        }
+    }
+
     /// Copies so many rows from row `first` on to a caller's memory.
     pub fn copy(&self, first: usize, rows: usize, layout: RowLayout, out: &mut [u8])
         requires above_bottom { first + rows < 2 ^ 64 }
@@ -236,6 +264,19 @@ impl FinalRows {
         }
         self.lay_out(width, rows)
     }
+}
+
+/// Removes so many bytes from the front. It is fast for all of them.
+fn remove_front(bytes: &mut Vec<u8>, len: usize)
+    requires { len ≤ length bytes.old.items }
+    ensures items { bytes.new.items ≡ drop len bytes.old.items }
+    ensures capacity { vec_capacity bytes.new ≡ vec_capacity bytes.old }
+{
+    if len == bytes.len() {
+        bytes.clear();
+        return;
+    }
+    bytes.drain(..len);
 }
 
 /// Appends a row of these pixels and so many of the background.

@@ -7,6 +7,7 @@ pub mod channels;
 pub mod drawing;
 pub mod final_rows;
 mod pixel_row;
+mod released_rows;
 mod row;
 pub mod row_canvas;
 mod span;

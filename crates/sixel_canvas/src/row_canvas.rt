@@ -50,6 +50,8 @@ impl Canvas for RowCanvas {
 
     ghost held = { row_canvas_held };
 
+    ghost released = { λ _. 0 };
+
     ghost work = { row_canvas_work };
 
     ghost paid = { IsDrawnBy };

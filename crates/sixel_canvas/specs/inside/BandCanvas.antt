@@ -1,43 +1,62 @@
--- What a canvas of one band shows: the final rows above the band, the six rows of the band, and
--- background elsewhere. That no row above the band changes any more is DEC's manual's: a graphics
--- new line goes down, and nothing goes up.
+-- What a canvas of one band shows: the final rows above the band, of which the first were released
+-- and the others are stored, the six rows of the band, and background elsewhere. That no row above
+-- the band changes any more is DEC's manual's: a graphics new line goes down, and nothing goes up.
 use Rattle.std.specs.Prelude.{◌≡◌, ℕ, ◌+◌, ◌-◌, ◌*◌, ◌<◌, ◌≤◌, List, nat_lt, if◌then◌else◌}
+use Rattle.std.specs.Prelude.{length}
 use Rattle.sixel_canvas.specs.inside.Drawn.{Run, band_edge, drawn_columns, right_edge, runs_paint}
 use Rattle.sixel_canvas.specs.inside.TaggedBand.{TaggedState, tagged_cell}
 use Rattle.sixel_canvas.specs.inside.FinalRows.{RowsState, final}
+use Rattle.sixel_canvas.specs.inside.ReleasedRows.{released_pixel}
 
--- the final rows, the band, its first row, and how many columns of it are drawn on without an
--- allocation
+-- the bytes of the released rows, how many these are, the final rows that are stored, the band, its
+-- first row, and how many columns of it are drawn on without an allocation
 pub record BandCanvasState : Type 0 where
+  pub gone : List (List ℕ)
+  pub released : ℕ
   pub rows : RowsState
   pub band : TaggedState
   pub top : ℕ
   pub held : ℕ
 
 -- the canvas with these parts
-abbrev pub band_canvas_state : RowsState → TaggedState → ℕ → ℕ → BandCanvasState
-band_canvas_state rows band top held = record { rows = rows; band = band; top = top; held = held }
+abbrev pub band_canvas_state : List (List ℕ) → ℕ → RowsState → TaggedState → ℕ → ℕ
+    → BandCanvasState
+band_canvas_state gone released rows band top held = record {
+  gone = gone;
+  released = released;
+  rows = rows;
+  band = band;
+  top = top;
+  held = held;
+}
+
+-- the pixel at this place of the rows above the band
+abbrev pub above_band : BandCanvasState → ℕ → ℕ → List ℕ
+above_band canvas column row =
+    if nat_lt row canvas.released then released_pixel canvas.gone canvas.rows.background column row
+    else final canvas.rows column (row - canvas.released)
 
 -- the pixel at this place
 abbrev pub band_canvas_shown : BandCanvasState → ℕ → ℕ → List ℕ
 band_canvas_shown canvas column row =
-    if nat_lt row canvas.top then final canvas.rows column row
+    if nat_lt row canvas.top then above_band canvas column row
     else tagged_cell canvas.band column (row - canvas.top)
 
--- There is memory for these columns in the band, and for its six rows among the final ones.
-pub record IsHeld (rows : RowsState) (band : TaggedState) (top held : ℕ) : Type 0 where
-  pub drawn : held + 8 ≤ band.pixels.cap
-  pub stored : held ≤ rows.width
-  pub room : 4 * ((top + 6) * rows.width) ≤ rows.room
-  pub bottom : top + 6 ≤ 1000000
+-- There is memory for these columns in the band, and for its six rows among the stored ones.
+pub record IsHeld (canvas : BandCanvasState) : Type 0 where
+  pub drawn : canvas.held + 8 ≤ canvas.band.pixels.cap
+  pub stored : canvas.held ≤ canvas.rows.width
+  pub room : 4 * ((canvas.top - canvas.released + 6) * canvas.rows.width) ≤ canvas.rows.room
+  pub bottom : canvas.top + 6 ≤ 1000000
 
 -- what is true of every canvas of one band
 pub record IsBandCanvas (canvas : BandCanvasState) : Type 0 where
-  pub above : canvas.rows.rows ≤ canvas.top
+  pub logged : length canvas.gone ≡ canvas.released
+  pub above : canvas.released + canvas.rows.rows ≤ canvas.top
   pub background : canvas.rows.background ≡ canvas.band.pixels.background
   pub reached : canvas.band.pixels.reach ≤ canvas.held
   pub narrow : canvas.held ≤ 1000000
-  pub held : 0 < canvas.held → IsHeld canvas.rows canvas.band canvas.top canvas.held
+  pub held : 0 < canvas.held → IsHeld canvas
 
 -- What is true of a band that these runs were drawn on, and that has come down to this row: its
 -- capacity is at most twice as wide as they reach, and it has painted at most the columns of their

@@ -1,8 +1,8 @@
 use Rattle.std.proofs.Common.{◌≡◌, ◌≤◌, ◌∙◌, ◌+◌, ◌-◌, ◌*◌, max, length, get_or, ap, arith, rules}
 use Rattle.std.specs.Prelude.{nat_le, nat_lt, if◌then◌else◌}
-use Rattle.sixel_canvas.specs.inside.BandCanvas.{BandCanvasState, band_canvas_shown}
+use Rattle.sixel_canvas.specs.inside.BandCanvas.{BandCanvasState, above_band, band_canvas_shown}
+use Rattle.sixel_canvas.specs.inside.BandCanvas.{band_canvas_state}
 use Rattle.sixel_canvas.specs.inside.Drawn.{covers_block}
-use Rattle.sixel_canvas.specs.inside.FinalRows.{final}
 use Rattle.sixel_canvas.specs.inside.TaggedBand.{capacity, tagged_cell}
 use Rattle.sixel_canvas.proofs.HandedRows.{canvas_over}
 use Rattle.sixel_canvas.proofs.Runs.{paid-sixels}
@@ -11,6 +11,8 @@ use Rattle.sixel_canvas.proofs.band_canvas.BandCanvasCanvas.block.Goals as goal
 pub returns-clause-drawn : goal.returns-clause-drawn
 returns-clause-drawn c = λ column row.
     let all = c.self.inside in
+    let state =
+    band_canvas_state all.gone.rows all.released all.rows all.band all.top all.held in
     let from = c.args.from in
     let sixels = c.args.sixels in
     let color = c.args.color in
@@ -19,7 +21,7 @@ returns-clause-drawn c = λ column row.
     ∙ c.in_ok-hold.ensures.shown column row in
     let top = ap (λ (s : BandCanvasState). s.top) c.self.view_is ∙ c.in_ok-hold.ensures.top in
     canvas_over (nat_le from column) (nat_lt column (from + 8)) (get_or sixels (column - from) 0)
-    all.top row (final all.rows column row) (tagged_cell all.band column (row - all.top))
+    all.top row (above_band state column row) (tagged_cell all.band column (row - all.top))
     (tagged_cell c.block.new.self column (row - all.top)) color
     (c.block.ensures.drawn column (row - all.top))
     ∙ ap (λ pixel. if covers_block from sixels all.top column row then color else pixel) shown

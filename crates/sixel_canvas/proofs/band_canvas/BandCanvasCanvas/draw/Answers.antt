@@ -1,8 +1,8 @@
 use Rattle.std.proofs.Common.{◌-◌, ◌∙◌, ap}
 use Rattle.std.specs.Prelude.{nat_le, nat_lt, if◌then◌else◌}
 use Rattle.sixel_base.specs.Picture.{covers}
-use Rattle.sixel_canvas.specs.inside.BandCanvas.{BandCanvasState, band_canvas_shown}
-use Rattle.sixel_canvas.specs.inside.FinalRows.{final}
+use Rattle.sixel_canvas.specs.inside.BandCanvas.{BandCanvasState, above_band, band_canvas_shown}
+use Rattle.sixel_canvas.specs.inside.BandCanvas.{band_canvas_state}
 use Rattle.sixel_canvas.specs.inside.TaggedBand.{tagged_cell}
 use Rattle.sixel_canvas.proofs.HandedRows.{canvas_over}
 use Rattle.sixel_canvas.proofs.band_canvas.BandCanvasCanvas.draw.Goals as goal
@@ -10,6 +10,8 @@ use Rattle.sixel_canvas.proofs.band_canvas.BandCanvasCanvas.draw.Goals as goal
 pub returns-clause-drawn : goal.returns-clause-drawn
 returns-clause-drawn c = λ column row.
     let all = c.self.inside in
+    let state =
+    band_canvas_state all.gone.rows all.released all.rows all.band all.top all.held in
     let from = c.args.from in
     let to = c.args.to in
     let bits = c.args.bits in
@@ -18,7 +20,7 @@ returns-clause-drawn c = λ column row.
     ap (λ (s : BandCanvasState). band_canvas_shown s column row) c.self.view_is
     ∙ c.in_ok-hold.ensures.shown column row in
     let top = ap (λ (s : BandCanvasState). s.top) c.self.view_is ∙ c.in_ok-hold.ensures.top in
-    canvas_over (nat_le from column) (nat_lt column to) bits all.top row (final all.rows column row)
+    canvas_over (nat_le from column) (nat_lt column to) bits all.top row (above_band state column row)
     (tagged_cell all.band column (row - all.top))
     (tagged_cell c.draw.new.self column (row - all.top)) color
     (c.draw.ensures.drawn column (row - all.top))

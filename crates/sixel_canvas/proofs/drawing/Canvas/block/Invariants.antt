@@ -8,8 +8,10 @@ abbrev pub invariant-drawn : goal.invariant-drawn
 invariant-drawn g l =
     let shown = g.Self.Canvas.shown in
     let top = g.Self.Canvas.top in
+    let released = g.Self.Canvas.released in
     let paid = g.Self.Canvas.paid in
     (top l.self ≡ top l.fn.self)
+    × (released l.self ≡ released l.fn.self)
     × ((column row : ℕ)
     → shown l.self column row
     ≡ (if nat_le l.from column && nat_lt column (l.from + l.j)

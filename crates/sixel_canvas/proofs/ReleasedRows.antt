@@ -1,0 +1,219 @@
+-- What a canvas shows once rows were released: the bytes of each released row have its pixels.
+use Rattle.std.proofs.Common.{◌≡◌, ℕ, ◌+◌, ◌-◌, ◌*◌, ◌≤◌, ◌<◌, List, []}
+use Rattle.std.proofs.Common.{◌∷◌, ◌++◌, length, take, drop, get_or, refl, sym, ap, ◌∙◌, inl, inr}
+use Rattle.std.proofs.Common.{length-take, length-drop, arith}
+use Rattle.std.specs.Prelude.{min, nat_lt, if◌then◌else◌}
+use Rattle.std.proofs.lemmas.Bool.{cases_lt, lt-ltb, le-ltb}
+use Rattle.std.proofs.lemmas.List.{get_or_append_left, get_or-append_right, get_or_past}
+use Rattle.std.proofs.lemmas.Nat.{row_fits}
+use Rattle.sixel_canvas.specs.inside.FinalRows.{RowsState, AreRows, final, pixel_at}
+use Rattle.sixel_canvas.specs.inside.ReleasedRows.{row_bytes, row_pixel}
+use Rattle.sixel_canvas.proofs.RowBytes.{and_false, pixel_dropped, pixel_part, products}
+use Rattle.sixel_canvas.specs.inside.FinalRows.{rows_state}
+
+-- the list with one more row at the end
+pub row_logged : (old mid new : List (List ℕ)) (rows : RowsState) (k : ℕ) →
+    length mid ≡ length old + k → new ≡ mid ++ row_bytes rows k ∷ [] →
+    ((row : ℕ)
+    → get_or mid row []
+    ≡ (if nat_lt row (length old) then get_or old row [] else if nat_lt row (length old + k)
+    then row_bytes rows (row - length old) else [])) →
+    (row : ℕ) →
+    get_or new row []
+    ≡ (if nat_lt row (length old) then get_or old row [] else if nat_lt row (length old + (k + 1))
+    then row_bytes rows (row - length old) else [])
+row_logged old mid new rows k len is before row =
+    ap (λ (xs : List (List ℕ)). get_or xs row []) is ∙ elim (cases_lt row (length mid)) [
+      | inl inside ↦
+          get_or_append_left mid (row_bytes rows k ∷ []) [] row inside ∙ before row
+          ∙ rw (
+            lt-ltb row (length old + k) (omega (arith, len, inside)),
+            lt-ltb row (length old + (k + 1)) (omega (arith, len, inside)),
+          ) refl
+      | inr past ↦
+          get_or-append_right mid (row_bytes rows k ∷ []) (length mid) row [] refl past
+          ∙ elim (cases_lt row (length old + (k + 1))) [
+            | inl last ↦
+                let here : row - length mid ≡ 0 = omega (arith, len, past, last) in
+                let down : k ≡ row - length old = omega (arith, len, past, last) in
+                rw (
+                  le-ltb row (length old) (omega (arith, len, past)),
+                  lt-ltb row (length old + (k + 1)) last,
+                )
+                (ap (λ i. get_or (row_bytes rows k ∷ []) i []) here ∙ ap (row_bytes rows) down)
+            | inr below ↦ rw (
+              le-ltb row (length old) (omega (arith, len, past)),
+              le-ltb row (length old + (k + 1)) below,
+            )
+                (get_or_past (row_bytes rows k ∷ []) (row - length mid) []
+                (omega (arith, len, below)))
+          ]
+    ]
+
+-- the rows without the first of them, and how many bytes these have
+pub removed_len : (bytes new : List ℕ) (width rows n : ℕ) → n ≤ rows →
+    length bytes ≡ 4 * (rows * width) → new ≡ drop (4 * (n * width)) bytes →
+    length new ≡ 4 * ((rows - n) * width)
+removed_len bytes new width rows n few len is =
+    ap length is
+    ∙ omega (arith, length-drop (4 * (n * width)) bytes, len, products n rows width few)
+
+pub rows_removed :
+    (background bytes new : List ℕ) (width rows room room' count n : ℕ) → n ≡ min count rows →
+    new ≡ drop (4 * (n * width)) bytes → (column row : ℕ) →
+    final (rows_state background new width (rows - n) room') column row
+    ≡ final (rows_state background bytes width rows room) column (row + count)
+rows_removed background bytes new width rows room room' count n least is column row =
+    elim (cases_lt row (rows - n)) [
+      | inr below ↦ rw (
+        le-ltb row (rows - n) below,
+        le-ltb (row + count) rows (omega (arith, least, below)),
+        and_false (nat_lt column width),
+      ) refl
+      | inl above ↦
+          let inside : row + count < rows = omega (arith, least, above) in
+          let at : n * width + (row * width + column) ≡ (row + count) * width + column =
+          let same : n ≡ count = omega (arith, least, above) in
+          rw same (omega arith) in
+          elim (cases_lt column width) [
+            | inr right ↦ rw (le-ltb column width right) refl
+            | inl left ↦ rw (
+              lt-ltb column width left,
+              lt-ltb row (rows - n) above,
+              lt-ltb (row + count) rows inside,
+            )
+                (ap (λ xs. pixel_at xs (row * width + column)) is
+                ∙ pixel_dropped bytes (n * width) (row * width + column)
+                ∙ ap (pixel_at bytes) at)
+          ]
+    ]
+
+-- the bytes of a row have its pixels
+pub released_row : (rows : RowsState) → AreRows rows → (column row : ℕ) →
+    row_pixel (row_bytes rows row) rows.background column ≡ final rows column row
+released_row rows are column row =
+    let width = rows.width in
+    let from = drop (4 * (row * width)) rows.bytes in
+    elim (cases_lt row rows.rows) [
+      | inr below ↦ rw (
+        le-ltb row rows.rows below,
+        le-ltb (4 * column) 0 (omega arith),
+        and_false (nat_lt column width),
+      ) refl
+      | inl inside ↦
+          let len : length (take (4 * width) from) ≡ 4 * width =
+          length-take (4 * width) from
+          ∙ omega (
+            arith,
+            length-drop (4 * (row * width)) rows.bytes,
+            are.fits,
+            row_fits row width rows.rows width inside (omega arith),
+          ) in
+          elim (cases_lt column width) [
+            | inl left ↦ rw (
+              lt-ltb row rows.rows inside,
+              lt-ltb column width left,
+              lt-ltb (4 * column) (length (take (4 * width) from)) (omega (arith, len, left)),
+            ) (pixel_part rows.bytes (row * width) width column left)
+            | inr right ↦ rw (
+              lt-ltb row rows.rows inside,
+              le-ltb column width right,
+              le-ltb (4 * column) (length (take (4 * width) from)) (omega (arith, len, right)),
+            ) refl
+          ]
+    ]
+
+-- the rows above the band once some more were released
+pub above_released :
+    (gone gone' : List (List ℕ)) (rows rows' : RowsState) (released released' count : ℕ) →
+    AreRows rows → length gone ≡ released → released' ≡ released + count →
+    rows'.background ≡ rows.background →
+    ((row : ℕ)
+    → get_or gone' row []
+    ≡ (if nat_lt row (length gone) then get_or gone row [] else if nat_lt row (length gone + count)
+    then row_bytes rows (row - length gone) else [])) →
+    ((column row : ℕ) → final rows' column row ≡ final rows column (row + count)) →
+    (column row : ℕ) →
+    (if nat_lt row released' then row_pixel (get_or gone' row []) rows'.background column
+    else final rows' column (row - released'))
+    ≡ (if nat_lt row released then row_pixel (get_or gone row []) rows.background column
+    else final rows column (row - released))
+above_released gone gone' rows rows' released released' count are len more same logged kept column
+    row =
+    elim (cases_lt row released) [
+      | inl first ↦
+          let is : get_or gone' row [] ≡ get_or gone row [] =
+          logged row ∙ rw (lt-ltb row (length gone) (omega (arith, len, first))) refl in
+          rw (lt-ltb row released first, lt-ltb row released' (omega (arith, more, first)))
+          (rw same (ap (λ xs. row_pixel xs rows.background column) is))
+      | inr later ↦ elim (cases_lt row released') [
+        | inl next ↦
+            let is : get_or gone' row [] ≡ row_bytes rows (row - released) =
+            logged row
+            ∙ rw (
+              le-ltb row (length gone) (omega (arith, len, later)),
+              lt-ltb row (length gone + count) (omega (arith, len, more, next)),
+            ) (ap (λ n. row_bytes rows (row - n)) len) in
+            rw (le-ltb row released later, lt-ltb row released' next)
+            (rw same (ap (λ xs. row_pixel xs rows.background column) is
+            ∙ released_row rows are column (row - released)))
+        | inr rest ↦
+            let down : row - released' + count ≡ row - released = omega (arith, more, rest) in
+            rw (le-ltb row released later, le-ltb row released' rest)
+            (kept column (row - released') ∙ ap (final rows column) down)
+      ]
+    ]
+
+-- the rows above the band once the band was handed out
+pub above_handed :
+    (released top : ℕ) (gone old new : List ℕ) (cell : ℕ → List ℕ) (row : ℕ) → released ≤ top →
+    new
+    ≡ (if nat_lt (row - released) (top - released) then old
+    else cell (row - released - (top - released))) →
+    (if nat_lt row released then gone else new)
+    ≡ (if nat_lt row top then if nat_lt row released then gone else old else cell (row - top))
+above_handed released top gone old new cell row le is = elim (cases_lt row released) [
+  | inl first ↦ rw (lt-ltb row released first, lt-ltb row top (omega (arith, le, first))) refl
+  | inr later ↦ elim (cases_lt row top) [
+    | inl above ↦ rw (le-ltb row released later, lt-ltb row top above)
+        (is ∙ rw (lt-ltb (row - released) (top - released) (omega (arith, later, above))) refl)
+    | inr below ↦
+        let down : row - released - (top - released) ≡ row - top = omega (arith, le, below) in
+        rw (le-ltb row released later, le-ltb row top below)
+        (is ∙ rw (le-ltb (row - released) (top - released) (omega (arith, le, below))) (ap cell down))
+  ]
+]
+
+-- the rows above a band that nothing was drawn on
+pub above_clear :
+    (rows : RowsState) (released top : ℕ) (gone : List ℕ) (cell : ℕ → List ℕ) (column row : ℕ) →
+    released + rows.rows ≤ top → ((k : ℕ) → cell k ≡ rows.background) →
+    (if nat_lt row released then gone else final rows column (row - released))
+    ≡ (if nat_lt row top then if nat_lt row released then gone
+    else final rows column (row - released) else cell (row - top))
+above_clear rows released top gone cell column row above clear = elim (cases_lt row top) [
+  | inl inside ↦ rw (lt-ltb row top inside) refl
+  | inr below ↦ rw (
+    le-ltb row top below,
+    le-ltb row released (omega (arith, above, below)),
+    le-ltb (row - released) rows.rows (omega (arith, above, below)),
+    and_false (nat_lt column rows.width),
+  ) (sym (clear (row - top)))
+]
+
+-- a row above the band that is stored
+pub above_stored :
+    (rows : RowsState) (released first : ℕ) (gone : List ℕ) (column row : ℕ) → released ≤ first →
+    (if nat_lt (first + row) released then gone else final rows column (first + row - released))
+    ≡ final rows column (first - released + row)
+above_stored rows released first gone column row le =
+    rw (le-ltb (first + row) released (omega (arith, le)))
+    (ap (final rows column) (omega (arith, le)))
+
+-- a row where none was released
+pub above_whole :
+    (rows : RowsState) (released : ℕ) (gone : List ℕ) (column row : ℕ) → released ≡ 0 →
+    (if nat_lt row released then gone else final rows column (row - released))
+    ≡ final rows column row
+above_whole rows released gone column row none =
+    rw (le-ltb row released (omega (arith, none))) (ap (final rows column) (omega (arith, none)))

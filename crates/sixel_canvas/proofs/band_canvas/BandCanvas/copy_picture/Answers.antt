@@ -1,0 +1,27 @@
+use Rattle.std.proofs.Common.{◌+◌, ◌-◌, ◌≤◌, ap, sym, ◌∙◌, arith}
+use Rattle.sixel_canvas.specs.inside.BandCanvas.{BandCanvasState, above_band, band_canvas_shown}
+use Rattle.sixel_canvas.specs.inside.FinalRows.{final}
+use Rattle.sixel_canvas.specs.inside.ReleasedRows.{released_pixel}
+use Rattle.sixel_canvas.proofs.CopiedRows.{copied_same}
+use Rattle.sixel_canvas.proofs.ReleasedRows.{above_stored}
+use Rattle.sixel_canvas.proofs.band_canvas.BandCanvas.copy_picture.Goals as goal
+
+pub returns-clause-copied : goal.returns-clause-copied
+returns-clause-copied c =
+    let all = c.self.inside in
+    let first = c.args.first in
+    let stored : all.released ≤ first =
+    omega (
+      arith,
+      ap (λ (s : BandCanvasState). s.released) c.self.view_is,
+      c.finish_rows.ensures.released,
+      c.requires.stored,
+    ) in
+    copied_same (final all.rows) (band_canvas_shown c.args.self.now) (first - all.released) first
+    c.args.rows c.args.layout c.args.out.now c.copy.new.out
+    (λ column row inside.
+    let gone = released_pixel all.gone.rows all.rows.background column (first + row) in
+    sym (c.finish_rows.ensures.shown column (first + row))
+    ∙ sym (ap (λ (s : BandCanvasState). above_band s column (first + row)) c.self.view_is)
+    ∙ above_stored all.rows all.released first gone column row stored)
+    c.copy.ensures.copied
