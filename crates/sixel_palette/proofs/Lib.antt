@@ -14,6 +14,7 @@ pub mod PaletteLists
 pub mod PaletteNearest
 pub mod PaletteNearestEntry
 pub mod PaletteOrder
+pub mod PalettePages
 pub mod PaletteRanks
 pub mod PaletteRefined
 pub mod PaletteRelaxation

@@ -10,3 +10,4 @@ pub mod PaletteCounts
 pub mod PaletteKeys
 pub mod PaletteAssignment
 pub mod PaletteCandidates
+pub mod PaletteBoxes

@@ -36,7 +36,7 @@ pub fn assign(
     ensures error { IfOk result (λ a.
         a.error ≡ counted_error colors.items codes.now counts.now) }
 {
-    let mut search = Search::new(alloc, &colors)?;
+    let mut search = Search::new(alloc, &colors, codes.len())?;
     let mut squares = Vec::with_capacity(alloc, codes.len())?;
     let mut indices = Vec::with_capacity(alloc, codes.len())?;
     for code in codes {

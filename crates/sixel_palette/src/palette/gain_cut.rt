@@ -4,7 +4,9 @@
 //! Graphics 11 (1992), 348-372, cuts boxes in this way.
 
 ghost use Rattle.std.specs.Prelude.{◌≡◌, ◌+◌, ◌*◌, ◌/◌, ◌<◌, ◌≤◌, ℕ, length, All, IfOk};
+ghost use Rattle.std.specs.Prelude.{OnOk};
 ghost use Rattle.sixel_palette.specs.Refined.{IsRegisterColor};
+ghost use Rattle.sixel_palette.specs.inside.PaletteBoxes.{AreRanges};
 
 use crate::palette::bins::Bin;
 use crate::palette::color_sums::ColorSums;
@@ -88,16 +90,35 @@ fn boxes_of(alloc: Global, bins: &mut [Bin], room: usize) -> Result<Vec<ColorBox
     boxes.push(box_of(bins, 0, all, &mut lower, &mut upper))?;
     for _count in 1..room {
         let best = best_of(&boxes);
-        let whole = boxes[best];
-        if whole.cut.gain == 0 || whole.end > bins.len() || whole.start > whole.end {
+        if boxes[best].cut.gain == 0 {
             break;
         }
-        let middle = divide(bins, whole.start, whole.end, whole.cut);
-        boxes[best] = box_of(bins, whole.start, middle, &mut lower, &mut upper);
-        let rest = box_of(bins, middle, whole.end, &mut lower, &mut upper);
-        boxes.push(rest)?;
+        cut_in_two(bins, &mut boxes, best, &mut lower, &mut upper)?;
     }
     Ok(boxes)
+}
+
+/// Cuts a box in two, and appends the second part.
+fn cut_in_two(
+    bins: &mut [Bin],
+    boxes: &mut Vec<ColorBox>,
+    position: usize,
+    lower: &mut [ColorSums],
+    upper: &mut [ColorSums],
+) -> Result<(), AllocError>
+    requires position { position < length boxes.old.items }
+    requires ranges { AreRanges (length bins.old) boxes.old.items }
+    requires lower { length lower.old ≡ 64 }
+    requires upper { length upper.old ≡ 64 }
+    ensures one_more { OnOk result (length boxes.new.items ≡ length boxes.old.items + 1) }
+    ensures ranges { OnOk result (AreRanges (length bins.old) boxes.new.items) }
+{
+    let whole = boxes[position];
+    let middle = divide(bins, whole.start, whole.end, whole.cut);
+    boxes[position] = box_of(bins, whole.start, middle, lower, upper);
+    let rest = box_of(bins, middle, whole.end, lower, upper);
+    boxes.push(rest)?;
+    Ok(())
 }
 
 /// The position of the box whose cut gains most, the first of those.

@@ -1,4 +1,5 @@
-use Rattle.std.proofs.Common.{◌≡◌, ℕ, ◌<◌, refl, ◌∙◌, arith}
+use Rattle.std.proofs.Common.{◌≡◌, ℕ, ◌<◌, length, refl, ap, ◌∙◌, arith}
+use Rattle.sixel_palette.specs.declared.palette.cubes.Lists.{Lists}
 use Rattle.sixel_palette.specs.inside.PaletteCodes.{color_of, code_count}
 use Rattle.sixel_palette.specs.inside.PaletteKeys.{HasNearest, cube_position}
 use Rattle.sixel_palette.proofs.palette.cubes.Search.fill_cube.Goals as goal
@@ -29,7 +30,10 @@ returns-clause-search c =
     let search = c.in_ok-group.ensures.search in
     record {
       group_count = search.group_count;
-      cube_count = c.in_ok-filled.ensures.size ∙ search.cube_count;
+      cube_count = λ some.
+          c.in_ok-filled.ensures.size
+          ∙ ap (λ (lists : Lists). length lists.spans.items) c.in_ok-group.ensures.cubes
+          ∙ c.requires.cubes;
       groups = search.groups;
       cubes =
           c.in_ok-filled.ensures.lists cube_position c.group_of.new.self.entries.items
