@@ -16,6 +16,7 @@ use Rattle.sixel_base.specs.Dcs.{stage_status}
 use Rattle.sixel_base.specs.Header.{Begun, headed, headed_by, header_front, header_rest}
 use Rattle.sixel_base.specs.Header.{header_text, is_header, settings_of}
 use Rattle.sixel_base.specs.History.{history_of}
+use Rattle.sixel_base.specs.Limits.{Limit}
 use Rattle.sixel_base.specs.OneShot.{Found, IsFoundImage, Payload, found, found_by, found_fault}
 use Rattle.sixel_base.specs.OneShot.{found_in}
 use Rattle.sixel_base.specs.Payload.{closed, first_fault}
@@ -210,7 +211,7 @@ payload-counted payload all =
     omega (arith, own, end, length-append payload (27 ∷ codes "\\"))
 
 -- a payload without a fault makes one DCS sequence
-IsOneString-sequence : (limit : ℕ) (drawing : Drawing) (payload : List ℕ)
+IsOneString-sequence : (limit : Limit) (drawing : Drawing) (payload : List ℕ)
     → IsTrue (list_all carries payload)
     → first_fault limit (history_of (front (ended_payload payload))) ≡ None
     → IsOneString limit (sequence_of drawing payload)
@@ -236,8 +237,8 @@ IsOneString-sequence limit drawing payload all sound =
 -- ---- a text of marks
 
 -- each text of a drawing is one DCS sequence, all of it, with no fault
-pub IsOneString-drawn : (limit : ℕ) (drawing : Drawing) (text : List ℕ) → IsWritable drawing
-    → IsDrawnText drawing text → drawing.width * banded drawing.height ≤ limit
+pub IsOneString-drawn : (limit : Limit) (drawing : Drawing) (text : List ℕ) → IsWritable drawing
+    → IsDrawnText drawing text → drawing.width * banded drawing.height ≤ limit.pixels
     → IsOneString limit text
 IsOneString-drawn limit drawing text is drawn room =
     let definitions = drawn.0 in
@@ -264,5 +265,5 @@ IsReadAs-drawn decoder drawing text is drawn reads =
     (subst trip_of (sym (found-sequence drawing payload)) (
       payload-sound decoder.pixel_limit drawing definitions marks (codes "\\") is drawn.2
           reads.room,
-      sym (payload-trip decoder drawing definitions marks (codes "\\") is drawn.2 reads.registers),
+      sym (payload-trip decoder drawing definitions marks (codes "\\") is drawn.2 reads.shows),
     ))

@@ -6,7 +6,7 @@ use Rattle.std.proofs.Common.{◌≤◌}
 use Rattle.std.proofs.lemmas.Bool.{cases_Bool, cases_eq, cases_lt, cond-false, cond-true}
 use Rattle.std.proofs.lemmas.Bool.Decides.{nat_tests}
 use Rattle.sixel_base.specs.History.{History, Repeat, Sixel}
-use Rattle.sixel_base.specs.Payload.{image_height}
+use Rattle.sixel_base.specs.Payload.{cropped_height}
 use Rattle.sixel_base.specs.Place.{height, raster_height}
 use Rattle.sixel_base.specs.Stroke.{registers}
 use Rattle.sixel_encoder.specs.Marks.{AreAllowed, Back, Definition, Draw, Draws}
@@ -269,15 +269,15 @@ height-cropped : (n other : ℕ) → 1 ≤ n → cond (nat_lt 0 n) n other ≡ n
 height-cropped n other some = grind (arith, nat_tests)
 
 -- the image of the tokens is as high as the trip
-pub image_height-tokens :
+pub cropped_height-tokens :
     (crop : Bool) (drawing : Drawing) (definitions : List Definition) (marks : List Mark)
     → IsWritable drawing → Draws drawing definitions marks
-    → image_height crop (tokens drawing definitions marks) ≡ trip_height crop drawing
-image_height-tokens true drawing definitions marks is draws =
+    → cropped_height crop (tokens drawing definitions marks) ≡ trip_height crop drawing
+cropped_height-tokens true drawing definitions marks is draws =
     let named : raster_height (tokens drawing definitions marks) ≡ drawing.height =
     raster_height-marks marks (with_palette drawing definitions)
     ∙ raster_height-palette drawing definitions is in
     height-cropped (raster_height (tokens drawing definitions marks))
     (height (tokens drawing definitions marks)) (omega (arith, named, is.some_height)) ∙ named
-image_height-tokens false drawing definitions marks is draws =
+cropped_height-tokens false drawing definitions marks is draws =
     height-tokens drawing definitions marks is draws

@@ -16,6 +16,7 @@ use Rattle.sixel_encoder.specs.Encoding.{image_fault, AreShortest, IsDrawing, Is
 use Rattle.sixel_encoder.specs.Form.{IsFormText, form_text}
 use Rattle.sixel_encoder.proofs.FormText.{image-form_back, image-one_form, length-form}
 use Rattle.sixel_encoder.proofs.ShortestRows.{spells, shortest}
+use Rattle.sixel_base.specs.Limits.{Limit}
 use Rattle.sixel_encoder.specs.Trip.{CanRead, trip, IsTrip, IsReadAs, IsOneString}
 use Rattle.sixel_encoder.proofs.TripLimits.{CanRead-new}
 use Rattle.sixel_encoder.proofs.SecondTrip.{text-again}
@@ -83,11 +84,11 @@ readable-written (Ok text) image refused =
 readable-written (Err e) image refused = tt
 
 pub one_string-written : {S : Type 0} (form : TextForm) (bytes : S → List ℕ)
-    (result : Result S SixelError) (limit : ℕ) (image : Image) (k : ℕ)
+    (result : Result S SixelError) (limit : Limit) (image : Image) (k : ℕ)
     → MatchOption (image_fault image) (IfErr result (λ e. e ≡ OutOfMemory)) (λ f. result ≡ Err f)
     → OnOk result (All (λ byte. byte < 256) image.pixels)
     → IfOk result (λ text. IsFormText form image k (bytes text))
-    → image.width * banded image.height ≤ limit
+    → image.width * banded image.height ≤ limit.pixels
     → IfOk result (λ text. IsOneString limit (bytes text))
 one_string-written form bytes (Ok text) limit image k refused fits is room =
     image-one_form form limit image k (bytes text)

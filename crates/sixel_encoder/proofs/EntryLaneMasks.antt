@@ -3,7 +3,7 @@ use Rattle.std.specs.Prelude.{None, Option, Some, ◌==◌, ◌≢◌}
 use Rattle.std.proofs.Common.{Bool, List, [], ap, arith, cond, eqb, false, inl, inr, length, map}
 use Rattle.std.proofs.Common.{refl, replicate, suc, sym, true, w16, zero, ℕ, ◌%◌, ◌*◌, ◌+◌}
 use Rattle.std.proofs.Common.{◌<◌, ◌^◌, ◌∙◌, ◌∷◌, ◌≡◌, ◌≤◌, get_or}
-use Rattle.std.proofs.lemmas.Bool.{both_ways, cases_lt}
+use Rattle.std.proofs.lemmas.Bool.{both_ways, cases_eq, cases_lt}
 use Rattle.std.proofs.lemmas.Bool.Decides.{nat_tests}
 use Rattle.std.proofs.lemmas.Grind.{pow_more}
 use Rattle.std.proofs.lemmas.List.{get_or-map, length-map}
@@ -171,6 +171,25 @@ sixel-lanes entries column entry are lc le =
           ∙ lane-entry entry
           (entry_at (drawing_of entries.image.now) column (6 * entries.band + k)) le),
     )
+
+-- pixels of one lane have one entry
+pub same-lane : (entries : BandEntries) (column bit other : ℕ) → AreLanes entries
+    → column < entries.image.now.width
+    → lane_of (entry_at (drawing_of entries.image.now) column (6 * entries.band + bit))
+    ≡ lane_of (entry_at (drawing_of entries.image.now) column (6 * entries.band + other))
+    → entry_at (drawing_of entries.image.now) column (6 * entries.band + bit)
+    ≡ entry_at (drawing_of entries.image.now) column (6 * entries.band + other)
+same-lane entries column bit other are lc same =
+    let lane =
+    lane_of (entry_at (drawing_of entries.image.now) column (6 * entries.band + other)) in
+    elim (cases_eq lane 256) [
+      | inl none ↦
+          transparent-lane entries column bit lane are lc (sym same) none
+          ∙ sym (transparent-lane entries column other lane are lc refl none)
+      | inr some ↦
+          (opaque-lane entries column bit lane are lc (sym same) some).0
+          ∙ sym (opaque-lane entries column other lane are lc refl some).0
+    ]
 
 -- the transparent lanes are the sixel of the transparent pixels and two more bits
 pub transparent-lanes : (entries : BandEntries) (column : ℕ) → AreLanes entries

@@ -10,6 +10,8 @@ use Rattle.sixel_base.specs.Fault.{Fault}
 use Rattle.sixel_base.specs.Fields.{field}
 use Rattle.sixel_base.specs.History.{Color, History, Newline, Raster, Repeat, Return, Sixel, Skip}
 use Rattle.sixel_base.specs.History.{Token}
+use Rattle.sixel_base.specs.Clip.{clipped_height, clipped_width}
+use Rattle.sixel_base.specs.Limits.{Limit}
 use Rattle.sixel_base.specs.Payload.{extent_fault, fault_of, first_fault}
 use Rattle.sixel_base.specs.Place.{across, down, height, span, width}
 use Rattle.sixel_encoder.specs.RunTokens.{Many, One, RunToken, sixels}
@@ -18,38 +20,52 @@ use Rattle.sixel_encoder.proofs.TextHistory.{AreSound, IsSound}
 use Rattle.sixel_encoder.proofs.Tokens.{with_run_token, with_run_tokens}
 
 -- a size that is within the limits
-pub record IsWithinLimits (limit w h : ℕ) : Type 0 where
+pub record IsWithinLimits (limit : Limit) (w h : ℕ) : Type 0 where
   pub wide : w ≤ 1000000
   pub high : h ≤ 1000000
-  pub area : w * h ≤ limit
+  pub area : w * h ≤ limit.pixels
 
 -- a history is as wide as this, at most as high as that, and without a fault
-pub record Fits (limit w h : ℕ) (history : History) : Type 0 where
+pub record Fits (limit : Limit) (w h : ℕ) (history : History) : Type 0 where
   pub wide : width history ≡ w
   pub high : height history ≤ h
   pub sound : first_fault limit history ≡ None
 
+-- inside a clip the area is no greater
+clipped-small : (limit : Limit) (history : History)
+    → width history * height history ≤ limit.pixels
+    → clipped_width limit history * clipped_height limit history ≤ limit.pixels
+clipped-small limit history small =
+    omega (
+      arith,
+      small,
+      mul-le (clipped_width limit history) (clipped_height limit history) (width history)
+          (height history) (omega arith) (omega arith),
+    )
+
 -- a reach within the limits is no fault
-pub extent_fault-none : (limit right lower : ℕ) (history : History) → right ≤ 1000000
-    → lower ≤ 1000000 → width history * height history ≤ limit
+pub extent_fault-none : (limit : Limit) (right lower : ℕ) (history : History) → right ≤ 1000000
+    → lower ≤ 1000000 → width history * height history ≤ limit.pixels
     → extent_fault limit right lower history ≡ None
-extent_fault-none limit right lower history hr hl ha = grind (arith, nat_tests)
+extent_fault-none limit right lower history hr hl ha =
+    let small = clipped-small limit history ha in
+    grind (arith, nat_tests, small)
 
 -- within a width and a height the area is within the limit
-area-within : (limit w h : ℕ) (history : History) → IsWithinLimits limit w h → width history ≡ w
-    → height history ≤ h → width history * height history ≤ limit
+area-within : (limit : Limit) (w h : ℕ) (history : History) → IsWithinLimits limit w h
+    → width history ≡ w → height history ≤ h → width history * height history ≤ limit.pixels
 area-within limit w h history small wide high =
     omega (arith, small.area, mul-le (width history) (height history) w h (omega arith) high)
 
 -- a token without a fault adds none
-pub first_fault-more : (limit : ℕ) (token : Token) (older : History)
+pub first_fault-more : (limit : Limit) (token : Token) (older : History)
     → first_fault limit older ≡ None
     → fault_of limit token older ≡ None → first_fault limit (token ∷ older) ≡ None
 first_fault-more limit token older before now =
     ap (λ f. option_or f (fault_of limit token older)) before ∙ now
 
 -- a sixel within the sizes
-Fits-sixel : (limit w h bits : ℕ) (history : History) → IsWithinLimits limit w h
+Fits-sixel : (limit : Limit) (w h bits : ℕ) (history : History) → IsWithinLimits limit w h
     → across history + span history ≤ w → down history + 6 ≤ h → Fits limit w h history
     → Fits limit w h (Sixel bits ∷ history)
 Fits-sixel limit w h bits history small right lower fits =
@@ -65,14 +81,15 @@ Fits-sixel limit w h bits history small right lower fits =
     }
 
 -- a repeat that can be written is no fault
-repeat-sound : (limit count : ℕ) (history : History) → count ≤ 65535
+repeat-sound : (limit : Limit) (count : ℕ) (history : History) → count ≤ 65535
     → fault_of limit (Repeat (decimal count)) history ≡ None
 repeat-sound limit count history high =
     let named = field-decimal count high in
     grind (arith, nat_tests)
 
 -- a repeat changes no size
-Fits-repeat : (limit w h count : ℕ) (history : History) → count ≤ 65535 → Fits limit w h history
+Fits-repeat : (limit : Limit) (w h count : ℕ) (history : History) → count ≤ 65535
+    → Fits limit w h history
     → Fits limit w h (Repeat (decimal count) ∷ history)
 Fits-repeat limit w h count history high fits = record {
   wide = fits.wide;
@@ -83,7 +100,8 @@ Fits-repeat limit w h count history high fits = record {
 }
 
 -- a run-length token within the sizes
-Fits-run_token : (limit w h : ℕ) (token : RunToken) (history : History) → IsWithinLimits limit w h
+Fits-run_token : (limit : Limit) (w h : ℕ) (token : RunToken) (history : History)
+    → IsWithinLimits limit w h
     → IsSound token → span history ≡ 1 → across history + length (sixels token) ≤ w
     → down history + 6 ≤ h → Fits limit w h history → Fits limit w h (with_run_token token history)
 unfolding sixels
@@ -97,7 +115,7 @@ Fits-run_token limit w h (Many count bits) history small is one right lower fits
     (Fits-repeat limit w h count history is.2 fits)
 
 -- run-length tokens within the sizes
-pub Fits-run_tokens : (limit w h : ℕ) (tokens : List RunToken) (history : History)
+pub Fits-run_tokens : (limit : Limit) (w h : ℕ) (tokens : List RunToken) (history : History)
     → IsWithinLimits limit w h → AreSound tokens → span history ≡ 1
     → across history + length (flat_map sixels tokens) ≤ w → down history + 6 ≤ h
     → Fits limit w h history → Fits limit w h (with_run_tokens tokens history)
@@ -110,12 +128,12 @@ Fits-run_tokens limit w h (token ∷ tokens) history small are one right lower f
     (Fits-run_token limit w h token history small are.0 one (omega (arith, both)) lower fits)
 
 -- a new line within the limits is no fault
-newline-sound : (limit : ℕ) (history : History) → down history + 6 ≤ 1000000
+newline-sound : (limit : Limit) (history : History) → down history + 6 ≤ 1000000
     → fault_of limit Newline history ≡ None
 newline-sound limit history h = grind (arith, nat_tests)
 
 -- a new line changes no size
-pub Fits-newline : (limit w h : ℕ) (history : History) → down history + 6 ≤ 1000000
+pub Fits-newline : (limit : Limit) (w h : ℕ) (history : History) → down history + 6 ≤ 1000000
     → Fits limit w h history → Fits limit w h (Newline ∷ history)
 Fits-newline limit w h history lower fits = record {
   wide = fits.wide;
@@ -124,7 +142,7 @@ Fits-newline limit w h history lower fits = record {
 }
 
 -- nor does a color introducer
-pub Fits-color : (limit w h : ℕ) (t : List ℕ) (history : History) → Fits limit w h history
+pub Fits-color : (limit : Limit) (w h : ℕ) (t : List ℕ) (history : History) → Fits limit w h history
     → Fits limit w h (Color t ∷ history)
 Fits-color limit w h t history fits = record {
   wide = fits.wide;
@@ -140,14 +158,18 @@ both-none None b is = (refl, is)
 both-none (Some f) b is = absurd cc
 
 -- an extent that is no fault is none within another limit that it fits
-extent_fault-other : (limit other right lower : ℕ) (history : History)
-    → extent_fault limit right lower history ≡ None → width history * height history ≤ other
+extent_fault-other : (limit other : Limit) (right lower : ℕ) (history : History)
+    → extent_fault limit right lower history ≡ None
+    → width history * height history ≤ other.pixels
     → extent_fault other right lower history ≡ None
-extent_fault-other limit other right lower history is small = grind (arith, nat_tests)
+extent_fault-other limit other right lower history is small =
+    let within = clipped-small other history small in
+    grind (arith, nat_tests, within)
 
 -- nor is any token
-fault_of-other : (limit other : ℕ) (token : Token) (older : History)
-    → fault_of limit token older ≡ None → width (token ∷ older) * height (token ∷ older) ≤ other
+fault_of-other : (limit other : Limit) (token : Token) (older : History)
+    → fault_of limit token older ≡ None
+    → width (token ∷ older) * height (token ∷ older) ≤ other.pixels
     → fault_of other token older ≡ None
 fault_of-other limit other (Sixel bits) older is small =
     extent_fault-other limit other (across older + span older) (down older + 6) (Sixel bits ∷ older)
@@ -176,8 +198,9 @@ area-older Newline older = omega arith
 area-older (Skip byte) older = omega arith
 
 -- tokens without a fault have none within another limit that their picture fits
-pub first_fault-other : (limit other : ℕ) (history : History) → first_fault limit history ≡ None
-    → width history * height history ≤ other → first_fault other history ≡ None
+pub first_fault-other : (limit other : Limit) (history : History)
+    → first_fault limit history ≡ None
+    → width history * height history ≤ other.pixels → first_fault other history ≡ None
 first_fault-other limit other [] is small = refl
 first_fault-other limit other (token ∷ older) is small =
     let both = both-none (first_fault limit older) (fault_of limit token older) is in

@@ -16,6 +16,7 @@ use Rattle.sixel_encoder.proofs.CompactText.{IsDrawnText-compact, length-compact
 use Rattle.sixel_encoder.proofs.DcsText.{IsOneString-drawn, IsReadAs-drawn}
 use Rattle.sixel_encoder.proofs.PlainText.{IsDrawnText-plain}
 use Rattle.sixel_encoder.proofs.TripLimits.{CanRead-drawn, IsWritable-drawn, area-drawn}
+use Rattle.sixel_base.specs.Limits.{Limit}
 
 -- a text of marks that draw the drawing
 pub IsDrawnText-form : (form : TextForm) (drawing : Drawing) → IsWritable drawing
@@ -30,9 +31,9 @@ length-form Plain drawing = omega arith
 length-form Compact drawing = length-compact drawing
 
 -- an image's text is one DCS sequence
-pub image-one_form : (form : TextForm) (limit : ℕ) (image : Image) (max_colors : ℕ)
+pub image-one_form : (form : TextForm) (limit : Limit) (image : Image) (max_colors : ℕ)
     (text : List ℕ) → image_fault image ≡ None → All (λ byte. byte < 256) image.pixels
-    → image.width * banded image.height ≤ limit → IsFormText form image max_colors text
+    → image.width * banded image.height ≤ limit.pixels → IsFormText form image max_colors text
     → IsOneString limit text
 image-one_form form limit image max_colors text sound bytes room is =
     let writable = IsWritable-drawn image max_colors is.0 is.1 sound bytes in

@@ -13,6 +13,7 @@ pub mod EqualRuns
 pub mod Lanes
 pub mod EntryLaneMasks
 pub mod EntryLanes
+pub mod LineRuns
 pub mod Lines
 pub mod Parts
 pub mod SecondTrip

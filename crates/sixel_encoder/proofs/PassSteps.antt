@@ -187,6 +187,37 @@ segment-skip drawing band column bit items l was none =
     ∙ ap (λ p. with_place (gap_of drawing) column p
     (segments_up_to drawing band (6 * column + bit))) none)
 
+-- a place that is added twice
+with_place-twice : (gap column : ℕ) (place : Option ℕ) (segments : List Segment)
+    → with_place gap column place (with_place gap column place segments)
+    ≡ with_place gap column place segments
+with_place-twice gap column None segments = refl
+with_place-twice gap column (Some entry) segments = with_pixel-twice gap column entry segments
+
+-- the pixels of a column, each like the first
+pub segment-uniform : (drawing : Drawing) (band column : ℕ) (items : List Segment)
+    → items ≡ segments_up_to drawing band (6 * column + 1)
+    → ((bit : ℕ) → bit < 6 → entry_at drawing column (6 * band + bit)
+    ≡ entry_at drawing column (6 * band + 0))
+    → (n : ℕ) → n < 6 → items ≡ segments_up_to drawing band (6 * column + (n + 1))
+segment-uniform drawing band column items first same zero l = first
+segment-uniform drawing band column items first same (suc n) l =
+    let gap = gap_of drawing in
+    let place = entry_at drawing column (6 * band + 0) in
+    let start = segments_up_to drawing band (6 * column + 0) in
+    let was : items ≡ segments_up_to drawing band (6 * column + (n + 1)) =
+    segment-uniform drawing band column items first same n (omega arith) in
+    let own : items ≡ with_place gap column place start =
+    first ∙ segments_up_to-bit drawing band column 0 (omega arith) in
+    let e : suc n + 1 ≡ n + 1 + 1 = omega arith in
+    own
+    ∙ (sym (with_place-twice gap column place start)
+    ∙ (ap (with_place gap column place) (sym own ∙ was)
+    ∙ (ap (λ p. with_place gap column p (segments_up_to drawing band (6 * column + (n + 1))))
+    (sym (same (n + 1) (omega arith)))
+    ∙ (sym (segments_up_to-bit drawing band column (n + 1) (omega arith))
+    ∙ ap (λ k. segments_up_to drawing band (6 * column + k)) (sym e)))))
+
 -- one pass of those that are left
 pub passes-step : (n counter : ℕ) (ordered left next rest whole : List Segment) → counter < n
     → ordered ++ passes (n - counter) left ≡ whole → next ≡ ordered ++ in_pass 0 left

@@ -4,7 +4,7 @@ use Rattle.std.proofs.Common.{List, [], ap, arith, false, get_or, length, refl, 
 use Rattle.std.proofs.Common.{◌∷◌, ◌≡◌}
 use Rattle.sixel_base.specs.Fields.{field}
 use Rattle.sixel_base.specs.History.{Color, History, Return}
-use Rattle.sixel_base.specs.Payload.{area_limit}
+use Rattle.sixel_base.specs.Limits.{whole_limit}
 use Rattle.sixel_base.specs.Place.{across, down, span}
 use Rattle.sixel_base.specs.Stroke.{is_definition, named_by, ratio, registers, selected}
 use Rattle.sixel_base.specs.declared.settings.PixelAspectRatio.{PixelAspectRatio}
@@ -23,7 +23,7 @@ use Rattle.sixel_encoder.proofs.Tokens.{with_mark, with_marks}
 
 -- a drawing's sizes are within the limits
 IsWithinLimits-drawing : (drawing : Drawing) → IsWritable drawing
-    → IsWithinLimits area_limit drawing.width (6 * bands drawing.height)
+    → IsWithinLimits whole_limit drawing.width (6 * bands drawing.height)
 IsWithinLimits-drawing drawing is = record { wide = is.wide; high = is.high; area = is.area }
 
 -- ---- a color introducer of one number
@@ -57,7 +57,7 @@ pub record Follows (drawing : Drawing) (start palette : List (List ℕ)) (pen : 
   pub named : (register : ℕ) → pen.register ≡ Some register → selected history ≡ register
   pub defined : registers start history ≡ palette
   pub shape : (other : PixelAspectRatio) → ratio other history ≡ drawing.aspect_ratio
-  pub fits : Fits area_limit drawing.width (6 * bands drawing.height) history
+  pub fits : Fits whole_limit drawing.width (6 * bands drawing.height) history
 
 -- two options with a value are equal only if the values are
 same_some : (m n : ℕ) → Some m ≡ Some n → m ≡ n
@@ -76,7 +76,7 @@ Follows-mark drawing start palette pen (Pick register) h is may follows = record
   defined = keeps_registers register h start may ∙ follows.defined;
   shape = follows.shape;
   fits =
-      Fits-color area_limit drawing.width (6 * bands drawing.height) (numbers register []) h
+      Fits-color whole_limit drawing.width (6 * bands drawing.height) (numbers register []) h
       follows.fits;
 }
 Follows-mark drawing start palette pen (Draw row) h is may follows =
@@ -90,7 +90,7 @@ Follows-mark drawing start palette pen (Draw row) h is may follows =
       defined = went.kept start ∙ follows.defined;
       shape = λ other. went.shape other ∙ follows.shape other;
       fits =
-          Fits-run_tokens area_limit drawing.width (6 * bands drawing.height) (row_tokens row) h
+          Fits-run_tokens whole_limit drawing.width (6 * bands drawing.height) (row_tokens row) h
           (IsWithinLimits-drawing drawing is) (AreSound-row row may.small) follows.single
           (omega (arith, follows.place, ap length (spells row).joined, may.inside))
           (omega (arith, follows.level, lower)) follows.fits;
@@ -105,7 +105,7 @@ Follows-mark drawing start palette pen Back h is may follows = record {
   fits = record {
     wide = follows.fits.wide;
     high = follows.fits.high;
-    sound = first_fault-more area_limit Return h follows.fits.sound refl;
+    sound = first_fault-more whole_limit Return h follows.fits.sound refl;
   };
 }
 Follows-mark drawing start palette pen Next h is may follows =
@@ -118,7 +118,7 @@ Follows-mark drawing start palette pen Next h is may follows =
       defined = follows.defined;
       shape = follows.shape;
       fits =
-          Fits-newline area_limit drawing.width (6 * bands drawing.height) h
+          Fits-newline whole_limit drawing.width (6 * bands drawing.height) h
           (omega (arith, follows.level, is.high, lower)) follows.fits;
     }
 

@@ -3,9 +3,9 @@ use Rattle.std.specs.List.{list_all}
 use Rattle.std.specs.Prelude.{IsTrue, None, Some, codes}
 use Rattle.std.proofs.Common.{List, ap, append_assoc, subst, sym, ℕ, ◌*◌, ◌++◌, ◌∙◌, ◌∷◌, ◌≡◌, ◌≤◌}
 use Rattle.sixel_base.specs.Bytes.{before_terminator, first_terminator, front}
-use Rattle.sixel_base.specs.Color.{default_registers}
 use Rattle.sixel_base.specs.Dcs.{Reading, stage}
 use Rattle.sixel_base.specs.Decoder.{origin_of}
+use Rattle.sixel_base.specs.Limits.{Limit}
 use Rattle.sixel_base.specs.OneShot.{Payload, found}
 use Rattle.sixel_base.specs.Payload.{payload_fault, payload_image}
 use Rattle.sixel_base.specs.Size.{banded}
@@ -14,7 +14,8 @@ use Rattle.sixel_base.proofs.Histories.{carries}
 use Rattle.sixel_encoder.specs.Marks.{IsDrawnText}
 use Rattle.sixel_encoder.specs.Text.{Drawing, bands_text, palette_text, parameters_text}
 use Rattle.sixel_encoder.specs.Text.{raster_text, text_of}
-use Rattle.sixel_encoder.specs.Trip.{CanRead, IsOneString, IsReadAs, IsWritable, drawing_settings}
+use Rattle.sixel_encoder.specs.Trip.{CanRead, CanShow, IsOneString, IsReadAs, IsWritable}
+use Rattle.sixel_encoder.specs.Trip.{drawing_settings}
 use Rattle.sixel_encoder.specs.Trip.{payload_text, trip}
 use Rattle.sixel_encoder.proofs.DcsText.{IsOneString-drawn, IsReadAs-drawn, found-sequence}
 use Rattle.sixel_encoder.proofs.DcsText.{stage-sequence}
@@ -77,20 +78,20 @@ payload-ended drawing rest is =
 
 -- the payload is read as the trip
 pub plain-trip : (decoder : DecoderState) (drawing : Drawing) (rest : List ℕ) → IsWritable drawing
-    → decoder.registers ≡ default_registers
+    → CanShow decoder drawing.width drawing.height
     →
     payload_image (origin_of decoder (drawing_settings drawing)) (payload_text drawing ++ 27 ∷ rest)
     ≡ trip decoder.raster_crop drawing
-plain-trip decoder drawing rest is new =
+plain-trip decoder drawing rest is can =
     ap
     (λ payload. payload_image (origin_of decoder (drawing_settings drawing)) (payload ++ 27 ∷ rest))
     (sym (payload-plain drawing))
     ∙ payload-trip decoder drawing (plain_definitions drawing) (plain_marks drawing) rest is
-    (Draws-plain drawing is) new
+    (Draws-plain drawing is) can
 
 -- and has no fault within a limit that has room for it in whole bands
-pub plain-sound : (limit : ℕ) (drawing : Drawing) (rest : List ℕ) → IsWritable drawing
-    → drawing.width * banded drawing.height ≤ limit
+pub plain-sound : (limit : Limit) (drawing : Drawing) (rest : List ℕ) → IsWritable drawing
+    → drawing.width * banded drawing.height ≤ limit.pixels
     → payload_fault limit (payload_text drawing ++ 27 ∷ rest) ≡ None
 plain-sound limit drawing rest is room =
     ap (λ payload. payload_fault limit (payload ++ 27 ∷ rest)) (sym (payload-plain drawing))
@@ -114,8 +115,8 @@ stage-text drawing =
     ap stage (text_of-parts drawing) ∙ stage-sequence drawing (payload_text drawing)
 
 -- the text is one DCS sequence, all of it, with no fault
-pub IsOneString-text : (limit : ℕ) (drawing : Drawing) → IsWritable drawing
-    → drawing.width * banded drawing.height ≤ limit → IsOneString limit (text_of drawing)
+pub IsOneString-text : (limit : Limit) (drawing : Drawing) → IsWritable drawing
+    → drawing.width * banded drawing.height ≤ limit.pixels → IsOneString limit (text_of drawing)
 IsOneString-text limit drawing is room =
     IsOneString-drawn limit drawing (text_of drawing) is (IsDrawnText-plain drawing is) room
 

@@ -4,7 +4,8 @@ use Rattle.std.proofs.Common.{[], ap, arith, cond, get_or, length, max, refl, �
 use Rattle.std.proofs.Common.{◌≤◌}
 use Rattle.std.proofs.lemmas.Nat.{mul-le}
 use Rattle.sixel_base.specs.Fields.{field, fields}
-use Rattle.sixel_base.specs.Payload.{area_limit, first_fault}
+use Rattle.sixel_base.specs.Limits.{whole_limit}
+use Rattle.sixel_base.specs.Payload.{first_fault}
 use Rattle.sixel_base.specs.Place.{height, width}
 use Rattle.sixel_base.specs.Settings.{pad_of}
 use Rattle.sixel_base.specs.Stroke.{ratio, ratio_from}
@@ -47,7 +48,7 @@ pub raster-height : (drawing : Drawing) → IsWritable drawing
 raster-height drawing is = omega (arith, raster-field3 drawing is, is.some_height)
 
 -- the bands are as high as the drawing
-height-covered : (height : ℕ) → height ≤ 6 * bands height
+pub height-covered : (height : ℕ) → height ≤ 6 * bands height
 height-covered height = omega arith
 
 -- the heights of pixels tell the four shapes apart
@@ -70,12 +71,12 @@ raster-shape drawing other is =
 
 -- sizes within the limits are no fault
 raster-sound : (drawing : Drawing) → IsWritable drawing
-    → first_fault area_limit (raster_of drawing ∷ []) ≡ None
+    → first_fault whole_limit (raster_of drawing ∷ []) ≡ None
 raster-sound drawing is =
     let w = raster-width drawing is in
     let h = raster-height drawing is in
     let covered = height-covered drawing.height in
-    extent_fault-none area_limit (field (numbers (pad_of drawing.aspect_ratio) (sizes drawing)) 2)
+    extent_fault-none whole_limit (field (numbers (pad_of drawing.aspect_ratio) (sizes drawing)) 2)
     (field (numbers (pad_of drawing.aspect_ratio) (sizes drawing)) 3) (raster_of drawing ∷ [])
     (omega (arith, raster-field2 drawing is, is.wide))
     (omega (arith, raster-field3 drawing is, is.high))
@@ -88,7 +89,7 @@ raster-sound drawing is =
 
 -- the raster attributes of a drawing are within its sizes
 pub Fits-raster : (drawing : Drawing) → IsWritable drawing
-    → Fits area_limit drawing.width (6 * bands drawing.height) (raster_of drawing ∷ [])
+    → Fits whole_limit drawing.width (6 * bands drawing.height) (raster_of drawing ∷ [])
 Fits-raster drawing is = record {
   wide = raster-width drawing is;
   high = omega (arith, raster-height drawing is, height-covered drawing.height);

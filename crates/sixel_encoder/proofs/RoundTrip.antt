@@ -2,6 +2,7 @@
 -- without a fault.
 use Rattle.std.specs.Prelude.{None, Option, Some, slice_index_or}
 use Rattle.std.proofs.Common.{Bool, List, [], ap, arith, inl, inr, length, refl, sym, ℕ, ◌*◌, ◌++◌}
+use Rattle.std.proofs.Common.{false, true}
 use Rattle.std.proofs.Common.{◌+◌, ◌<◌, ◌∙◌, ◌∷◌, ◌≡◌, ◌≤◌}
 use Rattle.std.proofs.lemmas.Bool.{cases_lt}
 use Rattle.std.proofs.lemmas.List.{get_or_past}
@@ -10,7 +11,9 @@ use Rattle.std.proofs.lemmas.Nat.{mul-le}
 use Rattle.sixel_base.specs.Color.{default_color, default_registers}
 use Rattle.sixel_base.specs.Decoder.{origin_of}
 use Rattle.sixel_base.specs.History.{History}
-use Rattle.sixel_base.specs.Payload.{Image, area_limit, first_fault, image_height, image_of}
+use Rattle.sixel_base.specs.Clip.{clipped_width}
+use Rattle.sixel_base.specs.Limits.{Limit, whole_limit}
+use Rattle.sixel_base.specs.Payload.{Image, first_fault, image_height, image_of}
 use Rattle.sixel_base.specs.Payload.{payload_fault, payload_image}
 use Rattle.sixel_base.specs.Picture.{joined, picture}
 use Rattle.sixel_base.specs.Place.{height, width}
@@ -23,11 +26,13 @@ use Rattle.sixel_base.specs.declared.settings.PixelAspectRatio.{PixelAspectRatio
 use Rattle.sixel_base.specs.declared.state.DecoderState.{DecoderState}
 use Rattle.sixel_encoder.specs.Marks.{Definition, Draws, Mark, first_pen, marks_payload}
 use Rattle.sixel_encoder.specs.Marks.{painted}
-use Rattle.sixel_encoder.specs.Text.{Drawing, entry_at}
-use Rattle.sixel_encoder.specs.Trip.{IsWritable, blank, drawing_settings, trip, trip_height}
+use Rattle.sixel_encoder.specs.Text.{Drawing, bands, entry_at}
+use Rattle.sixel_encoder.specs.Trip.{CanShow, IsWritable, blank, drawing_settings, trip}
+use Rattle.sixel_encoder.specs.Trip.{trip_height}
 use Rattle.sixel_encoder.specs.Trip.{trip_pixel}
-use Rattle.sixel_encoder.proofs.DrawnHeight.{image_height-tokens}
+use Rattle.sixel_encoder.proofs.DrawnHeight.{cropped_height-tokens}
 use Rattle.sixel_encoder.proofs.Extent.{first_fault-other}
+use Rattle.sixel_encoder.proofs.RasterAttributes.{height-covered}
 use Rattle.sixel_encoder.proofs.JoinedLists.{joined-same}
 use Rattle.sixel_encoder.proofs.PenSteps.{Follows, Follows-marks}
 use Rattle.sixel_encoder.specs.Marks.{moved_by}
@@ -131,21 +136,43 @@ image-same a b pixels wide high shape mode =
     ≡ made b.pixels b.width b.height b.aspect_ratio b.background_mode = cc in
     parts
 
+-- a trip is no higher than whole bands
+trip-low : (crop : Bool) (drawing : Drawing) (definitions : List Definition) (marks : List Mark)
+    → IsWritable drawing → Draws drawing definitions marks
+    → trip_height crop drawing ≤ 6 * bands drawing.height
+trip-low true drawing definitions marks is draws = height-covered drawing.height
+trip-low false drawing definitions marks is draws =
+    omega (
+      arith,
+      cropped_height-tokens false drawing definitions marks is draws,
+      (Follows-tokens drawing definitions marks [] is draws).fits.high,
+    )
+
 -- the image of the tokens is the trip
 image-tokens :
     (drawing : Drawing) (definitions : List Definition) (marks : List Mark) (origin : Origin)
     → IsWritable drawing → Draws drawing definitions marks → IsOrigin drawing origin
+    → drawing.width ≤ origin.pixel_limit.columns
+    → 6 * bands drawing.height ≤ origin.pixel_limit.rows
     → image_of origin (tokens drawing definitions marks) ≡ trip origin.raster_crop drawing
-image-tokens drawing definitions marks origin is draws from =
+image-tokens drawing definitions marks origin is draws from narrow low =
     let crop : Bool = origin.raster_crop in
+    let limit : Limit = origin.pixel_limit in
     let h : History = tokens drawing definitions marks in
     let follows = Follows-tokens drawing definitions marks origin.registers is draws in
-    let wide = follows.fits.wide in
-    let high = image_height-tokens crop drawing definitions marks is draws in
-    let pixels : picture (pixel origin h) (width h) (image_height crop h)
+    let wide : clipped_width limit h ≡ drawing.width =
+    omega (arith, follows.fits.wide, narrow) in
+    let high : image_height limit crop h ≡ trip_height crop drawing =
+    omega (
+      arith,
+      cropped_height-tokens crop drawing definitions marks is draws,
+      trip-low crop drawing definitions marks is draws,
+      low,
+    ) in
+    let pixels : picture (pixel origin h) (clipped_width limit h) (image_height limit crop h)
     ≡ picture (λ column row. trip_pixel drawing (entry_at drawing column row))
     drawing.width (trip_height crop drawing) =
-    ap (λ w. picture (pixel origin h) w (image_height crop h)) wide
+    ap (λ w. picture (pixel origin h) w (image_height limit crop h)) wide
     ∙ (ap (picture (pixel origin h) drawing.width) high
     ∙ picture-same (pixel origin h)
     (λ column row. trip_pixel drawing (entry_at drawing column row))
@@ -192,24 +219,25 @@ IsOrigin-new decoder drawing new = record {
 -- the payload is read as the trip
 pub payload-trip : (decoder : DecoderState) (drawing : Drawing) (definitions : List Definition)
     (marks : List Mark) (rest : List ℕ) → IsWritable drawing → Draws drawing definitions marks
-    → decoder.registers ≡ default_registers
+    → CanShow decoder drawing.width drawing.height
     → payload_image (origin_of decoder (drawing_settings drawing))
     (marks_payload drawing definitions marks ++ 27 ∷ rest) ≡ trip decoder.raster_crop drawing
-payload-trip decoder drawing definitions marks rest is draws new =
+payload-trip decoder drawing definitions marks rest is draws can =
     let origin : Origin = origin_of decoder (drawing_settings drawing) in
     ap (image_of origin) (payload-read drawing definitions marks rest is draws)
-    ∙ image-tokens drawing definitions marks origin is draws (IsOrigin-new decoder drawing new)
+    ∙ image-tokens drawing definitions marks origin is draws
+    (IsOrigin-new decoder drawing can.registers) can.columns can.rows
 
 -- and has no fault within a limit that has room for it in whole bands
-pub payload-sound : (limit : ℕ) (drawing : Drawing) (definitions : List Definition)
+pub payload-sound : (limit : Limit) (drawing : Drawing) (definitions : List Definition)
     (marks : List Mark) (rest : List ℕ) → IsWritable drawing → Draws drawing definitions marks
-    → drawing.width * banded drawing.height ≤ limit
+    → drawing.width * banded drawing.height ≤ limit.pixels
     → payload_fault limit (marks_payload drawing definitions marks ++ 27 ∷ rest) ≡ None
 payload-sound limit drawing definitions marks rest is draws room =
     let fits = (Follows-tokens drawing definitions marks [] is draws).fits in
     let h = tokens drawing definitions marks in
     ap (first_fault limit) (payload-read drawing definitions marks rest is draws)
-    ∙ first_fault-other area_limit limit h fits.sound
+    ∙ first_fault-other whole_limit limit h fits.sound
     (omega (
       arith,
       room,

@@ -36,6 +36,7 @@ use Rattle.sixel_encoder.proofs.TripLimits.{image_fault-trip, bytes-trip, bands-
 use Rattle.sixel_encoder.proofs.PlainText.{text-trip, IsOneString-text}
 use Rattle.sixel_encoder.proofs.TripPixels.{entry_in, known_in, rounded_entry, length-trip}
 use Rattle.sixel_encoder.proofs.TripPixels.{alpha-some, color-some, alpha-none, shown-among}
+use Rattle.sixel_base.specs.Limits.{Limit}
 
 -- ---- palettes with room for all colors
 
@@ -319,9 +320,9 @@ image-read_back decoder image max_colors text sound bytes reads is = (
 )
 
 -- it is one control string
-pub image-one_string : (limit : ℕ) (image : Image) (max_colors : ℕ) (text : List ℕ)
+pub image-one_string : (limit : Limit) (image : Image) (max_colors : ℕ) (text : List ℕ)
     → image_fault image ≡ None → All (λ byte. byte < 256) image.pixels
-    → image.width * banded image.height ≤ limit → IsText image max_colors text
+    → image.width * banded image.height ≤ limit.pixels → IsText image max_colors text
     → IsOneString limit text
 image-one_string limit image max_colors text sound bytes room is =
     subst (IsOneString limit) (sym is.2) (IsOneString-text limit is.0

@@ -10,7 +10,7 @@ use Rattle.std.proofs.lemmas.List.{get_or-set_other, get_or-set_same, length-set
 use Rattle.sixel_base.specs.Color.{hls, rgb}
 use Rattle.sixel_base.specs.Fields.{fields}
 use Rattle.sixel_base.specs.History.{History}
-use Rattle.sixel_base.specs.Payload.{area_limit}
+use Rattle.sixel_base.specs.Limits.{whole_limit}
 use Rattle.sixel_base.specs.Place.{across, down, height, raster_height, span}
 use Rattle.sixel_base.specs.Stroke.{Origin, background, pixel, ratio, registers}
 use Rattle.sixel_encoder.specs.Marks.{AreDefinitions, Definition, IsDefinition, first_pen}
@@ -179,13 +179,13 @@ undefined drawing (definition ∷ definitions) f h kept =
 
 -- definitions change no size
 Fits-definitions : (drawing : Drawing) (definitions : List Definition) (h : History)
-    → Fits area_limit drawing.width (6 * bands drawing.height) h
-    → Fits area_limit drawing.width (6 * bands drawing.height)
+    → Fits whole_limit drawing.width (6 * bands drawing.height) h
+    → Fits whole_limit drawing.width (6 * bands drawing.height)
     (with_definitions drawing definitions h)
 Fits-definitions drawing [] h fits = fits
 Fits-definitions drawing (definition ∷ definitions) h fits =
     Fits-definitions drawing definitions (with_definition drawing definition h)
-    (Fits-color area_limit drawing.width (6 * bands drawing.height)
+    (Fits-color whole_limit drawing.width (6 * bands drawing.height)
     (numbers definition.register (percentages (slice_index_or drawing.colors definition.entry [])))
     h fits)
 

@@ -110,14 +110,23 @@ pub CanRead-drawn : (decoder : DecoderState) (image : Image) (max_colors : ℕ) 
     → IsDrawing image max_colors drawing → CanRead decoder image.width image.height
     → CanRead decoder drawing.width drawing.height
 CanRead-drawn decoder image max_colors drawing drawn reads = record {
-  registers = reads.registers;
+  shows = record {
+    registers = reads.shows.registers;
+    columns = omega (arith, drawn.width, reads.shows.columns);
+    rows = omega (arith, ap banded drawn.height, reads.shows.rows);
+  };
   room = omega (arith, reads.room, area-drawn image max_colors drawing drawn);
 }
 
 -- as a new decoder can
 pub CanRead-new : (image : Image) → image_fault image ≡ None
     → CanRead new_decoder image.width image.height
-CanRead-new image sound = record { registers = refl; room = (within-sound image sound).area }
+CanRead-new image sound =
+    let within = within-sound image sound in
+    record {
+      shows = record { registers = refl; columns = within.wide; rows = within.high };
+      room = within.area;
+    }
 
 -- ---- the image of a trip
 

@@ -6,6 +6,7 @@ use Rattle.std.specs.List.{range_with_len, list_any}
 use Rattle.std.specs.Option.{option_or}
 use Rattle.sixel_base.specs.CallFault.{CallFault, Exactly, IndexRange, color_count_fault}
 use Rattle.sixel_base.specs.CallFault.{size_call_fault}
+use Rattle.sixel_base.specs.Limits.{Limit}
 use Rattle.sixel_base.specs.declared.error.SixelError.TheVariants.{BufferSizeMismatch}
 use Rattle.sixel_base.specs.declared.state.DecoderState.{DecoderState}
 use Rattle.sixel_base.specs.Payload.{Image}
@@ -50,7 +51,7 @@ pub record IsTextOf (form : TextForm) (drawing : Drawing) (bytes : List ℕ) : T
   pub text : bytes ≡ form_text form drawing
   pub shortest : AreShortest drawing
   pub short : length bytes ≤ length (text_of drawing)
-  pub one_string : (limit : ℕ) → drawing.width * banded drawing.height ≤ limit
+  pub one_string : (limit : Limit) → drawing.width * banded drawing.height ≤ limit.pixels
       → IsOneString limit bytes
   pub read_back : (decoder : DecoderState) → CanRead decoder drawing.width drawing.height
       → IsReadAs decoder bytes (trip decoder.raster_crop drawing)

@@ -9,10 +9,13 @@ ghost use Rattle.sixel_encoder.specs.inside.Indexed.{IsIndexed, drawing_of, entr
 ghost use Rattle.sixel_encoder.specs.inside.Grid.{cell, pixel_bit, grid_row, grid_text, AreRows};
 ghost use Rattle.sixel_encoder.specs.inside.Grid.{AreBelow, AreMarks, AreClear, IsPart};
 ghost use Rattle.sixel_encoder.specs.inside.Grid.{AreEmptyRows, IsSameShape};
+ghost use Rattle.sixel_encoder.specs.inside.Grid.{HasColumns, between};
 
 use crate::decimal::push_number;
 use crate::entries::others_from;
+use crate::numbers::{BLOCK, are_opaque};
 use crate::run_tokens::push_row;
+use crate::runs::equal_from;
 use crate::text::IndexedImage;
 use std::alloc::{AllocError, Global};
 
@@ -201,20 +204,106 @@ fn add_whole_line(rows: &mut [u8], used: &mut [bool], image: &IndexedImage<'_>, 
         (entry_of image.now.pixels.now image.now.indices.now (line.start + x)) }
     ensures marks { AreMarks rows.new used.new image.now.width }
 {
-    let IndexedImage {
-        width,
-        pixels,
-        indices,
-        ..
-    } = *image;
-    for column in 0..width {
-        let pixel = line.start + column;
-        if is_opaque(pixels, pixel) {
-            let row = usize::from(indices[pixel]);
-            rows[row * width + column] += line.weight;
-            used[row] = true;
-        }
+    let blocks = image.width / BLOCK;
+    for block in 0..blocks {
+        add_sixteen(rows, used, image, line, BLOCK * block);
     }
+    for column in BLOCK * blocks..image.width {
+        add_pixel(rows, used, image, line, column);
+    }
+}
+
+/// Sets the opaque pixels of sixteen columns of a line.
+///
+/// Sixteen opaque pixels of one entry are set at once.
+#[inline(always)]
+fn add_sixteen(
+    rows: &mut [u8],
+    used: &mut [bool],
+    image: &IndexedImage<'_>,
+    line: Line,
+    column: usize,
+)
+    requires image { IsIndexed image.now }
+    requires entries { length used.old ≡ length image.now.colors.now }
+    requires rows { AreRows rows.old used.old image.now.width }
+    requires line { line.start + image.now.width ≤ image.now.width * image.now.height }
+    requires weight { 0 < line.weight }
+    requires columns { column + 16 ≤ image.now.width }
+    requires fits { (e x : ℕ) → e < length used.old → column ≤ x → x < column + 16
+        → cell rows.old image.now.width e x + line.weight < 256 }
+    requires marks { AreMarks rows.old used.old image.now.width }
+    ensures cells { HasColumns image.now line column (column + 16) rows.old rows.new }
+    ensures marks { AreMarks rows.new used.new image.now.width }
+{
+    let pixel = line.start + column;
+    if is_run(image, pixel) {
+        let row = usize::from(image.indices[pixel]);
+        add_weight(rows, row * image.width + column, line.weight);
+        used[row] = true;
+        return;
+    }
+    for one in column..column + BLOCK {
+        add_pixel(rows, used, image, line, one);
+    }
+}
+
+/// Sets a pixel of a line if it is opaque.
+#[inline(always)]
+fn add_pixel(
+    rows: &mut [u8],
+    used: &mut [bool],
+    image: &IndexedImage<'_>,
+    line: Line,
+    column: usize,
+)
+    requires image { IsIndexed image.now }
+    requires entries { length used.old ≡ length image.now.colors.now }
+    requires rows { AreRows rows.old used.old image.now.width }
+    requires line { line.start + image.now.width ≤ image.now.width * image.now.height }
+    requires weight { 0 < line.weight }
+    requires column { column < image.now.width }
+    requires fits { (e : ℕ) → e < length used.old
+        → cell rows.old image.now.width e column + line.weight < 256 }
+    requires marks { AreMarks rows.old used.old image.now.width }
+    ensures cells { HasColumns image.now line column (column + 1) rows.old rows.new }
+    ensures marks { AreMarks rows.new used.new image.now.width }
+{
+    let pixel = line.start + column;
+    if !is_opaque(image.pixels, pixel) {
+        return;
+    }
+    let row = usize::from(image.indices[pixel]);
+    rows[row * image.width + column] += line.weight;
+    used[row] = true;
+}
+
+/// Adds a weight to sixteen sixels.
+#[inline(always)]
+fn add_weight(rows: &mut [u8], from: usize, weight: u8)
+    requires within { from + 16 ≤ length rows.old }
+    requires fits { (k : ℕ) → from ≤ k → k < from + 16 → slice_index rows.old k + weight < 256 }
+    ensures { (k : ℕ) → slice_index rows.new k
+        ≡ slice_index rows.old k + between from (from + 16) weight k }
+{
+    for place in from..from + BLOCK {
+        rows[place] += weight;
+    }
+}
+
+/// Returns whether sixteen pixels from this one on are opaque and have the same entry.
+#[inline(always)]
+fn is_run(image: &IndexedImage<'_>, pixel: usize) -> bool
+    requires image { IsIndexed image.now }
+    requires within { pixel + 16 ≤ image.now.width * image.now.height }
+    ensures { result ≡ true → (k : ℕ) → pixel ≤ k → k < pixel + 16
+        → (slice_index image.now.indices.now pixel ≡ slice_index image.now.indices.now k)
+        × (128 ≤ slice_index image.now.pixels.now (4 * k + 3)) }
+{
+    if equal_from(image.indices, pixel, image.indices[pixel]) < BLOCK {
+        return false;
+    }
+    are_opaque(image.pixels, pixel)
 }
 
 /// Sets the opaque pixels of a line, in rows of a part of the entries.

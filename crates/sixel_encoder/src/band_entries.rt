@@ -7,7 +7,7 @@ ghost use Rattle.sixel_encoder.specs.Text.{entry_at, mask, sixel_of};
 ghost use Rattle.sixel_encoder.specs.inside.Compact.{AreLanes, AreSpare, lane_of};
 ghost use Rattle.sixel_encoder.specs.inside.Indexed.{IsIndexed, drawing_of};
 
-use crate::pixels::entry_at;
+use crate::band::is_opaque;
 use crate::text::IndexedImage;
 use std::alloc::{AllocError, Global};
 use std::simd::prelude::*;
@@ -105,21 +105,31 @@ fn write_line(lanes: &mut [u16], image: &IndexedImage<'_>, row: usize, bit: usiz
         → slice_index lanes.new (8 * column + other)
         ≡ slice_index lanes.old (8 * column + other) }
 {
+    // A copy, so that the compiler need not read the fields again after each store.
+    let image = *image;
     for column in 0..image.width {
-        lanes[8 * column + bit] = lane_at(image, column, row);
+        lanes[8 * column + bit] = lane_at(&image, column, row);
     }
 }
 
 /// Returns the lane of a pixel, a transparent one below the last row.
+///
+/// The entry is read before the test, so that the compiler needs no branch.
 #[inline(always)]
 fn lane_at(image: &IndexedImage<'_>, column: usize, row: usize) -> u16
     requires image { IsIndexed image.now }
     requires column { column < image.now.width }
     ensures { result ≡ lane_of (entry_at (drawing_of image.now) column row) }
 {
-    match entry_at(image, column, row) {
-        Some(entry) => entry as u16,
-        None => TRANSPARENT,
+    if row >= image.height {
+        return TRANSPARENT;
+    }
+    let pixel = row * image.width + column;
+    let entry = u16::from(image.indices[pixel]);
+    if is_opaque(image.pixels, pixel) {
+        entry
+    } else {
+        TRANSPARENT
     }
 }
 

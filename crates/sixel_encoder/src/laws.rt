@@ -5,7 +5,7 @@ ghost use Rattle.std.specs.Prelude.{Some, None};
 ghost use Rattle.std.specs.Prelude.{All};
 ghost use Rattle.sixel_base.specs.declared.settings.BackgroundMode.TheVariants.{Transparent};
 ghost use Rattle.sixel_base.specs.Bytes.{before_terminator, front, first_terminator, count};
-ghost use Rattle.sixel_base.specs.Color.{byte_of, default_registers};
+ghost use Rattle.sixel_base.specs.Color.{byte_of};
 ghost use Rattle.sixel_base.specs.Decoder.{new_decoder, origin_of};
 ghost use Rattle.sixel_base.specs.declared.state.DecoderState.{DecoderState};
 ghost use Rattle.sixel_base.specs.Size.{banded};
@@ -13,6 +13,7 @@ ghost use Rattle.sixel_base.specs.Payload.{Image, payload_fault, payload_image};
 ghost use Rattle.sixel_encoder.specs.Text.{Drawing, percent, parameters_text, text_of};
 ghost use Rattle.sixel_encoder.specs.Encoding.{image_fault, IsDrawing, IsText, shown_image};
 ghost use Rattle.sixel_base.specs.Dcs.{Reading, stage};
+ghost use Rattle.sixel_base.specs.Limits.{Limit};
 ghost use Rattle.sixel_base.specs.OneShot.{Payload, found};
 ghost use Rattle.sixel_encoder.specs.Compact.{compact_text};
 ghost use Rattle.sixel_encoder.specs.declared.dither.Dither.{Dither};
@@ -20,7 +21,8 @@ ghost use Rattle.sixel_encoder.specs.declared.form.TextForm.{TextForm};
 ghost use Rattle.sixel_encoder.specs.Marks.{IsDrawnText};
 ghost use Rattle.sixel_encoder.specs.RefinedText.{IsRefinedText};
 ghost use Rattle.sixel_encoder.specs.Trip.{IsWritable, payload_text, drawing_settings};
-ghost use Rattle.sixel_encoder.specs.Trip.{rounded, trip, CanRead, IsTrip, IsReadAs, IsOneString};
+ghost use Rattle.sixel_encoder.specs.Trip.{rounded, trip, CanRead, CanShow, IsTrip};
+ghost use Rattle.sixel_encoder.specs.Trip.{IsReadAs, IsOneString};
 
 /// States that an output is its parameters, a payload and the string terminator.
 ///
@@ -40,11 +42,11 @@ pub fn whole_payload()
 
 /// States that decoding a payload succeeds and returns the drawing's trip.
 pub fn round_trip()
-    ensures sound { (limit : ℕ) (drawing : Drawing) (rest : List ℕ) → IsWritable drawing
-        → drawing.width * banded drawing.height ≤ limit
+    ensures sound { (limit : Limit) (drawing : Drawing) (rest : List ℕ) → IsWritable drawing
+        → drawing.width * banded drawing.height ≤ limit.pixels
         → payload_fault limit (payload_text drawing ++ 27 ∷ rest) ≡ None }
     ensures image { (decoder : DecoderState) (drawing : Drawing) (rest : List ℕ)
-        → IsWritable drawing → decoder.registers ≡ default_registers
+        → IsWritable drawing → CanShow decoder drawing.width drawing.height
         → payload_image (origin_of decoder (drawing_settings drawing))
         (payload_text drawing ++ 27 ∷ rest)
         ≡ trip decoder.raster_crop drawing }
@@ -58,8 +60,9 @@ pub fn one_control_string()
         ≡ Payload (drawing_settings drawing) (payload_text drawing ++ 27 ∷ codes "\\") }
     ensures staged { (drawing : Drawing) → stage (text_of drawing)
         ≡ Reading (drawing_settings drawing) (payload_text drawing ++ 27 ∷ codes "\\") }
-    ensures whole { (limit : ℕ) (drawing : Drawing) → IsWritable drawing
-        → drawing.width * banded drawing.height ≤ limit → IsOneString limit (text_of drawing) }
+    ensures whole { (limit : Limit) (drawing : Drawing) → IsWritable drawing
+        → drawing.width * banded drawing.height ≤ limit.pixels
+        → IsOneString limit (text_of drawing) }
     ensures read_back { (decoder : DecoderState) (drawing : Drawing) → IsWritable drawing
         → CanRead decoder drawing.width drawing.height
         → IsReadAs decoder (text_of drawing) (trip decoder.raster_crop drawing) }
@@ -70,8 +73,8 @@ pub fn one_control_string()
 /// Such a text is one DCS sequence. A decoder that can read it returns the trip. The output for a
 /// drawing is such a text.
 pub fn drawn_text()
-    ensures whole { (limit : ℕ) (drawing : Drawing) (text : List ℕ) → IsWritable drawing
-        → IsDrawnText drawing text → drawing.width * banded drawing.height ≤ limit
+    ensures whole { (limit : Limit) (drawing : Drawing) (text : List ℕ) → IsWritable drawing
+        → IsDrawnText drawing text → drawing.width * banded drawing.height ≤ limit.pixels
         → IsOneString limit text }
     ensures read_back { (decoder : DecoderState) (drawing : Drawing) (text : List ℕ)
         → IsWritable drawing → IsDrawnText drawing text
@@ -88,8 +91,8 @@ pub fn drawn_text()
 pub fn compact_text()
     ensures drawn { (drawing : Drawing) → IsWritable drawing
         → IsDrawnText drawing (compact_text drawing) }
-    ensures whole { (limit : ℕ) (drawing : Drawing) → IsWritable drawing
-        → drawing.width * banded drawing.height ≤ limit
+    ensures whole { (limit : Limit) (drawing : Drawing) → IsWritable drawing
+        → drawing.width * banded drawing.height ≤ limit.pixels
         → IsOneString limit (compact_text drawing) }
     ensures read_back { (decoder : DecoderState) (drawing : Drawing) → IsWritable drawing
         → CanRead decoder drawing.width drawing.height
@@ -116,9 +119,9 @@ pub fn image_trip()
         → IsDrawing image max_colors drawing → IsWritable drawing }
     ensures readable { (image : Image) → image_fault image ≡ None
         → CanRead new_decoder image.width image.height }
-    ensures whole { (limit : ℕ) (image : Image) (max_colors : ℕ) (text : List ℕ)
+    ensures whole { (limit : Limit) (image : Image) (max_colors : ℕ) (text : List ℕ)
         → image_fault image ≡ None → All (λ byte. byte < 256) image.pixels
-        → image.width * banded image.height ≤ limit
+        → image.width * banded image.height ≤ limit.pixels
         → IsText image max_colors text → IsOneString limit text }
     ensures read_back { (decoder : DecoderState) (image : Image) (max_colors : ℕ) (text : List ℕ)
         → image_fault image ≡ None → All (λ byte. byte < 256) image.pixels

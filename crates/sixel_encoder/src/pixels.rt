@@ -1,7 +1,7 @@
 //! The palette entries of an image's pixels.
 
-ghost use Rattle.std.specs.Prelude.{◌≡◌, ℕ, ◌+◌, ◌*◌, ◌<◌, length, slice_index_or, Some, None};
-ghost use Rattle.sixel_encoder.specs.Text.{bands, entry_at, is_entry};
+ghost use Rattle.std.specs.Prelude.{◌≡◌, ℕ, ◌*◌, ◌<◌, length, slice_index_or, Some, None};
+ghost use Rattle.sixel_encoder.specs.Text.{bands, is_entry};
 ghost use Rattle.sixel_encoder.specs.Trip.{is_used, bands_up_to};
 ghost use Rattle.sixel_encoder.specs.inside.Indexed.{IsIndexed, drawing_of, entry_of};
 
@@ -19,21 +19,6 @@ pub fn entry_of(image: &IndexedImage<'_>, pixel: usize) -> Option<usize>
         return None;
     }
     Some(usize::from(image.indices[pixel]))
-}
-
-/// Returns the palette entry of a pixel, none below the last row.
-#[inline(always)]
-pub fn entry_at(image: &IndexedImage<'_>, column: usize, row: usize) -> Option<usize>
-    requires image { IsIndexed image.now }
-    requires column { column < image.now.width }
-    ensures entry { result ≡ entry_at (drawing_of image.now) column row }
-    ensures known { (e : ℕ) → result ≡ Some e → e < length image.now.colors.now }
-{
-    if row >= image.height {
-        return None;
-    }
-    let pixel = row * image.width + column;
-    entry_of(image, pixel)
 }
 
 /// Returns whether a pixel has this palette entry, where there is one.

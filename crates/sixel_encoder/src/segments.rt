@@ -1,11 +1,12 @@
 //! The segments of a band: pixels of one palette entry, close together.
 
-ghost use Rattle.std.specs.Prelude.{◌≡◌, ◌≢◌, ◌+◌, ◌<◌, ◌^◌, ◌++◌, IfOk, OnOk, true, false};
-ghost use Rattle.std.specs.Prelude.{length};
+ghost use Rattle.std.specs.Prelude.{◌≡◌, ◌≢◌, ℕ, ◌+◌, ◌*◌, ◌<◌, ◌^◌, ◌++◌, IfOk, OnOk};
+ghost use Rattle.std.specs.Prelude.{length, true, false};
 ghost use Rattle.sixel_encoder.specs.Segments.{band_segments, drawn_segments, gap_of, passes};
 ghost use Rattle.sixel_encoder.specs.Segments.{with_pixel, in_pass, after_pass};
 ghost use Rattle.sixel_encoder.specs.inside.Indexed.{drawing_of};
 ghost use Rattle.sixel_encoder.specs.inside.Compact.{AreLanes, AreLast};
+ghost use Rattle.sixel_encoder.specs.Text.{entry_at};
 
 use crate::band_entries::{BandEntries, TRANSPARENT};
 use crate::text::IndexedImage;
@@ -43,7 +44,8 @@ fn band_segments(alloc: Global, entries: &BandEntries<'_>) -> Result<Vec<Segment
     let mut last: [Option<usize>; 256] = [None; 256];
     for column in 0..entries.image.width {
         let mut above = TRANSPARENT;
-        for bit in 0..6 {
+        let rows = if is_uniform(entries, column) { 1 } else { 6 };
+        for bit in 0..rows {
             let lane = entries.lane(column, bit);
             if is_new(lane, above) {
                 push_pixel(&mut segments, &mut last, gap, column, usize::from(lane))?;
@@ -52,6 +54,24 @@ fn band_segments(alloc: Global, entries: &BandEntries<'_>) -> Result<Vec<Segment
         }
     }
     Ok(segments)
+}
+
+/// Returns whether the pixels of a column have one entry, or are all transparent.
+#[inline(always)]
+fn is_uniform(entries: &BandEntries<'_>, column: usize) -> bool
+    requires entries { AreLanes entries.now }
+    requires column { column < entries.now.image.now.width }
+    ensures { result ≡ true → (bit : ℕ) → bit < 6
+        → entry_at (drawing_of entries.now.image.now) column (6 * entries.now.band + bit)
+        ≡ entry_at (drawing_of entries.now.image.now) column (6 * entries.now.band + 0) }
+{
+    let first = entries.lane(column, 0);
+    for bit in 1..6 {
+        if entries.lane(column, bit) != first {
+            return false;
+        }
+    }
+    true
 }
 
 /// Returns whether the pixel of a lane is opaque, and has another entry than the one above it.

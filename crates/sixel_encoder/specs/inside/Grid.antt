@@ -3,9 +3,11 @@
 -- output.
 use Rattle.std.specs.Prelude.{◌≡◌, ℕ, ◌+◌, ◌*◌, ◌<◌, ◌≤◌, ◌==◌, Bool, true, false, ◌&&◌}
 use Rattle.std.specs.Prelude.{if◌then◌else◌, List, [], length, map, slice_index, slice_index_or}
-use Rattle.std.specs.Prelude.{Option}
+use Rattle.std.specs.Prelude.{Option, nat_lt}
+use Rattle.sixel_encoder.specs.IndexedDrawing.{entry_of}
 use Rattle.std.specs.List.{range_with_len}
 use Rattle.sixel_encoder.specs.declared.band.BandRows.{BandRows}
+use Rattle.sixel_encoder.specs.declared.band.Line.{Line}
 use Rattle.sixel_encoder.specs.declared.text.IndexedImage.{IndexedImage}
 use Rattle.sixel_encoder.specs.Text.{is_entry, has_dot, row_text}
 
@@ -30,6 +32,19 @@ dot_at weight entry column e x = if e == entry && x == column then weight else 0
 -- what a pixel adds to an entry's sixel: its line's weight if the pixel has the entry
 abbrev pub pixel_bit : ℕ → ℕ → Option ℕ → ℕ
 pixel_bit weight e place = if is_entry e place then weight else 0
+
+-- the amount from one place up to another, else 0
+abbrev pub between : ℕ → ℕ → ℕ → ℕ → ℕ
+between from to amount place =
+    if nat_lt place from then 0 else (if nat_lt place to then amount else 0)
+
+-- the pixels of a line are set too, from one column up to another
+abbrev pub HasColumns : IndexedImage → Line → ℕ → ℕ → List ℕ → List ℕ → Type 0
+HasColumns image line from to rows new =
+    (e x : ℕ) → e < length image.colors.now → x < image.width
+    → cell new image.width e x ≡ cell rows image.width e x
+    + between from to (pixel_bit line.weight e
+    (entry_of image.pixels.now image.indices.now (line.start + x))) x
 
 -- So many entries from the first one on are a part of all entries: the first is one of them, and
 -- with as many as there are it is 0.

@@ -1,14 +1,16 @@
-use Rattle.std.proofs.Common.{◌≡◌, ℕ, ◌+◌, ◌<◌, nat_lt, length}
-use Rattle.std.specs.Prelude.{if◌then◌else◌}
-use Rattle.sixel_encoder.specs.inside.Indexed.{entry_of}
-use Rattle.sixel_encoder.specs.inside.Grid.{cell, pixel_bit, AreMarks}
+use Rattle.std.proofs.Common.{◌*◌, ◌/◌}
+use Rattle.sixel_encoder.specs.inside.Grid.{HasColumns, AreMarks}
 use Rattle.sixel_encoder.proofs.band.add_whole_line.Given as goal
 
+abbrev pub invariant-loop-block : goal.invariant-loop-block
+invariant-loop-block l = record {
+  cells : HasColumns l.image l.line 0 (16 * l.block) l.initial.rows l.rows;
+  marks : AreMarks l.rows l.used l.image.width;
+}
+
+-- the columns after the whole blocks
 abbrev pub invariant-loop-column : goal.invariant-loop-column
 invariant-loop-column l = record {
-  cells : (e x : ℕ) → e < length l.used → x < l.image.width
-      → cell l.rows l.image.width e x ≡ cell l.initial.rows l.image.width e x
-      + (if nat_lt x l.column then pixel_bit l.line.weight e
-      (entry_of l.image.pixels.now l.image.indices.now (l.line.start + x)) else 0);
+  cells : HasColumns l.image l.line (16 * (l.image.width / 16)) l.column l.initial.rows l.rows;
   marks : AreMarks l.rows l.used l.image.width;
 }

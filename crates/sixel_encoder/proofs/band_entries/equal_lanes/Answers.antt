@@ -1,4 +1,4 @@
-use Rattle.std.proofs.Common.{arith, sym}
+use Rattle.std.proofs.Common.{arith}
 use Rattle.std.specs.Prelude.{slice_index, ◌+◌, ◌==◌}
 use Rattle.sixel_encoder.proofs.EntryLaneMasks.{mask_is}
 use Rattle.sixel_encoder.proofs.Masks.{mask-lt}

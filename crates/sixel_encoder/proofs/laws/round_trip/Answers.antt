@@ -5,4 +5,4 @@ pub returns-clause-sound : goal.returns-clause-sound
 returns-clause-sound c = λ limit drawing rest is room. plain-sound limit drawing rest is room
 
 pub returns-clause-image : goal.returns-clause-image
-returns-clause-image c = λ decoder drawing rest is new. plain-trip decoder drawing rest is new
+returns-clause-image c = λ decoder drawing rest is can. plain-trip decoder drawing rest is can

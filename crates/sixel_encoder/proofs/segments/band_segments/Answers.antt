@@ -1,14 +1,16 @@
-use Rattle.std.proofs.Common.{◌≡◌, ◌+◌, ◌<◌, length, ap, sym, refl, ◌∙◌, inl, inr, arith, ℕ}
+use Rattle.std.proofs.Common.{◌≡◌, ◌+◌, ◌*◌, ◌<◌, length, ap, sym, refl, ◌∙◌, inl, inr, arith, ℕ}
 use Rattle.std.proofs.lemmas.Bool.{cases_eq}
-use Rattle.sixel_encoder.specs.Segments.{with_pixel}
+use Rattle.sixel_encoder.specs.Segments.{segments_up_to, with_pixel}
 use Rattle.sixel_encoder.specs.inside.Indexed.{drawing_of}
 use Rattle.sixel_encoder.proofs.EntryLaneMasks.{opaque-lane, transparent-lane}
 use Rattle.sixel_encoder.proofs.SegmentSteps.{AreLast-none}
 use Rattle.sixel_encoder.proofs.PassSteps.{none-replicated, segment-pixel, segment-skip}
+use Rattle.sixel_encoder.proofs.PassSteps.{segment-uniform}
 use Rattle.sixel_encoder.proofs.PassSteps.{segments_up_to-none, with_pixel-twice}
 use Rattle.sixel_encoder.proofs.segments.band_segments.Goals as goal
 use Rattle.sixel_encoder.proofs.segments.band_segments.Goals.{then-is_new+in_ok-push_pixel}
-use Rattle.sixel_encoder.proofs.segments.band_segments.Goals.{else-is_new}
+use Rattle.sixel_encoder.proofs.segments.band_segments.Goals.{else-is_new, then-is_uniform}
+use Rattle.sixel_encoder.proofs.segments.band_segments.Goals.{else-is_uniform}
 
 pub loop-column-init : goal.loop-column-init
 loop-column-init c = record {
@@ -89,3 +91,37 @@ loop-bit-preserved c =
                 }
           ]
     ]
+
+pub loop-column-preserved : goal.loop-column-preserved
+loop-column-preserved c =
+    let entries = c.args.entries.now in
+    let drawing = drawing_of entries.image.now in
+    let column = c.loop-column.column in
+    let items = c.loop-bit.segments.items in
+    let is = c.loop-bit.invariant in
+    let end = c.loop-bit.auto.bit-end in
+    let past = c.loop-bit-test.false in
+    let whole : items ≡ segments_up_to drawing entries.band (6 * column + 6) =
+    elim c.if-is_uniform.branch [
+      | then-is_uniform w ↦
+          let one : c.loop-bit.bit ≡ 1 = omega (arith, end, past, w.rows-is) in
+          segment-uniform drawing entries.band column items
+          (is.segments ∙ ap (λ n. segments_up_to drawing entries.band (6 * column + n)) one)
+          (c.is_uniform.ensures w.if-is_uniform.true) 5 (omega arith)
+      | else-is_uniform w ↦
+          let six : c.loop-bit.bit ≡ 6 = omega (arith, end, past, w.rows-is) in
+          is.segments ∙ ap (λ n. segments_up_to drawing entries.band (6 * column + n)) six
+    ] in
+    let next : 6 * column + 6 ≡ 6 * (column + 1) = omega arith in
+    record {
+      segments = whole ∙ ap (segments_up_to drawing entries.band) next;
+      last = record {
+        known = is.last.known;
+        closed = λ k l. elim (is.last.closed k l) [
+          | inl own ↦ inl own
+          | inr far ↦ inr (omega (arith, far))
+        ];
+        ended = λ k l. omega (arith, is.last.ended k l);
+      };
+      size = is.size;
+    }
