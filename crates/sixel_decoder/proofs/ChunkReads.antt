@@ -12,6 +12,7 @@ use Rattle.sixel_base.specs.Bytes.{is_terminator, is_ignored, is_sixel, before_t
 use Rattle.sixel_base.specs.Bytes.{front, count, first_terminator, is_terminated}
 use Rattle.sixel_base.specs.History.{Token, Sixel, Repeat, Raster, Color, Return, Newline, Skip}
 use Rattle.sixel_base.specs.History.{History, begun, longer, goes_on, read, history_of}
+use Rattle.sixel_base.specs.Limits.{Limit}
 use Rattle.sixel_base.specs.Stroke.{Origin}
 use Rattle.sixel_base.specs.Payload.{first_fault, closed, growths, settled, payload_fault}
 use Rattle.sixel_base.specs.Payload.{payload_wants}
@@ -30,7 +31,7 @@ use Rattle.sixel_decoder.proofs.ParserSteps.{Faults-along, fault_stays, growths-
 -- ---- what is rejected stays rejected
 
 -- a fault of the tokens that are closed is one of all
-pub whole_fault : (limit : ℕ) (h : History) (f : Fault) → first_fault limit (closed h) ≡ Some f
+pub whole_fault : (limit : Limit) (h : History) (f : Fault) → first_fault limit (closed h) ≡ Some f
     → first_fault limit h ≡ Some f
 whole_fault limit [] f is = is
 whole_fault limit (Sixel _ ∷ h) f is = is
@@ -52,7 +53,7 @@ closed-longer (Return ∷ h) byte goes = absurd cc
 closed-longer (Newline ∷ h) byte goes = absurd cc
 closed-longer (Skip _ ∷ h) byte goes = absurd cc
 
-read_fault : (limit : ℕ) (h : History) (byte : ℕ) (f : Fault)
+pub read_fault : (limit : Limit) (h : History) (byte : ℕ) (f : Fault)
     → first_fault limit (closed h) ≡ Some f → first_fault limit (closed (read h byte)) ≡ Some f
 read_fault limit h byte f is =
     (elim (goes_on h byte) as
@@ -63,7 +64,7 @@ read_fault limit h byte f is =
       | false ↦ λ ends. fault_stays limit (begun byte) h f (whole_fault limit h f is)
     ]) refl
 
-pub fold_fault : (limit : ℕ) (h : History) (bytes : List ℕ) (f : Fault)
+pub fold_fault : (limit : Limit) (h : History) (bytes : List ℕ) (f : Fault)
     → first_fault limit (closed h) ≡ Some f
     → first_fault limit (closed (fold read h bytes)) ≡ Some f
 fold_fault limit h [] f is = is
@@ -117,7 +118,7 @@ front-ignored : (byte : ℕ) (rest : List ℕ) → is_terminator byte ≡ false 
     → front (byte ∷ rest) ≡ front rest
 front-ignored byte rest ends is = rw (ends, is) refl
 
-front-carried : (byte : ℕ) (rest : List ℕ) → is_terminator byte ≡ false → is_ignored byte ≡ false
+pub front-carried : (byte : ℕ) (rest : List ℕ) → is_terminator byte ≡ false → is_ignored byte ≡ false
     → front (byte ∷ rest) ≡ byte ∷ front rest
 front-carried byte rest ends is = rw (ends, is) refl
 
@@ -345,7 +346,7 @@ feeds_terminated o parser h read piece more is ground shows =
     (is, rw some refl, rw some (ground, shows))
 
 -- why the open command is rejected there
-pub feeds_refused_end : (e : SixelError) (limit : ℕ) (h : History) (read : ℕ) (piece : List ℕ)
+pub feeds_refused_end : (e : SixelError) (limit : Limit) (h : History) (read : ℕ) (piece : List ℕ)
     → read < length piece → read ≡ count piece
     → Faults e false (first_fault limit (after h piece))
     → Faults e (nat_lt (growths (closed h)) (growths (settled_after h piece)))
@@ -357,7 +358,7 @@ feeds_refused_end e limit h read piece more is refused =
     (λ never. absurd cc) (λ f found. ap (first_fault limit) whole ∙ found) refused
 
 -- An error before the end of a chunk is the error of its tokens there.
-refused_settled : (e : SixelError) (limit : ℕ) (h now next : History) (rest : List ℕ)
+refused_settled : (e : SixelError) (limit : Limit) (h now next : History) (rest : List ℕ)
     (piece : List ℕ)
     → fold read next rest ≡ after h piece → growths (closed h) ≤ growths (closed now)
     → Faults e (nat_lt (growths (closed now)) (growths (closed next)))
@@ -433,7 +434,7 @@ first_ahead index piece bytes is =
     ∙ ap (λ (k : ℕ). get_or piece k 0) place
 
 -- an error of a payload while it is fed is its error at the end
-settled_fault : (limit : ℕ) (bytes : List ℕ) (f : Fault)
+pub settled_fault : (limit : Limit) (bytes : List ℕ) (f : Fault)
     → first_fault limit (settled bytes) ≡ Some f → payload_fault limit bytes ≡ Some f
 settled_fault limit bytes f is =
     (elim (is_terminated bytes) as
@@ -452,7 +453,7 @@ or_left : (a b : Bool) → IsTrue a → IsTrue (a || b)
 or_left true b is = refl
 or_left false b is = absurd cc
 
-pub payload_refused : (e : SixelError) (limit : ℕ) (bytes : List ℕ)
+pub payload_refused : (e : SixelError) (limit : Limit) (bytes : List ℕ)
     → Faults e (nat_lt 0 (growths (settled bytes))) (first_fault limit (settled bytes))
     → Faults e (payload_wants limit bytes) (payload_fault limit bytes)
 payload_refused e limit bytes refused =

@@ -153,12 +153,12 @@ after_whole before piece none =
     sym (fold-append read [] (front before) (front piece))
     ∙ ap history_of (sym (front-append before piece none))
 
-settled_open : (before : List ℕ) → first_terminator before ≡ None
+pub settled_open : (before : List ℕ) → first_terminator before ≡ None
     → settled before ≡ closed (history_of (front before))
 settled_open before none =
     ap (λ t. cond (is_some t) (history_of (front before)) (closed (history_of (front before)))) none
 
-settled_whole : (before piece : List ℕ) → first_terminator before ≡ None
+pub settled_whole : (before piece : List ℕ) → first_terminator before ≡ None
     → settled_after (history_of (front before)) piece ≡ settled (before ++ piece)
 settled_whole before piece none =
     ap (λ (w : History). cond (is_terminated piece) w (closed w)) (after_whole before piece none)

@@ -24,6 +24,7 @@ use Rattle.sixel_base.specs.Dcs.{Heading, Failing, Reading, stage_after, stage_b
 use Rattle.sixel_base.specs.Dcs.{stage_status, stage_count, stage_fault, stage_growths}
 use Rattle.sixel_base.specs.Dcs.{payload_count, dcs_status, dcs_count, dcs_fault, dcs_growths}
 use Rattle.sixel_base.specs.Dcs.{after_terminator, ended_with}
+use Rattle.sixel_base.specs.Limits.{Limit}
 use Rattle.sixel_decoder.specs.inside.DcsParser.{IsInPayload, HasFollowed, is_head, is_failed}
 use Rattle.sixel_decoder.specs.inside.DcsParser.{IsStageFault, GoesTo, Follows}
 use Rattle.sixel_decoder.proofs.ParserSteps.{Faults-along}
@@ -132,7 +133,7 @@ head_or_payload (states.Payload reader) fine other = absurd (other reader refl)
 head_or_payload states.Failed fine other = absurd cc
 
 -- what an error names before a payload is what is wrong with the bytes
-pub stage_refuses : (e : SixelError) (may : Bool) (limit : ℕ) (s : Stage) → IsStageFault e s
+pub stage_refuses : (e : SixelError) (may : Bool) (limit : Limit) (s : Stage) → IsStageFault e s
     → Faults e may (stage_fault limit s)
 stage_refuses e may limit Heading is = absurd is
 stage_refuses e may limit (Failing fault) is = Faults-named e may fault is
@@ -285,7 +286,7 @@ entered_follows state decoder ended before piece start consumed status within fr
 grows : (a b n : ℕ) → a ≡ 0 → IsTrue (nat_lt b n) → IsTrue (nat_lt a n)
 grows a b n none may = grind (arith, nat_tests)
 
-pub entered_refuses : (e : SixelError) (limit : ℕ) (before piece : List ℕ) (start : ℕ)
+pub entered_refuses : (e : SixelError) (limit : Limit) (before piece : List ℕ) (start : ℕ)
     → stage before ≡ Heading
     → Faults e (nat_lt (dcs_growths (before ++ take start piece))
     (dcs_growths ((before ++ take start piece) ++ drop start piece)))

@@ -2,23 +2,37 @@
 use Rattle.std.proofs.Common.{◌≡◌, ℕ, zero, suc, ◌+◌, ◌≤◌, true, false, cond, List, [], ◌∷◌}
 use Rattle.std.proofs.Common.{max, length, get_or, take, refl, ap, ◌∙◌, arith}
 use Rattle.std.specs.Prelude.{nat_lt}
+use Rattle.std.proofs.lemmas.Bool.{le-leb, lt-ltb}
 use Rattle.sixel_base.specs.Bytes.{front, is_terminated}
+use Rattle.sixel_base.specs.Clip.{clipped_bits, is_inside}
 use Rattle.sixel_base.specs.DrawnHeight.{drawn_height, lowered, payload_drawn_height, set_rows}
 use Rattle.sixel_base.specs.History.{Sixel, Repeat, Raster, Color, Return, Newline, Skip, History}
 use Rattle.sixel_base.specs.History.{history_of}
+use Rattle.sixel_base.specs.Limits.{Limit}
 use Rattle.sixel_base.specs.Payload.{closed, settled}
-use Rattle.sixel_base.specs.Place.{down, height}
+use Rattle.sixel_base.specs.Place.{across, down, height}
 use Rattle.sixel_decoder.specs.inside.Runs.{most_rows}
 use Rattle.sixel_decoder.proofs.SetRows.{lowered-again, set_rows_few}
-use Rattle.sixel_decoder.proofs.SixelRuns.{with_sixels}
+use Rattle.sixel_decoder.proofs.SixelRuns.{with_sixels, IsInside, IsInside-sixel}
 
 -- sixels of one band
-pub drawn_height-sixels : (h : History) (sixels : List ℕ)
-    → drawn_height (with_sixels h sixels) ≡ lowered (drawn_height h) (down h) (most_rows sixels)
-drawn_height-sixels h [] = refl
-drawn_height-sixels h (bits ∷ more) =
-    drawn_height-sixels (Sixel bits ∷ h) more
-    ∙ lowered-again (drawn_height h) (down h) (set_rows bits) (most_rows more)
+pub drawn_height-sixels : (limit : Limit) (h : History) (sixels : List ℕ)
+    → IsInside limit (length sixels) h
+    → drawn_height limit (with_sixels h sixels)
+    ≡ lowered (drawn_height limit h) (down h) (most_rows sixels)
+drawn_height-sixels limit h [] inside = refl
+drawn_height-sixels limit h (bits ∷ more) inside =
+    let one : drawn_height limit (Sixel bits ∷ h)
+    ≡ lowered (drawn_height limit h) (down h) (set_rows bits) =
+    rw (
+      lt-ltb (across h) limit.columns (omega (arith, inside.columns)),
+      lt-ltb (down h) limit.rows (omega (arith, inside.rows)),
+      le-leb (down h + 6) limit.rows inside.rows,
+    ) refl in
+    drawn_height-sixels limit (Sixel bits ∷ h) more
+    (IsInside-sixel limit (length more) bits h inside)
+    ∙ ap (λ (rows : ℕ). lowered rows (down h) (most_rows more)) one
+    ∙ lowered-again (drawn_height limit h) (down h) (set_rows bits) (most_rows more)
 
 none_set : (sixels : List ℕ) → ((k : ℕ) → get_or sixels k 0 ≡ 0) → most_rows sixels ≡ 0
 none_set [] blank = refl
@@ -49,34 +63,43 @@ lowered-within before top rows high within few =
     ]
 
 -- no pixel is set below the image
-pub drawn_within : (h : History) → drawn_height h ≤ height h
-drawn_within [] = omega arith
-drawn_within (Sixel bits ∷ h) =
-    lowered-within (drawn_height h) (down h) (set_rows bits) (height h) (drawn_within h)
-    (set_rows_few bits)
-drawn_within (Repeat _ ∷ h) = drawn_within h
-drawn_within (Raster _ ∷ h) = omega (arith, drawn_within h)
-drawn_within (Color _ ∷ h) = drawn_within h
-drawn_within (Return ∷ h) = drawn_within h
-drawn_within (Newline ∷ h) = drawn_within h
-drawn_within (Skip _ ∷ h) = drawn_within h
+pub drawn_within : (limit : Limit) (h : History) → drawn_height limit h ≤ height h
+drawn_within limit [] = omega arith
+drawn_within limit (Sixel bits ∷ h) =
+    let rows : ℕ = set_rows (clipped_bits limit (down h) bits) in
+    elim (is_inside limit h) as
+    (λ t.
+    cond t (lowered (drawn_height limit h) (down h) rows) (drawn_height limit h)
+    ≤ max (height h) (down h + 6)) [
+      | true ↦ lowered-within (drawn_height limit h) (down h) rows (height h) (drawn_within limit h)
+          (set_rows_few (clipped_bits limit (down h) bits))
+      | false ↦ omega (arith, drawn_within limit h)
+    ]
+drawn_within limit (Repeat _ ∷ h) = drawn_within limit h
+drawn_within limit (Raster _ ∷ h) = omega (arith, drawn_within limit h)
+drawn_within limit (Color _ ∷ h) = drawn_within limit h
+drawn_within limit (Return ∷ h) = drawn_within limit h
+drawn_within limit (Newline ∷ h) = drawn_within limit h
+drawn_within limit (Skip _ ∷ h) = drawn_within limit h
 
-drawn_height-closed : (h : History) → drawn_height (closed h) ≡ drawn_height h
-drawn_height-closed [] = refl
-drawn_height-closed (Sixel _ ∷ h) = refl
-drawn_height-closed (Repeat _ ∷ h) = refl
-drawn_height-closed (Raster _ ∷ h) = refl
-drawn_height-closed (Color _ ∷ h) = refl
-drawn_height-closed (Return ∷ h) = refl
-drawn_height-closed (Newline ∷ h) = refl
-drawn_height-closed (Skip _ ∷ h) = refl
+drawn_height-closed : (limit : Limit) (h : History)
+    → drawn_height limit (closed h) ≡ drawn_height limit h
+drawn_height-closed limit [] = refl
+drawn_height-closed limit (Sixel _ ∷ h) = refl
+drawn_height-closed limit (Repeat _ ∷ h) = refl
+drawn_height-closed limit (Raster _ ∷ h) = refl
+drawn_height-closed limit (Color _ ∷ h) = refl
+drawn_height-closed limit (Return ∷ h) = refl
+drawn_height-closed limit (Newline ∷ h) = refl
+drawn_height-closed limit (Skip _ ∷ h) = refl
 
 -- an open command sets no pixel
-pub drawn_height-settled : (bytes : List ℕ)
-    → drawn_height (settled bytes) ≡ payload_drawn_height bytes
-drawn_height-settled bytes =
+pub drawn_height-settled : (limit : Limit) (bytes : List ℕ)
+    → drawn_height limit (settled bytes) ≡ payload_drawn_height limit bytes
+drawn_height-settled limit bytes =
     let h : History = history_of (front bytes) in
-    elim (is_terminated bytes) as (λ t. drawn_height (cond t h (closed h)) ≡ drawn_height h) [
+    elim (is_terminated bytes) as
+    (λ t. drawn_height limit (cond t h (closed h)) ≡ drawn_height limit h) [
       | true ↦ refl
-      | false ↦ drawn_height-closed h
+      | false ↦ drawn_height-closed limit h
     ]

@@ -1,17 +1,19 @@
 -- Final rows stay: no token that follows draws above the band of the next sixel.
 use Rattle.std.proofs.Common.{◌≡◌, ℕ, ◌+◌, ◌<◌, ◌≤◌, true, false, cond, List, [], ◌∷◌, ◌++◌}
 use Rattle.std.proofs.Common.{refl, ap, sym, ◌∙◌, subst, arith, Option, Some, None}
-use Rattle.std.specs.Prelude.{fold, nat_le, nat_lt, min, ◌&&◌}
+use Rattle.std.specs.Prelude.{fold, nat_le, nat_lt, ◌&&◌, if◌then◌else◌}
 use Rattle.std.proofs.lemmas.Bool.Decides.{nat_tests}
 use Rattle.sixel_base.specs.Bytes.{front, first_terminator}
+use Rattle.sixel_base.specs.Clip.{clipped_pixel, is_pixel_inside}
 use Rattle.sixel_base.specs.Dcs.{Stage, Heading, Failing, Reading, stage}
+use Rattle.sixel_base.specs.Limits.{Limit}
 use Rattle.sixel_base.specs.History.{Token, Sixel, Repeat, Raster, Color, Return, Newline, Skip}
 use Rattle.sixel_base.specs.History.{History, begun, longer, goes_on, read, history_of}
 use Rattle.sixel_base.specs.Payload.{closed, settled}
 use Rattle.sixel_base.specs.Picture.{covers}
 use Rattle.sixel_base.specs.Place.{across, span, down, height}
 use Rattle.sixel_base.specs.Settings.{Settings}
-use Rattle.sixel_base.specs.Stroke.{Origin, pixel}
+use Rattle.sixel_base.specs.Stroke.{Origin, background, pixel}
 use Rattle.sixel_decoder.specs.FinalRows.{final_rows, stage_final_rows, dcs_final_rows}
 use Rattle.sixel_decoder.proofs.ChunkReads.{closed-longer}
 use Rattle.sixel_decoder.proofs.Finality.{history_more, settled_open, of_settled, settled_ended}
@@ -167,47 +169,58 @@ pixel-closed origin (Return ∷ h) column row = refl
 pixel-closed origin (Newline ∷ h) column row = refl
 pixel-closed origin (Skip b ∷ h) column row = refl
 
+-- equal pixels are equal inside a clip
+same_clipped : (origin : Origin) (h k : History) (column row : ℕ)
+    → pixel origin h column row ≡ pixel origin k column row
+    → clipped_pixel origin h column row ≡ clipped_pixel origin k column row
+same_clipped origin h k column row =
+    ap (λ (p : List ℕ).
+    if is_pixel_inside origin.pixel_limit column row then p else background origin)
+
 -- ---- a payload
 
 -- a picture shows the settled tokens
 pub pixel_settled : (origin : Origin) (bytes : List ℕ) (column row : ℕ)
-    → pixel origin (settled bytes) column row ≡ pixel origin (history_of (front bytes)) column row
+    → clipped_pixel origin (settled bytes) column row
+    ≡ clipped_pixel origin (history_of (front bytes)) column row
 pixel_settled origin bytes column row =
-    of_settled (λ h. pixel origin h column row ≡ pixel origin (history_of (front bytes)) column row)
-    bytes refl (pixel-closed origin (history_of (front bytes)) column row)
+    let h : History = history_of (front bytes) in
+    of_settled (λ k. clipped_pixel origin k column row ≡ clipped_pixel origin h column row)
+    bytes refl (same_clipped origin (closed h) h column row (pixel-closed origin h column row))
 
 -- final rows never become fewer
-pub final_rows_stay : (bytes more : List ℕ)
-    → final_rows (settled bytes) ≤ final_rows (settled (bytes ++ more))
-final_rows_stay bytes more =
+pub final_rows_stay : (limit : Limit) (bytes more : List ℕ)
+    → final_rows limit (settled bytes) ≤ final_rows limit (settled (bytes ++ more))
+final_rows_stay limit bytes more =
     let on = (goes_on_more bytes more).some in
     omega (arith, on.lower, on.taller)
 
 -- they have the same pixels, whatever bytes follow
 pub final_pixels_stay : (origin : Origin) (bytes more : List ℕ) (column row : ℕ)
-    → row < final_rows (settled bytes)
-    → pixel origin (history_of (front (bytes ++ more))) column row
-    ≡ pixel origin (history_of (front bytes)) column row
+    → row < final_rows origin.pixel_limit (settled bytes)
+    → clipped_pixel origin (history_of (front (bytes ++ more))) column row
+    ≡ clipped_pixel origin (history_of (front bytes)) column row
 final_pixels_stay origin bytes more column row final =
-    (goes_on_more bytes more).all.pixels origin column row (omega (arith, final))
+    same_clipped origin (history_of (front (bytes ++ more))) (settled bytes) column row
+    ((goes_on_more bytes more).all.pixels origin column row (omega (arith, final)))
     ∙ pixel_settled origin bytes column row
 
 -- ---- a DCS sequence
 
-rows_in : (bytes more : List ℕ) (w : Stage) → stage bytes ≡ w
-    → stage_final_rows w ≤ dcs_final_rows (bytes ++ more)
-rows_in bytes more Heading is = omega arith
-rows_in bytes more (Failing f) is = omega arith
-rows_in bytes more (Reading s payload) is =
+rows_in : (limit : Limit) (bytes more : List ℕ) (w : Stage) → stage bytes ≡ w
+    → stage_final_rows limit w ≤ dcs_final_rows limit (bytes ++ more)
+rows_in limit bytes more Heading is = omega arith
+rows_in limit bytes more (Failing f) is = omega arith
+rows_in limit bytes more (Reading s payload) is =
     omega (
       arith,
-      ap stage_final_rows (stage_reading bytes more s payload is),
-      final_rows_stay payload more,
+      ap (stage_final_rows limit) (stage_reading bytes more s payload is),
+      final_rows_stay limit payload more,
     )
 
-pub dcs_final_rows_stay : (bytes more : List ℕ)
-    → dcs_final_rows bytes ≤ dcs_final_rows (bytes ++ more)
-dcs_final_rows_stay bytes more = rows_in bytes more (stage bytes) refl
+pub dcs_final_rows_stay : (limit : Limit) (bytes more : List ℕ)
+    → dcs_final_rows limit bytes ≤ dcs_final_rows limit (bytes ++ more)
+dcs_final_rows_stay limit bytes more = rows_in limit bytes more (stage bytes) refl
 
 -- where there are final rows, the payload has begun
 pub record HasBegun (bytes : List ℕ) : Type 0 where
@@ -215,14 +228,16 @@ pub record HasBegun (bytes : List ℕ) : Type 0 where
   pub payload : List ℕ
   pub reading : stage bytes ≡ Reading settings payload
 
-begun_in : (bytes : List ℕ) (w : Stage) → stage bytes ≡ w → 0 < stage_final_rows w → HasBegun bytes
-begun_in bytes Heading is some = absurd (omega (arith, some))
-begun_in bytes (Failing f) is some = absurd (omega (arith, some))
-begun_in bytes (Reading s payload) is some = record {
+begun_in : (limit : Limit) (bytes : List ℕ) (w : Stage) → stage bytes ≡ w
+    → 0 < stage_final_rows limit w → HasBegun bytes
+begun_in limit bytes Heading is some = absurd (omega (arith, some))
+begun_in limit bytes (Failing f) is some = absurd (omega (arith, some))
+begun_in limit bytes (Reading s payload) is some = record {
   settings = s;
   payload = payload;
   reading = is;
 }
 
-pub has_begun : (bytes : List ℕ) → 0 < dcs_final_rows bytes → HasBegun bytes
-has_begun bytes some = begun_in bytes (stage bytes) refl some
+pub has_begun : (limit : Limit) (bytes : List ℕ) → 0 < dcs_final_rows limit bytes
+    → HasBegun bytes
+has_begun limit bytes some = begun_in limit bytes (stage bytes) refl some

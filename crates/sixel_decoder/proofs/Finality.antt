@@ -18,6 +18,7 @@ use Rattle.sixel_base.specs.Dcs.{Stage, Heading, Failing, Reading, stage, after_
 use Rattle.sixel_base.specs.Dcs.{end_status, payload_status_by, stage_status, stage_count}
 use Rattle.sixel_base.specs.Dcs.{stage_fault, stage_growths, dcs_status, dcs_count, dcs_fault}
 use Rattle.sixel_base.specs.Dcs.{dcs_growths, has_ended}
+use Rattle.sixel_base.specs.Limits.{Limit}
 use Rattle.sixel_base.specs.OneShot.{Payload, found, found_fault, IsFoundImage, AreFoundRegisters}
 use Rattle.sixel_decoder.proofs.ParserSteps.{growths-closed}
 use Rattle.sixel_decoder.proofs.ChunkReads.{whole_fault, fold_fault, growths-fold}
@@ -63,7 +64,7 @@ of_settled P bytes all some =
     (λ t. P (cond t (history_of (front bytes)) (closed (history_of (front bytes)))))
     [ true ↦ all | false ↦ some ]
 
-fault_more : (limit : ℕ) (h : History) (bytes more : List ℕ) (f : Fault)
+fault_more : (limit : Limit) (h : History) (bytes more : List ℕ) (f : Fault)
     → history_of (front (bytes ++ more)) ≡ fold read h (front more)
     → first_fault limit (closed h) ≡ Some f → fed_fault limit (bytes ++ more) ≡ Some f
 fault_more limit h bytes more f goes is =
@@ -72,7 +73,8 @@ fault_more limit h bytes more f goes is =
     of_settled (λ w. first_fault limit w ≡ Some f)
     (bytes ++ more) (whole_fault limit (history_of (front (bytes ++ more))) f some) some
 
-fault_by : (limit : ℕ) (bytes more : List ℕ) (f : Fault) (o : Option ℕ) → first_terminator bytes ≡ o
+fault_by : (limit : Limit) (bytes more : List ℕ) (f : Fault) (o : Option ℕ)
+    → first_terminator bytes ≡ o
     → fed_fault limit bytes ≡ Some f → fed_fault limit (bytes ++ more) ≡ Some f
 fault_by limit bytes more f None none is =
     fault_more limit (history_of (front bytes)) bytes more f (history_more bytes more none)
@@ -81,7 +83,8 @@ fault_by limit bytes more f (Some t) some is =
     ap (first_fault limit) (settled_ended bytes more t some) ∙ is
 
 -- a payload that was rejected stays rejected
-pub fed_fault_stays : (limit : ℕ) (bytes more : List ℕ) (f : Fault) → fed_fault limit bytes ≡ Some f
+pub fed_fault_stays : (limit : Limit) (bytes more : List ℕ) (f : Fault)
+    → fed_fault limit bytes ≡ Some f
     → fed_fault limit (bytes ++ more) ≡ Some f
 fed_fault_stays limit bytes more f is = fault_by limit bytes more f (first_terminator bytes) refl is
 
@@ -197,7 +200,7 @@ dcs_count_ended bytes more ended =
     )
 
 -- as does what is wrong with it
-pub dcs_fault_ended : (limit : ℕ) (bytes more : List ℕ) → has_ended (dcs_status bytes) ≡ true
+pub dcs_fault_ended : (limit : Limit) (bytes more : List ℕ) → has_ended (dcs_status bytes) ≡ true
     → dcs_fault limit (bytes ++ more) ≡ dcs_fault limit bytes
 dcs_fault_ended limit bytes more ended =
     let e = ends_in bytes ended in
@@ -242,7 +245,7 @@ found_registers_ended start bytes more after ended is =
     ∙ sym
     (registers_more (origin_of start e.settings) e.payload more e.ends.terminator e.ends.first))
 
-pub found_fault_ended : (limit : ℕ) (bytes more : List ℕ) → has_ended (dcs_status bytes) ≡ true
+pub found_fault_ended : (limit : Limit) (bytes more : List ℕ) → has_ended (dcs_status bytes) ≡ true
     → found_fault limit (found (bytes ++ more)) ≡ found_fault limit (found bytes)
 found_fault_ended limit bytes more ended =
     let e = ends_in bytes ended in
@@ -253,7 +256,7 @@ found_fault_ended limit bytes more ended =
     (front_ended e.payload more e.ends.terminator e.ends.first)
     ∙ sym (ap (found_fault limit) (found_reading bytes e.settings e.payload e.reading)))
 
-fault_in : (limit : ℕ) (bytes more : List ℕ) (f : Fault) (w : Stage) → stage bytes ≡ w
+fault_in : (limit : Limit) (bytes more : List ℕ) (f : Fault) (w : Stage) → stage bytes ≡ w
     → stage_fault limit w ≡ Some f → dcs_fault limit (bytes ++ more) ≡ Some f
 fault_in limit bytes more f Heading is some = absurd cc
 fault_in limit bytes more f (Failing g) is some =
@@ -263,7 +266,8 @@ fault_in limit bytes more f (Reading s payload) is some =
     ∙ fed_fault_stays limit payload more f some
 
 -- a DCS sequence that was rejected stays rejected
-pub dcs_fault_stays : (limit : ℕ) (bytes more : List ℕ) (f : Fault) → dcs_fault limit bytes ≡ Some f
+pub dcs_fault_stays : (limit : Limit) (bytes more : List ℕ) (f : Fault)
+    → dcs_fault limit bytes ≡ Some f
     → dcs_fault limit (bytes ++ more) ≡ Some f
 dcs_fault_stays limit bytes more f is = fault_in limit bytes more f (stage bytes) refl is
 

@@ -13,6 +13,7 @@ use Rattle.sixel_base.specs.declared.error.SixelError.TheVariants.{OutOfMemory}
 use Rattle.sixel_base.specs.Fault.{Fault, MissingCommand, Faults, IsFault}
 use Rattle.sixel_base.specs.Settings.{Settings}
 use Rattle.sixel_base.specs.Header.{Headed, Open, Begun, Faulty, headed, header_text, settings_of}
+use Rattle.sixel_base.specs.Limits.{Limit}
 use Rattle.sixel_decoder.specs.inside.Header.{IsHeaderFault}
 use Rattle.sixel_base.specs.OneShot.{Payload, found, found_in, found_by, found_wants, found_fault}
 use Rattle.sixel_base.specs.OneShot.{after_introducer, begins_with_p}
@@ -26,14 +27,15 @@ Faults-named NoSixelData may f is = is
 Faults-named IntegerOverflow may f is = is
 Faults-named OutOfMemory may f is = absurd is
 
-refused_by_header : (e : SixelError) (limit : ℕ) (rest : List ℕ) (h : Headed) → IsHeaderFault e h
+refused_by_header : (e : SixelError) (limit : Limit) (rest : List ℕ) (h : Headed)
+    → IsHeaderFault e h
     → Faults e (found_wants limit (found_by rest h)) (found_fault limit (found_by rest h))
 refused_by_header e limit rest Open is = Faults-named e _ MissingCommand is
 refused_by_header e limit rest (Begun payload) is = absurd is
 refused_by_header e limit rest (Faulty fault) is = Faults-named e _ fault is
 
 -- what is wrong with the header is what is wrong with the bytes
-pub found_refused : (e : SixelError) (limit : ℕ) (bytes rest : List ℕ)
+pub found_refused : (e : SixelError) (limit : Limit) (bytes rest : List ℕ)
     → after_introducer bytes ≡ Some rest → IsHeaderFault e (headed rest)
     → Faults e (found_wants limit (found bytes)) (found_fault limit (found bytes))
 found_refused e limit bytes rest begins is =

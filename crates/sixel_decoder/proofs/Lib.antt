@@ -5,6 +5,9 @@ pub mod BandCosts
 pub mod ParserSteps
 pub mod OpenCommands
 pub mod ChunkReads
+pub mod TokenFaults
+pub mod PartialPictures
+pub mod KeptPictures
 pub mod Chunks
 pub mod HeaderReads
 pub mod Sixels
@@ -25,3 +28,6 @@ pub mod FrontBits
 pub mod SetRows
 pub mod DrawnHeights
 pub mod ShownRows
+pub mod ReleasedRows
+pub mod ImageAreas
+pub mod Clips

@@ -16,6 +16,7 @@ use Rattle.sixel_base.specs.Fault.{Fault, Faults, IsFault}
 use Rattle.sixel_base.specs.inside.Parameters.{Parameters, Keeps}
 use Rattle.sixel_base.specs.History.{Token, Sixel, Repeat, Raster, Color, Return, Newline, Skip}
 use Rattle.sixel_base.specs.History.{History, begun, longer, goes_on, read}
+use Rattle.sixel_base.specs.Limits.{Limit}
 use Rattle.sixel_base.specs.Stroke.{Origin}
 use Rattle.sixel_base.specs.Payload.{first_fault, closed, growths}
 use Rattle.sixel_decoder.specs.inside.PayloadParser.{IsOpen, StandsIn}
@@ -46,7 +47,7 @@ Faults-along IntegerOverflow may may' found found' wants stays is =
 Faults-along OutOfMemory may may' found found' wants stays is = wants is
 
 -- the first fault stays the first, whatever follows
-pub fault_stays : (limit : ℕ) (token : Token) (h : History) (f : Fault)
+pub fault_stays : (limit : Limit) (token : Token) (h : History) (f : Fault)
     → first_fault limit h ≡ Some f → first_fault limit (closed (token ∷ h)) ≡ Some f
 fault_stays limit (Sixel _) h f is = rw is refl
 fault_stays limit (Repeat _) h f is = is
@@ -100,7 +101,8 @@ stands_goes_on InColor o h parser ps byte goes is pushed =
     goes_on_open Color o h parser ps byte (λ text older. refl) goes is pushed
 
 -- if the open command is rejected at the next byte, so are the tokens up to that byte
-pub refused_close : (e : SixelError) (limit : ℕ) (h : History) (byte : ℕ) → goes_on h byte ≡ false
+pub refused_close : (e : SixelError) (limit : Limit) (h : History) (byte : ℕ)
+    → goes_on h byte ≡ false
     → Faults e false (first_fault limit h)
     → Faults e (nat_lt (growths (closed h)) (growths (closed (read h byte))))
     (first_fault limit (closed (read h byte)))

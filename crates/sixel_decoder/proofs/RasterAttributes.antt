@@ -2,6 +2,7 @@
 use Rattle.std.proofs.Common.{◌≡◌, ℕ, ◌*◌, ◌<◌, ◌≤◌, ◌⊎◌, List, ◌∷◌, None, false, max, inl, inr}
 use Rattle.std.proofs.Common.{refl, arith}
 use Rattle.std.proofs.lemmas.Bool.{le-ltb}
+use Rattle.sixel_base.specs.Clip.{clipped_height, clipped_width}
 use Rattle.sixel_base.specs.Fault.{Malformed, TooLarge, Faults}
 use Rattle.sixel_base.specs.Fields.{field}
 use Rattle.sixel_base.specs.History.{Raster, History}
@@ -43,14 +44,27 @@ refused_raster e o painter h text wide high shows wide' high' (inr large) =
 pub sound_raster : {C : Type 0} {canvas : Ghosts C} (o : Origin) (old new : Painter C canvas)
     (h : History) (text : List ℕ) (wide high : ℕ)
     → Shows o old h → IsExtended old new wide high
-    → wide ≡ field text 2 → high ≡ field text 3 → new.width * new.height ≤ new.pixel_limit
+    → wide ≡ field text 2 → high ≡ field text 3
+    → new.clipped_width * new.clipped_height ≤ new.pixel_limit.pixels
     → first_fault o.pixel_limit (Raster text ∷ h) ≡ None
 sound_raster o old new h text wide high shows is wide' high' area =
     rw (
       shows.faultless,
       le-ltb 1000000 (field text 2) (rw (← wide') is.right),
       le-ltb 1000000 (field text 3) (rw (← high') is.lower),
-      le-ltb o.pixel_limit (width (Raster text ∷ h) * height (Raster text ∷ h))
-          (rw (is.width, is.height, is.limit, shows.width, shows.height, shows.limit, wide', high')
-          at area),
+      le-ltb o.pixel_limit.pixels
+          (clipped_width o.pixel_limit (Raster text ∷ h)
+          * clipped_height o.pixel_limit (Raster text ∷ h))
+          (rw (
+            new.clipped_width_is,
+            new.clipped_height_is,
+            is.width,
+            is.height,
+            is.limit,
+            shows.width,
+            shows.height,
+            shows.limit,
+            wide',
+            high',
+          ) at area),
     ) refl

@@ -1,5 +1,5 @@
 -- How far the rows of an image are reached, and its sizes.
-use Rattle.std.proofs.Common.{◌≡◌, ℕ, suc, zero, ◌+◌, ◌*◌, ◌≤◌, Bool, true, false, max, nat_lt}
+use Rattle.std.proofs.Common.{◌≡◌, ℕ, suc, zero, ◌+◌, ◌*◌, ◌≤◌, Bool, true, false, max, min, nat_lt}
 use Rattle.std.proofs.Common.{cond, List, [], ◌∷◌, Option, Some, None, refl}
 use Rattle.std.proofs.Common.{arith}
 use Rattle.std.specs.Prelude.{◌&&◌}
@@ -13,43 +13,54 @@ use Rattle.sixel_base.specs.History.{history_of}
 use Rattle.sixel_base.specs.Bytes.{front, is_terminated}
 use Rattle.sixel_base.specs.Fault.{Fault}
 use Rattle.sixel_base.specs.Fields.{field}
-use Rattle.sixel_base.specs.Limits.{side_limit}
-use Rattle.sixel_base.specs.Payload.{extent_fault, image_height, first_fault, closed, settled}
+use Rattle.sixel_base.specs.Limits.{Limit, side_limit}
+use Rattle.sixel_base.specs.Payload.{cropped_height, extent_fault, first_fault, closed, settled}
+use Rattle.sixel_base.specs.Clip.{clipped_bits, is_inside}
 use Rattle.sixel_base.specs.Picture.{is_struck, total}
 use Rattle.sixel_base.specs.Place.{across, down, height, raster_height, span, width}
 use Rattle.sixel_base.specs.Reach.{row_reach, reached_area}
 
+-- a test that fails last
+fails_last : (a : Bool) → (a && false) ≡ false
+fails_last true = refl
+fails_last false = refl
+
 -- no sixel covers a row from the height on
-pub row_reach-past : (h : History) (row : ℕ) → height h ≤ row → row_reach h row ≡ 0
-row_reach-past [] row past = refl
-row_reach-past (Sixel bits ∷ h) row past =
+pub row_reach-past : (limit : Limit) (h : History) (row : ℕ) → height h ≤ row
+    → row_reach limit h row ≡ 0
+row_reach-past limit [] row past = refl
+row_reach-past limit (Sixel bits ∷ h) row past =
     let below : down h + 6 ≤ row = omega arith in
-    rw (le-leb (down h) row (omega arith), le-ltb row (down h + 6) below)
-    (row_reach-past h row (omega arith))
-row_reach-past (Repeat _ ∷ h) row past = row_reach-past h row past
-row_reach-past (Raster _ ∷ h) row past = row_reach-past h row (omega arith)
-row_reach-past (Color _ ∷ h) row past = row_reach-past h row past
-row_reach-past (Return ∷ h) row past = row_reach-past h row past
-row_reach-past (Newline ∷ h) row past = row_reach-past h row past
-row_reach-past (Skip _ ∷ h) row past = row_reach-past h row past
+    rw (
+      le-leb (down h) row (omega arith),
+      le-ltb row (down h + 6) below,
+      fails_last (is_inside limit h),
+    ) (row_reach-past limit h row (omega arith))
+row_reach-past limit (Repeat _ ∷ h) row past = row_reach-past limit h row past
+row_reach-past limit (Raster _ ∷ h) row past = row_reach-past limit h row (omega arith)
+row_reach-past limit (Color _ ∷ h) row past = row_reach-past limit h row past
+row_reach-past limit (Return ∷ h) row past = row_reach-past limit h row past
+row_reach-past limit (Newline ∷ h) row past = row_reach-past limit h row past
+row_reach-past limit (Skip _ ∷ h) row past = row_reach-past limit h row past
 
 -- no row is reached beyond the width
-row_reach-most : (h : History) (row : ℕ) → row_reach h row ≤ width h
-row_reach-most [] row = omega arith
-row_reach-most (Sixel bits ∷ h) row =
-    elim (is_struck (down h) bits row) as
+row_reach-most : (limit : Limit) (h : History) (row : ℕ) → row_reach limit h row ≤ width h
+row_reach-most limit [] row = omega arith
+row_reach-most limit (Sixel bits ∷ h) row =
+    elim (is_inside limit h && is_struck (down h) (clipped_bits limit (down h) bits) row) as
     (λ t.
-    cond t (max (row_reach h row) (across h + span h)) (row_reach h row)
+    cond t (max (row_reach limit h row) (min (across h + span h) limit.columns))
+    (row_reach limit h row)
     ≤ max (width h) (across h + span h)) [
-      | true ↦ omega (arith, row_reach-most h row)
-      | false ↦ omega (arith, row_reach-most h row)
+      | true ↦ omega (arith, row_reach-most limit h row)
+      | false ↦ omega (arith, row_reach-most limit h row)
     ]
-row_reach-most (Repeat _ ∷ h) row = row_reach-most h row
-row_reach-most (Raster _ ∷ h) row = omega (arith, row_reach-most h row)
-row_reach-most (Color _ ∷ h) row = row_reach-most h row
-row_reach-most (Return ∷ h) row = row_reach-most h row
-row_reach-most (Newline ∷ h) row = row_reach-most h row
-row_reach-most (Skip _ ∷ h) row = row_reach-most h row
+row_reach-most limit (Repeat _ ∷ h) row = row_reach-most limit h row
+row_reach-most limit (Raster _ ∷ h) row = omega (arith, row_reach-most limit h row)
+row_reach-most limit (Color _ ∷ h) row = row_reach-most limit h row
+row_reach-most limit (Return ∷ h) row = row_reach-most limit h row
+row_reach-most limit (Newline ∷ h) row = row_reach-most limit h row
+row_reach-most limit (Skip _ ∷ h) row = row_reach-most limit h row
 
 -- numbers up to a bound
 total-most : (f : ℕ → ℕ) (bound n : ℕ) → ((k : ℕ) → f k ≤ bound) → total f n ≤ bound * n
@@ -58,8 +69,9 @@ total-most f bound zero most = omega arith
 total-most f bound (suc n) most = rw mul-suc (omega (arith, total-most f bound n most, most n))
 
 -- the reached area is at most the picture's
-reached_area-most : (h : History) → reached_area h ≤ width h * height h
-reached_area-most h = total-most (row_reach h) (width h) (height h) (row_reach-most h)
+reached_area-most : (limit : Limit) (h : History) → reached_area limit h ≤ width h * height h
+reached_area-most limit h =
+    total-most (row_reach limit h) (width h) (height h) (row_reach-most limit h)
 
 -- ---- the size of a picture
 
@@ -69,12 +81,13 @@ both_none None b is = (refl, is)
 both_none (Some f) b is = absurd cc
 
 -- an extent without a fault has its sides within theirs
-extent-fits : (limit right lower : ℕ) (h : History) → extent_fault limit right lower h ≡ None
+extent-fits : (limit : Limit) (right lower : ℕ) (h : History)
+    → extent_fault limit right lower h ≡ None
     → (right ≤ side_limit) × (lower ≤ side_limit)
 extent-fits limit right lower h is = (grind (arith, nat_tests), grind (arith, nat_tests))
 
 -- so have tokens without a fault
-pub sides-fit : (limit : ℕ) (h : History) → first_fault limit h ≡ None
+pub sides-fit : (limit : Limit) (h : History) → first_fault limit h ≡ None
     → (width h ≤ side_limit) × (height h ≤ side_limit)
 sides-fit limit [] is = (omega arith, omega arith)
 sides-fit limit (Sixel bits ∷ h) is =
@@ -109,9 +122,9 @@ raster_height-most (Return ∷ h) = raster_height-most h
 raster_height-most (Newline ∷ h) = raster_height-most h
 raster_height-most (Skip _ ∷ h) = raster_height-most h
 
--- so an image is at most as high as the extent
-pub image_height-most : (crop : Bool) (h : History) → image_height crop h ≤ height h
-image_height-most crop h =
+-- so an image is at most as high as the extent, and inside a clip as high as that inside the clip
+pub cropped_height-most : (crop : Bool) (h : History) → cropped_height crop h ≤ height h
+cropped_height-most crop h =
     elim (crop && nat_lt 0 (raster_height h)) as
     (λ t. cond t (raster_height h) (height h) ≤ height h) [
       | true ↦ raster_height-most h
@@ -119,29 +132,30 @@ image_height-most crop h =
     ]
 
 -- the closed tokens reach no more than the picture of all tokens has
-closed-area : (h : History) → reached_area (closed h) ≤ width h * height h
-closed-area [] = reached_area-most []
-closed-area (Sixel bits ∷ h) = reached_area-most (Sixel bits ∷ h)
-closed-area (Repeat _ ∷ h) = reached_area-most h
-closed-area (Raster text ∷ h) =
+closed-area : (limit : Limit) (h : History) → reached_area limit (closed h) ≤ width h * height h
+closed-area limit [] = reached_area-most limit []
+closed-area limit (Sixel bits ∷ h) = reached_area-most limit (Sixel bits ∷ h)
+closed-area limit (Repeat _ ∷ h) = reached_area-most limit h
+closed-area limit (Raster text ∷ h) =
     omega (
       arith,
-      reached_area-most h,
+      reached_area-most limit h,
       mul-le (width h) (height h) (width (Raster text ∷ h)) (height (Raster text ∷ h)) (omega arith)
           (omega arith),
     )
-closed-area (Color _ ∷ h) = reached_area-most h
-closed-area (Return ∷ h) = reached_area-most (Return ∷ h)
-closed-area (Newline ∷ h) = reached_area-most (Newline ∷ h)
-closed-area (Skip byte ∷ h) = reached_area-most (Skip byte ∷ h)
+closed-area limit (Color _ ∷ h) = reached_area-most limit h
+closed-area limit (Return ∷ h) = reached_area-most limit (Return ∷ h)
+closed-area limit (Newline ∷ h) = reached_area-most limit (Newline ∷ h)
+closed-area limit (Skip byte ∷ h) = reached_area-most limit (Skip byte ∷ h)
 
 -- the closed tokens of a payload reach no more than its picture has
-pub settled-area : (bytes : List ℕ)
-    → reached_area (settled bytes)
+pub settled-area : (limit : Limit) (bytes : List ℕ)
+    → reached_area limit (settled bytes)
     ≤ width (history_of (front bytes)) * height (history_of (front bytes))
-settled-area bytes =
+settled-area limit bytes =
     let h : History = history_of (front bytes) in
-    elim (is_terminated bytes) as (λ t. reached_area (cond t h (closed h)) ≤ width h * height h) [
-      | true ↦ reached_area-most h
-      | false ↦ closed-area h
+    elim (is_terminated bytes) as
+    (λ t. reached_area limit (cond t h (closed h)) ≤ width h * height h) [
+      | true ↦ reached_area-most limit h
+      | false ↦ closed-area limit h
     ]

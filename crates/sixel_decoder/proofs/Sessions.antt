@@ -36,6 +36,7 @@ use Rattle.sixel_base.specs.Dcs.{stage_count, stage_fault, after_terminator, end
 use Rattle.sixel_base.specs.Dcs.{payload_count, payload_status, payload_status_by, dcs_status}
 use Rattle.sixel_base.specs.Dcs.{dcs_count, dcs_fault, dcs_growths, ended_by, end_fault, has_ended}
 use Rattle.sixel_base.specs.Dcs.{has_come, IsSameString, IsStringImage, AreStringRegisters}
+use Rattle.sixel_base.specs.Limits.{Limit}
 use Rattle.sixel_base.specs.Status.{status_of}
 use Rattle.sixel_decoder.specs.inside.PayloadParser.{StandsAfter}
 use Rattle.sixel_decoder.specs.inside.DcsParser.{HasFollowed, IsInPayload, is_failed}
@@ -95,7 +96,7 @@ read_sound (Some parser) o terminator bytes is accepted =
 
 -- a feed after the terminator consumes no byte and reports it again
 pub frame_over :
-    (limit : ℕ) (result : Result SixelFeedResult SixelError) (fed piece fed' : List ℕ) (t : ℕ)
+    (limit : Limit) (result : Result SixelFeedResult SixelError) (fed piece fed' : List ℕ) (t : ℕ)
     → first_terminator fed ≡ Some t → fed' ≡ fed ++ piece
     → fed_fault limit fed ≡ None → IfOk result (λ r. count fed + r.consumed ≡ count fed')
     → IfOk result (λ r. r.status ≡ status_of (first_terminator fed'))
@@ -116,7 +117,7 @@ frame_over limit (Err e) fed piece fed' t some joined sound counted stands refus
     fine refused))
 
 -- all bytes are rejected with the error of a beginning
-pub frame_refused : (e : SixelError) (limit : ℕ) (fed left bytes : List ℕ) (n : ℕ)
+pub frame_refused : (e : SixelError) (limit : Limit) (fed left bytes : List ℕ) (n : ℕ)
     → fed ++ left ≡ bytes → Faults e (nat_lt n (growths (settled fed))) (fed_fault limit fed)
     → Faults e (nat_lt 0 (growths (settled bytes))) (fed_fault limit bytes)
 frame_refused e limit fed left bytes n joined refused =
@@ -127,7 +128,7 @@ frame_refused e limit fed left bytes n joined refused =
     (fed_fault_stays limit fed left) refused)
 
 -- so decoding all bytes in one call fails with the error of a feed
-pub frame_refused_with : (limit n : ℕ) (result : Result SixelFeedResult SixelError)
+pub frame_refused_with : (limit : Limit) (n : ℕ) (result : Result SixelFeedResult SixelError)
     (fed left bytes : List ℕ) → fed ++ left ≡ bytes
     → IfErr result (λ e. Faults e (nat_lt n (growths (settled fed))) (fed_fault limit fed))
     → (e : SixelError) → result ≡ Err e
@@ -246,7 +247,7 @@ dcs_count-most bytes piece =
 
 -- a feed after the end consumes no byte and reports the end again
 pub string_over :
-    (limit : ℕ) (result : Result SixelDcsFeedResult SixelError) (fed piece fed' : List ℕ)
+    (limit : Limit) (result : Result SixelDcsFeedResult SixelError) (fed piece fed' : List ℕ)
     → has_ended (dcs_status fed) ≡ true → fed' ≡ fed ++ piece
     → dcs_fault limit fed ≡ None → IfOk result (λ r. dcs_count fed + r.consumed ≡ dcs_count fed')
     → IfOk result (λ r. r.status ≡ dcs_status fed')
@@ -276,7 +277,7 @@ string_within (Ok r) fed piece fed' joined counted =
 string_within (Err e) fed piece fed' joined counted = tt
 
 -- what follows the end means nothing
-pub same_string : (limit : ℕ) (fed more : List ℕ) → has_ended (dcs_status fed) ≡ true
+pub same_string : (limit : Limit) (fed more : List ℕ) → has_ended (dcs_status fed) ≡ true
     → IsSameString limit fed (fed ++ more)
 same_string limit fed more over = record {
   count = dcs_count_ended fed more over;
@@ -285,7 +286,8 @@ same_string limit fed more over = record {
 }
 
 -- so a feed that reports the end is the last one with an effect
-pub string_same : (limit : ℕ) (result : Result SixelDcsFeedResult SixelError) (fed more : List ℕ)
+pub string_same : (limit : Limit) (result : Result SixelDcsFeedResult SixelError)
+    (fed more : List ℕ)
     → IfOk result (λ r. r.status ≡ dcs_status fed)
     → IfOk result (λ r. has_ended r.status ≡ true → IsSameString limit fed (fed ++ more))
 string_same limit (Ok r) fed more stands = λ ended.
@@ -293,7 +295,7 @@ string_same limit (Ok r) fed more stands = λ ended.
 string_same limit (Err e) fed more stands = tt
 
 -- all bytes are rejected with the error of a beginning
-pub string_refused : (e : SixelError) (limit : ℕ) (fed left bytes : List ℕ) (n : ℕ)
+pub string_refused : (e : SixelError) (limit : Limit) (fed left bytes : List ℕ) (n : ℕ)
     → fed ++ left ≡ bytes → Faults e (nat_lt n (dcs_growths fed)) (dcs_fault limit fed)
     → Faults e (nat_lt 0 (dcs_growths bytes)) (dcs_fault limit bytes)
 string_refused e limit fed left bytes n joined refused =
@@ -304,7 +306,7 @@ string_refused e limit fed left bytes n joined refused =
     (dcs_fault_stays limit fed left) refused)
 
 -- so the error of a feed is that of all bytes
-pub string_refused_with : (limit n : ℕ) (result : Result SixelDcsFeedResult SixelError)
+pub string_refused_with : (limit : Limit) (n : ℕ) (result : Result SixelDcsFeedResult SixelError)
     (fed left : List ℕ)
     → IfErr result (λ e. Faults e (nat_lt n (dcs_growths fed)) (dcs_fault limit fed))
     → (e : SixelError) → result ≡ Err e
@@ -329,7 +331,7 @@ string_ended reader decoder ended bytes is =
     ∙ has_come-ended (first_terminator reader.bytes) (after_terminator reader.bytes)
     ∙ ap has_come (sym is.ending)
 
-pub sound_by : (limit : ℕ) (payload rest : List ℕ) (o : Option ℕ) → first_terminator payload ≡ o
+pub sound_by : (limit : Limit) (payload rest : List ℕ) (o : Option ℕ) → first_terminator payload ≡ o
     → has_come (ended_by o rest) ≡ true
     → fed_fault limit payload ≡ None → payload_fault limit payload ≡ None
 sound_by limit payload rest None is come sound = absurd cc

@@ -11,7 +11,7 @@ use Rattle.sixel_decoder.proofs.DrawnHeights.{drawn_within}
 
 pub shown_drawn : {C : Type 0} {canvas : Ghosts C} (o : Origin) (painter : Painter C canvas)
     (h : History) → Shows o painter h
-    → drawn_rows painter.drawn (canvas.top painter.canvas) ≡ drawn_height h
+    → drawn_rows painter.drawn (canvas.top painter.canvas) ≡ drawn_height o.pixel_limit h
 shown_drawn o painter h shows = ap (drawn_rows painter.drawn) shows.top ∙ shows.drawn
 
 -- it is a row of the image
@@ -22,7 +22,7 @@ drawn_fits o painter h shows =
     omega (
       arith,
       shown_drawn o painter h shows,
-      drawn_within h,
+      drawn_within o.pixel_limit h,
       shows.height,
       painter.height_fits,
     )

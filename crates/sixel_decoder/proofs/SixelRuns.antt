@@ -9,7 +9,9 @@ use Rattle.std.proofs.lemmas.Bool.{le-ltb, le-leb, lt-ltb}
 use Rattle.sixel_base.specs.History.{Sixel, Repeat, Raster, Color, Return, Newline, Skip, History}
 use Rattle.sixel_base.specs.History.{goes_on, read}
 use Rattle.sixel_base.specs.Payload.{first_fault, closed, growths}
+use Rattle.sixel_base.specs.Clip.{clipped_height, clipped_width}
 use Rattle.sixel_base.specs.Fault.{Faults}
+use Rattle.sixel_base.specs.Limits.{Limit}
 use Rattle.sixel_base.specs.declared.error.SixelError.{SixelError}
 use Rattle.sixel_base.specs.Place.{span, across, down, width, height, raster_height}
 use Rattle.sixel_base.specs.Settings.{ratio_of}
@@ -69,26 +71,28 @@ pub length-bits_of : (run : List ℕ) → length (bits_of run) ≡ length run
 length-bits_of [] = refl
 length-bits_of (byte ∷ run) = ap suc (length-bits_of run)
 
--- so many sixels to come are of one column each, and inside the picture
-pub record IsInside (limit n : ℕ) (h : History) : Type 0 where
+-- so many sixels to come are of one column each, and inside the picture and its clip
+pub record IsInside (limit : Limit) (n : ℕ) (h : History) : Type 0 where
   pub single : span h ≡ 1
   pub right : across h + n ≤ width h
   pub lower : down h + 6 ≤ height h
+  pub columns : across h + n ≤ limit.columns
+  pub rows : down h + 6 ≤ limit.rows
   pub wide : width h ≤ 1000000
   pub high : height h ≤ 1000000
-  pub area : width h * height h ≤ limit
+  pub area : clipped_width limit h * clipped_height limit h ≤ limit.pixels
   pub faultless : first_fault limit h ≡ None
 
 -- one of them leaves the sizes
-width-inside : (limit n bits : ℕ) (h : History) → IsInside limit (suc n) h
+width-inside : (limit : Limit) (n bits : ℕ) (h : History) → IsInside limit (suc n) h
     → width (Sixel bits ∷ h) ≡ width h
 width-inside limit n bits h inside = omega (arith, inside.single, inside.right)
 
-height-inside : (limit n bits : ℕ) (h : History) → IsInside limit (suc n) h
+height-inside : (limit : Limit) (n bits : ℕ) (h : History) → IsInside limit (suc n) h
     → height (Sixel bits ∷ h) ≡ height h
 height-inside limit n bits h inside = omega (arith, inside.lower)
 
-IsInside-sixel : (limit n bits : ℕ) (h : History) → IsInside limit (suc n) h
+pub IsInside-sixel : (limit : Limit) (n bits : ℕ) (h : History) → IsInside limit (suc n) h
     → IsInside limit n (Sixel bits ∷ h)
 IsInside-sixel limit n bits h inside =
     let wide = width-inside limit n bits h inside in
@@ -99,6 +103,8 @@ IsInside-sixel limit n bits h inside =
       lower = omega (arith, inside.lower);
       wide = omega (arith, wide, inside.wide);
       high = omega (arith, high, inside.high);
+      columns = omega (arith, inside.single, inside.columns);
+      rows = inside.rows;
       area = rw (wide, high) inside.area;
       faultless =
           rw (
@@ -108,12 +114,12 @@ IsInside-sixel limit n bits h inside =
             le-ltb 1000000 (across h + span h)
                 (omega (arith, inside.single, inside.right, inside.wide)),
             le-ltb 1000000 (down h + 6) (omega (arith, inside.lower, inside.high)),
-            le-ltb limit (width h * height h) inside.area,
+            le-ltb limit.pixels (clipped_width limit h * clipped_height limit h) inside.area,
           ) refl;
     }
 
 -- what stays, and where the next sixel stands
-pub record IsPassed (limit : ℕ) (o : Origin) (n : ℕ) (h after : History) : Type 0 where
+pub record IsPassed (limit : Limit) (o : Origin) (n : ℕ) (h after : History) : Type 0 where
   pub registers : registers o.registers after ≡ registers o.registers h
   pub color : color o.registers after ≡ color o.registers h
   pub span : span after ≡ 1
@@ -125,7 +131,7 @@ pub record IsPassed (limit : ℕ) (o : Origin) (n : ℕ) (h after : History) : T
   pub ratio : ratio (ratio_of o.settings) after ≡ ratio (ratio_of o.settings) h
   pub faultless : first_fault limit after ≡ None
 
-pub IsPassed-sixels : (limit : ℕ) (o : Origin) (h : History) (sixels : List ℕ)
+pub IsPassed-sixels : (limit : Limit) (o : Origin) (h : History) (sixels : List ℕ)
     → IsInside limit (length sixels) h → IsPassed limit o (length sixels) h (with_sixels h sixels)
 IsPassed-sixels limit o h [] inside = record {
   registers = refl;
@@ -221,7 +227,7 @@ Stands-one o new h bytes ground some sixel shows =
     (subst (λ (p : OpenCommand). StandsIn p o new after) (sym ground) is)
 
 -- why a sixel can be rejected
-pub refused_sixel : (e : SixelError) (limit : ℕ) (h : History) (byte : ℕ) → IsSixelByte byte
+pub refused_sixel : (e : SixelError) (limit : Limit) (h : History) (byte : ℕ) → IsSixelByte byte
     → Faults e true (first_fault limit (Sixel (byte - 63) ∷ h))
     → Faults e (nat_lt (growths (closed h)) (growths (closed (read h byte))))
     (first_fault limit (closed (read h byte)))

@@ -4,10 +4,11 @@ use Rattle.std.proofs.Common.{Some, refl, ap, ◌∙◌}
 use Rattle.std.proofs.Common.{inl, inr, arith}
 use Rattle.std.specs.Prelude.{nat_lt, if◌then◌else◌}
 use Rattle.std.proofs.lemmas.Bool.{lt-ltb, le-ltb}
+use Rattle.sixel_base.specs.Clip.{clipped_height, clipped_width}
 use Rattle.sixel_base.specs.DrawnHeight.{lowered, set_rows}
 use Rattle.sixel_base.specs.Fault.{Malformed, TooLarge, Faults}
 use Rattle.sixel_base.specs.History.{Sixel, History}
-use Rattle.sixel_base.specs.Limits.{side_limit}
+use Rattle.sixel_base.specs.Limits.{Limit, side_limit}
 use Rattle.sixel_base.specs.Payload.{extent_fault, first_fault}
 use Rattle.sixel_base.specs.Picture.{covers}
 use Rattle.sixel_base.specs.Place.{width, height, across, down, span}
@@ -25,7 +26,7 @@ use Rattle.sixel_decoder.proofs.ChunkReads.{or_right}
 use Rattle.sixel_decoder.proofs.FoundPayloads.{Faults-named}
 
 -- a side above a million
-pub extent_malformed : (limit right lower : ℕ) (h : History) → (side_limit < right) ⊎
+pub extent_malformed : (limit : Limit) (right lower : ℕ) (h : History) → (side_limit < right) ⊎
     (side_limit < lower)
     → extent_fault limit right lower h ≡ Some Malformed
 extent_malformed limit right lower h (inl wide) = rw (lt-ltb side_limit right wide) refl
@@ -34,13 +35,14 @@ extent_malformed limit right lower h (inr high) =
     refl
 
 -- sides within it, and an area above the limit
-pub extent_large : (limit right lower : ℕ) (h : History) → right ≤ side_limit → lower ≤ side_limit
-    → limit < width h * height h → extent_fault limit right lower h ≡ Some TooLarge
+pub extent_large : (limit : Limit) (right lower : ℕ) (h : History) → right ≤ side_limit
+    → lower ≤ side_limit → limit.pixels < clipped_width limit h * clipped_height limit h
+    → extent_fault limit right lower h ≡ Some TooLarge
 extent_large limit right lower h wide high large =
     rw (
       le-ltb side_limit right wide,
       le-ltb side_limit lower high,
-      lt-ltb limit (width h * height h) large,
+      lt-ltb limit.pixels (clipped_width limit h * clipped_height limit h) large,
     )
     refl
 
@@ -74,62 +76,3 @@ refused_sixel {C} {canvas} e o painter h bits lower shows low deep (inr large) =
     (rw (same, shows.width, shows.height, shows.column, shows.repeat, shows.top, shows.limit) at
     large.2) in
     rw (shows.faultless, found) (Faults-named e true TooLarge large.3)
-
--- the painter once a sixel was drawn, for which it was extended before
-pub Shows-drawn : {C : Type 0} {canvas : Ghosts C} (o : Origin) (h : History)
-    (old wide new : Painter C canvas) (bits right : ℕ)
-    → Shows o old h → IsExtended old wide right (canvas.top old.canvas + 6)
-    → right ≡ wide.column + wide.repeat → wide.width * wide.height ≤ wide.pixel_limit
-    → ((column row : ℕ)
-    → canvas.shown new.canvas column row
-    ≡ (if covers wide.column right (canvas.top wide.canvas) bits column row then wide.color
-    else canvas.shown wide.canvas column row))
-    → canvas.top new.canvas ≡ canvas.top wide.canvas
-    → ((runs : List Run)
-    → canvas.paid wide.canvas runs
-    → canvas.paid new.canvas (run wide.column right (canvas.top wide.canvas) bits ∷ runs))
-    → ((row : ℕ)
-    → drawn_rows new.drawn row ≡ lowered (drawn_rows wide.drawn row) row (set_rows bits))
-    → new.registers ≡ wide.registers → new.color ≡ wide.color → new.repeat ≡ 1
-    → new.column ≡ right
-    → new.width ≡ wide.width → new.height ≡ wide.height → new.raster_height ≡ wide.raster_height
-    → new.ratio ≡ wide.ratio → new.settings ≡ wide.settings → new.raster_crop ≡ wide.raster_crop
-    → new.pixel_limit ≡ wide.pixel_limit
-    → Shows o new (Sixel bits ∷ h)
-Shows-drawn {C} {canvas} o h old wide new bits right shows is ends area drawn top' paid' lower'
-    registers' color' repeat' column' width' height' raster' ratio' settings' crop' limit' =
-    let inked : wide.color ≡ color o.registers h ++ 255 ∷ [] = is.color ∙ shows.color in
-    let from : wide.column ≡ across h = is.column ∙ shows.column in
-    let to : right ≡ across h + span h =
-    ends ∙ rw (is.column, is.repeat, shows.column, shows.repeat) refl in
-    let top : canvas.top wide.canvas ≡ down h = ap canvas.top is.canvas ∙ shows.top in
-    let across : wide.width ≡ width (Sixel bits ∷ h) = is.width ∙ rw (shows.width, to) refl in
-    let high : wide.height ≡ height (Sixel bits ∷ h) =
-    is.height ∙ rw (shows.height, shows.top) refl in
-    record {
-      pixels = λ column row.
-          drawn column row ∙ rw (from, to, top, inked, is.canvas, shows.pixels column row) refl;
-      paid = rw (from, to, top) at (paid' (runs_of h) (rw is.canvas shows.paid));
-      registers = registers' ∙ is.registers ∙ shows.registers;
-      color = color' ∙ inked;
-      repeat = repeat';
-      column = column' ∙ to;
-      top = top' ∙ top;
-      width = width' ∙ across;
-      height = height' ∙ high;
-      raster_height = raster' ∙ is.raster_height ∙ shows.raster_height;
-      drawn =
-          lower' (down h)
-          ∙ ap (λ (rows : ℕ). lowered rows (down h) (set_rows bits))
-          (ap (λ (w : DrawnRows). drawn_rows w (down h)) is.drawn ∙ shows.drawn);
-      ratio = ratio' ∙ is.ratio ∙ shows.ratio;
-      settings = settings' ∙ is.settings ∙ shows.settings;
-      crop = crop' ∙ is.crop ∙ shows.crop;
-      limit = limit' ∙ is.limit ∙ shows.limit;
-      faultless = rw (
-        shows.faultless,
-        le-ltb side_limit _ (rw to at is.right),
-        le-ltb side_limit _ (rw shows.top at is.lower),
-        le-ltb o.pixel_limit _ (rw (across, high, is.limit, shows.limit) at area),
-      ) refl;
-    }

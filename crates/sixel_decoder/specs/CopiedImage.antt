@@ -1,14 +1,17 @@
 -- The image of a payload whose rows are copied to a caller's memory: its shape, its pixels, and the
 -- call that ends it. Which image that is, by DEC's manual, is in Payload of sixel_base.
-use Rattle.std.specs.Prelude.{◌≡◌, ℕ, Bool, false, if◌then◌else◌, List, [], Option, Some, None}
+use Rattle.std.specs.Prelude.{◌≡◌, ◌≤◌, ◌*◌, ℕ, min, Bool, false, if◌then◌else◌, List, []}
+use Rattle.std.specs.Prelude.{Option, Some, None}
 use Rattle.std.specs.Prelude.{Result, MatchResult, IfOk, OnOk, IfErr, OnErr}
 use Rattle.sixel_base.specs.Bytes.{front}
+use Rattle.sixel_base.specs.Clip.{clipped_pixel}
 use Rattle.sixel_base.specs.Decoder.{origin_of}
 use Rattle.sixel_base.specs.Fault.{Fault, Faults}
 use Rattle.sixel_base.specs.History.{history_of}
+use Rattle.sixel_base.specs.Limits.{area_limit}
 use Rattle.sixel_base.specs.OneShot.{Found, Payload, NoPayload, AreFoundRegisters}
 use Rattle.sixel_base.specs.Payload.{Image, image_height, payload_image}
-use Rattle.sixel_base.specs.Stroke.{Origin, pixel}
+use Rattle.sixel_base.specs.Stroke.{Origin}
 use Rattle.sixel_base.specs.declared.error.SixelError.{SixelError}
 use Rattle.sixel_base.specs.declared.state.DecoderState.{DecoderState}
 use Rattle.sixel_canvas.specs.Layout.{AreCopied}
@@ -33,16 +36,17 @@ decoder_of origin = record {
   pixel_limit = origin.pixel_limit;
 }
 
--- the pixel of a payload's picture at a column and a row, and no byte if there is no payload
+-- the pixel of a payload's picture at a column and a row, which is background outside the clip, and
+-- no byte if there is no payload
 abbrev pub found_pixel : DecoderState → Found → ℕ → ℕ → List ℕ
 found_pixel decoder (Payload settings payload) =
-    pixel (origin_of decoder settings) (history_of (front payload))
+    clipped_pixel (origin_of decoder settings) (history_of (front payload))
 found_pixel decoder (NoPayload fault) = λ column row. []
 
 -- the height of its image
 abbrev pub found_height : DecoderState → Found → ℕ
 found_height decoder (Payload settings payload) =
-    image_height decoder.raster_crop (history_of (front payload))
+    image_height decoder.pixel_limit decoder.raster_crop (history_of (front payload))
 found_height decoder (NoPayload fault) = 0
 
 -- its image has this shape
@@ -68,6 +72,9 @@ pub record IsImageCopied (decoder : DecoderState) (payload : Found) (fault : Opt
     (result : Result CopiedPayload SixelError) : Type 0 where
   -- the shape is that of its image
   pub shape : IfOk result (λ copied. IsFoundShape decoder payload copied.shape)
+  -- the area is within the limit of the decoder and that of the format
+  pub area : IfOk result (λ copied.
+      copied.shape.width * copied.shape.height ≤ min decoder.pixel_limit.pixels area_limit)
   -- the registers are those that the payload leaves
   pub registers : IfOk result (λ copied. AreFoundRegisters decoder payload copied.registers)
   -- the rows from this one on are copied

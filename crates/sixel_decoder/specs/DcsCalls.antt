@@ -27,6 +27,7 @@ begun decoder = record {
   writes = 0;
   room = 0;
   paints = 0;
+  released = 0;
 }
 
 -- The session reads the chunk as far as the DCS sequence goes, or rejects it.
@@ -34,6 +35,8 @@ pub record IsFed (old new : DcsSession) (chunk : List ℕ)
     (result : Result SixelDcsFeedResult SixelError) : Type 0 where
   -- the decoder that the session began from stays
   pub start : new.decoder ≡ old.decoder
+  -- a feed releases no row
+  pub released : OnOk result (new.released ≡ old.released)
   -- the chunk follows the bytes so far
   pub bytes : new.bytes ≡ old.bytes ++ chunk
   -- a feed succeeds only if no earlier one failed, and leaves the session open
@@ -88,7 +91,7 @@ pub record IsFinished {A : Type 0} (image_of : A → Image) (registers_of : A �
       (found (session.bytes ++ more)) (image_of done) (registers_of done))
   -- the area is within the limit
   pub area : IfOk result (λ done.
-      (image_of done).width * (image_of done).height ≤ session.decoder.pixel_limit)
+      (image_of done).width * (image_of done).height ≤ session.decoder.pixel_limit.pixels)
   -- each pixel takes four bytes
   pub pixels : IfOk result (λ done.
       length (image_of done).pixels ≡ 4 * ((image_of done).width * (image_of done).height))
@@ -96,6 +99,8 @@ pub record IsFinished {A : Type 0} (image_of : A → Image) (registers_of : A �
   pub faultless : OnOk result (found_fault session.decoder.pixel_limit (found session.bytes) ≡ None)
   -- a rejected session has no image
   pub accepted : OnOk result (session.is_refused ≡ false)
+  -- an image of which rows were released is never returned
+  pub whole : OnOk result (session.released ≡ 0)
   -- a sequence has an image only once it has ended
   pub ended : OnOk result (has_ended (dcs_status session.bytes) ≡ true)
   -- an error is that the sequence goes on, or an allocation failed; a rejected session reports that
@@ -109,11 +114,12 @@ pub record IsWriteCount (session : DcsSession) (writes : ℕ) : Type 0 where
   -- the number that contracts see of the session
   pub value : writes ≡ session.writes
   -- at least once the painted area
-  pub at_least : session.is_refused ≡ false → dcs_reached_area session.bytes ≤ writes
+  pub at_least : session.is_refused ≡ false
+      → dcs_reached_area session.decoder.pixel_limit session.bytes ≤ writes
   -- at most three times the painted area
-  pub at_most : writes ≤ 3 * dcs_reached_area session.bytes
+  pub at_most : writes ≤ 3 * dcs_reached_area session.decoder.pixel_limit session.bytes
   -- the rows have capacity for at most twice the painted area
-  pub room : session.room ≤ 2 * dcs_reached_area session.bytes
+  pub room : session.room ≤ 2 * dcs_reached_area session.decoder.pixel_limit session.bytes
   -- a rejected session has no canvas
   pub refused : session.is_refused ≡ true → writes ≡ 0
 
@@ -122,9 +128,10 @@ pub record IsPaintCount (session : DcsSession) (paints : ℕ) : Type 0 where
   -- the number that contracts see of the session
   pub value : paints ≡ session.paints
   -- at least what the closed sixels count
-  pub at_least : session.is_refused ≡ false → dcs_least_count session.bytes ≤ paints
+  pub at_least : session.is_refused ≡ false
+      → dcs_least_count session.decoder.pixel_limit session.bytes ≤ paints
   -- at most three times the painted area, and a constant for each closed sixel
-  pub at_most : paints ≤ 3 * dcs_reached_area session.bytes
+  pub at_most : paints ≤ 3 * dcs_reached_area session.decoder.pixel_limit session.bytes
       + most_sixel_paints * dcs_sixels session.bytes
   -- a rejected session has no canvas
   pub refused : session.is_refused ≡ true → paints ≡ 0
@@ -135,23 +142,25 @@ pub record IsBandPaintCount (session : DcsSession) (paints : ℕ) : Type 0 where
   -- the number that contracts see of the session
   pub value : paints ≡ session.paints
   -- at most the columns of all bands, and a constant for each closed sixel
-  pub at_most : paints ≤ dcs_band_columns session.bytes
+  pub at_most : paints ≤ dcs_band_columns session.decoder.pixel_limit session.bytes
       + most_run_paints * dcs_sixels session.bytes
   -- the band has capacity for at most this number of pixels
-  pub room : session.room ≤ dcs_band_room session.bytes
+  pub room : session.room ≤ dcs_band_room session.decoder.pixel_limit session.bytes
   -- a rejected session has no canvas
   pub refused : session.is_refused ≡ true → paints ≡ 0
 
 -- The image has this size so far.
 pub record IsSizeSoFar (session : DcsSession) (answer : Option (ℕ × ℕ)) : Type 0 where
   -- width and height of the closed sixels and raster attributes, once the payload has begun
-  pub accepted : session.is_refused ≡ false → answer ≡ dcs_size session.bytes
+  pub accepted : session.is_refused ≡ false
+      → answer ≡ dcs_size session.decoder.pixel_limit session.bytes
   -- a rejected session has none
   pub refused : session.is_refused ≡ true → answer ≡ None
 
 -- The last row with a set pixel, plus one, or 0 if there is none.
 pub record IsDrawnHeight (session : DcsSession) (rows : ℕ) : Type 0 where
   -- that of the image of the payload, once it has begun, because an open command sets no pixel
-  pub accepted : session.is_refused ≡ false → rows ≡ dcs_drawn_height session.bytes
+  pub accepted : session.is_refused ≡ false
+      → rows ≡ dcs_drawn_height session.decoder.pixel_limit session.bytes
   -- a rejected session has none
   pub refused : session.is_refused ≡ true → rows ≡ 0

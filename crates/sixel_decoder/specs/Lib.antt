@@ -3,6 +3,7 @@ pub mod DcsCalls
 pub mod FinalRows
 pub mod OneShotCalls
 pub mod Paints
+pub mod PartialCalls
 pub mod PayloadCalls
 pub mod PictureView
 pub mod Session

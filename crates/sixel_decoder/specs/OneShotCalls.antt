@@ -14,7 +14,7 @@ pub record IsDecoded {A : Type 0} (image_of : A → Image) (decoder : DecoderSta
   pub image : IfOk result (λ done. IsFoundImage decoder payload (image_of done))
   -- the area is within the limit
   pub area : IfOk result (λ done.
-      (image_of done).width * (image_of done).height ≤ decoder.pixel_limit)
+      (image_of done).width * (image_of done).height ≤ decoder.pixel_limit.pixels)
   -- each pixel takes four bytes
   pub pixels : IfOk result (λ done.
       length (image_of done).pixels ≡ 4 * ((image_of done).width * (image_of done).height))

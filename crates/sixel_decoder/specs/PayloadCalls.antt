@@ -27,6 +27,9 @@ begun origin = record {
   writes = 0;
   room = 0;
   paints = 0;
+  released = 0;
+  keeps_partial = false;
+  has_partial = false;
 }
 
 -- The session reads the chunk up to the first terminator of all bytes, or rejects it.
@@ -34,6 +37,8 @@ pub record IsFed (old new : Session) (chunk : List ℕ)
     (result : Result SixelFeedResult SixelError) : Type 0 where
   -- the state that the session began from stays
   pub origin : new.origin ≡ old.origin
+  -- a feed releases no row
+  pub released : OnOk result (new.released ≡ old.released)
   -- the chunk follows the bytes so far
   pub bytes : new.bytes ≡ old.bytes ++ chunk
   -- a feed succeeds only if no earlier one failed, and leaves the session open
@@ -85,12 +90,14 @@ pub record IsFinished {A : Type 0} (image_of : A → Image) (registers_of : A �
       registers_of done ≡ payload_registers session.origin session.bytes)
   -- the area is within the limit
   pub area : IfOk result (λ done.
-      (image_of done).width * (image_of done).height ≤ session.origin.pixel_limit)
+      (image_of done).width * (image_of done).height ≤ session.origin.pixel_limit.pixels)
   -- each pixel takes four bytes
   pub pixels : IfOk result (λ done.
       length (image_of done).pixels ≡ 4 * ((image_of done).width * (image_of done).height))
   -- a rejected session has no image
   pub accepted : OnOk result (session.is_refused ≡ false)
+  -- an image of which rows were released is never returned
+  pub whole : OnOk result (session.released ≡ 0)
   -- an error is the first fault of the payload, or an allocation failed; a rejected session reports
   -- that the stream has failed
   pub error : IfErr result (λ error. MatchBool session.is_refused
@@ -109,11 +116,12 @@ pub record IsWriteCount (session : Session) (writes : ℕ) : Type 0 where
   -- the number that contracts see of the session
   pub value : writes ≡ session.writes
   -- at least once the painted area
-  pub at_least : session.is_refused ≡ false → reached_area (settled session.bytes) ≤ writes
+  pub at_least : session.is_refused ≡ false
+      → reached_area session.origin.pixel_limit (settled session.bytes) ≤ writes
   -- at most three times the painted area
-  pub at_most : writes ≤ 3 * reached_area (settled session.bytes)
+  pub at_most : writes ≤ 3 * reached_area session.origin.pixel_limit (settled session.bytes)
   -- the rows have capacity for at most twice the painted area
-  pub room : session.room ≤ 2 * reached_area (settled session.bytes)
+  pub room : session.room ≤ 2 * reached_area session.origin.pixel_limit (settled session.bytes)
   -- a rejected session has no canvas
   pub refused : session.is_refused ≡ true → writes ≡ 0
 
@@ -122,9 +130,10 @@ pub record IsPaintCount (session : Session) (paints : ℕ) : Type 0 where
   -- the number that contracts see of the session
   pub value : paints ≡ session.paints
   -- at least what the closed sixels count
-  pub at_least : session.is_refused ≡ false → least_count (settled session.bytes) ≤ paints
+  pub at_least : session.is_refused ≡ false
+      → least_count session.origin.pixel_limit (settled session.bytes) ≤ paints
   -- at most three times the painted area, and a constant for each closed sixel
-  pub at_most : paints ≤ 3 * reached_area (settled session.bytes)
+  pub at_most : paints ≤ 3 * reached_area session.origin.pixel_limit (settled session.bytes)
       + most_sixel_paints * sixels (settled session.bytes)
   -- a rejected session has no canvas
   pub refused : session.is_refused ≡ true → paints ≡ 0
@@ -134,23 +143,25 @@ pub record IsBandPaintCount (session : Session) (paints : ℕ) : Type 0 where
   -- the number that contracts see of the session
   pub value : paints ≡ session.paints
   -- at most the columns of all bands, and a constant for each closed sixel
-  pub at_most : paints ≤ band_columns (settled session.bytes)
+  pub at_most : paints ≤ band_columns session.origin.pixel_limit (settled session.bytes)
       + most_run_paints * sixels (settled session.bytes)
   -- the band has capacity for at most this number of pixels
-  pub room : session.room ≤ band_room (settled session.bytes)
+  pub room : session.room ≤ band_room session.origin.pixel_limit (settled session.bytes)
   -- a rejected session has no canvas
   pub refused : session.is_refused ≡ true → paints ≡ 0
 
 -- The image has this size so far.
 pub record IsSizeSoFar (session : Session) (answer : Option (ℕ × ℕ)) : Type 0 where
   -- width and height of the closed sixels and raster attributes
-  pub accepted : session.is_refused ≡ false → answer ≡ Some (size (settled session.bytes))
+  pub accepted : session.is_refused ≡ false
+      → answer ≡ Some (size session.origin.pixel_limit (settled session.bytes))
   -- a rejected session has none
   pub refused : session.is_refused ≡ true → answer ≡ None
 
 -- The last row with a set pixel, plus one, or 0 if there is none.
 pub record IsDrawnHeight (session : Session) (rows : ℕ) : Type 0 where
   -- that of the image of the payload, because an open command sets no pixel
-  pub accepted : session.is_refused ≡ false → rows ≡ payload_drawn_height session.bytes
+  pub accepted : session.is_refused ≡ false
+      → rows ≡ payload_drawn_height session.origin.pixel_limit session.bytes
   -- a rejected session has none
   pub refused : session.is_refused ≡ true → rows ≡ 0

@@ -1,7 +1,8 @@
 -- What contracts see of a session that decodes one payload in chunks: its start, the bytes fed,
 -- whether a feed was rejected, the pixels written to grow its canvas, the capacity of the rows in
--- pixels, and how many pixels sixels have painted at most. This library's own: it does not mention
--- chunks, because chunk boundaries have no effect.
+-- pixels, how many pixels sixels have painted at most, and how many rows from the top the canvas has
+-- released; whether it keeps the picture of the tokens before a fault, and whether it has one. This
+-- library's own: it does not mention chunks, because chunk boundaries have no effect.
 use Rattle.std.specs.Prelude.{Bool, List, ℕ}
 use Rattle.sixel_base.specs.Stroke.{Origin}
 use Rattle.sixel_base.specs.declared.state.DecoderState.{DecoderState}
@@ -13,6 +14,9 @@ pub record Session : Type 0 where
   pub writes : ℕ
   pub room : ℕ
   pub paints : ℕ
+  pub released : ℕ
+  pub keeps_partial : Bool
+  pub has_partial : Bool
 
 -- What contracts see of a session that decodes one DCS sequence in chunks: the decoder that it
 -- began from, the bytes fed, whether a feed was rejected, and the same numbers for the canvas of
@@ -24,3 +28,4 @@ pub record DcsSession : Type 0 where
   pub writes : ℕ
   pub room : ℕ
   pub paints : ℕ
+  pub released : ℕ

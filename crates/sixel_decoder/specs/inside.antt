@@ -5,6 +5,8 @@ pub mod DrawnRows
 pub mod Painter
 pub mod PayloadParser
 pub mod PayloadReader
+pub mod DataFaults
+pub mod Partial
 pub mod Header
 pub mod DcsParser
 pub mod DcsReader

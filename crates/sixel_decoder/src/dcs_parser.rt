@@ -1,7 +1,7 @@
 //! The parser of a DCS sequence: introducer, header, payload and end.
 
 ghost use Rattle.std.specs.Prelude.{◌≡◌, ◌≤◌, ◌++◌, ◌+◌, ◌∷◌, [], true, false, List, ℕ, length};
-ghost use Rattle.std.specs.Prelude.{None, Option, IfOk, MatchResult};
+ghost use Rattle.std.specs.Prelude.{None, Option, IfOk, OnOk, MatchResult};
 ghost use Rattle.sixel_base.specs.declared.state.DecoderState.{DecoderState};
 ghost use Rattle.sixel_base.specs.Fault.{IsFault, DcsStreamFailed};
 ghost use Rattle.sixel_decoder.specs.declared.dcs_parser.DcsState.TheVariants.{Start, Payload};
@@ -9,6 +9,7 @@ ghost use Rattle.sixel_decoder.specs.declared.dcs_parser.DcsState.TheVariants.{F
 ghost use Rattle.sixel_decoder.specs.inside.DcsParser.{HasFollowed, IsInPayload};
 ghost use Rattle.sixel_decoder.specs.inside.DcsParser.{is_head, is_failed, StepsInto};
 ghost use Rattle.sixel_decoder.specs.inside.DcsParser.{Heads, Follows};
+ghost use Rattle.sixel_decoder.specs.inside.DcsReader.{released_of};
 
 use crate::bytes::tail;
 use crate::dcs_end::end_now;
@@ -86,6 +87,8 @@ impl<C: Canvas + Drop> DcsParser<C> {
         ensures follows { (before : List ℕ) → is_failed self.old.state ≡ false
             → HasFollowed self.old.state self.old.decoder self.old.ended before
             → Follows result self.new.state self.old.decoder self.new.ended before chunk.now }
+        ensures released { OnOk result
+            (released_of self.new.state ≡ released_of self.old.state) }
     {
         match &mut self.state {
             DcsState::Failed => Err(SixelError::dcs_stream_failed()),
@@ -100,6 +103,8 @@ impl<C: Canvas + Drop> DcsParser<C> {
         ensures follows { (before : List ℕ) → is_head self.old.state ≡ true
             → HasFollowed self.old.state self.old.decoder self.old.ended before
             → Follows result self.new.state self.old.decoder self.new.ended before chunk.now }
+        ensures released { OnOk result
+            (released_of self.new.state ≡ released_of self.old.state) }
     {
         let start = self.read_head(chunk)?;
         match &mut self.state {
@@ -125,6 +130,8 @@ impl<C: Canvas + Drop> DcsParser<C> {
         ensures heads { (before : List ℕ) → is_failed self.old.state ≡ false
             → HasFollowed self.old.state self.old.decoder self.old.ended before
             → Heads result self.new.state self.old.decoder self.new.ended before chunk.now }
+        ensures released { OnOk result
+            (released_of self.new.state ≡ released_of self.old.state) }
     {
         'head: for (index, byte) in chunk.iter().enumerate() {
             if !self.state.is_head() {
@@ -143,6 +150,8 @@ impl<C: Canvas + Drop> DcsParser<C> {
             → HasFollowed self.old.state self.old.decoder self.old.ended before
             → StepsInto result self.new.state self.old.decoder self.new.ended
             (before ++ byte ∷ []) }
+        ensures released { OnOk result
+            (released_of self.new.state ≡ released_of self.old.state) }
     {
         match &mut self.state {
             DcsState::Start => match byte {
@@ -188,6 +197,7 @@ fn read_payload<C: Canvas + Drop>(
     ensures follows { (decoder : DecoderState) (before : List ℕ)
         → IsInPayload reader.old decoder ended.old before
         → Follows {C = C} result (Payload reader.new) decoder ended.new before chunk.now }
+    ensures released { OnOk result (reader.new.released ≡ reader.old.released) }
 {
     let fed = reader.feed(chunk)?;
     match fed.status {

@@ -1,12 +1,15 @@
 //! What each closed command changes: position, extent, registers and canvas.
 
 ghost use Rattle.std.specs.Prelude.{◌≡◌, ◌<◌, ◌≤◌, ◌+◌, ◌*◌, ◌∷◌, List, ℕ, true, false, []};
-ghost use Rattle.std.specs.Prelude.{length, max, nat_lt, if◌then◌else◌, ◌&&◌};
-ghost use Rattle.std.specs.Prelude.{slice_index, IfOk, IsTrue, MatchResult};
+ghost use Rattle.std.specs.Prelude.{length, max, min, nat_lt, if◌then◌else◌, ◌&&◌};
+ghost use Rattle.std.specs.Prelude.{slice_index, IfOk, OnOk, IfErr, IsTrue, MatchResult};
 ghost use Rattle.sixel_base.specs.Decoder.{origin_of};
 ghost use Rattle.sixel_base.specs.DrawnHeight.{drawn_height};
+ghost use Rattle.sixel_base.specs.Fault.{is_fault};
 ghost use Rattle.sixel_base.specs.History.{History, Sixel, Repeat, Raster, Color, Return, Newline};
-ghost use Rattle.sixel_base.specs.Limits.{area_limit, repeat_limit, side_limit};
+ghost use Rattle.sixel_base.specs.Limits.{Limit, area_limit, repeat_limit, side_limit};
+ghost use Rattle.sixel_base.specs.Clip.{clipped_bits};
+ghost use Rattle.sixel_base.specs.declared.error.SixelError.TheVariants.{OutOfMemory};
 ghost use Rattle.sixel_base.specs.Stroke.{Origin};
 ghost use Rattle.sixel_base.specs.inside.Parameters.{Keeps};
 ghost use Rattle.sixel_canvas.specs.inside.Drawn.{no_work};
@@ -25,7 +28,7 @@ use sixel_base::limits::MAX_REPEAT;
 use sixel_base::parameters::Parameters;
 use sixel_base::registers::Registers;
 use sixel_base::settings::{DcsSettings, PixelAspectRatio};
-use sixel_base::state::DecoderState;
+use sixel_base::state::{DecoderState, PixelLimit};
 use sixel_base::{Result, SixelError};
 use sixel_canvas::drawing::Canvas;
 use std::alloc::Global;
@@ -37,7 +40,7 @@ pub struct Painter<C: Canvas + Drop> {
     pub registers: Registers,
     pub settings: DcsSettings,
     pub raster_crop: bool,
-    pub pixel_limit: usize,
+    pub pixel_limit: PixelLimit,
     pub ratio: PixelAspectRatio,
     pub color: [u8; 4],
     /// How many columns the next sixel has.
@@ -46,6 +49,10 @@ pub struct Painter<C: Canvas + Drop> {
     pub column: usize,
     pub width: usize,
     pub height: usize,
+    /// The columns of the width that are inside the clip.
+    pub clipped_width: usize,
+    /// The rows of the height that are inside the clip.
+    pub clipped_height: usize,
     pub raster_height: usize,
     /// The rows down to the last one with a set pixel.
     pub drawn: DrawnRows,
@@ -56,18 +63,21 @@ pub struct Painter<C: Canvas + Drop> {
     ghost width_fits: { width ≤ side_limit },
     ghost height_fits: { height ≤ side_limit },
     ghost raster_fits: { raster_height ≤ height },
-    ghost area_fits: { width * height ≤ pixel_limit },
-    ghost limit_fits: { pixel_limit ≤ area_limit },
+    ghost clipped_width_is: { clipped_width ≡ min width pixel_limit.columns },
+    ghost clipped_height_is: { clipped_height ≡ min height pixel_limit.rows },
+    ghost area_fits: { clipped_width * clipped_height ≤ pixel_limit.pixels },
+    ghost limit_fits: { pixel_limit.pixels ≤ area_limit },
 }
 
 impl<C: Canvas + Drop> Painter<C> {
     ghost use Rattle.sixel_decoder.specs.inside.Painter.{Shows, Draws, DrawsFront, Ends};
-    ghost use Rattle.sixel_decoder.specs.inside.Painter.{IsExtended, FitsColumn};
+    ghost use Rattle.sixel_decoder.specs.inside.Painter.{IsDrawnInside, IsExtended, FitsColumn};
 
     /// Creates a painter that has drawn nothing.
     pub fn new(alloc: Global, decoder: DecoderState, settings: DcsSettings) -> Painter<C>
         ensures shows { Shows (origin_of decoder settings) result [] }
         ensures work { C.work result.canvas ≡ no_work }
+        ensures released { C.released result.canvas ≡ 0 }
     {
         let background = background(&decoder.registers, settings.background_mode());
         Painter {
@@ -75,13 +85,15 @@ impl<C: Canvas + Drop> Painter<C> {
             registers: decoder.registers,
             settings,
             raster_crop: decoder.raster_crop,
-            pixel_limit: decoder.pixel_limit.pixels(),
+            pixel_limit: decoder.pixel_limit,
             ratio: settings.pixel_aspect_ratio(),
             color: opaque(decoder.registers.get(0)),
             repeat: 1,
             column: 0,
             width: 1,
             height: 1,
+            clipped_width: 1,
+            clipped_height: 1,
             raster_height: 0,
             drawn: DrawnRows::new(),
         }
@@ -89,7 +101,8 @@ impl<C: Canvas + Drop> Painter<C> {
 
     /// Draws sixels at the front of the bytes, one at least, and returns how many.
     ///
-    /// Up to eight are drawn at once if they have one column each and lie inside the image.
+    /// Up to eight are drawn at once if they have one column each and lie inside the image and its
+    /// clip.
     #[inline(always)]
     pub fn draw_front(&mut self, bytes: &[u8]) -> Result<usize>
         requires some { 0 < length bytes.now }
@@ -100,11 +113,14 @@ impl<C: Canvas + Drop> Painter<C> {
             → IsSixelByte (slice_index bytes.now k)) }
         ensures draws { (o : Origin) (h : History) → Shows o self.old h
             → DrawsFront result o self.new h bytes.now }
+        ensures kept { IfErr result (λ error. is_fault error ≡ true → self.new ≡ self.old) }
+        ensures released { OnOk result
+            (C.released self.new.canvas ≡ C.released self.old.canvas) }
     {
         if bytes.len() >= 8 && self.is_single_above_bottom() {
             let front = FrontSixels::of(bytes);
             let len = front.len;
-            if len > 0 && self.column + len <= self.width {
+            if len > 0 && self.column + len <= self.clipped_width {
                 self.canvas.block(self.column, len, front.bits, self.color)?;
                 self.drawn.add_eight(front.bits);
                 self.column += len;
@@ -117,13 +133,13 @@ impl<C: Canvas + Drop> Painter<C> {
         }
     }
 
-    /// Whether the next sixel has one column and does not pass the bottom of the image.
+    /// Whether the next sixel has one column and does not pass the bottom of the clipped image.
     #[inline(always)]
     fn is_single_above_bottom(&self) -> bool
         ensures single { IsTrue result → self.now.repeat ≡ 1 }
-        ensures above_bottom { IsTrue result → C.top self.now.canvas + 6 ≤ self.now.height }
+        ensures above_bottom { IsTrue result → C.top self.now.canvas + 6 ≤ self.now.clipped_height }
     {
-        self.repeat == 1 && self.height >= 6 && self.canvas.top() <= self.height - 6
+        self.repeat == 1 && self.clipped_height >= 6 && self.canvas.top() <= self.clipped_height - 6
     }
 
     /// Draws a sixel, and moves right by its columns.
@@ -132,16 +148,18 @@ impl<C: Canvas + Drop> Painter<C> {
     #[inline(always)]
     fn draw(&mut self, bits: u8) -> Result<()>
         requires { bits < 64 }
-        ensures { (o : Origin) (h : History) → Shows o self.old h
+        ensures draws { (o : Origin) (h : History) → Shows o self.old h
             → Draws result o self.new (Sixel bits ∷ h) true }
+        ensures kept { IfErr result (λ error. is_fault error ≡ true → self.new ≡ self.old) }
+        ensures released { OnOk result
+            (C.released self.new.canvas ≡ C.released self.old.canvas) }
     {
         let from = self.column;
         let right = from + self.repeat;
         let bottom = self.canvas.top().saturating_add(6);
         match self.extend(right, bottom) {
             Ok(()) => {
-                self.canvas.draw(from, right, bits, self.color)?;
-                self.drawn.add(bits);
+                self.draw_inside(from, right, bits)?;
                 self.column = right;
                 self.repeat = 1;
                 Ok(())
@@ -150,19 +168,47 @@ impl<C: Canvas + Drop> Painter<C> {
         }
     }
 
+    /// Draws the part of a sixel that is inside the clip.
+    #[inline(always)]
+    fn draw_inside(&mut self, from: usize, right: usize, bits: u8) -> Result<()>
+        requires some { from < right }
+        requires within { right ≤ side_limit }
+        requires above_bottom { C.top self.old.canvas + 6 ≤ side_limit }
+        requires six { bits < 64 }
+        ensures { MatchResult result (λ _. IsDrawnInside self.old self.new from right bits)
+            (λ error. error ≡ OutOfMemory) }
+    {
+        let top = self.canvas.top();
+        let columns = self.pixel_limit.columns();
+        let rows = self.pixel_limit.rows();
+        if from < columns && top < rows {
+            let bits = clipped_bits(bits, top, rows);
+            self.canvas
+                .draw(from, right.min(columns), bits, self.color)?;
+            self.drawn.add(bits);
+        }
+        Ok(())
+    }
+
     /// Makes the image at least so wide and so high, unless it is too large then.
     #[inline(always)]
     fn extend(&mut self, wide: usize, high: usize) -> Result<()>
-        ensures { MatchResult result (λ _. IsExtended self.old self.new wide high)
+        ensures extended { MatchResult result (λ _. IsExtended self.old self.new wide high)
             (λ error. IsTooLarge (max self.old.width wide) (max self.old.height high)
             self.old.pixel_limit error) }
+        ensures kept { IfErr result (λ error. self.new ≡ self.old) }
     {
+        if wide <= self.width && high <= self.height {
+            return Ok(());
+        }
         let width = self.width.max(wide);
         let height = self.height.max(high);
         match check_size(width, height, self.pixel_limit) {
             Ok(()) => {
                 self.width = width;
                 self.height = height;
+                self.clipped_width = width.min(self.pixel_limit.columns());
+                self.clipped_height = height.min(self.pixel_limit.rows());
                 Ok(())
             }
             Err(error) => Err(error),
@@ -171,7 +217,7 @@ impl<C: Canvas + Drop> Painter<C> {
 
     /// Whether the next sixel fits in one column for which the canvas has memory.
     ///
-    /// That column lies inside the image, so drawing the sixel cannot fail.
+    /// That column lies inside the clipped image, so drawing the sixel cannot fail.
     #[inline(always)]
     pub fn fits_column(&self) -> bool
         ensures { IsTrue result → FitsColumn self.now }
@@ -179,7 +225,7 @@ impl<C: Canvas + Drop> Painter<C> {
         if !self.is_single_above_bottom() {
             return false;
         }
-        self.column < self.width && self.column < self.canvas.held()
+        self.column < self.clipped_width && self.column < self.canvas.held()
     }
 
     /// Draws a sixel that fits in such a column.
@@ -187,8 +233,9 @@ impl<C: Canvas + Drop> Painter<C> {
     pub fn draw_column(&mut self, bits: u8)
         requires fits { FitsColumn self.old }
         requires six { bits < 64 }
-        ensures { (o : Origin) (h : History) → Shows o self.old h
+        ensures shows { (o : Origin) (h : History) → Shows o self.old h
             → Shows o self.new (Sixel bits ∷ h) }
+        ensures released { C.released self.new.canvas ≡ C.released self.old.canvas }
     {
         self.canvas.column(self.column, bits, self.color);
         self.drawn.add(bits);
@@ -200,8 +247,11 @@ impl<C: Canvas + Drop> Painter<C> {
     /// Other commands do not change it.
     #[inline(never)]
     pub fn set_repeat(&mut self, parameters: &Parameters) -> Result<()>
-        ensures { (o : Origin) (h : History) (text : List ℕ) → Keeps parameters.now text
+        ensures draws { (o : Origin) (h : History) (text : List ℕ) → Keeps parameters.now text
             → Shows o self.old h → Draws result o self.new (Repeat text ∷ h) false }
+        ensures kept { IfErr result (λ error. is_fault error ≡ true → self.new ≡ self.old) }
+        ensures released { OnOk result
+            (C.released self.new.canvas ≡ C.released self.old.canvas) }
     {
         let count = parameters.get(0);
         if count > MAX_REPEAT {
@@ -216,14 +266,17 @@ impl<C: Canvas + Drop> Painter<C> {
     /// The sizes are a least extent, and with crop the last height is that of the image.
     #[inline(never)]
     pub fn set_raster(&mut self, parameters: &Parameters) -> Result<()>
-        ensures { (o : Origin) (h : History) (text : List ℕ) → Keeps parameters.now text
+        ensures draws { (o : Origin) (h : History) (text : List ℕ) → Keeps parameters.now text
             → Shows o self.old h → Draws result o self.new (Raster text ∷ h) false }
+        ensures kept { IfErr result (λ error. is_fault error ≡ true → self.new ≡ self.old) }
+        ensures released { OnOk result
+            (C.released self.new.canvas ≡ C.released self.old.canvas) }
     {
         let wide = parameters.get(2) as usize;
         let high = parameters.get(3) as usize;
         match self.extend(wide, high) {
             Ok(()) => {
-                self.canvas.expect_width(self.width);
+                self.canvas.expect_width(self.clipped_width);
                 self.raster_height = last_height(self.raster_height, high);
                 self.ratio = shape(parameters, self.ratio, self.settings.pixel_aspect_ratio());
                 Ok(())
@@ -238,6 +291,7 @@ impl<C: Canvas + Drop> Painter<C> {
         ensures shows { (o : Origin) (h : History) (text : List ℕ) → Keeps parameters.now text
             → Shows o self.old h → Shows o self.new (Color text ∷ h) }
         ensures fits { FitsColumn self.old → FitsColumn self.new }
+        ensures released { C.released self.new.canvas ≡ C.released self.old.canvas }
     {
         let register = parameters.get(0).min(255) as u8;
         define(&mut self.registers, register, parameters);
@@ -246,15 +300,20 @@ impl<C: Canvas + Drop> Painter<C> {
 
     /// Moves to the first column.
     pub fn carriage_return(&mut self)
-        ensures { (o : Origin) (h : History) → Shows o self.old h → Shows o self.new (Return ∷ h) }
+        ensures shows { (o : Origin) (h : History) → Shows o self.old h
+            → Shows o self.new (Return ∷ h) }
+        ensures released { C.released self.new.canvas ≡ C.released self.old.canvas }
     {
         self.column = 0;
     }
 
     /// Moves to the first column of the next band.
     pub fn new_line(&mut self) -> Result<()>
-        ensures { (o : Origin) (h : History) → Shows o self.old h
+        ensures draws { (o : Origin) (h : History) → Shows o self.old h
             → Draws result o self.new (Newline ∷ h) false }
+        ensures kept { IfErr result (λ error. is_fault error ≡ true → self.new ≡ self.old) }
+        ensures released { OnOk result
+            (C.released self.new.canvas ≡ C.released self.old.canvas) }
     {
         let top = self.canvas.top();
         if top.checked_add(6).is_none() {
@@ -268,20 +327,22 @@ impl<C: Canvas + Drop> Painter<C> {
 
     /// Returns the last row with a set pixel, plus one, or 0 if there is none.
     pub fn drawn_height(&self) -> usize
-        ensures { (o : Origin) (h : History) → Shows o self.now h → result ≡ drawn_height h }
+        ensures { (o : Origin) (h : History) → Shows o self.now h
+            → result ≡ drawn_height o.pixel_limit h }
     {
         self.drawn.height(self.canvas.top())
     }
 
     /// Takes the image that was drawn off the canvas, and returns it with the registers.
     pub fn take_image(&mut self) -> Result<DecodedPayload>
-        ensures { (o : Origin) (h : History) → Shows o self.old h → Ends result o h }
+        ensures ends { (o : Origin) (h : History) → Shows o self.old h → Ends result o h }
+        ensures whole { OnOk result (C.released self.old.canvas ≡ 0) }
     {
         let height = self.image_height();
-        let pixels = self.canvas.take_picture(self.width, height)?;
+        let pixels = self.canvas.take_picture(self.clipped_width, height)?;
         Ok(DecodedPayload {
             pixels,
-            width: self.width,
+            width: self.clipped_width,
             height,
             aspect_ratio: self.ratio,
             background_mode: self.settings.background_mode(),
@@ -289,15 +350,30 @@ impl<C: Canvas + Drop> Painter<C> {
         })
     }
 
-    /// Returns the height of the image: with crop, the last positive raster height.
+    /// Returns the height of the image inside the clip: with crop, the last positive raster height.
     pub fn image_height(&self) -> usize
-        ensures { result ≡ (if self.now.raster_crop && nat_lt 0 self.now.raster_height
-            then self.now.raster_height else self.now.height) }
+        ensures { result ≡ min (if self.now.raster_crop && nat_lt 0 self.now.raster_height
+            then self.now.raster_height else self.now.height) self.now.pixel_limit.rows }
     {
         if self.raster_crop && self.raster_height > 0 {
-            self.raster_height
+            self.raster_height.min(self.pixel_limit.rows())
         } else {
-            self.height
+            self.clipped_height
         }
+    }
+}
+
+/// Returns the bits of a sixel in rows that are inside the clip.
+#[inline(always)]
+fn clipped_bits(bits: u8, top: usize, rows: usize) -> u8
+    requires six { bits < 64 }
+    requires inside { top < rows }
+    ensures value { (limit : Limit) → limit.rows ≡ rows → result ≡ clipped_bits limit top bits }
+    ensures six { result < 64 }
+{
+    if rows - top >= 6 {
+        bits
+    } else {
+        bits % (1 << (rows - top))
     }
 }

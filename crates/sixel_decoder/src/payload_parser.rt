@@ -5,11 +5,12 @@
 
 ghost use Rattle.std.specs.Prelude.{◌≡◌, ◌<◌, ◌≤◌, ◌+◌, ◌*◌, ◌∷◌, List, ℕ, true, false, []};
 ghost use Rattle.std.specs.Prelude.{length, slice_index, fold, take};
-ghost use Rattle.std.specs.Prelude.{IsTrue, ◌⊎◌, Bool, if◌then◌else◌};
+ghost use Rattle.std.specs.Prelude.{IsTrue, OnOk, ◌⊎◌, Bool, if◌then◌else◌};
 ghost use Rattle.sixel_canvas.specs.inside.Drawn.{no_work};
 ghost use Rattle.sixel_base.specs.Bytes.{is_sixel as sixel};
 ghost use Rattle.sixel_base.specs.History.{History, begun, goes_on, read};
 ghost use Rattle.sixel_base.specs.Decoder.{origin_of};
+ghost use Rattle.sixel_base.specs.Payload.{closed};
 ghost use Rattle.sixel_base.specs.inside.Parameters.{IsDigit};
 ghost use Rattle.sixel_base.specs.Stroke.{Origin};
 ghost use Rattle.sixel_decoder.specs.inside.Runs.{IsPrintable, IsSixelByte};
@@ -22,6 +23,7 @@ mod copied_image;
 use crate::bytes::{is_ignored, is_numbered, is_parameter, is_sixel, is_terminator, tail};
 use crate::decoded_payload::DecodedPayload;
 use crate::painter::Painter;
+use crate::partial_payload::PartialPayload;
 use sixel_base::Result;
 use sixel_base::parameters::{Digits, Parameters};
 use sixel_base::settings::DcsSettings;
@@ -65,11 +67,14 @@ pub struct PayloadParser<C: Canvas + Drop> {
 impl<C: Canvas + Drop> PayloadParser<C> {
     ghost use Rattle.sixel_decoder.specs.inside.Painter.{Shows, Draws, Ends};
     ghost use Rattle.sixel_decoder.specs.inside.PayloadParser.{Stands, Reads, Feeds, StandsAfter};
+    ghost use Rattle.sixel_decoder.specs.inside.PayloadParser.{Rests, settled_after};
+    ghost use Rattle.sixel_decoder.specs.inside.Partial.{EndsPartly};
 
     /// Creates a parser that has read nothing.
     pub fn new(alloc: Global, decoder: DecoderState, settings: DcsSettings) -> PayloadParser<C>
         ensures stands { Stands (origin_of decoder settings) result [] }
         ensures work { C.work result.painter.canvas ≡ no_work }
+        ensures released { C.released result.painter.canvas ≡ 0 }
     {
         PayloadParser {
             command: OpenCommand::Ground,
@@ -81,8 +86,12 @@ impl<C: Canvas + Drop> PayloadParser<C> {
     /// Reads a chunk up to its first terminator, which closes the open command.
     #[inline(always)]
     pub fn feed(&mut self, chunk: &[u8]) -> Result<SixelFeedResult>
-        ensures { (o : Origin) (h : History) → Stands o self.old h
+        ensures feeds { (o : Origin) (h : History) → Stands o self.old h
             → Feeds result o self.new h chunk.now }
+        ensures rests { (o : Origin) (h : History) → Stands o self.old h
+            → Rests result o self.new.painter (settled_after h chunk.now) }
+        ensures released { OnOk result
+            (C.released self.new.painter.canvas ≡ C.released self.old.painter.canvas) }
     {
         if chunk.len() == 1 && self.try_byte(chunk[0]) {
             return Ok(SixelFeedResult {
@@ -105,6 +114,8 @@ impl<C: Canvas + Drop> PayloadParser<C> {
         ensures stands { IsTrue result → (o : Origin) (h : History) → Stands o self.old h
             → Stands o self.new (read h byte) }
         ensures left { result ≡ false → self.new ≡ self.old }
+        ensures released { C.released self.new.painter.canvas
+            ≡ C.released self.old.painter.canvas }
     {
         if is_sixel(byte) {
             return self.try_sixel(byte);
@@ -132,6 +143,8 @@ impl<C: Canvas + Drop> PayloadParser<C> {
         ensures stands { IsTrue result → (o : Origin) (h : History) → Stands o self.old h
             → Stands o self.new (read h byte) }
         ensures left { result ≡ false → self.new ≡ self.old }
+        ensures released { C.released self.new.painter.canvas
+            ≡ C.released self.old.painter.canvas }
     {
         if !self.painter.fits_column() {
             return false;
@@ -163,8 +176,12 @@ impl<C: Canvas + Drop> PayloadParser<C> {
     /// Reads a chunk of any bytes.
     #[inline(never)]
     fn read_chunk(&mut self, chunk: &[u8]) -> Result<SixelFeedResult>
-        ensures { (o : Origin) (h : History) → Stands o self.old h
+        ensures feeds { (o : Origin) (h : History) → Stands o self.old h
             → Feeds result o self.new h chunk.now }
+        ensures rests { (o : Origin) (h : History) → Stands o self.old h
+            → Rests result o self.new.painter (settled_after h chunk.now) }
+        ensures released { OnOk result
+            (C.released self.new.painter.canvas ≡ C.released self.old.painter.canvas) }
     {
         let mut index = 0;
         'bytes: while index < chunk.len() {
@@ -205,6 +222,12 @@ impl<C: Canvas + Drop> PayloadParser<C> {
             → Draws result o self.new.painter h false }
         ensures kept { (o : Origin) (h : History) → self.old.command ≡ Ground
             → Shows o self.old.painter h → Draws result o self.new.painter h false }
+        ensures rests { (o : Origin) (h : History) → Stands o self.old h
+            → Rests result o self.new.painter h }
+        ensures released { OnOk result
+            (C.released self.new.painter.canvas ≡ C.released self.old.painter.canvas) }
+        ensures rests_kept { (o : Origin) (h : History) → self.old.command ≡ Ground
+            → Shows o self.old.painter h → Rests result o self.new.painter h }
     {
         let command = self.command;
         self.command = OpenCommand::Ground;
@@ -229,6 +252,8 @@ impl<C: Canvas + Drop> PayloadParser<C> {
         ensures printable { (k : ℕ) → k < result → IsPrintable (slice_index bytes.now k) }
         ensures stands { (o : Origin) (h : History) → Shows o self.old.painter h
             → Stands o self.new (fold read h (take result bytes.now)) }
+        ensures released { C.released self.new.painter.canvas
+            ≡ C.released self.old.painter.canvas }
     {
         let digits = Digits::at_front(tail(bytes, 1));
         self.command = OpenCommand::numbered(bytes[0]);
@@ -240,8 +265,12 @@ impl<C: Canvas + Drop> PayloadParser<C> {
     fn push(&mut self, byte: u8) -> Result<()>
         requires sixel { sixel byte ≡ false }
         requires numbered { (byte ≡ 33 → ⊥) × (byte ≡ 35 → ⊥) }
-        ensures { (o : Origin) (h : History) → Stands o self.old h
+        ensures reads { (o : Origin) (h : History) → Stands o self.old h
             → Reads result o self.new h (read h byte) }
+        ensures rests { (o : Origin) (h : History) → Stands o self.old h
+            → Rests result o self.new.painter (closed (read h byte)) }
+        ensures released { OnOk result
+            (C.released self.new.painter.canvas ≡ C.released self.old.painter.canvas) }
     {
         if self.takes(byte) {
             self.parameters.push(byte);
@@ -256,8 +285,12 @@ impl<C: Canvas + Drop> PayloadParser<C> {
         requires ground { self.old.command ≡ Ground }
         requires sixel { sixel byte ≡ false }
         requires numbered { (byte ≡ 33 → ⊥) × (byte ≡ 35 → ⊥) }
-        ensures { (o : Origin) (h : History) → Shows o self.old.painter h
+        ensures reads { (o : Origin) (h : History) → Shows o self.old.painter h
             → Reads result o self.new h (begun byte ∷ h) }
+        ensures rests { (o : Origin) (h : History) → Shows o self.old.painter h
+            → Rests result o self.new.painter (closed (begun byte ∷ h)) }
+        ensures released { OnOk result
+            (C.released self.new.painter.canvas ≡ C.released self.old.painter.canvas) }
     {
         match byte {
             b'"' => {
@@ -276,12 +309,23 @@ impl<C: Canvas + Drop> PayloadParser<C> {
 
     /// Closes the open command, and returns the image with the registers.
     pub fn finish(mut self) -> Result<DecodedPayload>
-        ensures { (o : Origin) (h : History) (ended : Bool) → StandsAfter ended o self h
+        ensures ends { (o : Origin) (h : History) (ended : Bool) → StandsAfter ended o self h
             → Ends result o h }
+        ensures whole { OnOk result (C.released self.painter.canvas ≡ 0) }
     {
         match self.close() {
             Ok(()) => self.painter.take_image(),
             Err(error) => Err(error),
         }
+    }
+
+    /// Closes the open command, and returns the image of the tokens before the first fault.
+    pub fn finish_partial(mut self) -> Result<PartialPayload>
+        ensures { (o : Origin) (h : History) (ended : Bool) → StandsAfter ended o self h
+            → EndsPartly result o h }
+    {
+        let error = self.close().err();
+        let picture = self.painter.take_image()?;
+        Ok(PartialPayload { picture, error })
     }
 }

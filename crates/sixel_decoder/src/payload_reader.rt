@@ -2,18 +2,23 @@
 //!
 //! The contracts of its calls are the records of `PayloadCalls`.
 
-ghost use Rattle.std.specs.Prelude.{◌≡◌, None, Some};
+ghost use Rattle.std.specs.Prelude.{◌≡◌, None, Some, ◌&&◌};
 ghost use Rattle.sixel_base.specs.Decoder.{origin_of};
 ghost use Rattle.sixel_decoder.specs.PayloadCalls.{begun, IsFed, IsFinished, IsSizeSoFar};
 ghost use Rattle.sixel_decoder.specs.PayloadCalls.{IsDrawnHeight};
 ghost use Rattle.sixel_decoder.specs.PayloadCalls.{IsWriteCount, IsPaintCount, IsBandPaintCount};
+ghost use Rattle.sixel_base.specs.Fault.{is_fault};
+ghost use Rattle.sixel_decoder.specs.PartialCalls.{KeepsPartial, IsFinishedPartly};
 ghost use Rattle.sixel_decoder.specs.PictureView.{picture_value};
 
 mod final_rows;
 
+use crate::data_fault::DataFault;
 use crate::decoded_payload::DecodedPayload;
 use crate::log::Log;
+use crate::partial_payload::PartialPayload;
 use crate::payload_parser::PayloadParser;
+use crate::rejected_image::RejectedImage;
 use sixel_base::settings::DcsSettings;
 use sixel_base::state::DecoderState;
 use sixel_base::status::{SixelFeedResult, SixelFeedStatus};
@@ -23,12 +28,48 @@ use sixel_canvas::drawing::Canvas;
 use sixel_canvas::row_canvas::RowCanvas;
 use std::alloc::Global;
 use std::marker::Model;
+use std::mem;
 use std::snapshot::Snapshot;
+
+/// How a payload is read: its parser, or what is left after an error.
+#[derive(Drop)]
+pub enum PayloadState<C: Canvas + Drop> {
+    Reading(PayloadParser<C>),
+    Failed(Option<RejectedImage<C>>),
+}
+
+impl<C: Canvas + Drop> PayloadState<C> {
+    ghost use Rattle.sixel_decoder.specs.inside.PayloadReader.{parser_of, rejected_of, KeepsDrawn};
+
+    /// Drops the parser, and keeps the image that it has drawn if it is asked to.
+    ///
+    /// Out of line: inlined, LLVM clears the moved value on every feed.
+    #[cold]
+    #[inline(never)]
+    fn reject(&mut self, keeps_partial: bool, error: &SixelError)
+        ensures parser { parser_of self.new ≡ None }
+        ensures kept { KeepsDrawn (parser_of self.old) (rejected_of self.new) error.now
+            (keeps_partial && is_fault error.now) }
+    {
+        let state = mem::replace(self, PayloadState::Failed(None));
+        if keeps_partial
+            && error.is_fault()
+            && let PayloadState::Reading(parser) = state
+        {
+            let PayloadParser { painter, .. } = parser;
+            *self = PayloadState::Failed(Some(RejectedImage {
+                painter,
+                fault: DataFault::of(error),
+            }));
+        }
+    }
+}
 
 /// A payload that is read in chunks. It has no parser once a feed has failed.
 #[derive(Drop)]
 pub struct PayloadReader<C: Canvas + Drop> {
-    parser: Option<PayloadParser<C>>,
+    state: PayloadState<C>,
+    keeps_partial: bool,
     terminator: Option<u8>,
     settings: DcsSettings,
     start: Snapshot<DecoderState>,
@@ -53,7 +94,8 @@ impl<C: Canvas + Drop> PayloadReader<C> {
         ensures { result ≡ begun (origin_of decoder settings) }
     {
         PayloadReader {
-            parser: Some(PayloadParser::new(alloc, decoder, settings)),
+            state: PayloadState::Reading(PayloadParser::new(alloc, decoder, settings)),
+            keeps_partial: false,
             terminator: None,
             settings,
             start: Snapshot::of(&decoder),
@@ -61,15 +103,23 @@ impl<C: Canvas + Drop> PayloadReader<C> {
         }
     }
 
+    /// Sets whether a fault leaves the image of the tokens before it.
+    pub fn set_keep_partial(&mut self, on: bool)
+        ensures { self.new ≡ record self.old { keeps_partial = on } }
+    {
+        self.keeps_partial = on;
+    }
+
     /// Reads a chunk up to the first terminator of all chunks.
     ///
     /// After an error every feed fails.
     #[inline(always)]
     pub fn feed(&mut self, chunk: &[u8]) -> Result<SixelFeedResult>
-        ensures { IsFed self.old self.new chunk.now result }
+        ensures fed { IsFed self.old self.new chunk.now result }
+        ensures partial { KeepsPartial self.old self.new result }
     {
         self.log.extend(chunk);
-        let Some(parser) = &mut self.parser else {
+        let PayloadState::Reading(parser) = &mut self.state else {
             return Err(SixelError::stream_failed());
         };
         match self.terminator {
@@ -83,7 +133,7 @@ impl<C: Canvas + Drop> PayloadReader<C> {
                     Ok(fed)
                 }
                 Err(error) => {
-                    drop_parser(&mut self.parser);
+                    self.state.reject(self.keeps_partial, &error);
                     Err(error)
                 }
             },
@@ -94,9 +144,12 @@ impl<C: Canvas + Drop> PayloadReader<C> {
     pub fn size_so_far(&self) -> Option<(usize, usize)>
         ensures { IsSizeSoFar self.now result }
     {
-        match &self.parser {
-            Some(parser) => Some((parser.painter.width, parser.painter.height)),
-            None => None,
+        match &self.state {
+            PayloadState::Reading(parser) => Some((
+                parser.painter.clipped_width,
+                parser.painter.clipped_height,
+            )),
+            PayloadState::Failed(_) => None,
         }
     }
 
@@ -104,9 +157,9 @@ impl<C: Canvas + Drop> PayloadReader<C> {
     pub fn drawn_height(&self) -> usize
         ensures { IsDrawnHeight self.now result }
     {
-        match &self.parser {
-            Some(parser) => parser.painter.drawn_height(),
-            None => 0,
+        match &self.state {
+            PayloadState::Reading(parser) => parser.painter.drawn_height(),
+            PayloadState::Failed(_) => 0,
         }
     }
 
@@ -114,10 +167,24 @@ impl<C: Canvas + Drop> PayloadReader<C> {
     pub fn finish(self) -> Result<DecodedPayload>
         ensures { IsFinished picture_value (λ picture. picture.registers) self result }
     {
-        let PayloadReader { parser, .. } = self;
-        match parser {
-            Some(parser) => parser.finish(),
-            None => Err(SixelError::stream_failed()),
+        let PayloadReader { state, .. } = self;
+        match state {
+            PayloadState::Reading(parser) => parser.finish(),
+            PayloadState::Failed(_) => Err(SixelError::stream_failed()),
+        }
+    }
+
+    /// Returns the image of the tokens before the first fault, and that fault.
+    ///
+    /// After an error there is one only if it was kept.
+    pub fn finish_partial(self) -> Result<PartialPayload>
+        ensures { IsFinishedPartly self result }
+    {
+        let PayloadReader { state, .. } = self;
+        match state {
+            PayloadState::Reading(parser) => parser.finish_partial(),
+            PayloadState::Failed(Some(rejected)) => rejected.finish(),
+            PayloadState::Failed(None) => Err(SixelError::stream_failed()),
         }
     }
 }
@@ -127,9 +194,9 @@ impl PayloadReader<RowCanvas> {
     pub fn writes(&self) -> u64
         ensures { IsWriteCount self.now result }
     {
-        match &self.parser {
-            Some(parser) => parser.painter.canvas.writes(),
-            None => 0,
+        match &self.state {
+            PayloadState::Reading(parser) => parser.painter.canvas.writes(),
+            PayloadState::Failed(_) => 0,
         }
     }
 
@@ -137,7 +204,7 @@ impl PayloadReader<RowCanvas> {
     pub fn paints(&self) -> u64
         ensures { IsPaintCount self.now result }
     {
-        let Some(parser) = &self.parser else {
+        let PayloadState::Reading(parser) = &self.state else {
             return 0;
         };
         parser.painter.canvas.paints()
@@ -149,20 +216,9 @@ impl PayloadReader<BandCanvas> {
     pub fn paints(&self) -> u64
         ensures { IsBandPaintCount self.now result }
     {
-        let Some(parser) = &self.parser else {
+        let PayloadState::Reading(parser) = &self.state else {
             return 0;
         };
         parser.painter.canvas.paints()
     }
-}
-
-/// Drops what was read.
-///
-/// Out of line: inlined, LLVM clears the moved value on every feed.
-#[cold]
-#[inline(never)]
-fn drop_parser<C: Canvas + Drop>(parser: &mut Option<PayloadParser<C>>)
-    ensures { parser.new ≡ None }
-{
-    *parser = None;
 }

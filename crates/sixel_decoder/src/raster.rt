@@ -1,6 +1,6 @@
 //! Raster attributes: the pixel aspect ratio, the height to crop to, and the extent.
 
-ghost use Rattle.std.specs.Prelude.{◌≡◌, ◌*◌, ◌≤◌, List, ℕ, length, max};
+ghost use Rattle.std.specs.Prelude.{◌≡◌, ◌*◌, ◌≤◌, List, ℕ, length, max, min};
 ghost use Rattle.std.specs.Prelude.{nat_le, nat_lt, if◌then◌else◌, MatchResult};
 ghost use Rattle.sixel_base.specs.Fields.{fields, field};
 ghost use Rattle.sixel_base.specs.Limits.{side_limit};
@@ -11,6 +11,7 @@ ghost use Rattle.sixel_decoder.specs.inside.Sizes.{IsTooLarge};
 use sixel_base::limits::MAX_SIDE;
 use sixel_base::parameters::Parameters;
 use sixel_base::settings::PixelAspectRatio;
+use sixel_base::state::PixelLimit;
 use sixel_base::{Result, SixelError};
 
 /// Returns the pixel aspect ratio after raster attributes.
@@ -58,17 +59,18 @@ pub fn last_height(before: usize, high: usize) -> usize
     if high > 0 { high } else { before }
 }
 
-/// Rejects an extent of which a side or the area is above its limit.
+/// Rejects an extent of which a side, or the area inside the clip, is above its limit.
 #[inline(always)]
-pub fn check_size(width: usize, height: usize, limit: usize) -> Result<()>
+pub fn check_size(width: usize, height: usize, limit: PixelLimit) -> Result<()>
     ensures { MatchResult result
-        (λ _. (width ≤ side_limit) × (height ≤ side_limit) × (width * height ≤ limit))
+        (λ _. (width ≤ side_limit) × (height ≤ side_limit)
+        × (min width limit.columns * min height limit.rows ≤ limit.pixels))
         (λ error. IsTooLarge width height limit error) }
 {
     if width > MAX_SIDE || height > MAX_SIDE {
         return Err(SixelError::malformed());
     }
-    if width * height > limit {
+    if width.min(limit.columns()) * height.min(limit.rows()) > limit.pixels() {
         return Err(SixelError::too_large());
     }
     Ok(())

@@ -23,6 +23,11 @@ abbrev pub paints_of : {C : Type 0} → DcsState C → ℕ
 paints_of (Payload reader) = reader.paints
 paints_of _ = 0
 
+-- how many rows from the top it has released
+abbrev pub released_of : {C : Type 0} → DcsState C → ℕ
+released_of (Payload reader) = reader.released
+released_of _ = 0
+
 abbrev pub session_of : {C : Type 0} → Inside C → DcsSession
 session_of reader = record {
   decoder = reader.parser.decoder;
@@ -31,6 +36,7 @@ session_of reader = record {
   writes = writes_of reader.parser.state;
   room = room_of reader.parser.state;
   paints = paints_of reader.parser.state;
+  released = released_of reader.parser.state;
 }
 
 abbrev pub IsFollowing : {C : Type 0} → Inside C → Type 0

@@ -3,16 +3,20 @@
 -- the rules.
 use Rattle.std.specs.Prelude.{ℕ, ◌≡◌, ◌+◌, ◌*◌, ◌<◌, ◌≤◌, Bool, true, ◌-◌, MatchResult, Result}
 use Rattle.std.specs.Prelude.{None, is_none, [], ◌∷◌, ◌++◌, List, max, fold, take, slice_index}
+use Rattle.std.specs.Prelude.{min, ◌&&◌, if◌then◌else◌}
 use Rattle.sixel_base.specs.declared.error.SixelError.{SixelError}
-use Rattle.sixel_base.specs.DrawnHeight.{drawn_height}
+use Rattle.sixel_base.specs.Clip.{clipped_bits, clipped_pixel, is_pixel_inside}
+use Rattle.sixel_base.specs.DrawnHeight.{drawn_height, lowered, set_rows}
 use Rattle.sixel_base.specs.Fault.{Faults}
 use Rattle.sixel_base.specs.History.{History, Sixel, read}
 use Rattle.sixel_base.specs.Limits.{side_limit}
 use Rattle.sixel_base.specs.Payload.{first_fault, image_of}
 use Rattle.sixel_base.specs.Place.{span, across, down, width, height, raster_height}
 use Rattle.sixel_base.specs.Settings.{ratio_of}
-use Rattle.sixel_base.specs.Stroke.{Origin, pixel, registers, color, ratio}
+use Rattle.sixel_base.specs.Stroke.{Origin, registers, color, ratio}
+use Rattle.sixel_base.specs.Picture.{covers}
 use Rattle.sixel_canvas.specs.declared.drawing.Canvas.{Ghosts}
+use Rattle.sixel_canvas.specs.inside.Drawn.{Run, run}
 use Rattle.sixel_decoder.specs.PictureView.{picture_value}
 use Rattle.sixel_decoder.specs.declared.decoded_payload.DecodedPayload.{DecodedPayload}
 use Rattle.sixel_decoder.specs.declared.painter.Painter.{Painter}
@@ -23,8 +27,8 @@ use Rattle.sixel_decoder.specs.inside.Runs.{runs_of}
 pub record Shows {C : Type 0} {canvas : Ghosts C} (origin : Origin) (painter : Painter C canvas)
     (history : History) : Type 0 where
   pub pixels : (column row : ℕ)
-      → canvas.shown painter.canvas column row ≡ pixel origin history column row
-  pub paid : canvas.paid painter.canvas (runs_of history)
+      → canvas.shown painter.canvas column row ≡ clipped_pixel origin history column row
+  pub paid : canvas.paid painter.canvas (runs_of origin.pixel_limit history)
   pub registers : painter.registers ≡ registers origin.registers history
   pub color : painter.color ≡ color origin.registers history ++ 255 ∷ []
   pub repeat : painter.repeat ≡ span history
@@ -33,7 +37,7 @@ pub record Shows {C : Type 0} {canvas : Ghosts C} (origin : Origin) (painter : P
   pub width : painter.width ≡ width history
   pub height : painter.height ≡ height history
   pub raster_height : painter.raster_height ≡ raster_height history
-  pub drawn : drawn_rows painter.drawn (down history) ≡ drawn_height history
+  pub drawn : drawn_rows painter.drawn (down history) ≡ drawn_height origin.pixel_limit history
   pub ratio : painter.ratio ≡ ratio (ratio_of origin.settings) history
   pub settings : painter.settings ≡ origin.settings
   pub crop : painter.raster_crop ≡ origin.raster_crop
@@ -77,6 +81,39 @@ pub record IsExtended {C : Type 0} {members : Ghosts C} (old new : Painter C mem
   pub raster_height : new.raster_height ≡ old.raster_height
   pub drawn : new.drawn ≡ old.drawn
 
+-- The second painter is the first once the part of a run inside the clip was drawn, over the
+-- columns from .. up to before right.
+pub record IsDrawnInside {C : Type 0} {canvas : Ghosts C} (old new : Painter C canvas)
+    (from right bits : ℕ) : Type 0 where
+  pub pixels : (column row : ℕ) → canvas.shown new.canvas column row
+      ≡ (if is_pixel_inside old.pixel_limit column row
+      && covers from right (canvas.top old.canvas) bits column row then old.color
+      else canvas.shown old.canvas column row)
+  pub top : canvas.top new.canvas ≡ canvas.top old.canvas
+  pub paid : (runs : List Run) → canvas.paid old.canvas runs
+      → canvas.paid new.canvas
+      (if is_pixel_inside old.pixel_limit from (canvas.top old.canvas)
+      then run from (min right old.pixel_limit.columns) (canvas.top old.canvas)
+      (clipped_bits old.pixel_limit (canvas.top old.canvas) bits) ∷ runs
+      else runs)
+  pub drawn : (row : ℕ) → drawn_rows new.drawn row
+      ≡ (if is_pixel_inside old.pixel_limit from (canvas.top old.canvas)
+      then lowered (drawn_rows old.drawn row) row
+      (set_rows (clipped_bits old.pixel_limit (canvas.top old.canvas) bits))
+      else drawn_rows old.drawn row)
+  pub released : canvas.released new.canvas ≡ canvas.released old.canvas
+  pub registers : new.registers ≡ old.registers
+  pub settings : new.settings ≡ old.settings
+  pub crop : new.raster_crop ≡ old.raster_crop
+  pub limit : new.pixel_limit ≡ old.pixel_limit
+  pub ratio : new.ratio ≡ old.ratio
+  pub color : new.color ≡ old.color
+  pub repeat : new.repeat ≡ old.repeat
+  pub column : new.column ≡ old.column
+  pub width : new.width ≡ old.width
+  pub height : new.height ≡ old.height
+  pub raster_height : new.raster_height ≡ old.raster_height
+
 -- The history has no fault, and this is its image, within the limit, with the registers after it;
 -- or it is rejected by its first fault, and by a failed allocation only if it has an image.
 abbrev pub Ends : Result DecodedPayload SixelError → Origin → History → Type 0
@@ -85,14 +122,14 @@ Ends result origin history =
     (λ picture. (first_fault origin.pixel_limit history ≡ None)
     × (picture_value picture ≡ image_of origin history)
     × (picture.registers ≡ registers origin.registers history)
-    × (picture.width * picture.height ≤ origin.pixel_limit))
+    × (picture.width * picture.height ≤ origin.pixel_limit.pixels))
     (λ error.
     Faults error (is_none (first_fault origin.pixel_limit history))
     (first_fault origin.pixel_limit history))
 
--- The next sixel has one column, inside the image, for which the canvas has memory.
+-- The next sixel has one column, inside the image and its clip, for which the canvas has memory.
 pub record FitsColumn {C : Type 0} {canvas : Ghosts C} (painter : Painter C canvas) : Type 0 where
   pub single : painter.repeat ≡ 1
-  pub above_bottom : canvas.top painter.canvas + 6 ≤ painter.height
-  pub inside : painter.column < painter.width
+  pub above_bottom : canvas.top painter.canvas + 6 ≤ painter.clipped_height
+  pub inside : painter.column < painter.clipped_width
   pub held : painter.column < canvas.held painter.canvas

@@ -1,6 +1,6 @@
 //! The rows of a DCS sequence's image, final or all, in a caller's memory.
 
-ghost use Rattle.std.specs.Prelude.{◌≡◌, ◌≤◌, ◌<◌, ◌+◌, ◌^◌, false, length};
+ghost use Rattle.std.specs.Prelude.{◌≡◌, ◌≤◌, ◌<◌, ◌+◌, ◌^◌, false, length, max};
 ghost use Rattle.sixel_base.specs.Dcs.{dcs_status, end_fault};
 ghost use Rattle.sixel_base.specs.Fault.{DcsStreamFailed};
 ghost use Rattle.sixel_base.specs.OneShot.{found};
@@ -20,7 +20,8 @@ use sixel_canvas::drawing::Canvas;
 impl<C: Canvas + Drop> DcsReader<C> {
     /// Returns how many rows from the top are final, and 0 after a failed feed.
     pub fn rows_so_far(&self) -> usize
-        ensures { result ≡ row_count self.now.is_refused (dcs_final_rows self.now.bytes) }
+        ensures { result ≡ row_count self.now.is_refused
+            (dcs_final_rows self.now.decoder.pixel_limit self.now.bytes) }
     {
         match &self.parser.state {
             DcsState::Payload(reader) => reader.rows_so_far(),
@@ -53,7 +54,9 @@ impl<C: Canvas + Drop> DcsReader<C> {
 impl DcsReader<BandCanvas> {
     /// Copies final rows to a caller's memory.
     pub fn copy_rows(&self, first: usize, rows: usize, layout: RowLayout, out: &mut [u8])
-        requires above { first + rows ≤ dcs_final_rows self.now.bytes }
+        requires stored { self.now.released ≤ first }
+        requires above { first + rows
+            ≤ dcs_final_rows self.now.decoder.pixel_limit self.now.bytes }
         requires accepted { 0 < rows → self.now.is_refused ≡ false }
         requires fits { AreRowsIn layout rows (length out.old) }
         ensures len { length out.new ≡ length out.old }
@@ -66,6 +69,28 @@ impl DcsReader<BandCanvas> {
         reader.copy_rows(first, rows, layout, out);
     }
 
+    /// Returns how many rows from the top are released.
+    pub fn released_rows(&self) -> usize
+        ensures { result ≡ self.now.released }
+    {
+        match &self.parser.state {
+            DcsState::Payload(reader) => reader.released_rows(),
+            DcsState::Start | DcsState::Escape | DcsState::Header(_) | DcsState::Failed => 0,
+        }
+    }
+
+    /// Releases the rows above row `rows`, which are final.
+    pub fn release_rows(&mut self, rows: usize)
+        requires above { rows ≤ dcs_final_rows self.old.decoder.pixel_limit self.old.bytes }
+        requires accepted { 0 < rows → self.old.is_refused ≡ false }
+        ensures { self.new ≡ record self.old { released = max self.old.released rows } }
+    {
+        let DcsState::Payload(reader) = &mut self.parser.state else {
+            return;
+        };
+        reader.release_rows(rows);
+    }
+
     /// Ends the image, and copies rows of it to a caller's memory.
     pub fn finish_into(
         self,
@@ -74,6 +99,7 @@ impl DcsReader<BandCanvas> {
         layout: RowLayout,
         out: &mut [u8],
     ) -> Result<CopiedPayload>
+        requires stored { self.released ≤ first }
         requires within { first + rows < 2 ^ 64 }
         requires fits { AreRowsIn layout rows (length out.old) }
         ensures len { length out.new ≡ length out.old }

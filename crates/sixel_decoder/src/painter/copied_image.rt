@@ -1,6 +1,6 @@
 //! The image of a painter, copied to a caller's memory.
 
-ghost use Rattle.std.specs.Prelude.{◌≡◌, ◌<◌, ◌+◌, ◌∷◌, ◌^◌, List, ℕ, length};
+ghost use Rattle.std.specs.Prelude.{◌≡◌, ◌≤◌, ◌<◌, ◌+◌, ◌∷◌, ◌^◌, List, ℕ, length, max};
 ghost use Rattle.sixel_base.specs.History.{History, Repeat, Raster};
 ghost use Rattle.sixel_base.specs.Stroke.{Origin};
 ghost use Rattle.sixel_base.specs.inside.Parameters.{Keeps};
@@ -41,10 +41,11 @@ impl<C: Canvas + Drop> Painter<C> {
         match check_size(self.width.max(wide), height, self.pixel_limit) {
             Ok(()) => {
                 let named = last_height(self.raster_height, high);
+                let rows = self.pixel_limit.rows();
                 if self.raster_crop && named > 0 {
-                    Ok(named)
+                    Ok(named.min(rows))
                 } else {
-                    Ok(height)
+                    Ok(height.min(rows))
                 }
             }
             Err(error) => Err(error),
@@ -53,6 +54,16 @@ impl<C: Canvas + Drop> Painter<C> {
 }
 
 impl Painter<BandCanvas> {
+    /// Releases the rows above row `rows`, which are final.
+    pub fn release_rows(&mut self, rows: usize)
+        requires above { rows ≤ self.old.canvas.top }
+        ensures shows { (o : Origin) (h : History) → Shows o self.old h → Shows o self.new h }
+        ensures released { self.new.canvas.released ≡ max self.old.canvas.released rows }
+        ensures band { self.new.canvas.band ≡ self.old.canvas.band }
+    {
+        self.canvas.release_rows(rows);
+    }
+
     /// Copies rows of the image to a caller's memory, and returns the image without its pixels.
     pub fn copy_image(
         &mut self,
@@ -61,6 +72,7 @@ impl Painter<BandCanvas> {
         layout: RowLayout,
         out: &mut [u8],
     ) -> CopiedPayload
+        requires stored { self.old.canvas.released ≤ first }
         requires within { first + rows < 2 ^ 64 }
         requires fits { AreRowsIn layout rows (length out.old) }
         ensures len { length out.new ≡ length out.old }
@@ -71,7 +83,7 @@ impl Painter<BandCanvas> {
         self.canvas.copy_picture(first, rows, layout, out);
         CopiedPayload {
             shape: ImageShape {
-                width: self.width,
+                width: self.clipped_width,
                 height,
                 aspect_ratio: self.ratio,
                 background_mode: self.settings.background_mode(),

@@ -1,6 +1,6 @@
 //! The image of a payload that ends, copied to a caller's memory.
 
-ghost use Rattle.std.specs.Prelude.{◌≡◌, ◌<◌, ◌+◌, ◌^◌, ℕ, Bool, false, None, length};
+ghost use Rattle.std.specs.Prelude.{◌≡◌, ◌≤◌, ◌<◌, ◌+◌, ◌^◌, ℕ, Bool, false, None, length, max};
 ghost use Rattle.std.specs.Prelude.{MatchResult};
 ghost use Rattle.sixel_base.specs.Fault.{Faults};
 ghost use Rattle.sixel_base.specs.History.{History};
@@ -32,6 +32,18 @@ impl<C: Canvas + Drop> PayloadParser<C> {
 }
 
 impl PayloadParser<BandCanvas> {
+    /// Releases the rows above row `rows`, which are final.
+    pub fn release_rows(&mut self, rows: usize)
+        requires above { rows ≤ self.old.painter.canvas.top }
+        ensures stands { (o : Origin) (h : History) (ended : Bool)
+            → StandsAfter ended o self.old h → StandsAfter ended o self.new h }
+        ensures released { self.new.painter.canvas.released
+            ≡ max self.old.painter.canvas.released rows }
+        ensures band { self.new.painter.canvas.band ≡ self.old.painter.canvas.band }
+    {
+        self.painter.release_rows(rows);
+    }
+
     /// Closes the open command, and copies rows of the image to a caller's memory.
     pub fn finish_into(
         mut self,
@@ -40,6 +52,7 @@ impl PayloadParser<BandCanvas> {
         layout: RowLayout,
         out: &mut [u8],
     ) -> Result<CopiedPayload>
+        requires stored { self.painter.canvas.released ≤ first }
         requires within { first + rows < 2 ^ 64 }
         requires fits { AreRowsIn layout rows (length out.old) }
         ensures len { length out.new ≡ length out.old }

@@ -1,19 +1,19 @@
 //! The rows of a payload's image, final or all, in a caller's memory.
 
-ghost use Rattle.std.specs.Prelude.{◌≡◌, ◌≤◌, ◌<◌, ◌+◌, ◌^◌, false, length};
+ghost use Rattle.std.specs.Prelude.{◌≡◌, ◌≤◌, ◌<◌, ◌+◌, ◌^◌, false, length, max};
 ghost use Rattle.sixel_base.specs.Bytes.{front};
+ghost use Rattle.sixel_base.specs.Clip.{clipped_pixel};
 ghost use Rattle.sixel_base.specs.Fault.{StreamFailed};
 ghost use Rattle.sixel_base.specs.History.{history_of};
 ghost use Rattle.sixel_base.specs.OneShot.{Payload};
 ghost use Rattle.sixel_base.specs.Payload.{payload_fault, settled};
-ghost use Rattle.sixel_base.specs.Stroke.{pixel};
 ghost use Rattle.sixel_canvas.specs.Layout.{AreCopied, AreRowsIn};
 ghost use Rattle.sixel_decoder.specs.CopiedImage.{decoder_of, last_fault};
 ghost use Rattle.sixel_decoder.specs.CopiedImage.{IsEndHeight, IsImageCopied};
 ghost use Rattle.sixel_decoder.specs.FinalRows.{final_rows, row_count};
 
 use crate::copied_payload::CopiedPayload;
-use crate::payload_reader::PayloadReader;
+use crate::payload_reader::{PayloadReader, PayloadState};
 use sixel_base::{Result, SixelError};
 use sixel_canvas::band_canvas::BandCanvas;
 use sixel_canvas::channels::RowLayout;
@@ -22,11 +22,16 @@ use sixel_canvas::drawing::Canvas;
 impl<C: Canvas + Drop> PayloadReader<C> {
     /// Returns how many rows from the top are final, and 0 after a failed feed.
     pub fn rows_so_far(&self) -> usize
-        ensures { result ≡ row_count self.now.is_refused (final_rows (settled self.now.bytes)) }
+        ensures { result ≡ row_count self.now.is_refused
+            (final_rows self.now.origin.pixel_limit (settled self.now.bytes)) }
     {
-        match &self.parser {
-            Some(parser) => parser.painter.canvas.top().min(parser.painter.height),
-            None => 0,
+        match &self.state {
+            PayloadState::Reading(parser) => parser
+                .painter
+                .canvas
+                .top()
+                .min(parser.painter.clipped_height),
+            PayloadState::Failed(_) => 0,
         }
     }
 
@@ -37,9 +42,9 @@ impl<C: Canvas + Drop> PayloadReader<C> {
             (last_fault self.now.is_refused StreamFailed
             (payload_fault self.now.origin.pixel_limit self.now.bytes)) result }
     {
-        match &self.parser {
-            Some(parser) => parser.end_height(),
-            None => Err(SixelError::stream_failed()),
+        match &self.state {
+            PayloadState::Reading(parser) => parser.end_height(),
+            PayloadState::Failed(_) => Err(SixelError::stream_failed()),
         }
     }
 }
@@ -47,17 +52,42 @@ impl<C: Canvas + Drop> PayloadReader<C> {
 impl PayloadReader<BandCanvas> {
     /// Copies final rows to a caller's memory.
     pub fn copy_rows(&self, first: usize, rows: usize, layout: RowLayout, out: &mut [u8])
-        requires above { first + rows ≤ final_rows (settled self.now.bytes) }
+        requires stored { self.now.released ≤ first }
+        requires above { first + rows
+            ≤ final_rows self.now.origin.pixel_limit (settled self.now.bytes) }
         requires accepted { 0 < rows → self.now.is_refused ≡ false }
         requires fits { AreRowsIn layout rows (length out.old) }
         ensures len { length out.new ≡ length out.old }
-        ensures copied { AreCopied (pixel self.now.origin (history_of (front self.now.bytes)))
+        ensures copied { AreCopied
+            (clipped_pixel self.now.origin (history_of (front self.now.bytes)))
             first rows layout out.old out.new }
     {
-        let Some(parser) = &self.parser else {
+        let PayloadState::Reading(parser) = &self.state else {
             return;
         };
         parser.painter.canvas.copy_rows(first, rows, layout, out);
+    }
+
+    /// Returns how many rows from the top are released.
+    pub fn released_rows(&self) -> usize
+        ensures { result ≡ self.now.released }
+    {
+        match &self.state {
+            PayloadState::Reading(parser) => parser.painter.canvas.released_rows(),
+            PayloadState::Failed(_) => 0,
+        }
+    }
+
+    /// Releases the rows above row `rows`, which are final.
+    pub fn release_rows(&mut self, rows: usize)
+        requires above { rows ≤ final_rows self.old.origin.pixel_limit (settled self.old.bytes) }
+        requires accepted { 0 < rows → self.old.is_refused ≡ false }
+        ensures { self.new ≡ record self.old { released = max self.old.released rows } }
+    {
+        let PayloadState::Reading(parser) = &mut self.state else {
+            return;
+        };
+        parser.release_rows(rows);
     }
 
     /// Ends the image, and copies rows of it to a caller's memory.
@@ -68,6 +98,7 @@ impl PayloadReader<BandCanvas> {
         layout: RowLayout,
         out: &mut [u8],
     ) -> Result<CopiedPayload>
+        requires stored { self.released ≤ first }
         requires within { first + rows < 2 ^ 64 }
         requires fits { AreRowsIn layout rows (length out.old) }
         ensures len { length out.new ≡ length out.old }
@@ -77,10 +108,10 @@ impl PayloadReader<BandCanvas> {
             (payload_fault self.origin.pixel_limit self.bytes))
             first rows layout out.old out.new result }
     {
-        let PayloadReader { parser, .. } = self;
-        match parser {
-            Some(parser) => parser.finish_into(first, rows, layout, out),
-            None => Err(SixelError::stream_failed()),
+        let PayloadReader { state, .. } = self;
+        match state {
+            PayloadState::Reading(parser) => parser.finish_into(first, rows, layout, out),
+            PayloadState::Failed(_) => Err(SixelError::stream_failed()),
         }
     }
 }

@@ -16,7 +16,7 @@ returns-in_err-fed-clause-follows g c = λ decoder before is.
     let refused : Faults e
     (nat_lt (growths (settled payload)) (growths (settled (payload ++ piece))))
     (fed_fault c.args.reader.now.origin.pixel_limit (payload ++ piece)) =
-    rw (is.accepted, c.in_err-fed.ensures.bytes) at c.in_err-fed.ensures.error in
+    rw (is.accepted, c.in_err-fed.ensures.fed.bytes) at c.in_err-fed.ensures.fed.error in
     let p = err_from_is_err_and c.from_residual.result c.from_residual.ensures.1 in
     rw (p.1, p.2)
     (payload_refuses e c.args.reader.now decoder c.args.ended.now before piece is refused)
@@ -25,7 +25,7 @@ pub returns-in-NeedMoreData-clause-follows : goal.returns-in-NeedMoreData-clause
 returns-in-NeedMoreData-clause-follows g c = λ decoder before is.
     let payload : List ℕ = c.args.reader.now.bytes in
     let piece : List ℕ = c.args.chunk.now in
-    let now = c.in_ok-fed.ensures in
+    let now = c.in_ok-fed.ensures.fed in
     let consumed = c.in_ok-fed.fed.consumed in
     let none : first_terminator (payload ++ piece) ≡ None =
     ap first_terminator (sym now.bytes)
@@ -42,7 +42,7 @@ pub returns-in-Terminated-clause-follows : goal.returns-in-Terminated-clause-fol
 returns-in-Terminated-clause-follows g c = λ decoder before is.
     let payload : List ℕ = c.args.reader.now.bytes in
     let piece : List ℕ = c.args.chunk.now in
-    let now = c.in_ok-fed.ensures in
+    let now = c.in_ok-fed.ensures.fed in
     let t = c.in-Terminated.terminator in
     let some : first_terminator (payload ++ piece) ≡ Some t =
     ap first_terminator (sym now.bytes)

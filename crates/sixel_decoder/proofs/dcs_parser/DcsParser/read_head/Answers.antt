@@ -19,6 +19,7 @@ head-init g c = (
         subst (λ (w : List ℕ). HasFollowed old.state old.decoder old.ended w)
             (sym (append-nil before)) followed,
       ),
+  refl,
 )
 
 pub head-preserved : goal.head-preserved
@@ -40,6 +41,7 @@ head-preserved g c = (
             (subst (λ (w : List ℕ). HasFollowed new.state c.head.self.decoder new.ended w)
             (pieces_step before chunk index c.head-test.true) stepped.1),
       ),
+  c.in_ok-step.ensures.released ∙ c.head.invariant.3,
 )
 
 pub returns-then-not-is_head-clause-heads : goal.returns-then-not-is_head-clause-heads

@@ -1,5 +1,6 @@
 use Rattle.std.proofs.Common.{◌≡◌, ◌++◌, false, List, ℕ, take}
 use Rattle.sixel_decoder.specs.inside.DcsParser.{HasFollowed, is_failed}
+use Rattle.sixel_decoder.specs.inside.DcsReader.{released_of}
 use Rattle.sixel_decoder.proofs.dcs_parser.DcsParser.read_head.Given as goal
 
 abbrev pub invariant-head : goal.invariant-head
@@ -10,3 +11,4 @@ invariant-head g l =
     → HasFollowed old.state old.decoder old.ended before
     → (is_failed l.self.state ≡ false)
     × HasFollowed l.self.state l.self.decoder l.self.ended (before ++ take l.index l.chunk))
+    × (released_of l.self.state ≡ released_of old.state)

@@ -60,6 +60,9 @@ returns-in-Ok-Some-clause-steps g c = λ before head is.
       writes = 0;
       room = 0;
       paints = 0;
+      released = 0;
+      keeps_partial = false;
+      has_partial = false;
     } in
     let begun : IsInPayload fresh old.decoder old.ended (before ++ c.args.byte ∷ []) = record {
       reading =

@@ -5,6 +5,7 @@ use Rattle.sixel_base.specs.declared.error.SixelError.{SixelError}
 use Rattle.sixel_base.specs.declared.status.SixelDcsFeedResult.{SixelDcsFeedResult}
 use Rattle.sixel_base.specs.Dcs.{dcs_fault, dcs_growths}
 use Rattle.sixel_base.specs.Fault.{Faults, IsFault, DcsStreamFailed}
+use Rattle.sixel_base.specs.Limits.{Limit}
 use Rattle.sixel_decoder.specs.inside.DcsParser.{is_failed}
 use Rattle.sixel_decoder.proofs.Sessions.{MatchBool-from_each, followed_sound, string_over}
 use Rattle.sixel_decoder.proofs.Sessions.{string_refused_with, string_same, string_within}
@@ -21,7 +22,7 @@ invariant_of-self g c =
 pub returns-in-Ok : goal.returns-in-Ok
 returns-in-Ok g c =
     let inside = c.self.inside in
-    let limit : ℕ = inside.parser.decoder.pixel_limit in
+    let limit : Limit = inside.parser.decoder.pixel_limit in
     let bytes : List ℕ = inside.log.bytes in
     let piece : List ℕ = c.args.chunk.now in
     let now : List ℕ = bytes ++ piece in
@@ -34,6 +35,7 @@ returns-in-Ok g c =
     c.self.invariant in
     record {
       start = rw (← c.self.view_is) c.in-Ok.ensures.decoder;
+      released = rw (← c.self.view_is) c.in-Ok.ensures.released;
       bytes = rw (← c.self.view_is) c.extend.ensures;
       ok = rw (← c.self.view_is) (accepted, goes.2);
       err = search rules;
@@ -54,7 +56,7 @@ pub returns-in-Err : goal.returns-in-Err
 returns-in-Err g c =
     let inside = c.self.inside in
     let error : SixelError = c.in-Err.error in
-    let limit : ℕ = inside.parser.decoder.pixel_limit in
+    let limit : Limit = inside.parser.decoder.pixel_limit in
     let bytes : List ℕ = inside.log.bytes in
     let piece : List ℕ = c.args.chunk.now in
     let now : List ℕ = bytes ++ piece in
@@ -67,6 +69,7 @@ returns-in-Err g c =
     c.self.invariant in
     record {
       start = rw (← c.self.view_is) c.in-Err.ensures.decoder;
+      released = search rules;
       bytes = rw (← c.self.view_is) c.extend.ensures;
       ok = search rules;
       err = search rules;

@@ -2,6 +2,7 @@ use Rattle.std.proofs.Common.{◌≡◌, ◌*◌, ◌≤◌, ℕ, List, Bool, tr
 use Rattle.std.specs.Prelude.{IfOk, OnOk}
 use Rattle.std.proofs.lemmas.Result.{on_ok_weaker}
 use Rattle.sixel_base.specs.Dcs.{dcs_status, has_come, has_ended}
+use Rattle.sixel_base.specs.Limits.{Limit}
 use Rattle.sixel_base.specs.OneShot.{found, found_fault}
 use Rattle.sixel_base.specs.Payload.{payload_fault}
 use Rattle.sixel_base.specs.Stroke.{Origin}
@@ -25,7 +26,7 @@ returns-then-has_come g c =
     c.in-Payload.is c.self.invariant in
     let come : has_come inside.parser.ended ≡ true =
     sym c.has_come.ensures ∙ c.if-has_come.true in
-    let limit : ℕ = inside.parser.decoder.pixel_limit in
+    let limit : Limit = inside.parser.decoder.pixel_limit in
     let same : found_fault limit (found bytes)
     ≡ payload_fault reader.origin.pixel_limit reader.bytes =
     ap (found_fault limit) (found_reading bytes reader.origin.settings reader.bytes is.reading)
@@ -43,10 +44,11 @@ returns-then-has_come g c =
           (string_decoded result reader _ _ _ more is come
           told.faultless told.image told.registers);
       area = rw (← c.self.view_is)
-          (subst (λ (o : Origin). IfOk result (λ it. it.width * it.height ≤ o.pixel_limit))
+          (subst (λ (o : Origin). IfOk result (λ it. it.width * it.height ≤ o.pixel_limit.pixels))
           is.start told.area);
       pixels = told.pixels;
       faultless = rw (← c.self.view_is, same) told.faultless;
+      whole = rw (← c.self.view_is, c.in-Payload.is) told.whole;
       accepted = rw (← c.self.view_is, c.in-Payload.is)
           (subst (λ (b : Bool). OnOk result (b ≡ false)) is.accepted told.accepted);
       ended = rw (← c.self.view_is) (on_ok_weaker result (λ _. over) told.accepted);
@@ -75,6 +77,7 @@ returns-else-has_come g c =
       pixels = search rules;
       faultless = search rules;
       accepted = search rules;
+      whole = search rules;
       ended = search rules;
       error = rw (← c.self.view_is, c.in-Payload.is, waits)
           (Faults-named c.incomplete.result false _ c.incomplete.ensures);

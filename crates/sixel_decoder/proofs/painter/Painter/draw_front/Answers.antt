@@ -39,4 +39,4 @@ returns-then-self-len-clause-draws g c = λ o h shows.
 pub returns-in-Ok-clause-draws : goal.returns-in-Ok-clause-draws
 returns-in-Ok-clause-draws g c = λ o h shows.
     subst (λ (w : History). Shows o c.draw.new.self w)
-    (sym (fold_one h c.args.bytes.now c.requires.some c.requires.sixel)) (c.in-Ok.ensures o h shows)
+    (sym (fold_one h c.args.bytes.now c.requires.some c.requires.sixel)) (c.in-Ok.ensures.draws o h shows)

@@ -1,8 +1,8 @@
 use Rattle.std.proofs.Common.{refl, arith}
 use Rattle.sixel_decoder.proofs.painter.Painter.extend.Goals as goal
 
-pub returns-in-Ok : goal.returns-in-Ok
-returns-in-Ok g c =
+pub returns-in-Ok-clause-extended : goal.returns-in-Ok-clause-extended
+returns-in-Ok-clause-extended g c =
     record {
       right = omega (arith, c.max-width.ensures, c.in-Ok.ensures.0);
       lower = omega (arith, c.max-height.ensures, c.in-Ok.ensures.1);
@@ -21,5 +21,5 @@ returns-in-Ok g c =
       drawn = refl;
     }
 
-pub returns-in-Err : goal.returns-in-Err
-returns-in-Err g c = rw (← c.max-width.ensures, ← c.max-height.ensures) c.in-Err.ensures
+pub returns-in-Err-clause-extended : goal.returns-in-Err-clause-extended
+returns-in-Err-clause-extended g c = rw (← c.max-width.ensures, ← c.max-height.ensures) c.in-Err.ensures

@@ -5,14 +5,14 @@ use Rattle.sixel_decoder.specs.inside.Runs.{runs_of}
 use Rattle.sixel_decoder.proofs.ShownRows.{drawn_fits, shown_drawn}
 use Rattle.sixel_decoder.proofs.painter.Painter.new_line.Goals as goal
 
-pub returns : goal.returns
-returns g c = λ o h shows.
+pub returns-clause-draws : goal.returns-clause-draws
+returns-clause-draws g c = λ o h shows.
     let painter = c.args.self.now in
     let is = c.new_line.ensures in
     let top = c.top-top.ensures in
     record {
       pixels = λ column row. is.shown column row ∙ shows.pixels column row;
-      paid = is.paid (runs_of h) shows.paid;
+      paid = is.paid (runs_of o.pixel_limit h) shows.paid;
       registers = shows.registers;
       color = shows.color;
       repeat = shows.repeat;

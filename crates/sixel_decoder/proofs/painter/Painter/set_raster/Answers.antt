@@ -7,9 +7,9 @@ use Rattle.sixel_decoder.specs.inside.Runs.{runs_of}
 use Rattle.sixel_decoder.proofs.RasterAttributes.{refused_raster, sound_raster}
 use Rattle.sixel_decoder.proofs.painter.Painter.set_raster.Goals as goal
 
-pub returns-in-Ok : goal.returns-in-Ok
-returns-in-Ok g c = λ o h text keeps shows.
-    let is = c.in-Ok.ensures in
+pub returns-in-Ok-clause-draws : goal.returns-in-Ok-clause-draws
+returns-in-Ok-clause-draws g c = λ o h text keeps shows.
+    let is = c.in-Ok.ensures.extended in
     let new = c.extend.new.self in
     let told = c.expect_width.ensures in
     let wide : c.get-wide.result ≡ field text 2 =
@@ -18,7 +18,7 @@ returns-in-Ok g c = λ o h text keeps shows.
     c.get-high.ensures ∙ keeps.valued 3 (omega arith) in
     record {
       pixels = λ column row. told.shown column row ∙ rw is.canvas (shows.pixels column row);
-      paid = told.paid (runs_of h) (rw is.canvas shows.paid);
+      paid = told.paid (runs_of o.pixel_limit h) (rw is.canvas shows.paid);
       registers = is.registers ∙ shows.registers;
       color = is.color ∙ shows.color;
       repeat = is.repeat ∙ shows.repeat;
@@ -39,8 +39,8 @@ returns-in-Ok g c = λ o h text keeps shows.
       faultless = sound_raster o c.args.self.now new h text _ _ shows is wide high new.area_fits;
     }
 
-pub returns-in-Err : goal.returns-in-Err
-returns-in-Err g c = λ o h text keeps shows.
+pub returns-in-Err-clause-draws : goal.returns-in-Err-clause-draws
+returns-in-Err-clause-draws g c = λ o h text keeps shows.
     refused_raster c.in-Err.error o c.args.self.now h text _ _ shows
     (c.get-wide.ensures ∙ keeps.valued 2 (omega arith))
-    (c.get-high.ensures ∙ keeps.valued 3 (omega arith)) c.in-Err.ensures
+    (c.get-high.ensures ∙ keeps.valued 3 (omega arith)) c.in-Err.ensures.extended

@@ -1,31 +1,18 @@
-use Rattle.std.proofs.Common.{arith, ◌≡◌, ℕ, ◌≤◌, List, ap, ◌∙◌, true, false, cond, refl}
-use Rattle.std.specs.Prelude.{nat_lt, ◌&&◌, if◌then◌else◌}
-use Rattle.sixel_decoder.specs.declared.painter.Painter.{Painter}
+use Rattle.std.proofs.Common.{arith, ◌≡◌, ℕ, ◌*◌, ◌≤◌, List, ap, ◌∙◌, refl}
 use Rattle.std.proofs.Math.Nat.{mul-le-mul_left}
 use Rattle.std.proofs.lemmas.Result.{err_from_is_err_and}
+use Rattle.sixel_base.specs.Clip.{clipped_pixel, clipped_width}
+use Rattle.sixel_base.specs.Limits.{Limit}
 use Rattle.sixel_base.specs.Payload.{Image, image_height}
 use Rattle.sixel_base.specs.Picture.{joined, picture}
-use Rattle.sixel_base.specs.Place.{width}
 use Rattle.sixel_base.specs.Settings.{mode_of, ratio_of}
 use Rattle.sixel_base.specs.declared.settings.BackgroundMode.{BackgroundMode}
 use Rattle.sixel_base.specs.declared.settings.PixelAspectRatio.{PixelAspectRatio}
 use Rattle.sixel_base.proofs.PictureBytes.{joined-same}
 use Rattle.sixel_base.specs.Stroke.{pixel, ratio}
-use Rattle.sixel_canvas.specs.declared.drawing.Canvas.{Ghosts}
+use Rattle.sixel_decoder.proofs.Clips.{clipped_picture}
+use Rattle.sixel_decoder.proofs.ImageAreas.{low}
 use Rattle.sixel_decoder.proofs.painter.Painter.take_image.Goals as goal
-
--- no image is higher than its painter's picture
-low : {C : Type 0} {canvas : Ghosts C} (painter : Painter C canvas) (height : ℕ)
-    → height
-    ≡ (if painter.raster_crop && nat_lt 0 painter.raster_height then painter.raster_height
-    else painter.height)
-    → height ≤ painter.height
-low painter height is =
-    (elim (painter.raster_crop && nat_lt 0 painter.raster_height) as
-    (λ t. height ≡ cond t painter.raster_height painter.height → height ≤ painter.height) [
-      | true ↦ λ cropped. omega (arith, cropped, painter.raster_fits)
-      | false ↦ λ whole. omega (arith, whole)
-    ]) is
 
 -- pictures of equal pixels
 picture-same : (f g : ℕ → ℕ → List ℕ) (width height : ℕ)
@@ -57,34 +44,42 @@ image_of-parts : (pixels pixels' : List ℕ) (width width' height height' : ℕ)
     → image_from pixels width height ratio mode ≡ image_from pixels' width' height' ratio' mode'
 image_of-parts pixels pixels' width width' height height' ratio ratio' mode mode' a b c d e = cc
 
-pub returns : goal.returns
-returns g c = λ o h shows.
+pub returns-clause-ends : goal.returns-clause-ends
+returns-clause-ends g c = λ o h shows.
     let painter = c.args.self.now in
     let height = c.image_height-height.result in
-    let tall : height ≡ image_height o.raster_crop h =
-    c.image_height-height.ensures ∙ rw (shows.crop, shows.raster_height, shows.height) refl in
+    let limit : Limit = o.pixel_limit in
+    let tall : height ≡ image_height limit o.raster_crop h =
+    c.image_height-height.ensures
+    ∙ rw (shows.crop, shows.raster_height, shows.height, shows.limit) refl in
+    let wide : painter.clipped_width ≡ clipped_width limit h =
+    painter.clipped_width_is ∙ rw (shows.width, shows.limit) refl in
+    let area_fits : painter.clipped_width * painter.clipped_height ≤ limit.pixels =
+    rw shows.limit at painter.area_fits in
     let pixels =
     c.in_ok-pixels.ensures.ok
-    ∙ picture-same (g.C.Canvas.shown painter.canvas) (pixel o h) painter.width height shows.pixels
-    ∙ ap (λ w. picture (pixel o h) w height) shows.width
-    ∙ ap (picture (pixel o h) (width h)) tall in (
+    ∙ picture-same (g.C.Canvas.shown painter.canvas) (clipped_pixel o h) painter.clipped_width
+    height shows.pixels
+    ∙ clipped_picture o h painter.clipped_width height (omega (arith, wide)) (omega (arith, tall))
+    ∙ ap (λ w. picture (pixel o h) w height) wide
+    ∙ ap (picture (pixel o h) (clipped_width limit h)) tall in (
       shows.faultless,
       image_of-parts c.in_ok-pixels.pixels.items
-          (picture (pixel o h) (width h) (image_height o.raster_crop h)) painter.width (width h)
-          height (image_height o.raster_crop h)
+          (picture (pixel o h) (clipped_width limit h) (image_height limit o.raster_crop h))
+          painter.clipped_width (clipped_width limit h)
+          height (image_height limit o.raster_crop h)
           painter.ratio (ratio (ratio_of o.settings) h) c.background_mode.result
-          (mode_of o.settings) pixels shows.width tall shows.ratio
+          (mode_of o.settings) pixels wide tall shows.ratio
           (c.background_mode.ensures ∙ ap mode_of shows.settings),
       shows.registers,
       omega (
         arith,
-        mul-le-mul_left painter.width (low painter height c.image_height-height.ensures),
-        painter.area_fits,
-        shows.limit,
+        mul-le-mul_left painter.clipped_width (low painter height c.image_height-height.ensures),
+        area_fits,
       ),
     )
 
-pub returns-in_err-pixels : goal.returns-in_err-pixels
-returns-in_err-pixels g c = λ o h shows.
+pub returns-in_err-pixels-clause-ends : goal.returns-in_err-pixels-clause-ends
+returns-in_err-pixels-clause-ends g c = λ o h shows.
     let p = err_from_is_err_and c.from_residual.result c.from_residual.ensures.1 in
     rw (p.1, p.2, shows.faultless) refl

@@ -1,4 +1,4 @@
-use Rattle.std.proofs.Common.{◌-◌, ◌≤◌, length}
+use Rattle.std.proofs.Common.{◌≡◌, ◌-◌, ◌≤◌, length}
 use Rattle.sixel_base.specs.History.{History}
 use Rattle.sixel_base.specs.Stroke.{Origin}
 use Rattle.sixel_decoder.specs.inside.PayloadParser.{Stands}
@@ -9,6 +9,8 @@ abbrev pub invariant-bytes : goal.invariant-bytes
 invariant-bytes g l =
     (l.index ≤ length l.chunk)
     × ((o : Origin) (h : History) → Stands o l.initial.self h → Reaches o l.self h l.index l.chunk)
+    × (g.C.Canvas.released l.self.painter.canvas
+    ≡ g.C.Canvas.released l.initial.self.painter.canvas)
 
 abbrev pub decreases-bytes : goal.decreases-bytes
 decreases-bytes g l = length l.chunk - l.index

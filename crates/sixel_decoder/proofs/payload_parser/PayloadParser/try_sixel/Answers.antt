@@ -28,4 +28,4 @@ returns-clause-stands g c = λ drawn o h stands.
           (sym is.newest) (w.select.ensures.shows o is.older is.text is.keeps is.shows))
     ] in
     Stands-one o _ h (c.args.byte ∷ []) ground (omega arith) c.requires
-    (c.draw_column.ensures o h shows)
+    (c.draw_column.ensures.shows o h shows)

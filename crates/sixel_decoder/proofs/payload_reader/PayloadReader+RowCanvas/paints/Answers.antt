@@ -1,8 +1,8 @@
-use Rattle.std.proofs.Common.{ℕ, List, Option, Some, refl, subst}
+use Rattle.std.proofs.Common.{ℕ, List, Some, refl, subst}
 use Rattle.sixel_base.specs.Payload.{settled}
 use Rattle.sixel_base.specs.Stroke.{Origin}
-use Rattle.sixel_decoder.specs.declared.payload_parser.PayloadParser.{PayloadParser}
-use Rattle.sixel_decoder.specs.inside.PayloadReader.{session_of, HasRead}
+use Rattle.sixel_decoder.specs.declared.payload_reader.PayloadState.{PayloadState}
+use Rattle.sixel_decoder.specs.inside.PayloadReader.{session_of, parser_of, HasRead}
 use Rattle.sixel_decoder.proofs.Chunks.{shown_settled}
 use Rattle.sixel_decoder.proofs.RunCosts.{history_cost}
 use Rattle.sixel_decoder.proofs.payload_reader.PayloadReader+RowCanvas.paints.Goals as goal
@@ -11,16 +11,16 @@ pub returns : goal.returns
 returns c =
     let inside = c.self.inside in
     let origin : Origin = (session_of inside).origin in
-    let parser = c.in-Some.parser in
+    let parser = c.in-Reading.parser in
     let bytes : List ℕ = inside.log.bytes in
     let read : HasRead (Some parser) origin inside.terminator bytes =
-    subst (λ (w : Option (PayloadParser _ _)). HasRead w origin inside.terminator bytes)
-    c.in-Some.is c.self.invariant in
+    subst (λ (w : PayloadState _ _). HasRead (parser_of w) origin inside.terminator bytes)
+    c.in-Reading.is c.self.invariant.0 in
     let shows = shown_settled origin parser inside.terminator bytes read in
     let cost =
     history_cost origin.pixel_limit parser.painter.canvas (settled bytes) shows.faultless
     shows.paid in
-    rw (← c.self.view_is, c.in-Some.is, c.paints.ensures) (record {
+    rw (← c.self.view_is, c.in-Reading.is, c.paints.ensures) (record {
       value = refl;
       at_least = λ accepted. cost.least;
       at_most = cost.most;

@@ -1,19 +1,26 @@
-use Rattle.std.proofs.Common.{Option, refl, subst}
+use Rattle.std.proofs.Common.{refl, subst}
 use Rattle.sixel_base.specs.Stroke.{Origin}
-use Rattle.sixel_decoder.specs.declared.payload_parser.PayloadParser.{PayloadParser}
-use Rattle.sixel_decoder.specs.inside.PayloadReader.{session_of, HasRead}
+use Rattle.sixel_decoder.specs.declared.payload_reader.PayloadState.{PayloadState}
+use Rattle.sixel_decoder.specs.inside.PayloadReader.{session_of, parser_of, HasRead}
 use Rattle.sixel_decoder.proofs.Chunks.{shown_settled}
 use Rattle.sixel_decoder.proofs.payload_reader.PayloadReader.size_so_far.Goals as goal
 
-pub returns-in-Some : goal.returns-in-Some
-returns-in-Some g c =
+pub returns-in-Reading : goal.returns-in-Reading
+returns-in-Reading g c =
     let inside = c.self.inside in
     let origin : Origin = (session_of inside).origin in
     let shows =
-    shown_settled origin c.in-Some.parser inside.terminator inside.log.bytes
-    (subst (λ (w : Option (PayloadParser _ _)). HasRead w origin inside.terminator inside.log.bytes)
-    c.in-Some.is c.self.invariant) in
-    rw (← c.self.view_is, c.in-Some.is) (record {
-      accepted = λ accepted. rw (shows.width, shows.height) refl;
+    shown_settled origin c.in-Reading.parser inside.terminator inside.log.bytes
+    (subst (λ (w : PayloadState _ _). HasRead (parser_of w) origin inside.terminator inside.log.bytes)
+    c.in-Reading.is c.self.invariant.0) in
+    rw (← c.self.view_is, c.in-Reading.is) (record {
+      accepted = λ accepted.
+          rw (
+            c.in-Reading.parser.painter.clipped_width_is,
+            c.in-Reading.parser.painter.clipped_height_is,
+            shows.width,
+            shows.height,
+            shows.limit,
+          ) refl;
       refused = λ is. absurd cc;
     })

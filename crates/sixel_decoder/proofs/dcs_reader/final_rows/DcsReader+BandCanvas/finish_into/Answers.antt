@@ -3,6 +3,7 @@ use Rattle.std.proofs.Common.{subst}
 use Rattle.sixel_base.specs.Dcs.{after_terminator, dcs_status, end_fault, has_come, has_ended}
 use Rattle.sixel_base.specs.Bytes.{first_terminator}
 use Rattle.sixel_base.specs.Fault.{Fault, StreamFailed}
+use Rattle.sixel_base.specs.Limits.{Limit}
 use Rattle.sixel_base.specs.OneShot.{Found, Payload, found}
 use Rattle.sixel_base.specs.Payload.{fed_fault, payload_fault}
 use Rattle.sixel_base.specs.Stroke.{Origin}
@@ -31,7 +32,7 @@ string_copied : (reader : Session) (decoder : DecoderState) (ended : Option Sixe
     → IsImageCopied decoder (found bytes) (end_fault (dcs_status bytes))
     first rows layout old new result
 string_copied reader decoder ended bytes first rows layout old new result is come told =
-    let limit : ℕ = reader.origin.pixel_limit in
+    let limit : Limit = reader.origin.pixel_limit in
     let payload : Found = Payload reader.origin.settings reader.bytes in
     let fault : Option Fault =
     last_fault reader.is_refused StreamFailed (payload_fault limit reader.bytes) in

@@ -1,0 +1,98 @@
+use Rattle.std.proofs.Common.{◌≡◌, ◌∙◌, ℕ, List, true, false, min, refl, sym, ap, arith}
+use Rattle.std.specs.Prelude.{◌&&◌, if◌then◌else◌}
+use Rattle.std.proofs.lemmas.Bool.{le-ltb, lt-ltb}
+use Rattle.sixel_base.specs.Clip.{clipped_bits, is_pixel_inside}
+use Rattle.sixel_base.specs.Limits.{Limit}
+use Rattle.sixel_base.specs.Picture.{covers}
+use Rattle.sixel_decoder.specs.inside.Painter.{IsDrawnInside}
+use Rattle.sixel_decoder.proofs.Clips.{covers_clipped, covers_outside}
+use Rattle.sixel_decoder.proofs.painter.Painter.draw_inside.Goals as goal
+use Rattle.sixel_decoder.proofs.painter.Painter.draw_inside.Goals.{
+  then-from-columns+then-top-rows+in_ok-draw,
+}
+use Rattle.sixel_decoder.proofs.painter.Painter.draw_inside.Goals.{else-from-columns}
+use Rattle.sixel_decoder.proofs.painter.Painter.draw_inside.Goals.{
+  else-from-columns-via-then-from-columns+else-top-rows,
+}
+use Rattle.sixel_decoder.proofs.painter.Painter.draw_inside.Goals.{
+  else-from-columns-via-else-from-columns,
+}
+
+pub returns : goal.returns
+returns g c =
+    let old = c.args.self.now in
+    let limit : Limit = old.pixel_limit in
+    let top : ℕ = g.C.Canvas.top old.canvas in
+    let top_is : c.top-top.result ≡ top = c.top-top.ensures in
+    let columns_is : c.columns-columns.result ≡ limit.columns = c.columns-columns.ensures.value in
+    let rows_is : c.rows-rows.result ≡ limit.rows = c.rows-rows.ensures.value in
+    elim c.if-from-columns.branch [
+      | then-from-columns+then-top-rows+in_ok-draw w ↦
+          let inside : is_pixel_inside limit c.args.from top ≡ true =
+          rw (
+            lt-ltb c.args.from limit.columns (omega (arith, w.if-from-columns.true, columns_is)),
+            lt-ltb top limit.rows (omega (arith, w.if-top-rows.true, rows_is, top_is)),
+          ) refl in
+          let bits : w.clipped_bits-bits.result ≡ clipped_bits limit top c.args.bits =
+          w.clipped_bits-bits.ensures.value limit (sym rows_is)
+          ∙ ap (λ (n : ℕ). clipped_bits limit n c.args.bits) top_is in
+          let right : w.min.result ≡ min c.args.right limit.columns =
+          w.min.ensures ∙ ap (min c.args.right) columns_is in
+          let drawn = w.in_ok-draw.ensures in
+          rw w.self-is (record {
+            pixels = λ column row.
+                drawn.drawn column row
+                ∙ rw (
+                  right,
+                  bits,
+                  covers_clipped limit c.args.from c.args.right top c.args.bits column row,
+                ) refl;
+            top = drawn.top;
+            paid = λ runs paid. rw (inside, ← right, ← bits) (drawn.paid runs paid);
+            drawn = λ row. w.add.ensures row ∙ rw (inside, bits) refl;
+            released = drawn.released;
+            registers = refl;
+            settings = refl;
+            crop = refl;
+            limit = refl;
+            ratio = refl;
+            color = refl;
+            repeat = refl;
+            column = refl;
+            width = refl;
+            height = refl;
+            raster_height = refl;
+          })
+      | else-from-columns w ↦
+          let outside : is_pixel_inside limit c.args.from top ≡ false =
+          elim w.else-from-columns.branch [
+            | else-from-columns-via-then-from-columns+else-top-rows v ↦ rw (
+              lt-ltb c.args.from limit.columns (omega (arith, v.if-from-columns.true, columns_is)),
+              le-ltb top limit.rows (omega (arith, v.if-top-rows.false, rows_is, top_is)),
+            ) refl
+            | else-from-columns-via-else-from-columns v ↦ rw
+                (le-ltb c.args.from limit.columns
+                (omega (arith, v.if-from-columns.false, columns_is))) refl
+          ] in
+          rw w.self-is (record {
+            pixels = λ column row.
+                let none =
+                covers_outside limit c.args.from c.args.right top c.args.bits column row outside in
+                rw none refl;
+            top = refl;
+            paid = λ runs paid. rw outside paid;
+            drawn = λ row. rw outside refl;
+            released = refl;
+            registers = refl;
+            settings = refl;
+            crop = refl;
+            limit = refl;
+            ratio = refl;
+            color = refl;
+            repeat = refl;
+            column = refl;
+            width = refl;
+            height = refl;
+            raster_height = refl;
+          })
+    ]
