@@ -14,6 +14,7 @@ use Rattle.sixel_base.specs.Status.{status_of}
 use Rattle.sixel_base.specs.Dcs.{dcs_status}
 use Rattle.sixel_base.specs.Dcs as strings
 use Rattle.icy_sixel.specs.declared.script.Status.TheVariants.{Payload, Dcs}
+use Rattle.sixel_base.specs.Limits.{Limit}
 use Rattle.icy_sixel.specs.Receiver.{Form, Nothing, OfPayload, OfString, count, status, fault}
 use Rattle.icy_sixel.specs.Receiver.{growths, is_over, end_fault, end_wants}
 use Rattle.icy_sixel.specs.inside.Session.{IsWhole, has_ended}
@@ -33,7 +34,7 @@ rejoined before chunk after left rest bytes fed split joined =
 
 -- ---- what a beginning is rejected for is what all bytes are rejected for
 
-refused : (e : SixelError) (limit : ℕ) (form : Form) (fed left bytes : List ℕ) (n : ℕ)
+refused : (e : SixelError) (limit : Limit) (form : Form) (fed left bytes : List ℕ) (n : ℕ)
     → fed ++ left ≡ bytes
     → Faults e (nat_lt n (growths form fed)) (fault limit form fed)
     → Faults e (nat_lt 0 (growths form bytes)) (fault limit form bytes)
@@ -46,7 +47,7 @@ refused e limit (OfPayload settings) fed left bytes n joined is =
 refused e limit OfString fed left bytes n joined is =
     string_refused e limit fed left bytes n joined is
 
-pub refusal : (R : Type 0) (result : Result R SixelError) (limit : ℕ) (form : Form)
+pub refusal : (R : Type 0) (result : Result R SixelError) (limit : Limit) (form : Form)
     (fed left bytes : List ℕ) (n : ℕ) → fed ++ left ≡ bytes
     → IfErr result (λ e. Faults e (nat_lt n (growths form fed)) (fault limit form fed))
     → IfErr result (λ e. Faults e (nat_lt 0 (growths form bytes)) (fault limit form bytes))
@@ -57,7 +58,7 @@ refusal R (Err e) limit form fed left bytes n joined is =
 -- ---- what follows the end of an image means nothing
 
 -- these bytes mean the same image
-pub record IsSame (limit : ℕ) (form : Form) (fed bytes : List ℕ) : Type 0 where
+pub record IsSame (limit : Limit) (form : Form) (fed bytes : List ℕ) : Type 0 where
   pub counted : count form fed ≡ count form bytes
   pub stands : status form fed ≡ status form bytes
   pub faults : fault limit form fed ≡ fault limit form bytes
@@ -68,7 +69,7 @@ terminator_of : (o : Option ℕ) → is_some o ≡ true → (t : ℕ) × (o ≡ 
 terminator_of None is = absurd cc
 terminator_of (Some t) is = (t, refl)
 
-ended : (limit : ℕ) (form : Form) (fed left : List ℕ) → is_over form fed ≡ true
+ended : (limit : Limit) (form : Form) (fed left : List ℕ) → is_over form fed ≡ true
     → IsSame limit form fed (fed ++ left)
 ended limit Nothing fed left over = absurd cc
 ended limit (OfPayload settings) fed left over =
@@ -96,7 +97,7 @@ ended limit OfString fed left over =
 all_fed : (fed left bytes : List ℕ) → fed ++ left ≡ bytes → left ≡ [] → fed ≡ bytes
 all_fed fed left bytes joined none = sym (append-nil fed) ∙ (ap (λ w. fed ++ w) (sym none) ∙ joined)
 
-pub same : (limit : ℕ) (form : Form) (fed bytes : List ℕ) → IsWhole form fed bytes
+pub same : (limit : Limit) (form : Form) (fed bytes : List ℕ) → IsWhole form fed bytes
     → IsSame limit form fed bytes
 same limit form fed bytes whole =
     elim whole.over [

@@ -2,12 +2,18 @@
 use Rattle.std.proofs.Common.{◌≡◌, ℕ, ◌<◌, ◌≤◌, List, ◌++◌, refl, ap, sym, ◌∙◌, subst, arith}
 use Rattle.sixel_base.specs.Decoder.{origin_of}
 use Rattle.sixel_base.specs.OneShot.{Found, Payload, NoPayload, IsFoundImage}
-use Rattle.sixel_base.specs.Payload.{Image, settled}
+use Rattle.sixel_base.specs.Bytes.{front}
+use Rattle.sixel_base.specs.Clip.{clipped_width}
+use Rattle.sixel_base.specs.History.{History, history_of}
+use Rattle.sixel_base.specs.Limits.{Limit}
+use Rattle.sixel_base.specs.Payload.{Image, image_height, settled}
 use Rattle.sixel_base.specs.Picture.{picture}
+use Rattle.sixel_base.specs.Stroke.{Origin}
 use Rattle.sixel_base.specs.declared.state.DecoderState.{DecoderState}
 use Rattle.sixel_decoder.specs.CopiedImage.{found_pixel}
 use Rattle.sixel_decoder.specs.FinalRows.{stage_final_rows}
 use Rattle.sixel_decoder.specs.FinalRows as rows
+use Rattle.sixel_decoder.proofs.Clips.{clipped_picture}
 use Rattle.sixel_decoder.proofs.DcsPayloads.{found_reading}
 use Rattle.sixel_decoder.proofs.FinalRows.{final_rows_stay, final_pixels_stay}
 use Rattle.sixel_decoder.proofs.FinalRows.{dcs_final_rows_stay, has_begun}
@@ -15,23 +21,24 @@ use Rattle.sixel_decoder.proofs.Terminators.{stage_reading}
 use Rattle.icy_sixel.specs.FinalRows.{final_rows, pixel_so_far}
 use Rattle.icy_sixel.specs.Receiver.{Form, Nothing, OfPayload, OfString}
 
-pub rows_stay : (form : Form) (bytes more : List ℕ)
-    → final_rows form bytes ≤ final_rows form (bytes ++ more)
-rows_stay Nothing bytes more = omega arith
-rows_stay (OfPayload settings) bytes more = final_rows_stay bytes more
-rows_stay OfString bytes more = dcs_final_rows_stay bytes more
+pub rows_stay : (limit : Limit) (form : Form) (bytes more : List ℕ)
+    → final_rows limit form bytes ≤ final_rows limit form (bytes ++ more)
+rows_stay limit Nothing bytes more = omega arith
+rows_stay limit (OfPayload settings) bytes more = final_rows_stay limit bytes more
+rows_stay limit OfString bytes more = dcs_final_rows_stay limit bytes more
 
 pub pixels_stay : (start : DecoderState) (form : Form) (bytes more : List ℕ) (column row : ℕ)
-    → row < final_rows form bytes
+    → row < final_rows start.pixel_limit form bytes
     → pixel_so_far start form (bytes ++ more) column row ≡ pixel_so_far start form bytes column row
 pixels_stay start Nothing bytes more column row final = refl
 pixels_stay start (OfPayload settings) bytes more column row final =
     final_pixels_stay (origin_of start settings) bytes more column row final
 pixels_stay start OfString bytes more column row final =
-    let begun = has_begun bytes (omega (arith, final)) in
+    let limit : Limit = start.pixel_limit in
+    let begun = has_begun limit bytes (omega (arith, final)) in
     let on = stage_reading bytes more begun.settings begun.payload begun.reading in
-    let above : row < rows.final_rows (settled begun.payload) =
-    omega (arith, final, ap stage_final_rows begun.reading) in
+    let above : row < rows.final_rows limit (settled begun.payload) =
+    omega (arith, final, ap (stage_final_rows limit) begun.reading) in
     ap (λ (f : Found). found_pixel start f column row)
     (found_reading (bytes ++ more) begun.settings (begun.payload ++ more) on)
     ∙ final_pixels_stay (origin_of start begun.settings) begun.payload more column row above
@@ -43,6 +50,10 @@ pub image_pixels : (start : DecoderState) (payload : Found) (image : Image)
     → IsFoundImage start payload image
     → image.pixels ≡ picture (found_pixel start payload) image.width image.height
 image_pixels start (Payload settings bytes) image is =
+    let origin : Origin = origin_of start settings in
+    let h : History = history_of (front bytes) in
     subst (λ (i : Image).
-    i.pixels ≡ picture (found_pixel start (Payload settings bytes)) i.width i.height) (sym is) refl
+    i.pixels ≡ picture (found_pixel start (Payload settings bytes)) i.width i.height) (sym is)
+    (sym (clipped_picture origin h (clipped_width start.pixel_limit h)
+    (image_height start.pixel_limit start.raster_crop h) (omega arith) (omega arith)))
 image_pixels start (NoPayload fault) image is = absurd is

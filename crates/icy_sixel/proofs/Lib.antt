@@ -1,6 +1,7 @@
 pub mod Bands
 pub mod Chunks
 pub mod FinalRows
+pub mod PartialPayloads
 pub mod Outcomes
 pub mod RegisterRange
 pub mod Steps

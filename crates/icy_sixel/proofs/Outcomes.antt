@@ -14,6 +14,7 @@ use Rattle.sixel_base.specs.Stroke.{registers}
 use Rattle.sixel_base.specs.Dcs.{dcs_status, dcs_fault, dcs_growths, has_ended}
 use Rattle.sixel_base.specs.Dcs as strings
 use Rattle.sixel_base.specs.OneShot.{Found, IsDecodedAs, IsFoundImage, AreFoundRegisters}
+use Rattle.sixel_base.specs.Limits.{Limit}
 use Rattle.sixel_base.specs.OneShot as one_shot
 use Rattle.icy_sixel.specs.declared.script.End.{End}
 use Rattle.icy_sixel.specs.declared.script.End.TheVariants.{Finish, Abort}
@@ -35,7 +36,7 @@ use Rattle.icy_sixel.proofs.Chunks.{same, front_whole}
 -- ---- a session that is rejected as it is fed
 
 -- it would be rejected as it is finished
-fed_fails : (e : SixelError) (limit : ℕ) (form : Form) (bytes : List ℕ)
+fed_fails : (e : SixelError) (limit : Limit) (form : Form) (bytes : List ℕ)
     → Faults e (nat_lt 0 (growths form bytes)) (fault limit form bytes)
     → Faults e (is_none (whole_fault limit form bytes) || nat_lt 0 (growths form bytes))
     (whole_fault limit form bytes)
@@ -74,7 +75,7 @@ ended_wants true grows is = refl
 ended_wants false grows is = absurd cc
 
 -- what is rejected as it is finished, though no feed was
-end_fails : (e : SixelError) (limit : ℕ) (form : Form) (bytes : List ℕ)
+end_fails : (e : SixelError) (limit : Limit) (form : Form) (bytes : List ℕ)
     → fault limit form bytes ≡ None
     → Faults e (end_wants limit form bytes) (end_fault limit form bytes)
     → Faults e (is_none (whole_fault limit form bytes) || nat_lt 0 (growths form bytes))
@@ -98,7 +99,7 @@ end_fails e limit OfString bytes sound refused =
     (sym sound) may
 
 -- what is finished is sound
-end_sound : (limit : ℕ) (form : Form) (bytes : List ℕ) → fault limit form bytes ≡ None
+end_sound : (limit : Limit) (form : Form) (bytes : List ℕ) → fault limit form bytes ≡ None
     → end_fault limit form bytes ≡ None → whole_fault limit form bytes ≡ None
 end_sound limit Nothing bytes sound ends = ends
 end_sound limit (OfPayload settings) bytes sound ends = ends
@@ -142,7 +143,7 @@ pub finishes : (answer : Result SixelImage SixelError) (outcome : Outcome)
     → IsSessionOutcome before (meaning before.pixel_limit form bytes) Finish outcome after
 finishes (Ok image) outcome before after form fed bytes consumed status is whole sound counted
     stands decoded ends refused set kept =
-    let limit : ℕ = before.pixel_limit in
+    let limit : Limit = before.pixel_limit in
     let ended : end_fault limit form bytes ≡ None =
     sym (same limit form fed bytes whole).ends ∙ ends in
     let drawn =
@@ -153,7 +154,7 @@ finishes (Ok image) outcome before after form fed bytes consumed status is whole
     (end_sound limit form bytes sound ended, counted, stands, drawn.0, drawn.1, set)
 finishes (Err e) outcome before after form fed bytes consumed status is whole sound counted stands
     decoded ends refused set kept =
-    let limit : ℕ = before.pixel_limit in
+    let limit : Limit = before.pixel_limit in
     let one = same limit form fed bytes whole in
     let here : Faults e (end_wants limit form bytes) (end_fault limit form bytes) =
     rw (sym one.wants, sym one.ends) refused in

@@ -1,6 +1,7 @@
 pub mod FinalRows
 pub mod ImageView
 pub mod Script
+pub mod PartialImages
 pub mod Receiver
 pub mod ReceiverCalls
 pub mod Registers

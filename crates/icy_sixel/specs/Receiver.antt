@@ -17,6 +17,7 @@ use Rattle.sixel_base.specs.Dcs.{dcs_count, dcs_status, dcs_fault, dcs_growths}
 use Rattle.sixel_base.specs.Dcs.{dcs_in_payload, dcs_size, has_ended}
 use Rattle.sixel_base.specs.Dcs as strings
 use Rattle.sixel_base.specs.Status.{status_of}
+use Rattle.sixel_base.specs.Limits.{Limit}
 use Rattle.sixel_base.specs.OneShot.{Found, Payload, NoPayload}
 use Rattle.sixel_base.specs.OneShot as one_shot
 use Rattle.sixel_base.specs.Reach as reach
@@ -30,8 +31,9 @@ pub data Form : Type 0 where
   OfString : Form
 
 -- The image that is open: its form, the decoder that it began from, the bytes fed, whether a feed
--- was rejected, the capacity of its canvas in pixels beside the image, and how many columns and
--- tags sixels have painted at most.
+-- was rejected, the capacity of its canvas in pixels beside the image, how many columns and tags
+-- sixels have painted at most, how many rows from the top were released, whether it keeps the picture
+-- of the tokens before a fault, and whether it has one.
 pub record Reception : Type 0 where
   pub form : Form
   pub start : DecoderState
@@ -39,11 +41,23 @@ pub record Reception : Type 0 where
   pub is_refused : Bool
   pub room : ℕ
   pub paints : ℕ
+  pub released : ℕ
+  pub keeps_partial : Bool
+  pub has_partial : Bool
 
--- a decoder, and the image that it is receiving
+-- a decoder, the image that it is receiving, and whether a payload that is begun keeps the picture of
+-- the tokens before a fault
 pub record Receiver : Type 0 where
   pub decoder : DecoderState
   pub image : Reception
+  pub keeps_partial : Bool
+
+-- whether an image of this form keeps the picture of the tokens before a fault: a DCS sequence keeps
+-- none
+abbrev pub keeps : Form → Bool → Bool
+keeps Nothing setting = false
+keeps (OfPayload settings) setting = setting
+keeps OfString setting = false
 
 -- if none is open, every call fails
 abbrev pub no_image : Reception
@@ -54,17 +68,27 @@ no_image = record {
   is_refused = true;
   room = 0;
   paints = 0;
+  released = 0;
+  keeps_partial = false;
+  has_partial = false;
 }
 
+-- a receiver that was only given its decoder
+abbrev pub idle : DecoderState → Receiver
+idle decoder = record { decoder = decoder; image = no_image; keeps_partial = false }
+
 -- an image that was fed nothing
-abbrev pub begun : Form → DecoderState → Reception
-begun form decoder = record {
+abbrev pub begun : Form → DecoderState → Bool → Reception
+begun form decoder setting = record {
   form = form;
   start = decoder;
   bytes = [];
   is_refused = false;
   room = 0;
   paints = 0;
+  released = 0;
+  keeps_partial = keeps form setting;
+  has_partial = false;
 }
 
 abbrev pub is_open : Form → Bool
@@ -90,7 +114,7 @@ is_over (OfPayload settings) bytes = is_terminated bytes
 is_over OfString bytes = has_ended (dcs_status bytes)
 
 -- what is wrong with the bytes so far
-abbrev pub fault : ℕ → Form → List ℕ → Option Fault
+abbrev pub fault : Limit → Form → List ℕ → Option Fault
 fault limit Nothing bytes = None
 fault limit (OfPayload settings) bytes = fed_fault limit bytes
 fault limit OfString bytes = dcs_fault limit bytes
@@ -102,16 +126,16 @@ growths (OfPayload settings) bytes = payloads.growths (settled bytes)
 growths OfString bytes = dcs_growths bytes
 
 -- the right edges of the bands of its closed sixels, together
-abbrev pub band_columns : Form → List ℕ → ℕ
-band_columns Nothing bytes = 0
-band_columns (OfPayload settings) bytes = paints.band_columns (settled bytes)
-band_columns OfString bytes = paints.dcs_band_columns bytes
+abbrev pub band_columns : Limit → Form → List ℕ → ℕ
+band_columns limit Nothing bytes = 0
+band_columns limit (OfPayload settings) bytes = paints.band_columns limit (settled bytes)
+band_columns limit OfString bytes = paints.dcs_band_columns limit bytes
 
 -- for how many pixels its canvas has capacity at most beside the image
-abbrev pub band_room : Form → List ℕ → ℕ
-band_room Nothing bytes = 0
-band_room (OfPayload settings) bytes = paints.band_room (settled bytes)
-band_room OfString bytes = paints.dcs_band_room bytes
+abbrev pub band_room : Limit → Form → List ℕ → ℕ
+band_room limit Nothing bytes = 0
+band_room limit (OfPayload settings) bytes = paints.band_room limit (settled bytes)
+band_room limit OfString bytes = paints.dcs_band_room limit bytes
 
 -- how many closed sixels it has
 abbrev pub sixels : Form → List ℕ → ℕ
@@ -126,16 +150,16 @@ in_payload (OfPayload settings) bytes = true
 in_payload OfString bytes = dcs_in_payload bytes
 
 -- the width and the height that the picture has so far
-abbrev pub size : Form → List ℕ → Option (ℕ × ℕ)
-size Nothing bytes = None
-size (OfPayload settings) bytes = Some (reach.size (settled bytes))
-size OfString bytes = dcs_size bytes
+abbrev pub size : Limit → Form → List ℕ → Option (ℕ × ℕ)
+size limit Nothing bytes = None
+size limit (OfPayload settings) bytes = Some (reach.size limit (settled bytes))
+size limit OfString bytes = dcs_size limit bytes
 
 -- the last row with a set pixel, plus one, or 0 if there is none
-abbrev pub drawn_height : Form → List ℕ → ℕ
-drawn_height Nothing bytes = 0
-drawn_height (OfPayload settings) bytes = payload_drawn_height bytes
-drawn_height OfString bytes = dcs_drawn_height bytes
+abbrev pub drawn_height : Limit → Form → List ℕ → ℕ
+drawn_height limit Nothing bytes = 0
+drawn_height limit (OfPayload settings) bytes = payload_drawn_height limit bytes
+drawn_height limit OfString bytes = dcs_drawn_height limit bytes
 
 -- the payload that is drawn
 abbrev pub found : Form → List ℕ → Found
@@ -150,13 +174,13 @@ found_followed (OfPayload settings) bytes more = Payload settings bytes
 found_followed OfString bytes more = one_shot.found (bytes ++ more)
 
 -- why its image is rejected, if no feed was
-abbrev pub end_fault : ℕ → Form → List ℕ → Option Fault
+abbrev pub end_fault : Limit → Form → List ℕ → Option Fault
 end_fault limit Nothing bytes = Some StreamFailed
 end_fault limit (OfPayload settings) bytes = payload_fault limit bytes
 end_fault limit OfString bytes = strings.end_fault (dcs_status bytes)
 
 -- whether its image can fail because an allocation fails
-abbrev pub end_wants : ℕ → Form → List ℕ → Bool
+abbrev pub end_wants : Limit → Form → List ℕ → Bool
 end_wants limit Nothing bytes = false
 end_wants limit (OfPayload settings) bytes = is_none (payload_fault limit bytes)
 end_wants limit OfString bytes = has_ended (dcs_status bytes)

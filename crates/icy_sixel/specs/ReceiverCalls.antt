@@ -10,6 +10,7 @@ use Rattle.sixel_base.specs.Fault.{Faults, IsFault}
 use Rattle.sixel_base.specs.OneShot.{found_fault, IsFoundImage, AreFoundRegisters, IsDecodedAs}
 use Rattle.sixel_base.specs.Payload.{payload_fault, payload_wants}
 use Rattle.sixel_base.specs.Settings.{Settings}
+use Rattle.sixel_decoder.specs.PartialCalls.{is_kept}
 use Rattle.icy_sixel.specs.ImageView.{image_value}
 use Rattle.icy_sixel.specs.Receiver.{Form, Receiver, Reception, OfPayload, OfString, no_image}
 use Rattle.icy_sixel.specs.Receiver as receivers
@@ -21,7 +22,9 @@ pub record IsBegun (old new : Receiver) (form : Form) : Type 0 where
   -- the decoder stays
   pub decoder : new.decoder ≡ old.decoder
   -- the image was fed nothing, and begins from the decoder
-  pub image : new.image ≡ receivers.begun form old.decoder
+  pub image : new.image ≡ receivers.begun form old.decoder old.keeps_partial
+  -- the setting stays
+  pub setting : new.keeps_partial ≡ old.keeps_partial
 
 -- The open image reads the chunk, or is rejected.
 pub record IsFed (old new : Receiver) (chunk : List ℕ)
@@ -32,6 +35,10 @@ pub record IsFed (old new : Receiver) (chunk : List ℕ)
   pub form : new.image.form ≡ old.image.form
   -- the decoder that the image began from stays
   pub start : new.image.start ≡ old.image.start
+  -- a feed releases no row
+  pub released : OnOk result (new.image.released ≡ old.image.released)
+  -- the setting stays
+  pub setting : new.keeps_partial ≡ old.keeps_partial
   -- the chunk follows the bytes so far
   pub bytes : receivers.is_open old.image.form ≡ true
       → new.image.bytes ≡ old.image.bytes ++ chunk
@@ -91,6 +98,14 @@ pub record IsFed (old new : Receiver) (chunk : List ℕ)
       → Faults error (nat_lt 0 (dcs_growths (new.image.bytes ++ more)))
       (dcs_fault old.image.start.pixel_limit (new.image.bytes ++ more))
 
+-- What a feed leaves of a rejected image: the setting that it began with stays, and a fault of the
+-- data leaves the picture of the tokens before it, for good.
+pub record KeepsPartial (old new : Reception) (result : Result Received SixelError)
+    : Type 0 where
+  pub setting : new.keeps_partial ≡ old.keeps_partial
+  pub first : old.is_refused ≡ false → new.has_partial ≡ is_kept old.keeps_partial result
+  pub later : old.is_refused ≡ true → new.has_partial ≡ old.has_partial
+
 -- The open image ends, and the decoder has the registers after it; or the call reports an error.
 pub record IsFinished (old new : Receiver) (result : Result SixelImage SixelError) : Type 0 where
   -- no image is open then
@@ -107,17 +122,21 @@ pub record IsFinished (old new : Receiver) (result : Result SixelImage SixelErro
       (image_value image) new.decoder.registers)
   -- the area is within the limit
   pub area : IfOk result (λ image.
-      image.width * image.height ≤ old.image.start.pixel_limit)
+      image.width * image.height ≤ old.image.start.pixel_limit.pixels)
   -- each pixel takes four bytes
   pub pixels : IfOk result (λ image.
       length image.pixels.items ≡ 4 * (image.width * image.height))
   -- crop and limit of the decoder stay
   pub set : IsSetAs old.decoder new.decoder
+  -- the setting stays
+  pub setting : new.keeps_partial ≡ old.keeps_partial
   -- a payload with an image has no fault
   pub faultless : OnOk result (found_fault old.image.start.pixel_limit
       (receivers.found old.image.form old.image.bytes) ≡ None)
   -- a rejected image is never returned
   pub accepted : OnOk result (old.image.is_refused ≡ false)
+  -- an image of which rows were released is never returned
+  pub whole : OnOk result (old.image.released ≡ 0)
   -- a DCS sequence has an image only once it has ended
   pub ended : OnOk result (receivers.end_fault old.image.start.pixel_limit
       old.image.form old.image.bytes ≡ None)
@@ -143,6 +162,8 @@ pub record IsAborted (old new : Receiver) : Type 0 where
   pub decoder : new.decoder ≡ old.decoder
   -- no image is open then
   pub closed : new.image ≡ no_image
+  -- the setting stays
+  pub setting : new.keeps_partial ≡ old.keeps_partial
 
 -- Sixels of the open image have painted at most this number of columns and tags. A tag is the color
 -- of 128 columns of a row.
@@ -150,23 +171,25 @@ pub record IsPaintCount (image : Reception) (paints : ℕ) : Type 0 where
   -- the number that contracts see of the image
   pub value : paints ≡ image.paints
   -- at most the columns of all bands, and a constant for each closed sixel
-  pub at_most : paints ≤ receivers.band_columns image.form image.bytes
+  pub at_most : paints ≤ receivers.band_columns image.start.pixel_limit image.form image.bytes
       + receivers.most_run_paints * receivers.sixels image.form image.bytes
   -- beside the image its canvas has capacity for at most this number of pixels
-  pub room : image.room ≤ receivers.band_room image.form image.bytes
+  pub room : image.room ≤ receivers.band_room image.start.pixel_limit image.form image.bytes
   -- a rejected image has no canvas
   pub refused : image.is_refused ≡ true → paints ≡ 0
 
 -- The open image has this size so far.
 pub record IsSizeSoFar (image : Reception) (answer : Option (ℕ × ℕ)) : Type 0 where
   -- width and height of the closed sixels and raster attributes, once the payload has begun
-  pub accepted : image.is_refused ≡ false → answer ≡ receivers.size image.form image.bytes
+  pub accepted : image.is_refused ≡ false
+      → answer ≡ receivers.size image.start.pixel_limit image.form image.bytes
   -- a rejected image has none
   pub refused : image.is_refused ≡ true → answer ≡ None
 
 -- The last row of the open image with a set pixel, plus one, or 0 if there is none.
 pub record IsDrawnHeight (image : Reception) (rows : ℕ) : Type 0 where
   -- that of the finished image, because an open command sets no pixel
-  pub accepted : image.is_refused ≡ false → rows ≡ receivers.drawn_height image.form image.bytes
+  pub accepted : image.is_refused ≡ false
+      → rows ≡ receivers.drawn_height image.start.pixel_limit image.form image.bytes
   -- a rejected image has none
   pub refused : image.is_refused ≡ true → rows ≡ 0

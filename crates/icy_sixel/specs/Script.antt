@@ -5,7 +5,7 @@ use Rattle.std.specs.Prelude.{ℕ, ◌≡◌, Bool, nat_lt, ◌||◌, List, [], 
 use Rattle.std.specs.Option.{option_or}
 use Rattle.sixel_base.specs.Bytes.{count, first_terminator}
 use Rattle.sixel_base.specs.Color.{default_registers}
-use Rattle.sixel_base.specs.Decoder.{limit_of, IsSetAs}
+use Rattle.sixel_base.specs.Decoder.{with_clip, with_pixel_limit, IsSetAs}
 use Rattle.sixel_base.specs.declared.state.DecoderState.{DecoderState}
 use Rattle.sixel_base.specs.Fault.{Fault, Faults}
 use Rattle.sixel_base.specs.Payload.{fed_fault, payload_fault, settled, growths}
@@ -20,6 +20,7 @@ use Rattle.icy_sixel.specs.declared.script.Outcome.{Outcome}
 use Rattle.icy_sixel.specs.declared.script.Outcome.TheVariants.{Reset, Changed, Failed, Finished}
 use Rattle.icy_sixel.specs.declared.script.Outcome.TheVariants.{Aborted, Decoded}
 use Rattle.sixel_base.specs.Dcs.{dcs_count, dcs_status, dcs_fault, dcs_growths, end_fault}
+use Rattle.sixel_base.specs.Limits.{Limit}
 use Rattle.sixel_base.specs.Status.{status_of}
 use Rattle.icy_sixel.specs.ImageView.{image_value}
 use Rattle.sixel_base.specs.OneShot.{Found, Payload, found, found_fault, found_wants, IsFoundImage}
@@ -36,7 +37,7 @@ pub record Meaning : Type 0 where
   pub grows : Bool
   pub drawn : Found
 
-abbrev pub frame_meaning : ℕ → Settings → List ℕ → Meaning
+abbrev pub frame_meaning : Limit → Settings → List ℕ → Meaning
 frame_meaning limit settings bytes = record {
   consumed = count bytes;
   status = statuses.Payload (status_of (first_terminator bytes));
@@ -46,7 +47,7 @@ frame_meaning limit settings bytes = record {
   drawn = Payload settings bytes;
 }
 
-abbrev pub string_meaning : ℕ → List ℕ → Meaning
+abbrev pub string_meaning : Limit → List ℕ → Meaning
 string_meaning limit bytes = record {
   consumed = dcs_count bytes;
   status = statuses.Dcs (dcs_status bytes);
@@ -94,7 +95,9 @@ IsOutcome before steps.Reset outcome after =
 IsOutcome before (steps.RasterCrop on) outcome after =
     (outcome ≡ Changed) × (after ≡ record before { raster_crop = on })
 IsOutcome before (steps.PixelLimit pixels) outcome after =
-    (outcome ≡ Changed) × (after ≡ record before { pixel_limit = limit_of pixels })
+    (outcome ≡ Changed) × (after ≡ with_pixel_limit before pixels)
+IsOutcome before (steps.Clip width height) outcome after =
+    (outcome ≡ Changed) × (after ≡ with_clip before width height)
 IsOutcome before (steps.Frame settings bytes cuts ending) outcome after =
     IsSessionOutcome before (frame_meaning before.pixel_limit settings bytes.now) ending outcome
     after

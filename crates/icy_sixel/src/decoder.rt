@@ -8,7 +8,8 @@
 ghost use Rattle.std.specs.Prelude.{◌≡◌, ◌≤◌, [], length, slice_index_or, slice_set, IsOk};
 ghost use Rattle.std.specs.Prelude.{OnOk, OnErr, IfOk};
 ghost use Rattle.sixel_base.specs.Color.{default_registers};
-ghost use Rattle.sixel_base.specs.Decoder.{IsSetAs, limit_of, new_decoder, origin_of};
+ghost use Rattle.sixel_base.specs.Decoder.{IsSetAs, new_decoder, origin_of};
+ghost use Rattle.sixel_base.specs.Decoder.{with_clip, with_pixel_limit};
 ghost use Rattle.sixel_base.specs.Limits.{area_limit};
 ghost use Rattle.sixel_base.specs.OneShot.{found, Payload, AreFoundRegisters};
 ghost use Rattle.sixel_base.specs.Payload.{payload_registers};
@@ -26,7 +27,7 @@ pub use dcs_session::SixelDcsStreamDecoder;
 use sixel_base::Result;
 use sixel_base::registers::{REGISTERS, Registers};
 pub use sixel_base::settings::DcsSettings;
-use sixel_base::state::{DecoderState, PixelLimit};
+use sixel_base::state::DecoderState;
 pub use sixel_base::status::{
     SixelDcsFeedResult, SixelDcsFeedStatus, SixelFeedResult, SixelFeedStatus,
 };
@@ -38,8 +39,8 @@ pub use stream::SixelStreamDecoder;
 /// A decoder: 256 color registers from image to image, and the host's settings.
 ///
 /// A register has the color that the host set or a decoded image defined. An error changes no
-/// register. The settings are whether images are cropped, and how many pixels an image can have.
-/// They apply to each image and session that is begun afterwards.
+/// register. The settings are whether images are cropped, how many pixels an image can have, and
+/// its clip. They apply to each image and session that is begun afterwards.
 #[derive(Clone, Debug, Drop)]
 pub struct SixelDecoder {
     pub(crate) state: DecoderState,
@@ -70,7 +71,7 @@ impl SixelDecoder {
 
     /// Creates a decoder with the registers that a terminal has when it is switched on.
     ///
-    /// It crops no image, and its limit is 67,108,864 pixels.
+    /// It crops and clips no image, and its limit is 67,108,864 pixels.
     pub fn new() -> Self
         ensures { result ≡ new_decoder }
     {
@@ -125,7 +126,7 @@ impl SixelDecoder {
         }
     }
 
-    /// Resets the registers to those of a new decoder, without changing crop and limit.
+    /// Resets the registers to those of a new decoder, without changing the settings.
     ///
     /// An image does not reset them, so the next one starts with the registers that it defined.
     pub fn reset_palette(&mut self)
@@ -157,7 +158,7 @@ impl SixelDecoder {
     ///
     /// The limit is 67,108,864 in a new decoder, and never more.
     pub fn pixel_limit(&self) -> usize
-        ensures value { result ≡ self.now.pixel_limit }
+        ensures value { result ≡ self.now.pixel_limit.pixels }
         ensures some { 1 ≤ result }
         ensures within { result ≤ area_limit }
     {
@@ -166,12 +167,37 @@ impl SixelDecoder {
 
     /// Sets how many pixels an image can have: at least 1, and at most 67,108,864.
     ///
-    /// The extent of all sixels and raster attributes counts, also if the image is cropped. An
-    /// image is rejected as soon as its extent is above the limit. Encoding has no such limit.
+    /// The extent of all sixels and raster attributes counts, also if the image is cropped. Of a
+    /// clipped image only the part inside the clip counts. An image is rejected as soon as it has
+    /// more pixels than the limit. Encoding has no such limit.
     pub fn set_pixel_limit(&mut self, pixels: usize)
-        ensures { self.new ≡ record self.old { pixel_limit = limit_of pixels } }
+        ensures { self.new ≡ with_pixel_limit self.old pixels }
     {
-        self.state.pixel_limit = PixelLimit::new(pixels);
+        self.state.pixel_limit = self.state.pixel_limit.with_pixels(pixels);
+    }
+
+    /// Returns the clip: how many columns from the left and rows from the top an image can have.
+    ///
+    /// Both are 1,000,000 in a new decoder, which clips nothing, because no image has more.
+    pub fn clip(&self) -> (usize, usize)
+        ensures columns { result.0 ≡ self.now.pixel_limit.columns }
+        ensures rows { result.1 ≡ self.now.pixel_limit.rows }
+    {
+        (
+            self.state.pixel_limit.columns(),
+            self.state.pixel_limit.rows(),
+        )
+    }
+
+    /// Sets the clip: each side is at least 1, and at most 1,000,000.
+    ///
+    /// An image is then the picture restricted to these columns and rows, and at most as large.
+    /// What lies outside is not stored, and does not count for the limit of pixels. The registers
+    /// and the other errors are those of the whole picture.
+    pub fn set_clip(&mut self, width: usize, height: usize)
+        ensures { self.new ≡ with_clip self.old width height }
+    {
+        self.state.pixel_limit = self.state.pixel_limit.with_clip(width, height);
     }
 
     /// Decodes the first DCS sequence in the bytes, or all of them as a payload.
@@ -208,7 +234,7 @@ impl SixelDecoder {
     /// ```
     ///
     /// The call does not allocate and is always `Ok`. The session borrows this decoder until it
-    /// ends, and starts with the decoder's current registers, crop and limit.
+    /// ends, and starts with the decoder's current registers and settings.
     pub fn begin_frame(
         &mut self,
         alloc: Global,

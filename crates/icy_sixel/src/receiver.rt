@@ -4,19 +4,22 @@
 
 ghost use Rattle.std.specs.Prelude.{◌≡◌, true, false};
 ghost use Rattle.sixel_base.specs.Decoder.{new_decoder};
-ghost use Rattle.icy_sixel.specs.Receiver.{OfPayload, OfString, no_image, is_open, in_payload};
+ghost use Rattle.icy_sixel.specs.Receiver.{OfPayload, OfString, idle, is_open, in_payload};
 ghost use Rattle.icy_sixel.specs.ReceiverCalls.{IsBegun, IsFed, IsFinished, IsAborted};
 ghost use Rattle.icy_sixel.specs.ReceiverCalls.{IsDrawnHeight, IsPaintCount, IsSizeSoFar};
+ghost use Rattle.icy_sixel.specs.ReceiverCalls.{KeepsPartial};
 ghost use Rattle.icy_sixel.specs.inside.Receiving.{reception_of};
 
 mod final_rows;
+mod partial;
 mod row_buffer;
 mod settings;
 
 use crate::decoder::{DcsSettings, SixelDcsFeedResult, SixelDecoder, SixelFeedResult};
 use crate::script::Status;
 use crate::sixel_image::SixelImage;
-pub use final_rows::stable_rows;
+pub use final_rows::{band_len, stable_rows};
+pub use partial::PartialImage;
 use sixel_base::{Result, SixelError};
 use sixel_canvas::band_canvas::BandCanvas;
 use sixel_decoder::{DcsReader, PayloadReader};
@@ -61,6 +64,7 @@ enum Open {
 pub struct SixelReceiver {
     decoder: SixelDecoder,
     open: Open,
+    keeps_partial: bool,
 }
 
 impl Model for SixelReceiver {
@@ -76,18 +80,19 @@ impl Model for SixelReceiver {
 impl SixelReceiver {
     /// Creates a receiver with a new decoder and no open image.
     pub fn new() -> Self
-        ensures { result ≡ record { decoder = new_decoder; image = no_image } }
+        ensures { result ≡ idle new_decoder }
     {
         Self::with_decoder(SixelDecoder::new())
     }
 
     /// Creates a receiver with this decoder and no open image.
     pub fn with_decoder(decoder: SixelDecoder) -> Self
-        ensures { result ≡ record { decoder = decoder; image = no_image } }
+        ensures { result ≡ idle decoder }
     {
         Self {
             decoder,
             open: Open::Nothing,
+            keeps_partial: false,
         }
     }
 
@@ -95,7 +100,7 @@ impl SixelReceiver {
     pub fn into_decoder(self) -> SixelDecoder
         ensures { result ≡ self.decoder }
     {
-        let Self { decoder, open: _ } = self;
+        let Self { decoder, .. } = self;
         decoder
     }
 
@@ -119,7 +124,8 @@ impl SixelReceiver {
     pub fn begin_frame(&mut self, alloc: Global, settings: DcsSettings)
         ensures { IsBegun self.old self.new (OfPayload settings) }
     {
-        let reader = PayloadReader::new(alloc, self.decoder.state, settings);
+        let mut reader = PayloadReader::new(alloc, self.decoder.state, settings);
+        reader.set_keep_partial(self.keeps_partial);
         self.replace_open(Open::Payload(reader));
     }
 
@@ -143,7 +149,8 @@ impl SixelReceiver {
     /// [`SixelStreamDecoder::feed`]: crate::SixelStreamDecoder::feed
     /// [`SixelDcsStreamDecoder::feed`]: crate::SixelDcsStreamDecoder::feed
     pub fn feed(&mut self, piece: &[u8]) -> Result<Received>
-        ensures { IsFed self.old self.new piece.now result }
+        ensures fed { IsFed self.old self.new piece.now result }
+        ensures partial { KeepsPartial self.old.image self.new.image result }
     {
         match &mut self.open {
             Open::Nothing => Err(SixelError::stream_failed()),
@@ -155,7 +162,9 @@ impl SixelReceiver {
     /// Closes the image, returns it, and stores its registers in the decoder.
     ///
     /// An error closes the image too, and leaves the decoder unchanged. The errors are those of the
-    /// sessions. If no image is open, the error is that of [`feed`](Self::feed).
+    /// sessions. If no image is open, the error is that of [`feed`](Self::feed). If rows were
+    /// released, the error is `OutOfMemory`, because no memory has the whole image: end such an
+    /// image by [`finish_into`](Self::finish_into).
     pub fn finish(&mut self) -> Result<SixelImage>
         ensures { IsFinished self.old self.new result }
     {
@@ -180,6 +189,7 @@ impl SixelReceiver {
     fn replace_open(&mut self, image: Open)
         ensures decoder { self.new.decoder ≡ self.old.decoder }
         ensures image { self.new.image ≡ reception_of image }
+        ensures setting { self.new.keeps_partial ≡ self.old.keeps_partial }
     {
         self.open = image;
     }
@@ -278,11 +288,11 @@ fn of_string(fed: SixelDcsFeedResult) -> Received
 }
 
 impl Default for SixelReceiver {
-    ghost use Rattle.icy_sixel.specs.Receiver.{no_image};
+    ghost use Rattle.icy_sixel.specs.Receiver.{idle};
     ghost use Rattle.sixel_base.specs.Decoder.{new_decoder};
 
     ghost is_default = { λ receiver.
-        receiver ≡ record { decoder = new_decoder; image = no_image } };
+        receiver ≡ idle new_decoder };
 
     fn default() -> Self {
         Self::new()

@@ -1,4 +1,4 @@
-//! Lists of steps on one decoder: images, resets, crop and limits.
+//! Lists of steps on one decoder: images, resets, crop, limits and clips.
 //!
 //! The outcome of a step depends on its bytes. The specification does not mention chunks.
 
@@ -6,7 +6,7 @@ ghost use Rattle.std.specs.Prelude.{◌≡◌, ◌≤◌, [], length, vec_len, v
 ghost use Rattle.std.specs.Prelude.{OnErr, IfOk, IfErr, MatchResult};
 ghost use Rattle.sixel_base.specs.declared.error.SixelError.TheVariants.{OutOfMemory};
 ghost use Rattle.sixel_base.specs.Color.{default_registers};
-ghost use Rattle.sixel_base.specs.Decoder.{limit_of};
+ghost use Rattle.sixel_base.specs.Decoder.{with_clip, with_pixel_limit};
 ghost use Rattle.sixel_base.specs.OneShot.{found, Payload};
 ghost use Rattle.icy_sixel.specs.Script.{AreOutcomes, IsOutcome};
 ghost use Rattle.icy_sixel.specs.Script.{IsDecoding, IsSessionOutcome};
@@ -43,6 +43,11 @@ pub enum Step<'a> {
     RasterCrop(bool),
     /// Sets how many pixels an image may have, as by [`SixelDecoder::set_pixel_limit`].
     PixelLimit(usize),
+    /// Sets the columns and rows that an image may have, as by [`SixelDecoder::set_clip`].
+    Clip {
+        width: usize,
+        height: usize,
+    },
     /// Feeds a payload in chunks.
     Frame {
         settings: DcsSettings,
@@ -76,7 +81,7 @@ pub enum Status {
 pub enum Outcome {
     /// The registers are those of a new decoder.
     Reset,
-    /// The crop or the limit is set, and no register changed.
+    /// The crop, the limit or the clip is set, and no register changed.
     Changed,
     /// The step failed, and changed no register.
     Failed(SixelError),
@@ -158,6 +163,7 @@ fn take_step(alloc: Global, decoder: &mut SixelDecoder, step: &Step<'_>) -> Outc
         Step::Reset => reset(decoder),
         Step::RasterCrop(on) => set_crop(decoder, *on),
         Step::PixelLimit(pixels) => set_limit(decoder, *pixels),
+        Step::Clip { width, height } => set_clip(decoder, *width, *height),
         Step::Frame {
             settings,
             bytes,
@@ -201,9 +207,18 @@ fn set_crop(decoder: &mut SixelDecoder, on: bool) -> Outcome
 /// Sets how many pixels an image may have.
 fn set_limit(decoder: &mut SixelDecoder, pixels: usize) -> Outcome
     ensures outcome { result ≡ Outcome.Changed }
-    ensures decoder { decoder.new ≡ record decoder.old { pixel_limit = limit_of pixels } }
+    ensures decoder { decoder.new ≡ with_pixel_limit decoder.old pixels }
 {
     decoder.set_pixel_limit(pixels);
+    Outcome::Changed
+}
+
+/// Sets the columns and rows that an image may have.
+fn set_clip(decoder: &mut SixelDecoder, width: usize, height: usize) -> Outcome
+    ensures outcome { result ≡ Outcome.Changed }
+    ensures decoder { decoder.new ≡ with_clip decoder.old width height }
+{
+    decoder.set_clip(width, height);
     Outcome::Changed
 }
 

@@ -1,5 +1,6 @@
 -- What contracts see of a receiver, by its parts: the record of the session inside, in the words of
 -- both forms. This library's own.
+use Rattle.std.specs.Prelude.{false}
 use Rattle.icy_sixel.specs.Receiver.{Reception, Receiver, no_image, OfPayload, OfString}
 use Rattle.icy_sixel.specs.declared.receiver.Open.{Open}
 use Rattle.icy_sixel.specs.declared.receiver.Open.TheVariants as opened
@@ -18,6 +19,9 @@ reception_of (opened.Payload reader) = record {
   is_refused = reader.is_refused;
   room = reader.room;
   paints = reader.paints;
+  released = reader.released;
+  keeps_partial = reader.keeps_partial;
+  has_partial = reader.has_partial;
 }
 reception_of (opened.ControlString reader) = record {
   form = OfString;
@@ -26,7 +30,14 @@ reception_of (opened.ControlString reader) = record {
   is_refused = reader.is_refused;
   room = reader.room;
   paints = reader.paints;
+  released = reader.released;
+  keeps_partial = false;
+  has_partial = false;
 }
 
 abbrev pub receiver_of : Inside → Receiver
-receiver_of receiver = record { decoder = receiver.decoder; image = reception_of receiver.open }
+receiver_of receiver = record {
+  decoder = receiver.decoder;
+  image = reception_of receiver.open;
+  keeps_partial = receiver.keeps_partial;
+}

@@ -7,6 +7,7 @@ use Rattle.sixel_base.specs.Payload.{payload_fault}
 use Rattle.sixel_base.specs.Dcs.{dcs_status, dcs_fault, end_fault}
 use Rattle.sixel_base.specs.Dcs as strings
 use Rattle.sixel_base.specs.declared.status.SixelFeedStatus.TheVariants.{NeedMoreData, Terminated}
+use Rattle.sixel_base.specs.Limits.{Limit}
 use Rattle.icy_sixel.specs.declared.script.Status.{Status}
 use Rattle.icy_sixel.specs.declared.script.Status.TheVariants.{Payload, Dcs}
 use Rattle.icy_sixel.specs.Receiver.{Form, Nothing, OfPayload, OfString, is_over}
@@ -26,13 +27,13 @@ has_ended (Payload (Terminated byte)) = true
 has_ended (Dcs status) = strings.has_ended status
 
 -- what is wrong with bytes that are fed and finished
-abbrev pub whole_fault : ℕ → Form → List ℕ → Option Fault
+abbrev pub whole_fault : Limit → Form → List ℕ → Option Fault
 whole_fault limit Nothing bytes = Some StreamFailed
 whole_fault limit (OfPayload settings) bytes = payload_fault limit bytes
 whole_fault limit OfString bytes = option_or (dcs_fault limit bytes) (end_fault (dcs_status bytes))
 
 -- what bytes mean that are fed to an image of this form
-abbrev pub meaning : ℕ → Form → List ℕ → Meaning
+abbrev pub meaning : Limit → Form → List ℕ → Meaning
 meaning limit form bytes = record {
   consumed = images.count form bytes;
   status = images.status form bytes;

@@ -3,7 +3,9 @@
 //! In SIXEL the drawing position never goes up. Once a graphics new line is read, no byte that
 //! follows changes a row above it.
 
-ghost use Rattle.std.specs.Prelude.{◌≡◌, ◌≤◌, ◌<◌, ◌+◌, ◌^◌, ◌++◌, nat_le, ℕ, List, length, take};
+ghost use Rattle.std.specs.Prelude.{◌≡◌, ◌≤◌, ◌<◌, ◌+◌, ◌^◌, ◌++◌, nat_le, ℕ, List, length};
+ghost use Rattle.std.specs.Prelude.{max, take};
+ghost use Rattle.sixel_base.specs.Limits.{Limit};
 ghost use Rattle.sixel_base.specs.OneShot.{IsFoundImage};
 ghost use Rattle.sixel_base.specs.Payload.{Image};
 ghost use Rattle.sixel_base.specs.Picture.{picture};
@@ -12,9 +14,9 @@ ghost use Rattle.sixel_canvas.specs.Layout.{AreRowsIn};
 ghost use Rattle.sixel_decoder.specs.CopiedImage.{IsEndHeight, IsImageCopied};
 ghost use Rattle.icy_sixel.specs.FinalRows.{band_of, final_rows, image_fault, pixel_so_far};
 ghost use Rattle.icy_sixel.specs.FinalRows.{rows_so_far};
-ghost use Rattle.icy_sixel.specs.FinalRows.{AreRowsCopied, IsFinishedInto};
+ghost use Rattle.icy_sixel.specs.FinalRows.{AreRowsCopied, AreRowsReleased, IsFinishedInto};
 ghost use Rattle.icy_sixel.specs.Receiver.{Form, found};
-ghost use Rattle.icy_sixel.specs.ReceiverCalls.{IsFed};
+ghost use Rattle.icy_sixel.specs.ReceiverCalls.{IsFed, KeepsPartial};
 ghost use Rattle.icy_sixel.specs.inside.Receiving.{reception_of};
 
 use crate::receiver::row_buffer::check_rows;
@@ -29,7 +31,7 @@ impl SixelReceiver {
     ///
     /// No byte that follows changes a pixel of these rows, and the number never becomes smaller, by
     /// the law [`stable_rows`]. They are the rows of the image so far that lie above the band of
-    /// the next sixel. The call does not allocate.
+    /// the next sixel, and inside the clip. The call does not allocate.
     ///
     /// - It is 0 before the payload, after an error, and if no image is open.
     /// - The image may still become wider. New pixels on the right of a final row are background.
@@ -50,7 +52,8 @@ impl SixelReceiver {
     /// It does what [`feed`](Self::feed) does with the bytes up to and with the first `-`, or with
     /// all bytes if there is none. So a host can draw each band at once, however long the chunk is.
     pub fn feed_band(&mut self, chunk: &[u8]) -> Result<Received>
-        ensures { IsFed self.old self.new (band_of chunk.now) result }
+        ensures fed { IsFed self.old self.new (band_of chunk.now) result }
+        ensures partial { KeepsPartial self.old.image self.new.image result }
     {
         self.feed(&chunk[..band_len(chunk)])
     }
@@ -59,13 +62,15 @@ impl SixelReceiver {
     ///
     /// The rows are `first` up to before `first + rows`. The first of them begins at the first byte
     /// of `out`, and each other one a stride after the one before it. Columns on the right of the
-    /// image so far are background. The other bytes of `out` stay. A later error takes no row back.
-    /// The call does not allocate.
+    /// image so far, and outside the clip, are background. The other bytes of `out` stay. A later
+    /// error takes no row back. The call does not allocate.
     ///
     /// The errors, in this order, leave `out` as it was:
     ///
     /// - `InvalidData("rows are not final")`: `first + rows` is greater than
     ///   [`rows_so_far`](Self::rows_so_far).
+    /// - `InvalidData("rows were released")`: `first` is less than
+    ///   [`released_rows`](Self::released_rows).
     /// - `InvalidData("stride is shorter than a row")`: the stride has fewer bytes than the columns
     ///   of a row, or than a pixel.
     /// - `IntegerOverflow`: no `usize` counts the bytes of the rows.
@@ -83,6 +88,9 @@ impl SixelReceiver {
         if !self.are_final(first, rows) {
             return Err(SixelError::rows_not_final());
         }
+        if first < self.released_rows() {
+            return Err(SixelError::rows_released());
+        }
         check_rows(layout, rows, out.len())?;
         match &self.open {
             Open::Nothing => {}
@@ -90,6 +98,40 @@ impl SixelReceiver {
             Open::ControlString(reader) => reader.copy_rows(first, rows, layout, out),
         }
         Ok(())
+    }
+
+    /// Releases the final rows above row `rows`, whose memory is used again.
+    ///
+    /// The caller has copied them. Then an image that is shown while it comes takes the memory of
+    /// the rows between two calls, and not of the image: copy the final rows and release them after
+    /// each [`feed_band`](Self::feed_band). [`finish_into`](Self::finish_into) returns the rows
+    /// that are left. [`finish`](Self::finish) fails with `OutOfMemory`, because no memory has the
+    /// whole image. A number below [`released_rows`](Self::released_rows) changes nothing. The call
+    /// does not allocate.
+    ///
+    /// The error is `InvalidData("rows are not final")` if `rows` is greater than
+    /// [`rows_so_far`](Self::rows_so_far).
+    pub fn release_rows(&mut self, rows: usize) -> Result<()>
+        ensures { AreRowsReleased self.old self.new rows result }
+    {
+        if !self.are_final(0, rows) {
+            return Err(SixelError::rows_not_final());
+        }
+        self.open.release_rows(rows);
+        Ok(())
+    }
+
+    /// Returns how many rows from the top of the open image are released.
+    ///
+    /// It is 0 after an error and if no image is open. The call does not allocate.
+    pub fn released_rows(&self) -> usize
+        ensures { result ≡ self.now.image.released }
+    {
+        match &self.open {
+            Open::Nothing => 0,
+            Open::Payload(reader) => reader.released_rows(),
+            Open::ControlString(reader) => reader.released_rows(),
+        }
     }
 
     /// Whether so many rows from row `first` on are final.
@@ -110,9 +152,9 @@ impl SixelReceiver {
     /// The errors, in this order, leave the decoder and `out` as they were:
     ///
     /// - those of `finish` but for `OutOfMemory`, which close the image,
-    /// - those of `copy_rows` about the stride and `out`, which leave the image open as it was. The
-    ///   rows take at most those that [`size_so_far`](Self::size_so_far) reports once the image has
-    ///   ended.
+    /// - those of `copy_rows` about released rows, the stride and `out`, which leave the image open
+    ///   as it was. The rows take at most those that [`size_so_far`](Self::size_so_far) reports once
+    ///   the image has ended.
     pub fn finish_into(
         &mut self,
         first: usize,
@@ -129,6 +171,9 @@ impl SixelReceiver {
                 return Err(error);
             }
         };
+        if self.released_rows() > first {
+            return Err(SixelError::rows_released());
+        }
         let rows = height.saturating_sub(first);
         check_rows(layout, rows, out.len())?;
         let open = mem::replace(&mut self.open, Open::Nothing);
@@ -155,6 +200,20 @@ impl SixelReceiver {
 }
 
 impl Open {
+    /// Releases the rows above row `rows`, which are final.
+    fn release_rows(&mut self, rows: usize)
+        requires { rows ≤ rows_so_far (reception_of self.old) }
+        ensures { reception_of self.new ≡ record (reception_of self.old) {
+          released = max (reception_of self.old).released rows;
+        } }
+    {
+        match self {
+            Open::Nothing => {}
+            Open::Payload(reader) => reader.release_rows(rows),
+            Open::ControlString(reader) => reader.release_rows(rows),
+        }
+    }
+
     /// Ends the image, and copies rows of it to the caller's memory.
     fn finish_into(
         self,
@@ -163,6 +222,7 @@ impl Open {
         layout: RowLayout,
         out: &mut [u8],
     ) -> Result<CopiedPayload>
+        requires stored { (reception_of self).released ≤ first }
         requires within { first + rows < 2 ^ 64 }
         requires fits { AreRowsIn layout rows (length out.old) }
         ensures len { length out.new ≡ length out.old }
@@ -178,8 +238,10 @@ impl Open {
     }
 }
 
-/// Returns how many bytes there are up to and with the first graphics new line.
-fn band_len(chunk: &[u8]) -> usize
+/// Returns how many bytes of a chunk [`feed_band`](SixelReceiver::feed_band) reads.
+///
+/// They are the bytes up to and with the first graphics new line, or all if there is none.
+pub fn band_len(chunk: &[u8]) -> usize
     ensures within { result ≤ length chunk.now }
     ensures band { take result chunk.now ≡ band_of chunk.now }
 {
@@ -194,12 +256,12 @@ fn band_len(chunk: &[u8]) -> usize
 /// States that final rows stay as they are, whatever bytes follow.
 ///
 /// Their number never becomes smaller, and each of their pixels stays, in every column. The pixels
-/// of an image are those of the picture of its bytes.
+/// of an image are those of the picture of its bytes inside the clip.
 pub fn stable_rows()
-    ensures number { (form : Form) (bytes more : List ℕ)
-        → final_rows form bytes ≤ final_rows form (bytes ++ more) }
+    ensures number { (limit : Limit) (form : Form) (bytes more : List ℕ)
+        → final_rows limit form bytes ≤ final_rows limit form (bytes ++ more) }
     ensures pixels { (start : DecoderState) (form : Form) (bytes more : List ℕ) (column row : ℕ)
-        → row < final_rows form bytes
+        → row < final_rows start.pixel_limit form bytes
         → pixel_so_far start form (bytes ++ more) column row
         ≡ pixel_so_far start form bytes column row }
     ensures image { (start : DecoderState) (form : Form) (bytes : List ℕ) (image : Image)

@@ -3,7 +3,7 @@
 ghost use Rattle.std.specs.Prelude.{◌≡◌, ◌≤◌, ◌*◌, nat_lt, if◌then◌else◌, Some, None, OnOk};
 ghost use Rattle.sixel_base.specs.CallFault.{IsVerdict};
 ghost use Rattle.sixel_canvas.specs.Layout.{AreRowsIn};
-ghost use Rattle.icy_sixel.specs.FinalRows.{buffer_len, layout_fault};
+ghost use Rattle.icy_sixel.specs.FinalRows.{buffer_len, layout_fault, usize_max};
 
 use sixel_base::{Result, SixelError};
 use sixel_canvas::channels::RowLayout;
@@ -31,7 +31,7 @@ pub fn check_rows(layout: RowLayout, rows: usize, len: usize) -> Result<()>
 /// Returns how many bytes so many rows take, if a `usize` counts them.
 fn buffer_len(layout: RowLayout, rows: usize) -> Option<usize>
     requires { 4 * layout.columns ≤ layout.stride }
-    ensures { result ≡ (if nat_lt 0xffff_ffff_ffff_ffff (buffer_len layout rows) then None
+    ensures { result ≡ (if nat_lt usize_max (buffer_len layout rows) then None
         else Some (buffer_len layout rows)) }
 {
     if rows == 0 {

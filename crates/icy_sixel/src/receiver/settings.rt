@@ -1,8 +1,8 @@
-//! What the host of a receiver sets: registers, crop and the limit of pixels.
+//! What the host of a receiver sets: registers, crop, clip and the limit of pixels.
 
 ghost use Rattle.std.specs.Prelude.{◌≡◌, [], slice_index_or, slice_set};
 ghost use Rattle.sixel_base.specs.Color.{default_registers};
-ghost use Rattle.sixel_base.specs.Decoder.{limit_of};
+ghost use Rattle.sixel_base.specs.Decoder.{with_clip, with_pixel_limit};
 ghost use Rattle.icy_sixel.specs.Registers.{with_colors};
 
 use crate::receiver::SixelReceiver;
@@ -24,6 +24,7 @@ impl SixelReceiver {
           registers = slice_set self.old.decoder.registers register color;
         } }
         ensures image { self.new.image ≡ self.old.image }
+        ensures setting { self.new.keeps_partial ≡ self.old.keeps_partial }
     {
         self.decoder.set_register(register, color);
     }
@@ -44,6 +45,7 @@ impl SixelReceiver {
           registers = with_colors self.old.decoder.registers first colors.now;
         } }
         ensures image { self.new.image ≡ self.old.image }
+        ensures setting { self.new.keeps_partial ≡ self.old.keeps_partial }
     {
         self.decoder.set_registers(first, colors);
     }
@@ -55,6 +57,7 @@ impl SixelReceiver {
         ensures decoder { self.new.decoder
             ≡ record self.old.decoder { registers = default_registers } }
         ensures image { self.new.image ≡ self.old.image }
+        ensures setting { self.new.keeps_partial ≡ self.old.keeps_partial }
     {
         self.decoder.reset_palette();
     }
@@ -66,6 +69,7 @@ impl SixelReceiver {
     pub fn set_raster_crop(&mut self, on: bool)
         ensures decoder { self.new.decoder ≡ record self.old.decoder { raster_crop = on } }
         ensures image { self.new.image ≡ self.old.image }
+        ensures setting { self.new.keeps_partial ≡ self.old.keeps_partial }
     {
         self.decoder.set_raster_crop(on);
     }
@@ -75,10 +79,22 @@ impl SixelReceiver {
     /// It does what [`SixelDecoder::set_pixel_limit`](crate::SixelDecoder::set_pixel_limit) does.
     /// An open image keeps the setting that it began with.
     pub fn set_pixel_limit(&mut self, pixels: usize)
-        ensures decoder { self.new.decoder
-            ≡ record self.old.decoder { pixel_limit = limit_of pixels } }
+        ensures decoder { self.new.decoder ≡ with_pixel_limit self.old.decoder pixels }
         ensures image { self.new.image ≡ self.old.image }
+        ensures setting { self.new.keeps_partial ≡ self.old.keeps_partial }
     {
         self.decoder.set_pixel_limit(pixels);
+    }
+
+    /// Sets how many columns from the left and rows from the top an image can have.
+    ///
+    /// It does what [`SixelDecoder::set_clip`](crate::SixelDecoder::set_clip) does. An open image
+    /// keeps the clip that it began with.
+    pub fn set_clip(&mut self, width: usize, height: usize)
+        ensures decoder { self.new.decoder ≡ with_clip self.old.decoder width height }
+        ensures image { self.new.image ≡ self.old.image }
+        ensures setting { self.new.keeps_partial ≡ self.old.keeps_partial }
+    {
+        self.decoder.set_clip(width, height);
     }
 }

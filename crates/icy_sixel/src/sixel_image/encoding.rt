@@ -2,6 +2,7 @@
 
 ghost use Rattle.std.specs.Prelude.{◌≡◌, ℕ, ◌*◌, ◌≤◌, List, None, OnOk, IfErr, IfOk};
 ghost use Rattle.std.specs.Prelude.{◌++◌, Some, MatchOption, codes, length, string_bytes};
+ghost use Rattle.sixel_base.specs.Limits.{Limit};
 
 use crate::sixel_image::{BackgroundMode, SixelImage};
 use sixel_base::{Result, SixelError};
@@ -64,7 +65,8 @@ impl SixelImage {
         ensures shortest { IfOk result (λ text. (drawing : Drawing)
             × IsDrawing (image_value self.now) options.now.max_colors drawing
             × (string_bytes text ≡ text_of drawing) × AreShortest drawing) }
-        ensures one_string { (limit : ℕ) → self.now.width * banded self.now.height ≤ limit
+        ensures one_string { (limit : Limit)
+            → self.now.width * banded self.now.height ≤ limit.pixels
             → IfOk result (λ text. IsOneString limit (string_bytes text)) }
         ensures readable { OnOk result (CanRead new_decoder self.now.width self.now.height) }
         ensures read_back { (decoder : DecoderState)
@@ -217,7 +219,8 @@ impl SixelImage {
         ensures short { (plain : List ℕ)
             → IsText (image_value self.now) options.now.max_colors plain
             → IfOk result (λ text. length (string_bytes text) ≤ length plain) }
-        ensures one_string { (limit : ℕ) → self.now.width * banded self.now.height ≤ limit
+        ensures one_string { (limit : Limit)
+            → self.now.width * banded self.now.height ≤ limit.pixels
             → IfOk result (λ text. IsOneString limit (string_bytes text)) }
         ensures readable { OnOk result (CanRead new_decoder self.now.width self.now.height) }
         ensures read_back { (decoder : DecoderState)

@@ -21,3 +21,6 @@ returns-in-RasterCrop c =
 pub returns-in-PixelLimit : goal.returns-in-PixelLimit
 returns-in-PixelLimit c =
     rw c.in-PixelLimit.is (c.set_limit.ensures.outcome, c.set_limit.ensures.decoder)
+
+pub returns-in-Clip : goal.returns-in-Clip
+returns-in-Clip c = rw c.in-Clip.is (c.set_clip.ensures.outcome, c.set_clip.ensures.decoder)

@@ -12,8 +12,10 @@ returns-clause-copied c =
     let image : Reception = c.args.self.now.image in
     let above : nat_lt (rows_so_far image) (c.args.first + c.args.rows) ≡ false =
     grind (arith, nat_tests, c.are_final.ensures, c.if-not-are_final.false) in
+    let kept : nat_lt c.args.first image.released ≡ false =
+    grind (arith, nat_tests, c.released_rows.ensures, c.if-first-released_rows.false) in
     record {
-      verdict = rw above c.in_ok-check_rows.ensures.verdict;
+      verdict = rw (above, kept) c.in_ok-check_rows.ensures.verdict;
       pixels = elim c.match-self.branch [
         | in-Nothing w ↦
             let none : rows_so_far image ≡ 0 = rw (← c.self.view_is, w.in-Nothing.is) refl in

@@ -23,9 +23,10 @@ record IsPictureOf (image : Reception) (picture : DecodedPayload) : Type 0 where
   decoded : (more : List ℕ)
       → IsDecodedAs image.start (found_followed image.form image.bytes more)
       (picture_value picture) picture.registers
-  area : picture.width * picture.height ≤ image.start.pixel_limit
+  area : picture.width * picture.height ≤ image.start.pixel_limit.pixels
   faultless : found_fault image.start.pixel_limit (found image.form image.bytes) ≡ None
   accepted : image.is_refused ≡ false
+  whole : image.released ≡ 0
   ended : end_fault image.start.pixel_limit image.form image.bytes ≡ None
 
 abbrev Finished : Result DecodedPayload SixelError → Reception → Type 0
@@ -41,6 +42,7 @@ payload_finished (Ok picture) session is = record {
   area = is.area;
   faultless = is.faultless;
   accepted = is.accepted;
+  whole = is.whole;
   ended = is.faultless;
 }
 payload_finished (Err e) session is = tt
@@ -55,6 +57,7 @@ string_finished (Ok picture) session is = record {
   area = is.area;
   faultless = is.faultless;
   accepted = is.accepted;
+  whole = is.whole;
   ended = rw is.ended refl;
 }
 string_finished (Err e) session is = tt
@@ -91,8 +94,10 @@ returns c =
       area = rw (ap (λ i. i.width) shown, ap (λ i. i.height) shown) is.area;
       pixels = c.from_picture.ensures.pixels;
       set = search rules;
+      setting = search rules;
       faultless = is.faultless;
       accepted = is.accepted;
+      whole = is.whole;
       ended = is.ended;
       kept = tt;
       error = tt;

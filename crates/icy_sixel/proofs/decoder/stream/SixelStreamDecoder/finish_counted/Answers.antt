@@ -2,10 +2,11 @@ use Rattle.std.proofs.Common.{◌≡◌, ℕ, ◌+◌, ◌*◌, ◌≤◌, List,
 use Rattle.std.proofs.lemmas.Nat.{mul-le}
 use Rattle.sixel_base.specs.Bytes.{front}
 use Rattle.sixel_base.specs.History.{history_of}
+use Rattle.sixel_base.specs.Limits.{Limit}
 use Rattle.sixel_base.specs.Payload.{Image, payload_area, payload_fault, payload_image}
 use Rattle.sixel_base.specs.Place.{width, height}
 use Rattle.sixel_base.specs.Stroke.{Origin}
-use Rattle.sixel_decoder.proofs.RowExtents.{sides-fit, image_height-most, settled-area}
+use Rattle.sixel_decoder.proofs.RowExtents.{cropped_height-most, settled-area, sides-fit}
 use Rattle.icy_sixel.proofs.decoder.stream.SixelStreamDecoder.finish_counted.Goals as goal
 
 -- the image has at most the pixels of the extent
@@ -15,10 +16,10 @@ fewer image o bytes is =
     let h = history_of (front bytes) in
     mul-le image.width image.height (width h) (height h)
     (omega (arith, ap (λ (i : Image). i.width) is))
-    (omega (arith, ap (λ (i : Image). i.height) is, image_height-most o.raster_crop h))
+    (omega (arith, ap (λ (i : Image). i.height) is, cropped_height-most o.raster_crop h))
 
 -- which are few
-few : (limit : ℕ) (bytes : List ℕ) → payload_fault limit bytes ≡ None
+few : (limit : Limit) (bytes : List ℕ) → payload_fault limit bytes ≡ None
     → payload_area bytes ≤ 1000000000000
 few limit bytes sound =
     let h = history_of (front bytes) in
@@ -33,7 +34,7 @@ with_packed-count-requires c =
       arith,
       fewer _ session.origin session.bytes done.image,
       few _ session.bytes done.faultless,
-      settled-area session.bytes,
+      settled-area session.origin.pixel_limit session.bytes,
       c.canvas_writes-writes.ensures.at_most,
     )
 
@@ -43,7 +44,7 @@ returns-clause-at_most c =
     omega (
       arith,
       fewer _ session.origin session.bytes c.in_ok-image.ensures.finished.image,
-      settled-area session.bytes,
+      settled-area session.origin.pixel_limit session.bytes,
       c.canvas_writes-writes.ensures.at_most,
     )
 

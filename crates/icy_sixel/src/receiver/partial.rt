@@ -1,0 +1,82 @@
+//! The picture of an image that has a fault, up to that fault.
+
+ghost use Rattle.std.specs.Prelude.{◌≡◌};
+ghost use Rattle.icy_sixel.specs.PartialImages.{IsFinishedPartly};
+ghost use Rattle.icy_sixel.specs.inside.PartialPayloads.{EndsPartly};
+ghost use Rattle.icy_sixel.specs.inside.Receiving.{reception_of};
+
+use crate::receiver::{Open, SixelReceiver};
+use crate::sixel_image::SixelImage;
+use sixel_base::{Result, SixelError};
+use sixel_decoder::PartialPayload;
+use std::mem;
+
+/// An image as far as its data have no fault.
+#[derive(Debug, Drop)]
+pub struct PartialImage {
+    /// The image of the tokens before the first fault.
+    pub image: SixelImage,
+    /// That fault, or `None` if the image is whole.
+    pub error: Option<SixelError>,
+}
+
+impl SixelReceiver {
+    /// Sets whether a payload that is rejected leaves the picture before its fault.
+    ///
+    /// It is off in a new receiver. A rejected image is dropped then. The setting applies to each
+    /// payload that is begun afterwards. A DCS sequence keeps no picture. A picture that is kept
+    /// occupies its memory until the image is closed.
+    pub fn set_keep_partial(&mut self, on: bool)
+        ensures { self.new ≡ record self.old { keeps_partial = on } }
+    {
+        self.keeps_partial = on;
+    }
+
+    /// Closes the image, and returns its picture up to the first fault, and that fault.
+    ///
+    /// A host can call it in place of [`finish`](Self::finish), after a failed feed too:
+    ///
+    /// - An image without a fault is returned whole, and its registers are stored in the decoder.
+    /// - A payload with a fault is returned as the image of the tokens before the faulty one. The
+    ///   decoder is unchanged. After a failed feed there is this picture only if the image was begun
+    ///   with [`set_keep_partial`](Self::set_keep_partial).
+    ///
+    /// The errors close the image too, and leave the decoder unchanged:
+    ///
+    /// - The error of [`feed`](Self::feed) after a failed feed: nothing was kept. An allocation that
+    ///   fails keeps nothing.
+    /// - `InvalidData("incomplete SIXEL DCS sequence")`: a DCS sequence has not ended.
+    /// - `OutOfMemory`: an allocation failed.
+    pub fn finish_partial(&mut self) -> Result<PartialImage>
+        ensures { IsFinishedPartly self.old self.new result }
+    {
+        let open = mem::replace(&mut self.open, Open::Nothing);
+        let PartialPayload { picture, error } = open.finish_partial()?;
+        if error.is_none() {
+            self.decoder.state.registers = picture.registers;
+        }
+        Ok(PartialImage {
+            image: SixelImage::from_picture(picture),
+            error,
+        })
+    }
+}
+
+impl Open {
+    /// Ends the image with its picture up to the first fault.
+    fn finish_partial(self) -> Result<PartialPayload>
+        ensures { EndsPartly result (reception_of self) }
+    {
+        match self {
+            Open::Nothing => Err(SixelError::stream_failed()),
+            Open::Payload(reader) => reader.finish_partial(),
+            Open::ControlString(reader) => match reader.finish() {
+                Ok(picture) => Ok(PartialPayload {
+                    picture,
+                    error: None,
+                }),
+                Err(error) => Err(error),
+            },
+        }
+    }
+}
