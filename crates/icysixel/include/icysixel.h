@@ -121,6 +121,13 @@ typedef struct {
     uint8_t form;                 /* an enum icysixel_form; numbers above 1 are compact, too */
 } icysixel_encoding;
 
+/* How rows of pixels lie in a buffer. */
+typedef struct {
+    size_t stride;  /* bytes from the start of a row to the next, or 0 for 4 * columns */
+    size_t columns; /* pixels of a row that are written; bytes right of them are unchanged */
+    uint8_t order;  /* an enum icysixel_order; numbers above 1 are BGRA, too */
+} icysixel_layout;
+
 /* Result codes. */
 enum icysixel_code {
     ICYSIXEL_OK = 0,
@@ -149,7 +156,16 @@ enum icysixel_code {
     ICYSIXEL_DCS_STREAM_FAILED = 19, /* an earlier feed of this sequence failed */
     /* about palettes */
     ICYSIXEL_COLOR_COUNT = 20, /* the number of colors is not 1 to 256 */
-    ICYSIXEL_INDEX_RANGE = 21  /* the palette index of an opaque pixel is past the palette */
+    ICYSIXEL_INDEX_RANGE = 21, /* the palette index of an opaque pixel is past the palette */
+    /* about rows of an open image */
+    ICYSIXEL_ROWS_NOT_FINAL = 22, /* bytes to come can change the rows */
+    ICYSIXEL_ROWS_RELEASED = 23   /* the rows were released */
+};
+
+/* Orders of a pixel's bytes. */
+enum icysixel_order {
+    ICYSIXEL_ORDER_RGBA = 0, /* red, green, blue, alpha */
+    ICYSIXEL_ORDER_BGRA = 1  /* blue, green, red, alpha, as most window systems have them */
 };
 
 /* Kinds of dithering. */
@@ -200,6 +216,12 @@ uint32_t icysixel_begin_payload(icysixel *handle, int32_t p1, int32_t p2, int32_
  * ICYSIXEL_STREAM_FAILED for a payload and ICYSIXEL_DCS_STREAM_FAILED for a DCS sequence. */
 uint32_t icysixel_feed(icysixel *handle, const uint8_t *chunk, size_t length, icysixel_fed *fed);
 
+/* Reads a chunk of the open image as icysixel_feed does, but only up to its first graphics new
+ * line, the byte `-`. So a host can draw each band of six rows at once. The caller feeds the rest
+ * of the chunk after the bytes consumed. */
+uint32_t icysixel_feed_band(icysixel *handle, const uint8_t *chunk, size_t length,
+                            icysixel_fed *fed);
+
 /* Returns 1 if an image is open: it was begun, and neither finished nor aborted. */
 uint8_t icysixel_is_receiving(icysixel *handle);
 
@@ -228,11 +250,61 @@ size_t icysixel_get_rows_so_far(icysixel *handle);
  * rows together, and 1151 for each sixel. */
 uint64_t icysixel_get_canvas_paints(icysixel *handle);
 
+/* Copies `rows` final rows of the open image, from row `first` on, to `buf`. The first of them
+ * starts at buf[0]. Columns on the right of the image so far are background. A later error takes no
+ * row back. It does not allocate. The errors, in this order, are:
+ *
+ * - ICYSIXEL_NO_SESSION if no image is open;
+ * - ICYSIXEL_ROWS_NOT_FINAL if first + rows is above icysixel_get_rows_so_far;
+ * - ICYSIXEL_ROWS_RELEASED if rows from `first` on were released;
+ * - ICYSIXEL_BAD_STRIDE if the stride is shorter than a row or a pixel, or the rows overflow
+ *   size_t;
+ * - ICYSIXEL_BUFFER_TOO_SMALL. */
+uint32_t icysixel_copy_rows(icysixel *handle, size_t first, size_t rows,
+                            const icysixel_layout *layout, uint8_t *buf, size_t size);
+
+/* Releases the final rows above row `rows` of the open image, which were copied. So an image that
+ * is shown while it comes takes the memory of one band: copy the final rows and release them after
+ * each band. icysixel_finish_into copies those that are left. icysixel_finish fails by
+ * ICYSIXEL_OUT_OF_MEMORY, because no memory has the whole image. The call does not allocate. The
+ * errors are ICYSIXEL_NO_SESSION if no image is open, and ICYSIXEL_ROWS_NOT_FINAL if `rows` is
+ * above icysixel_get_rows_so_far. */
+uint32_t icysixel_release_rows(icysixel *handle, size_t rows);
+
+/* Closes the open image as icysixel_finish does, and copies its rows from `first` on to `buf` in
+ * place of storing it. A stored image stays. With `first` 0 these are all rows, and otherwise those
+ * below the rows that were copied before. No row is copied if crop ends the image above `first`.
+ * It does not allocate. The errors of icysixel_finish come first. ICYSIXEL_ROWS_RELEASED,
+ * ICYSIXEL_BAD_STRIDE and ICYSIXEL_BUFFER_TOO_SMALL leave the image open as it was. `wanted` is
+ * the number of bytes needed with ICYSIXEL_BUFFER_TOO_SMALL, and 0 otherwise. */
+uint32_t icysixel_finish_into(icysixel *handle, size_t first, const icysixel_layout *layout,
+                              uint8_t *buf, size_t size, icysixel_shape *shape, size_t *wanted);
+
 /* Closes the open image, stores it and writes its properties. It replaces an image that is stored.
  * The decoder takes over the image's registers. The errors are those of icysixel_feed, and
  * ICYSIXEL_INCOMPLETE for a DCS sequence without terminator. A payload can end anywhere. An error
  * closes the image too. Then no image is stored and no register changes. */
 uint32_t icysixel_finish(icysixel *handle, icysixel_shape *shape);
+
+/* Opens a payload as icysixel_begin_payload does, but a fault leaves the picture before it. After
+ * a feed that fails icysixel_finish_partial stores this picture. It occupies its memory until
+ * then, or until the image is aborted. */
+uint32_t icysixel_begin_partial(icysixel *handle, int32_t p1, int32_t p2, int32_t grid);
+
+/* Closes the open image, stores its picture up to the first fault, and writes the properties of
+ * the picture and the code of the fault. It replaces an image that is stored.
+ *
+ * - An image without a fault is stored whole, `fault` is ICYSIXEL_OK, and the decoder takes over
+ *   its registers.
+ * - A payload with a fault is stored as the image of the commands before the faulty one. The
+ *   decoder is unchanged. After a feed that failed there is this picture only if the image was
+ *   begun by icysixel_begin_partial.
+ *
+ * The errors are ICYSIXEL_NO_SESSION if no image is open, ICYSIXEL_STREAM_FAILED or
+ * ICYSIXEL_DCS_STREAM_FAILED after a feed that kept no picture, ICYSIXEL_INCOMPLETE for a DCS
+ * sequence without terminator, and ICYSIXEL_OUT_OF_MEMORY. They close the image too. Then no image
+ * is stored, no register changes, and `shape` and `fault` are not written. */
+uint32_t icysixel_finish_partial(icysixel *handle, icysixel_shape *shape, uint32_t *fault);
 
 /* Aborts the open image, if there is one. The decoder is unchanged. */
 uint32_t icysixel_abort(icysixel *handle);
@@ -307,6 +379,15 @@ size_t icysixel_get_limit(icysixel *handle);
 /* Sets how many pixels an image that is begun afterwards can have. 0 is taken as 1, and a number
  * above 67,108,864 as 67,108,864. */
 uint32_t icysixel_set_limit(icysixel *handle, size_t pixels);
+
+/* Writes how many columns from the left and rows from the top an image can have: 1,000,000 each in
+ * a new decoder, which clips nothing. */
+uint32_t icysixel_get_clip(icysixel *handle, icysixel_size *clip);
+
+/* Sets the columns and rows that an image that is begun afterwards can have. The image is the
+ * picture restricted to them. What lies outside is not stored, and does not count for the limit of
+ * pixels. 0 is taken as 1, and a number above 1,000,000 as 1,000,000. */
+uint32_t icysixel_set_clip(icysixel *handle, size_t width, size_t height);
 
 /* -- Encoding -- */
 

@@ -8,7 +8,8 @@ use Rattle.std.specs.Prelude.{Err, OnOk, OnErr, IfOk, IfErr, IsErrAnd}
 use Rattle.std.specs.List.{list_any, range_with_len}
 use Rattle.std.specs.Option.{option_map, option_or}
 use Rattle.sixel_base.specs.CallFault.{CallFault, ColorCount, Exactly, FailsBy, IndexRange}
-use Rattle.sixel_base.specs.CallFault.{IsCallFault, RowsNotFinal, ShortStride, color_count_fault}
+use Rattle.sixel_base.specs.CallFault.{IsCallFault, RowsNotFinal, RowsReleased, ShortStride}
+use Rattle.sixel_base.specs.CallFault.{color_count_fault}
 use Rattle.sixel_base.specs.Fault.{IsFault, TooLarge}
 use Rattle.sixel_base.specs.Limits.{area_limit}
 use Rattle.sixel_base.specs.Payload.{Image}
@@ -33,6 +34,7 @@ IsSized (Some (Exactly error)) = IsKnown error
 IsSized (Some ColorCount) = Unit {0}
 IsSized (Some IndexRange) = Unit {0}
 IsSized (Some RowsNotFinal) = ⊥
+IsSized (Some RowsReleased) = ⊥
 IsSized (Some ShortStride) = ⊥
 
 known_by : (X : Type 0) (error : SixelError) (fault : Option CallFault) → IsSized fault
@@ -40,6 +42,7 @@ known_by : (X : Type 0) (error : SixelError) (fault : Option CallFault) → IsSi
 known_by X error None sized is = subst IsKnown (sym is) tt
 known_by X error (Some (Exactly other)) sized is = subst IsKnown (sym is) sized
 known_by X error (Some RowsNotFinal) sized is = absurd sized
+known_by X error (Some RowsReleased) sized is = absurd sized
 known_by X error (Some ShortStride) sized is = absurd sized
 known_by X (InvalidData text) (Some ColorCount) sized is = inr (inl is)
 known_by X (InvalidData text) (Some IndexRange) sized is = inr (inr is)

@@ -8,3 +8,5 @@ pub mod MissingCommand
 pub mod Spread
 pub mod Stored
 pub mod Witnesses
+pub mod RowsCodes
+pub mod EndedImages

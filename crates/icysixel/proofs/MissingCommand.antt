@@ -4,14 +4,16 @@ use Rattle.std.proofs.Common.{◌≡◌, ◌≢◌, ℕ, ◌+◌, ◌*◌, Bool,
 use Rattle.std.proofs.Common.{None, refl, ◌∙◌, sym, arith, inl, inr}
 use Rattle.std.specs.Prelude.{IfSome, if◌then◌else◌, nat_lt, ◌||◌}
 use Rattle.std.specs.Option.{option_or}
+use Rattle.sixel_base.specs.Clip.{clipped_height, clipped_width}
 use Rattle.sixel_base.specs.Dcs.{dcs_status, has_ended}
 use Rattle.sixel_base.specs.Fault.{Fault, Malformed, TooLarge, Incomplete, Overflow}
 use Rattle.sixel_base.specs.Bytes.{front}
 use Rattle.sixel_base.specs.Fields.{field}
 use Rattle.sixel_base.specs.History.{Token, Sixel, Repeat, Raster, Color, Return, Newline, Skip}
 use Rattle.sixel_base.specs.History.{History, history_of}
+use Rattle.sixel_base.specs.Limits.{Limit}
 use Rattle.sixel_base.specs.Payload.{area_fault, extent_fault, fault_of, first_fault}
-use Rattle.sixel_base.specs.Place.{span, across, down, width, height}
+use Rattle.sixel_base.specs.Place.{span, across, down}
 use Rattle.icy_sixel.specs.Receiver.{Form, Nothing, OfPayload, OfString, is_open, failed, end_fault}
 use Rattle.icy_sixel.specs.Receiver.{end_wants}
 use Rattle.icysixel.specs.Code.{IsTold, fault_code}
@@ -45,14 +47,16 @@ overflow = omega arith
 incomplete : fault_code Incomplete ≢ 16
 incomplete = omega arith
 
-extent_other : (limit right lower : ℕ) (history : History)
+extent_other : (limit : Limit) (right lower : ℕ) (history : History)
     → IsOther (extent_fault limit right lower history)
 extent_other limit right lower history =
     branch (nat_lt 1000000 right || nat_lt 1000000 lower) (Some Malformed)
     (area_fault limit history) malformed
-    (branch (nat_lt limit (width history * height history)) (Some TooLarge) None too_large tt)
+    (branch (nat_lt limit.pixels (clipped_width limit history * clipped_height limit history))
+    (Some TooLarge) None too_large tt)
 
-token_other : (limit : ℕ) (token : Token) (older : History) → IsOther (fault_of limit token older)
+token_other : (limit : Limit) (token : Token) (older : History)
+    → IsOther (fault_of limit token older)
 token_other limit (Sixel bits) older =
     extent_other limit (across older + span older) (down older + 6) (Sixel bits ∷ older)
 token_other limit (Repeat text) older =
@@ -65,13 +69,13 @@ token_other limit Newline older =
     branch (nat_lt 0xffff_ffff_ffff_ffff (down older + 6)) (Some Overflow) None overflow tt
 token_other limit (Skip byte) older = tt
 
-payload_other : (limit : ℕ) (history : History) → IsOther (first_fault limit history)
+payload_other : (limit : Limit) (history : History) → IsOther (first_fault limit history)
 payload_other limit [] = tt
 payload_other limit (token ∷ older) =
     either (first_fault limit older) (fault_of limit token older) (payload_other limit older)
     (token_other limit token older)
 
-end_other : (limit : ℕ) (form : Form) (bytes : List ℕ) → IsOther (end_fault limit form bytes)
+end_other : (limit : Limit) (form : Form) (bytes : List ℕ) → IsOther (end_fault limit form bytes)
 end_other limit Nothing bytes = omega arith
 end_other limit (OfPayload settings) bytes = payload_other limit (history_of (front bytes))
 end_other limit OfString bytes =
@@ -89,7 +93,7 @@ failed_other (OfPayload settings) = omega arith
 failed_other OfString = omega arith
 
 -- an image that was begun was refused before, or has another fault
-opened_other : (limit : ℕ) (form : Form) (bytes : List ℕ) (was_refused wants : Bool) (code : ℕ)
+opened_other : (limit : Limit) (form : Form) (bytes : List ℕ) (was_refused wants : Bool) (code : ℕ)
     → (was_refused ≡ true → code ≡ fault_code (failed form))
     → (was_refused ≡ false → code ≢ 0 → IsTold code wants (end_fault limit form bytes)) → code ≢ 16
 opened_other limit form bytes true wants code again refused = λ is.
@@ -99,7 +103,7 @@ opened_other limit form bytes false wants code again refused = λ is.
     (refused refl (omega (arith, is))) is
 
 -- an image that was not begun has code 2
-form_other : (limit : ℕ) (form : Form) (bytes : List ℕ) (was_refused wants : Bool) (code : ℕ)
+form_other : (limit : Limit) (form : Form) (bytes : List ℕ) (was_refused wants : Bool) (code : ℕ)
     → (is_open form ≡ false → code ≡ 2)
     → (is_open form ≡ true → was_refused ≡ true → code ≡ fault_code (failed form))
     → (is_open form ≡ true → was_refused ≡ false → code ≢ 0

@@ -4,7 +4,7 @@
 use Rattle.std.specs.Prelude.{◌≡◌, ◌≢◌, ℕ, nat_le, ℤ, pos, negsuc, Bool, IsTrue, if◌then◌else◌}
 use Rattle.std.specs.Prelude.{◌⊎◌, List, Option, Some, None, IsSomeAnd, codes}
 use Rattle.sixel_base.specs.CallFault.{CallFault, Exactly, ColorCount, IndexRange, RowsNotFinal}
-use Rattle.sixel_base.specs.CallFault.{ShortStride}
+use Rattle.sixel_base.specs.CallFault.{RowsReleased, ShortStride}
 use Rattle.sixel_base.specs.Fault.{Fault, text_of, Malformed, TooLarge, MissingCommand, BadHeader}
 use Rattle.sixel_base.specs.Fault.{StreamFailed, DcsStreamFailed, Incomplete, NoIntroducer}
 use Rattle.sixel_base.specs.Fault.{Overflow}
@@ -43,12 +43,13 @@ IsCodeOf code error.NoSixelData = code ≡ 12
 IsCodeOf code (error.InvalidData text) =
     (fault : Fault) → text_of fault ≡ Some text.now → code ≡ fault_code fault
 
--- the code of a fault of a call on an image and a palette; C has no call with a fault of rows
+-- the code of a fault of a call on an image and a palette; FinalRows has the codes of rows
 abbrev pub IsCallCode : ℕ → CallFault → Type 0
 IsCallCode code (Exactly error) = IsCodeOf code error
 IsCallCode code ColorCount = code ≡ 20
 IsCallCode code IndexRange = code ≡ 21
 IsCallCode code RowsNotFinal = ⊥
+IsCallCode code RowsReleased = ⊥
 IsCallCode code ShortStride = ⊥
 
 -- A call with this fault returns its code, or out of memory if an allocation fails before. A call

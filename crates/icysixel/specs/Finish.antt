@@ -23,7 +23,7 @@ pub record IsFinished (before after : State) (now : Shape) (code : ℕ) : Type 0
       (receivers.found before.receiver.image.form before.receiver.image.bytes) (image_value image)
   pub shape : (image : SixelImage) → after.image ≡ Some image → now ≡ shape_of (image_value image)
   pub bytes : code ≡ 0 → now.bytes ≡ 4 * (now.width * now.height)
-  pub area : code ≡ 0 → now.width * now.height ≤ before.receiver.image.start.pixel_limit
+  pub area : code ≡ 0 → now.width * now.height ≤ before.receiver.image.start.pixel_limit.pixels
   pub registers : code ≡ 0 → AreFoundRegisters before.receiver.image.start
       (receivers.found before.receiver.image.form before.receiver.image.bytes)
       after.receiver.decoder.registers

@@ -3,8 +3,10 @@ pub mod Colors
 pub mod Drawn
 pub mod Encodings
 pub mod Feed
+pub mod FinalRows
 pub mod Finish
 pub mod Kept
+pub mod PartialImages
 pub mod RefinedOutput
 pub mod Rows
 pub mod Shape

@@ -4,6 +4,7 @@ use Rattle.std.specs.Prelude.{ℕ, ◌+◌, ◌-◌, ◌*◌, ◌==◌, nat_lt, 
 use Rattle.std.specs.Prelude.{Some, None, slice_range, ◌≡◌}
 use Rattle.sixel_base.specs.Payload.{Image}
 use Rattle.sixel_base.specs.Picture.{joined}
+use Rattle.icy_sixel.specs.FinalRows.{usize_max}
 
 -- the stride that C passes: 0 means rows without gaps
 abbrev pub stride_of : ℕ → ℕ → ℕ
@@ -16,7 +17,7 @@ extent stride wide height = stride * (height - 1) + wide
 -- the same, if a row fits its stride and the number fits a usize
 abbrev pub wanted : ℕ → ℕ → ℕ → Option ℕ
 wanted stride wide height =
-    if nat_lt stride wide || nat_lt 0xffff_ffff_ffff_ffff (extent stride wide height) then None
+    if nat_lt stride wide || nat_lt usize_max (extent stride wide height) then None
     else Some (extent stride wide height)
 
 -- the rows, joined

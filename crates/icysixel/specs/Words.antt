@@ -26,4 +26,6 @@ words code =
     else if code == 19 then codes "DCS stream decoder has failed"
     else if code == 20 then codes "number of colors is not 1 to 256"
     else if code == 21 then codes "palette index out of range"
+    else if code == 22 then codes "rows are not final"
+    else if code == 23 then codes "rows were released"
     else codes "unknown code"

@@ -58,6 +58,10 @@ pub enum Code {
     ColorCount = 20,
     /// A palette index is past the palette.
     IndexRange = 21,
+    /// Rows of the open image are not final.
+    RowsNotFinal = 22,
+    /// Rows of the open image were released.
+    RowsReleased = 23,
 }
 
 /// The code of an error.

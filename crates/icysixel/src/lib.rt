@@ -4,6 +4,7 @@
 //! can be called on it, also after it was freed.
 #![tactic(auto)]
 
+pub mod buffer_layout;
 mod bytes;
 mod code;
 pub mod encoding;
@@ -15,6 +16,7 @@ pub mod limits;
 pub mod once;
 pub mod palette;
 pub mod parameters;
+pub mod partial;
 mod pixels;
 pub mod progress;
 pub mod refined;

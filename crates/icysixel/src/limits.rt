@@ -1,11 +1,12 @@
-//! The calls that read and set the crop and the limit of pixels.
+//! The calls that read and set the crop, the limit of pixels and the clip.
 
-ghost use Rattle.std.specs.Prelude.{◌≡◌, ◌==◌, Some, None, is_some, true, not, cond};
-ghost use Rattle.sixel_base.specs.Decoder.{limit_of};
+ghost use Rattle.std.specs.Prelude.{◌≡◌, ◌≢◌, ◌==◌, Some, None, is_some, true, not, cond};
+ghost use Rattle.sixel_base.specs.Decoder.{with_clip, with_pixel_limit};
 ghost use Rattle.icysixel.specs.Kept.{AreKept};
 ghost use Rattle.icysixel.specs.declared.state.State.{State};
 
 use crate::code::Code;
+use crate::progress::Size;
 use crate::slot::Slot;
 
 /// Returns 1 if images are cropped to their raster attributes, and 0 if not.
@@ -49,7 +50,7 @@ pub extern "C" fn icysixel_get_limit(slot: &mut Slot) -> usize
     ensures same { slot.new.handle.state ≡ slot.old.handle.state }
     ensures none { slot.old.handle.state ≡ None → result ≡ 0 }
     ensures value { (state : State) → slot.old.handle.state ≡ Some state
-        → result ≡ state.receiver.decoder.pixel_limit }
+        → result ≡ state.receiver.decoder.pixel_limit.pixels }
 {
     if !slot.is_held() {
         return 0;
@@ -64,8 +65,8 @@ pub extern "C" fn icysixel_set_limit(slot: &mut Slot, pixels: usize) -> u32
     ensures none { slot.old.handle.state ≡ None → result ≡ 1 }
     ensures done { is_some slot.old.handle.state ≡ true → result ≡ 0 }
     ensures decoder { (before after : State) → slot.old.handle.state ≡ Some before
-        → slot.new.handle.state ≡ Some after → after.receiver.decoder
-        ≡ record before.receiver.decoder { pixel_limit = limit_of pixels } }
+        → slot.new.handle.state ≡ Some after
+        → after.receiver.decoder ≡ with_pixel_limit before.receiver.decoder pixels }
     ensures image { (before after : State) → slot.old.handle.state ≡ Some before
         → slot.new.handle.state ≡ Some after → after.receiver.image ≡ before.receiver.image }
     ensures kept { (before after : State) → slot.old.handle.state ≡ Some before
@@ -75,5 +76,48 @@ pub extern "C" fn icysixel_set_limit(slot: &mut Slot, pixels: usize) -> u32
         return Code::NoHandle as u32;
     }
     slot.state().receiver.set_pixel_limit(pixels);
+    Code::Success as u32
+}
+
+/// Writes how many columns from the left and rows from the top an image can have.
+#[unsafe(no_mangle)]
+pub extern "C" fn icysixel_get_clip(slot: &mut Slot, clip: &mut Size) -> u32
+    ensures same { slot.new.handle.state ≡ slot.old.handle.state }
+    ensures none { slot.old.handle.state ≡ None → result ≡ 1 }
+    ensures done { is_some slot.old.handle.state ≡ true → result ≡ 0 }
+    ensures width { (state : State) → slot.old.handle.state ≡ Some state
+        → clip.new.width ≡ state.receiver.decoder.pixel_limit.columns }
+    ensures height { (state : State) → slot.old.handle.state ≡ Some state
+        → clip.new.height ≡ state.receiver.decoder.pixel_limit.rows }
+    ensures told { result ≢ 0 → clip.new ≡ clip.old }
+{
+    if !slot.is_held() {
+        return Code::NoHandle as u32;
+    }
+    let (width, height) = slot.state().receiver.decoder().clip();
+    *clip = Size { width, height };
+    Code::Success as u32
+}
+
+/// Sets how many columns from the left and rows from the top an image can have.
+///
+/// Each is at least 1, and at most 1,000,000.
+#[unsafe(no_mangle)]
+pub extern "C" fn icysixel_set_clip(slot: &mut Slot, width: usize, height: usize) -> u32
+    ensures held { is_some slot.new.handle.state ≡ is_some slot.old.handle.state }
+    ensures none { slot.old.handle.state ≡ None → result ≡ 1 }
+    ensures done { is_some slot.old.handle.state ≡ true → result ≡ 0 }
+    ensures decoder { (before after : State) → slot.old.handle.state ≡ Some before
+        → slot.new.handle.state ≡ Some after
+        → after.receiver.decoder ≡ with_clip before.receiver.decoder width height }
+    ensures image { (before after : State) → slot.old.handle.state ≡ Some before
+        → slot.new.handle.state ≡ Some after → after.receiver.image ≡ before.receiver.image }
+    ensures kept { (before after : State) → slot.old.handle.state ≡ Some before
+        → slot.new.handle.state ≡ Some after → AreKept before after }
+{
+    if !slot.is_held() {
+        return Code::NoHandle as u32;
+    }
+    slot.state().receiver.set_clip(width, height);
     Code::Success as u32
 }

@@ -44,7 +44,7 @@ pub extern "C" fn icysixel_decode(
         → after.image ≡ Some image → shape.new ≡ shape_of (image_value image) }
     ensures bytes { result ≡ 0 → shape.new.bytes ≡ 4 * (shape.new.width * shape.new.height) }
     ensures area { (before : State) → slot.old.handle.state ≡ Some before → result ≡ 0
-        → shape.new.width * shape.new.height ≤ before.receiver.decoder.pixel_limit }
+        → shape.new.width * shape.new.height ≤ before.receiver.decoder.pixel_limit.pixels }
     ensures registers { (before after : State) → slot.old.handle.state ≡ Some before
         → slot.new.handle.state ≡ Some after → result ≡ 0
         → AreFoundRegisters before.receiver.decoder (found bytes.now)
@@ -101,7 +101,7 @@ pub extern "C" fn icysixel_decode_payload(
         → after.image ≡ Some image → shape.new ≡ shape_of (image_value image) }
     ensures bytes { result ≡ 0 → shape.new.bytes ≡ 4 * (shape.new.width * shape.new.height) }
     ensures area { (before : State) → slot.old.handle.state ≡ Some before → result ≡ 0
-        → shape.new.width * shape.new.height ≤ before.receiver.decoder.pixel_limit }
+        → shape.new.width * shape.new.height ≤ before.receiver.decoder.pixel_limit.pixels }
     ensures registers { (before after : State) → slot.old.handle.state ≡ Some before
         → slot.new.handle.state ≡ Some after → result ≡ 0 → after.receiver.decoder.registers
         ≡ payload_registers (origin_of before.receiver.decoder (settings_of p1 p2 grid)) bytes.now }

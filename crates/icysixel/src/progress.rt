@@ -56,7 +56,8 @@ pub extern "C" fn icysixel_get_canvas_paints(slot: &mut Slot) -> u64
     ensures value { (state : State) → slot.old.handle.state ≡ Some state
         → result ≡ state.receiver.image.paints }
     ensures at_most { (state : State) → slot.old.handle.state ≡ Some state
-        → result ≤ band_columns state.receiver.image.form state.receiver.image.bytes
+        → result ≤ band_columns state.receiver.image.start.pixel_limit
+        state.receiver.image.form state.receiver.image.bytes
         + most_run_paints * sixels state.receiver.image.form state.receiver.image.bytes }
     ensures refused { (state : State) → slot.old.handle.state ≡ Some state
         → state.receiver.image.is_refused ≡ true → result ≡ 0 }
@@ -74,7 +75,8 @@ pub extern "C" fn icysixel_get_drawn_height(slot: &mut Slot) -> usize
     ensures none { slot.old.handle.state ≡ None → result ≡ 0 }
     ensures accepted { (state : State) → slot.old.handle.state ≡ Some state
         → state.receiver.image.is_refused ≡ false
-        → result ≡ drawn_height state.receiver.image.form state.receiver.image.bytes }
+        → result ≡ drawn_height state.receiver.image.start.pixel_limit
+        state.receiver.image.form state.receiver.image.bytes }
     ensures refused { (state : State) → slot.old.handle.state ≡ Some state
         → state.receiver.image.is_refused ≡ true → result ≡ 0 }
 {
@@ -96,10 +98,12 @@ pub extern "C" fn icysixel_get_size_so_far(slot: &mut Slot, size: &mut Size) -> 
         → result ≡ 3 }
     ensures no_size { (state : State) → slot.old.handle.state ≡ Some state
         → is_open state.receiver.image.form ≡ true → state.receiver.image.is_refused ≡ false
-        → size_of state.receiver.image.form state.receiver.image.bytes ≡ None → result ≡ 3 }
+        → size_of state.receiver.image.start.pixel_limit
+        state.receiver.image.form state.receiver.image.bytes ≡ None → result ≡ 3 }
     ensures size { (state : State) (width height : ℕ) → slot.old.handle.state ≡ Some state
         → is_open state.receiver.image.form ≡ true → state.receiver.image.is_refused ≡ false
-        → size_of state.receiver.image.form state.receiver.image.bytes ≡ Some (width, height)
+        → size_of state.receiver.image.start.pixel_limit
+        state.receiver.image.form state.receiver.image.bytes ≡ Some (width, height)
         → (result ≡ 0) × (size.new ≡ record { width = width; height = height }) }
     ensures told { result ≢ 0 → size.new ≡ size.old }
 {

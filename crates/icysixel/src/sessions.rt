@@ -1,8 +1,9 @@
 //! The calls that create and free a decoder, and begin, feed and abort an image.
 
-ghost use Rattle.std.specs.Prelude.{◌≡◌, ◌≢◌, Some, None, is_some, true};
+ghost use Rattle.std.specs.Prelude.{◌≡◌, ◌≢◌, Some, None, is_some, false, true};
 ghost use Rattle.sixel_base.specs.Decoder.{new_decoder};
-ghost use Rattle.icy_sixel.specs.Receiver.{OfPayload, OfString, begun, no_image};
+ghost use Rattle.icy_sixel.specs.FinalRows.{band_of};
+ghost use Rattle.icy_sixel.specs.Receiver.{OfPayload, OfString, begun, idle, no_image};
 ghost use Rattle.icysixel.specs.Code.{settings_of};
 ghost use Rattle.icysixel.specs.Code.{status_code as code_of_status};
 ghost use Rattle.icysixel.specs.Code.{status_byte as byte_of_status};
@@ -15,6 +16,7 @@ use crate::parameters::settings;
 use crate::slot::Slot;
 use crate::state::State;
 use icy_sixel::Received;
+use icy_sixel::receiver::band_len;
 use std::alloc::Global;
 
 /// The result of a feed: consumed bytes, the status and the control byte that ended the image.
@@ -47,7 +49,7 @@ pub extern "C" fn icysixel_new(alloc: Global, slot: &mut Slot) -> u32
     ensures codes { result ≢ 0 → result ≡ 8 }
     ensures held { result ≡ 0 → is_some slot.new.handle.state ≡ true }
     ensures made { (state : State) → slot.new.handle.state ≡ Some state
-        → state.receiver ≡ record { decoder = new_decoder; image = no_image } }
+        → state.receiver ≡ idle new_decoder }
     ensures no_image { (state : State) → slot.new.handle.state ≡ Some state
         → state.image ≡ None }
     ensures no_text { (state : State) → slot.new.handle.state ≡ Some state
@@ -83,7 +85,8 @@ pub extern "C" fn icysixel_begin(alloc: Global, slot: &mut Slot) -> u32
         → slot.new.handle.state ≡ Some after → AreKept before after }
     ensures image { (before after : State) → slot.old.handle.state ≡ Some before
         → slot.new.handle.state ≡ Some after
-        → after.receiver.image ≡ begun OfString before.receiver.decoder }
+        → after.receiver.image
+        ≡ begun OfString before.receiver.decoder before.receiver.keeps_partial }
 {
     if !slot.is_held() {
         return Code::NoHandle as u32;
@@ -111,13 +114,15 @@ pub extern "C" fn icysixel_begin_payload(
         → slot.new.handle.state ≡ Some after → AreKept before after }
     ensures image { (before after : State) → slot.old.handle.state ≡ Some before
         → slot.new.handle.state ≡ Some after → after.receiver.image
-        ≡ begun (OfPayload (settings_of p1 p2 grid)) before.receiver.decoder }
+        ≡ begun (OfPayload (settings_of p1 p2 grid)) before.receiver.decoder false }
 {
     if !slot.is_held() {
         return Code::NoHandle as u32;
     }
     let settings = settings(p1, p2, grid);
-    slot.state().receiver.begin_frame(alloc, settings);
+    let state = slot.state();
+    state.receiver.set_keep_partial(false);
+    state.receiver.begin_frame(alloc, settings);
     Code::Success as u32
 }
 
@@ -135,6 +140,22 @@ pub extern "C" fn icysixel_feed(slot: &mut Slot, piece: &[u8], fed: &mut Fed) ->
         return Code::NoHandle as u32;
     }
     feed(slot.state(), piece, fed)
+}
+
+/// Reads a chunk of the open image up to its first graphics new line, and writes the result.
+#[unsafe(no_mangle)]
+pub extern "C" fn icysixel_feed_band(slot: &mut Slot, piece: &[u8], fed: &mut Fed) -> u32
+    ensures held { is_some slot.new.handle.state ≡ is_some slot.old.handle.state }
+    ensures none { slot.old.handle.state ≡ None → result ≡ 1 }
+    ensures fed { (before after : State) → slot.old.handle.state ≡ Some before
+        → slot.new.handle.state ≡ Some after
+        → IsFed before after (band_of piece.now) fed.new result }
+    ensures told { result ≢ 0 → fed.new ≡ fed.old }
+{
+    if !slot.is_held() {
+        return Code::NoHandle as u32;
+    }
+    feed(slot.state(), &piece[..band_len(piece)], fed)
 }
 
 /// Reads a chunk of the image, if one is open, and writes the result.

@@ -6,7 +6,7 @@ ghost use Rattle.std.specs.Option.{ForSome};
 ghost use Rattle.sixel_base.specs.Decoder.{new_decoder};
 ghost use Rattle.sixel_base.specs.Fault.{Fault, Faults, IsFault};
 ghost use Rattle.icy_sixel.specs.ImageView.{image_value};
-ghost use Rattle.icy_sixel.specs.Receiver.{no_image};
+ghost use Rattle.icy_sixel.specs.Receiver.{idle};
 ghost use Rattle.icysixel.specs.Code.{IsKnown, IsTold, fault_code};
 ghost use Rattle.icysixel.specs.Shape.{shape_of};
 
@@ -28,7 +28,7 @@ pub struct State {
 impl State {
     /// A new decoder, with nothing stored.
     pub fn new() -> State
-        ensures receiver { result.receiver ≡ record { decoder = new_decoder; image = no_image } }
+        ensures receiver { result.receiver ≡ idle new_decoder }
         ensures image { result.image ≡ None }
         ensures text { result.text ≡ None }
     {
@@ -42,7 +42,7 @@ impl State {
     /// Replaces the decoder and returns the one before. An open image is aborted.
     pub fn replace_decoder(&mut self, decoder: SixelDecoder) -> SixelDecoder
         ensures former { result ≡ self.old.receiver.decoder }
-        ensures receiver { self.new.receiver ≡ record { decoder = decoder; image = no_image } }
+        ensures receiver { self.new.receiver ≡ idle decoder }
         ensures image { self.new.image ≡ self.old.image }
         ensures text { self.new.text ≡ self.old.text }
     {

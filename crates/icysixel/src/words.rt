@@ -63,6 +63,8 @@ fn words(code: u32) -> &'static str
         19 => error::DCS_STREAM_FAILED,
         20 => error::COLOR_COUNT,
         21 => error::INDEX_RANGE,
+        22 => error::ROWS_NOT_FINAL,
+        23 => error::ROWS_RELEASED,
         _ => "unknown code",
     }
 }

@@ -50,7 +50,7 @@ returns-clause-finished c =
       shape = grind arith;
       bytes = c.store_decoded.ensures.bytes;
       area = λ done.
-          c.store_decoded.ensures.area image.start.pixel_limit done
+          c.store_decoded.ensures.area image.start.pixel_limit.pixels done
           (rw (← c.store_image.ensures.receiver) c.finish-answer.ensures.area);
       registers = grind arith;
       as_decoded = λ stored more is.

@@ -1,0 +1,81 @@
+//! How rows lie in a buffer of the caller, and the codes of what is wrong with it.
+
+ghost use Rattle.std.specs.Prelude.{◌≡◌, ◌≢◌, ℕ};
+ghost use Rattle.sixel_base.specs.CallFault.{Exactly, IsCallFault, RowsNotFinal, RowsReleased};
+ghost use Rattle.sixel_base.specs.CallFault.{ShortStride};
+ghost use Rattle.sixel_base.specs.declared.error.SixelError.TheVariants.{BufferSizeMismatch};
+ghost use Rattle.sixel_base.specs.declared.error.SixelError.TheVariants.{IntegerOverflow};
+ghost use Rattle.icysixel.specs.FinalRows.{layout_of, order_of, rows_code};
+
+use crate::code::Code;
+use crate::rows::stride_of;
+use icy_sixel::{ChannelOrder, RowLayout, SixelError};
+use sixel_base::error;
+
+/// How rows lie in a buffer: `icysixel_layout` of the header.
+#[repr(C)]
+#[derive(Clone, Copy)]
+pub struct BufferLayout {
+    /// The number of bytes from row to row, or 0 for rows without gaps.
+    pub stride: usize,
+    /// How many pixels of a row are written.
+    pub columns: usize,
+    /// 0 is RGBA, any other number BGRA.
+    pub order: u8,
+}
+
+impl BufferLayout {
+    /// The layout of rows.
+    pub fn row_layout(&self) -> RowLayout
+        ensures { result ≡ layout_of self.now }
+    {
+        RowLayout {
+            stride: stride_of(self.stride, self.columns.saturating_mul(4)),
+            columns: self.columns,
+            order: self.channel_order(),
+        }
+    }
+
+    /// The order of a pixel's bytes.
+    fn channel_order(&self) -> ChannelOrder
+        ensures { result ≡ order_of self.now }
+    {
+        if self.order == 0 {
+            ChannelOrder::Rgba
+        } else {
+            ChannelOrder::Bgra
+        }
+    }
+}
+
+/// The code of what is wrong with rows and a buffer for them.
+pub fn rows_code(error: &SixelError) -> u32
+    ensures not_final { IsCallFault error.now RowsNotFinal → result ≡ rows_code RowsNotFinal }
+    ensures released { IsCallFault error.now RowsReleased → result ≡ rows_code RowsReleased }
+    ensures short { IsCallFault error.now ShortStride → result ≡ rows_code ShortStride }
+    ensures overflow { error.now ≡ IntegerOverflow
+        → result ≡ rows_code (Exactly IntegerOverflow) }
+    ensures small { (expected actual : ℕ) → error.now ≡ BufferSizeMismatch expected actual
+        → result ≡ rows_code (Exactly (BufferSizeMismatch expected actual)) }
+    ensures refused { result ≢ 0 }
+{
+    match error {
+        SixelError::BufferSizeMismatch { .. } => Code::BufferTooSmall as u32,
+        SixelError::InvalidData(error::ROWS_NOT_FINAL) => Code::RowsNotFinal as u32,
+        SixelError::InvalidData(error::ROWS_RELEASED) => Code::RowsReleased as u32,
+        _ => Code::BadStride as u32,
+    }
+}
+
+/// The number of bytes that the rows take, if the buffer is too small, or 0.
+pub fn needed_len(error: &SixelError) -> usize
+    ensures small { (expected actual : ℕ) → error.now ≡ BufferSizeMismatch expected actual
+        → result ≡ expected }
+    ensures other { ((expected actual : ℕ) → error.now ≡ BufferSizeMismatch expected actual → ⊥)
+        → result ≡ 0 }
+{
+    match error {
+        SixelError::BufferSizeMismatch { expected, .. } => *expected,
+        _ => 0,
+    }
+}
