@@ -15,6 +15,7 @@ use Rattle.sixel_base.specs.declared.status.SixelDcsFeedStatus.{SixelDcsFeedStat
 use Rattle.sixel_base.specs.declared.status.SixelDcsFeedStatus.TheVariants.{NeedMoreData, Complete}
 use Rattle.sixel_base.specs.declared.status.SixelDcsFeedStatus.TheVariants.{Cancelled, Interrupted}
 use Rattle.sixel_base.specs.Dcs.{dcs_status, dcs_fault, has_ended, end_fault}
+use Rattle.sixel_base.specs.Limits.{Limit}
 use Rattle.sixel.specs.Strings.{string_fault}
 
 -- a list whose length is 0 is empty
@@ -36,7 +37,7 @@ pub record Begins (fed bytes : List ℕ) : Type 0 where
 pub begins_fits : (fed bytes : List ℕ) → Begins fed bytes → length fed ≤ length bytes
 begins_fits fed bytes b = omega (arith, length-append fed b.rest, ap length b.joined)
 
-string_fault-some : (limit : ℕ) (bytes : List ℕ) → 0 < length bytes
+string_fault-some : (limit : Limit) (bytes : List ℕ) → 0 < length bytes
     → string_fault limit bytes ≡ option_or (dcs_fault limit bytes) (end_fault (dcs_status bytes))
 string_fault-some limit [] some = absurd (omega arith)
 string_fault-some limit (byte ∷ bytes) some = refl
@@ -64,7 +65,8 @@ Faults-weaker IntegerOverflow may found found' stays is =
 Faults-weaker OutOfMemory may found found' stays is = refl
 
 -- what is wrong with the bytes is the sequence's fault
-pub refused_early : (e : SixelError) (may : Bool) (limit : ℕ) (bytes : List ℕ) → 0 < length bytes
+pub refused_early : (e : SixelError) (may : Bool) (limit : Limit) (bytes : List ℕ)
+    → 0 < length bytes
     → Faults e may (dcs_fault limit bytes) → Faults e true (string_fault limit bytes)
 refused_early e may limit bytes some is =
     Faults-weaker e may (dcs_fault limit bytes) (string_fault limit bytes)
@@ -86,7 +88,7 @@ no_end_fault (Cancelled byte) ended = refl
 no_end_fault (Interrupted byte) ended = refl
 
 -- a sequence that has ended without a fault has none
-pub ended_faultless : (limit : ℕ) (bytes : List ℕ) → 0 < length bytes
+pub ended_faultless : (limit : Limit) (bytes : List ℕ) → 0 < length bytes
     → has_ended (dcs_status bytes) ≡ true → dcs_fault limit bytes ≡ None
     → string_fault limit bytes ≡ None
 ended_faultless limit bytes some ended faultless =

@@ -1,9 +1,13 @@
 -- What a call on the image of a file reports.
 use Rattle.std.proofs.Common.{◌≡◌, ◌⊎◌, Option, None, Some, Ok, Err, inl, inr, refl}
-use Rattle.std.proofs.Common.{MatchOption}
+use Rattle.std.proofs.Common.{MatchOption, List, ℕ, Result, String, ap, ◌∙◌}
+use Rattle.std.specs.declared.alloc.Global.{Global}
+use Rattle.netpbm.specs.Image.{Rgba}
+use Rattle.netpbm.specs.declared.error.NetpbmError.{NetpbmError}
 use Rattle.sixel_base.specs.CallFault.{CallFault, FailsBy, IsCallFault}
 use Rattle.sixel_base.specs.declared.error.SixelError.{SixelError}
 use Rattle.sixel_base.specs.declared.error.SixelError.TheVariants.{OutOfMemory}
+use Rattle.sixel.specs.Drawing.{Painting, painting_fault, painting_read}
 
 -- a call that returned a value has no fault
 pub no_call_fault : {X : Type 0} (fault : Option CallFault) (x : X) → FailsBy fault (Ok x)
@@ -17,3 +21,21 @@ pub call_error : (X : Type 0) (fault : Option CallFault) (error : SixelError)
     → (error ≡ OutOfMemory) ⊎ MatchOption fault ⊥ (IsCallFault error)
 call_error X None error by = inl by
 call_error X (Some fault) error by = inr by
+
+-- the colors and the image of two files that were read
+pub both_read : (palette : Result (List (List ℕ)) NetpbmError) (image : Result Rgba NetpbmError)
+    (colors : List (List ℕ)) (drawn : Rgba) → palette ≡ Ok colors → image ≡ Ok drawn
+    → painting_read palette image ≡ Ok (record { colors = colors; image = drawn })
+both_read palette image colors drawn read_colors read_image =
+    ap (λ p. painting_read p image) read_colors ∙ ap (painting_read (Ok colors)) read_image
+
+-- what the error of a call on both is
+pub painting_error : (painting : Painting) (read : Result Painting NetpbmError) (error : SixelError)
+    → read ≡ Ok painting → FailsBy {X = String Global} (painting_fault painting) (Err error)
+    → (error ≡ OutOfMemory) ⊎ ((x : Painting) × (read ≡ Ok x)
+    × MatchOption (painting_fault x) ⊥ (IsCallFault error))
+painting_error painting read error is fails =
+    elim (call_error (String Global) (painting_fault painting) error fails) [
+      | inl memory ↦ inl memory
+      | inr fault ↦ inr (painting, is, fault)
+    ]

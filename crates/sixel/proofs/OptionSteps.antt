@@ -1,11 +1,12 @@
 -- What pairs of a name and a value change, one after another.
 use Rattle.std.proofs.Common.{◌≡◌, ◌↔◌, ◌≤◌, ◌-◌, List, [], ◌∷◌, ℕ, Some, None, refl, sym, ap, ◌∙◌}
 use Rattle.std.proofs.Common.{subst, arith, length, get_or, take, drop, string_bytes, String}
+use Rattle.std.proofs.Common.{Bor, IfSome, Option, codes, option_map}
 use Rattle.std.specs.declared.alloc.Global.{Global}
 use Rattle.std.proofs.lemmas.List.{take_all}
 use Rattle.std.proofs.lemmas.Option.{none-some, same_Some}
-use Rattle.sixel.specs.Options.{AreOptions, IsOption, default_options}
-use Rattle.sixel.specs.Words.{words_of}
+use Rattle.sixel.specs.Options.{AreOptions, IsLastPath, IsOption, default_options}
+use Rattle.sixel.specs.Words.{IsPalettePath, words_of}
 use Rattle.sixel.specs.declared.draw_options.DrawOptions.{DrawOptions}
 
 -- an option that is known leads to the options that the rest changes
@@ -51,7 +52,7 @@ pub record ReadPair (words : List (String Global)) (name value : String Global)
   pub name_read : read_name ≡ string_bytes name
   pub value_read : read_value ≡ string_bytes value
 
-read_words : (words : List (String Global)) (name value : String Global) (n v : List ℕ)
+pub read_words : (words : List (String Global)) (name value : String Global) (n v : List ℕ)
     → ReadPair words name value n v
     → words_of words ≡ n ∷ v ∷ words_of (take (length words - 2) (drop 2 words))
 read_words words name value n v p =
@@ -104,3 +105,13 @@ first_word (w ∷ rest) word read many is_word is_read =
     ap (λ x. string_bytes x ∷ words_of rest) (sym is_word)
     ∙ ap (λ x. x ∷ words_of rest) (sym is_read)
     ∙ ap (λ x. read ∷ words_of x) (sym all)
+
+-- the path that right arguments of `draw` name
+pub path_known : (words rest : List (List ℕ)) (options : DrawOptions) (path : Option (Bor (List ℕ)))
+    → words ≡ codes "draw" ∷ rest → AreOptions default_options rest options
+    → IsLastPath None rest (option_map (λ p. p.now) path)
+    → IfSome path (λ p. IsPalettePath words p.now)
+path_known words rest options None begins are last = tt
+path_known words rest options (Some path) begins are last =
+    subst (λ (w : List (List ℕ)). IsPalettePath w path.now) (sym begins)
+    (refl, (options, are), last)

@@ -16,6 +16,12 @@ use Rattle.sixel_io.specs.declared.fault.Fault.TheVariants.{Sixel, Netpbm, Input
 use Rattle.sixel.specs.declared.words.Word.{Word}
 use Rattle.sixel.specs.declared.words.Word.TheVariants.{Payload, Decode, Pam, Frames, Encode}
 use Rattle.sixel.specs.declared.words.Word.TheVariants.{Draw}
+use Rattle.sixel_encoder.specs.declared.dither.Dither.{Dither}
+use Rattle.netpbm.specs.Image.{Rgba, image_of}
+use Rattle.netpbm.specs.declared.error.NetpbmError.{NetpbmError}
+use Rattle.sixel.specs.declared.draw_options.DrawPalette.{DrawPalette}
+use Rattle.sixel.specs.declared.draw_options.DrawPalette.TheVariants.{Standard, Refined, File}
+use Rattle.sixel.specs.Drawing.{IsDrawAnswer}
 use Rattle.sixel.specs.Form.{line_end, image_line, image_form, pam_header}
 use Rattle.sixel.specs.Form.{pam_form}
 use Rattle.sixel.specs.Ending.{Ending, Done, Refused, Unreadable}
@@ -73,26 +79,36 @@ Serves-last {A} (Err f) IsText a b c front bytes whole before all part is_output
     let same = subst (λ t. IsText t Done) (sym (append-nil (front ++ bytes))) whole in
     Serves-part {A = A} (Err f) f IsText a b c front bytes [] same refl is_output before part
 
+-- out of memory is an ending of any drawing
+drawn_wanting : (source : DrawPalette) (dither : Dither) (palette : List ℕ)
+    (read : Result Rgba NetpbmError)
+    → IsDrawAnswer source dither palette read [] (Refused OutOfMemory)
+drawn_wanting Standard dither palette read = (refl, inl refl)
+drawn_wanting (Refined max_colors) dither palette read = (refl, inl refl)
+drawn_wanting File dither palette read = (refl, inl refl)
+
 -- out of memory is an ending of any work
-wanting : (word : Word) (bytes : List ℕ) → IsAnswer word bytes [] (Refused OutOfMemory)
-wanting Payload bytes = (refl, refl)
-wanting Decode bytes = (refl, refl)
-wanting Pam bytes = (refl, refl)
-wanting (Frames length) bytes = Broken new_decoder bytes OutOfMemory refl
-wanting (Encode width height colors) bytes = (refl, inl refl)
-wanting (Draw options) bytes = (refl, inl refl)
+wanting : (word : Word) (palette bytes : List ℕ)
+    → IsAnswer word palette bytes [] (Refused OutOfMemory)
+wanting Payload palette bytes = (refl, refl)
+wanting Decode palette bytes = (refl, refl)
+wanting Pam palette bytes = (refl, refl)
+wanting (Frames length) palette bytes = Broken new_decoder bytes OutOfMemory refl
+wanting (Encode width height colors) palette bytes = (refl, inl refl)
+wanting (Draw options) palette bytes =
+    drawn_wanting options.palette options.dither palette (image_of bytes)
 
 -- an allocation can fail before anything is written
-pub Writes-wanting : (word : Word) (remaining held : Option (List ℕ)) (error : SixelError)
-    → (Sixel error ≡ Input) ⊎ (Sixel error ≡ Sixel OutOfMemory)
+pub Writes-wanting : (word : Word) (palette : List ℕ) (remaining held : Option (List ℕ))
+    (error : SixelError) → (Sixel error ≡ Input) ⊎ (Sixel error ≡ Sixel OutOfMemory)
     → IfSome remaining
-    (λ bytes. Writes (λ text. IsAnswer word bytes text (Refused error)) held held)
-Writes-wanting word remaining held error (inl unread) = absurd cc
-Writes-wanting word None held error (inr is) = tt
-Writes-wanting word (Some bytes) held error (inr is) =
+    (λ bytes. Writes (λ text. IsAnswer word palette bytes text (Refused error)) held held)
+Writes-wanting word palette remaining held error (inl unread) = absurd cc
+Writes-wanting word palette None held error (inr is) = tt
+Writes-wanting word palette (Some bytes) held error (inr is) =
     let same : OutOfMemory ≡ error = cc in (
       [],
-      subst (λ e. IsAnswer word bytes [] (Refused e)) same (wanting word bytes),
+      subst (λ e. IsAnswer word palette bytes [] (Refused e)) same (wanting word palette bytes),
       Appends-nil held,
     )
 
@@ -100,6 +116,14 @@ Writes-wanting word (Some bytes) held error (inr is) =
 pub Keeps-same : (held : Option (List ℕ)) → Keeps held held
 Keeps-same None = tt
 Keeps-same (Some bytes) = refl
+
+-- an error with nothing written
+pub Serves-refused : {A : Type 0} (result : Result A Fault) (IsText : List ℕ → Ending → Type 0)
+    (held : Option (List ℕ)) (error : SixelError) → IsErrAnd result (λ f. f ≡ Sixel error)
+    → IsText [] (Refused error) → Serves result IsText held held
+Serves-refused (Ok _) IsText held error failed is = absurd failed
+Serves-refused {A} (Err f) IsText held error failed is =
+    subst (λ e. Serves {A = A} (Err e) IsText held held) (sym failed) ([], is, Appends-nil held)
 
 -- ---- images
 

@@ -48,16 +48,18 @@ IsFoundAnswer form bytes =
     IsImageAnswer form (found_fault new_decoder.pixel_limit (found bytes))
     (IsFoundImage new_decoder (found bytes))
 
--- the output of this work on these bytes, and how it ends
-abbrev pub IsAnswer : Word → List ℕ → List ℕ → Ending → Type 0
-IsAnswer Payload bytes =
+-- the output of this work on these bytes, with those of the palette file, and how it ends
+abbrev pub IsAnswer : Word → List ℕ → List ℕ → List ℕ → Ending → Type 0
+IsAnswer Payload palette bytes =
     IsImageAnswer image_form (payload_fault fresh.pixel_limit bytes)
     (λ image. image ≡ payload_image fresh bytes)
-IsAnswer Decode bytes = IsFoundAnswer image_form bytes
-IsAnswer Pam bytes = IsFoundAnswer pam_form bytes
-IsAnswer (Frames length) bytes = AreAnswered new_decoder bytes
-IsAnswer (Encode width height colors) bytes = IsTextAnswer (square_value bytes width height) colors
-IsAnswer (Draw options) bytes = IsDrawAnswer options (image_of bytes)
+IsAnswer Decode palette bytes = IsFoundAnswer image_form bytes
+IsAnswer Pam palette bytes = IsFoundAnswer pam_form bytes
+IsAnswer (Frames length) palette bytes = AreAnswered new_decoder bytes
+IsAnswer (Encode width height colors) palette bytes =
+    IsTextAnswer (square_value bytes width height) colors
+IsAnswer (Draw options) palette bytes =
+    IsDrawAnswer options.palette options.dither palette (image_of bytes)
 
 -- an output, whatever its ending, begins with this text
 abbrev pub Begins : (List ℕ → Ending → Type 0) → List ℕ → Type 0

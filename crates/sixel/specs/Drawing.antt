@@ -1,39 +1,95 @@
--- What `draw` writes for the image of a file: its SIXEL output in a refined palette, in the compact
--- form. The defaults are this program's own.
-use Rattle.std.specs.Prelude.{◌≡◌, ◌⊎◌, ℕ, List, [], Option, None, Result, Ok, Err, MatchOption}
-use Rattle.netpbm.specs.Image.{Rgba}
+-- What `draw` writes for the image of a file: its SIXEL output in a refined palette or in that of a
+-- palette file, in the compact form. The defaults are this program's own.
+use Rattle.std.specs.Prelude.{◌≡◌, ◌⊎◌, ◌/◌, ℕ, List, [], length, map, Option, None, Result, Ok}
+use Rattle.std.specs.Prelude.{Err, MatchOption}
+use Rattle.std.specs.List.{range_with_len}
+use Rattle.netpbm.specs.Image.{Rgba, image_of}
 use Rattle.netpbm.specs.declared.error.NetpbmError.{NetpbmError}
 use Rattle.netpbm.specs.declared.error.NetpbmError.TheVariants.{OutOfMemory as NoMemory}
 use Rattle.sixel_base.specs.CallFault.{CallFault, IsCallFault}
 use Rattle.sixel_base.specs.declared.error.SixelError.TheVariants.{OutOfMemory}
 use Rattle.sixel_base.specs.Payload.{Image}
+use Rattle.sixel_palette.specs.Palette.{color_at}
 use Rattle.sixel_encoder.specs.Encoding.{square_value}
-use Rattle.sixel_encoder.specs.IndexedDrawing.{palette_fault}
+use Rattle.sixel_encoder.specs.IndexedDrawing.{IsPaletteText, palette_fault}
 use Rattle.sixel_encoder.specs.RefinedText.{IsRefinedText}
+use Rattle.sixel_encoder.specs.declared.dither.Dither.{Dither}
 use Rattle.sixel_encoder.specs.declared.form.TextForm.TheVariants.{Compact}
-use Rattle.sixel.specs.declared.draw_options.DrawOptions.{DrawOptions}
+use Rattle.sixel.specs.declared.draw_options.DrawPalette.{DrawPalette}
+use Rattle.sixel.specs.declared.draw_options.DrawPalette.TheVariants.{Standard, Refined, File}
 use Rattle.sixel.specs.Ending.{Ending, Done, Refused, Unreadable}
 
 -- the image of a file, of square pixels on a transparent background
 abbrev pub drawn_image : Rgba → Image
 drawn_image image = square_value image.pixels image.width image.height
 
--- what is wrong with an image that is to be drawn
-abbrev pub draw_fault : DrawOptions → Rgba → Option CallFault
-draw_fault options image = palette_fault (drawn_image image) options.max_colors
-
--- the bytes are the SIXEL output of an image
-abbrev pub IsDrawn : DrawOptions → Rgba → List ℕ → Type 0
-IsDrawn options image text =
-    IsRefinedText (drawn_image image) options.max_colors options.dither Compact text
-
--- the output for what was read, or an error with nothing written
-abbrev pub IsDrawAnswer : DrawOptions → Result Rgba NetpbmError → List ℕ → Ending → Type 0
-IsDrawAnswer options read text Done =
-    (image : Rgba) × (read ≡ Ok image) × (draw_fault options image ≡ None)
-    × IsDrawn options image text
-IsDrawAnswer options read text (Refused error) =
-    (text ≡ []) × ((error ≡ OutOfMemory) ⊎ ((image : Rgba) × (read ≡ Ok image)
-    × MatchOption (draw_fault options image) ⊥ (IsCallFault error)))
-IsDrawAnswer options read text (Unreadable error) =
+-- What was read has the output of a call: a text, or an error with nothing written. The call is
+-- given by its fault and the texts that it can return.
+abbrev pub IsDrawn : {X : Type 0} → (X → Option CallFault) → (X → List ℕ → Type 0)
+    → Result X NetpbmError → List ℕ → Ending → Type 0
+IsDrawn {X} fault IsText read text Done =
+    (x : X) × (read ≡ Ok x) × (fault x ≡ None) × IsText x text
+IsDrawn {X} fault IsText read text (Refused error) =
+    (text ≡ []) × ((error ≡ OutOfMemory) ⊎ ((x : X) × (read ≡ Ok x)
+    × MatchOption (fault x) ⊥ (IsCallFault error)))
+IsDrawn fault IsText read text (Unreadable error) =
     (text ≡ []) × ((error ≡ NoMemory) ⊎ (read ≡ Err error))
+
+-- ---- a refined palette
+
+-- what is wrong with an image that is to be drawn in a refined palette
+abbrev pub refined_fault : ℕ → Rgba → Option CallFault
+refined_fault max_colors image = palette_fault (drawn_image image) max_colors
+
+-- the output in a refined palette of at most so many colors
+abbrev pub IsRefinedAnswer : ℕ → Dither → Result Rgba NetpbmError → List ℕ → Ending → Type 0
+IsRefinedAnswer max_colors dither =
+    IsDrawn (refined_fault max_colors)
+    (λ image. IsRefinedText (drawn_image image) max_colors dither Compact)
+
+-- ---- the palette of a file
+
+-- the colors of pixels, without their alpha
+abbrev pub colors_of : List ℕ → List (List ℕ)
+colors_of pixels = map (color_at pixels) (range_with_len 0 (length pixels / 4))
+
+-- the colors of the image that was read from a palette file
+abbrev pub colors_read : Result Rgba NetpbmError → Result (List (List ℕ)) NetpbmError
+colors_read (Ok image) = Ok (colors_of image.pixels)
+colors_read (Err error) = Err error
+
+-- the colors of a palette file
+abbrev pub palette_of : List ℕ → Result (List (List ℕ)) NetpbmError
+palette_of file = colors_read (image_of file)
+
+-- an image that is to be drawn in these colors
+pub record Painting : Type 0 where
+  pub colors : List (List ℕ)
+  pub image : Rgba
+
+-- both files were read, or the first error
+abbrev pub painting_read : Result (List (List ℕ)) NetpbmError → Result Rgba NetpbmError
+    → Result Painting NetpbmError
+painting_read (Ok colors) (Ok image) = Ok (record { colors = colors; image = image })
+painting_read (Ok colors) (Err error) = Err error
+painting_read (Err error) image = Err error
+
+-- what is wrong with an image that is to be drawn in these colors
+abbrev pub painting_fault : Painting → Option CallFault
+painting_fault it = palette_fault (drawn_image it.image) (length it.colors)
+
+-- the output in the colors of a palette file
+abbrev pub IsPaletteAnswer : Dither → List ℕ → Result Rgba NetpbmError → List ℕ → Ending → Type 0
+IsPaletteAnswer dither file image =
+    IsDrawn painting_fault
+    (λ it. IsPaletteText (drawn_image it.image) it.colors dither Compact)
+    (painting_read (palette_of file) image)
+
+-- ---- any palette
+
+-- the output for what was read by this option, with the bytes of the palette file
+abbrev pub IsDrawAnswer : DrawPalette → Dither → List ℕ → Result Rgba NetpbmError → List ℕ → Ending
+    → Type 0
+IsDrawAnswer Standard dither file = IsRefinedAnswer 256 dither
+IsDrawAnswer (Refined max_colors) dither file = IsRefinedAnswer max_colors dither
+IsDrawAnswer File dither file = IsPaletteAnswer dither file

@@ -14,13 +14,14 @@ use Rattle.sixel_base.specs.declared.status.SixelDcsFeedStatus.{SixelDcsFeedStat
 use Rattle.sixel_base.specs.declared.status.SixelDcsFeedStatus.TheVariants.{NeedMoreData, Complete}
 use Rattle.sixel_base.specs.declared.status.SixelDcsFeedStatus.TheVariants.{Cancelled, Interrupted}
 use Rattle.sixel_base.specs.Dcs.{dcs_status, dcs_count, dcs_fault, end_fault}
+use Rattle.sixel_base.specs.Limits.{Limit}
 use Rattle.sixel_base.specs.OneShot.{found, IsFoundImage, AreFoundRegisters}
 use Rattle.sixel.specs.Form.{image_form}
 use Rattle.sixel.specs.Ending.{Ending, Done, Refused}
 
 -- why the sequence is rejected that the bytes begin with, if no more come after them: a fault, or
 -- an end that is missing
-abbrev pub string_fault : ℕ → List ℕ → Option Fault
+abbrev pub string_fault : Limit → List ℕ → Option Fault
 string_fault limit [] = None
 string_fault limit (byte ∷ bytes) =
     option_or (dcs_fault limit (byte ∷ bytes)) (end_fault (dcs_status (byte ∷ bytes)))

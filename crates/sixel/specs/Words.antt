@@ -4,7 +4,8 @@ use Rattle.std.specs.Prelude.{◌≡◌, ◌^◌, ◌<◌, ◌∷◌, [], List, 
 use Rattle.std.specs.Prelude.{String, string_bytes}
 use Rattle.std.specs.declared.alloc.Global.{Global}
 use Rattle.sixel.specs.Number.{IsNumber}
-use Rattle.sixel.specs.Options.{AreOptions, default_options}
+use Rattle.sixel.specs.Options.{AreOptions, IsLastPath, default_options}
+use Rattle.sixel.specs.declared.draw_options.DrawOptions.{DrawOptions}
 use Rattle.sixel.specs.declared.notice.Notice.{Notice}
 use Rattle.sixel.specs.declared.notice.Notice.TheVariants.{Help, Version}
 use Rattle.sixel.specs.declared.words.Word.{Word}
@@ -53,6 +54,13 @@ IsAskedBy [] asked = ⊥
 IsAskedBy (word ∷ words) (Draw options) =
     (word ≡ codes "draw") × AreOptions default_options words options
 IsAskedBy (word ∷ words) asked = IsAskedInFour (word ∷ words) asked
+
+-- the arguments after the program's own name ask for drawing, and this is the path of `-p`
+abbrev pub IsPalettePath : List (List ℕ) → List ℕ → Type 0
+IsPalettePath [] path = ⊥
+IsPalettePath (word ∷ words) path =
+    (word ≡ codes "draw") × ((options : DrawOptions) × AreOptions default_options words options)
+    × IsLastPath None words (Some path)
 
 -- the arguments after the program's own name ask for this notice, whatever the input is
 abbrev pub IsNoticeFor : List (List ℕ) → Notice → Type 0

@@ -1,7 +1,8 @@
 //! The arguments of `draw`: options, each with its value.
 
 ghost use Rattle.std.specs.Prelude.{◌≡◌, ◌↔◌, Some};
-ghost use Rattle.sixel.specs.Options.{AreOptions, IsDither, IsOption, default_options};
+ghost use Rattle.sixel.specs.Options.{AreOptions, IsCounted, IsDither, IsOfFile, IsOption};
+ghost use Rattle.sixel.specs.Options.{default_options};
 ghost use Rattle.sixel.specs.Words.{words_of};
 
 use crate::words::number_of_colors;
@@ -10,10 +11,21 @@ use icy_sixel::encoder::Dither;
 /// How `draw` encodes an image.
 #[derive(Clone, Copy)]
 pub struct DrawOptions {
-    /// The most colors of the palette.
-    pub max_colors: u16,
+    /// Where the palette comes from.
+    pub palette: DrawPalette,
     /// How pixels get their palette entries.
     pub dither: Dither,
+}
+
+/// Where the palette of an image comes from.
+#[derive(Clone, Copy)]
+pub enum DrawPalette {
+    /// No option states it: it is refined for the image, of at most 256 colors.
+    Standard,
+    /// It is refined for the image, of at most so many colors.
+    Refined(u16),
+    /// It is read from the palette file.
+    File,
 }
 
 /// The options that the arguments after `draw` state.
@@ -38,7 +50,7 @@ impl DrawOptions {
         ensures { result ≡ default_options }
     {
         Self {
-            max_colors: 256,
+            palette: DrawPalette::Standard,
             dither: Dither::Diffusion { strength: 6 },
         }
     }
@@ -50,7 +62,11 @@ impl DrawOptions {
     {
         match name {
             "-c" => Some(Self {
-                max_colors: number_of_colors(value)?,
+                palette: self.palette.refined(value)?,
+                ..self
+            }),
+            "-p" => Some(Self {
+                palette: self.palette.of_file()?,
                 ..self
             }),
             "-d" => Some(Self {
@@ -58,6 +74,29 @@ impl DrawOptions {
                 ..self
             }),
             _ => None,
+        }
+    }
+}
+
+impl DrawPalette {
+    /// The refined palette that a value of `-c` states, which contradicts `-p`.
+    fn refined(self, value: &str) -> Option<Self>
+        ensures { (palette : DrawPalette)
+            → IsCounted self value.now palette ↔ (result ≡ Some palette) }
+    {
+        match self {
+            Self::Standard | Self::Refined(_) => Some(Self::Refined(number_of_colors(value)?)),
+            Self::File => None,
+        }
+    }
+
+    /// The palette of a file, which contradicts `-c`.
+    fn of_file(self) -> Option<Self>
+        ensures { (palette : DrawPalette) → IsOfFile self palette ↔ (result ≡ Some palette) }
+    {
+        match self {
+            Self::Standard | Self::File => Some(Self::File),
+            Self::Refined(_) => None,
         }
     }
 }

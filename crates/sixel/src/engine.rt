@@ -1,59 +1,60 @@
 //! The work of the program: it reads the input, decodes or encodes it, and writes the output.
 
-ghost use Rattle.std.specs.Prelude.{◌≡◌, OnOk, IfSome};
+ghost use Rattle.std.specs.Prelude.{◌≡◌, [], OnOk, IfSome};
 ghost use Rattle.std.specs.Io.KnownBytes.{Keeps, IsAtEnd};
 ghost use Rattle.sixel_base.specs.declared.error.SixelError.{SixelError};
 ghost use Rattle.netpbm.specs.declared.error.NetpbmError.{NetpbmError};
 ghost use Rattle.sixel_io.specs.declared.fault.Fault.TheVariants.{Sixel, Netpbm, Input, Output};
 ghost use Rattle.sixel.specs.declared.words.Word.TheVariants.{Payload, Decode, Pam, Encode};
-ghost use Rattle.sixel.specs.declared.words.Word.TheVariants.{Draw};
 ghost use Rattle.sixel.specs.Words.{IsServable};
 ghost use Rattle.sixel.specs.Ending.{Done, Refused, Unreadable};
 ghost use Rattle.sixel.specs.Answer.{IsAnswer, Begins, Serves};
 ghost use Rattle.sixel_io.specs.Output.{Writes};
 
-use crate::draw_options::DrawOptions;
+use crate::drawing::draw;
 use crate::images::write_image;
 use crate::pam::write_pam;
 use crate::strings::write_strings;
 use crate::words::Word;
-use icy_sixel::{DcsSettings, EncodeOptions, SixelImage, TextForm, sixel_encode};
-use netpbm::read_image;
+use icy_sixel::{DcsSettings, EncodeOptions, SixelImage, sixel_encode};
 use sixel_io::{Fault, read_to_end, write_all};
 use std::alloc::Global;
 use std::io::{Read, Write};
 
 /// Reads the input to its end, does the work of the argument, and writes the output.
 ///
-/// The chunks of [`Word::Frames`] have at least one byte, as those of `read_word` have.
+/// The chunks of [`Word::Frames`] have at least one byte, as those of `read_word` have. The palette
+/// is the content of the palette file, if an option names one.
 ///
 /// The clauses on bytes hold if the reader reports the bytes that it has left, and the writer those
 /// that it contains.
 pub fn serve<R: Read, O: Write>(
     alloc: Global,
     word: Word,
+    palette: &[u8],
     input: &mut R,
     output: &mut O,
 ) -> Result<(), Fault>
     requires { IsServable word }
     ensures done { OnOk result (IfSome (R.remaining input.old) (λ bytes.
-        Writes (λ text. IsAnswer word bytes text Done)
+        Writes (λ text. IsAnswer word palette.now bytes text Done)
         (O.contents output.old) (O.contents output.new))) }
     ensures refused { (error : SixelError) → result ≡ Err (Sixel error) →
         IfSome (R.remaining input.old) (λ bytes.
-        Writes (λ text. IsAnswer word bytes text (Refused error))
+        Writes (λ text. IsAnswer word palette.now bytes text (Refused error))
         (O.contents output.old) (O.contents output.new)) }
     ensures unreadable { (error : NetpbmError) → result ≡ Err (Netpbm error) →
         IfSome (R.remaining input.old) (λ bytes.
-        Writes (λ text. IsAnswer word bytes text (Unreadable error))
+        Writes (λ text. IsAnswer word palette.now bytes text (Unreadable error))
         (O.contents output.old) (O.contents output.new)) }
     ensures unread { result ≡ Err Input → Keeps (O.contents output.old) (O.contents output.new) }
     ensures unwritten { result ≡ Err Output → IfSome (R.remaining input.old) (λ bytes.
-        Writes (Begins (IsAnswer word bytes)) (O.contents output.old) (O.contents output.new)) }
+        Writes (Begins (IsAnswer word palette.now bytes))
+        (O.contents output.old) (O.contents output.new)) }
     ensures at_end { OnOk result (IsAtEnd (R.remaining input.new)) }
 {
     let bytes = read_to_end(alloc, input, input_len(word))?;
-    answer(alloc, word, &bytes, output)
+    answer(alloc, word, palette, &bytes, output)
 }
 
 /// The number of bytes that the input is to have, or 0 if it can have any.
@@ -67,9 +68,15 @@ fn input_len(word: Word) -> usize {
 }
 
 /// Does the work on these bytes.
-fn answer<O: Write>(alloc: Global, word: Word, bytes: &[u8], output: &mut O) -> Result<(), Fault>
+fn answer<O: Write>(
+    alloc: Global,
+    word: Word,
+    palette: &[u8],
+    bytes: &[u8],
+    output: &mut O,
+) -> Result<(), Fault>
     requires { IsServable word }
-    ensures { Serves result (IsAnswer word bytes.now) (O.contents output.old)
+    ensures { Serves result (IsAnswer word palette.now bytes.now) (O.contents output.old)
         (O.contents output.new) }
 {
     match word {
@@ -84,13 +91,13 @@ fn answer<O: Write>(alloc: Global, word: Word, bytes: &[u8], output: &mut O) -> 
             colors,
             output,
         ),
-        Word::Draw(options) => draw(alloc, bytes, options, output),
+        Word::Draw(options) => draw(alloc, options, palette, bytes, output),
     }
 }
 
 /// Writes the image of one payload.
 fn payload<O: Write>(alloc: Global, bytes: &[u8], output: &mut O) -> Result<(), Fault>
-    ensures { Serves result (IsAnswer Payload bytes.now) (O.contents output.old)
+    ensures { Serves result (IsAnswer Payload [] bytes.now) (O.contents output.old)
         (O.contents output.new) }
 {
     let settings = DcsSettings::new(None, None, None);
@@ -100,7 +107,7 @@ fn payload<O: Write>(alloc: Global, bytes: &[u8], output: &mut O) -> Result<(), 
 
 /// Writes the image of the first DCS sequence, or of all bytes as one payload.
 fn decode<O: Write>(alloc: Global, bytes: &[u8], output: &mut O) -> Result<(), Fault>
-    ensures { Serves result (IsAnswer Decode bytes.now) (O.contents output.old)
+    ensures { Serves result (IsAnswer Decode [] bytes.now) (O.contents output.old)
         (O.contents output.new) }
 {
     let image = SixelImage::decode(alloc, bytes)?;
@@ -109,7 +116,7 @@ fn decode<O: Write>(alloc: Global, bytes: &[u8], output: &mut O) -> Result<(), F
 
 /// Writes the same image as a PAM file.
 fn pam<O: Write>(alloc: Global, bytes: &[u8], output: &mut O) -> Result<(), Fault>
-    ensures { Serves result (IsAnswer Pam bytes.now) (O.contents output.old)
+    ensures { Serves result (IsAnswer Pam [] bytes.now) (O.contents output.old)
         (O.contents output.new) }
 {
     let image = SixelImage::decode(alloc, bytes)?;
@@ -124,27 +131,10 @@ fn encode<O: Write>(
     max_colors: u16,
     output: &mut O,
 ) -> Result<(), Fault>
-    ensures { Serves result (IsAnswer (Encode size.0 size.1 max_colors) pixels.now)
+    ensures { Serves result (IsAnswer (Encode size.0 size.1 max_colors) [] pixels.now)
         (O.contents output.old) (O.contents output.new) }
 {
     let options = EncodeOptions { max_colors };
     let text = sixel_encode(alloc, pixels, size.0, size.1, &options)?;
-    write_all(output, text.as_bytes())
-}
-
-/// Writes the SIXEL output of the image of a PAM, a PPM or a PGM file.
-fn draw<O: Write>(
-    alloc: Global,
-    file: &[u8],
-    options: DrawOptions,
-    output: &mut O,
-) -> Result<(), Fault>
-    ensures { Serves result (IsAnswer (Draw options) file.now)
-        (O.contents output.old) (O.contents output.new) }
-{
-    let file = read_image(alloc, file)?;
-    let image = SixelImage::from_rgba(file.pixels, file.width, file.height);
-    let (colors, dither) = (options.max_colors, options.dither);
-    let text = image.encode_refined(alloc, colors, dither, TextForm::Compact)?;
     write_all(output, text.as_bytes())
 }

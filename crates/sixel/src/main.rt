@@ -2,9 +2,11 @@
 #![tactic(auto)]
 
 mod draw_options;
+mod drawing;
 mod engine;
 mod images;
 mod notice;
+mod palette_file;
 mod pam;
 mod response;
 mod strings;
@@ -13,10 +15,11 @@ mod tests;
 mod words;
 
 use notice::Notice;
+use palette_file::palette_path;
 use response::{Response, respond, response_of};
 use sixel_io::{Fault, write_all};
 use std::process::ExitCode;
-use std::{env, io};
+use std::{env, fs, io};
 
 fn main(rt: HostRuntime) -> io::Result<ExitCode> {
     let response = match arguments(&rt) {
@@ -29,9 +32,26 @@ fn main(rt: HostRuntime) -> io::Result<ExitCode> {
 
 /// Writes the notice that the arguments ask for, or does their work.
 fn response_to(rt: &HostRuntime, words: &[String]) -> Response {
-    match Notice::asked(words) {
-        Some(notice) => response_of(write_all(&mut rt.stdout(), notice.text().as_bytes())),
-        None => respond(rt.alloc(), words, &mut rt.stdin(), &mut rt.stdout()),
+    if let Some(notice) = Notice::asked(words) {
+        return response_of(write_all(&mut rt.stdout(), notice.text().as_bytes()));
+    }
+    match palette_bytes(rt, words) {
+        Ok(palette) => respond(
+            rt.alloc(),
+            words,
+            &palette,
+            &mut rt.stdin(),
+            &mut rt.stdout(),
+        ),
+        Err(_) => Response::NoPalette,
+    }
+}
+
+/// The content of the palette file, or no bytes if the arguments name none.
+fn palette_bytes(rt: &HostRuntime, words: &[String]) -> io::Result<Vec<u8>> {
+    match palette_path(words) {
+        Some(path) => fs::read(rt, path),
+        None => Ok(Vec::new(rt.alloc())),
     }
 }
 
@@ -55,6 +75,7 @@ fn tell(rt: &impl Eprint, response: &Response) -> io::Result<()> {
     match response {
         Response::Done => Ok(()),
         Response::Usage => rt.eprintln("usage"),
+        Response::NoPalette => rt.eprintln("palette fault"),
         Response::Failed(fault) => rt.eprintln(fault),
     }
 }

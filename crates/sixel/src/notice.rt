@@ -58,6 +58,7 @@ usage: sixel payload | decode | pam | frames N | encode W H K | draw [OPTION VAL
   encode W H K  encode raw RGBA of W x H pixels in at most K colors
   draw          encode a PAM, PPM or PGM file in a palette of its own
     -c COLORS     of at most COLORS colors; 256 by default
+    -p FILE       in the palette of the pixels of a PAM, PPM or PGM file
     -d DITHER     none, ordered or diffusion; diffusion by default
 
 Reads standard input and writes standard output. sixel(1) has the details.

@@ -3,8 +3,9 @@
 ghost use Rattle.std.specs.Prelude.{◌≤◌, IfOk};
 ghost use Rattle.sixel.specs.Words.{IsServable};
 
-use crate::draw_options::DrawOptions;
+use crate::draw_options::{DrawOptions, DrawPalette};
 use crate::engine::serve;
+use crate::palette_file::palette_path;
 use crate::words::{Word, asked, read_word};
 use icy_sixel::Dither;
 use sixel_io::Fault;
@@ -91,12 +92,15 @@ const IMAGES: &[u8] = b"image 1 6 9 0\n\
     image 1 6 9 0\n\
     \xff\0\0\xff\0\0\0\xff\0\0\0\xff\0\0\0\xff\0\0\0\xff\0\0\0\xff\n";
 
+/// A palette file: green and white.
+const PALETTE: &[u8] = b"P6 2 1 255\n\0\xff\0\xff\xff\xff";
+
 /// The output of some work, and the text of its error, which is empty if there is none.
 fn outcome(alloc: Global, word: Word, mut input: &[u8]) -> Result<(Vec<u8>, String), Fail>
     requires { IsServable word }
 {
     let mut output = Vec::new(alloc);
-    let error = match serve(alloc, word, &mut input, &mut output) {
+    let error = match serve(alloc, word, PALETTE, &mut input, &mut output) {
         Ok(()) => String::new(alloc),
         Err(fault) => format!(in alloc; "{fault}")?,
     };
@@ -161,7 +165,8 @@ fn draws(rt: HostRuntime) -> Result<(), Fail> {
     let Some(Word::Draw(options)) = asked(&arguments) else {
         panic!(rt; "{arguments:?}");
     };
-    assert_eq!(rt; (options.max_colors, options.dither), (2, Dither::Off));
+    assert!(rt; matches!(options.palette, DrawPalette::Refined(2)));
+    assert_eq!(rt; options.dither, Dither::Off);
     let red = b"\x1bP9;1;0q\"1;1;1;1#0;2;100;0;0#0@\x1b\\";
     let file = b"P6 1 1 255\n\xff\0\0";
     check(&rt, outcome(alloc, Word::Draw(options), file)?, red, "");
@@ -173,7 +178,7 @@ fn draws(rt: HostRuntime) -> Result<(), Fail> {
         short,
     );
     let none = DrawOptions {
-        max_colors: 0,
+        palette: DrawPalette::Refined(0),
         ..options
     };
     let count = "invalid SIXEL data: number of colors is not 1 to 256";
@@ -182,6 +187,64 @@ fn draws(rt: HostRuntime) -> Result<(), Fail> {
         assert!(rt; asked(&words(alloc, &[first, second])?).is_none());
     }
     assert!(rt; asked(&words(alloc, &["draw", "-d", "off"])?).is_none());
+    Ok(())
+}
+
+#[test]
+fn draws_in_palette(rt: HostRuntime) -> Result<(), Fail> {
+    let alloc = rt.alloc();
+    let arguments = words(alloc, &["draw", "-p", "other", "-d", "none", "-p", "path"])?;
+    assert_eq!(rt; palette_path(&arguments), Some("path"));
+    let Some(Word::Draw(options)) = asked(&arguments) else {
+        panic!(rt; "{arguments:?}");
+    };
+    assert!(rt; matches!(options.palette, DrawPalette::File));
+    // A light pixel is nearer to the white of the palette than to its green.
+    let white = b"\x1bP9;1;0q\"1;1;1;1#0;2;100;100;100#0@\x1b\\";
+    let file = b"P6 1 1 255\n\xf0\xff\xf0";
+    check(&rt, outcome(alloc, Word::Draw(options), file)?, white, "");
+    let standard = DrawOptions {
+        palette: DrawPalette::Standard,
+        ..options
+    };
+    let own = b"\x1bP9;1;0q\"1;1;1;1#0;2;94;100;94#0@\x1b\\";
+    check(&rt, outcome(alloc, Word::Draw(standard), file)?, own, "");
+    for (first, second) in [("-c", "-p"), ("-p", "-c")] {
+        let both = words(alloc, &["draw", first, "2", second, "2"])?;
+        assert!(rt; asked(&both).is_none());
+        assert!(rt; palette_path(&both).is_none());
+    }
+    assert!(rt; palette_path(&words(alloc, &["draw", "-c", "2"])?).is_none());
+    assert!(rt; palette_path(&words(alloc, &["pam", "-p", "path"])?).is_none());
+    Ok(())
+}
+
+#[test]
+fn unreadable_palettes(rt: HostRuntime) -> Result<(), Fail> {
+    let alloc = rt.alloc();
+    let image = b"P6 1 1 255\n\xf0\xff\xf0";
+    let mut large = String::from_str(alloc, "P5 257 1 255\n")?;
+    for _ in 0..257 {
+        large.push('x')?;
+    }
+    let count = "invalid SIXEL data: number of colors is not 1 to 256";
+    for (palette, error) in [
+        (large.as_bytes(), count),
+        (b"P6 2 1 255\n\0\xff\0\xff\xff", "incomplete netpbm image"),
+        (b"", "no PAM, PPM or PGM data found"),
+    ] {
+        let mut output = Vec::new(alloc);
+        let options = DrawOptions {
+            palette: DrawPalette::File,
+            dither: Dither::Off,
+        };
+        let word = Word::Draw(options);
+        match serve(alloc, word, palette, &mut image.as_slice(), &mut output) {
+            Ok(()) => panic!(rt; "{error}"),
+            Err(fault) => assert_eq!(rt; format!(in alloc; "{fault}")?.as_str(), error),
+        }
+        assert!(rt; output.is_empty());
+    }
     Ok(())
 }
 
@@ -215,7 +278,13 @@ fn failing_reads(rt: HostRuntime) {
                 failure,
             };
             let mut written = Vec::new(rt.alloc());
-            let result = serve(rt.alloc(), Word::Frames(1), &mut source, &mut written);
+            let result = serve(
+                rt.alloc(),
+                Word::Frames(1),
+                PALETTE,
+                &mut source,
+                &mut written,
+            );
             assert!(rt; matches!(result, Err(Fault::Input)), "read {failing}");
             assert_eq!(rt; source.calls, failing);
             assert!(rt; written.is_empty());
@@ -242,7 +311,7 @@ fn failing_writes(rt: HostRuntime) {
                 failing,
                 failure,
             };
-            let result = serve(rt.alloc(), Word::Frames(1), &mut source, &mut sink);
+            let result = serve(rt.alloc(), Word::Frames(1), PALETTE, &mut source, &mut sink);
             if failing <= WRITES {
                 assert!(rt; matches!(result, Err(Fault::Output)), "write {failing}");
                 assert_eq!(rt; sink.calls, failing);

@@ -22,7 +22,7 @@ pub enum Word {
     Frames(usize),
     /// Encode raw pixels of this width and height in at most so many colors.
     Encode(usize, usize, u16),
-    /// Encode the image of a PAM, a PPM or a PGM file in a refined palette.
+    /// Encode the image of a PAM, a PPM or a PGM file, in a refined palette or that of a file.
     Draw(DrawOptions),
 }
 
@@ -41,7 +41,7 @@ pub fn asked(words: &[String]) -> Option<Word>
 }
 
 /// The arguments after `draw`, if it is the first one.
-fn after_draw(words: &[String]) -> Option<&[String]>
+pub fn after_draw(words: &[String]) -> Option<&[String]>
     ensures { MatchOption result (¬ BeginsWithDraw (words_of words.now))
         (λ rest. words_of words.now ≡ codes "draw" ∷ words_of rest.now) }
 {

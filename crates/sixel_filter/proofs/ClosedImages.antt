@@ -20,6 +20,7 @@ use Rattle.sixel_base.specs.OneShot.{found, IsDecodedAs}
 use Rattle.sixel_base.specs.Payload.{Image}
 use Rattle.sixel_base.specs.Dcs.{dcs_status, dcs_fault, dcs_growths}
 use Rattle.sixel_base.specs.Dcs.{has_ended, end_fault}
+use Rattle.sixel_base.specs.Limits.{Limit}
 use Rattle.sixel_decoder.proofs.Finality.{status_ended, dcs_fault_ended}
 use Rattle.icy_sixel.specs.Receiver.{fault}
 use Rattle.sixel_encoder.specs.Encoding.{image_fault}
@@ -57,12 +58,12 @@ or_true true b is = refl
 or_true false b is = is
 
 -- memory may be out where the payload grows, and where the image has no fault
-pub grows_wants : (limit : ℕ) (bytes : List ℕ) → nat_lt 0 (dcs_growths bytes) ≡ true
+pub grows_wants : (limit : Limit) (bytes : List ℕ) → nat_lt 0 (dcs_growths bytes) ≡ true
     → string_wants limit bytes ≡ true
 grows_wants limit bytes is =
     or_true (is_none (string_fault limit bytes)) (nat_lt 0 (dcs_growths bytes)) is
 
-fine_wants : (limit : ℕ) (bytes : List ℕ) → string_fault limit bytes ≡ None
+fine_wants : (limit : Limit) (bytes : List ℕ) → string_fault limit bytes ≡ None
     → string_wants limit bytes ≡ true
 fine_wants limit bytes fine =
     ap (λ (f : Option Fault). is_none f || nat_lt 0 (dcs_growths bytes)) fine
@@ -84,7 +85,7 @@ no_end_fault : (status : SixelDcsFeedStatus) → has_ended status ≡ true → e
 no_end_fault status ended = ap (λ w. cond w None (Some Incomplete)) ended
 
 -- a string that has ended without a fault has none, whatever follows it
-ended_fine : (limit : ℕ) (bytes more : List ℕ) → dcs_fault limit bytes ≡ None
+ended_fine : (limit : Limit) (bytes more : List ℕ) → dcs_fault limit bytes ≡ None
     → has_ended (dcs_status bytes) ≡ true → string_fault limit (bytes ++ more) ≡ None
 ended_fine limit bytes more sound over =
     ap (λ o. option_or o (end_fault (dcs_status (bytes ++ more))))
@@ -119,7 +120,7 @@ pub closed_refused :
     → IsClosed work decoder (bytes ++ more) written after now
 closed_refused work decoder after bytes more written now e sound refused last kept
     (note, is_note, joined) =
-    let limit : ℕ = decoder.pixel_limit in
+    let limit : Limit = decoder.pixel_limit in
     let told : Faults e (string_wants limit (bytes ++ more)) (string_fault limit (bytes ++ more)) =
     refused_along e (has_ended (dcs_status bytes)) (string_wants limit (bytes ++ more))
     (end_fault (dcs_status bytes)) (string_fault limit (bytes ++ more))

@@ -14,6 +14,7 @@ use Rattle.sixel_base.specs.Fault.{Faults}
 use Rattle.sixel_base.specs.Dcs.{stage_in_payload}
 use Rattle.sixel_base.specs.Dcs.{dcs_status, dcs_count, dcs_fault, dcs_growths}
 use Rattle.sixel_base.specs.Dcs.{dcs_in_payload, has_ended, end_fault}
+use Rattle.sixel_base.specs.Limits.{Limit}
 use Rattle.icy_sixel.specs.Receiver.{Form, OfString, Reception, count}
 use Rattle.sixel_filter.specs.declared.words.Work.{Work}
 use Rattle.sixel_filter.specs.declared.filter.Filter.{Filter}
@@ -107,7 +108,7 @@ pub refused_leads : (f : Filter) (e : SixelError) (piece written now more whole 
     → Leads f written (piece ++ more) whole
 refused_leads f e piece written now more whole at r refused for_good (note, is_note, grown) w =
     let bytes : List ℕ = f.receiver.image.bytes in
-    let limit : ℕ = f.receiver.decoder.pixel_limit in
+    let limit : Limit = f.receiver.decoder.pixel_limit in
     let all : List ℕ = bytes ++ (piece ++ more) in
     let join : (bytes ++ piece) ++ more ≡ all = append_assoc bytes piece more in
     let told : Faults e (string_wants limit all) (string_fault limit all) =

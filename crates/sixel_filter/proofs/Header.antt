@@ -20,6 +20,7 @@ use Rattle.sixel_base.specs.Dcs.{Absent, Entered, Waiting, escaped, Stage, Headi
 use Rattle.sixel_base.specs.Dcs.{Reading, stage, stage_after, stage_by, stage_fault, stage_growths}
 use Rattle.sixel_base.specs.Dcs.{stage_in_payload, stage_status, payload_status, dcs_status}
 use Rattle.sixel_base.specs.Dcs.{dcs_fault, dcs_growths, dcs_in_payload}
+use Rattle.sixel_base.specs.Limits.{Limit}
 use Rattle.sixel_decoder.proofs.Terminators.{failing_stays}
 use Rattle.sixel_filter.specs.declared.words.Work.{Work}
 use Rattle.sixel_filter.specs.Stream.{IsFiltered, Passed, begins_image, goes_on, is_part}
@@ -274,7 +275,7 @@ first_reading (first ∷ bytes) byte s p some heading reading =
 no_growth : (n : ℕ) → n ≡ 0 → nat_lt 0 n ≡ false
 no_growth n none = grind (arith, nat_tests)
 
-refused_by : (e : SixelError) (limit : ℕ) (bytes more : List ℕ) (byte : ℕ) (w : Stage)
+refused_by : (e : SixelError) (limit : Limit) (bytes more : List ℕ) (byte : ℕ) (w : Stage)
     → 0 < length bytes → stage bytes ≡ Heading → stage (bytes ++ byte ∷ []) ≡ w
     → Faults e (nat_lt 0 (stage_growths w)) (stage_fault limit w)
     → dcs_in_payload ((bytes ++ byte ∷ []) ++ more) ≡ false
@@ -293,7 +294,7 @@ starts_some c [] starts = absurd starts
 starts_some c (byte ∷ bytes) starts = omega arith
 
 -- a byte that is refused in a header shows that it is none of an image
-pub header_refused : (e : SixelError) (limit : ℕ) (c : Bool) (bytes more : List ℕ) (byte : ℕ)
+pub header_refused : (e : SixelError) (limit : Limit) (c : Bool) (bytes more : List ℕ) (byte : ℕ)
     → stage bytes ≡ Heading → Starts c bytes
     → Faults e (nat_lt (dcs_growths bytes) (dcs_growths (bytes ++ byte ∷ [])))
     (dcs_fault limit (bytes ++ byte ∷ [])) → dcs_in_payload (bytes ++ byte ∷ more) ≡ false

@@ -21,6 +21,7 @@ use Rattle.sixel_base.specs.Dcs.{stage_status, stage_fault, stage_growths, stage
 use Rattle.sixel_base.specs.Dcs.{after_terminator, escape_status, escape_count, payload_status}
 use Rattle.sixel_base.specs.Dcs.{payload_status_by, payload_count, payload_count_by, dcs_status}
 use Rattle.sixel_base.specs.Dcs.{dcs_count, dcs_fault, dcs_growths, dcs_in_payload, has_ended}
+use Rattle.sixel_base.specs.Limits.{Limit}
 use Rattle.sixel_decoder.proofs.DcsChunks.{reading_fits}
 use Rattle.sixel_decoder.proofs.Finality.{settled_ended, status_ended, dcs_count_ended}
 use Rattle.sixel_decoder.proofs.Terminators.{stage_reading}
@@ -240,7 +241,7 @@ open_after (byte ∷ payload) more is =
 no_growth : (a b : ℕ) → b ≡ a → nat_lt a b ≡ false
 no_growth a b same = grind (arith, nat_tests)
 
-refused_open : (e : SixelError) (limit : ℕ) (p piece : List ℕ) (o : Option ℕ)
+refused_open : (e : SixelError) (limit : Limit) (p piece : List ℕ) (o : Option ℕ)
     → first_terminator p ≡ o → fed_fault limit p ≡ None
     → Faults e (nat_lt (growths (settled p)) (growths (settled (p ++ piece))))
     (fed_fault limit (p ++ piece)) → o ≡ None
@@ -253,7 +254,7 @@ refused_open e limit p piece (Some t) is sound refused =
     fine refused))
 
 -- it is not over yet, so what follows it is what follows its next bytes
-pub after_refused : (e : SixelError) (limit : ℕ) (bytes piece more : List ℕ)
+pub after_refused : (e : SixelError) (limit : Limit) (bytes piece more : List ℕ)
     → dcs_in_payload bytes ≡ true → dcs_fault limit bytes ≡ None
     → Faults e (nat_lt (dcs_growths bytes) (dcs_growths (bytes ++ piece)))
     (dcs_fault limit (bytes ++ piece))

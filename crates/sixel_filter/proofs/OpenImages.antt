@@ -12,6 +12,7 @@ use Rattle.sixel_base.specs.Fault.{Faults}
 use Rattle.sixel_base.specs.Dcs.{Stage, Heading, Failing, Reading, stage, stage_in_payload}
 use Rattle.sixel_base.specs.Dcs.{stage_fault, dcs_fault, dcs_growths}
 use Rattle.sixel_base.specs.Dcs.{dcs_in_payload, has_ended}
+use Rattle.sixel_base.specs.Limits.{Limit}
 use Rattle.icy_sixel.specs.Receiver.{Form, OfString, Reception, is_open, growths, fault}
 use Rattle.sixel_filter.specs.declared.words.Work.{Work}
 use Rattle.sixel_filter.specs.declared.filter.Filter.{Filter}
@@ -163,14 +164,14 @@ fed_receiving f f' piece r same_c same_decoder same_form same_start grown accept
       (sym grown) (starts_more f.in_character f.receiver.image.bytes piece r.starts));
 }
 
-still_by : (limit : ℕ) (w : Stage) → stage_in_payload w ≡ false → stage_fault limit w ≡ None
+still_by : (limit : Limit) (w : Stage) → stage_in_payload w ≡ false → stage_fault limit w ≡ None
     → w ≡ Heading
 still_by limit Heading none sound = refl
 still_by limit (Failing f) none sound = absurd cc
 still_by limit (Reading s p) none sound = absurd cc
 
 -- bytes that are neither refused nor in a payload are of a header
-pub still_heading : (limit : ℕ) (bytes : List ℕ) → dcs_in_payload bytes ≡ false
+pub still_heading : (limit : Limit) (bytes : List ℕ) → dcs_in_payload bytes ≡ false
     → dcs_fault limit bytes ≡ None → stage bytes ≡ Heading
 still_heading limit bytes none sound = still_by limit (stage bytes) none sound
 
@@ -191,7 +192,7 @@ pub string_error : (old new : Reception) (e : SixelError) (piece : List ℕ) →
     → Faults e (nat_lt (dcs_growths old.bytes) (dcs_growths (old.bytes ++ piece)))
     (dcs_fault old.start.pixel_limit (old.bytes ++ piece))
 string_error old new e piece form same grown told =
-    let limit : ℕ = old.start.pixel_limit in
+    let limit : Limit = old.start.pixel_limit in
     subst
     (λ (b : List ℕ). Faults e (nat_lt (dcs_growths old.bytes) (dcs_growths b)) (dcs_fault limit b))
     grown

@@ -10,6 +10,7 @@ use Rattle.sixel_base.specs.declared.state.DecoderState.{DecoderState}
 use Rattle.sixel_base.specs.Dcs.{dcs_fault, dcs_growths, dcs_status, end_fault}
 use Rattle.sixel_base.specs.Decoder.{IsSetAs}
 use Rattle.sixel_base.specs.Fault.{Fault, Faults}
+use Rattle.sixel_base.specs.Limits.{Limit}
 use Rattle.sixel_base.specs.OneShot.{found, IsDecodedAs}
 use Rattle.sixel_base.specs.Payload.{Image}
 use Rattle.sixel_encoder.specs.Compact.{IsCompactText}
@@ -41,12 +42,12 @@ IsWritten Refusals image text = text ≡ []
 
 -- what is wrong with the image that the bytes begin with, where no more come after them: a fault,
 -- or an end that is missing
-abbrev pub string_fault : ℕ → List ℕ → Option Fault
+abbrev pub string_fault : Limit → List ℕ → Option Fault
 string_fault limit bytes = option_or (dcs_fault limit bytes) (end_fault (dcs_status bytes))
 
 -- whether memory may be out for that image: where it has no fault, or has closed sixels or raster
 -- attributes
-abbrev pub string_wants : ℕ → List ℕ → Bool
+abbrev pub string_wants : Limit → List ℕ → Bool
 string_wants limit bytes = is_none (string_fault limit bytes) || nat_lt 0 (dcs_growths bytes)
 
 -- By this decoder, this is what is made of the image that the bytes begin with; and the decoder

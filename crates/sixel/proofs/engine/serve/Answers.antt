@@ -13,7 +13,7 @@ pub returns-in_err-bytes-clause-refused : goal.returns-in_err-bytes-clause-refus
 returns-in_err-bytes-clause-refused g c = λ error is.
     let p = err_from_is_err_and c.from_residual.result c.from_residual.ensures.1 in
     let same : c.in_err-bytes.field-0.0 ≡ Sixel error = cc in
-    Writes-wanting c.args.word (g.R.Read.remaining c.args.input.now)
+    Writes-wanting c.args.word c.args.palette.now (g.R.Read.remaining c.args.input.now)
     (g.O.Write.contents c.args.output.now) error
     (subst (λ (f : Fault). (f ≡ Input) ⊎ (f ≡ Sixel OutOfMemory)) same c.in_err-bytes.ensures.error)
 

@@ -22,14 +22,16 @@ returns-clause-done g c = grind arith
 pub returns-clause-refused : goal.returns-clause-refused
 returns-clause-refused g c = λ error is.
     asked-for (IsAskedBy (words_of c.args.words.now))
-    (λ asked bytes. Writes (λ text. IsAnswer asked bytes text (Refused error)) _ _)
+    (λ asked bytes.
+    Writes (λ text. IsAnswer asked c.args.palette.now bytes text (Refused error)) _ _)
     _ c.in-Some.word c.in-Some.ensures.asked
     (c.serve.ensures.refused error (c.response_of.ensures.failed (Sixel error) is))
 
 pub returns-clause-unreadable : goal.returns-clause-unreadable
 returns-clause-unreadable g c = λ error is.
     asked-for (IsAskedBy (words_of c.args.words.now))
-    (λ asked bytes. Writes (λ text. IsAnswer asked bytes text (Unreadable error)) _ _)
+    (λ asked bytes.
+    Writes (λ text. IsAnswer asked c.args.palette.now bytes text (Unreadable error)) _ _)
     _ c.in-Some.word c.in-Some.ensures.asked
     (c.serve.ensures.unreadable error (c.response_of.ensures.failed (Netpbm error) is))
 
@@ -39,6 +41,6 @@ returns-clause-unread g c = grind arith
 pub returns-clause-unwritten : goal.returns-clause-unwritten
 returns-clause-unwritten g c = λ is.
     asked-for (IsAskedBy (words_of c.args.words.now))
-    (λ asked bytes. Writes (Begins (IsAnswer asked bytes)) _ _)
+    (λ asked bytes. Writes (Begins (IsAnswer asked c.args.palette.now bytes)) _ _)
     _ c.in-Some.word c.in-Some.ensures.asked
     (c.serve.ensures.unwritten (c.response_of.ensures.failed Output is))

@@ -1,5 +1,6 @@
 use Rattle.std.proofs.Common.{◌≡◌, ℕ, ◌++◌, None, subst, arith}
 use Rattle.sixel_base.specs.Fault.{Faults}
+use Rattle.sixel_base.specs.Limits.{Limit}
 use Rattle.sixel_base.specs.OneShot.{found, IsDecodedAs}
 use Rattle.sixel_base.specs.declared.state.DecoderState.{DecoderState}
 use Rattle.icy_sixel.specs.ImageView.{image_value}
@@ -58,7 +59,7 @@ pub returns-in-Err-clause-closed : goal.returns-in-Err-clause-closed
 returns-in-Err-clause-closed c = λ more last.
     let f = c.args.self.now in
     let r = c.requires.receiving in
-    let limit : ℕ = f.receiver.image.start.pixel_limit in
+    let limit : Limit = f.receiver.image.start.pixel_limit in
     let refused =
     subst (λ (g : Form).
     Faults c.in-Err.error (end_wants limit g f.receiver.image.bytes)

@@ -32,11 +32,11 @@ returns-in-Err-clause-passes c = λ more whole.
     let h = c.requires.heading in
     let byte : ℕ = c.args.byte in
     let grown : c.feed.new.self.image.bytes ≡ f.receiver.image.bytes ++ byte ∷ [] =
-    c.feed.ensures.bytes (ap is_open h.receiving.form) in
+    c.feed.ensures.fed.bytes (ap is_open h.receiving.form) in
     let refused =
     string_error f.receiver.image c.feed.new.self.image c.in-Err.no_image (byte ∷ [])
-    h.receiving.form c.feed.ensures.form grown
-    (rw h.receiving.accepted at c.in-Err.ensures.error) in
+    h.receiving.form c.feed.ensures.fed.form grown
+    (rw h.receiving.accepted at c.in-Err.ensures.fed.error) in
     let none =
     header_refused c.in-Err.no_image _ f.in_character f.receiver.image.bytes more byte h.heading
     h.receiving.starts refused in
@@ -46,7 +46,7 @@ returns-in-Err-clause-passes c = λ more whole.
     c.pass_held.new.self.in_character c.pass_held.new.self.work
     c.pass_held.new.self.receiver.decoder
     c.feed.new.self.decoder h c.requires.place c.in_ok-pass_held-in-Err.ensures.work
-    (ap (λ (r : Receiver). r.decoder) receiver) c.feed.ensures.decoder none
+    (ap (λ (r : Receiver). r.decoder) receiver) c.feed.ensures.fed.decoder none
     (c.in_ok-pass_held-in-Err.ensures.passes (byte ∷ more) whole) c.take_text.new.self
     c.take_text.new.output.items)
     (c.take_text.ensures.passes more whole)
@@ -60,21 +60,21 @@ returns-then-in_payload-clause-sound c =
     let h = c.requires.heading in
     let byte : ℕ = c.args.byte in
     let grown : c.feed.new.self.image.bytes ≡ f.receiver.image.bytes ++ byte ∷ [] =
-    c.feed.ensures.bytes (ap is_open h.receiving.form) in
-    let told = c.in_payload.ensures.accepted c.in-Ok.ensures.ok.1 in
+    c.feed.ensures.fed.bytes (ap is_open h.receiving.form) in
+    let told = c.in_payload.ensures.accepted c.in-Ok.ensures.fed.ok.1 in
     let is = c.if-in_payload.true in
     let whether : in_payload c.feed.new.self.image.form c.feed.new.self.image.bytes ≡ true = cc in
     let reading : dcs_in_payload c.feed.new.self.image.bytes ≡ true =
     subst (λ (g : Form). in_payload g c.feed.new.self.image.bytes ≡ true)
-    (c.feed.ensures.form ∙ h.receiving.form) whether in
+    (c.feed.ensures.fed.form ∙ h.receiving.form) whether in
     let waiting : dcs_status c.feed.new.self.image.bytes ≡ NeedMoreData =
     ap dcs_status grown
     ∙ header_done f.in_character f.receiver.image.bytes byte h.heading h.receiving.starts
     (subst (λ (b : List ℕ). dcs_in_payload b ≡ true) grown reading) in
     record {
       receiving =
-          fed f _ (byte ∷ []) h.receiving refl c.feed.ensures.decoder c.feed.ensures.form
-          c.feed.ensures.start c.feed.ensures.bytes c.in-Ok.ensures.ok.1 c.in-Ok.ensures.faultless;
+          fed f _ (byte ∷ []) h.receiving refl c.feed.ensures.fed.decoder c.feed.ensures.fed.form
+          c.feed.ensures.fed.start c.feed.ensures.fed.bytes c.in-Ok.ensures.fed.ok.1 c.in-Ok.ensures.fed.faultless;
       reading = reading;
       waiting = waiting;
       none = c.clear.ensures.items;
@@ -90,10 +90,10 @@ pub returns-then-in_payload-clause-passes : goal.returns-then-in_payload-clause-
 returns-then-in_payload-clause-passes c = λ more whole l.
     let f = c.args.self.now in
     let grown : c.feed.new.self.image.bytes ≡ f.receiver.image.bytes ++ c.args.byte ∷ [] =
-    c.feed.ensures.bytes (ap is_open c.requires.heading.receiving.form) in
+    c.feed.ensures.fed.bytes (ap is_open c.requires.heading.receiving.form) in
     record {
       text = l.text;
-      rest = rw c.requires.place (rw (c.feed.ensures.decoder, grown, append_assoc) at l.rest);
+      rest = rw c.requires.place (rw (c.feed.ensures.fed.decoder, grown, append_assoc) at l.rest);
       joined = l.joined;
     }
 
@@ -101,11 +101,11 @@ pub returns-clause-passes : goal.returns-clause-passes
 returns-clause-passes c = λ more whole l.
     let f = c.args.self.now in
     let grown : c.feed.new.self.image.bytes ≡ f.receiver.image.bytes ++ c.args.byte ∷ [] =
-    c.feed.ensures.bytes (ap is_open c.requires.heading.receiving.form) in
+    c.feed.ensures.fed.bytes (ap is_open c.requires.heading.receiving.form) in
     record {
       text = l.text;
       rest =
           rw c.requires.place
-          (rw (c.requires.place, c.feed.ensures.decoder, grown, append_assoc) at l.rest);
+          (rw (c.requires.place, c.feed.ensures.fed.decoder, grown, append_assoc) at l.rest);
       joined = l.joined;
     }

@@ -28,10 +28,10 @@ returns-in-Err-clause-passes c = λ more whole l.
     let piece : List ℕ = c.args.bytes.now in
     let e = c.in-Err.error in
     let grown : c.feed.new.self.image.bytes ≡ bytes ++ piece =
-    c.feed.ensures.bytes (ap is_open r.receiving.form) in
+    c.feed.ensures.fed.bytes (ap is_open r.receiving.form) in
     let refused =
-    string_error f.receiver.image c.feed.new.self.image e piece r.receiving.form c.feed.ensures.form
-    grown (rw r.receiving.accepted at c.in-Err.ensures.error) in
+    string_error f.receiver.image c.feed.new.self.image e piece r.receiving.form c.feed.ensures.fed.form
+    grown (rw r.receiving.accepted at c.in-Err.ensures.fed.error) in
     let here =
     subst (λ (d : DecoderState).
     Faults e (nat_lt (dcs_growths bytes) (dcs_growths (bytes ++ piece)))
@@ -46,12 +46,12 @@ returns-in-Err-clause-passes c = λ more whole l.
     Faults e (nat_lt 0 (dcs_growths (b ++ more)))
     (dcs_fault f.receiver.image.start.pixel_limit (b ++ more)))
     grown
-    (c.in-Err.ensures.string_refused_for_good e more r.receiving.form refl r.receiving.accepted)) in
+    (c.in-Err.ensures.fed.string_refused_for_good e more r.receiving.form refl r.receiving.accepted)) in
     let left : Writes f.work false f.receiver.decoder c.write_refusal.new.output.items
     (after_payload (piece ++ more)) whole =
     subst (λ (d : DecoderState).
     Writes f.work false d c.write_refusal.new.output.items (after_payload (piece ++ more)) whole)
-    c.feed.ensures.decoder
+    c.feed.ensures.fed.decoder
     (record { text = l.text; filtered = l.rest; joined = l.joined }) in
     refused_leads f e piece c.args.output.now.items c.write_refusal.new.output.items more whole
     c.requires.place r here for_good c.in_ok-write_refusal-in-Err.ensures.written left
@@ -63,10 +63,10 @@ returns-then-is_waiting-clause-sound c =
     let bytes : List ℕ = f.receiver.image.bytes in
     let piece : List ℕ = c.args.bytes.now in
     let now : List ℕ = c.feed.new.self.image.bytes in
-    let grown : now ≡ bytes ++ piece = c.feed.ensures.bytes (ap is_open r.receiving.form) in
+    let grown : now ≡ bytes ++ piece = c.feed.ensures.fed.bytes (ap is_open r.receiving.form) in
     let told : c.in-Ok.received.status ≡ Dcs (dcs_status now) =
-    c.in-Ok.ensures.status
-    ∙ ap (λ (g : Form). status g now) (c.feed.ensures.form ∙ r.receiving.form) in
+    c.in-Ok.ensures.fed.status
+    ∙ ap (λ (g : Form). status g now) (c.feed.ensures.fed.form ∙ r.receiving.form) in
     let same : c.string_status-status.result ≡ dcs_status now =
     c.string_status-status.ensures (dcs_status now) told in
     let waiting : dcs_status now ≡ NeedMoreData =
@@ -81,8 +81,8 @@ returns-then-is_waiting-clause-sound c =
     } in
     sound_image g c.requires.place (record {
       receiving =
-          fed f g piece r.receiving refl c.feed.ensures.decoder c.feed.ensures.form
-          c.feed.ensures.start c.feed.ensures.bytes c.in-Ok.ensures.ok.1 c.in-Ok.ensures.faultless;
+          fed f g piece r.receiving refl c.feed.ensures.fed.decoder c.feed.ensures.fed.form
+          c.feed.ensures.fed.start c.feed.ensures.fed.bytes c.in-Ok.ensures.fed.ok.1 c.in-Ok.ensures.fed.faultless;
       reading =
           subst (λ (b : List ℕ). dcs_in_payload b ≡ true)
           (sym grown) (stays_in bytes piece r.reading);
@@ -112,18 +112,18 @@ returns-then-leaves_escape-clause-passes c = λ more whole l.
     let bytes : List ℕ = f.receiver.image.bytes in
     let piece : List ℕ = c.args.bytes.now in
     let now : List ℕ = c.feed.new.self.image.bytes in
-    let grown : now ≡ bytes ++ piece = c.feed.ensures.bytes (ap is_open r.receiving.form) in
+    let grown : now ≡ bytes ++ piece = c.feed.ensures.fed.bytes (ap is_open r.receiving.form) in
     let told : c.in-Ok.received.status ≡ Dcs (dcs_status now) =
-    c.in-Ok.ensures.status
-    ∙ ap (λ (g : Form). status g now) (c.feed.ensures.form ∙ r.receiving.form) in
+    c.in-Ok.ensures.fed.status
+    ∙ ap (λ (g : Form). status g now) (c.feed.ensures.fed.form ∙ r.receiving.form) in
     let same : c.string_status-status.result ≡ dcs_status now =
     c.string_status-status.ensures (dcs_status now) told in
     let ended : has_ended (dcs_status now) ≡ true =
     ap has_ended (sym same) ∙ c.is_waiting.ensures.ended c.if-is_waiting.false in
     let n : ℕ = c.in-Ok.received.consumed in
     let counted =
-    string_counted f.receiver.image c.feed.new.self.image n r.receiving.form c.feed.ensures.form
-    c.in-Ok.ensures.consumed in
+    string_counted f.receiver.image c.feed.new.self.image n r.receiving.form c.feed.ensures.fed.form
+    c.in-Ok.ensures.fed.consumed in
     let after = c.close.new.self.receiver.decoder in
     let out : List ℕ = c.close.new.output.items in
     let closed = c.in_ok-close.ensures.closed more (last_of now more ended) in
@@ -135,7 +135,7 @@ returns-then-leaves_escape-clause-passes c = λ more whole l.
     began.bytes began.decoder (began.work ∙ c.in_ok-close.ensures.work)
     (began.character ∙ c.in_ok-close.ensures.character) l in
     ended_leads f c.feed.new.self.decoder after now piece c.args.output.now.items out more whole n
-    c.requires.place r c.feed.ensures.decoder grown ended counted c.in-Ok.ensures.within closed
+    c.requires.place r c.feed.ensures.fed.decoder grown ended counted c.in-Ok.ensures.fed.within closed
     (follows_by f.work after out (drop n piece ++ more) whole (dcs_status now) true leaves left)
 
 pub returns-clause-sound : goal.returns-clause-sound
@@ -151,18 +151,18 @@ returns-clause-passes c = λ more whole l.
     let bytes : List ℕ = f.receiver.image.bytes in
     let piece : List ℕ = c.args.bytes.now in
     let now : List ℕ = c.feed.new.self.image.bytes in
-    let grown : now ≡ bytes ++ piece = c.feed.ensures.bytes (ap is_open r.receiving.form) in
+    let grown : now ≡ bytes ++ piece = c.feed.ensures.fed.bytes (ap is_open r.receiving.form) in
     let told : c.in-Ok.received.status ≡ Dcs (dcs_status now) =
-    c.in-Ok.ensures.status
-    ∙ ap (λ (g : Form). status g now) (c.feed.ensures.form ∙ r.receiving.form) in
+    c.in-Ok.ensures.fed.status
+    ∙ ap (λ (g : Form). status g now) (c.feed.ensures.fed.form ∙ r.receiving.form) in
     let same : c.string_status-status.result ≡ dcs_status now =
     c.string_status-status.ensures (dcs_status now) told in
     let ended : has_ended (dcs_status now) ≡ true =
     ap has_ended (sym same) ∙ c.is_waiting.ensures.ended c.if-is_waiting.false in
     let n : ℕ = c.in-Ok.received.consumed in
     let counted =
-    string_counted f.receiver.image c.feed.new.self.image n r.receiving.form c.feed.ensures.form
-    c.in-Ok.ensures.consumed in
+    string_counted f.receiver.image c.feed.new.self.image n r.receiving.form c.feed.ensures.fed.form
+    c.in-Ok.ensures.fed.consumed in
     let after = c.close.new.self.receiver.decoder in
     let out : List ℕ = c.close.new.output.items in
     let told_closed = c.in_ok-close.ensures in
@@ -173,7 +173,7 @@ returns-clause-passes c = λ more whole l.
     leads_closed c.close.new.self f.work out (drop n piece ++ more) whole told_closed.place
     told_closed.work told_closed.character l in
     ended_leads f c.feed.new.self.decoder after now piece c.args.output.now.items out more whole n
-    c.requires.place r c.feed.ensures.decoder grown ended counted c.in-Ok.ensures.within closed
+    c.requires.place r c.feed.ensures.fed.decoder grown ended counted c.in-Ok.ensures.fed.within closed
     (follows_by f.work after out (drop n piece ++ more) whole (dcs_status now) false stays left)
 
 pub returns-then-is_waiting-clause-passes : goal.returns-then-is_waiting-clause-passes
@@ -181,12 +181,12 @@ returns-then-is_waiting-clause-passes c = λ more whole l.
     let f = c.args.self.now in
     let piece : List ℕ = c.args.bytes.now in
     let grown : c.feed.new.self.image.bytes ≡ f.receiver.image.bytes ++ piece =
-    c.feed.ensures.bytes (ap is_open c.requires.reading.receiving.form) in
+    c.feed.ensures.fed.bytes (ap is_open c.requires.reading.receiving.form) in
     record {
       text = l.text;
       rest =
           rw c.requires.place (rw
-          (c.requires.place, c.feed.ensures.decoder, grown, drop-length piece, append_assoc) at
+          (c.requires.place, c.feed.ensures.fed.decoder, grown, drop-length piece, append_assoc) at
           l.rest);
       joined = l.joined;
     }
@@ -195,7 +195,7 @@ pub close-requires : goal.close-requires
 close-requires c =
     let r = c.requires.reading in record {
       receiving =
-          fed c.args.self.now _ c.args.bytes.now r.receiving refl c.feed.ensures.decoder
-          c.feed.ensures.form c.feed.ensures.start c.feed.ensures.bytes c.in-Ok.ensures.ok.1
-          c.in-Ok.ensures.faultless;
+          fed c.args.self.now _ c.args.bytes.now r.receiving refl c.feed.ensures.fed.decoder
+          c.feed.ensures.fed.form c.feed.ensures.fed.start c.feed.ensures.fed.bytes c.in-Ok.ensures.fed.ok.1
+          c.in-Ok.ensures.fed.faultless;
     }

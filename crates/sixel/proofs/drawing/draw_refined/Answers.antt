@@ -7,27 +7,29 @@ use Rattle.sixel_base.specs.Payload.{Image}
 use Rattle.sixel_encoder.specs.IndexedDrawing.{palette_fault}
 use Rattle.sixel_encoder.specs.RefinedText.{IsRefinedText}
 use Rattle.sixel_encoder.specs.declared.form.TextForm.TheVariants.{Compact}
-use Rattle.sixel.specs.Drawing.{IsDrawn, draw_fault, drawn_image}
+use Rattle.sixel.specs.Drawing.{drawn_image, refined_fault}
 use Rattle.sixel.proofs.Drawings.{no_call_fault}
 use Rattle.sixel.proofs.Outputs.{Serves-last}
-use Rattle.sixel.proofs.engine.draw.Goals as goal
+use Rattle.sixel.proofs.drawing.draw_refined.Goals as goal
 
 pub returns : goal.returns
 returns g c =
     let file = files.image_value c.in_ok-file.file in
-    let options = c.args.options in
+    let max_colors = c.args.max_colors in
     let encoded = c.in_ok-text.ensures in
     let last = c.write_all.ensures in
     let same : image_value c.from_rgba-image.result ≡ drawn_image file =
     ap image_value c.from_rgba-image.ensures in
     let fault =
-    no_call_fault (draw_fault options file) _
-    (subst (λ (i : Image). FailsBy (palette_fault i options.max_colors) (Ok c.in_ok-text.text)) same
+    no_call_fault (refined_fault max_colors file) _
+    (subst (λ (i : Image). FailsBy (palette_fault i max_colors) (Ok c.in_ok-text.text)) same
     encoded.fault) in
-    let text : IsDrawn options file c.as_bytes.result.now =
-    subst (IsDrawn options file) (sym c.as_bytes.ensures.value)
+    let text : IsRefinedText (drawn_image file) max_colors c.args.dither Compact
+    c.as_bytes.result.now =
+    subst (IsRefinedText (drawn_image file) max_colors c.args.dither Compact)
+    (sym c.as_bytes.ensures.value)
     (subst
-    (λ (i : Image). IsRefinedText i options.max_colors options.dither Compact
+    (λ (i : Image). IsRefinedText i max_colors c.args.dither Compact
     (string_bytes c.in_ok-text.text)) same encoded.text) in
     Serves-last _ _ _ _ _ [] c.as_bytes.result.now (file, c.in_ok-file.ensures, fault, text)
     (Appends-nil _) last.whole last.part last.error
