@@ -15,6 +15,8 @@ pub mod multiplexer;
 mod palette_tests;
 pub mod palettes;
 #[cfg(test)]
+mod partial_tests;
+#[cfg(test)]
 mod row_tests;
 pub mod rows;
 pub mod streaming;

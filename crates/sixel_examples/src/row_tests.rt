@@ -194,6 +194,62 @@ fn rows_that_are_not_copied(rt: HostRuntime) {
 }
 
 #[test]
+fn released_rows(rt: HostRuntime) {
+    let mut receiver = receiver(rt.alloc());
+    let are_final = reads(&mut receiver, b"#1~-#1~-", 12);
+    let is_below = has_text(receiver.release_rows(13), "rows are not final");
+    let are_kept = receiver.released_rows() == 0;
+    let are_released = receiver.release_rows(6).is_ok() & (receiver.released_rows() == 6);
+    let is_less = receiver.release_rows(2).is_ok() & (receiver.released_rows() == 6);
+    let mut rows = [9; 72];
+    let is_gone = has_text(
+        receiver.copy_rows(5, 6, NARROW, &mut rows),
+        "rows were released",
+    );
+    let is_left = are_rows(&rows, [UNTOUCHED, UNTOUCHED, UNTOUCHED]);
+    let is_copied = receiver.copy_rows(6, 6, NARROW, &mut rows).is_ok();
+    let are_red = are_rows(&rows, [RED, CLEAR, UNTOUCHED]);
+    assert!(rt;
+        are_final
+            & is_below
+            & are_kept
+            & are_released
+            & is_less
+            & is_gone
+            & is_left
+            & is_copied
+            & are_red
+    );
+}
+
+#[test]
+fn image_of_released_rows(rt: HostRuntime) {
+    let mut receiver = receiver(rt.alloc());
+    let first = reads_band(&mut receiver, b"#1~-", 4, 6) & receiver.release_rows(6).is_ok();
+    let second = reads_band(&mut receiver, b"#1!3~-", 6, 12) & receiver.release_rows(12).is_ok();
+    let last = reads_band(&mut receiver, b"#1;2;0;100;0~~", 14, 12);
+    let mut rows = [9; 72];
+    let is_gone = match receiver.finish_into(11, NARROW, &mut rows) {
+        Err(SixelError::InvalidData(text)) => text == "rows were released",
+        _ => false,
+    };
+    let is_open = receiver.is_receiving() & (receiver.register(1) == [255, 0, 0]);
+    let is_ended = has_size(receiver.finish_into(12, NARROW, &mut rows), 3, 18);
+    let green = [0, 255, 0, 255];
+    let are_green = are_rows(&rows, [green, green, UNTOUCHED]);
+    let is_closed = !receiver.is_receiving() & (receiver.released_rows() == 0);
+    assert!(rt; first & second & last & is_gone & is_open & is_ended & are_green & is_closed);
+}
+
+#[test]
+fn whole_image_of_released_rows(rt: HostRuntime) {
+    let mut receiver = receiver(rt.alloc());
+    let is_drawn = reads(&mut receiver, b"#1~-~", 6) & receiver.release_rows(1).is_ok();
+    let is_lost = receiver.finish().err() == Some(SixelError::OutOfMemory);
+    assert!(rt; is_drawn & is_lost & !receiver.is_receiving());
+}
+
+#[test]
 fn image_in_memory(rt: HostRuntime) {
     let mut receiver = receiver(rt.alloc());
     let is_drawn = reads(&mut receiver, b"#1~~#1;2;0;100;0-!3~", 6);
@@ -249,21 +305,32 @@ fn image_that_is_rejected(rt: HostRuntime) {
     assert!(rt; is_open & is_malformed & is_closed & is_begun & is_incomplete & is_gone & are_left);
 }
 
-/// Whether a window shows a DCS sequence of two bands in chunks.
+/// Draws a DCS sequence of two bands in chunks, and returns whether each row is drawn in time.
+fn draw_window(receiver: &mut SixelReceiver, window: &mut [u8]) -> Result<bool> {
+    let first = draw_rows(receiver, b"\x1bPq#1;2;100;0;0!640~", 0, window)?;
+    let second = draw_rows(receiver, b"-!640", first, window)?;
+    let last = draw_rows(receiver, b"~\x1b\\", second, window)?;
+    let shape = draw_rest(receiver, last, window)?;
+    let are_drawn = (first == 0) & (second == 6) & (last == 6);
+    Ok(are_drawn & (shape.width == 640) & (shape.height == 12))
+}
+
+/// Whether each pixel of a window is red.
+fn is_red(window: &[u8]) -> bool {
+    let mut is_red = true;
+    for pixel in window.chunks(4) {
+        is_red &= pixel == [0, 0, 255, 255].as_slice();
+    }
+    is_red
+}
+
+/// Whether a window shows what is drawn in it.
 fn is_shown(alloc: Global) -> Result<bool> {
     let mut window = vec![in alloc; 9; 30_720]?;
     let mut receiver = SixelReceiver::new();
     receiver.begin_dcs(alloc);
-    let first = draw_rows(&mut receiver, b"\x1bPq#1;2;100;0;0!640~", 0, &mut window)?;
-    let second = draw_rows(&mut receiver, b"-!640", first, &mut window)?;
-    let last = draw_rows(&mut receiver, b"~\x1b\\", second, &mut window)?;
-    let shape = draw_rest(&mut receiver, last, &mut window)?;
-    let mut are_red = true;
-    for pixel in window.chunks(4) {
-        are_red &= pixel == [0, 0, 255, 255].as_slice();
-    }
-    let are_drawn = (first == 0) & (second == 6) & (last == 6);
-    Ok(are_drawn & are_red & (shape.width == 640) & (shape.height == 12))
+    let is_drawn = draw_window(&mut receiver, &mut window)?;
+    Ok(is_drawn & is_red(&window))
 }
 
 #[test]

@@ -25,6 +25,7 @@ pub fn draw_rows(
         WINDOW,
         &mut window[start..],
     )?;
+    receiver.release_rows(rows)?;
     Ok(rows)
 }
 
