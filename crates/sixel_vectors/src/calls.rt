@@ -1,51 +1,38 @@
 //! Vectors of `sessions.tsv` and `receivers.tsv`: calls and their results.
 
 use crate::notation::{bytes, color, push_error, push_fed, push_hexadecimal, push_outcome};
-use crate::session::{Session, check_decoder, settings};
+use crate::session::{Owner, Session, check_decoder, clip, settings};
 use anyhow::{Context, Result, bail, ensure};
+use icy_sixel::SixelError;
 use icy_sixel::receiver::{Received, SixelReceiver};
-use icy_sixel::{SixelDecoder, SixelError};
 use std::alloc::Global;
 
 /// Checks a vector of `sessions.tsv`, by a session that borrows its decoder and by a receiver.
 pub fn write_session(alloc: Global, found: &mut String, columns: &[&str]) -> Result<()> {
     let (start, calls) = columns.split_first().context("no settings")?;
-    let decoder = run_session(alloc, found, start, calls)?;
+    let mut owner = Owner::Decoder(settings(start)?.1);
+    let mut receiver = Owner::Receiver(SixelReceiver::with_decoder(settings(start)?.1));
     let mut received = String::new(alloc);
-    run_receiver(alloc, &mut received, start, calls, &decoder)?;
+    run_owner(alloc, found, &mut owner, start, calls)?;
+    run_owner(alloc, &mut received, &mut receiver, start, calls)?;
     ensure!(received == *found, "receiver: {received}");
-    Ok(())
+    check_decoder(receiver.decoder(), owner.decoder())
 }
 
-/// Makes the calls on a session that borrows its decoder, and returns the decoder.
-fn run_session(
+/// Makes the calls on an owner, whose decoder stays unless there is an image.
+fn run_owner(
     alloc: Global,
     found: &mut String,
+    owner: &mut Owner,
     start: &str,
     calls: &[&str],
-) -> Result<SixelDecoder> {
-    let (form, mut decoder) = settings(start)?;
-    let session = Session::begin(alloc, &mut decoder, form)?;
-    let is_finished = run(alloc, found, session, calls)?;
-    if !is_finished {
-        check_decoder(&decoder, &settings(start)?.1)?;
-    }
-    Ok(decoder)
-}
-
-/// Makes the calls on a receiver, whose decoder must then equal another one.
-fn run_receiver(
-    alloc: Global,
-    found: &mut String,
-    start: &str,
-    calls: &[&str],
-    expected: &SixelDecoder,
 ) -> Result<()> {
     let (form, decoder) = settings(start)?;
-    let mut receiver = SixelReceiver::with_decoder(decoder);
-    let session = Session::receive(alloc, &mut receiver, form);
-    run(alloc, found, session, calls)?;
-    check_decoder(receiver.decoder(), expected)
+    let is_finished = run(alloc, found, owner.begin(alloc, form)?, calls)?;
+    if is_finished {
+        return Ok(());
+    }
+    check_decoder(owner.decoder(), &decoder)
 }
 
 /// Feeds chunks, ends the session, writes the results and returns whether there is an image.
@@ -55,25 +42,20 @@ fn run(
     mut session: Session<'_>,
     calls: &[&str],
 ) -> Result<bool> {
-    for call in calls.chunks(2) {
-        match call {
-            [chunk, _] => {
-                write!(found, "\t{chunk}")?;
-                push_received(found, session.feed(&bytes(alloc, chunk)?))?;
-            }
-            ["aborted"] => {
-                session.abort();
-                found.push_str("\taborted")?;
-                return Ok(false);
-            }
-            _ => {
-                let outcome = session.finish();
-                push_outcome(found, &outcome)?;
-                return Ok(outcome.is_ok());
-            }
-        }
+    let (end, feeds) = calls.split_last().context("no end")?;
+    for feed in feeds.chunks(2) {
+        let chunk = feed.first().context("no chunk")?;
+        write!(found, "\t{chunk}")?;
+        push_received(found, session.feed(&bytes(alloc, chunk)?))?;
     }
-    bail!("no end")
+    if *end == "aborted" {
+        session.abort();
+        found.push_str("\taborted")?;
+        return Ok(false);
+    }
+    let outcome = session.finish();
+    push_outcome(found, &outcome)?;
+    Ok(outcome.is_ok())
 }
 
 /// Writes the result of a feed.
@@ -109,13 +91,15 @@ fn make(alloc: Global, found: &mut String, receiver: &mut SixelReceiver, call: &
             found.push('\t')?;
             return push_hexadecimal(found, &color);
         }
-        "begin" => {
-            let _session = Session::receive(alloc, receiver, settings(argument)?.0);
-        }
+        "begin" => drop(Session::receive(alloc, receiver, settings(argument)?.0)),
         "abort" => receiver.abort(),
         "reset" => receiver.reset_palette(),
         "crop" => receiver.set_raster_crop(argument == "on"),
         "limit" => receiver.set_pixel_limit(argument.parse::<usize>()?),
+        "clip" => {
+            let (width, height) = clip(argument)?;
+            receiver.set_clip(width, height);
+        }
         "set" => {
             let (register, value) = argument.split_once(' ').context("no color")?;
             receiver.set_register(register.parse::<u8>()?, color(value)?);

@@ -3,11 +3,10 @@
 ghost use Rattle.std.specs.Prelude.{◌<◌};
 
 use crate::notation::{bytes, numbers, rgba, size};
-use crate::session::{self, Form, Session};
+use crate::session::{Form, Owner, Session, settings};
 use anyhow::{Context, Result, bail, ensure};
 use icy_sixel::SixelStreamDecoder;
 use icy_sixel::canvas::{Row, fill_rgba_span};
-use icy_sixel::receiver::SixelReceiver;
 use std::alloc::Global;
 
 /// Checks a vector of `rows.tsv`.
@@ -66,22 +65,18 @@ struct Work {
 
 /// Checks a vector of `writes.tsv`.
 pub fn check_work(alloc: Global, columns: [&str; 5]) -> Result<()> {
-    let [settings, before, payload, columns, dimensions] = columns;
-    let (form, mut decoder) = session::settings(settings)?;
+    let [start, before, payload, columns, dimensions] = columns;
+    let (form, mut decoder) = settings(start)?;
     let work = Work {
         before: bytes(alloc, before)?,
         payload: bytes(alloc, payload)?,
-        columns: if columns == "each" {
-            None
-        } else {
-            Some(columns.parse::<usize>()?)
-        },
+        columns: columns.parse::<usize>().ok(),
         size: size(dimensions)?,
     };
-    let mut receiver = SixelReceiver::with_decoder(decoder.clone()?);
-    for length in [1, 7, 4096] {
-        work.check(Session::begin(alloc, &mut decoder, form)?, length)?;
-        work.check(Session::receive(alloc, &mut receiver, form), length)?;
+    for mut owner in Owner::both(&decoder)? {
+        for length in [1, 7, 4096] {
+            work.check(owner.begin(alloc, form)?, length)?;
+        }
     }
     match form {
         Form::Payload(settings) => work.check_counted(decoder.begin_frame(alloc, settings)?),
@@ -106,9 +101,9 @@ impl Work {
             let most = (self.columns.unwrap_or(fed) as u64).saturating_mul(18);
             let is_bounded = self.columns.is_none() || fed == self.payload.len();
             let least = if is_bounded { most / 3 } else { 0 };
-            let writes = session.writes().unwrap_or(least);
+            let (writes, paints) = session.work();
+            let writes = writes.unwrap_or(least);
             ensure!((least..=most).contains(&writes), "{writes} writes");
-            let paints = session.paints();
             let most_paints = most.saturating_add(sixels.saturating_mul(4602));
             ensure!(paints <= most_paints, "{paints} paints");
         }

@@ -1,9 +1,9 @@
 //! Bytes that are decoded at once and in chunks, which never change what comes of them.
 
 use crate::notation::{bytes, push_error, push_fed, push_outcome, word};
-use crate::session::{Form, Session, check_decoder, settings};
+use crate::session::{Form, Owner, Session, check_decoder, settings};
 use anyhow::{Result, ensure};
-use icy_sixel::receiver::{Received, SixelReceiver};
+use icy_sixel::receiver::Received;
 use icy_sixel::script::Status;
 use icy_sixel::{SixelDcsFeedStatus, SixelDecoder, SixelError};
 use std::alloc::Global;
@@ -23,7 +23,7 @@ pub struct Output {
     count: usize,
     /// The column of a feed, for all of them together, and that of the image or error.
     pub text: String,
-    pub after: SixelDecoder,
+    pub owner: Owner,
 }
 
 impl Input {
@@ -48,7 +48,8 @@ impl Input {
     /// Feeds single bytes.
     pub fn feed(&self, alloc: Global) -> Result<Output> {
         let lengths = vec![in alloc; 1; self.bytes.len()]?;
-        let output = self.borrow(alloc, &lengths, usize::MAX)?;
+        let owner = Owner::Decoder(self.start.clone()?);
+        let output = self.play(alloc, owner, &lengths, usize::MAX)?;
         self.check(alloc, &lengths, &output)?;
         Ok(output)
     }
@@ -66,7 +67,7 @@ impl Input {
         let is_end = output.text.starts_with(end.as_str()) || output.is_rejected();
         ensure!(is_end, "{}", output.text);
         ensure!(output.text.ends_with(found.as_str()), "{}", output.text);
-        check_decoder(&decoder, &output.after)?;
+        check_decoder(&decoder, output.owner.decoder())?;
         Ok((output, area))
     }
 
@@ -99,30 +100,30 @@ impl Input {
 
     /// Checks chunks of these lengths, and then of what remains.
     fn check(&self, alloc: Global, lengths: &[usize], output: &Output) -> Result<()> {
-        output.check(&self.borrow(alloc, lengths, output.count)?)?;
-        output.check(&self.receive(alloc, lengths, output.count)?)
+        for owner in Owner::both(&self.start)? {
+            let other = self.play(alloc, owner, lengths, output.count)?;
+            ensure!(output.text == other.text, "{}", other.text);
+            check_decoder(other.owner.decoder(), output.owner.decoder())?;
+        }
+        Ok(())
     }
 
-    /// Feeds a session that borrows its decoder.
-    fn borrow(&self, alloc: Global, lengths: &[usize], failing: usize) -> Result<Output> {
-        let (mut text, mut after) = (String::new(alloc), self.start.clone()?);
-        let session = Session::begin(alloc, &mut after, self.form)?;
-        let count = self.play(&mut text, session, lengths, failing)?;
-        Ok(Output { count, text, after })
-    }
-
-    /// Feeds a receiver.
-    fn receive(&self, alloc: Global, lengths: &[usize], failing: usize) -> Result<Output> {
-        let mut receiver = SixelReceiver::with_decoder(self.start.clone()?);
-        let session = Session::receive(alloc, &mut receiver, self.form);
+    /// Begins an image and feeds chunks.
+    fn play(
+        &self,
+        alloc: Global,
+        mut owner: Owner,
+        lengths: &[usize],
+        failing: usize,
+    ) -> Result<Output> {
         let mut text = String::new(alloc);
-        let count = self.play(&mut text, session, lengths, failing)?;
-        let after = receiver.into_decoder();
-        Ok(Output { count, text, after })
+        let session = owner.begin(alloc, self.form)?;
+        let count = self.feed_all(&mut text, session, lengths, failing)?;
+        Ok(Output { count, text, owner })
     }
 
     /// Feeds chunks, checks each call, writes the columns and returns the count.
-    fn play(
+    fn feed_all(
         &self,
         found: &mut String,
         mut session: Session<'_>,
@@ -172,12 +173,6 @@ impl Output {
     /// Whether a feed failed.
     pub fn is_rejected(&self) -> bool {
         self.text.contains(" rejected\t")
-    }
-
-    /// Fails if the output of other chunks differs.
-    fn check(&self, other: &Self) -> Result<()> {
-        ensure!(self.text == other.text, "{}", other.text);
-        check_decoder(&other.after, &self.after)
     }
 }
 

@@ -2,9 +2,8 @@
 
 use crate::chunks::Input;
 use crate::notation::{Outcome, bytes, push_outcome};
-use crate::session::{Form, Session, check_decoder};
+use crate::session::{Form, Owner, Session, check_decoder};
 use anyhow::{Result, ensure};
-use icy_sixel::receiver::SixelReceiver;
 use icy_sixel::{SixelDecoder, SixelImage, sixel_decode, sixel_decode_from_dcs};
 use std::alloc::Global;
 
@@ -26,8 +25,8 @@ pub fn write_image(alloc: Global, found: &mut String, settings: &str, text: &str
 pub fn write_whole(alloc: Global, found: &mut String, input: &Input) -> Result<()> {
     let (output, area) = input.check_whole(alloc, found)?;
     input.check_chunks(alloc, area, &output)?;
-    let mut copy = output.after.clone()?;
-    check_decoder(&copy, &output.after)?;
+    let mut copy = output.owner.decoder().clone()?;
+    check_decoder(&copy, output.owner.decoder())?;
     copy.reset_palette();
     check_decoder(&copy, &input.start)
 }
@@ -66,7 +65,7 @@ pub fn write_string(alloc: Global, found: &mut String, text: &str) -> Result<()>
     let (decoder, area) = input.decode(alloc, &mut decoded)?;
     if !output.is_rejected() && !output.text.contains(" more\t") {
         ensure!(output.text.ends_with(decoded.as_str()), "at once{decoded}");
-        check_decoder(&decoder, &output.after)?;
+        check_decoder(&decoder, output.owner.decoder())?;
     }
     input.check_chunks(alloc, area, &output)?;
     input.check_pairs(alloc, &output)?;
@@ -111,8 +110,9 @@ pub fn check_beginnings(alloc: Global, [settings, text, after]: [&str; 3]) -> Re
 pub fn check_aborts(alloc: Global, [settings, count, text]: [&str; 3]) -> Result<()> {
     let (input, text) = (Input::parse(alloc, settings, text)?, bytes(alloc, text)?);
     let count = count.parse::<usize>()?;
-    abort_sessions(alloc, &input, &text, count)?;
-    abort_images(alloc, &input, &text, count)?;
+    for owner in Owner::both(&input.start)? {
+        abort_images(alloc, owner, &input, &text, count)?;
+    }
     let (after, _) = input.decode(alloc, &mut String::new(alloc))?;
     for register in 0..=255 {
         let is_defined = after.register(register) != input.start.register(register);
@@ -121,22 +121,18 @@ pub fn check_aborts(alloc: Global, [settings, count, text]: [&str; 3]) -> Result
     Ok(())
 }
 
-/// Aborts sessions of one decoder, which must not change.
-fn abort_sessions(alloc: Global, input: &Input, text: &[u8], count: usize) -> Result<()> {
-    let mut decoder = input.start.clone()?;
+/// Aborts images of one owner, whose decoder must not change.
+fn abort_images(
+    alloc: Global,
+    mut owner: Owner,
+    input: &Input,
+    text: &[u8],
+    count: usize,
+) -> Result<()> {
     for _ in 0..count {
-        abort(Session::begin(alloc, &mut decoder, input.form)?, text)?;
+        abort(owner.begin(alloc, input.form)?, text)?;
     }
-    check_decoder(&decoder, &input.start)
-}
-
-/// Aborts images of one receiver, whose decoder must not change.
-fn abort_images(alloc: Global, input: &Input, text: &[u8], count: usize) -> Result<()> {
-    let mut receiver = SixelReceiver::with_decoder(input.start.clone()?);
-    for _ in 0..count {
-        abort(Session::receive(alloc, &mut receiver, input.form), text)?;
-    }
-    check_decoder(receiver.decoder(), &input.start)
+    check_decoder(owner.decoder(), &input.start)
 }
 
 /// Feeds a session and aborts it.

@@ -77,10 +77,9 @@ pub fn write_trip(alloc: Global, found: &mut String, colors: &str, source: &str)
 
 /// Writes what a text decodes to, at once and in chunks.
 fn write_decoded(alloc: Global, found: &mut String, form: Form, text: &str) -> Result<()> {
-    let mut input = Input::parse(alloc, "dcs", "")?;
-    input.form = form;
-    input.bytes.extend_from_slice(text.as_bytes())?;
-    write_whole(alloc, found, &input)
+    let bytes = Vec::from_slice(alloc, text.as_bytes())?;
+    let start = SixelDecoder::new();
+    write_whole(alloc, found, &Input { form, start, bytes })
 }
 
 /// Checks that a decoder that crops gives the height that was encoded.
@@ -135,10 +134,8 @@ pub fn check_palette(alloc: Global, columns: [&str; 6]) -> Result<()> {
     let [max_colors, runs, entries, indices, error, witnesses] = columns;
     let (pixels, max_colors) = (pixels(alloc, runs)?, max_colors.parse::<u16>()?);
     let choice = choose_palette(alloc, &pixels, max_colors)?;
-    let mut places = Vec::new(alloc);
-    for index in choice.indices.iter() {
-        places.push(usize::from(*index))?;
-    }
+    let places = choice.indices.iter().map(|index| usize::from(*index));
+    let places: Vec<usize> = places.collect(alloc)?;
     ensure!(places == numbers(alloc, indices)?, "indices {places:?}");
     ensure!(choice.colors == colors(alloc, entries)?, "colors");
     ensure!(choice.error == error.parse::<u32>()?, "error");

@@ -36,16 +36,15 @@ fn main(rt: HostRuntime) -> Result<ExitCode> {
 /// Checks the vectors of a file, prints the results and returns whether all passed.
 fn check_file(rt: &HostRuntime, name: &str) -> Result<bool> {
     let text = fs::read_to_string(rt, format!(in rt.alloc(); "{name}.tsv")?)?;
-    let (mut passed, mut number) = (0_u64, 0_u64);
-    let mut have_passed = true;
-    for line in text.lines() {
-        number = number.saturating_add(1);
+    let (mut passed, mut have_passed) = (0_u64, true);
+    for (index, line) in text.lines().enumerate() {
         if line.is_empty() || line.starts_with('#') {
             continue;
         }
         match check_line(rt.alloc(), name, line) {
             Ok(()) => passed = passed.saturating_add(1),
             Err(error) => {
+                let number = index.saturating_add(1);
                 println!(rt; "{name}.tsv:{number}: failed: {error}")?;
                 have_passed = false;
             }

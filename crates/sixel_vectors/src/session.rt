@@ -1,6 +1,6 @@
-//! Sessions and receivers, with the same calls for all of them.
+//! Decoders and receivers, and sessions with the same calls for both.
 
-use anyhow::{Result, bail, ensure};
+use anyhow::{Context, Result, bail, ensure};
 use icy_sixel::receiver::{Received, SixelReceiver};
 use icy_sixel::script::Status;
 use icy_sixel::{DcsSettings, SixelDcsStreamDecoder, SixelDecoder, SixelImage, SixelStreamDecoder};
@@ -26,6 +26,10 @@ pub fn settings(text: &str) -> Result<(Form, SixelDecoder)> {
             ("p2", value) => p2 = Some(value.parse::<u16>()?),
             ("p3", value) => p3 = Some(value.parse::<u16>()?),
             ("limit", pixels) => decoder.set_pixel_limit(pixels.parse::<usize>()?),
+            ("clip", sides) => {
+                let (width, height) = clip(sides)?;
+                decoder.set_clip(width, height);
+            }
             ("crop", "") => decoder.set_raster_crop(true),
             _ => bail!("no setting: {word}"),
         }
@@ -34,15 +38,50 @@ pub fn settings(text: &str) -> Result<(Form, SixelDecoder)> {
     Ok((if is_payload { payload } else { Form::Dcs }, decoder))
 }
 
-/// Fails if two decoders differ in a register, the crop or the pixel limit.
+/// The columns and rows of a clip, written as `5x4`.
+pub fn clip(sides: &str) -> Result<(usize, usize)> {
+    let (width, height) = sides.split_once('x').context("no clip")?;
+    Ok((width.parse::<usize>()?, height.parse::<usize>()?))
+}
+
+/// Fails if two decoders differ in a register, the crop, the pixel limit or the clip.
 pub fn check_decoder(decoder: &SixelDecoder, expected: &SixelDecoder) -> Result<()> {
     ensure!(decoder.raster_crop() == expected.raster_crop(), "crop");
     ensure!(decoder.pixel_limit() == expected.pixel_limit(), "limit");
-    for register in 0..=255 {
-        let are_equal = decoder.register(register) == expected.register(register);
-        ensure!(are_equal, "register {register}");
-    }
+    ensure!(decoder.clip() == expected.clip(), "clip");
+    ensure!(decoder.registers() == expected.registers(), "registers");
     Ok(())
+}
+
+/// A decoder that sessions borrow, or a receiver.
+#[derive(Drop)]
+pub enum Owner {
+    Decoder(SixelDecoder),
+    Receiver(SixelReceiver),
+}
+
+impl Owner {
+    /// Both owners, each with a copy of a decoder.
+    pub fn both(decoder: &SixelDecoder) -> Result<[Self; 2]> {
+        let receiver = SixelReceiver::with_decoder(decoder.clone()?);
+        Ok([Self::Decoder(decoder.clone()?), Self::Receiver(receiver)])
+    }
+
+    /// Begins an image.
+    pub fn begin(&mut self, alloc: Global, form: Form) -> Result<Session<'_>> {
+        match self {
+            Self::Decoder(decoder) => Session::begin(alloc, decoder, form),
+            Self::Receiver(receiver) => Ok(Session::receive(alloc, receiver, form)),
+        }
+    }
+
+    /// The decoder.
+    pub fn decoder(&self) -> &SixelDecoder {
+        match self {
+            Self::Decoder(decoder) => decoder,
+            Self::Receiver(receiver) => receiver.decoder(),
+        }
+    }
 }
 
 /// A session of either kind, or a receiver with an open image.
@@ -87,27 +126,18 @@ impl<'a> Session<'a> {
         Ok(Received { consumed, status })
     }
 
-    /// Pixels that the canvas wrote to grow, if they are counted.
-    pub fn writes(&self) -> Option<u64> {
+    /// Pixels that the canvas wrote to grow, if they are counted, and what it painted.
+    pub fn work(&self) -> (Option<u64>, u64) {
         match self {
-            Self::Payload(session) => Some(session.canvas_writes()),
-            Self::Dcs(session) => Some(session.canvas_writes()),
-            Self::Receiver(_) => None,
-        }
-    }
-
-    /// Pixels, or columns of them, that the canvas painted.
-    pub fn paints(&self) -> u64 {
-        match self {
-            Self::Payload(session) => session.canvas_paints(),
-            Self::Dcs(session) => session.canvas_paints(),
-            Self::Receiver(receiver) => receiver.canvas_paints(),
+            Self::Payload(session) => (Some(session.canvas_writes()), session.canvas_paints()),
+            Self::Dcs(session) => (Some(session.canvas_writes()), session.canvas_paints()),
+            Self::Receiver(receiver) => (None, receiver.canvas_paints()),
         }
     }
 
     /// Whether the canvas has no work to report.
     pub fn is_idle(&self) -> bool {
-        self.writes().unwrap_or(0) == 0 && self.paints() == 0
+        matches!(self.work(), (None | Some(0), 0))
     }
 
     /// Finishes the image.

@@ -1,6 +1,7 @@
 //! Vectors of `settings.tsv` and `registers.tsv`.
 
 use crate::notation::{mode_word, push_hexadecimal};
+use crate::session::clip;
 use anyhow::{Context, Result, bail, ensure};
 use icy_sixel::{BackgroundMode, DcsSettings, PixelAspectRatio, SixelDecoder};
 
@@ -13,11 +14,10 @@ pub fn write_setting(found: &mut String, setting: &str) -> Result<()> {
             let ratio = PixelAspectRatio::from_p1(p1);
             let (pad, written) = (ratio.pad(), ratio.to_p1_value());
             let settings = DcsSettings::new(Some(u16::from(written)), None, None);
+            let with_ratio = default.with_pixel_aspect_ratio(ratio);
             let shown = DcsSettings::new(Some(p1), None, None).pixel_aspect_ratio();
-            ensure!(shown == ratio, "pixel_aspect_ratio");
-            ensure!(default.with_pixel_aspect_ratio(ratio) == settings, "with");
-            ensure!(ratio.is_square() == (pad == 1), "is_square");
-            ensure!(ratio.pan() == 1, "pan");
+            ensure!(shown == ratio && with_ratio == settings, "settings");
+            ensure!(ratio.pan() == 1 && ratio.is_square() == (pad == 1), "shape");
             write!(found, "\t{pad}:1\t{pad}\t{written}")?;
         }
         ("p2", value) => {
@@ -25,10 +25,9 @@ pub fn write_setting(found: &mut String, setting: &str) -> Result<()> {
             let mode = BackgroundMode::from_p2(p2);
             let written = mode.to_p2_value();
             let settings = DcsSettings::new(None, Some(u16::from(written)), Some(3));
-            let shown = DcsSettings::new(None, Some(p2), None).background_mode();
-            ensure!(shown == mode, "background_mode");
             let with_mode = default.with_grid_size(3).with_background_mode(mode);
-            ensure!(with_mode == settings, "with_background_mode");
+            let shown = DcsSettings::new(None, Some(p2), None).background_mode();
+            ensure!(shown == mode && with_mode == settings, "settings");
             ensure!(mode.is_transparent() == (written == 1), "is_transparent");
             write!(found, "\t{}\t{written}", mode_word(mode))?;
         }
@@ -36,6 +35,13 @@ pub fn write_setting(found: &mut String, setting: &str) -> Result<()> {
             ensure!(decoder.pixel_limit() == 67_108_864, "new limit");
             decoder.set_pixel_limit(value.parse::<usize>()?);
             write!(found, "\t{}", decoder.pixel_limit())?;
+        }
+        ("clip", value) => {
+            ensure!(decoder.clip() == (1_000_000, 1_000_000), "new clip");
+            let (width, height) = clip(value)?;
+            decoder.set_clip(width, height);
+            let (columns, rows) = decoder.clip();
+            write!(found, "\t{columns}x{rows}")?;
         }
         _ => bail!("no setting"),
     }

@@ -1,7 +1,7 @@
 //! Vectors of `steps.tsv`: lists of steps on one decoder.
 
 use crate::notation::{bytes, color, numbers, push_error, push_fed, push_image};
-use crate::session::{Form, check_decoder, settings};
+use crate::session::{Form, check_decoder, clip, settings};
 use anyhow::{Context, Result, ensure};
 use icy_sixel::SixelDecoder;
 use icy_sixel::script::{End, Outcome, Step, run};
@@ -12,7 +12,7 @@ use std::alloc::Global;
 struct Line<'a> {
     columns: [&'a str; 3],
     form: Form,
-    limit: usize,
+    numbers: (usize, usize),
     bytes: Vec<u8>,
     lengths: Vec<usize>,
 }
@@ -24,12 +24,10 @@ pub fn write(alloc: Global, found: &mut String, columns: &[&str]) -> Result<()> 
     for step in steps.chunks(5) {
         lines.push(Line::parse(alloc, step.try_into()?)?)?;
     }
-    let (mut decoder, mut other) = (SixelDecoder::new(), String::new(alloc));
-    write_run(alloc, found, &mut decoder, &lines, None)?;
+    let decoder = write_run(alloc, found, &lines, None)?;
     for lengths in [[].as_slice(), &[0], &[usize::MAX], &[1; 64]] {
-        let mut again = SixelDecoder::new();
-        other.clear();
-        write_run(alloc, &mut other, &mut again, &lines, Some(lengths))?;
+        let mut other = String::new(alloc);
+        let again = write_run(alloc, &mut other, &lines, Some(lengths))?;
         ensure!(other == *found, "{other}");
         check_decoder(&again, &decoder)?;
     }
@@ -41,24 +39,25 @@ pub fn write(alloc: Global, found: &mut String, columns: &[&str]) -> Result<()> 
     Ok(write!(found, "\t{registers}")?)
 }
 
-/// Runs the steps with these lengths of chunks, and writes all their columns.
+/// Runs the steps with these lengths of chunks, writes their columns and returns the decoder.
 fn write_run<'a>(
     alloc: Global,
     found: &mut String,
-    decoder: &mut SixelDecoder,
     lines: &'a [Line<'_>],
     lengths: Option<&'a [usize]>,
-) -> Result<()> {
-    let mut steps = Vec::new(alloc);
+) -> Result<SixelDecoder> {
+    let (mut steps, mut decoder) = (Vec::new(alloc), SixelDecoder::new());
     for line in lines {
         let step = line.step(lengths.unwrap_or(line.lengths.as_slice()));
         steps.extend_from_slice(&[step])?;
     }
-    let outcomes = run(alloc, decoder, &steps)?;
+    let outcomes = run(alloc, &mut decoder, &steps)?;
     for (line, outcome) in lines.iter().zip(outcomes.iter()) {
-        line.write(found, outcome)?;
+        let [step, text, end] = line.columns;
+        write!(found, "\t{step}\t{text}\t{end}")?;
+        push_outcome(found, outcome)?;
     }
-    Ok(())
+    Ok(decoder)
 }
 
 impl<'a> Line<'a> {
@@ -66,15 +65,16 @@ impl<'a> Line<'a> {
     fn parse(alloc: Global, [step, text, end, _, _]: [&'a str; 5]) -> Result<Self> {
         let (_, lengths) = end.split_once(' ').unwrap_or((end, "none"));
         let (bytes, lengths) = (bytes(alloc, text)?, numbers(alloc, lengths)?);
-        let (form, limit) = match step.split_once(' ').unwrap_or((step, "")) {
-            ("reset" | "crop", _) => (Form::Dcs, 0),
-            ("limit", pixels) => (Form::Dcs, pixels.parse::<usize>()?),
-            _ => (settings(step)?.0, 0),
+        let (form, numbers) = match step.split_once(' ').unwrap_or((step, "")) {
+            ("reset" | "crop", _) => (Form::Dcs, (0, 0)),
+            ("limit", pixels) => (Form::Dcs, (pixels.parse::<usize>()?, 0)),
+            ("clip", sides) => (Form::Dcs, clip(sides)?),
+            _ => (settings(step)?.0, (0, 0)),
         };
         Ok(Self {
             columns: [step, text, end],
             form,
-            limit,
+            numbers,
             bytes,
             lengths,
         })
@@ -88,7 +88,11 @@ impl<'a> Line<'a> {
         match step.split_once(' ').unwrap_or((step, "")) {
             ("reset", _) => return Step::Reset,
             ("crop", on) => return Step::RasterCrop(on == "on"),
-            ("limit", _) => return Step::PixelLimit(self.limit),
+            ("limit", _) => return Step::PixelLimit(self.numbers.0),
+            ("clip", _) => {
+                let (width, height) = self.numbers;
+                return Step::Clip { width, height };
+            }
             _ => {}
         }
         let is_once = end == "once";
@@ -108,25 +112,23 @@ impl<'a> Line<'a> {
             },
         }
     }
+}
 
-    /// Writes the columns of the step and of what comes of it.
-    fn write(&self, found: &mut String, outcome: &Outcome) -> Result<()> {
-        let [step, text, end] = self.columns;
-        write!(found, "\t{step}\t{text}\t{end}")?;
-        match outcome {
-            Outcome::Aborted { consumed, status } => push_fed(found, *consumed, *status)?,
-            Outcome::Finished {
-                consumed,
-                status,
-                ..
-            } => push_fed(found, *consumed, *status)?,
-            _ => found.push('\t')?,
-        }
-        match outcome {
-            Outcome::Reset | Outcome::Changed => Ok(found.push_str("\tdone")?),
-            Outcome::Aborted { .. } => Ok(found.push_str("\taborted")?),
-            Outcome::Failed(error) => push_error(found, error),
-            Outcome::Decoded(image) | Outcome::Finished { image, .. } => push_image(found, image),
-        }
+/// Writes the columns of what comes of a step.
+fn push_outcome(found: &mut String, outcome: &Outcome) -> Result<()> {
+    match outcome {
+        Outcome::Aborted { consumed, status }
+        | Outcome::Finished {
+            consumed,
+            status,
+            ..
+        } => push_fed(found, *consumed, *status)?,
+        _ => found.push('\t')?,
+    }
+    match outcome {
+        Outcome::Reset | Outcome::Changed => Ok(found.push_str("\tdone")?),
+        Outcome::Aborted { .. } => Ok(found.push_str("\taborted")?),
+        Outcome::Failed(error) => push_error(found, error),
+        Outcome::Decoded(image) | Outcome::Finished { image, .. } => push_image(found, image),
     }
 }
