@@ -4,6 +4,8 @@ use crate::error::SixelError;
 
 pub(crate) const OK: u32 = 0;
 pub(crate) const NO_SESSION: u32 = 2;
+pub(crate) const BUFFER_TOO_SMALL: u32 = 6;
+pub(crate) const BAD_STRIDE: u32 = 7;
 pub(crate) const OUT_OF_MEMORY: u32 = 8;
 pub(crate) const OVERFLOW: u32 = 9;
 pub(crate) const BAD_DIMENSIONS: u32 = 10;
@@ -18,6 +20,8 @@ pub(crate) const STREAM_FAILED: u32 = 18;
 pub(crate) const DCS_STREAM_FAILED: u32 = 19;
 pub(crate) const COLOR_COUNT: u32 = 20;
 pub(crate) const INDEX_RANGE: u32 = 21;
+pub(crate) const ROWS_NOT_FINAL: u32 = 22;
+pub(crate) const ROWS_RELEASED: u32 = 23;
 
 /// The image needs more data.
 pub(crate) const MORE: u32 = 0;
@@ -41,6 +45,8 @@ pub(crate) fn error_of(code: u32) -> SixelError {
         DCS_STREAM_FAILED => SixelError::of_data("DCS stream decoder has failed"),
         COLOR_COUNT => SixelError::of_data("number of colors is not 1 to 256"),
         INDEX_RANGE => SixelError::of_data("palette index out of range"),
+        ROWS_NOT_FINAL => SixelError::of_data("rows are not final"),
+        ROWS_RELEASED => SixelError::of_data("rows were released"),
         other => unreachable!("the library returned {other}"),
     }
 }

@@ -101,7 +101,7 @@ impl SixelDecoder {
         self.handle().set_registers(first, colors);
     }
 
-    /// Resets the registers to those of a new decoder, without changing crop and limit.
+    /// Resets the registers to those of a new decoder, without changing the settings.
     ///
     /// An image does not reset them, so the next one starts with the registers that it defined.
     pub fn reset_palette(&mut self) {
@@ -132,10 +132,38 @@ impl SixelDecoder {
 
     /// Sets how many pixels an image can have: at least 1, and at most 67,108,864.
     ///
-    /// The extent of all sixels and raster attributes counts, also if the image is cropped. An
-    /// image is rejected as soon as its extent is above the limit. Encoding has no such limit.
+    /// The extent of all sixels and raster attributes counts, also if the image is cropped. Of a
+    /// clipped image only the part inside the clip counts. An image is rejected as soon as it has
+    /// more pixels than the limit. Encoding has no such limit.
     pub fn set_pixel_limit(&mut self, pixels: usize) {
         self.handle().set_limit(pixels);
+    }
+
+    /// Returns the clip: how many columns from the left and rows from the top an image can have.
+    ///
+    /// Both are 1,000,000 in a new decoder, which clips nothing, because no image has more.
+    #[must_use]
+    pub fn clip(&self) -> (usize, usize) {
+        self.shared().clip()
+    }
+
+    /// Sets the clip: each side is at least 1, and at most 1,000,000.
+    ///
+    /// An image is then the picture restricted to these columns and rows, and at most as large.
+    /// What lies outside is not stored, and does not count for the limit of pixels. The registers
+    /// and the other errors are those of the whole picture.
+    ///
+    /// ```
+    /// use icy_sixel::SixelDecoder;
+    ///
+    /// let mut decoder = SixelDecoder::new();
+    /// decoder.set_clip(10, 5);
+    /// let image = decoder.decode(b"\x1bP9;1q#1;2;100;0;0!12~\x1b\\")?;
+    /// assert_eq!(image.dimensions(), (10, 5));
+    /// # Ok::<(), icy_sixel::SixelError>(())
+    /// ```
+    pub fn set_clip(&mut self, width: usize, height: usize) {
+        self.handle().set_clip(width, height);
     }
 
     /// Decodes the first DCS sequence in the bytes, or all of them as a payload if there is none.
@@ -281,6 +309,7 @@ impl fmt::Debug for SixelDecoder {
         f.debug_struct("SixelDecoder")
             .field("raster_crop", &self.raster_crop())
             .field("pixel_limit", &self.pixel_limit())
+            .field("clip", &self.clip())
             .finish_non_exhaustive()
     }
 }

@@ -94,6 +94,15 @@ pub(crate) struct Encoding {
     pub(crate) form: u8,
 }
 
+/// How rows lie in a buffer.
+#[repr(C)]
+#[derive(Clone, Copy, Default)]
+pub(crate) struct BufferLayout {
+    pub(crate) stride: usize,
+    pub(crate) columns: usize,
+    pub(crate) order: u8,
+}
+
 // SAFETY: these are the declarations of `icysixel.h`. Those that are `safe` take numbers, a handle
 // and places to write to, and are defined for all of these: a `Raw` is zeros or what the library
 // left there, because nothing else writes to one, and a `&mut` is a place that nothing else uses.
@@ -102,12 +111,15 @@ unsafe extern "C" {
     safe fn icysixel_free(handle: &mut Raw);
     safe fn icysixel_begin(handle: &mut Raw) -> u32;
     safe fn icysixel_begin_payload(handle: &mut Raw, p1: i32, p2: i32, grid: i32) -> u32;
+    safe fn icysixel_begin_partial(handle: &mut Raw, p1: i32, p2: i32, grid: i32) -> u32;
     safe fn icysixel_in_payload(handle: &mut Raw) -> u8;
     safe fn icysixel_get_size_so_far(handle: &mut Raw, size: &mut Size) -> u32;
     safe fn icysixel_get_drawn_height(handle: &mut Raw) -> usize;
     safe fn icysixel_get_rows_so_far(handle: &mut Raw) -> usize;
+    safe fn icysixel_release_rows(handle: &mut Raw, rows: usize) -> u32;
     safe fn icysixel_get_canvas_paints(handle: &mut Raw) -> u64;
     safe fn icysixel_finish(handle: &mut Raw, shape: &mut Shape) -> u32;
+    safe fn icysixel_finish_partial(handle: &mut Raw, shape: &mut Shape, fault: &mut u32) -> u32;
     safe fn icysixel_discard_image(handle: &mut Raw) -> u32;
     safe fn icysixel_abort(handle: &mut Raw) -> u32;
     safe fn icysixel_get_register(handle: &mut Raw, number: u8, color: &mut Color) -> u32;
@@ -123,8 +135,28 @@ unsafe extern "C" {
     safe fn icysixel_set_crop(handle: &mut Raw, on: u8) -> u32;
     safe fn icysixel_get_limit(handle: &mut Raw) -> usize;
     safe fn icysixel_set_limit(handle: &mut Raw, pixels: usize) -> u32;
+    safe fn icysixel_get_clip(handle: &mut Raw, clip: &mut Size) -> u32;
+    safe fn icysixel_set_clip(handle: &mut Raw, width: usize, height: usize) -> u32;
 
     fn icysixel_feed(handle: &mut Raw, chunk: *const u8, length: usize, fed: &mut Fed) -> u32;
+    fn icysixel_feed_band(handle: &mut Raw, chunk: *const u8, length: usize, fed: &mut Fed) -> u32;
+    fn icysixel_copy_rows(
+        handle: &mut Raw,
+        first: usize,
+        rows: usize,
+        layout: *const BufferLayout,
+        buf: *mut u8,
+        size: usize,
+    ) -> u32;
+    fn icysixel_finish_into(
+        handle: &mut Raw,
+        first: usize,
+        layout: *const BufferLayout,
+        buf: *mut u8,
+        size: usize,
+        shape: &mut Shape,
+        wanted: &mut usize,
+    ) -> u32;
     fn icysixel_decode(handle: &mut Raw, bytes: *const u8, length: usize, shape: &mut Shape)
     -> u32;
     fn icysixel_decode_payload(
@@ -303,12 +335,63 @@ impl Handle {
         icysixel_begin_payload(&mut self.0, p1, p2, grid);
     }
 
+    /// Opens a payload of which a fault leaves the picture, in place of an open image.
+    pub(crate) fn begin_partial(&mut self, [p1, p2, grid]: Parameters) {
+        icysixel_begin_partial(&mut self.0, p1, p2, grid);
+    }
+
     /// Reads a chunk of the open image.
     pub(crate) fn feed(&mut self, chunk: &[u8]) -> Answer<Fed> {
         let mut fed = Fed::default();
         // SAFETY: the pointer and the length are those of a slice, which is only read.
         let code = unsafe { icysixel_feed(&mut self.0, chunk.as_ptr(), chunk.len(), &mut fed) };
         answer(code, fed)
+    }
+
+    /// Reads a chunk of the open image up to its first graphics new line.
+    pub(crate) fn feed_band(&mut self, chunk: &[u8]) -> Answer<Fed> {
+        let mut fed = Fed::default();
+        let (start, length) = (chunk.as_ptr(), chunk.len());
+        // SAFETY: the pointer and the length are those of a slice, which is only read.
+        let code = unsafe { icysixel_feed_band(&mut self.0, start, length, &mut fed) };
+        answer(code, fed)
+    }
+
+    /// Copies final rows of the open image.
+    pub(crate) fn copy_rows(
+        &mut self,
+        first: usize,
+        rows: usize,
+        layout: &BufferLayout,
+        out: &mut [u8],
+    ) -> Answer<()> {
+        let (start, size) = (out.as_mut_ptr(), out.len());
+        // SAFETY: the pointer and the size are those of a slice that is only written to, and the
+        // layout is only read.
+        answer(unsafe { icysixel_copy_rows(&mut self.0, first, rows, layout, start, size) }, ())
+    }
+
+    /// Releases the final rows above this one.
+    pub(crate) fn release_rows(&mut self, rows: usize) -> Answer<()> {
+        answer(icysixel_release_rows(&mut self.0, rows), ())
+    }
+
+    /// Closes the open image and copies rows of it, or gives the code and the bytes needed.
+    pub(crate) fn close_into(
+        &mut self,
+        first: usize,
+        layout: &BufferLayout,
+        out: &mut [u8],
+    ) -> Result<Shape, (u32, usize)> {
+        let (mut shape, mut wanted) = (Shape::default(), 0);
+        let (start, size) = (out.as_mut_ptr(), out.len());
+        let handle = &mut self.0;
+        // SAFETY: the pointer and the size are those of a slice that is only written to, and the
+        // layout is only read.
+        let code = unsafe {
+            icysixel_finish_into(handle, first, layout, start, size, &mut shape, &mut wanted)
+        };
+        answer(code, shape).map_err(|code| (code, wanted))
     }
 
     /// Whether the payload of the open image has begun.
@@ -340,6 +423,14 @@ impl Handle {
     /// Closes the open image, and returns its shape and its pixels.
     pub(crate) fn close(&mut self) -> Answer<(Shape, Vec<u8>)> {
         self.image(|handle, shape| icysixel_finish(handle, shape))
+    }
+
+    /// Closes the open image, and returns its picture up to the first fault, and the fault's code.
+    pub(crate) fn close_partial(&mut self) -> Answer<((Shape, Vec<u8>), u32)> {
+        let mut fault = OK;
+        let picture =
+            self.image(|handle, shape| icysixel_finish_partial(handle, shape, &mut fault))?;
+        Ok((picture, fault))
     }
 
     /// Aborts the open image, if there is one.
@@ -437,6 +528,16 @@ impl Handle {
 
     pub(crate) fn set_limit(&mut self, pixels: usize) {
         icysixel_set_limit(&mut self.0, pixels);
+    }
+
+    pub(crate) fn clip(&mut self) -> (usize, usize) {
+        let mut clip = Size::default();
+        icysixel_get_clip(&mut self.0, &mut clip);
+        (clip.width, clip.height)
+    }
+
+    pub(crate) fn set_clip(&mut self, width: usize, height: usize) {
+        icysixel_set_clip(&mut self.0, width, height);
     }
 
     /// Encodes pixels, stores their text and returns its length.

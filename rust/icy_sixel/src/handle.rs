@@ -1,8 +1,9 @@
 //! Images out of a handle.
 
-use crate::codes::error_of;
+use crate::codes::{OK, error_of};
 use crate::error::Result;
 use crate::ffi::{Handle, Shape};
+use crate::receiver::PartialImage;
 use crate::settings::{BackgroundMode, DcsSettings, PixelAspectRatio};
 use crate::sixel_image::SixelImage;
 
@@ -26,12 +27,21 @@ impl Handle {
         self.close().map(image).map_err(error_of)
     }
 
-    /// A new decoder with the registers, the crop and the limit of this one.
+    /// Closes the open image, and gives its picture up to the first fault, and that fault.
+    pub(crate) fn finish_partial(&mut self) -> Result<PartialImage> {
+        let (picture, fault) = self.close_partial().map_err(error_of)?;
+        let error = (fault != OK).then(|| error_of(fault));
+        Ok(PartialImage { image: image(picture), error })
+    }
+
+    /// A new decoder with the registers and the settings of this one.
     pub(crate) fn copy(&mut self) -> Result<Self> {
         let mut copy = Self::new().map_err(error_of)?;
         copy.set_registers(0, &self.registers());
         copy.set_crop(self.crop());
         copy.set_limit(self.limit());
+        let (width, height) = self.clip();
+        copy.set_clip(width, height);
         Ok(copy)
     }
 }

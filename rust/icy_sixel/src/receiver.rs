@@ -1,11 +1,17 @@
 //! A decoder and its open image, for a host that stores both in one struct.
 
+mod partial;
+mod rows;
+
 use crate::codes::error_of;
 use crate::decoder::{DcsSettings, SixelDecoder};
 use crate::decoder::{payload_status, string_status};
 use crate::error::Result;
+use crate::ffi::Fed;
 use crate::script::Status;
 use crate::sixel_image::SixelImage;
+pub use partial::PartialImage;
+pub use rows::{ChannelOrder, ImageShape, RowLayout};
 
 /// The result of a feed of a receiver.
 #[derive(Clone, Copy, Debug, PartialEq, Eq)]
@@ -51,6 +57,7 @@ enum Open {
 pub struct SixelReceiver {
     decoder: SixelDecoder,
     open: Open,
+    keeps_partial: bool,
 }
 
 impl SixelReceiver {
@@ -64,7 +71,7 @@ impl SixelReceiver {
     #[must_use]
     pub fn with_decoder(mut decoder: SixelDecoder) -> Self {
         decoder.handle().abort();
-        Self { decoder, open: Open::Nothing }
+        Self { decoder, open: Open::Nothing, keeps_partial: false }
     }
 
     /// Returns the decoder, and aborts an open image.
@@ -90,7 +97,11 @@ impl SixelReceiver {
     ///
     /// An open image is aborted. The call does not allocate.
     pub fn begin_frame(&mut self, settings: DcsSettings) {
-        self.decoder.begin_payload(settings);
+        if self.keeps_partial {
+            self.decoder.handle().begin_partial(settings.parameters());
+        } else {
+            self.decoder.begin_payload(settings);
+        }
         self.open = Open::Payload;
     }
 
@@ -114,11 +125,16 @@ impl SixelReceiver {
     /// [`SixelDcsStreamDecoder::feed`]: crate::SixelDcsStreamDecoder::feed
     pub fn feed(&mut self, chunk: &[u8]) -> Result<Received> {
         let fed = self.decoder.handle().feed(chunk).map_err(error_of)?;
+        Ok(self.received(fed))
+    }
+
+    /// The result of a feed of the open image.
+    fn received(&self, fed: Fed) -> Received {
         let status = match self.open {
             Open::ControlString => Status::Dcs(string_status(fed)),
             Open::Payload | Open::Nothing => Status::Payload(payload_status(fed)),
         };
-        Ok(Received { consumed: fed.consumed, status })
+        Received { consumed: fed.consumed, status }
     }
 
     /// Closes the image, returns it, and stores its registers in the decoder.
@@ -231,6 +247,13 @@ impl SixelReceiver {
     /// An open image goes on as it began.
     pub fn set_pixel_limit(&mut self, pixels: usize) {
         self.decoder.set_pixel_limit(pixels);
+    }
+
+    /// Sets the columns and rows that an image may have, as [`SixelDecoder::set_clip`] does.
+    ///
+    /// An open image keeps the clip that it began with.
+    pub fn set_clip(&mut self, width: usize, height: usize) {
+        self.decoder.set_clip(width, height);
     }
 }
 

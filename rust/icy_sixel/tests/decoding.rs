@@ -56,25 +56,30 @@ fn a_decoder_is_cloned() {
     }
     decoder.set_raster_crop(true);
     decoder.set_pixel_limit(100);
+    decoder.set_clip(50, 60);
     let mut clone = decoder.clone();
     decoder.reset_palette();
     assert!([0, 7, 255].iter().all(|number| clone.register(*number) == [1, 2, 3]));
     assert_eq!(clone.register(1), [51, 51, 204]);
     assert!(clone.raster_crop());
     assert_eq!(clone.pixel_limit(), 100);
+    assert_eq!(clone.clip(), (50, 60));
     let image = clone.decode(b"\x1bP;1q\"1;1;2;4#7!2~\x1b\\");
     assert_filled(image, (2, 4), [1, 2, 3, 255]);
     assert_eq!(clone.decode(b"!99~"), Err(invalid(TOO_LARGE)));
 }
 
 #[test]
-fn crop_and_limit_are_set() {
+fn crop_limit_and_clip_are_set() {
     let mut decoder = SixelDecoder::new();
     assert!(!decoder.raster_crop());
     assert_eq!(decoder.pixel_limit(), 67_108_864);
     assert_eq!(decoder.decode(b"\"1;1;2;4!2~").unwrap().dimensions(), (2, 6));
     decoder.set_raster_crop(true);
     assert_eq!(decoder.decode(b"\"1;1;2;4!2~").unwrap().dimensions(), (2, 4));
+    assert_eq!(decoder.clip(), (1_000_000, 1_000_000));
+    decoder.set_clip(1, 3);
+    assert_eq!(decoder.decode(b"\"1;1;2;4!2~").unwrap().dimensions(), (1, 3));
 }
 
 /// P1 and P2 mean to these enums what they mean to the library, for all their values.

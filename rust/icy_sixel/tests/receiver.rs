@@ -6,8 +6,8 @@ use common::*;
 use icy_sixel::receiver::{Received, SixelReceiver};
 use icy_sixel::script::Status;
 use icy_sixel::{
-    DcsSettings, Result, SixelDcsFeedStatus as Dcs, SixelDecoder, SixelError,
-    SixelFeedStatus as Payload, SixelImage,
+    ChannelOrder, DcsSettings, Result, RowLayout, SixelDcsFeedStatus as Dcs, SixelDecoder,
+    SixelError, SixelFeedStatus as Payload, SixelImage,
 };
 use std::sync::{Arc, Mutex, RwLock, mpsc};
 use std::thread;
@@ -83,6 +83,99 @@ fn rows_above_the_band_are_final() {
     }
     assert_eq!(receiver.feed(b"!65536~"), Err(invalid(MALFORMED)));
     assert_eq!(receiver.rows_so_far(), 0);
+}
+
+/// Three pixels a row, the third of which is no column of the copy.
+const NARROW: RowLayout = RowLayout { stride: 12, columns: 2, order: ChannelOrder::Rgba };
+
+/// The bytes of so many rows of three pixels, without the last pixel of the last row.
+fn rows(count: usize, pixels: [[u8; 4]; 3]) -> Vec<u8> {
+    let mut bytes = pixels.as_flattened().repeat(count);
+    bytes.truncate(12 * count - 4);
+    bytes
+}
+
+#[test]
+fn rows_are_copied_while_an_image_comes() {
+    const CLEAR: [u8; 4] = [0; 4];
+    const UNTOUCHED: [u8; 4] = [9; 4];
+    let mut receiver = SixelReceiver::new();
+    receiver.begin_frame(DcsSettings::new(Some(9), Some(1), None));
+    let received = receiver.feed_band(b"#1;2;100;0;0~-!3~-").unwrap();
+    assert_eq!((received.consumed, receiver.rows_so_far()), (14, 6));
+    let mut out = vec![9; 68];
+    assert_eq!(receiver.copy_rows(0, 6, NARROW, &mut out), Ok(()));
+    assert_eq!(out, rows(6, [RED, CLEAR, UNTOUCHED]));
+    let bgra = RowLayout { order: ChannelOrder::Bgra, ..NARROW };
+    assert_eq!(receiver.copy_rows(4, 2, bgra, &mut out), Ok(()));
+    assert_eq!(out[..20], rows(2, [[0, 0, 255, 255], CLEAR, UNTOUCHED]));
+    assert_eq!(receiver.release_rows(7), Err(invalid("rows are not final")));
+    assert_eq!(receiver.release_rows(6), Ok(()));
+    let released = Err(invalid("rows were released"));
+    assert_eq!(receiver.copy_rows(5, 1, NARROW, &mut out), released);
+    assert!(receiver.feed_band(b"!3~").is_ok());
+    assert_eq!(receiver.finish_into(5, NARROW, &mut out), Err(invalid("rows were released")));
+    let mismatch = SixelError::BufferSizeMismatch { expected: 68, actual: 67 };
+    assert_eq!(receiver.finish_into(6, NARROW, &mut out[..67]), Err(mismatch));
+    assert!(receiver.is_receiving());
+    let shape = receiver.finish_into(6, NARROW, &mut out).unwrap();
+    assert_eq!(out, rows(6, [RED, RED, UNTOUCHED]));
+    assert_eq!((shape.width, shape.height, shape.aspect_ratio.pad()), (3, 12, 1));
+    assert!(shape.background_mode.is_transparent() && !receiver.is_receiving());
+    assert_eq!(receiver.register(1), [255, 0, 0]);
+}
+
+#[test]
+fn rows_are_not_copied() {
+    let short = || Err(invalid("stride is shorter than a row"));
+    let not_final = || Err(invalid("rows are not final"));
+    let mut receiver = SixelReceiver::new();
+    let mut out = [9; 72];
+    assert_eq!(receiver.copy_rows(0, 1, NARROW, &mut out), not_final());
+    assert_eq!(receiver.copy_rows(0, 0, NARROW, &mut out), Ok(()));
+    let dense = RowLayout { stride: 0, ..NARROW };
+    assert_eq!(receiver.copy_rows(0, 0, dense, &mut out), short());
+    receiver.begin_frame(DcsSettings::default());
+    assert!(receiver.feed(b"~-").is_ok());
+    assert_eq!(receiver.copy_rows(1, 6, NARROW, &mut out), not_final());
+    for stride in [0, 7] {
+        assert_eq!(receiver.copy_rows(0, 1, RowLayout { stride, ..NARROW }, &mut out), short());
+    }
+    let far = RowLayout { stride: usize::MAX, ..NARROW };
+    assert_eq!(receiver.copy_rows(0, 3, far, &mut out), Err(SixelError::IntegerOverflow));
+    let mismatch = SixelError::BufferSizeMismatch { expected: 68, actual: 67 };
+    assert_eq!(receiver.copy_rows(0, 6, NARROW, &mut out[..67]), Err(mismatch));
+    assert_eq!(out, [9; 72]);
+    receiver.begin_dcs();
+    assert!(receiver.feed(b"\x1bPq~").is_ok());
+    assert_eq!(receiver.finish_into(0, NARROW, &mut out), Err(invalid(INCOMPLETE)));
+    assert!(!receiver.is_receiving());
+    assert_eq!(receiver.finish_into(0, NARROW, &mut out), Err(invalid(STREAM_FAILED)));
+}
+
+#[test]
+fn a_fault_leaves_the_picture_before_it() {
+    let mut receiver = SixelReceiver::new();
+    let fault = || invalid("malformed SIXEL data");
+    for keeps in [true, false] {
+        receiver.set_keep_partial(keeps);
+        receiver.begin_frame(DcsSettings::new(Some(9), Some(1), None));
+        assert_eq!(receiver.feed(b"#1;2;100;0;0~~!65536~"), Err(fault()));
+        let answer = receiver.finish_partial();
+        assert!(!receiver.is_receiving() && receiver.register(1) == [51, 51, 204]);
+        if keeps {
+            let partial = answer.unwrap();
+            assert_eq!((partial.image.dimensions(), partial.error), ((2, 6), Some(fault())));
+            assert_eq!(partial.image.pixels, RED.repeat(12));
+        } else {
+            assert_eq!(answer, Err(invalid(STREAM_FAILED)));
+        }
+    }
+    receiver.begin_frame(DcsSettings::default());
+    assert!(receiver.feed(b"#1;2;100;0;0~~~").is_ok());
+    let whole = receiver.finish_partial().unwrap();
+    assert_eq!((whole.image.dimensions(), whole.error), ((3, 6), None));
+    assert_eq!(receiver.register(1), [255, 0, 0]);
 }
 
 #[test]

@@ -111,6 +111,8 @@ fn what_is_ours() {
     let _: fn(&mut Decoder, bool) = Decoder::set_raster_crop;
     let _: fn(&Decoder) -> usize = Decoder::pixel_limit;
     let _: fn(&mut Decoder, usize) = Decoder::set_pixel_limit;
+    let _: fn(&Decoder) -> (usize, usize) = Decoder::clip;
+    let _: fn(&mut Decoder, usize, usize) = Decoder::set_clip;
     let _: fn() -> Answer<Decoder> = Decoder::try_new;
     let _: fn(&Decoder) -> Answer<Decoder> = Decoder::try_clone;
     type Choice = icy_sixel::PaletteChoice;
@@ -137,6 +139,18 @@ fn what_is_ours() {
     let _: fn() -> icy_sixel::SixelReceiver = receiver::SixelReceiver::new;
     let _: fn(&mut receiver::SixelReceiver, &[u8]) -> Answer<icy_sixel::Received> =
         receiver::SixelReceiver::feed;
+    type Receiver = receiver::SixelReceiver;
+    type Layout = icy_sixel::RowLayout;
+    let _: fn(&mut Receiver, &[u8]) -> Answer<receiver::Received> = Receiver::feed_band;
+    let _: fn(&Receiver, usize, usize, Layout, &mut [u8]) -> Answer<()> = Receiver::copy_rows;
+    let _: fn(&mut Receiver, usize) -> Answer<()> = Receiver::release_rows;
+    let _: fn(&mut Receiver, usize, Layout, &mut [u8]) -> Answer<icy_sixel::ImageShape> =
+        Receiver::finish_into;
+    let _: fn(&mut Receiver, bool) = Receiver::set_keep_partial;
+    let _: fn(&mut Receiver) -> Answer<icy_sixel::PartialImage> = Receiver::finish_partial;
+    is_value::<Layout>();
+    is_value::<icy_sixel::ChannelOrder>();
+    is_value::<icy_sixel::ImageShape>();
     is_value::<icy_sixel::Status>();
     let receiver = receiver::SixelReceiver::new();
     assert!(format!("{receiver:?}").starts_with("SixelReceiver"));

@@ -137,6 +137,10 @@ impl Input {
             match word.split_once('=') {
                 None => decoder.set_raster_crop(word == "crop"),
                 Some(("limit", value)) => decoder.set_pixel_limit(value.parse().unwrap()),
+                Some(("clip", value)) => {
+                    let (width, height) = value.split_once('x').unwrap();
+                    decoder.set_clip(width.parse().unwrap(), height.parse().unwrap());
+                }
                 Some((name, value)) => {
                     let place = ["p1", "p2", "p3"].iter().position(|known| *known == name);
                     parameters[place.unwrap()] = Some(value.parse().unwrap());
@@ -144,7 +148,7 @@ impl Input {
             }
         }
         let [p1, p2, p3] = parameters;
-        let is_default = !settings.contains("crop") && !settings.contains("limit");
+        let is_default = ["crop", "limit", "clip"].iter().all(|word| !settings.contains(word));
         let payload = settings.starts_with("payload").then(|| DcsSettings::new(p1, p2, p3));
         assert!(payload.is_some() || settings.starts_with("dcs"));
         Self { payload, decoder, is_default, bytes: bytes(text) }
@@ -411,6 +415,13 @@ fn settings() {
             let mut decoder = SixelDecoder::new();
             decoder.set_pixel_limit(value.parse().unwrap());
             return assert_eq!(decoder.pixel_limit().to_string(), columns[1]);
+        }
+        if name == "clip" {
+            let mut decoder = SixelDecoder::new();
+            let (width, height) = value.split_once('x').unwrap();
+            decoder.set_clip(width.parse().unwrap(), height.parse().unwrap());
+            let (columns_inside, rows_inside) = decoder.clip();
+            return assert_eq!(format!("{columns_inside}x{rows_inside}"), columns[1]);
         }
         let value = value.parse().unwrap();
         if name == "p1" {

@@ -1,0 +1,61 @@
+//! The picture of an image that has a fault, up to that fault.
+
+use super::SixelReceiver;
+use crate::error::{Result, SixelError};
+use crate::sixel_image::SixelImage;
+
+/// An image as far as its data have no fault.
+#[derive(Clone, Debug, PartialEq, Eq)]
+pub struct PartialImage {
+    /// The image of the commands before the first fault.
+    pub image: SixelImage,
+    /// That fault, or `None` if the image is whole.
+    pub error: Option<SixelError>,
+}
+
+impl SixelReceiver {
+    /// Sets whether a payload that is rejected leaves the picture before its fault.
+    ///
+    /// It is off in a new receiver. A rejected image is dropped then. The setting applies to each
+    /// payload that is begun afterwards. A DCS sequence keeps no picture. A picture that is kept
+    /// occupies its memory until the image is closed.
+    pub fn set_keep_partial(&mut self, on: bool) {
+        self.keeps_partial = on;
+    }
+
+    /// Closes the image, and returns its picture up to the first fault, and that fault.
+    ///
+    /// A host can call it in place of [`finish`](Self::finish), after a failed feed too:
+    ///
+    /// - An image without a fault is returned whole, and its registers are stored in the decoder.
+    /// - A payload with a fault is returned as the image of the commands before the faulty one. The
+    ///   decoder is unchanged. After a failed feed there is this picture only if the image was
+    ///   begun with [`set_keep_partial`](Self::set_keep_partial).
+    ///
+    /// ```
+    /// use icy_sixel::{DcsSettings, SixelReceiver};
+    ///
+    /// let mut receiver = SixelReceiver::new();
+    /// receiver.set_keep_partial(true);
+    /// receiver.begin_frame(DcsSettings::default());
+    /// assert!(receiver.feed(b"~~!65536~").is_err());
+    /// let partial = receiver.finish_partial()?;
+    /// assert_eq!(partial.image.dimensions(), (2, 6));
+    /// assert!(partial.error.is_some());
+    /// # Ok::<(), icy_sixel::SixelError>(())
+    /// ```
+    ///
+    /// # Errors
+    ///
+    /// They close the image too, and leave the decoder unchanged:
+    ///
+    /// - that of [`feed`](Self::feed) after a failed feed, if nothing was kept, and if no image is
+    ///   open
+    /// - `InvalidData` with `incomplete SIXEL DCS sequence` if a DCS sequence has not ended
+    /// - `OutOfMemory` if an allocation fails
+    pub fn finish_partial(&mut self) -> Result<PartialImage> {
+        let answer = self.decoder.handle().finish_partial();
+        self.abort();
+        answer
+    }
+}

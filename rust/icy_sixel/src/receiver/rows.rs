@@ -1,0 +1,174 @@
+//! Rows of an open image in a caller's memory, in a stride and an order of the caller.
+
+use super::{Open, Received, SixelReceiver};
+use crate::codes::{BAD_STRIDE, BUFFER_TOO_SMALL, NO_SESSION, ROWS_NOT_FINAL};
+use crate::codes::{ROWS_RELEASED, error_of};
+use crate::error::{Result, SixelError};
+use crate::ffi::BufferLayout;
+use crate::settings::{BackgroundMode, PixelAspectRatio};
+
+/// The order of a pixel's bytes in memory.
+#[derive(Clone, Copy, Debug, PartialEq, Eq)]
+pub enum ChannelOrder {
+    /// Red, green, blue, alpha, as an image has them.
+    Rgba,
+    /// Blue, green, red, alpha, as most window systems have them.
+    Bgra,
+}
+
+/// How rows of pixels lie in a caller's memory.
+#[derive(Clone, Copy, Debug, PartialEq, Eq)]
+pub struct RowLayout {
+    /// How many bytes lie between the beginnings of two rows.
+    pub stride: usize,
+    /// How many pixels of a row are written. Bytes right of them are left as they are.
+    pub columns: usize,
+    /// The order of a pixel's bytes.
+    pub order: ChannelOrder,
+}
+
+/// An image without its pixels.
+#[derive(Clone, Copy, Debug, PartialEq, Eq)]
+pub struct ImageShape {
+    /// Pixels in a row.
+    pub width: usize,
+    /// Rows.
+    pub height: usize,
+    /// The shape of a pixel.
+    pub aspect_ratio: PixelAspectRatio,
+    /// Whether pixels that were not drawn are opaque or transparent.
+    pub background_mode: BackgroundMode,
+}
+
+impl SixelReceiver {
+    /// Reads a chunk up to its first graphics new line, which makes rows final.
+    ///
+    /// It does what [`feed`](Self::feed) does with the bytes up to and with the first `-`, or with
+    /// all bytes if there is none. So a host can draw each band at once, however long the chunk is.
+    ///
+    /// # Errors
+    ///
+    /// Those of `feed`.
+    pub fn feed_band(&mut self, chunk: &[u8]) -> Result<Received> {
+        let fed = self.decoder.handle().feed_band(chunk).map_err(error_of)?;
+        Ok(self.received(fed))
+    }
+
+    /// Copies final rows of the open image to the caller's memory.
+    ///
+    /// The rows are `first` up to before `first + rows`. The first of them begins at the first byte
+    /// of `out`, and each other one a stride after the one before it. Columns on the right of the
+    /// image so far are background. The other bytes of `out` stay. A later error takes no row back.
+    /// The call does not allocate.
+    ///
+    /// # Errors
+    ///
+    /// In this order:
+    ///
+    /// - `InvalidData` with `rows are not final`: `first + rows` is greater than
+    ///   [`rows_so_far`](Self::rows_so_far).
+    /// - `InvalidData` with `rows were released`: rows from `first` on were released.
+    /// - `InvalidData` with `stride is shorter than a row`: the stride has fewer bytes than the
+    ///   columns of a row, or than a pixel.
+    /// - `IntegerOverflow`: no `usize` counts the bytes of the rows.
+    /// - `BufferSizeMismatch`: `out` has fewer bytes than the rows take.
+    pub fn copy_rows(
+        &self,
+        first: usize,
+        rows: usize,
+        layout: RowLayout,
+        out: &mut [u8],
+    ) -> Result<()> {
+        match self.decoder.shared().copy_rows(first, rows, &layout.in_c(), out) {
+            Ok(()) => Ok(()),
+            Err(NO_SESSION) if (first, rows) != (0, 0) => Err(error_of(ROWS_NOT_FINAL)),
+            Err(NO_SESSION) if !layout.is_short() => Ok(()),
+            Err(NO_SESSION) => Err(layout.error(BAD_STRIDE, 0, 0)),
+            Err(code) => Err(layout.error(code, layout.byte_len(rows), out.len())),
+        }
+    }
+
+    /// Releases the final rows above row `rows`, whose memory is used again.
+    ///
+    /// The caller has copied them. Then an image that is shown while it comes takes the memory of
+    /// the rows between two calls, and not of the image. [`finish_into`](Self::finish_into) returns
+    /// the rows that are left, and [`finish`](Self::finish) fails. The call does not allocate.
+    ///
+    /// # Errors
+    ///
+    /// `InvalidData` with `rows are not final` if `rows` is greater than
+    /// [`rows_so_far`](Self::rows_so_far).
+    pub fn release_rows(&mut self, rows: usize) -> Result<()> {
+        match self.decoder.handle().release_rows(rows) {
+            Err(NO_SESSION) if rows == 0 => Ok(()),
+            Err(NO_SESSION) => Err(error_of(ROWS_NOT_FINAL)),
+            answer => answer.map_err(error_of),
+        }
+    }
+
+    /// Ends the image, and copies its rows from `first` on to the caller's memory.
+    ///
+    /// It does what [`finish`](Self::finish) does, and returns the image without its pixels. The
+    /// rows lie as those of [`copy_rows`](Self::copy_rows). With `first` 0 they are all rows of the
+    /// image, and with the rows that were copied before they are the others. No row is copied if
+    /// crop ends the image above `first`. The call does not allocate.
+    ///
+    /// # Errors
+    ///
+    /// Those of `finish` but for `OutOfMemory`, which close the image. Then those of `copy_rows`
+    /// about released rows, the stride and `out`, which leave the image open as it was. An error leaves the
+    /// decoder and `out` as they were.
+    pub fn finish_into(
+        &mut self,
+        first: usize,
+        layout: RowLayout,
+        out: &mut [u8],
+    ) -> Result<ImageShape> {
+        match self.decoder.handle().close_into(first, &layout.in_c(), out) {
+            Ok(shape) => {
+                self.open = Open::Nothing;
+                Ok(ImageShape {
+                    width: shape.width,
+                    height: shape.height,
+                    aspect_ratio: PixelAspectRatio::from_p1(u16::from(shape.p1)),
+                    background_mode: BackgroundMode::from_p2(u16::from(shape.p2)),
+                })
+            }
+            Err((code, expected)) => {
+                if !matches!(code, BAD_STRIDE | BUFFER_TOO_SMALL | ROWS_RELEASED) {
+                    self.open = Open::Nothing;
+                }
+                Err(layout.error(code, expected, out.len()))
+            }
+        }
+    }
+}
+
+impl RowLayout {
+    /// The layout for C, where a stride of 0 would mean rows without gaps.
+    fn in_c(self) -> BufferLayout {
+        let order = u8::from(self.order == ChannelOrder::Bgra);
+        BufferLayout { stride: self.stride.max(1), columns: self.columns, order }
+    }
+
+    /// The error of a code, where the rows take `expected` bytes of memory that has `actual`.
+    fn error(self, code: u32, expected: usize, actual: usize) -> SixelError {
+        match code {
+            BUFFER_TOO_SMALL => SixelError::BufferSizeMismatch { expected, actual },
+            BAD_STRIDE if self.is_short() => SixelError::of_data("stride is shorter than a row"),
+            BAD_STRIDE => SixelError::IntegerOverflow,
+            other => error_of(other),
+        }
+    }
+
+    /// Whether the stride is shorter than a row, or than a pixel.
+    fn is_short(self) -> bool {
+        self.columns.max(1) > self.stride / 4
+    }
+
+    /// How many bytes so many rows take.
+    fn byte_len(self, rows: usize) -> usize {
+        let above = rows.saturating_sub(1).saturating_mul(self.stride);
+        above.saturating_add(self.columns.saturating_mul(4))
+    }
+}
