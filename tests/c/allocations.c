@@ -22,7 +22,8 @@ static void make_pixels(void)
 /* A call, or the calls of a session, and what is left to compare: bytes in `made`. */
 struct call {
     const char *name;
-    uint32_t (*make)(icysixel *handle, struct bytes *made);
+    uint32_t (*make)(icysixel *handle, int kind, struct bytes *made);
+    int kind; /* one of the calls that `make` makes */
 };
 
 /* Copies the stored image. After an error there is none. */
@@ -35,149 +36,98 @@ static uint32_t with_image(icysixel *h, uint32_t code, icysixel_shape shape, str
     return code;
 }
 
-static uint32_t make_decode(icysixel *h, struct bytes *made)
-{
-    icysixel_shape shape = {0};
-    uint32_t code = icysixel_decode(h, string, sizeof string - 1, &shape);
-    return with_image(h, code, shape, made);
-}
+enum { DECODE, DECODE_PAYLOAD, DECODE_TAGS, DCS_SESSION, PAYLOAD_SESSION };
 
-static uint32_t make_decode_payload(icysixel *h, struct bytes *made)
-{
-    icysixel_shape shape = {0};
-    uint32_t code = icysixel_decode_payload(h, payload, sizeof payload - 1, 9, 1, -1, &shape);
-    return with_image(h, code, shape, made);
-}
+/* Wide runs over drawn pixels, which set tags. */
+#define WIDE "$#1!65535N$#2!65535~"
+static const uint8_t tags[] = WIDE WIDE WIDE WIDE WIDE WIDE;
 
 /* Feeds chunks of seven bytes. */
-static uint32_t make_session(icysixel *h, struct bytes input, uint32_t failed, struct bytes *made)
+static uint32_t feed_chunks(icysixel *h, const uint8_t *input, size_t length, uint32_t failed)
 {
     icysixel_fed fed = {0};
-    icysixel_shape shape = {0};
     uint32_t code = ICYSIXEL_OK;
-    for (size_t at = 0; code == ICYSIXEL_OK && at < input.length; at += 7)
-        code = icysixel_feed(h, input.at + at, part(input, at, 7).length, &fed);
-    if (code == ICYSIXEL_OK) code = icysixel_finish(h, &shape);
-    else check_failed(h, failed);
-    CHECK(icysixel_is_receiving(h) == 0);
-    return with_image(h, code, shape, made);
-}
-
-static uint32_t make_string_session(icysixel *h, struct bytes *made)
-{
-    CHECK(icysixel_begin(h) == ICYSIXEL_OK);
-    struct bytes input = {(uint8_t *)string, sizeof string - 1};
-    return make_session(h, input, ICYSIXEL_DCS_STREAM_FAILED, made);
-}
-
-static uint32_t make_payload_session(icysixel *h, struct bytes *made)
-{
-    CHECK(icysixel_begin_payload(h, 9, 1, -1) == ICYSIXEL_OK);
-    struct bytes input = {(uint8_t *)payload, sizeof payload - 1};
-    return make_session(h, input, ICYSIXEL_STREAM_FAILED, made);
-}
-
-/* Encodes 31 of 32 columns, so that the rows are copied: in fewer colors, then in all colors. */
-static uint32_t make_encode(icysixel *h, struct bytes *made)
-{
-    size_t length, wanted;
-    uint32_t code = icysixel_encode(h, pixels, sizeof pixels, 128, 31, 40, 9, 1, 16, &length);
-    if (code == ICYSIXEL_OK)
-        code = icysixel_encode(h, pixels, sizeof pixels, 128, 31, 40, 9, 1, 64, &length);
-    if (code == ICYSIXEL_OK) *made = (struct bytes){malloc(length), length};
-    CHECK(icysixel_copy_text(h, made->at, made->length, &wanted)
-          == (code == ICYSIXEL_OK ? ICYSIXEL_OK : ICYSIXEL_NO_TEXT));
+    for (size_t at = 0; code == ICYSIXEL_OK && at < length; at += 7)
+        code = icysixel_feed(h, input + at, length - at < 7 ? length - at : 7, &fed);
+    if (code != ICYSIXEL_OK) check_failed(h, failed);
     return code;
 }
 
-/* How the same columns are encoded by the calls that are passed an encoding. */
+static uint32_t make_image(icysixel *h, int kind, struct bytes *made)
+{
+    icysixel_shape shape = {0};
+    uint32_t code = ICYSIXEL_OK;
+    if (kind == DECODE) code = icysixel_decode(h, string, sizeof string - 1, &shape);
+    if (kind == DECODE_PAYLOAD)
+        code = icysixel_decode_payload(h, payload, sizeof payload - 1, 9, 1, -1, &shape);
+    if (kind == DECODE_TAGS)
+        code = icysixel_decode_payload(h, tags, sizeof tags - 1, 9, 1, -1, &shape);
+    if (kind == DCS_SESSION) {
+        CHECK(icysixel_begin(h) == ICYSIXEL_OK);
+        code = feed_chunks(h, string, sizeof string - 1, ICYSIXEL_DCS_STREAM_FAILED);
+    }
+    if (kind == PAYLOAD_SESSION) {
+        CHECK(icysixel_begin_payload(h, 9, 1, -1) == ICYSIXEL_OK);
+        code = feed_chunks(h, payload, sizeof payload - 1, ICYSIXEL_STREAM_FAILED);
+    }
+    if (kind >= DCS_SESSION && code == ICYSIXEL_OK) code = icysixel_finish(h, &shape);
+    CHECK(icysixel_is_receiving(h) == 0 && (kind != DECODE_TAGS || code || shape.width == 65535));
+    return with_image(h, code, shape, made);
+}
+
+/* How 31 of 32 columns are encoded, so that the rows are copied. */
 static const icysixel_encoding compact = {
     .stride = 128, .width = 31, .height = 40, .p1 = 9, .p2 = 1,
     .dithering = {ICYSIXEL_DITHER_DIFFUSION, 6}, .form = ICYSIXEL_FORM_COMPACT,
 };
+static const icysixel_color two[] = {{0, 0, 9}, {200, 200, 9}};
 
-/* Copies the stored text if the code is that of success. Otherwise there is none. */
-static uint32_t with_text(icysixel *h, uint32_t code, size_t length, struct bytes *made)
+enum { ENCODE_16, ENCODE_64, COMPACT, REFINED, IN_PALETTE, INDEXED };
+
+/* Encodes the columns and copies the stored text. After an error there is none. */
+static uint32_t make_text(icysixel *h, int kind, struct bytes *made)
 {
-    size_t wanted;
+    static const uint8_t indices[31 * 40] = {1};
+    const icysixel_encoding *e = &compact;
+    size_t size = sizeof pixels, length = 0, wanted;
+    uint32_t code
+        = kind == COMPACT ? icysixel_encode_compact(h, pixels, size, e, 16, &length)
+        : kind == REFINED ? icysixel_encode_refined(h, pixels, size, e, 16, &length)
+        : kind == IN_PALETTE ? icysixel_encode_with_palette(h, pixels, size, e, two, 2, &length)
+        : kind == INDEXED ? icysixel_encode_indexed(h, pixels, size, e, two, 2, indices,
+                                                    sizeof indices, &length)
+        : icysixel_encode(h, pixels, size, 128, 31, 40, 9, 1, kind == ENCODE_16 ? 16 : 64, &length);
     if (code == ICYSIXEL_OK) *made = (struct bytes){malloc(length), length};
     CHECK(icysixel_copy_text(h, made->at, made->length, &wanted)
           == (code == ICYSIXEL_OK ? ICYSIXEL_OK : ICYSIXEL_NO_TEXT));
     return code;
 }
 
-static uint32_t make_compact(icysixel *h, struct bytes *made)
-{
-    size_t length = 0;
-    uint32_t code = icysixel_encode_compact(h, pixels, sizeof pixels, &compact, 16, &length);
-    return with_text(h, code, length, made);
-}
+enum { CHOOSE, REFINE, INDICES };
 
-static uint32_t make_refined_text(icysixel *h, struct bytes *made)
+/* Finds a palette, or indices in a palette of two colors. The indices are compared. */
+static uint32_t make_palette(icysixel *h, int kind, struct bytes *made)
 {
-    size_t length = 0;
-    uint32_t code = icysixel_encode_refined(h, pixels, sizeof pixels, &compact, 16, &length);
-    return with_text(h, code, length, made);
-}
-
-static const icysixel_color two_colors[] = {{0, 0, 9}, {200, 200, 9}};
-
-static uint32_t make_text_in_palette(icysixel *h, struct bytes *made)
-{
-    size_t length = 0;
-    uint32_t code = icysixel_encode_with_palette(h, pixels, sizeof pixels, &compact, two_colors, 2,
-                                                 &length);
-    return with_text(h, code, length, made);
-}
-
-static uint32_t make_indexed(icysixel *h, struct bytes *made)
-{
-    static const uint8_t indices[31 * 40] = {1};
-    size_t length = 0;
-    uint32_t code = icysixel_encode_indexed(h, pixels, sizeof pixels, &compact, two_colors, 2,
-                                            indices, sizeof indices, &length);
-    return with_text(h, code, length, made);
-}
-
-static uint32_t make_indices(icysixel *h, struct bytes *made)
-{
-    (void)h;
-    uint8_t indices[sizeof pixels / 4] = {0};
-    uint32_t code = icysixel_palette_indices(pixels, sizeof pixels, 32, two_colors, 2,
-                                             &compact.dithering, indices, sizeof indices);
-    append(made, indices, code == ICYSIXEL_OK ? sizeof indices : 0);
-    return code;
-}
-
-static uint32_t make_refined(icysixel *h, struct bytes *made)
-{
-    (void)h;
     icysixel_color colors[16], witnesses[17];
+    icysixel_palette chosen = {0};
     icysixel_refined refined = {0};
     uint8_t indices[sizeof pixels / 4] = {0};
-    uint32_t code = icysixel_refine_palette(pixels, sizeof pixels, 16, colors, 16, witnesses, 17,
-                                            indices, sizeof indices, &refined);
-    CHECK(refined.colors == (code == ICYSIXEL_OK ? 16 : 0));
-    append(made, indices, code == ICYSIXEL_OK ? sizeof indices : 0);
-    return code;
-}
-
-static uint32_t make_palette(icysixel *h, struct bytes *made)
-{
-    (void)h;
-    icysixel_color colors[16], witnesses[17];
-    icysixel_palette palette = {0};
-    uint8_t indices[sizeof pixels / 4] = {0};
-    uint32_t code = icysixel_choose_palette(pixels, sizeof pixels, 16, colors, 16, witnesses, 17,
-                                            indices, sizeof indices, &palette);
-    CHECK(palette.colors == (code == ICYSIXEL_OK ? 16 : 0));
-    append(made, indices, code == ICYSIXEL_OK ? sizeof indices : 0);
-    return code;
+    size_t size = sizeof pixels, count = sizeof indices;
+    uint32_t code
+        = kind == CHOOSE ? icysixel_choose_palette(pixels, size, 16, colors, 16, witnesses, 17,
+                                                   indices, count, &chosen)
+        : kind == REFINE ? icysixel_refine_palette(pixels, size, 16, colors, 16, witnesses, 17,
+                                                   indices, count, &refined)
+        : icysixel_palette_indices(pixels, size, 32, two, 2, &compact.dithering, indices, count);
+    CHECK(chosen.colors + refined.colors == (code == ICYSIXEL_OK && kind != INDICES ? 16 : 0));
+    append(made, indices, code == ICYSIXEL_OK ? count : 0);
+    return (void)h, code;
 }
 
 /* A new decoder in place of one that has an image and a text. A failure leaves an empty handle. */
-static uint32_t make_new(icysixel *h, struct bytes *made)
+static uint32_t make_new(icysixel *h, int kind, struct bytes *made)
 {
+    (void)kind;
     uint32_t code = icysixel_new(h);
     CHECK(icysixel_abort(h) == (code == ICYSIXEL_OK ? ICYSIXEL_OK : ICYSIXEL_NO_HANDLE));
     CHECK(icysixel_get_limit(h) == (code == ICYSIXEL_OK ? 67108864 : 0));
@@ -186,19 +136,21 @@ static uint32_t make_new(icysixel *h, struct bytes *made)
 }
 
 static const struct call calls[] = {
-    {"a DCS session", make_string_session},
-    {"a payload session", make_payload_session},
-    {"decode", make_decode},
-    {"decode_payload", make_decode_payload},
-    {"encode", make_encode},
-    {"encode_compact", make_compact},
-    {"encode_refined", make_refined_text},
-    {"encode_with_palette", make_text_in_palette},
-    {"encode_indexed", make_indexed},
-    {"choose_palette", make_palette},
-    {"palette_indices", make_indices},
-    {"refine_palette", make_refined},
-    {"new", make_new},
+    {"a DCS session", make_image, DCS_SESSION},
+    {"a payload session", make_image, PAYLOAD_SESSION},
+    {"decode", make_image, DECODE},
+    {"decode_payload", make_image, DECODE_PAYLOAD},
+    {"tags", make_image, DECODE_TAGS},
+    {"encode in 16 colors", make_text, ENCODE_16},
+    {"encode in 64 colors", make_text, ENCODE_64},
+    {"encode_compact", make_text, COMPACT},
+    {"encode_refined", make_text, REFINED},
+    {"encode_with_palette", make_text, IN_PALETTE},
+    {"encode_indexed", make_text, INDEXED},
+    {"choose_palette", make_palette, CHOOSE},
+    {"palette_indices", make_palette, INDICES},
+    {"refine_palette", make_palette, REFINE},
+    {"new", make_new, 0},
 };
 
 /* A decoder with a register that no new one has, an image and a text. */
@@ -221,13 +173,13 @@ static bool meets_failure(const struct call *call, size_t failing, const struct 
     struct registers before = registers_of(&h);
     struct bytes made = {0};
     memory.requests = 0, memory.failing = failing;
-    uint32_t code = call->make(&h, &made);
+    uint32_t code = call->make(&h, call->kind, &made);
     bool has_failed = memory.requests >= failing;
     memory.failing = 0;
     CHECK(code == (has_failed ? ICYSIXEL_OUT_OF_MEMORY : ICYSIXEL_OK));
     if (has_failed) {
         CHECK(call->make == make_new || has_registers(&h, &before));
-        CHECK(call->make(&h, &made) == ICYSIXEL_OK);
+        CHECK(call->make(&h, call->kind, &made) == ICYSIXEL_OK);
     }
     CHECK(made.length == expected->length && memcmp(made.at, expected->at, made.length) == 0);
     free(made.at);
@@ -242,42 +194,12 @@ static void test_each_allocation(const struct call *call)
     struct bytes expected = {0};
     size_t failing = 1;
     subject = call->name, line_number = 0;
-    CHECK(call->make(&h, &expected) == ICYSIXEL_OK && expected.length > 0);
+    CHECK(call->make(&h, call->kind, &expected) == ICYSIXEL_OK && expected.length > 0);
     icysixel_free(&h);
     while (line_number = failing, meets_failure(call, failing, &expected)) failing++;
     CHECK(failing > 1);
     printf("%s: %zu allocations\n", call->name, failing - 1);
     free(expected.at);
-}
-
-/* Wide runs over drawn pixels set tags. If an allocation for them fails, so does the call. */
-static void test_tags(void)
-{
-    struct outcome expected = {0};
-    struct bytes wide = {0};
-    subject = "tags", line_number = 0;
-    for (int i = 0; i < 12; i++) append_text(&wide, i % 2 ? "$#2!65535~" : "$#1!65535N");
-    for (bool is_last = false; !is_last; line_number++) {
-        icysixel h = full_decoder();
-        struct registers before = registers_of(&h);
-        icysixel_shape shape = {0};
-        memory.requests = 0, memory.failing = line_number;
-        uint32_t code = icysixel_decode_payload(&h, wide.at, wide.length, 9, 1, -1, &shape);
-        bool has_failed = line_number > 0 && memory.requests >= line_number;
-        is_last = line_number > 0 && !has_failed;
-        memory.failing = 0;
-        CHECK(code == (has_failed ? ICYSIXEL_OUT_OF_MEMORY : ICYSIXEL_OK));
-        CHECK(has_registers(&h, &before));
-        struct outcome outcome = outcome_of(&h, code, shape);
-        CHECK(line_number == 0 || code != ICYSIXEL_OK || is_same(&outcome, &expected));
-        if (line_number == 0) expected = outcome;
-        else free(outcome.pixels);
-        icysixel_free(&h);
-        CHECK(memory.blocks == 0);
-    }
-    CHECK(expected.shape.width == 65535);
-    printf("tags: %zu allocations\n", line_number - 2);
-    free(expected.pixels), free(wide.at);
 }
 
 /* Makes the calls on a decoder with an image and a text, while every allocation fails. */
@@ -289,6 +211,7 @@ static void test_no_allocation(void)
     icysixel_size size;
     icysixel_color color;
     icysixel_bytes block = {0};
+    icysixel_layout layout = {.columns = 9};
     uint8_t buffer[512];
     size_t wanted;
     subject = "calls that do not allocate", line_number = 0;
@@ -301,6 +224,8 @@ static void test_no_allocation(void)
     CHECK(icysixel_set_registers(&h, 2, registers_of(&h).colors, 9) == ICYSIXEL_OK);
     CHECK(icysixel_set_crop(&h, 1) == ICYSIXEL_OK && icysixel_get_crop(&h) == 1);
     CHECK(icysixel_set_limit(&h, 99) == ICYSIXEL_OK && icysixel_get_limit(&h) == 99);
+    CHECK(icysixel_set_clip(&h, 99, 99) == ICYSIXEL_OK);
+    CHECK(icysixel_get_clip(&h, &size) == ICYSIXEL_OK && size.width == 99);
     CHECK(icysixel_begin(&h) == ICYSIXEL_OK);
     CHECK(icysixel_feed(&h, (const uint8_t *)"P9;1q#1;2;9;9;9$-!", 19, &fed) == ICYSIXEL_OK);
     CHECK(icysixel_get_size_so_far(&h, &size) == ICYSIXEL_OK && icysixel_in_payload(&h) == 1);
@@ -314,7 +239,14 @@ static void test_no_allocation(void)
     memory.all_fail = false;
     CHECK(icysixel_set_limit(&h, SIZE_MAX) == ICYSIXEL_OK);
     CHECK(icysixel_decode(&h, string, sizeof string - 1, &shape) == ICYSIXEL_OK);
+    CHECK(icysixel_begin(&h) == ICYSIXEL_OK);
+    CHECK(icysixel_feed_band(&h, (const uint8_t *)"\033Pq!9~-!9~", 10, &fed) == ICYSIXEL_OK);
+    CHECK(icysixel_feed(&h, (const uint8_t *)"!9~\033\\", 5, &fed) == ICYSIXEL_OK);
     memory.requests = 0, memory.all_fail = true;
+    CHECK(icysixel_copy_rows(&h, 0, 6, &layout, buffer, 216) == ICYSIXEL_OK);
+    icysixel_shape copied;
+    CHECK(icysixel_finish_into(&h, 0, &layout, buffer, 432, &copied, &wanted) == ICYSIXEL_OK);
+    CHECK(copied.bytes == 432);
     CHECK(icysixel_take_pixels(&h, &block) == ICYSIXEL_OK && block.length == shape.bytes);
     icysixel_free(&h);
     icysixel_free_bytes(&block);
@@ -326,7 +258,6 @@ int main(void)
 {
     make_pixels();
     for (size_t i = 0; i < COUNT_OF(calls); i++) test_each_allocation(&calls[i]);
-    test_tags();
     test_no_allocation();
     return 0;
 }

@@ -103,7 +103,7 @@ static inline bool is_same(const struct outcome *one, const struct outcome *othe
     if (one->code != other->code || one->code != ICYSIXEL_OK) return one->code == other->code;
     return a->width == b->width && a->height == b->height && a->pixel_width == b->pixel_width
         && a->pixel_height == b->pixel_height && a->p1 == b->p1 && a->p2 == b->p2
-        && memcmp(one->pixels, other->pixels, a->bytes) == 0;
+        && a->bytes == b->bytes && memcmp(one->pixels, other->pixels, a->bytes) == 0;
 }
 
 #endif

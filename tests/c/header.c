@@ -12,3 +12,4 @@ static_assert(sizeof(icysixel_palette) == 24, "icysixel_palette");
 static_assert(sizeof(icysixel_refined) == 32, "icysixel_refined");
 static_assert(sizeof(icysixel_dithering) == 2, "icysixel_dithering");
 static_assert(sizeof(icysixel_encoding) == 40, "icysixel_encoding");
+static_assert(sizeof(icysixel_layout) == 24, "icysixel_layout");

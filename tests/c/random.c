@@ -53,23 +53,73 @@ static struct bytes random_data(bool is_string)
     return data;
 }
 
+/* How data are decoded: the parameters of a payload, the crop, and whether they are a sequence. */
+struct settings {
+    bool is_string;
+    uint8_t crop;
+    int32_t p1, p2;
+};
+
+static icysixel new_decoder(const struct settings *settings)
+{
+    icysixel decoder = {0};
+    CHECK(icysixel_new(&decoder) == ICYSIXEL_OK);
+    icysixel_set_limit(&decoder, 20000), icysixel_set_crop(&decoder, settings->crop);
+    if (settings->is_string) icysixel_begin(&decoder);
+    else icysixel_begin_payload(&decoder, settings->p1, settings->p2, -1);
+    return decoder;
+}
+
+/* Feeds random chunks and copies each band once it is final. The rows are those of the image. */
+static void try_rows(struct bytes data, const struct settings *settings,
+                     const struct outcome *image)
+{
+    icysixel decoder = new_decoder(settings);
+    icysixel_fed fed = {0};
+    icysixel_shape shape = {0};
+    bool is_image = image->code == ICYSIXEL_OK;
+    icysixel_layout layout = {0, is_image ? image->shape.width : 1, (uint8_t)below(2)};
+    size_t row = 4 * layout.columns, size = is_image ? row * image->shape.height : 0;
+    size_t copied = 0, wanted;
+    struct outcome rows = {ICYSIXEL_OK, shape, malloc(size)};
+    for (size_t at = 0; rows.code == ICYSIXEL_OK && at < data.length; at += fed.consumed) {
+        struct bytes chunk = part(data, at, 1 + below(30));
+        rows.code = icysixel_feed_band(&decoder, chunk.at, chunk.length, &fed);
+        if (fed.status != ICYSIXEL_MORE) break;
+        size_t final = icysixel_get_rows_so_far(&decoder);
+        if (rows.code != ICYSIXEL_OK || final <= copied || final * row > size) continue;
+        CHECK(icysixel_copy_rows(&decoder, copied, final - copied, &layout,
+                                 rows.pixels + copied * row, size - copied * row) == ICYSIXEL_OK);
+        if (below(2)) CHECK(icysixel_release_rows(&decoder, final) == ICYSIXEL_OK);
+        copied = final;
+    }
+    if (rows.code == ICYSIXEL_OK)
+        rows.code = icysixel_finish_into(&decoder, copied, &layout, rows.pixels + copied * row,
+                                         size - copied * row, &rows.shape, &wanted);
+    for (size_t i = 0; rows.code == ICYSIXEL_OK && layout.order == 1 && i < size; i += 4) {
+        uint8_t blue = rows.pixels[i];
+        rows.pixels[i] = rows.pixels[i + 2], rows.pixels[i + 2] = blue;
+    }
+    CHECK(is_same(&rows, image));
+    free(rows.pixels), icysixel_free(&decoder);
+}
+
 /* Decodes at once and by a session in random chunks. A payload comes to the same both times. */
 static void try_data(bool is_string)
 {
     struct bytes data = random_data(is_string);
-    icysixel whole = {0}, parts = {0};
+    struct settings settings = {is_string, (uint8_t)below(2), (int32_t)below(12) - 1,
+                                (int32_t)below(4) - 1};
+    icysixel whole = new_decoder(&settings), parts = new_decoder(&settings);
     icysixel_shape shape = {0};
     icysixel_fed fed = {0};
-    int32_t p1 = (int32_t)below(12) - 1, p2 = (int32_t)below(4) - 1;
     uint32_t code = ICYSIXEL_OK;
-    CHECK(icysixel_new(&whole) == ICYSIXEL_OK && icysixel_new(&parts) == ICYSIXEL_OK);
-    icysixel_set_limit(&whole, 20000), icysixel_set_limit(&parts, 20000);
     struct outcome at_once = outcome_of(&whole, is_string
         ? icysixel_decode(&whole, data.at, data.length, &shape)
-        : icysixel_decode_payload(&whole, data.at, data.length, p1, p2, -1, &shape), shape);
+        : icysixel_decode_payload(&whole, data.at, data.length, settings.p1, settings.p2, -1,
+                                  &shape), shape);
     at_once.shape = shape;
     add_outcome(&whole, &at_once);
-    is_string ? icysixel_begin(&parts) : icysixel_begin_payload(&parts, p1, p2, -1);
     for (size_t at = 0; code == ICYSIXEL_OK && at < data.length;) {
         struct bytes chunk = part(data, at, below(30)), copy = {0};
         append(&copy, chunk.at, chunk.length);
@@ -83,6 +133,7 @@ static void try_data(bool is_string)
     struct outcome fed_outcome = outcome_of(&parts, code, shape);
     add_outcome(&parts, &fed_outcome);
     CHECK(is_string || is_same(&fed_outcome, &at_once));
+    try_rows(data, &settings, &fed_outcome);
     free(data.at), free(at_once.pixels), free(fed_outcome.pixels);
     icysixel_free(&whole), icysixel_free(&parts);
 }

@@ -39,12 +39,18 @@ FILTERED = (
 TERMINAL = b'a\x1bP9;0q"1;1;2;30#1!2~\x1b\\b\x1bPq!65536~\x1b\\c\x1bPq!64001~\x1b\\'
 DISPLAYED = b"a\n\n[2 x 30 pixels on 2 rows, the last pixel is 282a36]b[malformed SIXEL data]c"
 DISPLAYED += b"[image dimensions too large]"
+# An image of three bands for progressive.c, and what it reports.
+BANDS = b"\x1bPq#1;2;100;20;0!9~-!640~-~\x1b\\"
+DRAWN = b"rows 0 to 5\nrows 6 to 11\n640 x 18 pixels, the first is ff3300\n"
 # Runs of examples: the standard input, the status, and the standard output and error.
 RUNS = [
     ("decode", RED, 0, RED_PIXELS, b"2 x 6 pixels\n"),
     ("decode", b"text" + RED, 1, b"", b"no SIXEL data found (missing DCS introducer)\n"),
     ("decode", RED[:-2], 1, b"", b"incomplete SIXEL DCS sequence\n"),
     ("filter", STREAM, 0, FILTERED, b""),
+    ("progressive", BANDS, 0, DRAWN, b""),
+    ("progressive", BANDS[:-2], 1, DRAWN[:25], b"incomplete SIXEL DCS sequence\n"),
+    ("progressive", b'\x1bPq"1;1;1;481\x1b\\', 1, b"", b"the buffer is too small\n"),
     ("terminal", TERMINAL, 0, DISPLAYED, b""),
     ("encode", b"", 0, b'\x1bP9;1;0q"1;1;12;6#0;2;100;0;0#0!12~\x1b\\', b""),
 ]

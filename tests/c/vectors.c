@@ -45,14 +45,6 @@ static struct bytes parse_bytes(const char *text)
     return bytes;
 }
 
-/* An expected image, or the Display text of an error. The pixels may be fewer or more. */
-struct expected {
-    const char *error;
-    size_t width, height;
-    uint8_t p1, p2;
-    struct bytes pixels;
-};
-
 /* Appends runs of pixels. */
 static void parse_runs(char *text, struct bytes *pixels)
 {
@@ -67,22 +59,33 @@ static void parse_runs(char *text, struct bytes *pixels)
     }
 }
 
-/* Parses a column of an image or an error. */
-static struct expected parse_expected(char *text)
+/* The code of an error by its text, which may have details after it. */
+static uint32_t code_of(const char *error)
+{
+    char text[64];
+    if (strncmp(error, PREFIX, strlen(PREFIX)) == 0) error += strlen(PREFIX);
+    for (uint32_t code = 1; code <= ICYSIXEL_ROWS_RELEASED; code++)
+        if (strncmp(error, text, icysixel_strerror(code, text, sizeof text)) == 0) return code;
+    return UINT32_MAX;
+}
+
+/* Parses a column of an image or an error. The pixels may be fewer or more than the sizes need. */
+static struct outcome parse_expected(char *text)
 {
     static const uint8_t p1_of_pad[] = {[1] = 9, [2] = 0, [3] = 3, [5] = 2};
-    struct expected expected = {0};
+    icysixel_shape shape = {.pixel_width = 1};
+    struct bytes pixels = {0};
     char mode[16];
     int pad, end = 0;
-    if (strncmp(text, "error: ", 7) == 0) return (struct expected){.error = text + 7};
-    CHECK(sscanf(text, "%zux%zu %d:1 %15s %n", &expected.width, &expected.height, &pad, mode, &end)
-          == 4);
+    if (strncmp(text, "error: ", 7) == 0) return (struct outcome){code_of(text + 7), shape, NULL};
+    CHECK(sscanf(text, "%zux%zu %d:1 %15s %n", &shape.width, &shape.height, &pad, mode, &end) == 4);
     CHECK(end > 0 && (pad == 1 || pad == 2 || pad == 3 || pad == 5));
-    expected.p1 = p1_of_pad[pad];
-    expected.p2 = strcmp(mode, "transparent") == 0;
-    CHECK(expected.p2 == 1 || strcmp(mode, "opaque") == 0);
-    parse_runs(text + end, &expected.pixels);
-    return expected;
+    shape.pixel_height = (uint16_t)pad, shape.p1 = p1_of_pad[pad];
+    shape.p2 = strcmp(mode, "transparent") == 0;
+    CHECK(shape.p2 == 1 || strcmp(mode, "opaque") == 0);
+    parse_runs(text + end, &pixels);
+    shape.bytes = pixels.length;
+    return (struct outcome){ICYSIXEL_OK, shape, pixels.at};
 }
 
 /* Bytes that are decoded, and what follows from them. */
@@ -90,8 +93,9 @@ struct vector {
     bool is_payload, is_cropped;
     int32_t p1, p2, p3;
     size_t limit;
+    icysixel_size clip;
     struct bytes input;
-    struct expected expected;
+    struct outcome expected;
     size_t consumed;   /* bytes that feeds consume */
     size_t ends_after; /* bytes after which the session has ended */
     size_t fails_at;   /* the byte whose feed fails, or the end; SIZE_MAX if that is unknown */
@@ -108,34 +112,19 @@ static void parse_settings(char *text, struct vector *vector)
         else if (strncmp(word, "p2=", 3) == 0) vector->p2 = atoi(word + 3);
         else if (strncmp(word, "p3=", 3) == 0) vector->p3 = atoi(word + 3);
         else if (strncmp(word, "limit=", 6) == 0) vector->limit = strtoull(word + 6, NULL, 10);
+        else if (strncmp(word, "clip=", 5) == 0)
+            CHECK(sscanf(word + 5, "%zux%zu", &vector->clip.width, &vector->clip.height) == 2);
         else CHECK(strcmp(word, "dcs") == 0);
     }
 }
 
-/* Whether a code is that of the expected error. `detail` follows the text of some codes. */
-static bool is_error(uint32_t code, const char *error, const char *detail)
+/* Checks that the result of a call is the expected image or error. */
+static void check_outcome(icysixel *decoder, uint32_t code, icysixel_shape shape,
+                          const struct outcome *expected)
 {
-    char text[160] = "";
-    if (error == NULL || code == ICYSIXEL_OK) return false;
-    if (code >= ICYSIXEL_MALFORMED) strcpy(text, PREFIX);
-    icysixel_strerror(code, text + strlen(text), 64);
-    return strcmp(strcat(text, detail), error) == 0;
-}
-
-/* Whether an outcome is the expected image or error. Frees the outcome's pixels. */
-static bool is_expected(struct outcome outcome, const struct expected *expected)
-{
-    static const uint8_t pad_of_p1[] = {[9] = 1, [0] = 2, [3] = 3, [2] = 5};
-    const icysixel_shape *shape = &outcome.shape;
-    if (outcome.code != ICYSIXEL_OK) return is_error(outcome.code, expected->error, "");
-    bool is_same = expected->error == NULL && shape->width == expected->width
-        && shape->height == expected->height && shape->p1 == expected->p1
-        && shape->p2 == expected->p2 && shape->pixel_width == 1
-        && shape->pixel_height == pad_of_p1[expected->p1]
-        && shape->bytes == expected->pixels.length
-        && memcmp(outcome.pixels, expected->pixels.at, shape->bytes) == 0;
-    free(outcome.pixels);
-    return is_same;
+    struct outcome found = outcome_of(decoder, code, shape);
+    CHECK(is_same(&found, expected));
+    free(found.pixels);
 }
 
 static icysixel decoder_of(const struct vector *vector)
@@ -144,6 +133,7 @@ static icysixel decoder_of(const struct vector *vector)
     CHECK(icysixel_new(&decoder) == ICYSIXEL_OK);
     CHECK(icysixel_set_crop(&decoder, vector->is_cropped) == ICYSIXEL_OK);
     CHECK(icysixel_set_limit(&decoder, vector->limit) == ICYSIXEL_OK);
+    CHECK(icysixel_set_clip(&decoder, vector->clip.width, vector->clip.height) == ICYSIXEL_OK);
     return decoder;
 }
 
@@ -158,7 +148,7 @@ static struct registers decode(const struct vector *vector)
     uint32_t code = vector->is_payload
         ? icysixel_decode_payload(&decoder, in->at, in->length, p1, p2, p3, &shape)
         : icysixel_decode(&decoder, in->at, in->length, &shape);
-    CHECK(is_expected(outcome_of(&decoder, code, shape), &vector->expected));
+    check_outcome(&decoder, code, shape, &vector->expected);
     CHECK(code == ICYSIXEL_OK || has_registers(&decoder, &before));
     after = registers_of(&decoder);
     icysixel_free(&decoder);
@@ -220,7 +210,7 @@ static void try_session(const struct vector *vector, struct cuts cuts,
         check_failed(&decoder, failed);
     }
     CHECK(icysixel_is_receiving(&decoder) == 0);
-    CHECK(is_expected(outcome_of(&decoder, code, shape), &vector->expected));
+    check_outcome(&decoder, code, shape, &vector->expected);
     CHECK(has_registers(&decoder, code == ICYSIXEL_OK ? after : &before));
     icysixel_free(&decoder);
 }
@@ -229,7 +219,7 @@ static void try_session(const struct vector *vector, struct cuts cuts,
 static void try_sessions(const struct vector *vector, const struct registers *after)
 {
     size_t length = vector->input.length;
-    bool is_small = vector->expected.pixels.length < 1 << 16 && length <= 120 && !is_brief;
+    bool is_small = vector->expected.shape.bytes < 1 << 16 && length <= 120 && !is_brief;
     try_session(vector, (struct cuts){length, 1, 0}, after);
     if (length <= 1 << 16) try_session(vector, (struct cuts){0, 1, 0}, after);
     try_session(vector, (struct cuts){0, 0, 1}, after);
@@ -241,7 +231,8 @@ static void try_sessions(const struct vector *vector, const struct registers *af
 
 static struct vector new_vector(void)
 {
-    return (struct vector){.p1 = -1, .p2 = -1, .p3 = -1, .limit = SIZE_MAX, .fails_at = SIZE_MAX};
+    return (struct vector){.p1 = -1, .p2 = -1, .p3 = -1, .limit = SIZE_MAX,
+                           .clip = {SIZE_MAX, SIZE_MAX}, .fails_at = SIZE_MAX};
 }
 
 /* CAN, SUB, ESC and the C1 controls. */
@@ -267,7 +258,7 @@ static void try_image(char **columns)
         vector.end = (icysixel_fed){0, ICYSIXEL_COMPLETE, end < in->length ? in->at[end] : 0};
         try_sessions(&vector, &after);
     }
-    free(vector.input.at), free(vector.expected.pixels.at);
+    free(vector.input.at), free(vector.expected.pixels);
 }
 
 /* A DCS sequence, how many bytes are consumed and the status, and an image or an error. */
@@ -290,33 +281,30 @@ static void try_string(char **columns)
     else after = decode(&vector);
     vector.fails_at = status == 4 ? vector.consumed : vector.input.length;
     try_sessions(&vector, &after);
-    free(vector.input.at), free(vector.expected.pixels.at);
+    free(vector.input.at), free(vector.expected.pixels);
 }
 
 /* Encodes pixels with a stride, and checks the text or the error. */
-static void encode(const struct expected *image, uint16_t colors, size_t stride, char *column)
+static void encode(const struct outcome *image, uint16_t colors, size_t stride, char *column)
 {
     icysixel encoder = {0};
+    const icysixel_shape *shape = &image->shape;
     struct bytes text = parse_bytes(column);
     uint8_t *found = malloc(text.length);
-    const struct bytes *pixels = &image->pixels;
-    size_t length = 0, wanted = 0, rows = 4 * image->width * image->height;
-    char detail[120] = "";
+    size_t length = 0, wanted = 0;
     CHECK(found != NULL && icysixel_new(&encoder) == ICYSIXEL_OK);
-    uint32_t code = icysixel_encode(&encoder, pixels->at, pixels->length, stride, image->width,
-                                    image->height, image->p1, image->p2, colors, &length);
-    if (code == ICYSIXEL_BAD_DIMENSIONS) sprintf(detail, ": %zux%zu", image->width, image->height);
-    if (code == ICYSIXEL_BUFFER_MISMATCH)
-        sprintf(detail, ": expected %zu bytes, got %zu", rows, pixels->length);
+    uint32_t code = icysixel_encode(&encoder, image->pixels, shape->bytes, stride, shape->width,
+                                    shape->height, shape->p1, shape->p2, colors, &length);
     if (strncmp(column, "error: ", 7) != 0) {
         CHECK(code == ICYSIXEL_OK && length == text.length);
         CHECK(icysixel_copy_text(&encoder, found, length, &wanted) == ICYSIXEL_OK);
         CHECK(memcmp(found, text.at, length) == 0);
     } else if (code == ICYSIXEL_OK) {
         /* Bytes after the last row are no error in C. */
-        CHECK(strstr(column, "buffer size mismatch") != NULL && pixels->length > rows);
+        CHECK(code_of(column + 7) == ICYSIXEL_BUFFER_MISMATCH);
+        CHECK(shape->bytes > 4 * shape->width * shape->height);
     } else {
-        CHECK(is_error(code, column + 7, detail));
+        CHECK(code == code_of(column + 7));
     }
     icysixel_free(&encoder);
     free(found), free(text.at);
@@ -325,18 +313,19 @@ static void encode(const struct expected *image, uint16_t colors, size_t stride,
 /* A number of colors, an image, and its text or an error. */
 static void try_text(char **columns)
 {
-    struct expected image = parse_expected(columns[1]), spaced = image;
+    struct outcome image = parse_expected(columns[1]), spaced = image;
     uint16_t colors = (uint16_t)atoi(columns[0]);
-    size_t row = 4 * image.width;
+    size_t row = 4 * image.shape.width;
+    struct bytes pixels = {0};
     encode(&image, colors, 0, columns[2]);
-    spaced.pixels = (struct bytes){0};
     if (strncmp(columns[2], "error: ", 7) != 0) {
-        append_repeated(&spaced.pixels, "\7", 1, image.height * (row + 5) - 5);
-        for (size_t i = 0; i < image.height; i++)
-            memcpy(spaced.pixels.at + i * (row + 5), image.pixels.at + i * row, row);
+        append_repeated(&pixels, "\7", 1, image.shape.height * (row + 5) - 5);
+        for (size_t i = 0; i < image.shape.height; i++)
+            memcpy(pixels.at + i * (row + 5), image.pixels + i * row, row);
+        spaced.pixels = pixels.at, spaced.shape.bytes = pixels.length;
         encode(&spaced, colors, row + 5, columns[2]);
     }
-    free(image.pixels.at), free(spaced.pixels.at);
+    free(image.pixels), free(pixels.at);
 }
 
 /* The files, of three columns each. */

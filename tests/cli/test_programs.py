@@ -7,6 +7,7 @@ import itertools
 import os
 import re
 import shlex
+import tempfile
 import unittest
 from pathlib import Path
 
@@ -27,6 +28,8 @@ FAILING = {
         ("payload $(printf '\\377')", "input fault"),
         *((f"{it} >/dev/full", "output fault") for it in ("payload", "pam", "--help", "--version")),
         ("payload >&-", "output fault"),
+        ("draw -p /missing", "palette fault"),
+        ("draw -p /", "palette fault"),
     ],
     "sixel_filter": [("1 size </", "input fault"), ("1 size >/dev/full", "output fault")],
 }
@@ -77,6 +80,25 @@ class TestPrograms(ProgramTest):
         for self.name, rows in FAILING.items():
             for words, error in rows:
                 self.fails(words, b"#1~", error)
+
+    def test_palette_file(self):
+        """Its pixels are the entries, of which the nearest one is drawn."""
+        image, head = b"P5 3 1 255\n\x10\xf0\x90", b'\x1bP9;1;0q"1;1;3;1'
+        black, white = b"#0;2;0;0;0", b"#1;2;100;100;100"
+        text = (0, head + black + white + b"#0@#1@@\x1b\\", b"")
+        many = b"P5 257 1 255\n" + bytes(257)
+        rows = [
+            (b"P5 2 1 255\n\x00\xff", text),
+            (b"P5 1 2 255\n\x00\xff", text),
+            (many, (1, b"", b"invalid SIXEL data: number of colors is not 1 to 256\n")),
+            (b"P5 2 1 255\n\x00", (1, b"", b"incomplete netpbm image\n")),
+            (b"", (1, b"", b"no PAM, PPM or PGM data found\n")),
+        ]
+        with tempfile.NamedTemporaryFile() as file:
+            for palette, expected in rows:
+                with self.subTest(palette=palette):
+                    Path(file.name).write_bytes(palette)
+                    self.ends(["draw", "-d", "none", "-p", file.name], image, expected)
 
     def test_memory(self):
         for arguments, stdin, expected in MEMORY:

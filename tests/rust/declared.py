@@ -7,6 +7,7 @@ TYPES = {
     "Size": "icysixel_size", "Shape": "icysixel_shape",
     "Color": "icysixel_color", "Palette": "icysixel_palette", "Refined": "icysixel_refined",
     "Dithering": "icysixel_dithering", "Encoding": "icysixel_encoding",
+    "BufferLayout": "icysixel_layout",
 }  # fmt: skip
 FUNCTION = r"\bfn (icysixel_\w+)\(([^)]*)\)\s*(?:-> (\w+))?;"
 
