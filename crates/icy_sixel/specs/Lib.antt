@@ -1,3 +1,4 @@
+pub mod ClippedImages
 pub mod FinalRows
 pub mod ImageView
 pub mod Script

@@ -4,6 +4,7 @@
 pub mod canvas;
 pub mod decoder;
 pub mod encoder;
+pub mod laws;
 pub mod receiver;
 pub mod script;
 pub mod sixel_image;

@@ -1,0 +1,35 @@
+//! Laws of decoded images, stated by functions with empty bodies.
+
+ghost use Rattle.std.specs.Prelude.{◌≡◌, ℕ, List, None};
+ghost use Rattle.sixel_base.specs.Decoder.{with_clip};
+ghost use Rattle.sixel_base.specs.OneShot.{Found, AreFoundRegisters, IsFoundImage, found_fault};
+ghost use Rattle.sixel_base.specs.Payload.{Image};
+ghost use Rattle.sixel_base.specs.declared.state.DecoderState.{DecoderState};
+ghost use Rattle.icy_sixel.specs.ClippedImages.{HasNoClip, IsInsideClip, IsPartInside};
+ghost use Rattle.icy_sixel.specs.ClippedImages.{IsWholeImage, whole_pixel};
+
+/// States that an image under a clip is the part of the image inside the clip.
+///
+/// - `whole`: without a clip, as in a new decoder, the image of a payload is its whole picture.
+/// - `part`: a clip leaves the columns and rows inside it, pixel by pixel. The image that it is
+///   compared with has no clip or a larger one.
+/// - `faultless`: a payload without an error has none with a clip.
+/// - `registers`: the registers after an image do not depend on the clip.
+///
+/// The contracts of sessions, receiver and decoding in one call cite the same definitions.
+pub fn clipped_images()
+    ensures whole { (decoder : DecoderState) (payload : Found) (image : Image)
+        → HasNoClip decoder → found_fault decoder.pixel_limit payload ≡ None
+        → IsFoundImage decoder payload image → IsWholeImage decoder payload image }
+    ensures part { (decoder : DecoderState) (columns rows : ℕ) (payload : Found)
+        (image part : Image) → IsInsideClip decoder columns rows
+        → IsFoundImage decoder payload image
+        → IsFoundImage (with_clip decoder columns rows) payload part
+        → IsPartInside (whole_pixel decoder payload) columns rows image part }
+    ensures faultless { (decoder : DecoderState) (columns rows : ℕ) (payload : Found)
+        → IsInsideClip decoder columns rows → found_fault decoder.pixel_limit payload ≡ None
+        → found_fault (with_clip decoder columns rows).pixel_limit payload ≡ None }
+    ensures registers { (decoder : DecoderState) (columns rows : ℕ) (payload : Found)
+        (after : List (List ℕ)) → AreFoundRegisters decoder payload after
+        → AreFoundRegisters (with_clip decoder columns rows) payload after }
+{}
