@@ -4,6 +4,8 @@
 #include "checks.h"
 #include "memory.h"
 
+#define OK(call) CHECK((call) == ICYSIXEL_OK)
+
 /* Rows grow three times, never under a run of 256 columns over drawn pixels. */
 #define PAYLOAD "\"1;1;40;14#1;2;100;0;0!5~-!50N$#2;2;0;100;0!7B-#1!90A$#3?!120~!9@"
 static const uint8_t payload[] = PAYLOAD, string[] = "\033P0;1q" PAYLOAD "\033\\";
@@ -26,53 +28,75 @@ struct call {
     int kind; /* one of the calls that `make` makes */
 };
 
-/* Copies the stored image. After an error there is none. */
-static uint32_t with_image(icysixel *h, uint32_t code, icysixel_shape shape, struct bytes *made)
-{
-    size_t wanted;
-    CHECK(code == ICYSIXEL_OK || icysixel_copy_pixels(h, NULL, 0, 0, &wanted) == ICYSIXEL_NO_IMAGE);
-    if (code == ICYSIXEL_OK)
-        *made = (struct bytes){outcome_of(h, code, shape).pixels, shape.bytes};
-    return code;
-}
-
-enum { DECODE, DECODE_PAYLOAD, DECODE_TAGS, DCS_SESSION, PAYLOAD_SESSION };
-
-/* Wide runs over drawn pixels, which set tags. */
+/* Wide runs over drawn pixels, which set tags; and a payload with a fault at its end. */
 #define WIDE "$#1!65535N$#2!65535~"
-static const uint8_t tags[] = WIDE WIDE WIDE WIDE WIDE WIDE;
+static const uint8_t tags[] = WIDE WIDE WIDE WIDE WIDE WIDE, faulty[] = PAYLOAD "!65536~";
 
-/* Feeds chunks of seven bytes. */
-static uint32_t feed_chunks(icysixel *h, const uint8_t *input, size_t length, uint32_t failed)
+enum { DECODE, CLIPPED, DECODE_PAYLOAD, DECODE_TAGS, OF_DCS, OF_PAYLOAD, PARTIAL };
+
+#define INPUT(bytes) {bytes, sizeof bytes - 1}
+static const struct { const uint8_t *at; size_t length; } inputs[] = {
+    INPUT(string), INPUT(string), INPUT(payload), INPUT(tags),
+    INPUT(string), INPUT(payload), INPUT(faulty),
+};
+
+/* Feeds chunks of seven bytes, and ends the image. Only a fault leaves a picture. */
+static uint32_t make_session(icysixel *h, int kind, icysixel_shape *shape)
 {
-    icysixel_fed fed = {0};
-    uint32_t code = ICYSIXEL_OK;
+    size_t length = inputs[kind].length;
+    icysixel_fed fed;
+    uint32_t fault, failed = kind == OF_DCS ? ICYSIXEL_DCS_STREAM_FAILED : ICYSIXEL_STREAM_FAILED;
+    uint32_t code = kind == OF_DCS ? icysixel_begin(h)
+        : (kind == PARTIAL ? icysixel_begin_partial : icysixel_begin_payload)(h, 9, 1, -1);
     for (size_t at = 0; code == ICYSIXEL_OK && at < length; at += 7)
-        code = icysixel_feed(h, input + at, length - at < 7 ? length - at : 7, &fed);
-    if (code != ICYSIXEL_OK) check_failed(h, failed);
+        code = icysixel_feed(h, inputs[kind].at + at, length - at < 7 ? length - at : 7, &fed);
+    if (code == ICYSIXEL_OK) return icysixel_finish(h, shape);
+    if (code == ICYSIXEL_MALFORMED) return icysixel_finish_partial(h, shape, &fault);
+    if (kind == PARTIAL) CHECK(icysixel_finish_partial(h, shape, &fault) == failed);
+    else check_failed(h, failed);
     return code;
 }
 
+/* Copies the stored image. After an error there is none. */
 static uint32_t make_image(icysixel *h, int kind, struct bytes *made)
 {
+    const uint8_t *input = inputs[kind].at;
+    size_t length = inputs[kind].length, wanted;
     icysixel_shape shape = {0};
-    uint32_t code = ICYSIXEL_OK;
-    if (kind == DECODE) code = icysixel_decode(h, string, sizeof string - 1, &shape);
-    if (kind == DECODE_PAYLOAD)
-        code = icysixel_decode_payload(h, payload, sizeof payload - 1, 9, 1, -1, &shape);
-    if (kind == DECODE_TAGS)
-        code = icysixel_decode_payload(h, tags, sizeof tags - 1, 9, 1, -1, &shape);
-    if (kind == DCS_SESSION) {
-        CHECK(icysixel_begin(h) == ICYSIXEL_OK);
-        code = feed_chunks(h, string, sizeof string - 1, ICYSIXEL_DCS_STREAM_FAILED);
+    if (kind == CLIPPED) OK(icysixel_set_clip(h, 50, 9));
+    uint32_t code = kind <= CLIPPED ? icysixel_decode(h, input, length, &shape)
+        : kind <= DECODE_TAGS ? icysixel_decode_payload(h, input, length, 9, 1, -1, &shape)
+        : make_session(h, kind, &shape);
+    CHECK(icysixel_is_receiving(h) == 0);
+    if (code == ICYSIXEL_OK) {
+        CHECK(shape.width == (kind == CLIPPED ? 50 : kind == DECODE_TAGS ? 65535 : 130));
+        *made = (struct bytes){outcome_of(h, code, shape).pixels, shape.bytes};
+    } else {
+        CHECK(icysixel_copy_pixels(h, NULL, 0, 0, &wanted) == ICYSIXEL_NO_IMAGE);
     }
-    if (kind == PAYLOAD_SESSION) {
-        CHECK(icysixel_begin_payload(h, 9, 1, -1) == ICYSIXEL_OK);
-        code = feed_chunks(h, payload, sizeof payload - 1, ICYSIXEL_STREAM_FAILED);
+    return code;
+}
+
+/* Copies and releases the final rows after each band. Only a feed allocates. */
+static uint32_t make_rows(icysixel *h, int kind, struct bytes *made)
+{
+    static uint8_t rows[18][520];
+    size_t length = sizeof payload - 1, final = 0, wanted;
+    icysixel_layout layout = {.columns = 130};
+    icysixel_shape shape;
+    icysixel_fed fed;
+    OK(icysixel_begin_payload(h, 9, 1, -1));
+    for (size_t at = 0, from = 0; at < length; at += fed.consumed, from = final) {
+        uint32_t code = icysixel_feed_band(h, payload + at, length - at, &fed);
+        if (code != ICYSIXEL_OK) return check_failed(h, ICYSIXEL_STREAM_FAILED), (void)kind, code;
+        final = icysixel_get_rows_so_far(h);
+        OK(icysixel_copy_rows(h, from, final - from, &layout, rows[from], (18 - from) * 520));
+        OK(icysixel_release_rows(h, final));
     }
-    if (kind >= DCS_SESSION && code == ICYSIXEL_OK) code = icysixel_finish(h, &shape);
-    CHECK(icysixel_is_receiving(h) == 0 && (kind != DECODE_TAGS || code || shape.width == 65535));
-    return with_image(h, code, shape, made);
+    OK(icysixel_finish_into(h, final, &layout, rows[final], (18 - final) * 520, &shape, &wanted));
+    CHECK(shape.width == 130 && shape.height == 18);
+    append(made, rows, sizeof rows);
+    return ICYSIXEL_OK;
 }
 
 /* How 31 of 32 columns are encoded, so that the rows are copied. */
@@ -128,17 +152,19 @@ static uint32_t make_palette(icysixel *h, int kind, struct bytes *made)
 static uint32_t make_new(icysixel *h, int kind, struct bytes *made)
 {
     (void)kind;
-    uint32_t code = icysixel_new(h);
-    CHECK(icysixel_abort(h) == (code == ICYSIXEL_OK ? ICYSIXEL_OK : ICYSIXEL_NO_HANDLE));
-    CHECK(icysixel_get_limit(h) == (code == ICYSIXEL_OK ? 67108864 : 0));
-    append(made, "new", code == ICYSIXEL_OK ? 3 : 0);
-    return code;
+    uint32_t code = icysixel_new(h), is_ok = code == ICYSIXEL_OK;
+    CHECK(icysixel_abort(h) == (is_ok ? ICYSIXEL_OK : ICYSIXEL_NO_HANDLE));
+    CHECK(icysixel_get_limit(h) == (is_ok ? 67108864 : 0));
+    return append(made, "new", is_ok ? 3 : 0), code;
 }
 
 static const struct call calls[] = {
-    {"a DCS session", make_image, DCS_SESSION},
-    {"a payload session", make_image, PAYLOAD_SESSION},
+    {"a DCS session", make_image, OF_DCS},
+    {"a payload session", make_image, OF_PAYLOAD},
+    {"a partial picture", make_image, PARTIAL},
+    {"rows", make_rows, 0},
     {"decode", make_image, DECODE},
+    {"decode in a clip", make_image, CLIPPED},
     {"decode_payload", make_image, DECODE_PAYLOAD},
     {"tags", make_image, DECODE_TAGS},
     {"encode in 16 colors", make_text, ENCODE_16},
@@ -159,10 +185,9 @@ static icysixel full_decoder(void)
     icysixel h = {0};
     icysixel_shape shape;
     size_t length;
-    CHECK(icysixel_new(&h) == ICYSIXEL_OK);
-    CHECK(icysixel_decode(&h, (const uint8_t *)"#1;2;9;9;9!9~", 13, &shape) == ICYSIXEL_OK);
-    CHECK(icysixel_encode(&h, pixels, 4, 0, 1, 1, 9, 1, 256, &length) == ICYSIXEL_OK);
-    CHECK(icysixel_set_register(&h, 200, 1, 2, 3) == ICYSIXEL_OK);
+    OK(icysixel_new(&h)), OK(icysixel_set_register(&h, 200, 1, 2, 3));
+    OK(icysixel_decode(&h, (const uint8_t *)"#1;2;9;9;9!9~", 13, &shape));
+    OK(icysixel_encode(&h, pixels, 4, 0, 1, 1, 9, 1, 256, &length));
     return h;
 }
 
@@ -177,10 +202,8 @@ static bool meets_failure(const struct call *call, size_t failing, const struct 
     bool has_failed = memory.requests >= failing;
     memory.failing = 0;
     CHECK(code == (has_failed ? ICYSIXEL_OUT_OF_MEMORY : ICYSIXEL_OK));
-    if (has_failed) {
-        CHECK(call->make == make_new || has_registers(&h, &before));
-        CHECK(call->make(&h, call->kind, &made) == ICYSIXEL_OK);
-    }
+    CHECK(!has_failed || call->make == make_new || has_registers(&h, &before));
+    if (has_failed) OK(call->make(&h, call->kind, &made));
     CHECK(made.length == expected->length && memcmp(made.at, expected->at, made.length) == 0);
     free(made.at);
     icysixel_free(&h);
@@ -211,43 +234,31 @@ static void test_no_allocation(void)
     icysixel_size size;
     icysixel_color color;
     icysixel_bytes block = {0};
-    icysixel_layout layout = {.columns = 9};
     uint8_t buffer[512];
     size_t wanted;
     subject = "calls that do not allocate", line_number = 0;
     memory.requests = 0, memory.all_fail = true;
-    CHECK(icysixel_copy_pixels(&h, buffer, sizeof buffer, 0, &wanted) == ICYSIXEL_OK);
-    CHECK(icysixel_copy_text(&h, buffer, sizeof buffer, &wanted) == ICYSIXEL_OK);
-    CHECK(icysixel_set_register(&h, 1, 1, 2, 3) == ICYSIXEL_OK);
-    CHECK(icysixel_get_register(&h, 1, &color) == ICYSIXEL_OK && color.green == 2);
-    CHECK(icysixel_reset_registers(&h) == ICYSIXEL_OK);
-    CHECK(icysixel_set_registers(&h, 2, registers_of(&h).colors, 9) == ICYSIXEL_OK);
-    CHECK(icysixel_set_crop(&h, 1) == ICYSIXEL_OK && icysixel_get_crop(&h) == 1);
-    CHECK(icysixel_set_limit(&h, 99) == ICYSIXEL_OK && icysixel_get_limit(&h) == 99);
-    CHECK(icysixel_set_clip(&h, 99, 99) == ICYSIXEL_OK);
-    CHECK(icysixel_get_clip(&h, &size) == ICYSIXEL_OK && size.width == 99);
-    CHECK(icysixel_begin(&h) == ICYSIXEL_OK);
-    CHECK(icysixel_feed(&h, (const uint8_t *)"P9;1q#1;2;9;9;9$-!", 19, &fed) == ICYSIXEL_OK);
-    CHECK(icysixel_get_size_so_far(&h, &size) == ICYSIXEL_OK && icysixel_in_payload(&h) == 1);
-    CHECK(icysixel_get_canvas_paints(&h) == 0);
-    CHECK(icysixel_abort(&h) == ICYSIXEL_OK && icysixel_is_receiving(&h) == 0);
-    CHECK(icysixel_begin_payload(&h, 9, 1, -1) == ICYSIXEL_OK);
-    CHECK(icysixel_feed(&h, (const uint8_t *)"!65536", 6, &fed) == ICYSIXEL_OK);
+    OK(icysixel_copy_pixels(&h, buffer, sizeof buffer, 0, &wanted));
+    OK(icysixel_copy_text(&h, buffer, sizeof buffer, &wanted));
+    OK(icysixel_set_register(&h, 1, 1, 2, 3)), OK(icysixel_get_register(&h, 1, &color));
+    OK(icysixel_reset_registers(&h)), OK(icysixel_set_registers(&h, 2, &color, 1));
+    OK(icysixel_set_crop(&h, 1)), OK(icysixel_set_limit(&h, 99)), OK(icysixel_set_clip(&h, 9, 8));
+    CHECK(color.green == 2 && icysixel_get_crop(&h) == 1 && icysixel_get_limit(&h) == 99);
+    OK(icysixel_get_clip(&h, &size)), OK(icysixel_begin(&h));
+    OK(icysixel_feed(&h, (const uint8_t *)"\033P9;1q#1;2;9;9;9$-!", 19, &fed));
+    OK(icysixel_get_size_so_far(&h, &size));
+    CHECK(icysixel_in_payload(&h) == 1 && icysixel_get_canvas_paints(&h) == 0);
+    OK(icysixel_abort(&h)), CHECK(icysixel_is_receiving(&h) == 0);
+    OK(icysixel_begin_payload(&h, 9, 1, -1));
+    OK(icysixel_feed(&h, (const uint8_t *)"!65536", 6, &fed));
     CHECK(icysixel_feed(&h, (const uint8_t *)"~", 1, &fed) == ICYSIXEL_MALFORMED);
     CHECK(icysixel_strerror(ICYSIXEL_MALFORMED, (char *)buffer, sizeof buffer) == 20);
-    CHECK(icysixel_discard_image(&h) == ICYSIXEL_OK && memory.requests == 0);
+    OK(icysixel_discard_image(&h)), CHECK(memory.requests == 0);
     memory.all_fail = false;
-    CHECK(icysixel_set_limit(&h, SIZE_MAX) == ICYSIXEL_OK);
-    CHECK(icysixel_decode(&h, string, sizeof string - 1, &shape) == ICYSIXEL_OK);
-    CHECK(icysixel_begin(&h) == ICYSIXEL_OK);
-    CHECK(icysixel_feed_band(&h, (const uint8_t *)"\033Pq!9~-!9~", 10, &fed) == ICYSIXEL_OK);
-    CHECK(icysixel_feed(&h, (const uint8_t *)"!9~\033\\", 5, &fed) == ICYSIXEL_OK);
+    OK(icysixel_set_limit(&h, SIZE_MAX)), OK(icysixel_set_clip(&h, SIZE_MAX, SIZE_MAX));
+    OK(icysixel_decode(&h, string, sizeof string - 1, &shape));
     memory.requests = 0, memory.all_fail = true;
-    CHECK(icysixel_copy_rows(&h, 0, 6, &layout, buffer, 216) == ICYSIXEL_OK);
-    icysixel_shape copied;
-    CHECK(icysixel_finish_into(&h, 0, &layout, buffer, 432, &copied, &wanted) == ICYSIXEL_OK);
-    CHECK(copied.bytes == 432);
-    CHECK(icysixel_take_pixels(&h, &block) == ICYSIXEL_OK && block.length == shape.bytes);
+    OK(icysixel_take_pixels(&h, &block)), CHECK(block.length == shape.bytes);
     icysixel_free(&h);
     icysixel_free_bytes(&block);
     CHECK(memory.requests == 0 && memory.blocks == 0 && memory.bytes == 0);
