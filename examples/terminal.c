@@ -27,6 +27,7 @@ static uint32_t begin_image(struct terminal *term)
         icysixel_set_crop(&term->sixel, 1);
         icysixel_set_registers(&term->sixel, 0, palette, sizeof palette / sizeof *palette);
         icysixel_set_limit(&term->sixel, SCREEN_WIDTH * SCREEN_HEIGHT);
+        icysixel_set_clip(&term->sixel, SCREEN_WIDTH, SIZE_MAX);
     }
     return icysixel_begin_payload(&term->sixel, p[0], p[1], p[2]);
 }

@@ -35,10 +35,11 @@ FILTERED = (
     b"a\x1b[1mb[image of 2 x 6 pixels]c\x1b\x1bPbad\x1b\\d[image of 1 x 6 pixels]\x1b[0me"
     b"[image of 5 x 30 pixels]f\x1bPq!65536~\x1b\\g\x1bPq~"
 )
-# The same for terminal.c: an opaque image on two rows of cells, and two errors.
-TERMINAL = b'a\x1bP9;0q"1;1;2;30#1!2~\x1b\\b\x1bPq!65536~\x1b\\c\x1bPq!64001~\x1b\\'
-DISPLAYED = b"a\n\n[2 x 30 pixels on 2 rows, the last pixel is 282a36]b[malformed SIXEL data]c"
-DISPLAYED += b"[image dimensions too large]"
+# The same for terminal.c: an opaque image on two rows of cells, a truncated one, and two errors.
+TERMINAL = b'a\x1bP9;0q"1;1;2;30#1!2~\x1b\\b\x1bPq!900~\x1b\\c\x1bPq!65536~\x1b\\'
+TERMINAL += b'\x1bPq"1;1;800;481~\x1b\\'
+DISPLAYED = b"a\n\n[2 x 30 pixels on 2 rows, the last pixel is 282a36]b\n[800 x 6 pixels on 1 "
+DISPLAYED += b"rows, the last pixel is 282a36]c[malformed SIXEL data][image dimensions too large]"
 # An image of three bands for progressive.c, and what it reports.
 BANDS = b"\x1bPq#1;2;100;20;0!9~-!640~-~\x1b\\"
 DRAWN = b"rows 0 to 5\nrows 6 to 11\n640 x 18 pixels, the first is ff3300\n"

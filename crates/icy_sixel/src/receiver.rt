@@ -54,7 +54,8 @@ enum Open {
 /// ```rust
 /// let mut receiver = SixelReceiver::new();
 /// receiver.set_register(0, background);
-/// receiver.set_pixel_limit(screen_pixels);
+/// receiver.set_pixel_limit(width.saturating_mul(height));
+/// receiver.set_clip(width, usize::MAX);
 /// receiver.set_raster_crop(true);
 /// ```
 ///

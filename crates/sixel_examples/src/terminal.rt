@@ -20,11 +20,12 @@ pub struct Read {
 
 impl Images {
     /// Images on a terminal with this background, which is what an opaque image begins with, and
-    /// with a screen of so many pixels.
-    pub fn new(background: [u8; 3], screen_pixels: usize) -> Self {
+    /// with a screen of this width and height in pixels.
+    pub fn new(background: [u8; 3], width: usize, height: usize) -> Self {
         let mut receiver = SixelReceiver::new();
         receiver.set_register(0, background);
-        receiver.set_pixel_limit(screen_pixels);
+        receiver.set_pixel_limit(width.saturating_mul(height));
+        receiver.set_clip(width, usize::MAX);
         receiver.set_raster_crop(true);
         Self { receiver }
     }

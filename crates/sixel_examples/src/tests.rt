@@ -130,15 +130,17 @@ fn is_read(read: Result<Read>, consumed: usize, size: Option<(usize, usize)>) ->
 
 #[test]
 fn terminal(rt: HostRuntime) {
-    let mut images = Images::new([1, 2, 3], 307_200);
+    let mut images = Images::new([1, 2, 3], 640, 480);
     images.begin(rt.alloc(), None, None);
     let is_open = is_read(images.read(b"!3"), 2, None);
     let is_ended = is_read(images.read(b"?@\x1b\\text"), 2, Some((4, 6)));
     images.begin(rt.alloc(), None, None);
     let is_cropped = is_read(images.read(b"\"1;1;2;3~~\x1b\\"), 10, Some((2, 3)));
     images.begin(rt.alloc(), None, None);
-    let is_rejected = images.read(b"!51201~").is_err();
-    assert!(rt; is_open & is_ended & is_cropped & is_rejected);
+    let is_truncated = is_read(images.read(b"!641~\x1b\\"), 5, Some((640, 6)));
+    images.begin(rt.alloc(), None, None);
+    let is_rejected = images.read(b"\"1;1;640;481~").is_err();
+    assert!(rt; is_open & is_ended & is_cropped & is_truncated & is_rejected);
 }
 
 /// What bytes are to a multiplexer: part of a sequence, its end, or where it is cut short, and how
