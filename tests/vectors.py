@@ -1,11 +1,23 @@
 """The test vectors of crates/sixel_vectors/data, whose README.md defines their format."""
+import itertools
 import re
+import struct
 
 from build import DATA
 
 # Pixel aspect ratios, and P1 of the program's first line for each.
 RATIOS = {"1:1": 9, "2:1": 0, "3:1": 3, "5:1": 2}
 MODES = {"opaque": 0, "transparent": 1}
+
+STATUSES = ["more", "complete", "cancelled", "interrupted", "rejected"]
+# The end of a payload: CAN, SUB, ESC or a C1 control.
+TERMINATOR = re.compile(rb"[\x18\x1a\x1b\x80-\x9f]")
+# The struct of c/vectors.c, and its members after the shape, with what they are by default.
+STRUCT = "32s6Q3Q2H2B2x4i4?6QIB3x"
+MEMBERS = dict.fromkeys(("p1", "p2", "p3", "colors"), -1)
+MEMBERS |= {"payload": False, "crop": False, "at_once": True, "sessions": False}
+MEMBERS |= dict.fromkeys(("limit", "columns", "rows", "ends_after", "fails_at"), 2**64 - 1)
+MEMBERS |= {"consumed": 0, "status": 0, "byte": 0}
 
 
 def vectors(file):
@@ -30,3 +42,40 @@ def image_of(text):
     pairs = [it.split("*") for it in "".join(runs).split()]
     pixels = b"".join(int(count) * bytes.fromhex(color) for count, color in pairs)
     return width, height, RATIOS[ratio], MODES[mode], pixels
+
+
+def packed(place, data, result, **members):
+    """A vector as c/vectors.c reads it: the struct, and the bytes of its blocks."""
+    image, _, error = result.partition("error: ")
+    width, height, p1, p2, pixels = image_of(image) if image else (0, 0, 0, 0, b"")
+    blocks = [data, pixels, error.removeprefix("invalid SIXEL data: ").encode()]
+    lengths = itertools.chain(*((0, len(it)) for it in blocks))
+    shape = width, height, len(pixels), 1, {9: 1, 0: 2, 3: 3, 2: 5}[p1], p1, p2
+    members = (MEMBERS | members).values()
+    return struct.pack(STRUCT, place.encode(), *lengths, *shape, *members) + b"".join(blocks)
+
+
+def packed_vectors():
+    """The vectors that c/vectors.c reads."""
+    for place, (settings, text, result) in vectors("images.tsv"):
+        words = re.sub(r"clip=(\d+)x", r"columns=\1 rows=", settings).split()
+        members = {it: int(value or 1) for it, _, value in (it.partition("=") for it in words)}
+        members["sessions"] = not members.pop("dcs", False)
+        data = bytes_of(text)
+        end = TERMINATOR.search(data)
+        members["consumed"] = end.start() if end else len(data)
+        if end:
+            members |= {"ends_after": end.end(), "status": 1, "byte": data[end.start()]}
+        yield packed(place, data, result, **members)
+    for place, (text, ended, result) in vectors("strings.tsv"):
+        data, (count, status, *byte) = bytes_of(text), ended.split()
+        consumed, status = int(count), STATUSES.index(status)
+        members = {"sessions": True, "consumed": consumed, "at_once": 0 < status < 4}
+        members["fails_at"] = consumed if status == 4 else len(data)
+        if members["at_once"]:
+            members |= {"ends_after": consumed + (status == 3), "status": status}
+            members |= {"byte": int(it, 16) for it in byte}
+        yield packed(place, data, result, **members)
+    for place, (colors, image, result) in vectors("texts.tsv"):
+        text, *error = result.partition("error: ")
+        yield packed(place, bytes_of(text), image + "".join(error), colors=int(colors))

@@ -12,8 +12,8 @@
 #define CHECK(fact) ((fact) ? (void)0 : stop(__FILE__, __LINE__, #fact))
 
 /* The input that is tried, as a failed check names it: a file or a table, and a line of it. */
-static const char *subject = "";
-static size_t line_number;
+static _Thread_local const char *subject = "";
+static _Thread_local size_t line_number;
 
 /* Ends the program because a check failed. */
 static inline void stop(const char *file, int line, const char *fact)
@@ -42,10 +42,21 @@ static inline void append(struct bytes *bytes, const void *more, size_t length)
     bytes->length += length;
 }
 
-/* Appends a text without its zero. */
-static inline void append_text(struct bytes *bytes, const char *text)
+/* A handle with a new decoder. */
+static inline icysixel new_handle(void)
 {
-    append(bytes, text, strlen(text));
+    icysixel handle = {0};
+    CHECK(icysixel_new(&handle) == ICYSIXEL_OK);
+    return handle;
+}
+
+/* The stored text, which has this length. */
+static inline struct bytes text_of(icysixel *handle, size_t length)
+{
+    struct bytes text = {malloc(length), length};
+    size_t wanted = 0;
+    CHECK(icysixel_copy_text(handle, text.at, length, &wanted) == ICYSIXEL_OK && wanted == length);
+    return text;
 }
 
 /* All 256 registers of a decoder. */

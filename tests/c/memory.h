@@ -23,18 +23,14 @@ static struct {
 /* A block is preceded by its size in 16 bytes. */
 enum { HEADER = 16 };
 
-static uint8_t nothing;
-
-/* Counts an allocation, and says whether it fails. */
-static bool fails(void) { return ++memory.requests == memory.failing || memory.all_fail; }
-
 /* Moves a block, or allocates one where there is none. */
 static block resized(uint8_t *at, size_t size)
 {
     size_t before = 0;
+    bool fails = ++memory.requests == memory.failing || memory.all_fail;
     if (at != NULL) memcpy(&before, at - HEADER, sizeof before);
-    uint8_t *start = fails() ? NULL : realloc(at == NULL ? NULL : at - HEADER, HEADER + size);
-    if (start == NULL) return (block){false, &nothing};
+    uint8_t *start = fails ? NULL : realloc(at == NULL ? NULL : at - HEADER, HEADER + size);
+    if (start == NULL) return (block){false, (uint8_t *)&memory};
     memcpy(start, &size, sizeof size);
     memory.blocks += at == NULL;
     memory.bytes += size - before;

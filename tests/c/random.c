@@ -1,10 +1,16 @@
 /* Random inputs for the builds by two compilers, which must agree: random COUNT SEED
  *
  * Writes a line for each case with a digest of all results: images, codes, registers, counts, texts
- * and palettes. */
+ * and palettes. Then four threads make a tenth of the cases at the same time, each with a handle of
+ * its own, and continue with the handle of another. They have the same results. */
 #include "checks.h"
+#include <pthread.h>
 
-static uint64_t state, digest;
+enum { THREADS = 4 };
+
+static size_t count;
+static uint64_t seed, *digests;
+static _Thread_local uint64_t state, digest;
 
 /* The generator SplitMix64. */
 static uint32_t below(uint32_t bound)
@@ -41,40 +47,36 @@ static struct bytes random_data(bool is_string)
         "#3;1;120;50;99", "#300;1;7;7;7", "\"1;1;9;9", "\"2;1;30;4", "$", "-", ";", "0", "12",
         "\n", " ", "\xff", "\x18", "\033", "\x9c", "\x9b" "0m"};
     struct bytes data = {0};
-    if (is_string) append_text(&data, headers[below(COUNT_OF(headers))]);
+    const char *part = is_string ? headers[below(COUNT_OF(headers))] : "";
+    append(&data, part, strlen(part));
     for (uint32_t left = below(60); left > 0; left--) {
         uint8_t byte = (uint8_t)below(256), sixel = (uint8_t)(63 + below(64));
         uint32_t rare = below(20) == 0 ? 0 : 4;
         append(&data, &sixel, 1);
-        append_text(&data, parts[below((uint32_t)COUNT_OF(parts) - rare)]);
+        part = parts[below((uint32_t)COUNT_OF(parts) - rare)];
+        append(&data, part, strlen(part));
         append(&data, &byte, below(100) == 0);
     }
-    if (is_string) append_text(&data, "\033\\");
+    append(&data, "\033\\", is_string ? 2 : 0);
     return data;
 }
 
 /* How data are decoded: the parameters of a payload, the crop, and whether they are a sequence. */
-struct settings {
-    bool is_string;
-    uint8_t crop;
-    int32_t p1, p2;
-};
+static _Thread_local struct { bool is_string; uint8_t crop; int32_t p1, p2; } settings;
 
-static icysixel new_decoder(const struct settings *settings)
+static icysixel new_decoder(void)
 {
-    icysixel decoder = {0};
-    CHECK(icysixel_new(&decoder) == ICYSIXEL_OK);
-    icysixel_set_limit(&decoder, 20000), icysixel_set_crop(&decoder, settings->crop);
-    if (settings->is_string) icysixel_begin(&decoder);
-    else icysixel_begin_payload(&decoder, settings->p1, settings->p2, -1);
+    icysixel decoder = new_handle();
+    icysixel_set_limit(&decoder, 20000), icysixel_set_crop(&decoder, settings.crop);
+    if (settings.is_string) icysixel_begin(&decoder);
+    else icysixel_begin_payload(&decoder, settings.p1, settings.p2, -1);
     return decoder;
 }
 
 /* Feeds random chunks and copies each band once it is final. The rows are those of the image. */
-static void try_rows(struct bytes data, const struct settings *settings,
-                     const struct outcome *image)
+static void try_rows(struct bytes data, const struct outcome *image)
 {
-    icysixel decoder = new_decoder(settings);
+    icysixel decoder = new_decoder();
     icysixel_fed fed = {0};
     icysixel_shape shape = {0};
     bool is_image = image->code == ICYSIXEL_OK;
@@ -108,18 +110,18 @@ static void try_rows(struct bytes data, const struct settings *settings,
 static void try_data(bool is_string)
 {
     struct bytes data = random_data(is_string);
-    struct settings settings = {is_string, (uint8_t)below(2), (int32_t)below(12) - 1,
-                                (int32_t)below(4) - 1};
-    icysixel whole = new_decoder(&settings), parts = new_decoder(&settings);
+    settings.is_string = is_string, settings.crop = (uint8_t)below(2);
+    settings.p1 = (int32_t)below(12) - 1, settings.p2 = (int32_t)below(4) - 1;
+    icysixel whole = new_decoder(), parts = new_decoder();
     icysixel_shape shape = {0};
     icysixel_fed fed = {0};
-    uint32_t code = ICYSIXEL_OK;
-    struct outcome at_once = outcome_of(&whole, is_string
+    uint32_t code = is_string
         ? icysixel_decode(&whole, data.at, data.length, &shape)
         : icysixel_decode_payload(&whole, data.at, data.length, settings.p1, settings.p2, -1,
-                                  &shape), shape);
-    at_once.shape = shape;
+                                  &shape);
+    struct outcome at_once = outcome_of(&whole, code, shape);
     add_outcome(&whole, &at_once);
+    code = ICYSIXEL_OK;
     for (size_t at = 0; code == ICYSIXEL_OK && at < data.length;) {
         struct bytes chunk = part(data, at, below(30)), copy = {0};
         append(&copy, chunk.at, chunk.length);
@@ -133,22 +135,21 @@ static void try_data(bool is_string)
     struct outcome fed_outcome = outcome_of(&parts, code, shape);
     add_outcome(&parts, &fed_outcome);
     CHECK(is_string || is_same(&fed_outcome, &at_once));
-    try_rows(data, &settings, &fed_outcome);
+    try_rows(data, &fed_outcome);
     free(data.at), free(at_once.pixels), free(fed_outcome.pixels);
     icysixel_free(&whole), icysixel_free(&parts);
 }
 
 /* Chooses a palette for random pixels, encodes them, and decodes the text. */
-static void try_pixels(void)
+static void try_pixels(icysixel *h)
 {
     uint32_t width = 1 + below(40), height = 1 + below(30), levels = 2 + below(254);
     uint16_t colors = (uint16_t)below(300);
-    struct bytes pixels = {0}, indices = {malloc(width * height), width * height}, text = {0};
+    struct bytes pixels = {0}, indices = {malloc(width * height), width * height};
     icysixel_color entries[256], witnesses[257];
     icysixel_palette palette = {0};
-    icysixel h = {0};
     icysixel_shape shape = {0};
-    size_t wanted;
+    size_t length;
     for (uint32_t left = width * height; left > 0; left--) {
         uint8_t rgba[4];
         for (int i = 0; i < 4; i++) rgba[i] = (uint8_t)(below(levels) * 255 / (levels - 1));
@@ -158,28 +159,50 @@ static void try_pixels(void)
                                   indices.at, indices.length, &palette) == ICYSIXEL_OK);
     add(entries, 3 * palette.colors), add(witnesses, 3 * palette.witnesses);
     add(&palette.error, 4), add(indices.at, indices.length);
-    CHECK(icysixel_new(&h) == ICYSIXEL_OK);
-    CHECK(icysixel_encode(&h, pixels.at, pixels.length, 0, width, height, (int32_t)below(10),
-                          (int32_t)below(2), colors, &text.length) == ICYSIXEL_OK);
-    text.at = malloc(text.length);
-    CHECK(icysixel_copy_text(&h, text.at, text.length, &wanted) == ICYSIXEL_OK);
+    CHECK(icysixel_new(h) == ICYSIXEL_OK);
+    CHECK(icysixel_encode(h, pixels.at, pixels.length, 0, width, height, (int32_t)below(10),
+                          (int32_t)below(2), colors, &length) == ICYSIXEL_OK);
+    struct bytes text = text_of(h, length);
     add(text.at, text.length);
-    CHECK(icysixel_decode(&h, text.at, text.length, &shape) == ICYSIXEL_OK);
-    struct outcome outcome = outcome_of(&h, ICYSIXEL_OK, shape);
-    add_outcome(&h, &outcome);
+    CHECK(icysixel_decode(h, text.at, text.length, &shape) == ICYSIXEL_OK);
+    struct outcome outcome = outcome_of(h, ICYSIXEL_OK, shape);
+    add_outcome(h, &outcome);
     free(pixels.at), free(indices.at), free(text.at), free(outcome.pixels);
-    icysixel_free(&h);
+}
+
+/* Makes a case. The handle may have been used for another one. */
+static uint64_t digest_of(icysixel *h, size_t number)
+{
+    subject = "case", line_number = number;
+    state = seed * 1000003 + number, digest = 0xcbf29ce484222325;
+    if (number % 3 == 2) try_pixels(h);
+    else try_data(number % 3 == 1);
+    return digest;
+}
+
+static void *work(void *handle)
+{
+    for (size_t i = 0; i < count / 10; i++) CHECK(digest_of(handle, i) == digests[i]);
+    return NULL;
 }
 
 int main(int argc, char **argv)
 {
+    icysixel handles[THREADS] = {0};
+    pthread_t threads[THREADS];
     CHECK(argc == 3);
-    subject = "case";
-    for (size_t count = strtoull(argv[1], NULL, 10); line_number < count; line_number++) {
-        state = strtoull(argv[2], NULL, 10) * 1000003 + line_number, digest = 0xcbf29ce484222325;
-        if (line_number % 3 == 2) try_pixels();
-        else try_data(line_number % 3 == 1);
-        printf("%zu %016llx\n", line_number, (unsigned long long)digest);
+    count = strtoull(argv[1], NULL, 10), seed = strtoull(argv[2], NULL, 10);
+    digests = malloc(count * sizeof *digests);
+    for (size_t i = 0; i < count; i++) {
+        digests[i] = digest_of(&handles[0], i);
+        printf("%zu %016llx\n", i, (unsigned long long)digests[i]);
     }
+    for (int round = 0; round < 2; round++) {
+        for (int i = 0; i < THREADS; i++)
+            CHECK(pthread_create(&threads[i], NULL, work, &handles[(i + round) % THREADS]) == 0);
+        for (int i = 0; i < THREADS; i++) CHECK(pthread_join(threads[i], NULL) == 0);
+    }
+    for (int i = 0; i < THREADS; i++) icysixel_free(&handles[i]);
+    free(digests);
     return 0;
 }

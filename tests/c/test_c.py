@@ -4,20 +4,22 @@ Each program of this folder runs with the archive that LLVM builds, under saniti
 with the archive that Rattle's own compiler builds. FUZZ_COUNT and FUZZ_SEED choose other cases.
 """
 import ctypes
+import itertools
 import os
 import re
 import tempfile
 import unittest
 from pathlib import Path
 
-from build import ARCHIVES, DATA, HEADERS, ROOT, needs, run
+from build import ARCHIVES, HEADERS, ROOT, needs, run
+from vectors import packed_vectors
 
 HERE = ROOT / "tests/c"
 EXAMPLES = ROOT / "examples"
 MEMORY = ROOT / "crates/icysixel/memory/icysixel_memory.c"
 FILTER = ROOT / "crates/sixel_filter/out/sixel_filter"
 
-C11 = ["gcc", "-std=c11", "-Wall", "-Wextra", "-Werror", f"-I{HEADERS}"]
+C11 = ["gcc", "-std=c11", "-pedantic", "-Wall", "-Wextra", "-Werror", f"-I{HEADERS}"]
 SANITIZERS = ["-fsanitize=address,undefined", "-fno-sanitize-recover=all"]
 BUILDS = {"sanitizers": [*SANITIZERS, ARCHIVES[0]], "LLVM": ARCHIVES[:1], "Rattle": ARCHIVES[1:]}
 MEMCHECK = ["valgrind", "-q", "--leak-check=full", "--show-leak-kinds=all", "--error-exitcode=9"]
@@ -75,6 +77,7 @@ class TestC(unittest.TestCase):
     @classmethod
     def setUpClass(cls):
         cls.folder = Path(cls.enterClassContext(tempfile.TemporaryDirectory()))
+        (cls.folder / "all").write_bytes(b"".join(packed_vectors()))
 
     def succeeds(self, *command, **options):
         """Runs a command, whose status has to be 0, and returns what it writes."""
@@ -96,14 +99,8 @@ class TestC(unittest.TestCase):
         """The arguments of a test program."""
         count = os.environ.get("FUZZ_COUNT", 60 if is_brief else 600)
         random = [count, os.environ.get("FUZZ_SEED", 1)]
-        words = {"vectors": [DATA, *["brief"] * is_brief], "peak": [self.folder], "random": random}
-        return words.get(name, [])
-
-    def test_header(self):
-        """Each struct has its size, in C and in C++."""
-        for compiler in C11, ["g++", "-x", "c++", *C11[2:]]:
-            with self.subTest(compiler=compiler[0]):
-                self.succeeds(*compiler, "-pedantic", "-fsyntax-only", HERE / "header.c")
+        words = {"vectors": [self.folder / "all", *["brief"] * is_brief], "random": random}
+        return words.get(name, [self.folder])
 
     def test_archives(self):
         """The archives define the functions of the header and no variable, and need six at most."""
@@ -124,23 +121,22 @@ class TestC(unittest.TestCase):
     def test_programs(self):
         """Each test program passes with each build."""
         for build in BUILDS:
-            for name in "calls", "vectors", "allocations", "peak", "threads":
+            for name in "calls", "vectors", "allocations", "peak":
                 with self.subTest(program=name, build=build):
                     self.succeeds(self.program(name, build), *self.arguments(name))
 
     @needs("valgrind")
     def test_valgrind(self):
         """Nothing is read or written outside of its block, nothing leaks, no threads conflict."""
-        for build in "LLVM", "Rattle":
-            for name in "calls", "vectors", "allocations", "random":
-                with self.subTest(program=name, build=build):
-                    arguments = self.arguments(name, is_brief=True)
-                    self.succeeds(*MEMCHECK, self.program(name, build), *arguments)
-            with self.subTest(program="threads", build=build):
-                self.succeeds(*HELGRIND, self.program("threads", build))
+        programs = "calls", "vectors", "allocations", "random"
+        runs = [*((MEMCHECK, it) for it in programs), (HELGRIND, "random")]
+        for build, (tool, name) in itertools.product(("LLVM", "Rattle"), runs):
+            with self.subTest(program=name, build=build, tool=tool[2]):
+                arguments = self.arguments(name, is_brief=True)
+                self.succeeds(*tool, self.program(name, build), *arguments)
 
     def test_random(self):
-        """The builds of both compilers give the same results for random inputs."""
+        """The builds of both compilers give the same results for random inputs, in threads too."""
         arguments = self.arguments("random")
         llvm, *others = [self.succeeds(self.program("random", it), *arguments) for it in BUILDS]
         self.assertEqual(llvm.count(b"\n"), int(arguments[0]))
@@ -171,7 +167,7 @@ class TestC(unittest.TestCase):
             with self.subTest(page=page.name):
                 blocks = re.findall(r"^```c\n(.*?)^```", page.read_text(), re.M | re.S)
                 code.write_text("".join(blocks))
-                self.succeeds(*C11, "-Wno-unused-function", "-fsyntax-only", code)
+                self.succeeds(*C11, "-Wno-unused-function", "-Wno-pedantic", "-fsyntax-only", code)
 
     def preload(self):
         """The path of libsixel's decoder and encoder by this library."""

@@ -17,11 +17,12 @@ MANUAL = re.compile(r"^\.Ft (\w+)\n\.Fo (\w+)\n((?:\.Fa \".+\"\n)+)\.Fc$", re.M)
 RED = b"\x1bP9;1q#1;2;100;0;0@\x1b\\"
 PIXELS, PPM = b"\xff\0\0\xff" + bytes(20), b"P6\n1 6\n255\n\xff\0\0" + bytes(15)
 FLAGS = "$(pkg-config --cflags --libs icysixel)"
+WARNINGS = "-pedantic -Wall -Wextra -Werror"
 # A tool, a command of the shell that reads a DCS sequence, and what it writes.
 USERS = [
     ("gcc", f"gcc -static decode.c {FLAGS} -o ../c && ../c", PIXELS),
     ("gcc", f"gcc -rdynamic decode.c {HERE}/hooks.c {FLAGS} -o ../c && ../c", PIXELS),
-    ("g++", f"g++ {HERE}/user.cpp {FLAGS} -o ../cpp && ../cpp", b""),
+    ("g++", f"g++ {WARNINGS} {HERE}/user.cpp {FLAGS} -o ../cpp && ../cpp", b""),
     ("python3", "s='python3 python/sixel.py'; $s decode | $s encode | $s decode", PPM),
     ("go", f"go run {HERE}/user.go", b""),
     ("lua5.4", """lua5.4 -e 'assert(package.loadlib("libicysixel.so.0", "*"))'""", b""),
