@@ -11,12 +11,10 @@ import tempfile
 import unittest
 from pathlib import Path
 
-from build import ROOT, needs, run
+from build import needs, run
+from library import COMPACT, DIFFUSION, OFF, ORDERED, PLAIN, SHARED, Encoding, call, encoded
 
-SHARED = ROOT / "out/shared/libicysixel.so"
 COUNT, SEED = int(os.environ.get("FUZZ_COUNT", "300")), int(os.environ.get("FUZZ_SEED", "1"))
-OFF, DIFFUSION, ORDERED = range(3)
-PLAIN, COMPACT = range(2)
 # Where the error of a pixel goes: sixteenths, columns ahead, rows down. The last takes the rest.
 SHARES = [(7, 1, 0), (3, -1, 1), (5, 0, 1), (None, 1, 1)]
 LIBSIXEL = "sixel2png -i {file} -o - | convert png:- -depth 8 rgb:-"
@@ -24,16 +22,6 @@ LIBSIXEL = "sixel2png -i {file} -o - | convert png:- -depth 8 rgb:-"
 IMAGEMAGICK = "convert six:{file} miff:- | convert miff:- -depth 8 rgb:-"
 
 SMALLEST = "convert ppm:{file} png24:- | img2sixel -E size -d none -p {few}"
-
-
-class Dithering(ctypes.Structure):
-    _fields_ = [("kind", ctypes.c_uint8), ("amount", ctypes.c_uint8)]
-
-
-class Encoding(ctypes.Structure):
-    _fields_ = [(it, ctypes.c_size_t) for it in ("stride", "width", "height")]
-    _fields_ += [("p1", ctypes.c_int32), ("p2", ctypes.c_int32)]
-    _fields_ += [("dithering", Dithering), ("form", ctypes.c_uint8)]
 
 
 class Refined(ctypes.Structure):
@@ -112,17 +100,6 @@ def image(rng):
 class PaletteTest(unittest.TestCase):
     """The calls on random images."""
 
-    def setUp(self):
-        self.library = ctypes.CDLL(str(SHARED))
-
-    def call(self, name, *arguments):
-        """Calls a function that returns a code. Numbers are passed as 64 bits, lists as bytes."""
-        passed = []
-        for it in arguments:
-            it = bytes(itertools.chain(*it)) if isinstance(it, list) else it
-            passed.append(ctypes.c_size_t(it) if isinstance(it, int) else it)
-        self.assertEqual(self.library[name](*passed), 0)
-
     def test_indices(self):
         """Undithered, ordered and diffused indices are those of the models."""
         rng = random.Random(SEED)
@@ -139,9 +116,9 @@ class PaletteTest(unittest.TestCase):
             for kind, expected in cases:
                 with self.subTest(turn=turn, kind=kind, amount=amount):
                     found = ctypes.create_string_buffer(len(pixels))
-                    self.call(
+                    call(
                         "icysixel_palette_indices", pixels, 4 * len(pixels), width, colors,
-                        len(colors), ctypes.byref(Dithering(kind, amount)), found, len(pixels),
+                        len(colors), bytes([kind, amount]), found, len(pixels),
                     )
                     self.assertEqual(list(found.raw), expected)
 
@@ -154,7 +131,7 @@ class PaletteTest(unittest.TestCase):
             colors, witnesses = (ctypes.create_string_buffer(3 * 257) for _ in range(2))
             found, properties = ctypes.create_string_buffer(count), Refined()
             with self.subTest(turn=turn, most=most):
-                self.call(
+                call(
                     "icysixel_refine_palette", pixels, 4 * count, most, colors, 257, witnesses,
                     257, found, count, ctypes.byref(properties),
                 )
@@ -176,20 +153,6 @@ class PaletteTest(unittest.TestCase):
                 for one, other in itertools.combinations(points, 2):
                     self.assertGreaterEqual(distance(one, other), properties.apart)
 
-    def text_of(self, width, pixels, colors, form):
-        """The output in a palette that has the color of each pixel."""
-        handle, size = (ctypes.c_void_p * 2)(), ctypes.c_size_t()
-        shape = Encoding(0, width, len(pixels) // width, 7, 1, Dithering(OFF, 0), form)
-        self.call("icysixel_new", handle)
-        self.call(
-            "icysixel_encode_with_palette", handle, pixels, 4 * len(pixels), ctypes.byref(shape),
-            colors, len(colors), ctypes.byref(size),
-        )
-        text = ctypes.create_string_buffer(size.value)
-        self.call("icysixel_copy_text", handle, text, size.value, ctypes.byref(size))
-        self.library.icysixel_free(handle)
-        return text.raw
-
     @needs("sixel2png", "img2sixel", "convert")
     def test_compact(self):
         """Other programs decode the compact output, and libsixel's is no shorter."""
@@ -201,10 +164,12 @@ class PaletteTest(unittest.TestCase):
             # Most pixels equal the one before them or the one above, so that there are runs.
             for place in range(width, len(pixels)):
                 pixels[place] = pixels[place - rng.choice([0, 1, 1, width, width])]
-            text = self.text_of(width, pixels, colors, COMPACT)
+            name, data = "icysixel_encode_with_palette", bytes(itertools.chain(*pixels))
+            forms = (Encoding(0, width, height, 7, 1, OFF, 0, it) for it in (COMPACT, PLAIN))
+            text, plain = (encoded(name, data, it, colors, len(colors)) for it in forms)
             expected = bytes(itertools.chain(*(it[:3] for it in pixels)))
             with self.subTest(turn=turn, few=few), tempfile.TemporaryDirectory() as folder:
-                self.assertLessEqual(len(text), len(self.text_of(width, pixels, colors, PLAIN)))
+                self.assertLessEqual(len(text), len(plain))
                 file = Path(folder) / "image"
                 file.write_bytes(text)
                 for command in (LIBSIXEL, IMAGEMAGICK):
