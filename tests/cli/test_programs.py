@@ -117,26 +117,24 @@ class TestPrograms(ProgramTest):
                     found = (str(ended[0]), hashlib.sha256(ended[1]).hexdigest())
                     self.assertEqual(found, (status, digest))
 
-    def test_image_vectors(self):
+    def test_vectors(self):
+        """After a complete DCS sequence, other bytes would be one more: they are left out.
+
+        The program encodes square pixels and a transparent background.
+        """
+        rows = []
         for place, (settings, text, result) in vectors("images.tsv"):
             if settings in COMMANDS:
-                with self.subTest(place=place):
-                    self.ends([COMMANDS[settings]], bytes_of(text), outcome(f"image {result}"))
-
-    def test_string_vectors(self):
-        """After a complete DCS sequence, other bytes would be one more: they are left out."""
+                rows.append((place, COMMANDS[settings], bytes_of(text), f"image {result}"))
         for place, (text, fed, result) in vectors("strings.tsv"):
             consumed, status = fed.split(" ", 1)
             data = bytes_of(text)[: int(consumed) if status == "complete" else None]
-            for length in ("1", "5") if data else ():
-                with self.subTest(place=place):
-                    self.ends(["frames", length], data, outcome(f"image {result}"))
-
-    def test_text_vectors(self):
-        """The program encodes square pixels and a transparent background."""
+            for length in (1, 5) if data else ():
+                rows.append((place, f"frames {length}", data, f"image {result}"))
         for place, (colors, column, result) in vectors("texts.tsv"):
             width, height, p1, p2, pixels = image_of(column)
             if (p1, p2) == (9, 1):
-                with self.subTest(place=place):
-                    arguments = ["encode", str(width), str(height), colors]
-                    self.ends(arguments, pixels, outcome(result))
+                rows.append((place, f"encode {width} {height} {colors}", pixels, result))
+        for place, arguments, stdin, result in rows:
+            with self.subTest(place=place):
+                self.ends(arguments.split(), stdin, outcome(result))
