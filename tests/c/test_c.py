@@ -12,7 +12,7 @@ import unittest
 from pathlib import Path
 
 from build import ARCHIVES, HEADERS, ROOT, needs, run
-from vectors import packed_vectors
+from vectors import bytes_of, packed_vectors, vectors
 
 HERE = ROOT / "tests/c"
 EXAMPLES = ROOT / "examples"
@@ -26,45 +26,6 @@ MEMCHECK = ["valgrind", "-q", "--leak-check=full", "--show-leak-kinds=all", "--e
 HELGRIND = ["valgrind", "-q", "--tool=helgrind", "--error-exitcode=9"]
 
 NEEDED = {*"memcpy memmove memset rattle_alloc rattle_dealloc rattle_realloc".split()}
-RED = b"\x1bP9;1q#1;2;100;0;0!2@\x1b\\"
-RED_PIXELS = b"\xff\0\0\xff\xff\0\0\xff" + bytes(40)
-# A stream of a terminal, and what filter.c makes of it.
-STREAM = (
-    b"a\x1b[1mb" + RED + b"c\x1b\x1bPbad\x1b\\d\x1bPq~\x1b[0me"
-    b"\x1bP2;1q!5~\x18f\x1bPq!65536~\x1b\\g\x1bPq~"
-)
-FILTERED = (
-    b"a\x1b[1mb[image of 2 x 6 pixels]c\x1b\x1bPbad\x1b\\d[image of 1 x 6 pixels]\x1b[0me"
-    b"[image of 5 x 30 pixels]f\x1bPq!65536~\x1b\\g\x1bPq~"
-)
-# The same for terminal.c: an opaque image on two rows of cells, a truncated one, and two errors.
-TERMINAL = b'a\x1bP9;0q"1;1;2;30#1!2~\x1b\\b\x1bPq!900~\x1b\\c\x1bPq!65536~\x1b\\'
-TERMINAL += b'\x1bPq"1;1;800;481~\x1b\\'
-DISPLAYED = b"a\n\n[2 x 30 pixels on 2 rows, the last pixel is 282a36]b\n[800 x 6 pixels on 1 "
-DISPLAYED += b"rows, the last pixel is 282a36]c[malformed SIXEL data][image dimensions too large]"
-# An image of three bands for progressive.c, and what it reports.
-BANDS = b"\x1bPq#1;2;100;20;0!9~-!640~-~\x1b\\"
-DRAWN = b"rows 0 to 5\nrows 6 to 11\n640 x 18 pixels, the first is ff3300\n"
-# Runs of examples: the standard input, the status, and the standard output and error.
-RUNS = [
-    ("decode", RED, 0, RED_PIXELS, b"2 x 6 pixels\n"),
-    ("decode", b"text" + RED, 1, b"", b"no SIXEL data found (missing DCS introducer)\n"),
-    ("decode", RED[:-2], 1, b"", b"incomplete SIXEL DCS sequence\n"),
-    ("filter", STREAM, 0, FILTERED, b""),
-    ("progressive", BANDS, 0, DRAWN, b""),
-    ("progressive", BANDS[:-2], 1, DRAWN[:25], b"incomplete SIXEL DCS sequence\n"),
-    ("progressive", b'\x1bPq"1;1;1;481\x1b\\', 1, b"", b"the buffer is too small\n"),
-    ("terminal", TERMINAL, 0, DISPLAYED, b""),
-    ("encode", b"", 0, b'\x1bP9;1;0q"1;1;12;6#0;2;100;0;0#0!12~\x1b\\', b""),
-]
-# Images, and each again in a form that libsixel shows as the example preload.c does. None has no
-# such form: libsixel rounds the channels of a hue to percentages.
-SHOWN = [
-    (RED.replace(b"@", b"~"), RED.replace(b"@", b"~")),
-    (b"\x1bPq#1A@\x1b\\", b'\x1bPq"1;1;2;6#1A@\x1b\\'),
-    (b"\x1bP9;1q~\x1b\\", b"\x1bP9;1q#15~\x1b\\"),
-    (b"\x1bPq#1;1;333;77;74~\x1b\\", None),
-]
 # Kilobytes of address space in which sixel_filter reads an image of the program `peak` three times.
 # The limit is a fifth more.
 FILTER_MEMORY = {"photograph": 3329, "chart": 4918, "icon": 2602}
@@ -155,10 +116,11 @@ class TestC(unittest.TestCase):
 
     def test_examples(self):
         """Each example decodes images of its input, or reports why it rejects them."""
-        for name, text, *ended in RUNS:
-            with self.subTest(program=name, text=text):
+        for place, (name, text, status, output, error) in vectors(HERE / "examples.tsv"):
+            with self.subTest(place=place):
                 program = self.program(name, "sanitizers", EXAMPLES)
-                self.assertEqual(run(program, stdin=text), tuple(ended))
+                ended = int(status), bytes_of(output), bytes_of(error)
+                self.assertEqual(run(program, stdin=bytes_of(text)), ended)
 
     def test_host_pages(self):
         """The code of each page for a host compiles."""
@@ -215,7 +177,8 @@ class TestC(unittest.TestCase):
 
         self.succeeds(self.program("peak"), self.folder)
         made = [(self.folder / f"{name}.six").read_bytes() for name in ("photograph", "chart")]
-        for text, adapted in [*SHOWN, *zip(made, made)]:
+        shown = [map(bytes_of, columns) for _, columns in vectors(HERE / "preload.tsv")]
+        for text, adapted in [*shown, *zip(made, made)]:
             with self.subTest(text=text[:40]):
                 self.assertEqual(shows_same(text), text == adapted)
-                self.assertTrue(adapted is None or shows_same(adapted))
+                self.assertTrue(adapted == b"none" or shows_same(adapted))

@@ -24,16 +24,8 @@ SIXEL = [
     ("draw", PPM, DRAWN, [b""]),
 ]
 RUN, RUNS = "a run: out of memory", "runs over a run: out of memory"
-SESSIONS = ["decode", "decode_from_dcs", "payload session", "DCS session"]
-OTHERS = ["encode_with", "encode_compact", "to_display_string", "to_display_string of an error"]
-OTHERS += ["clone", "from_str", "choose_palette", "refine_palette", "Row::reach"]
-OTHERS += ["encode_with_palette", "encode_indexed", "encode_refined", "encode_refined, dithered"]
-OTHERS += ["nearest indices", "ordered indices", "diffused indices"]
 # The lines of sixel_allocations that differ, in the order of the allocations of one pass.
-CALLS = [f"{it}: out of memory" for it in SESSIONS]
-CALLS += [RUN, RUNS, "script::run: out of memory"]
-CALLS += [f"failed step: Some({it})" for it in range(5)]
-CALLS += [f"{it}: out of memory" for it in OTHERS]
+CALLS = Path(__file__).with_name("allocations.txt").read_text().splitlines()
 
 
 def distinct(items):

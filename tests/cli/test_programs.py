@@ -14,25 +14,11 @@ from pathlib import Path
 from build import ROOT, ProgramTest, builds_of, run
 from vectors import bytes_of, image_of, vectors
 
+HERE = ROOT / "tests/cli"
 RESULT = re.compile(r"(.*?)(?:(usage )?error: (.*))?")
 # The values that stand for N and X in the arguments of runs.tsv.
 NO_NUMBERS = ["", "+1", "-1", "1.0", "1e3", "0x1", " 1", "1 ", "x", str(2**64), 23 * "9"]
 VALUES = {"N": ["1", "2", "13", "65536"], "X": NO_NUMBERS}
-
-# Arguments and redirections of the shell, and the error of the one that fails.
-FAILING = {
-    "sixel": [
-        ("payload <&-", "input fault"),
-        ("frames 1 </", "input fault"),
-        ("$(printf '\\377')", "input fault"),
-        ("payload $(printf '\\377')", "input fault"),
-        *((f"{it} >/dev/full", "output fault") for it in ("payload", "pam", "--help", "--version")),
-        ("payload >&-", "output fault"),
-        ("draw -p /missing", "palette fault"),
-        ("draw -p /", "palette fault"),
-    ],
-    "sixel_filter": [("1 size </", "input fault"), ("1 size >/dev/full", "output fault")],
-}
 
 MILLION = b"image 1000000 6 9 0\n" + 6_000_000 * b"\0\0\0\xff" + b"\n"
 TOO_FEW = b"buffer size mismatch: expected 268304400 bytes, got 4\n"
@@ -68,7 +54,7 @@ class TestPrograms(ProgramTest):
     name = "sixel"
 
     def test_runs(self):
-        for place, (command, text, result) in vectors(Path(__file__).with_name("runs.tsv")):
+        for place, (command, text, result) in vectors(HERE / "runs.tsv"):
             self.name, *words = shlex.split(command)
             kind, _, path = text.partition(":")
             stdin = (ROOT / path).read_bytes() if kind == "file" else bytes_of(text)
@@ -77,28 +63,17 @@ class TestPrograms(ProgramTest):
                     self.ends(arguments, stdin, outcome(result))
 
     def test_failing_descriptors_and_arguments(self):
-        for self.name, rows in FAILING.items():
-            for words, error in rows:
-                self.fails(words, b"#1~", error)
+        for _, (self.name, words, error) in vectors(HERE / "failing.tsv"):
+            self.fails(words, b"#1~", error)
 
     def test_palette_file(self):
         """Its pixels are the entries, of which the nearest one is drawn."""
-        image, head = b"P5 3 1 255\n\x10\xf0\x90", b'\x1bP9;1;0q"1;1;3;1'
-        black, white = b"#0;2;0;0;0", b"#1;2;100;100;100"
-        text = (0, head + black + white + b"#0@#1@@\x1b\\", b"")
-        many = b"P5 257 1 255\n" + bytes(257)
-        rows = [
-            (b"P5 2 1 255\n\x00\xff", text),
-            (b"P5 1 2 255\n\x00\xff", text),
-            (many, (1, b"", b"invalid SIXEL data: number of colors is not 1 to 256\n")),
-            (b"P5 2 1 255\n\x00", (1, b"", b"incomplete netpbm image\n")),
-            (b"", (1, b"", b"no PAM, PPM or PGM data found\n")),
-        ]
         with tempfile.NamedTemporaryFile() as file:
-            for palette, expected in rows:
-                with self.subTest(palette=palette):
-                    Path(file.name).write_bytes(palette)
-                    self.ends(["draw", "-d", "none", "-p", file.name], image, expected)
+            for place, (palette, result) in vectors(HERE / "palettes.tsv"):
+                with self.subTest(place=place):
+                    Path(file.name).write_bytes(bytes_of(palette))
+                    arguments = ["draw", "-d", "none", "-p", file.name]
+                    self.ends(arguments, b"P5 3 1 255\n\x10\xf0\x90", outcome(result))
 
     def test_memory(self):
         for arguments, stdin, expected in MEMORY:
