@@ -23,7 +23,7 @@ pub struct Output {
     count: usize,
     /// The column of a feed, for all of them together, and that of the image or error.
     pub text: String,
-    pub owner: Owner,
+    pub after: SixelDecoder,
 }
 
 impl Input {
@@ -67,7 +67,7 @@ impl Input {
         let is_end = output.text.starts_with(end.as_str()) || output.is_rejected();
         ensure!(is_end, "{}", output.text);
         ensure!(output.text.ends_with(found.as_str()), "{}", output.text);
-        check_decoder(&decoder, output.owner.decoder())?;
+        check_decoder(&decoder, &output.after)?;
         Ok((output, area))
     }
 
@@ -103,7 +103,7 @@ impl Input {
         for owner in Owner::both(&self.start)? {
             let other = self.play(alloc, owner, lengths, output.count)?;
             ensure!(output.text == other.text, "{}", other.text);
-            check_decoder(other.owner.decoder(), output.owner.decoder())?;
+            check_decoder(&other.after, &output.after)?;
         }
         Ok(())
     }
@@ -119,7 +119,8 @@ impl Input {
         let mut text = String::new(alloc);
         let session = owner.begin(alloc, self.form)?;
         let count = self.feed_all(&mut text, session, lengths, failing)?;
-        Ok(Output { count, text, owner })
+        let after = owner.into_decoder();
+        Ok(Output { count, text, after })
     }
 
     /// Feeds chunks, checks each call, writes the columns and returns the count.

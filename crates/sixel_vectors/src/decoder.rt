@@ -25,8 +25,8 @@ pub fn write_image(alloc: Global, found: &mut String, settings: &str, text: &str
 pub fn write_whole(alloc: Global, found: &mut String, input: &Input) -> Result<()> {
     let (output, area) = input.check_whole(alloc, found)?;
     input.check_chunks(alloc, area, &output)?;
-    let mut copy = output.owner.decoder().clone()?;
-    check_decoder(&copy, output.owner.decoder())?;
+    let mut copy = output.after.clone()?;
+    check_decoder(&copy, &output.after)?;
     copy.reset_palette();
     check_decoder(&copy, &input.start)
 }
@@ -65,7 +65,7 @@ pub fn write_string(alloc: Global, found: &mut String, text: &str) -> Result<()>
     let (decoder, area) = input.decode(alloc, &mut decoded)?;
     if !output.is_rejected() && !output.text.contains(" more\t") {
         ensure!(output.text.ends_with(decoded.as_str()), "at once{decoded}");
-        check_decoder(&decoder, output.owner.decoder())?;
+        check_decoder(&decoder, &output.after)?;
     }
     input.check_chunks(alloc, area, &output)?;
     input.check_pairs(alloc, &output)?;

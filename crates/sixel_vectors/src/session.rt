@@ -82,6 +82,14 @@ impl Owner {
             Self::Receiver(receiver) => receiver.decoder(),
         }
     }
+
+    /// Returns the decoder.
+    pub fn into_decoder(self) -> SixelDecoder {
+        match self {
+            Self::Decoder(decoder) => decoder,
+            Self::Receiver(receiver) => receiver.into_decoder(),
+        }
+    }
 }
 
 /// A session of either kind, or a receiver with an open image.
