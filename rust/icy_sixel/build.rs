@@ -32,6 +32,7 @@ fn main() {
         }
     }
     println!(
-        "cargo::error=libicysixel.a is missing: run `./lib` in the repository, or name its folder in {FOLDER}"
+        "cargo::error=libicysixel.a is missing: run `./lib` in the repository, \
+         or name its folder in {FOLDER}"
     );
 }

@@ -1,6 +1,6 @@
 //! Decoding: of a payload or a DCS sequence, in one call or in chunks.
 //!
-//! A payload is what stands between a DCS sequence's `q` and its terminator.
+//! A payload is the data between the `q` and the terminator of a DCS sequence.
 
 mod dcs_session;
 mod stream;
@@ -22,8 +22,8 @@ pub(crate) use stream::payload_status;
 /// A decoder: 256 color registers from image to image, and the host's settings.
 ///
 /// A register has the color that the host set or a decoded image defined. An error changes no
-/// register. The settings are whether images are cropped, and how many pixels an image can have.
-/// They apply to each image and session that is begun afterwards.
+/// register. The settings are whether images are cropped, how many pixels an image can have, and
+/// its clip. They apply to each image and session that is begun afterwards.
 ///
 /// The library takes one call at a time on a decoder. Calls that change it borrow it mutably. Calls
 /// that only read it take turns by a lock. So a decoder is `Send` and `Sync`, and so are its
@@ -35,8 +35,9 @@ pub struct SixelDecoder {
 impl SixelDecoder {
     /// Creates a decoder with the registers that a terminal has when it is switched on.
     ///
-    /// It crops no image, and its limit is 67,108,864 pixels. The call allocates some kilobytes. If
-    /// that fails it ends the process, as a `Box` does. [`try_new`](Self::try_new) does not.
+    /// It crops and clips no image, and its limit is 67,108,864 pixels. The call allocates some
+    /// kilobytes. If that fails it ends the process, as a `Box` does. [`try_new`](Self::try_new)
+    /// does not.
     #[must_use]
     pub fn new() -> Self {
         Self::try_new().unwrap_or_else(|_| end_without_memory())
@@ -93,9 +94,9 @@ impl SixelDecoder {
         self.shared().registers()
     }
 
-    /// Sets the colors of the registers from `first` on: red, green and blue, a byte each.
+    /// Sets the colors of the registers from `first` on.
     ///
-    /// A terminal sets its whole palette by one call. Colors that are left after register 255 have
+    /// A color is red, green and blue, a byte each. A terminal sets its whole palette by one call. Colors that are left after register 255 have
     /// no effect.
     pub fn set_registers(&mut self, first: u8, colors: &[[u8; 3]]) {
         self.handle().set_registers(first, colors);
@@ -124,7 +125,9 @@ impl SixelDecoder {
         self.handle().set_crop(on);
     }
 
-    /// Returns how many pixels an image can have: 67,108,864 in a new decoder, and never more.
+    /// Returns how many pixels an image can have.
+    ///
+    /// The limit is 67,108,864 in a new decoder, and never more.
     #[must_use]
     pub fn pixel_limit(&self) -> usize {
         self.shared().limit()
@@ -139,9 +142,9 @@ impl SixelDecoder {
         self.handle().set_limit(pixels);
     }
 
-    /// Returns the clip: how many columns from the left and rows from the top an image can have.
+    /// Returns the clip: how many columns and rows an image can have.
     ///
-    /// Both are 1,000,000 in a new decoder, which clips nothing, because no image has more.
+    /// They count from the left and from the top. Both are 1,000,000 in a new decoder, which clips nothing, because no image has more.
     #[must_use]
     pub fn clip(&self) -> (usize, usize) {
         self.shared().clip()
@@ -166,9 +169,9 @@ impl SixelDecoder {
         self.handle().set_clip(width, height);
     }
 
-    /// Decodes the first DCS sequence in the bytes, or all of them as a payload if there is none.
+    /// Decodes the first DCS sequence in the bytes, or all of them as a payload.
     ///
-    /// Bytes before the introducer and after the payload have no effect.
+    /// Without a DCS sequence all bytes are the payload. Bytes before the introducer and after the payload have no effect.
     ///
     /// ```
     /// use icy_sixel::SixelDecoder;
@@ -183,13 +186,13 @@ impl SixelDecoder {
     /// # Errors
     ///
     /// Those of [`decode_from_dcs`](Self::decode_from_dcs), and
-    /// [`InvalidData`](crate::SixelError::InvalidData) for a header that is faulty or does not end;
-    /// after any of them the registers are those before.
+    /// [`InvalidData`](crate::SixelError::InvalidData) for a header that is invalid or does not
+    /// end. After an error the registers are unchanged.
     pub fn decode(&mut self, bytes: &[u8]) -> Result<SixelImage> {
         self.by_copy(|copy| copy.decode(bytes))
     }
 
-    /// Decodes one payload: the sixel data between a DCS sequence's `q` and its terminator.
+    /// Decodes one payload: the data between a DCS sequence's `q` and its terminator.
     ///
     /// Bytes from the first terminator on have no effect. An empty payload is an image of one
     /// pixel.
@@ -205,16 +208,19 @@ impl SixelDecoder {
     ///
     /// # Errors
     ///
-    /// [`InvalidData`](crate::SixelError::InvalidData) for a repeat above 65,535, a side above
-    /// 1,000,000 or an area above [`pixel_limit`](Self::pixel_limit), `IntegerOverflow` for more
-    /// new lines than a row number can count, and `OutOfMemory`; after any of them the registers are
-    /// those before.
+    /// After an error the registers are unchanged. The errors are:
+    ///
+    /// - [`InvalidData`](crate::SixelError::InvalidData) for a repeat above 65,535, a side above
+    ///   1,000,000 or an area above [`pixel_limit`](Self::pixel_limit)
+    /// - `IntegerOverflow` for more new lines than a row number can count
+    /// - `OutOfMemory` if an allocation fails
     pub fn decode_from_dcs(&mut self, bytes: &[u8], settings: DcsSettings) -> Result<SixelImage> {
         self.by_copy(|copy| copy.decode_payload(bytes, settings))
     }
 
-    /// Decodes by a copy, which replaces the decoder if it succeeds: so an error, also of the
-    /// allocation for the caller's pixels, leaves the registers unchanged.
+    /// Decodes by a copy, which replaces the decoder if it succeeds.
+    ///
+    /// So an error leaves the registers unchanged, also if the caller's pixels cannot be allocated.
     fn by_copy(
         &mut self,
         decode: impl FnOnce(&mut Handle) -> Result<SixelImage>,
@@ -228,7 +234,7 @@ impl SixelDecoder {
     /// Begins a payload that is decoded in chunks.
     ///
     /// The call does not allocate and is always `Ok`. The session borrows this decoder until it
-    /// ends, and starts with the decoder's current registers, crop and limit.
+    /// ends, and starts with the decoder's current registers and settings.
     ///
     /// ```
     /// use icy_sixel::{DcsSettings, SixelDecoder, SixelFeedStatus::Terminated};
@@ -314,20 +320,20 @@ impl fmt::Debug for SixelDecoder {
     }
 }
 
-/// As [`SixelImage::decode`].
+/// Does what [`SixelImage::decode`] does.
 ///
 /// # Errors
 ///
-/// As of [`SixelDecoder::decode`].
+/// Those of [`SixelDecoder::decode`].
 pub fn sixel_decode(bytes: &[u8]) -> Result<SixelImage> {
     SixelImage::decode(bytes)
 }
 
-/// As [`SixelImage::decode_from_dcs`].
+/// Does what [`SixelImage::decode_from_dcs`] does.
 ///
 /// # Errors
 ///
-/// As of [`SixelDecoder::decode_from_dcs`].
+/// Those of [`SixelDecoder::decode_from_dcs`].
 pub fn sixel_decode_from_dcs(bytes: &[u8], settings: DcsSettings) -> Result<SixelImage> {
     SixelImage::decode_from_dcs(bytes, settings)
 }

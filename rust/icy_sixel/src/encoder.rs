@@ -1,4 +1,4 @@
-//! Encoding: the SIXEL text of an image.
+//! Encoding: the SIXEL output of an image.
 
 use crate::codes::{BAD_DIMENSIONS, BUFFER_MISMATCH, error_of};
 use crate::error::{Result, SixelError};
@@ -9,8 +9,7 @@ use crate::size::{pixel_bytes, validate_buffer, validate_encode_dimensions};
 /// How an image is encoded.
 #[derive(Clone, Debug)]
 pub struct EncodeOptions {
-    /// How many entries the palette has at most: 2 to 256, and the nearer of these for any other
-    /// number.
+    /// How many entries the palette has at most, clamped to 2 to 256.
     pub max_colors: u16,
 }
 
@@ -52,10 +51,12 @@ impl Dither {
     }
 }
 
-/// Which SIXEL output of an image is returned. A decoder returns the same image from both.
+/// Which SIXEL output of an image is returned.
+///
+/// A decoder returns the same image from both.
 #[derive(Clone, Copy, Debug, PartialEq, Eq)]
 pub enum TextForm {
-    /// Each palette entry of a band has a pass of its own, to the right edge of the image.
+    /// Each palette entry of a band has a pass of its own, to the right edge.
     Plain,
     /// The same pixels in fewer bytes, or the plain output if that is shorter.
     Compact,
@@ -106,7 +107,9 @@ pub fn palette_indices(
     Ok(indices)
 }
 
-/// The SIXEL text of pixels of four bytes each, as [`encode_with`] of an image of them.
+/// Returns the SIXEL output of pixels of four bytes each.
+///
+/// It does what [`encode_with`] does for an image of them.
 ///
 /// ```
 /// use icy_sixel::{EncodeOptions, sixel_encode};
@@ -118,7 +121,7 @@ pub fn palette_indices(
 ///
 /// # Errors
 ///
-/// As of [`encode_with`].
+/// Those of [`encode_with`].
 ///
 /// [`encode_with`]: crate::SixelImage::encode_with
 pub fn sixel_encode(
@@ -131,16 +134,16 @@ pub fn sixel_encode(
     encode(pixels, (width, height), shape, options)
 }
 
-/// As [`sixel_encode`], with the default options.
+/// Does what [`sixel_encode`] does with the default options.
 ///
 /// # Errors
 ///
-/// As of [`sixel_encode`].
+/// Those of [`sixel_encode`].
 pub fn sixel_encode_default(pixels: &[u8], width: usize, height: usize) -> Result<String> {
     sixel_encode(pixels, width, height, &EncodeOptions::default())
 }
 
-/// The SIXEL text of an image.
+/// The SIXEL output of an image.
 pub(crate) fn encode(
     pixels: &[u8],
     (width, height): (usize, usize),
@@ -166,7 +169,7 @@ pub(crate) fn encode(
     stored_text(&mut handle, length)
 }
 
-/// The SIXEL text of an image in these colors.
+/// The SIXEL output of an image in these colors.
 pub(crate) fn encode_in(
     image: &SixelImage,
     colors: Colors<'_>,

@@ -17,14 +17,14 @@ pub enum SixelError {
         /// Rows.
         height: usize,
     },
-    /// The pixels are not as many bytes as the sizes ask for.
+    /// The pixels have another number of bytes than the sizes require.
     BufferSizeMismatch {
-        /// Bytes that the sizes ask for.
+        /// Bytes that the sizes require.
         expected: usize,
-        /// Bytes that came.
+        /// Bytes that the caller passed.
         actual: usize,
     },
-    /// The bytes are no SIXEL data, for this reason.
+    /// The data, a palette or rows are invalid, for this reason.
     InvalidData(String),
     /// A DCS sequence does not begin with its introducer.
     NoSixelData,
@@ -35,7 +35,9 @@ pub enum SixelError {
 }
 
 impl SixelError {
-    /// The error of invalid data for this reason, or `OutOfMemory` if the text cannot be allocated.
+    /// The error of invalid data for this reason, or `OutOfMemory`.
+    ///
+    /// It is `OutOfMemory` if the text cannot be allocated.
     pub(crate) fn of_data(reason: &str) -> Self {
         let mut text = String::new();
         match text.try_reserve_exact(reason.len()) {

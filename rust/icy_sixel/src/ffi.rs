@@ -1,4 +1,4 @@
-//! The FFI boundary to the proved archive: every `unsafe` of this crate, and what it trusts.
+//! The FFI boundary to the proved archive: every `unsafe` of this crate.
 //!
 //! `icysixel.h` documents the functions, and `tests/rust` compares these declarations with it. Each
 //! function is proved to return, and to access only what it is passed, for all bytes and numbers
@@ -8,7 +8,7 @@ use crate::codes::{OK, OUT_OF_MEMORY};
 use std::alloc::{Layout, alloc, dealloc, realloc};
 use std::ffi::c_void;
 
-/// What C calls a handle: a place for a pointer that is the library's own, or zeros.
+/// The handle of C: a pointer that belongs to the library, or zeros.
 #[repr(C)]
 struct Raw {
     held: u8,
@@ -279,7 +279,7 @@ fn answer<T>(code: u32, value: T) -> Answer<T> {
 /// The parameters of a DCS sequence, where -1 means an absent one.
 pub(crate) type Parameters = [i32; 3];
 
-/// The pixels that are to be encoded, four bytes each, and what their text says of them.
+/// Pixels that are to be encoded, four bytes each, with the parameters of the output.
 pub(crate) struct Source<'a> {
     pub(crate) pixels: &'a [u8],
     pub(crate) width: usize,
@@ -302,13 +302,13 @@ pub(crate) enum Colors<'a> {
     Indexed(&'a [[u8; 3]], &'a [u8]),
 }
 
-/// A decoder of the library, with its open image, its stored image and its stored text.
+/// A decoder of the library, with its open image, stored image and stored text.
 pub(crate) struct Handle(Raw);
 
-// SAFETY: only the handle refers to its state, the library has no state beside its handles and no
-// tie to a thread, and its memory is from Rust's global allocator, which serves all threads. So
-// calls can come from any thread, one at a time, as `&mut` in each of them ensures. It is not
-// `Sync`, and need not be: no call takes a shared reference.
+// SAFETY: only the handle refers to its state. The library has no state beside its handles and no
+// tie to a thread. Its memory is from Rust's global allocator, which serves all threads. So calls
+// can come from any thread, one at a time, as `&mut` in each of them ensures. It is not `Sync`, and
+// need not be: no call takes a shared reference.
 unsafe impl Send for Handle {}
 
 impl Drop for Handle {
@@ -376,7 +376,9 @@ impl Handle {
         answer(icysixel_release_rows(&mut self.0, rows), ())
     }
 
-    /// Closes the open image and copies rows of it, or gives the code and the bytes needed.
+    /// Closes the open image and copies rows of it, or returns the code.
+    ///
+    /// Beside the code is the number of bytes needed.
     pub(crate) fn close_into(
         &mut self,
         first: usize,
@@ -415,7 +417,7 @@ impl Handle {
         icysixel_get_rows_so_far(&mut self.0)
     }
 
-    /// How many columns sixels of the image that is open have painted so far, at most.
+    /// An upper bound of the columns that sixels of the open image have painted so far.
     pub(crate) fn canvas_paints(&mut self) -> u64 {
         icysixel_get_canvas_paints(&mut self.0)
     }
@@ -425,7 +427,9 @@ impl Handle {
         self.image(|handle, shape| icysixel_finish(handle, shape))
     }
 
-    /// Closes the open image, and returns its picture up to the first fault, and the fault's code.
+    /// Closes the open image, and returns its picture up to the first fault.
+    ///
+    /// The code of the fault is beside it.
     pub(crate) fn close_partial(&mut self) -> Answer<((Shape, Vec<u8>), u32)> {
         let mut fault = OK;
         let picture =
@@ -438,8 +442,9 @@ impl Handle {
         icysixel_abort(&mut self.0);
     }
 
-    /// Decodes the first DCS sequence in the bytes, or all of them, and gives the image's shape
-    /// and its pixels.
+    /// Decodes the first DCS sequence in the bytes, or all of them as a payload.
+    ///
+    /// It returns the image's shape and its pixels.
     pub(crate) fn read(&mut self, bytes: &[u8]) -> Answer<(Shape, Vec<u8>)> {
         self.image(|handle, shape| {
             // SAFETY: the pointer and the length are those of a slice, which is only read.
@@ -447,7 +452,7 @@ impl Handle {
         })
     }
 
-    /// Decodes one payload, and gives the image's shape and its pixels.
+    /// Decodes one payload, and returns the image's shape and its pixels.
     pub(crate) fn read_payload(
         &mut self,
         bytes: &[u8],
@@ -624,7 +629,7 @@ impl Handle {
     }
 }
 
-/// Writes the palette of pixels and its witnesses, and appends the index of each pixel.
+/// Writes a palette and its witnesses, and appends the palette index of each pixel.
 pub(crate) fn choose_palette(
     pixels: &[u8],
     max_colors: u16,
@@ -655,7 +660,7 @@ pub(crate) fn choose_palette(
     Ok(palette)
 }
 
-/// Writes the refined palette of pixels and its witnesses, and appends the index of each pixel.
+/// Writes a refined palette and its witnesses, and appends each pixel's index.
 pub(crate) fn refine_palette(
     pixels: &[u8],
     max_colors: u16,
@@ -714,7 +719,7 @@ pub(crate) fn palette_indices(
     })
 }
 
-/// Appends the bytes that a call writes to the spare capacity of a vector and counts.
+/// Appends the bytes that a call writes to a vector's spare capacity and counts.
 fn append(bytes: &mut Vec<u8>, call: impl FnOnce(*mut u8, usize, &mut usize) -> u32) -> Answer<()> {
     let spare = bytes.spare_capacity_mut();
     let mut written = 0;
@@ -734,8 +739,9 @@ struct Tried {
     block: *mut u8,
 }
 
-/// Before each block that the library has stands how many bytes were asked for in all, which Rust's
-/// allocator needs when they are freed. It takes as many bytes as the alignment of all
+/// The bytes before each block of the library, which contain the size of its memory.
+///
+/// Rust's allocator needs that size when the memory is freed. Their number is the alignment of all
 /// blocks, which is the greatest that the library asks for.
 const HEAD: usize = 16;
 
@@ -745,7 +751,7 @@ static NOTHING: u8 = 0;
 impl Tried {
     const REFUSED: Self = Self { ok: false, block: (&raw const NOTHING).cast_mut() };
 
-    /// The block in memory that was had for this layout, or an error if it is null.
+    /// The block in memory that was allocated with this layout, or an error if it is null.
     ///
     /// # Safety
     ///
@@ -754,7 +760,7 @@ impl Tried {
         if start.is_null() {
             return Self::REFUSED;
         }
-        // SAFETY: the block begins with a head, which is aligned for a number as the whole block is.
+        // SAFETY: the block begins with a head, which is aligned for a number as the block is.
         unsafe { start.cast::<usize>().write(layout.size()) };
         // SAFETY: a head is within the memory.
         let block = unsafe { start.add(HEAD) };
@@ -775,7 +781,7 @@ fn layout(size: usize, align: usize) -> Option<Layout> {
 ///
 /// One of the functions below returned the block, and it was neither freed nor moved since.
 unsafe fn memory_of(block: *mut u8) -> (*mut u8, Layout) {
-    // SAFETY: a block stands behind its head, in the same memory.
+    // SAFETY: a block follows its head, in the same memory.
     let start = unsafe { block.sub(HEAD) };
     // SAFETY: the size was written there when the block was returned, and blocks are written to
     // from their own start on.
@@ -798,7 +804,7 @@ extern "C" fn rattle_alloc(size: usize, align: usize) -> Tried {
     unsafe { Tried::of(start, layout) }
 }
 
-/// Makes the block one of so many bytes, which may move it; an error leaves it unchanged.
+/// Resizes a block, which may move it. An error leaves it unchanged.
 ///
 /// # Safety
 ///
@@ -816,8 +822,8 @@ unsafe extern "C" fn rattle_realloc(
     };
     // SAFETY: the block was returned here, and was not freed.
     let (start, had) = unsafe { memory_of(block) };
-    // SAFETY: this memory was had by that layout, and the new number of bytes is one of a layout
-    // with the same alignment, and not none.
+    // SAFETY: this memory was allocated with that layout. The new number of bytes is one of a layout
+    // with the same alignment, and is not 0.
     let start = unsafe { realloc(start, had, wanted.size()) };
     // SAFETY: `realloc` returned it for this layout, with the old head in it.
     unsafe { Tried::of(start, wanted) }
@@ -833,7 +839,7 @@ unsafe extern "C" fn rattle_realloc(
 unsafe extern "C" fn rattle_dealloc(block: *mut u8) {
     // SAFETY: the block was returned here, and was not freed.
     let (start, had) = unsafe { memory_of(block) };
-    // SAFETY: this memory was had by that layout.
+    // SAFETY: this memory was allocated with that layout.
     unsafe { dealloc(start, had) };
 }
 

@@ -22,12 +22,14 @@ impl Handle {
         self.read_payload(bytes, settings.parameters()).map(image).map_err(error_of)
     }
 
-    /// Closes the open image, and gives it.
+    /// Closes the open image, and returns it.
     pub(crate) fn finish(&mut self) -> Result<SixelImage> {
         self.close().map(image).map_err(error_of)
     }
 
-    /// Closes the open image, and gives its picture up to the first fault, and that fault.
+    /// Closes the open image, and returns its picture up to the first fault.
+    ///
+    /// That fault is beside it.
     pub(crate) fn finish_partial(&mut self) -> Result<PartialImage> {
         let (picture, fault) = self.close_partial().map_err(error_of)?;
         let error = (fault != OK).then(|| error_of(fault));

@@ -1,10 +1,10 @@
-//! The palette of an image, with a certificate that no palette of its size is much better.
+//! The palette of an image, and a certificate that no palette is much better.
 
 use crate::codes::error_of;
 use crate::error::{Result, SixelError};
 use crate::ffi::{self, Color};
 
-/// A palette, the entry of each pixel, and a certificate of how good the palette is.
+/// A palette, each pixel's palette index, and a certificate of the palette's error.
 #[derive(Clone, Debug, PartialEq, Eq)]
 pub struct PaletteChoice {
     /// The entries: red, green, blue.
@@ -96,8 +96,8 @@ pub struct RefinedPalette {
 ///
 /// Only opaque pixels count. There are at most `max_colors` entries, 1 to 256, each a color that a
 /// register shows. If the opaque pixels have at most `max_colors` colors, each has its entry,
-/// rounded to percentages. Otherwise the summed squared error is small, and the last entries are chosen
-/// farthest first.
+/// rounded to percentages. Otherwise the summed squared error is small, and the last entries are
+/// chosen farthest first.
 ///
 /// # Errors
 ///
@@ -132,10 +132,10 @@ fn validate_pixels(pixels: &[u8]) -> Result<()> {
     Err(SixelError::BufferSizeMismatch { expected, actual })
 }
 
-/// Returns whether every two colors of the list have a squared distance of at least `error`.
+/// Returns whether every two witnesses have a squared distance of at least `error`.
 ///
-/// If so, whatever list of fewer colors one takes, some witness has to each of them a squared
-/// distance whose fourfold is at least `error`.
+/// If so, take any list of fewer colors: some witness has a squared distance of at least a fourth
+/// of `error` to each of them.
 #[must_use]
 pub fn witnesses_hold(witnesses: &[[u8; 3]], error: u32) -> bool {
     let is_apart = |(place, color): (usize, &[u8; 3])| {

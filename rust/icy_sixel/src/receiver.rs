@@ -93,7 +93,7 @@ impl SixelReceiver {
         self.open != Open::Nothing
     }
 
-    /// Begins a payload with the decoder's current registers, crop and limit.
+    /// Begins a payload with the decoder's current registers and settings.
     ///
     /// An open image is aborted. The call does not allocate.
     pub fn begin_frame(&mut self, settings: DcsSettings) {
@@ -105,7 +105,7 @@ impl SixelReceiver {
         self.open = Open::Payload;
     }
 
-    /// Begins a DCS sequence with the decoder's current registers, crop and limit.
+    /// Begins a DCS sequence with the decoder's current registers and settings.
     ///
     /// An open image is aborted. The call does not allocate.
     pub fn begin_dcs(&mut self) {
@@ -117,9 +117,8 @@ impl SixelReceiver {
     ///
     /// # Errors
     ///
-    /// Those of the sessions, by [`SixelStreamDecoder::feed`] and [`SixelDcsStreamDecoder::feed`]:
-    /// the error stays until another image is begun. If no image is open, it is `InvalidData` with
-    /// `stream decoder has failed`.
+    /// Those of [`SixelStreamDecoder::feed`] and [`SixelDcsStreamDecoder::feed`]. If no image is
+    /// open, it is `InvalidData` with `stream decoder has failed`.
     ///
     /// [`SixelStreamDecoder::feed`]: crate::SixelStreamDecoder::feed
     /// [`SixelDcsStreamDecoder::feed`]: crate::SixelDcsStreamDecoder::feed
@@ -155,32 +154,36 @@ impl SixelReceiver {
         self.open = Open::Nothing;
     }
 
-    /// How many columns of six pixels sixels have painted so far, at most, as of the sessions; 0
-    /// if no image is open. It does not allocate.
+    /// Returns an upper bound of the columns of six pixels that were painted so far.
+    ///
+    /// It is that of the sessions, and 0 if no image is open. The call does not allocate.
     #[must_use]
     pub fn canvas_paints(&self) -> u64 {
         self.decoder.shared().canvas_paints()
     }
 
-    /// Whether the payload of the open image has begun: at once where a payload is
-    /// received, and after the header of a DCS sequence.
+    /// Whether the payload of the open image has begun and no feed has failed.
     ///
-    /// `false` after an error, and if no image is open.
+    /// A payload has begun at once, and that of a DCS sequence after its header. It is `false` if
+    /// no image is open.
     #[must_use]
     pub fn in_payload(&self) -> bool {
         self.decoder.shared().in_payload()
     }
 
-    /// The width and the height that the image has so far, as of a payload session, by
-    /// [`size_so_far`](crate::SixelStreamDecoder::size_so_far). `None` before the payload, after an
-    /// error, and if no image is open. It does not allocate.
+    /// Returns the width and the height of the image so far, as a payload session does.
+    ///
+    /// It is `None` before the payload, after an error, and if no image is open. The call does not
+    /// allocate. The size is that of [`size_so_far`](crate::SixelStreamDecoder::size_so_far).
     #[must_use]
     pub fn size_so_far(&self) -> Option<(usize, usize)> {
         self.decoder.size_so_far()
     }
 
-    /// The last row of the open image with a set pixel, plus one, as of a payload session, by
-    /// [`drawn_height`](crate::SixelStreamDecoder::drawn_height). 0 if no image is open.
+    /// Returns the last row with a set pixel, plus one, or 0 if there is none.
+    ///
+    /// It does what [`drawn_height`](crate::SixelStreamDecoder::drawn_height) of a payload session
+    /// does, and returns 0 if no image is open.
     #[must_use]
     pub fn drawn_height(&self) -> usize {
         self.decoder.shared().drawn_height()
@@ -199,7 +202,7 @@ impl SixelReceiver {
         self.decoder.shared().rows_so_far()
     }
 
-    /// The color of a register of the decoder: red, green and blue, a byte each.
+    /// Returns the color of a register: red, green and blue, a byte each.
     #[must_use]
     pub fn register(&self, register: u8) -> [u8; 3] {
         self.decoder.register(register)
@@ -207,8 +210,8 @@ impl SixelReceiver {
 
     /// Sets the color of a register of the decoder: red, green and blue, a byte each.
     ///
-    /// An open image keeps the registers that it began from, and its [`finish`](Self::finish)
-    /// stores its own.
+    /// An open image keeps the registers that it began with, and [`finish`](Self::finish) stores
+    /// its own.
     pub fn set_register(&mut self, register: u8, color: [u8; 3]) {
         self.decoder.set_register(register, color);
     }
@@ -222,36 +225,38 @@ impl SixelReceiver {
     /// Sets the colors of the decoder's registers from `first` on.
     ///
     /// It does what [`SixelDecoder::set_registers`] does. An open image keeps the registers that it
-    /// began from, and its [`finish`](Self::finish) stores its own.
+    /// began with, and [`finish`](Self::finish) stores its own.
     pub fn set_registers(&mut self, first: u8, colors: &[[u8; 3]]) {
         self.decoder.set_registers(first, colors);
     }
 
     /// Resets the decoder's registers to those of a new one.
     ///
-    /// An open image goes on with those that it began from, and leaves its own when it is
-    /// finished.
+    /// An open image keeps the registers that it began with, and [`finish`](Self::finish) stores
+    /// its own.
     pub fn reset_palette(&mut self) {
         self.decoder.reset_palette();
     }
 
-    /// Sets whether the decoder crops images, as [`SixelDecoder::set_raster_crop`] does.
+    /// Sets whether images are cropped, as [`SixelDecoder::set_raster_crop`] does.
     ///
-    /// An open image goes on as it began.
+    /// An open image keeps the crop that it began with.
     pub fn set_raster_crop(&mut self, on: bool) {
         self.decoder.set_raster_crop(on);
     }
 
-    /// Sets how many pixels an image may have, as [`SixelDecoder::set_pixel_limit`] does.
+    /// Sets how many pixels an image can have.
     ///
-    /// An open image goes on as it began.
+    /// It does what [`SixelDecoder::set_pixel_limit`] does. An open image keeps the limit that it
+    /// began with.
     pub fn set_pixel_limit(&mut self, pixels: usize) {
         self.decoder.set_pixel_limit(pixels);
     }
 
-    /// Sets the columns and rows that an image may have, as [`SixelDecoder::set_clip`] does.
+    /// Sets how many columns from the left and rows from the top an image can have.
     ///
-    /// An open image keeps the clip that it began with.
+    /// It does what [`SixelDecoder::set_clip`] does. An open image keeps the clip that it began
+    /// with.
     pub fn set_clip(&mut self, width: usize, height: usize) {
         self.decoder.set_clip(width, height);
     }

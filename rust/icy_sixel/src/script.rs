@@ -1,12 +1,12 @@
-//! How an image stands, of either form.
+//! The status of an image, a payload or a DCS sequence.
 
 use crate::status::{SixelDcsFeedStatus, SixelFeedStatus};
 
 /// The status of a payload or of a DCS sequence.
 #[derive(Clone, Copy, Debug, PartialEq, Eq)]
 pub enum Status {
-    /// That of a payload.
+    /// The status of a payload.
     Payload(SixelFeedStatus),
-    /// That of a DCS sequence.
+    /// The status of a DCS sequence.
     Dcs(SixelDcsFeedStatus),
 }

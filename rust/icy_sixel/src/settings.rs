@@ -1,8 +1,8 @@
-//! What a DCS sequence says of its image before the data: background, pixel shape, grid.
+//! The parameters of a DCS sequence before its data: background, pixel shape, grid.
 
 use crate::ffi::Parameters;
 
-/// What a pixel that no sixel covers looks like, as parameter P2 of a DCS sequence says.
+/// The background, as parameter P2 of a DCS sequence selects it.
 #[derive(Debug, Clone, Copy, PartialEq, Eq, Default)]
 pub enum BackgroundMode {
     /// It has the color that register 0 had when the image began.
@@ -13,7 +13,7 @@ pub enum BackgroundMode {
 }
 
 impl BackgroundMode {
-    /// The mode that P2 asks for: 1 is transparent, any other value opaque.
+    /// Returns the mode that P2 selects: 1 is transparent, any other value opaque.
     #[must_use]
     pub fn from_p2(p2: u16) -> Self {
         match p2 {
@@ -22,7 +22,7 @@ impl BackgroundMode {
         }
     }
 
-    /// A P2 that asks for this mode.
+    /// Returns a P2 that selects this mode.
     #[must_use]
     pub fn to_p2_value(self) -> u8 {
         match self {
@@ -38,7 +38,7 @@ impl BackgroundMode {
     }
 }
 
-/// How many times as high as wide a pixel is, as parameter P1 of a DCS sequence says.
+/// The pixel aspect ratio, as parameter P1 of a DCS sequence selects it.
 #[derive(Debug, Clone, Copy, PartialEq, Eq, Default)]
 pub enum PixelAspectRatio {
     /// Five times as high as wide.
@@ -53,7 +53,7 @@ pub enum PixelAspectRatio {
 }
 
 impl PixelAspectRatio {
-    /// The shape that P1 asks for: DEC's table up to 9, and square for any greater value.
+    /// Returns the shape that P1 selects: DEC's table up to 9, square above.
     #[must_use]
     pub fn from_p1(p1: u16) -> Self {
         match p1 {
@@ -64,7 +64,7 @@ impl PixelAspectRatio {
         }
     }
 
-    /// A P1 that asks for this shape.
+    /// Returns a P1 that selects this shape.
     #[must_use]
     pub fn to_p1_value(self) -> u8 {
         match self {
@@ -103,7 +103,7 @@ impl PixelAspectRatio {
     }
 }
 
-/// The parameters P1 to P3, which stand between a DCS sequence's introducer and its `q`.
+/// The parameters P1 to P3, between the introducer of a DCS sequence and its `q`.
 ///
 /// Each may be left out, and by default all are. An image is then opaque and its pixels square.
 #[derive(Debug, Clone, Copy, PartialEq, Eq, Default)]
@@ -114,25 +114,25 @@ pub struct DcsSettings {
 }
 
 impl DcsSettings {
-    /// The settings with these values of P1 (pixel shape), P2 (background) and P3 (grid size).
+    /// Creates settings with a P1 (pixel shape), a P2 (background) and a P3 (grid size).
     #[must_use]
     pub fn new(aspect_ratio: Option<u16>, zero_color: Option<u16>, grid_size: Option<u16>) -> Self {
         Self { aspect_ratio, zero_color, grid_size }
     }
 
-    /// These settings with the P1 of this shape.
+    /// Returns these settings with the P1 of this shape.
     #[must_use]
     pub fn with_pixel_aspect_ratio(self, ratio: PixelAspectRatio) -> Self {
         Self { aspect_ratio: Some(u16::from(ratio.to_p1_value())), ..self }
     }
 
-    /// These settings with the P2 of this mode.
+    /// Returns these settings with the P2 of this mode.
     #[must_use]
     pub fn with_background_mode(self, mode: BackgroundMode) -> Self {
         Self { zero_color: Some(u16::from(mode.to_p2_value())), ..self }
     }
 
-    /// These settings with this P3, which is kept and changes no image.
+    /// Returns these settings with this P3, which changes no image.
     #[must_use]
     pub fn with_grid_size(self, grid_size: u16) -> Self {
         Self { grid_size: Some(grid_size), ..self }
@@ -143,13 +143,13 @@ impl DcsSettings {
         [self.aspect_ratio, self.zero_color, self.grid_size].map(|p| p.map_or(-1, i32::from))
     }
 
-    /// The background of an image with these settings: transparent exactly where P2 is 1.
+    /// Returns the background with these settings: transparent only if P2 is 1.
     #[must_use]
     pub fn background_mode(self) -> BackgroundMode {
         self.zero_color.map_or(BackgroundMode::Opaque, BackgroundMode::from_p2)
     }
 
-    /// The pixel shape that P1 asks for, square without a P1.
+    /// Returns the pixel shape that P1 selects, square without a P1.
     #[must_use]
     pub fn pixel_aspect_ratio(self) -> PixelAspectRatio {
         self.aspect_ratio.map_or(PixelAspectRatio::Square, PixelAspectRatio::from_p1)

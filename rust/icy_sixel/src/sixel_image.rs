@@ -10,8 +10,9 @@ use crate::size::{pixel_bytes, validate_buffer};
 use std::fmt;
 use std::str::FromStr;
 
-/// An image: four bytes a pixel (red, green, blue, alpha), row by row from the top, each row from
-/// the left.
+/// An image of four bytes a pixel: red, green, blue, alpha.
+///
+/// The pixels are stored row by row from the top, each row from the left.
 #[derive(Clone, Debug, PartialEq, Eq)]
 pub struct SixelImage {
     /// The pixels, `4 * width * height` bytes.
@@ -22,13 +23,14 @@ pub struct SixelImage {
     pub height: usize,
     /// The shape of a pixel.
     pub aspect_ratio: PixelAspectRatio,
-    /// What stands where nothing was drawn.
+    /// Whether pixels that were not drawn are opaque or transparent.
     pub background_mode: BackgroundMode,
 }
 
 impl SixelImage {
-    /// Decodes the first DCS sequence in the bytes, or all of them as a payload if there is none,
-    /// as [`SixelDecoder::decode`](crate::SixelDecoder::decode) of a new decoder does.
+    /// Decodes the first DCS sequence in the bytes, or all of them as a payload.
+    ///
+    /// It does what [`SixelDecoder::decode`](crate::SixelDecoder::decode) of a new decoder does.
     ///
     /// ```
     /// use icy_sixel::SixelImage;
@@ -42,23 +44,25 @@ impl SixelImage {
     ///
     /// # Errors
     ///
-    /// As of [`SixelDecoder::decode`](crate::SixelDecoder::decode).
+    /// Those of [`SixelDecoder::decode`](crate::SixelDecoder::decode).
     pub fn decode(bytes: &[u8]) -> Result<Self> {
         Handle::new().map_err(error_of)?.decode(bytes)
     }
 
-    /// Decodes one payload, as
-    /// [`SixelDecoder::decode_from_dcs`](crate::SixelDecoder::decode_from_dcs) of a new decoder does.
+    /// Decodes one payload, as [`SixelDecoder::decode_from_dcs`] of a new decoder does.
     ///
     /// # Errors
     ///
-    /// As of [`SixelDecoder::decode_from_dcs`](crate::SixelDecoder::decode_from_dcs).
+    /// Those of [`SixelDecoder::decode_from_dcs`].
+    ///
+    /// [`SixelDecoder::decode_from_dcs`]: crate::SixelDecoder::decode_from_dcs
     pub fn decode_from_dcs(bytes: &[u8], settings: DcsSettings) -> Result<Self> {
         Handle::new().map_err(error_of)?.decode_payload(bytes, settings)
     }
 
-    /// An image of these pixels, with square pixels and a transparent background. Nothing is
-    /// checked.
+    /// Creates an image with square pixels and a transparent background.
+    ///
+    /// Sizes and number of bytes are not checked.
     #[must_use]
     pub fn from_rgba(pixels: Vec<u8>, width: usize, height: usize) -> Self {
         Self {
@@ -70,8 +74,7 @@ impl SixelImage {
         }
     }
 
-    /// As [`from_rgba`](Self::from_rgba), for sizes that are not zero and can be counted in bytes,
-    /// and as many bytes.
+    /// Creates an image as [`from_rgba`](Self::from_rgba), if the sizes are valid.
     ///
     /// # Errors
     ///
@@ -82,19 +85,19 @@ impl SixelImage {
         Ok(Self::from_rgba(pixels, width, height))
     }
 
-    /// This image with another pixel shape.
+    /// Returns this image with another pixel shape.
     #[must_use]
     pub fn with_aspect_ratio(self, ratio: PixelAspectRatio) -> Self {
         Self { aspect_ratio: ratio, ..self }
     }
 
-    /// This image with another background.
+    /// Returns this image with another background.
     #[must_use]
     pub fn with_background_mode(self, mode: BackgroundMode) -> Self {
         Self { background_mode: mode, ..self }
     }
 
-    /// Width and height in pixels.
+    /// Returns width and height in pixels.
     #[must_use]
     pub fn dimensions(&self) -> (usize, usize) {
         (self.width, self.height)
@@ -115,11 +118,11 @@ impl SixelImage {
         self.pixels.chunks_exact(4).any(|pixel| pixel[3] < 128)
     }
 
-    /// The SIXEL text of this image with the default options.
+    /// Returns the SIXEL output of this image with the default options.
     ///
     /// # Errors
     ///
-    /// As of [`encode_with`](Self::encode_with).
+    /// Those of [`encode_with`](Self::encode_with).
     pub fn encode(&self) -> Result<String> {
         self.encode_with(&EncodeOptions::default())
     }
@@ -154,7 +157,7 @@ impl SixelImage {
     ///
     /// # Errors
     ///
-    /// As of [`encode_with`](Self::encode_with).
+    /// Those of [`encode_with`](Self::encode_with).
     pub fn encode_compact(&self, options: &EncodeOptions) -> Result<String> {
         encode_in(self, Colors::Chosen(options.max_colors), Dither::Off, TextForm::Compact)
     }
@@ -189,17 +192,18 @@ impl SixelImage {
         encode_in(self, Colors::Given(colors), dither, form)
     }
 
-    /// Returns the SIXEL output of this image in a given palette by given palette indices.
+    /// Returns the SIXEL output of this image by given palette indices.
     ///
-    /// There is an index for each pixel, row by row. Those of transparent pixels have no effect, as
-    /// the colors of all pixels have none.
+    /// There is an index for each pixel, row by row. The indices of transparent pixels have no
+    /// effect, and neither have the colors of pixels.
     ///
     /// # Errors
     ///
-    /// Those of [`encode_with_palette`](Self::encode_with_palette). Then `BufferSizeMismatch` for
-    /// another number of indices than there are pixels, and
-    /// `InvalidData("palette index out of range")` for an opaque pixel whose index is past the
-    /// palette.
+    /// Those of [`encode_with_palette`](Self::encode_with_palette), then:
+    ///
+    /// - `BufferSizeMismatch` for another number of indices than there are pixels
+    /// - `InvalidData("palette index out of range")` for an opaque pixel whose index is past the
+    ///   palette
     pub fn encode_indexed(
         &self,
         colors: &[[u8; 3]],
@@ -238,7 +242,7 @@ impl SixelImage {
     }
 }
 
-/// The text of [`encode`](SixelImage::encode), or a line that says why there is none.
+/// Writes the output of [`encode`](SixelImage::encode), or a line with its error.
 impl fmt::Display for SixelImage {
     fn fmt(&self, f: &mut fmt::Formatter<'_>) -> fmt::Result {
         match self.encode() {
@@ -248,7 +252,7 @@ impl fmt::Display for SixelImage {
     }
 }
 
-/// As [`decode`](SixelImage::decode) of a text's bytes.
+/// Decodes the bytes of a text, as [`decode`](SixelImage::decode) does.
 impl FromStr for SixelImage {
     type Err = SixelError;
 

@@ -2,10 +2,10 @@
 
 use crate::error::{Result, SixelError};
 
-/// The greatest width and height of a text's image, the latter with its last band filled up.
+/// The greatest width of an encoded image, and its greatest height in whole bands.
 const MAX_SIDE: usize = 1_000_000;
 
-/// The greatest area of a text's image, in pixels, likewise.
+/// The greatest area of an encoded image in whole bands, in pixels.
 const MAX_AREA: usize = 67_108_864;
 
 /// How many bytes the pixels of an image of this size have.
@@ -26,14 +26,16 @@ pub(crate) fn validate_buffer(expected: usize, actual: usize) -> Result<()> {
     }
 }
 
-/// Whether an image of this size can be encoded.
+/// Returns an error unless an image of this size can be encoded.
 ///
 /// # Errors
 ///
-/// A zero size is [`InvalidDimensions`](SixelError::InvalidDimensions), more bytes of pixels than
-/// `usize::MAX` are [`IntegerOverflow`](SixelError::IntegerOverflow), and a side above 1,000,000 or
-/// an area above 67,108,864 is `InvalidDimensions`, where the height is rounded up to whole bands
-/// of six rows.
+/// In this order:
+///
+/// - [`InvalidDimensions`](SixelError::InvalidDimensions) for a zero size
+/// - [`IntegerOverflow`](SixelError::IntegerOverflow) for more bytes of pixels than `usize::MAX`
+/// - `InvalidDimensions` for a side above 1,000,000 or an area above 67,108,864, where the height
+///   is rounded up to whole bands of six rows
 pub fn validate_encode_dimensions(width: usize, height: usize) -> Result<()> {
     pixel_bytes(width, height)?;
     let banded = height.div_ceil(6).saturating_mul(6);
@@ -48,7 +50,7 @@ mod tests {
     use crate::codes::{BAD_DIMENSIONS, BUFFER_MISMATCH, OVERFLOW};
     use crate::ffi::{Handle, Source};
 
-    /// What the library says of a size, where it has no pixels: that these are missing, if it fits.
+    /// What the library returns for a size without pixels: a mismatch, if the size is valid.
     fn of_the_library(handle: &mut Handle, width: usize, height: usize) -> Result<()> {
         let pixels = &[];
         let source = Source { pixels, width, height, p1: 9, p2: 1, max_colors: 2 };

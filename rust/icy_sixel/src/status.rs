@@ -13,7 +13,7 @@ pub enum SixelFeedStatus {
 #[derive(Clone, Copy, Debug, PartialEq, Eq)]
 #[must_use = "it says how many bytes belong to the image, and whether it has ended"]
 pub struct SixelFeedResult {
-    /// How many bytes of the chunk are the payload's own.
+    /// How many bytes of the chunk belong to the payload.
     pub consumed: usize,
     /// What the caller does next.
     pub status: SixelFeedStatus,
@@ -24,12 +24,14 @@ pub struct SixelFeedResult {
 pub enum SixelDcsFeedStatus {
     /// Every byte was consumed: feed the next ones.
     NeedMoreData,
-    /// The string terminator came and was consumed: finish.
+    /// The string terminator was consumed: finish.
     Complete,
-    /// CAN or SUB, this byte, cut the string short and was consumed: finish or abort.
+    /// CAN or SUB, this byte, cancelled the sequence and was consumed: finish or abort.
     Cancelled(u8),
-    /// The string was cut short: by a C1 control, this byte, which is left to the caller, or by ESC
-    /// (consumed) before another byte than `\` (left to the caller). Finish or abort.
+    /// Another control, this byte, interrupted the sequence: finish or abort.
+    ///
+    /// A C1 control is left to the caller. An ESC before another byte than `\` was consumed, and
+    /// that byte is left to the caller.
     Interrupted(u8),
 }
 
@@ -37,7 +39,7 @@ pub enum SixelDcsFeedStatus {
 #[derive(Clone, Copy, Debug, PartialEq, Eq)]
 #[must_use = "it says how many bytes belong to the image, and whether it has ended"]
 pub struct SixelDcsFeedResult {
-    /// How many bytes of the chunk are the DCS sequence's own.
+    /// How many bytes of the chunk belong to the DCS sequence.
     pub consumed: usize,
     /// What the caller does next.
     pub status: SixelDcsFeedStatus,

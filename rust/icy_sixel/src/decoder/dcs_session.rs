@@ -32,23 +32,25 @@ impl<'a> SixelDcsStreamDecoder<'a> {
 
     /// Reads a chunk up to the DCS sequence's end; what follows is left to the caller.
     ///
-    /// A chunk may end anywhere, also between ESC and the byte after it: how the string is cut has
-    /// no effect on what it means. After its end each later feed consumes nothing and gives the
-    /// same status.
+    /// A chunk may end anywhere, also between ESC and the byte after it. Chunk boundaries have no
+    /// effect. After the end of the sequence a feed consumes nothing and returns the same status.
     ///
     /// # Errors
     ///
-    /// [`NoSixelData`](crate::SixelError::NoSixelData) for another beginning than an introducer,
-    /// [`InvalidData`](crate::SixelError::InvalidData) for a faulty header, and for the payload the
-    /// errors of [`decode_from_dcs`](SixelDecoder::decode_from_dcs); after an error each later
-    /// feed returns `InvalidData` with `DCS stream decoder has failed`.
+    /// - [`NoSixelData`](crate::SixelError::NoSixelData) if the sequence does not begin with an
+    ///   introducer
+    /// - [`InvalidData`](crate::SixelError::InvalidData) for an invalid header
+    /// - those of [`decode_from_dcs`](SixelDecoder::decode_from_dcs) for the payload
+    /// - after an error `InvalidData` with `DCS stream decoder has failed`
     pub fn feed(&mut self, chunk: &[u8]) -> Result<SixelDcsFeedResult> {
         let fed = self.owner.handle().feed(chunk).map_err(error_of)?;
         Ok(SixelDcsFeedResult { consumed: fed.consumed, status: string_status(fed) })
     }
 
-    /// How many columns sixels have painted so far, at most, as of a payload session, by
-    /// [`canvas_paints`](crate::SixelStreamDecoder::canvas_paints). 0 before the payload.
+    /// Returns an upper bound of the columns that sixels have painted so far.
+    ///
+    /// It does what [`canvas_paints`](crate::SixelStreamDecoder::canvas_paints) of a payload
+    /// session does, and returns 0 before the payload.
     #[must_use]
     pub fn canvas_paints(&self) -> u64 {
         self.owner.shared().canvas_paints()
@@ -63,34 +65,41 @@ impl<'a> SixelDcsStreamDecoder<'a> {
         self.owner.shared().in_payload()
     }
 
-    /// The width and the height that the image has so far, as of a payload session, by
-    /// [`size_so_far`](crate::SixelStreamDecoder::size_so_far). `None` before the payload and after
-    /// an error. It does not allocate.
+    /// Returns the width and the height of the image so far, as a payload session does.
+    ///
+    /// It is `None` before the payload and after an error. The call does not allocate. The size is
+    /// that of [`size_so_far`](crate::SixelStreamDecoder::size_so_far).
     #[must_use]
     pub fn size_so_far(&self) -> Option<(usize, usize)> {
         self.owner.size_so_far()
     }
 
-    /// The last row with a set pixel, plus one, as of a payload session, by
-    /// [`drawn_height`](crate::SixelStreamDecoder::drawn_height). 0 before the payload.
+    /// Returns the last row with a set pixel, plus one, or 0 if there is none.
+    ///
+    /// It does what [`drawn_height`](crate::SixelStreamDecoder::drawn_height) of a payload session
+    /// does, and returns 0 before the payload.
     #[must_use]
     pub fn drawn_height(&self) -> usize {
         self.owner.shared().drawn_height()
     }
 
-    /// Gives the image of a DCS sequence that has ended, and then gives the decoder the registers
-    /// that its payload defined. A string that was cut short has the image of what came.
+    /// Returns the image of a sequence that has ended, and stores its registers.
+    ///
+    /// A sequence that was cancelled or interrupted has the image of its payload so far.
     ///
     /// # Errors
     ///
-    /// [`InvalidData`](crate::SixelError::InvalidData) before the end, with
-    /// `incomplete SIXEL DCS sequence`, and after a failed feed; `OutOfMemory`. The decoder is
-    /// then unchanged.
+    /// They leave the decoder unchanged:
+    ///
+    /// - [`InvalidData`](crate::SixelError::InvalidData) with `incomplete SIXEL DCS sequence` if
+    ///   the sequence has not ended
+    /// - `InvalidData` with `DCS stream decoder has failed` after a failed feed
+    /// - `OutOfMemory` if an allocation fails
     pub fn finish(self) -> Result<SixelImage> {
         self.owner.handle().finish()
     }
 
-    /// Ends the session, and changes nothing, as dropping it does.
+    /// Ends the session without changing the decoder, as dropping it does.
     pub fn abort(self) {
         drop(self);
     }

@@ -25,32 +25,32 @@ impl<'a> SixelStreamDecoder<'a> {
 
     /// Reads a chunk up to its first terminator, which is left to the caller.
     ///
-    /// A chunk may end anywhere, also within a number: how the payload is cut has no effect on what
-    /// it means. After a terminator each later feed consumes nothing and gives the same status.
+    /// A chunk may end anywhere, also within a number. Chunk boundaries have no effect. After a
+    /// terminator a feed consumes nothing and returns the same status.
     ///
     /// # Errors
     ///
-    /// A chunk fails as soon as the bytes so far are invalid, for the same reasons as
-    /// [`decode_from_dcs`](SixelDecoder::decode_from_dcs); after an error each later feed returns
+    /// Those of [`decode_from_dcs`](SixelDecoder::decode_from_dcs), as soon as the bytes so far are
+    /// invalid. After an error each later feed returns
     /// [`InvalidData`](crate::SixelError::InvalidData) with `stream decoder has failed`.
     pub fn feed(&mut self, chunk: &[u8]) -> Result<SixelFeedResult> {
         let fed = self.owner.handle().feed(chunk).map_err(error_of)?;
         Ok(SixelFeedResult { consumed: fed.consumed, status: payload_status(fed) })
     }
 
-    /// How many columns of six pixels sixels have painted so far, at most; 0 after an error. It does
-    /// not allocate.
+    /// Returns an upper bound of the columns of six pixels that were painted so far.
     ///
-    /// It is at most the right edges of all bands together, and 1151 for each sixel.
+    /// It is at most the right edges of all bands together, and 1151 for each sixel. It is 0 after
+    /// an error. The call does not allocate.
     #[must_use]
     pub fn canvas_paints(&self) -> u64 {
         self.owner.shared().canvas_paints()
     }
 
-    /// The width and the height that the image has so far: of the closed sixels and raster
-    /// attributes, at least 1 each. `None` after an error. It does not allocate.
+    /// Returns the width and the height of the image so far, unless a feed has failed.
     ///
-    /// The image of the whole payload is at least as large, where it is not cropped.
+    /// They are the extent of the closed sixels and raster attributes, at least 1 each. The image
+    /// of the whole payload is at least as large, unless it is cropped. The call does not allocate.
     #[must_use]
     pub fn size_so_far(&self) -> Option<(usize, usize)> {
         self.owner.size_so_far()
@@ -66,18 +66,18 @@ impl<'a> SixelStreamDecoder<'a> {
         self.owner.shared().drawn_height()
     }
 
-    /// Ends the payload, gives its image, and then gives the decoder the registers that it defined.
+    /// Ends the payload, returns its image, and stores its registers in the decoder.
     ///
-    /// It need not have met a terminator; an open command then ends here, and may fail.
+    /// A payload needs no terminator. An open command is closed, and can fail.
     ///
     /// # Errors
     ///
-    /// Those of [`feed`](Self::feed), and `OutOfMemory`; the decoder is then unchanged.
+    /// Those of [`feed`](Self::feed), and `OutOfMemory`. They leave the decoder unchanged.
     pub fn finish(self) -> Result<SixelImage> {
         self.owner.handle().finish()
     }
 
-    /// Ends the session, and changes nothing, as dropping it does.
+    /// Ends the session without changing the decoder, as dropping it does.
     pub fn abort(self) {
         drop(self);
     }
@@ -89,7 +89,7 @@ impl Drop for SixelStreamDecoder<'_> {
     }
 }
 
-/// How a payload stands.
+/// The status of a payload.
 pub(crate) fn payload_status(fed: Fed) -> SixelFeedStatus {
     match fed.status {
         MORE => SixelFeedStatus::NeedMoreData,

@@ -1,4 +1,4 @@
-//! Rows of an open image in a caller's memory, in a stride and an order of the caller.
+//! Rows of an open image, copied to a caller's memory in its own layout.
 
 use super::{Open, Received, SixelReceiver};
 use crate::codes::{BAD_STRIDE, BUFFER_TOO_SMALL, NO_SESSION, ROWS_NOT_FINAL};
@@ -151,7 +151,7 @@ impl RowLayout {
         BufferLayout { stride: self.stride.max(1), columns: self.columns, order }
     }
 
-    /// The error of a code, where the rows take `expected` bytes of memory that has `actual`.
+    /// The error of a code, for rows of `expected` bytes and memory of `actual` bytes.
     fn error(self, code: u32, expected: usize, actual: usize) -> SixelError {
         match code {
             BUFFER_TOO_SMALL => SixelError::BufferSizeMismatch { expected, actual },
