@@ -1,5 +1,5 @@
 -- The words of a header, and the numbers that they spell. Blanks and comments are those of netpbm's
--- pages ppm(5) and pam(5). A comment counts as its line end, so none is inside of a word.
+-- pages ppm(5) and pam(5). A comment counts as its line end. So no comment is inside of a word.
 use Rattle.std.specs.Prelude.{ℕ, ◌+◌, ◌-◌, ◌*◌, ◌^◌, ◌==◌, ◌||◌, ◌&&◌, nat_lt, nat_le, Bool, true}
 use Rattle.std.specs.Prelude.{false, if◌then◌else◌, List, [], ◌∷◌, Option, None, Some}
 use Rattle.std.specs.Prelude.{option_and_then}

@@ -38,7 +38,9 @@ pub fn read_header(bytes: &[u8]) -> Result<(Header, &[u8]), NetpbmError>
     }
 }
 
-/// The header of a PPM or a PGM file after its magic number, and the bytes after it.
+/// Reads the header of a PPM or a PGM file after its magic number.
+///
+/// It returns the bytes after the header too.
 fn read_pnm(bytes: &[u8], depth: usize) -> Result<(Header, &[u8]), NetpbmError>
     requires { depth ≤ 4 }
     ensures read { MatchResult result
