@@ -1,4 +1,4 @@
-/* Draws an image on standard input while it comes, to the memory of a window. */
+/* Draws an image on standard input, band by band, to the memory of a window. */
 #include "icysixel.h"
 #include <stdio.h>
 

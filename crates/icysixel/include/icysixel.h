@@ -191,8 +191,8 @@ enum icysixel_status {
 
 /* -- Handles -- */
 
-/* Creates a decoder with default registers, no crop and a limit of 67,108,864 pixels. Whatever the
- * handle contained is freed first. With ICYSIXEL_OUT_OF_MEMORY the handle is empty. */
+/* Creates a decoder with default registers, no crop, no clip and a limit of 67,108,864 pixels. What
+ * the handle contained is freed first. With ICYSIXEL_OUT_OF_MEMORY the handle is empty. */
 uint32_t icysixel_new(icysixel *handle);
 
 /* Frees the decoder and all that it stores, and empties the handle. */
@@ -201,12 +201,12 @@ void icysixel_free(icysixel *handle);
 /* -- Streaming -- */
 
 /* Opens a DCS sequence, from its introducer to its terminator. It starts with the decoder's current
- * registers, crop and limit. An open image is aborted. */
+ * registers, crop, limit and clip. An open image is aborted. */
 uint32_t icysixel_begin(icysixel *handle);
 
 /* Opens a payload: the data between the `q` and the terminator of a DCS sequence. p1, p2 and grid
- * are the parameters before the `q`. A number outside of 0 to 65535, as -1, means that the
- * parameter is absent. An open image is aborted. */
+ * are the parameters P1, P2 and P3 before the `q`. P3 has no effect. A number outside of 0 to
+ * 65535, such as -1, means that the parameter is absent. An open image is aborted. */
 uint32_t icysixel_begin_payload(icysixel *handle, int32_t p1, int32_t p2, int32_t grid);
 
 /* Reads a chunk of the open image. A chunk can end anywhere, and chunk boundaries have no effect on
@@ -245,9 +245,9 @@ size_t icysixel_get_drawn_height(icysixel *handle);
  * image is open. It does not allocate. */
 size_t icysixel_get_rows_so_far(icysixel *handle);
 
-/* Returns how many columns of six pixels the sixels of the open image have painted so far, at most.
- * It is 0 if no image is open, and after an error. It is at most the right edges of all bands of six
- * rows together, and 1151 for each sixel. */
+/* Returns an upper bound of the columns of six pixels that sixels of the open image have painted so
+ * far. It is 0 if no image is open, and after an error. It is at most the right edges of all bands
+ * of six rows together, and 1151 for each sixel. */
 uint64_t icysixel_get_canvas_paints(icysixel *handle);
 
 /* Copies `rows` final rows of the open image, from row `first` on, to `buf`. The first of them
@@ -353,8 +353,8 @@ uint32_t icysixel_get_register(icysixel *handle, uint8_t number, icysixel_color 
 uint32_t icysixel_set_register(icysixel *handle, uint8_t number, uint8_t red, uint8_t green,
                                uint8_t blue);
 
-/* Writes the colors of the registers from `first` on to `colors`, which has `count` of them. All 256
- * are icysixel_get_registers(&handle, 0, colors, 256). After register 255 it stops. */
+/* Writes the colors of the registers from `first` on to `colors`, which has `count` of them. It
+ * stops after register 255. icysixel_get_registers(&handle, 0, colors, 256) writes all. */
 uint32_t icysixel_get_registers(icysixel *handle, uint8_t first, icysixel_color *colors,
                                 size_t count);
 
@@ -443,7 +443,7 @@ uint32_t icysixel_encode_indexed(icysixel *handle, const uint8_t *pixels, size_t
                                  size_t count, const uint8_t *indices, size_t index_count,
                                  size_t *text_length);
 
-/* Copies the stored text to `buf` and releases it. It has no zero at its end. `wanted` is the
+/* Copies the stored text to `buf` and releases it. The text has no zero at its end. `wanted` is the
  * length of the text, also with ICYSIXEL_BUFFER_TOO_SMALL. With another error it is 0. After an
  * error the text is still stored. It does not allocate. */
 uint32_t icysixel_copy_text(icysixel *handle, uint8_t *buf, size_t size, size_t *wanted);
@@ -486,9 +486,9 @@ uint32_t icysixel_choose_palette(const uint8_t *pixels, size_t length, uint16_t 
  * algorithm move the entries, and the last entries are chosen farthest first.
  *
  * The buffers receive what those of icysixel_choose_palette receive. A buffer is too small if
- * `colors` has fewer than max_colors, `witnesses` fewer than max_colors + 1, or `indices` fewer than
- * one byte for each pixel. For more than 256 colors 256 and 257 are enough. The witnesses are for
- * the last entries. In any palette with fewer entries than there are witnesses, some witness has a
+ * `colors` has fewer than max_colors, `witnesses` fewer than max_colors + 1, or `indices` fewer
+ * than one byte for each pixel. For more than 256 colors 256 and 257 are enough. The witnesses are
+ * for the last entries. In any palette with fewer entries than there are witnesses, some witness has a
  * squared distance of at least a fourth of `apart` to its nearest entry.
  *
  * The errors, in this order, are:
