@@ -1,8 +1,8 @@
 /* libsixel's sixel_encode by this library, for programs that encode frames as mpv does. Built as a
  * shared object and preloaded, it encodes in place of libsixel.
  *
- * Pixels have three bytes. Each frame gets a palette of its own, in place of a fixed one. Nothing is
- * dithered. Other calls of libsixel on the two structs of this file are not supported. */
+ * Pixels have three bytes. Each frame gets a palette of its own, in place of a fixed one. Nothing
+ * is dithered. Other calls of libsixel on the two structs of this file are not supported. */
 #include "icysixel.h"
 #include <sixel.h>
 #include <stdlib.h>

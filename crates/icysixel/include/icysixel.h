@@ -488,8 +488,8 @@ uint32_t icysixel_choose_palette(const uint8_t *pixels, size_t length, uint16_t 
  * The buffers receive what those of icysixel_choose_palette receive. A buffer is too small if
  * `colors` has fewer than max_colors, `witnesses` fewer than max_colors + 1, or `indices` fewer
  * than one byte for each pixel. For more than 256 colors 256 and 257 are enough. The witnesses are
- * for the last entries. In any palette with fewer entries than there are witnesses, some witness has a
- * squared distance of at least a fourth of `apart` to its nearest entry.
+ * for the last entries. In any palette with fewer entries than there are witnesses, some witness
+ * has a squared distance of at least a fourth of `apart` to its nearest entry.
  *
  * The errors, in this order, are:
  *

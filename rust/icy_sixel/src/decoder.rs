@@ -96,8 +96,8 @@ impl SixelDecoder {
 
     /// Sets the colors of the registers from `first` on.
     ///
-    /// A color is red, green and blue, a byte each. A terminal sets its whole palette by one call. Colors that are left after register 255 have
-    /// no effect.
+    /// A color is red, green and blue, a byte each. A terminal sets its whole palette by one call.
+    /// Colors that are left after register 255 have no effect.
     pub fn set_registers(&mut self, first: u8, colors: &[[u8; 3]]) {
         self.handle().set_registers(first, colors);
     }
@@ -144,7 +144,8 @@ impl SixelDecoder {
 
     /// Returns the clip: how many columns and rows an image can have.
     ///
-    /// They count from the left and from the top. Both are 1,000,000 in a new decoder, which clips nothing, because no image has more.
+    /// They count from the left and from the top. Both are 1,000,000 in a new decoder, which clips
+    /// nothing, because no image has more.
     #[must_use]
     pub fn clip(&self) -> (usize, usize) {
         self.shared().clip()
@@ -171,7 +172,8 @@ impl SixelDecoder {
 
     /// Decodes the first DCS sequence in the bytes, or all of them as a payload.
     ///
-    /// Without a DCS sequence all bytes are the payload. Bytes before the introducer and after the payload have no effect.
+    /// Without a DCS sequence all bytes are the payload. Bytes before the introducer and after the
+    /// payload have no effect.
     ///
     /// ```
     /// use icy_sixel::SixelDecoder;

@@ -822,8 +822,8 @@ unsafe extern "C" fn rattle_realloc(
     };
     // SAFETY: the block was returned here, and was not freed.
     let (start, had) = unsafe { memory_of(block) };
-    // SAFETY: this memory was allocated with that layout. The new number of bytes is one of a layout
-    // with the same alignment, and is not 0.
+    // SAFETY: this memory was allocated with that layout. The new number of bytes is one of a
+    // layout with the same alignment, and is not 0.
     let start = unsafe { realloc(start, had, wanted.size()) };
     // SAFETY: `realloc` returned it for this layout, with the old head in it.
     unsafe { Tried::of(start, wanted) }

@@ -116,8 +116,8 @@ impl SixelReceiver {
     /// # Errors
     ///
     /// Those of `finish` but for `OutOfMemory`, which close the image. Then those of `copy_rows`
-    /// about released rows, the stride and `out`, which leave the image open as it was. An error leaves the
-    /// decoder and `out` as they were.
+    /// about released rows, the stride and `out`, which leave the image open as it was. An error
+    /// leaves the decoder and `out` as they were.
     pub fn finish_into(
         &mut self,
         first: usize,
