@@ -1,9 +1,9 @@
 //! The decoder of payloads and DCS sequences, in one call or in chunks.
 //!
-//! A payload is the data between the `q` and the terminator of a DCS sequence. Its specification is
-//! in `sixel_base`, by the list of its sixels and commands: which bytes these are (`History`), what
-//! they draw (`Place`, `Stroke`), and when they are rejected (`Payload`). The contract of decoding
-//! in one call is the record of `OneShotCalls` in `sixel_decoder`.
+//! A payload is the data between the `q` and the terminator of a DCS sequence. `sixel_base`
+//! specifies it by the list of its sixels and commands. `History` states which bytes these are,
+//! `Place` and `Stroke` what they draw, and `Payload` when they are rejected. The contract of
+//! decoding in one call is the record of `OneShotCalls` in `sixel_decoder`.
 
 ghost use Rattle.std.specs.Prelude.{◌≡◌, ◌≤◌, [], length, slice_index_or, slice_set, IsOk};
 ghost use Rattle.std.specs.Prelude.{OnOk, OnErr, IfOk};
@@ -109,10 +109,10 @@ impl SixelDecoder {
         colors
     }
 
-    /// Sets the colors of the registers from `first` on: red, green and blue, a byte each.
+    /// Sets the colors of the registers from `first` on.
     ///
-    /// A terminal sets its whole palette by one call. Colors that are left after register 255 have
-    /// no effect.
+    /// A color is red, green and blue, a byte each. A terminal sets its whole palette by one call.
+    /// Colors that are left after register 255 have no effect.
     pub fn set_registers(&mut self, first: u8, colors: &[[u8; 3]])
         ensures { self.new ≡ record self.old {
           registers = with_colors self.old.registers first colors.now;
@@ -176,9 +176,10 @@ impl SixelDecoder {
         self.state.pixel_limit = self.state.pixel_limit.with_pixels(pixels);
     }
 
-    /// Returns the clip: how many columns from the left and rows from the top an image can have.
+    /// Returns the clip: how many columns and rows an image can have.
     ///
-    /// Both are 1,000,000 in a new decoder, which clips nothing, because no image has more.
+    /// They count from the left and from the top. Both are 1,000,000 in a new decoder, which clips
+    /// nothing, because no image has more.
     pub fn clip(&self) -> (usize, usize)
         ensures columns { result.0 ≡ self.now.pixel_limit.columns }
         ensures rows { result.1 ≡ self.now.pixel_limit.rows }

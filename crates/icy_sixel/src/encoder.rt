@@ -1,4 +1,4 @@
-//! The SIXEL text of an image, by [`sixel_encoder`].
+//! The SIXEL output of an image, by [`sixel_encoder`].
 
 pub use sixel_encoder::{
     Dither, EncodeOptions, TextForm, one_drawing, palette_indices, sixel_encode,

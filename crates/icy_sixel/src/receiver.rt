@@ -119,7 +119,7 @@ impl SixelReceiver {
         !matches!(self.open, Open::Nothing)
     }
 
-    /// Begins a payload with the decoder's current registers, crop and limit.
+    /// Begins a payload with the decoder's current registers and settings.
     ///
     /// An open image is aborted. The call does not allocate.
     pub fn begin_frame(&mut self, alloc: Global, settings: DcsSettings)
@@ -130,7 +130,7 @@ impl SixelReceiver {
         self.replace_open(Open::Payload(reader));
     }
 
-    /// Begins a DCS sequence with the decoder's current registers, crop and limit.
+    /// Begins a DCS sequence with the decoder's current registers and settings.
     ///
     /// An open image is aborted. The call does not allocate.
     pub fn begin_dcs(&mut self, alloc: Global)
@@ -195,7 +195,7 @@ impl SixelReceiver {
         self.open = image;
     }
 
-    /// Returns how many columns and tags sixels have painted at most.
+    /// Returns an upper bound of the columns and tags that sixels have painted.
     ///
     /// It is 0 if no image is open and after an error. The call does not allocate. A sixel paints
     /// columns of six rows. A wide sixel over columns that exist can be stored as tags, the colors

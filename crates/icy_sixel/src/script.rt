@@ -43,7 +43,7 @@ pub enum Step<'a> {
     RasterCrop(bool),
     /// Sets how many pixels an image may have, as by [`SixelDecoder::set_pixel_limit`].
     PixelLimit(usize),
-    /// Sets the columns and rows that an image may have, as by [`SixelDecoder::set_clip`].
+    /// Sets the clip, as by [`SixelDecoder::set_clip`].
     Clip {
         width: usize,
         height: usize,

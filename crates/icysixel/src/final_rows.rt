@@ -1,4 +1,4 @@
-//! The calls on rows of the open image that are final, and on rows in the caller's memory.
+//! The calls on final rows of the open image, and on rows in the caller's memory.
 
 ghost use Rattle.std.specs.Prelude.{◌≡◌, ◌≢◌, Some, None, is_some, length};
 ghost use Rattle.icy_sixel.specs.FinalRows.{rows_so_far};
@@ -116,7 +116,7 @@ pub extern "C" fn icysixel_finish_into(
     finish_into(slot.state(), first, layout.row_layout(), buf, shape, wanted)
 }
 
-/// Closes the image, if one is open, and copies its rows from `first` on to the buffer.
+/// Closes the image, if one is open, and copies its rows from `first` on.
 fn finish_into(
     state: &mut State,
     first: usize,

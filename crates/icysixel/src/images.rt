@@ -50,7 +50,9 @@ fn finish(state: &mut State, shape: &mut Shape) -> u32
     state.store_decoded(answer, shape)
 }
 
-/// Copies the stored pixels to the buffer, releases them and writes the number of bytes.
+/// Copies the stored pixels to the buffer and releases them.
+///
+/// It writes the number of bytes.
 #[unsafe(no_mangle)]
 pub extern "C" fn icysixel_copy_pixels(
     slot: &mut Slot,
@@ -140,7 +142,7 @@ fn copied(image: &SixelImage, buf: &mut [u8], stride: usize, bytes: &mut usize) 
     copied_rows(&image.pixels, buf, layout, bytes)
 }
 
-/// Copies rows into the buffer, and reports the number of bytes that they take there.
+/// Copies rows into the buffer, and reports how many bytes they take there.
 fn copied_rows(rows: &[u8], buf: &mut [u8], layout: Layout, bytes: &mut usize) -> u32
     requires { length rows.now ≡ layout.row_len * layout.height }
     ensures bad_stride { wanted layout.stride layout.row_len layout.height ≡ None

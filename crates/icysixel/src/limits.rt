@@ -23,7 +23,7 @@ pub extern "C" fn icysixel_get_crop(slot: &mut Slot) -> u8
     u8::from(slot.state().receiver.decoder().raster_crop())
 }
 
-/// Sets whether images are cropped to their raster attributes: 0 is off, other numbers are on.
+/// Sets whether images are cropped: 0 is off, any other number is on.
 #[unsafe(no_mangle)]
 pub extern "C" fn icysixel_set_crop(slot: &mut Slot, on: u8) -> u32
     ensures held { is_some slot.new.handle.state ≡ is_some slot.old.handle.state }

@@ -36,7 +36,7 @@ impl Palette {
     }
 }
 
-/// Writes the palette of pixels, the certificate of its quality and the index of each pixel.
+/// Writes the palette of pixels, its certificate and the index of each pixel.
 #[unsafe(no_mangle)]
 pub extern "C" fn icysixel_choose_palette(
     alloc: Global,
@@ -124,7 +124,9 @@ pub extern "C" fn icysixel_choose_palette(
     }
 }
 
-/// Success if these are whole pixels and the buffers have enough capacity, else the error.
+/// Returns success if the pixels are whole and the buffers are large enough.
+///
+/// Else it returns the code of the error.
 pub fn buffers_code(
     bytes: usize,
     capacity: usize,

@@ -5,7 +5,9 @@ ghost use Rattle.icysixel.specs.Code.{given, settings_of};
 
 use icy_sixel::DcsSettings;
 
-/// The settings of these parameters. A number outside of 0 to 65535 means an absent one.
+/// The settings of these parameters.
+///
+/// A number outside of 0 to 65535 means an absent one.
 pub fn settings(p1: i32, p2: i32, grid: i32) -> DcsSettings
     ensures { result ≡ settings_of p1 p2 grid }
 {

@@ -48,7 +48,7 @@ pub extern "C" fn icysixel_in_payload(slot: &mut Slot) -> u8
     u8::from(slot.state().receiver.in_payload())
 }
 
-/// Returns how many columns and tags the sixels of the open image have painted at most, or 0.
+/// Returns an upper bound of the columns and tags that were painted, or 0.
 #[unsafe(no_mangle)]
 pub extern "C" fn icysixel_get_canvas_paints(slot: &mut Slot) -> u64
     ensures same { slot.new.handle.state ≡ slot.old.handle.state }

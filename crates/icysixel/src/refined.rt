@@ -86,7 +86,7 @@ pub extern "C" fn icysixel_refine_palette(
     }
 }
 
-/// Writes a refined palette, its witnesses and its indices to the starts of the buffers.
+/// Writes a refined palette, its witnesses and its indices to the buffers.
 fn write_refined(
     palette: &RefinedPalette,
     colors: &mut [Color],

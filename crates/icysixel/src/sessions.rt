@@ -19,7 +19,9 @@ use icy_sixel::Received;
 use icy_sixel::receiver::band_len;
 use std::alloc::Global;
 
-/// The result of a feed: consumed bytes, the status and the control byte that ended the image.
+/// The result of a feed: `icysixel_fed` of the header.
+///
+/// It has the number of bytes consumed, the status and the control byte that ended the image.
 #[repr(C)]
 #[derive(Clone, Copy)]
 pub struct Fed {
@@ -142,7 +144,9 @@ pub extern "C" fn icysixel_feed(slot: &mut Slot, piece: &[u8], fed: &mut Fed) ->
     feed(slot.state(), piece, fed)
 }
 
-/// Reads a chunk of the open image up to its first graphics new line, and writes the result.
+/// Reads a chunk of the open image up to its first graphics new line.
+///
+/// It writes the result as [`icysixel_feed`] does.
 #[unsafe(no_mangle)]
 pub extern "C" fn icysixel_feed_band(slot: &mut Slot, piece: &[u8], fed: &mut Fed) -> u32
     ensures held { is_some slot.new.handle.state ≡ is_some slot.old.handle.state }

@@ -97,7 +97,7 @@ impl State {
         }
     }
 
-    /// Stores an encoded text and writes its length, or stores none and returns the error.
+    /// Stores an encoded text and writes its length, or returns the error.
     pub fn store_encoded(&mut self, encoded: Result<String, u32>, bytes: &mut usize) -> u32
         ensures done { OnOk encoded (result ≡ 0) }
         ensures found { IfOk encoded (λ text. self.new.text ≡ Some text) }

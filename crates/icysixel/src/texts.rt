@@ -163,7 +163,7 @@ pub extern "C" fn icysixel_encode_with_palette(
     store_text(alloc, slot, pixels, encoding, output, bytes)
 }
 
-/// Encodes pixels by their palette indices, stores their text and writes its length.
+/// Encodes pixels by palette indices, stores the text and writes its length.
 #[unsafe(no_mangle)]
 pub extern "C" fn icysixel_encode_indexed(
     alloc: Global,

@@ -5,9 +5,9 @@ ghost use Rattle.icysixel.specs.Words.{words};
 
 use sixel_base::error;
 
-/// Writes the description of a code and a zero to the buffer, and returns its length.
+/// Writes the description of a code and a zero to the buffer.
 ///
-/// It writes only a zero if both do not fit.
+/// It writes only a zero if both do not fit. It returns the length of the description.
 #[unsafe(no_mangle)]
 pub extern "C" fn icysixel_strerror(code: u32, buf: &mut [u8]) -> usize
     ensures length { result ≡ length (words code) }
@@ -19,7 +19,9 @@ pub extern "C" fn icysixel_strerror(code: u32, buf: &mut [u8]) -> usize
     write_text(words(code).as_bytes(), buf)
 }
 
-/// Writes a text and a zero to the buffer, or only a zero, and returns the text's length.
+/// Writes a text and a zero to the buffer, or only a zero if both do not fit.
+///
+/// It returns the length of the text.
 fn write_text(text: &[u8], buf: &mut [u8]) -> usize
     ensures length { result ≡ length text.now }
     ensures text { result < length buf.old

@@ -1,4 +1,4 @@
-//! The work of the program: it reads the input, decodes or encodes it, and writes the output.
+//! The work of the program on its input, from the first byte to the output.
 
 ghost use Rattle.std.specs.Prelude.{◌≡◌, [], OnOk, IfSome};
 ghost use Rattle.std.specs.Io.KnownBytes.{Keeps, IsAtEnd};
@@ -21,7 +21,7 @@ use sixel_io::{Fault, read_to_end, write_all};
 use std::alloc::Global;
 use std::io::{Read, Write};
 
-/// Reads the input to its end, does the work of the argument, and writes the output.
+/// Reads the input to its end, does the work and writes the output.
 ///
 /// The chunks of [`Word::Frames`] have at least one byte, as those of `read_word` have. The palette
 /// is the content of the palette file, if an option names one.
@@ -123,7 +123,7 @@ fn pam<O: Write>(alloc: Global, bytes: &[u8], output: &mut O) -> Result<(), Faul
     write_pam(alloc, &image, output)
 }
 
-/// Writes the SIXEL output of raw pixels of this width and height, in at most so many colors.
+/// Writes the SIXEL output of raw pixels in at most so many colors.
 fn encode<O: Write>(
     alloc: Global,
     pixels: &[u8],

@@ -12,7 +12,7 @@ use sixel_io::{Fault, write_all};
 use std::alloc::Global;
 use std::io::Write;
 
-/// The line before an image's pixels: its sizes, and the P1 and P2 of its shape and background.
+/// The line before an image's pixels: its sizes, and the P1 and P2 that it has.
 fn first_line(alloc: Global, image: &SixelImage) -> Result<String, Fault>
     ensures line { IfOk result (λ line. string_bytes line ≡ image_line (image_value image.now)) }
     ensures refused { IfErr result (λ fault. fault ≡ Sixel OutOfMemory) }

@@ -1,4 +1,4 @@
-//! The command `sixel`: reads SIXEL data from standard input and writes images to standard output.
+//! The program `sixel`: decodes and encodes images of standard input.
 #![tactic(auto)]
 
 mod draw_options;

@@ -13,7 +13,7 @@ use crate::words::after_draw;
 use netpbm::{NetpbmError, read_image};
 use std::alloc::{AllocError, Global};
 
-/// The path of the palette file, if the arguments after the program's own name state one.
+/// The path of the palette file, if the arguments state one.
 ///
 /// Wrong arguments state none.
 pub fn palette_path(words: &[String]) -> Option<&str>

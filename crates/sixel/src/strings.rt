@@ -24,7 +24,7 @@ use sixel_io::Fault;
 use std::alloc::Global;
 use std::io::Write;
 
-/// A DCS sequence that has ended: its image, the number of its bytes, and how it ended.
+/// A DCS sequence that has ended: its image, its length, and how it ended.
 #[derive(Drop)]
 struct ControlString {
     image: SixelImage,
@@ -53,7 +53,7 @@ pub fn write_strings<O: Write>(
     Ok(())
 }
 
-/// Writes the image of the DCS sequence at the start of the bytes, and returns the bytes after it.
+/// Writes the image of the DCS sequence at the front, and returns the bytes after it.
 fn write_string<'a, O: Write>(
     alloc: Global,
     decoder: &mut SixelDecoder,
@@ -81,7 +81,7 @@ fn write_string<'a, O: Write>(
     write_read(alloc, string, bytes, output)
 }
 
-/// Writes the image of the DCS sequence that was read, and returns the bytes to read next.
+/// Writes the image of the DCS sequence, and returns the bytes to read next.
 fn write_read<'a, O: Write>(
     alloc: Global,
     string: ControlString,
@@ -147,7 +147,9 @@ fn read_string(
     })
 }
 
-/// Feeds a new session chunks of `piece_len` bytes, until the sequence ends or no byte is left.
+/// Feeds a new session chunks of `piece_len` bytes, until the sequence ends.
+///
+/// It also stops if no byte is left.
 fn feed_pieces(
     session: &mut SixelDcsStreamDecoder,
     piece_len: usize,

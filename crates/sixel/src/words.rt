@@ -17,12 +17,13 @@ pub enum Word {
     Decode,
     /// Decode the same, and write the image as a PAM file.
     Pam,
-    /// Decode DCS sequences that follow one another on one decoder, each fed in chunks of so many
-    /// bytes from its first on, and write their images.
+    /// Decode DCS sequences that follow one another, and write their images.
+    ///
+    /// One decoder decodes all. Each is fed in chunks of so many bytes from its first on.
     Frames(usize),
     /// Encode raw pixels of this width and height in at most so many colors.
     Encode(usize, usize, u16),
-    /// Encode the image of a PAM, a PPM or a PGM file, in a refined palette or that of a file.
+    /// Encode the image of a PAM, PPM or PGM file, in a refined palette or a given one.
     Draw(DrawOptions),
 }
 

@@ -24,11 +24,11 @@ pub const STREAM_FAILED: &str = "stream decoder has failed";
 pub const DCS_STREAM_FAILED: &str = "DCS stream decoder has failed";
 /// The text of a DCS sequence that has not ended.
 pub const INCOMPLETE: &str = "incomplete SIXEL DCS sequence";
-/// The text of a palette without colors, or with more than a SIXEL image has registers.
+/// The text of a palette without colors, or with more than there are registers.
 pub const COLOR_COUNT: &str = "number of colors is not 1 to 256";
 /// The text of a palette index that no color of the palette has.
 pub const INDEX_RANGE: &str = "palette index out of range";
-/// The text of rows that bytes to come can change, or that the image so far does not have.
+/// The text of rows that are not final: bytes to come can change or add them.
 pub const ROWS_NOT_FINAL: &str = "rows are not final";
 /// The text of rows that were released, so that no memory has them.
 pub const ROWS_RELEASED: &str = "rows were released";
@@ -47,7 +47,7 @@ pub enum SixelError {
     /// The pixels have another number of bytes than the sizes require.
     #[error("buffer size mismatch: expected {expected} bytes, got {actual}")]
     BufferSizeMismatch { expected: usize, actual: usize },
-    /// The bytes are not SIXEL data, for this reason.
+    /// The data, a palette or rows are invalid, for this reason.
     #[error("invalid SIXEL data: {0}")]
     InvalidData(&'static str),
     /// The data have no DCS introducer.

@@ -1,5 +1,6 @@
-//! The base of the SIXEL encoder and decoder: errors, limits, registers, and in `specs` the
-//! definition of the format.
+//! The base of the SIXEL encoder and decoder: errors, limits and registers.
+//!
+//! The definition of the format is in `specs`.
 #![tactic(auto)]
 
 pub mod error;

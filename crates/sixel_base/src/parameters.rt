@@ -1,4 +1,6 @@
-//! The numeric parameters of one command, read a byte at a time; their text is not kept.
+//! The numeric parameters of one command, read a byte at a time.
+//!
+//! Their text is not stored.
 
 ghost use Rattle.std.specs.Prelude.{◌≡◌, ℕ, ◌+◌, ◌*◌, ◌<◌, ◌≤◌, min};
 ghost use Rattle.std.specs.Prelude.{List, [], ◌∷◌, ◌++◌, length, slice_index, take};
@@ -19,10 +21,10 @@ const MAX_VALUE: u64 = 2_147_483_647;
 /// A value that any digit can be added to; no command needs more.
 const ENOUGH: u32 = 100_000_000;
 
-/// The fields of a text of digits and semicolons, of which the first five are stored.
+/// The fields of a text of digits and semicolons.
 ///
-/// The text is split at each semicolon. An empty field is 0, and any other field the lesser of its
-/// decimal value and `MAX_VALUE`. A text of no bytes has no field.
+/// The first five are stored. The text is split at each semicolon. An empty field is 0, and any
+/// other field the lesser of its decimal value and `MAX_VALUE`. A text of no bytes has no field.
 #[derive(Clone, Copy)]
 pub struct Parameters {
     values: [u32; KEPT_FIELDS],
@@ -42,7 +44,7 @@ impl Model for Parameters {
     ghost invariant = { λ p. p.count ≤ 6 };
 }
 
-/// The digits that bytes begin with: the parameters that they alone are, and how many they are.
+/// The digits at the front of bytes: their number, and the parameters that they are.
 #[derive(Clone, Copy)]
 pub struct Digits {
     pub parameters: Parameters,
@@ -78,7 +80,9 @@ impl Digits {
     }
 }
 
-/// The value of the digits at the front and their number, with the byte at `at` if it is the next.
+/// Adds the byte at `at` to the digits at the front, if it is the next digit.
+///
+/// It returns their value and their number.
 ///
 /// Both are chosen without a branch: few numbers are as long as the one before.
 #[inline(always)]
@@ -116,7 +120,7 @@ impl Parameters {
         self.count
     }
 
-    /// The value of field `k`, counted from 0; it is 0 where the text has no such field.
+    /// Returns the value of field `k`, counted from 0, or 0 if there is no such field.
     pub fn get(&self, k: usize) -> u32
         requires { k < KEPT_FIELDS }
         ensures { result ≡ slice_index self.now.values k }

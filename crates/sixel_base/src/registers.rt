@@ -45,7 +45,7 @@ impl Registers {
         Self { colors }
     }
 
-    /// The color of a register: red, green and blue.
+    /// Returns the color of a register: red, green and blue.
     pub fn get(&self, register: u8) -> [u8; 3]
         ensures color { result ≡ slice_index_or self.now register [] }
         ensures size { length self.now ≡ 256 }
@@ -53,7 +53,7 @@ impl Registers {
         self.colors[register as usize]
     }
 
-    /// Gives a register this color: red, green and blue.
+    /// Sets the color of a register: red, green and blue.
     pub fn set(&mut self, register: u8, color: [u8; 3])
         ensures defined { self.new ≡ slice_set self.old register color }
         ensures size { length self.new ≡ 256 }
@@ -61,7 +61,7 @@ impl Registers {
         self.colors[register as usize] = color;
     }
 
-    /// Gives a register the color of three percentages, each at most 100 or taken as 100.
+    /// Sets the color of a register by three percentages, where 100 is the greatest.
     pub fn define_rgb(&mut self, register: u8, red: u32, green: u32, blue: u32)
         ensures defined { self.new ≡ slice_set self.old register (rgb red green blue) }
         ensures size { length self.new ≡ 256 }
@@ -69,8 +69,10 @@ impl Registers {
         self.colors[register as usize] = color::rgb(red, green, blue);
     }
 
-    /// Gives a register the color of a hue in degrees, and of a lightness and a saturation in
-    /// percent, each at most 100 or taken as 100. Hue 0 is blue, as on DEC's terminals.
+    /// Sets the color of a register by hue, lightness and saturation.
+    ///
+    /// The hue is in degrees, and 0 is blue, as on DEC's terminals. Lightness and saturation are
+    /// percentages, where 100 is the greatest.
     pub fn define_hls(&mut self, register: u8, hue: u32, lightness: u32, saturation: u32)
         ensures defined { self.new ≡ slice_set self.old register (hls hue lightness saturation) }
         ensures size { length self.new ≡ 256 }

@@ -19,7 +19,7 @@ pub enum BackgroundMode {
 }
 
 impl BackgroundMode {
-    /// The mode that P2 asks for: 1 is transparent, any other value opaque.
+    /// Returns the mode that P2 selects: 1 is transparent, any other value opaque.
     pub fn from_p2(p2: u16) -> Self
         ensures { result ≡ mode_of_p2 p2 }
     {
@@ -29,7 +29,7 @@ impl BackgroundMode {
         }
     }
 
-    /// A P2 that asks for this mode.
+    /// Returns a P2 that selects this mode.
     pub fn to_p2_value(self) -> u8
         ensures value { result ≡ p2_of self }
         ensures read_back { mode_of_p2 result ≡ self }
@@ -63,7 +63,7 @@ pub enum PixelAspectRatio {
 }
 
 impl PixelAspectRatio {
-    /// The shape that P1 asks for: DEC's table up to 9, and square for any greater value.
+    /// Returns the shape that P1 selects: DEC's table up to 9, square above.
     pub fn from_p1(p1: u16) -> Self
         ensures { result ≡ ratio_of_p1 p1 }
     {
@@ -75,7 +75,7 @@ impl PixelAspectRatio {
         }
     }
 
-    /// A P1 that asks for this shape.
+    /// Returns a P1 that selects this shape.
     pub fn to_p1_value(self) -> u8
         ensures value { result ≡ p1_of self }
         ensures read_back { ratio_of_p1 result ≡ self }
@@ -148,7 +148,7 @@ impl Model for DcsSettings {
 }
 
 impl DcsSettings {
-    /// The settings with these values of P1 (pixel shape), P2 (background) and P3 (grid size).
+    /// Creates settings with a P1 (pixel shape), a P2 (background) and a P3 (grid size).
     pub fn new(aspect_ratio: Option<u16>, zero_color: Option<u16>, grid_size: Option<u16>) -> Self
         ensures { result ≡ record {
           aspect_ratio = aspect_ratio;
@@ -183,7 +183,7 @@ impl DcsSettings {
         }
     }
 
-    /// These settings with this P3, which is kept and changes no image.
+    /// Returns these settings with this P3, which changes no image.
     pub fn with_grid_size(self, grid_size: u16) -> Self
         ensures { result ≡ record self { grid_size = Some grid_size } }
     {
@@ -193,7 +193,7 @@ impl DcsSettings {
         }
     }
 
-    /// The background of an image with these settings: transparent exactly where P2 is 1.
+    /// Returns the background with these settings: transparent only if P2 is 1.
     pub fn background_mode(self) -> BackgroundMode
         ensures { result ≡ mode_of self }
     {
@@ -203,7 +203,7 @@ impl DcsSettings {
         }
     }
 
-    /// The pixel shape that P1 asks for, square without a P1.
+    /// Returns the pixel shape that P1 selects, square without a P1.
     pub fn pixel_aspect_ratio(self) -> PixelAspectRatio
         ensures { result ≡ ratio_of self }
     {

@@ -30,8 +30,10 @@ pub fn pixel_bytes(width: usize, height: usize) -> Result<usize>
         .ok_or(SixelError::IntegerOverflow)
 }
 
-/// Whether an image of these sizes can be encoded: neither is zero, its bytes fit a `usize`, no
-/// side is above the limit and no area either, the height rounded up to whole bands.
+/// Returns an error unless an image of these sizes can be encoded.
+///
+/// Neither is zero, the bytes of the pixels fit a `usize`, and no side or area is above the limits,
+/// where the height is rounded up to whole bands.
 pub fn validate_encode_dimensions(width: usize, height: usize) -> Result<()>
     ensures { result ≡ verdict (encode_fault width height) }
 {
@@ -53,7 +55,7 @@ fn is_within_limits(width: usize, height: usize) -> bool
     side <= MAX_SIDE && width * side <= MAX_AREA
 }
 
-/// Whether the pixels are as many bytes as these sizes ask for.
+/// Returns an error unless the pixels have as many bytes as these sizes require.
 pub fn validate_buffer(width: usize, height: usize, bytes: usize) -> Result<()>
     requires { pixel_bytes width height ≤ usize.MAX }
     ensures { result ≡ verdict (buffer_fault width height bytes) }
@@ -68,7 +70,7 @@ pub fn validate_buffer(width: usize, height: usize, bytes: usize) -> Result<()>
     })
 }
 
-/// Whether a palette may have this many colors: 1 to 256.
+/// Returns an error unless a palette may have this many colors: 1 to 256.
 pub fn validate_color_count(count: usize) -> Result<()>
     ensures { IsVerdict (color_count_fault count) result }
 {

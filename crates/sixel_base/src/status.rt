@@ -39,12 +39,14 @@ pub struct SixelFeedResult {
 pub enum SixelDcsFeedStatus {
     /// Every byte was consumed: feed the next ones.
     NeedMoreData,
-    /// The string terminator came and was consumed: finish.
+    /// The string terminator was consumed: finish.
     Complete,
     /// CAN or SUB, this byte, cancelled the sequence and was consumed: finish or abort.
     Cancelled(u8),
-    /// A control interrupted the sequence: a C1 control, this byte, which is left to the caller, or
-    /// ESC (consumed) before another byte than `\` (left to the caller). Finish or abort.
+    /// Another control, this byte, interrupted the sequence: finish or abort.
+    ///
+    /// A C1 control is left to the caller. An ESC before another byte than `\` was consumed, and
+    /// that byte is left to the caller.
     Interrupted(u8),
 }
 

@@ -1,4 +1,4 @@
-//! Six rows of pixels in one block, in which an image's bands are drawn one after another.
+//! Six rows of pixels in one block, for the bands of an image one after another.
 ghost use Rattle.std.specs.Prelude.{◌≡◌, ℕ, ◌+◌, ◌*◌, ◌≤◌, ◌<◌, List, length, max, min};
 ghost use Rattle.std.specs.Prelude.{false, nat_le, nat_lt, ◌&&◌, ◌==◌, slice_index_or};
 ghost use Rattle.std.specs.Prelude.{IfOk, if◌then◌else◌};
@@ -11,7 +11,7 @@ use std::alloc::{AllocError, Global};
 use std::marker::Model;
 use std::simd::prelude::*;
 
-/// The most columns that a band has memory for: those of an image, and eight blank ones.
+/// The greatest capacity of a band in columns: those of an image, and eight blank ones.
 pub const MAX_CAP: usize = 1_000_008;
 
 /// Up to how many columns a run is drawn eight columns at once, without a branch for each row.

@@ -1,4 +1,4 @@
-//! Rows of pixels in a caller's memory: their stride, and the order of a pixel's bytes.
+//! The layout of rows in a caller's memory: stride and order of channels.
 ghost use Rattle.std.specs.Prelude.{◌≡◌, ℕ, ◌/◌, ◌%◌, ◌<◌, nat_lt, length, slice_index};
 ghost use Rattle.std.specs.Prelude.{if◌then◌else◌};
 ghost use Rattle.sixel_canvas.specs.Layout.{in_order};
@@ -39,7 +39,7 @@ impl ChannelOrder {
     }
 }
 
-/// Fills a row of the caller's with the pixels of these bytes, and with background to their right.
+/// Fills a row of the caller with these pixels, and background on their right.
 pub fn copy_row(pixels: &[u8], background: [u8; 4], order: ChannelOrder, row: &mut [u8])
     requires stored { length pixels.now % 4 ≡ 0 }
     requires whole { length row.old % 4 ≡ 0 }

@@ -9,7 +9,7 @@ ghost use Rattle.sixel_canvas.specs.inside.Tags.{is_tag};
 
 use std::alloc::{AllocError, Global};
 
-/// A canvas: a pixel for every column and row, and a band of six rows that is drawn on.
+/// A canvas: a pixel for every column and row, and the band that is drawn on.
 ///
 /// The band begins at the top, and goes down six rows at each graphics new line. Rows above it
 /// are final. After an error nothing is known of the canvas but that it can be dropped.
@@ -48,7 +48,9 @@ pub trait Canvas {
     fn held(&self) -> usize
         ensures { result ≡ held self.now };
 
-    /// Names a width that the picture has at least, as raster attributes do. It does not allocate.
+    /// States a width that the picture has at least, as raster attributes do.
+    ///
+    /// It does not allocate.
     fn expect_width(&mut self, width: usize)
         ensures shown { (column row : ℕ) → shown self.new column row ≡ shown self.old column row }
         ensures top { top self.new ≡ top self.old }

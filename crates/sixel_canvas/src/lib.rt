@@ -1,4 +1,4 @@
-//! The canvases that a SIXEL decoder draws on: one of rows that grow, and one of a band.
+//! The canvases of a SIXEL decoder: one of rows that grow, and one of a band.
 #![tactic(auto)]
 
 pub mod band;

@@ -13,7 +13,7 @@ use sixel_base::{Result, SixelError};
 use std::alloc::Global;
 use std::marker::Model;
 
-/// One row of a canvas: its pixels from the left, up to the last column that was drawn on.
+/// A row of a canvas: its pixels up to the last column that was drawn on.
 ///
 /// What lies further right is background that is not written yet. Contracts see the background,
 /// the list of pixels, the capacity and the writes.
@@ -104,7 +104,9 @@ impl Row {
         self.room
     }
 
-    /// Returns how many pixels were copied or filled to grow the row. Painting does not count.
+    /// Returns how many pixels were copied or filled to grow the row.
+    ///
+    /// Painting does not count.
     pub fn writes(&self) -> u64
         ensures value { result ≡ self.now.writes }
         ensures thrifty { IsThrifty self.now }

@@ -1,4 +1,4 @@
-//! A band in which a wide run over what was drawn costs no more than its blocks and two ends.
+//! A band in which a wide run over other pixels costs a tag a block and two ends.
 ghost use Rattle.std.specs.Prelude.{◌≡◌, ℕ, ◌+◌, ◌-◌, ◌*◌, ◌/◌, ◌^◌, ◌≤◌, ◌<◌, List, length};
 ghost use Rattle.std.specs.Prelude.{max, min, true, false, nat_le, nat_lt, ◌&&◌};
 ghost use Rattle.std.specs.Prelude.{slice_index_or, OnErr, OnOk, if◌then◌else◌};
@@ -21,10 +21,11 @@ const WIDE: usize = 256;
 /// The color of a block that has no tag.
 const NO_TAG: [u8; 4] = [0; 4];
 
-/// A band some of whose blocks of 128 columns show one color, whatever is stored there.
+/// A band of which blocks of 128 columns can have a tag.
 ///
-/// So a run over a block that was drawn on whole need not paint it. A run that covers a part of
-/// a tagged block paints the block in its tag first.
+/// A tag is the one color that a block of a row shows, whatever is stored there. So a run over a
+/// block that was drawn on whole need not paint it. A run that covers a part of a tagged block
+/// paints the block in its tag first.
 #[derive(Drop)]
 pub struct TaggedBand {
     pixels: Band,

@@ -1,4 +1,4 @@
-//! A row of the canvas in which a wide run over what was drawn costs its blocks and two ends.
+//! A row in which a wide run over other pixels costs a tag a block and two ends.
 ghost use Rattle.std.specs.Prelude.{◌≡◌, ℕ, ◌+◌, ◌*◌, ◌/◌, ◌%◌, ◌^◌, ◌≤◌, ◌<◌, ◌++◌, ◌⊎◌};
 ghost use Rattle.std.specs.Prelude.{length, max, min, true, false, nat_le, nat_lt, ◌&&◌};
 ghost use Rattle.std.specs.Prelude.{vec_len, IsOk, OnOk, if◌then◌else◌};
@@ -22,10 +22,11 @@ const WIDE: usize = 256;
 /// The color of a block that has no tag.
 const NO_TAG: [u8; 4] = [0; 4];
 
-/// A row some of whose blocks of 128 columns show one color, whatever is stored there.
+/// A row of which blocks of 128 columns can have a tag.
 ///
-/// So a run over a block that was drawn on need not paint it. A run that covers a part of a
-/// tagged block paints the rest of the block in its tag first.
+/// A tag is the one color that a block shows, whatever is stored there. So a run over a block that
+/// was drawn on need not paint it. A run that covers a part of a tagged block paints the rest of
+/// the block in its tag first.
 #[derive(Drop)]
 pub struct TaggedRow {
     row: Row,

@@ -15,7 +15,7 @@ pub struct DrawnRows {
     pub above: usize,
     /// The bits of the sixels that were drawn one at a time.
     pub bits: u8,
-    /// The bits of the sixels that were drawn eight at once, a byte for each of eight places.
+    /// The bits of sixels that were drawn eight at once, a byte for each place.
     pub eights: u64,
 }
 
@@ -64,7 +64,7 @@ impl DrawnRows {
         };
     }
 
-    /// Returns the last row with a set pixel, plus one, where the band begins at this row.
+    /// Returns the last row with a set pixel, plus one, if the band begins here.
     pub fn height(&self, top: usize) -> usize
         ensures { drawn_rows self.now top < 2 ^ 64 → result ≡ drawn_rows self.now top }
     {

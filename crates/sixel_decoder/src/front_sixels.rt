@@ -9,7 +9,9 @@ use std::simd::prelude::*;
 /// How many bytes are compared at once.
 const LANES: usize = 8;
 
-/// Sixels of one column each: how many, and the bits of eight, blank past the last one.
+/// Sixels of one column each: their number, and the bits of eight of them.
+///
+/// Past the last one they are blank.
 #[derive(Clone, Copy)]
 pub struct FrontSixels {
     pub len: usize,

@@ -333,7 +333,7 @@ impl<C: Canvas + Drop> Painter<C> {
         self.drawn.height(self.canvas.top())
     }
 
-    /// Takes the image that was drawn off the canvas, and returns it with the registers.
+    /// Takes the image off the canvas, and returns it with the registers.
     pub fn take_image(&mut self) -> Result<DecodedPayload>
         ensures ends { (o : Origin) (h : History) → Shows o self.old h → Ends result o h }
         ensures whole { OnOk result (C.released self.old.canvas ≡ 0) }
@@ -350,7 +350,9 @@ impl<C: Canvas + Drop> Painter<C> {
         })
     }
 
-    /// Returns the height of the image inside the clip: with crop, the last positive raster height.
+    /// Returns the height of the image inside the clip.
+    ///
+    /// With crop it is the last positive raster height.
     pub fn image_height(&self) -> usize
         ensures { result ≡ min (if self.now.raster_crop && nat_lt 0 self.now.raster_height
             then self.now.raster_height else self.now.height) self.now.pixel_limit.rows }

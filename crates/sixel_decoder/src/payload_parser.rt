@@ -319,7 +319,7 @@ impl<C: Canvas + Drop> PayloadParser<C> {
         }
     }
 
-    /// Closes the open command, and returns the image of the tokens before the first fault.
+    /// Closes the open command, and returns the image of the tokens before a fault.
     pub fn finish_partial(mut self) -> Result<PartialPayload>
         ensures { (o : Origin) (h : History) (ended : Bool) → StandsAfter ended o self h
             → EndsPartly result o h }

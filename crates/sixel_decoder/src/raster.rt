@@ -1,4 +1,4 @@
-//! Raster attributes: the pixel aspect ratio, the height to crop to, and the extent.
+//! Raster attributes: pixel aspect ratio, height to crop to, and extent.
 
 ghost use Rattle.std.specs.Prelude.{◌≡◌, ◌*◌, ◌≤◌, List, ℕ, length, max, min};
 ghost use Rattle.std.specs.Prelude.{nat_le, nat_lt, if◌then◌else◌, MatchResult};
@@ -59,7 +59,7 @@ pub fn last_height(before: usize, high: usize) -> usize
     if high > 0 { high } else { before }
 }
 
-/// Rejects an extent of which a side, or the area inside the clip, is above its limit.
+/// Rejects an extent with a side or an area inside the clip above its limit.
 #[inline(always)]
 pub fn check_size(width: usize, height: usize, limit: PixelLimit) -> Result<()>
     ensures { MatchResult result

@@ -10,7 +10,7 @@ ghost use Rattle.icy_sixel.specs.ImageView.{image_value};
 use icy_sixel::{DcsSettings, Result, SixelDecoder, SixelError, SixelImage};
 use std::alloc::Global;
 
-/// Decodes a payload in two chunks: image and registers are those of the chunks joined.
+/// Decodes a payload in two chunks, as decoding the joined chunks does.
 pub fn decode_two_chunks(
     alloc: Global,
     decoder: &mut SixelDecoder,

@@ -1,4 +1,4 @@
-//! Hosts of the library: the code of README and docs/USING.md, and two callers with contracts.
+//! Hosts of the library: the code of docs/USING.md, and two callers with contracts.
 //!
 //! `host` stores its receiver in a struct, and `chunks` feeds sessions. Both are proved from the
 //! library's contracts alone.

@@ -4,7 +4,7 @@ use icy_sixel::script::{End, Outcome, Step, run};
 use icy_sixel::{Result, SixelDecoder};
 use std::alloc::Global;
 
-/// Replays a recording: a DCS sequence in chunks of 4 bytes, and one that was aborted.
+/// Replays a recording: a DCS sequence in chunks of 4 bytes, and an aborted one.
 pub fn replay(alloc: Global, decoder: &mut SixelDecoder, string: &[u8]) -> Result<Vec<Outcome>> {
     let steps = [
         Step::Dcs {

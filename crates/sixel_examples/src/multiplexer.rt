@@ -1,4 +1,4 @@
-//! A multiplexer that has to know which bytes of a pane's output are an image's own.
+//! A multiplexer that has to know which bytes of a pane belong to an image.
 
 use icy_sixel::{Result, SixelDcsFeedStatus, SixelImage, SixelReceiver, Status};
 

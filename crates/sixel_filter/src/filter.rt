@@ -99,7 +99,9 @@ impl Filter {
         Ok(())
     }
 
-    /// Ends the stream. The bytes that were kept are text, and an incomplete image is rejected.
+    /// Ends the stream.
+    ///
+    /// The bytes that were stored are text, and an incomplete image is rejected.
     pub fn end(&mut self, output: &mut Vec<u8>) -> Result<()>
         requires sound { IsSound self.old }
         ensures ends { OnOk result (Leads self.old output.old.items [] output.new.items) }
@@ -112,7 +114,9 @@ impl Filter {
         }
     }
 
-    /// Filters some of the bytes, and returns their number. It can be 0 where an image ends.
+    /// Filters some of the bytes, and returns their number.
+    ///
+    /// It can be 0 where an image ends.
     fn step(&mut self, bytes: &[u8], output: &mut Vec<u8>) -> Result<usize>
         requires sound { IsSound self.old }
         requires some { 0 < length bytes.now }

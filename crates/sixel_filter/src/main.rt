@@ -1,4 +1,4 @@
-//! A filter of a terminal's stream: it writes the text, and a note or an image for each image.
+//! A filter of a terminal's stream, which replaces each image and keeps the text.
 //!
 //! `sixel_filter PIECE size` writes the size of each image, `sixel_filter PIECE colors COUNT`
 //! encodes each in so many colors, and `sixel_filter PIECE refusals` leaves them out. Each writes

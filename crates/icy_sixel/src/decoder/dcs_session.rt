@@ -84,7 +84,7 @@ impl<'a> SixelDcsStreamDecoder<'a> {
         self.reader.writes()
     }
 
-    /// Returns how many pixels sixels of the payload have painted at most.
+    /// Returns an upper bound of the pixels that sixels of the payload have painted.
     ///
     /// It is 0 before the payload and after an error. The call does not allocate.
     ///

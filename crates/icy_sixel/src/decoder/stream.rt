@@ -83,7 +83,7 @@ impl<'a> SixelStreamDecoder<'a> {
         self.reader.writes()
     }
 
-    /// Returns how many pixels sixels have painted at most.
+    /// Returns an upper bound of the pixels that sixels have painted.
     ///
     /// It is 0 after an error. The call does not allocate. A wide sixel over pixels that exist can
     /// be stored as the colors of its blocks.

@@ -1,4 +1,4 @@
-//! The rows of an open image that are final, and copies of rows to a caller's memory.
+//! The final rows of an open image, and copies of rows to a caller's memory.
 //!
 //! In SIXEL the drawing position never goes up. Once a graphics new line is read, no byte that
 //! follows changes a row above it.
@@ -153,8 +153,8 @@ impl SixelReceiver {
     ///
     /// - those of `finish` but for `OutOfMemory`, which close the image,
     /// - those of `copy_rows` about released rows, the stride and `out`, which leave the image open
-    ///   as it was. The rows take at most those that [`size_so_far`](Self::size_so_far) reports once
-    ///   the image has ended.
+    ///   as it was. The rows take at most those that [`size_so_far`](Self::size_so_far) reports
+    ///   once the image has ended.
     pub fn finish_into(
         &mut self,
         first: usize,

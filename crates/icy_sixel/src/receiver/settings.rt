@@ -9,7 +9,7 @@ use crate::receiver::SixelReceiver;
 use sixel_base::registers::REGISTERS;
 
 impl SixelReceiver {
-    /// Returns the color of a register of the decoder: red, green and blue, a byte each.
+    /// Returns the color of a register: red, green and blue, a byte each.
     pub fn register(&self, register: u8) -> [u8; 3]
         ensures { result ≡ slice_index_or self.now.decoder.registers register [] }
     {
@@ -29,7 +29,7 @@ impl SixelReceiver {
         self.decoder.set_register(register, color);
     }
 
-    /// Returns the colors of all registers of the decoder: red, green and blue, a byte each.
+    /// Returns the colors of all registers: red, green and blue, a byte each.
     pub fn registers(&self) -> [[u8; 3]; REGISTERS]
         ensures { result ≡ self.now.decoder.registers }
     {

@@ -121,10 +121,10 @@ impl SixelImage {
         encode_in_palette(alloc, &self.source(), colors, dither, form)
     }
 
-    /// Returns the SIXEL output of this image in a given palette by given palette indices.
+    /// Returns the SIXEL output of this image by given palette indices.
     ///
-    /// There is an index for each pixel, row by row. Those of transparent pixels have no effect, as
-    /// the colors of all pixels have none.
+    /// There is an index for each pixel, row by row. The indices of transparent pixels have no
+    /// effect, and neither have the colors of pixels.
     ///
     /// ```rust
     /// let indices = palette_indices(alloc, &image.pixels, image.width, colors, Dither::Off)?;
@@ -133,10 +133,11 @@ impl SixelImage {
     ///
     /// # Errors
     ///
-    /// Those of [`encode_with_palette`](Self::encode_with_palette). Then `BufferSizeMismatch` for
-    /// another number of indices than there are pixels, and
-    /// `InvalidData("palette index out of range")` for an opaque pixel whose index is past the
-    /// palette.
+    /// Those of [`encode_with_palette`](Self::encode_with_palette), then:
+    ///
+    /// - `BufferSizeMismatch` for another number of indices than there are pixels
+    /// - `InvalidData("palette index out of range")` for an opaque pixel whose index is past the
+    ///   palette
     pub fn encode_indexed(
         &self,
         alloc: Global,
@@ -200,12 +201,12 @@ impl SixelImage {
     /// Returns the compact SIXEL output of this image: the same pixels in fewer bytes.
     ///
     /// Its palette is that of [`encode_with`](Self::encode_with), and so are its errors. A decoder
-    /// returns the same image from both outputs. The registers that it has afterwards differ: the
+    /// returns the same image from both outputs. The registers that it has afterwards differ. The
     /// compact output defines only palette entries that a pixel has, and numbers them by their runs
     /// of pixels. It is never longer.
     ///
-    /// Runs may cover pixels that a later run draws over, rows of several colors share a pass, and
-    /// a row ends with its last set pixel.
+    /// Runs may cover pixels that a later run draws over. Rows of several colors share a pass. A
+    /// row ends with its last set pixel.
     pub fn encode_compact(&self, alloc: Global, options: &EncodeOptions) -> Result<String>
         ensures refused { MatchOption (image_fault (image_value self.now))
             (IfErr result (λ e. e ≡ SixelError.OutOfMemory))

@@ -1,4 +1,4 @@
-//! Colors as three bytes: from a code, from percentages, and from hue, lightness and saturation.
+//! Colors as three bytes: from a code, by percentages, and by hue.
 
 ghost use Rattle.std.specs.Prelude.{◌≡◌, ◌+◌, ◌*◌, ◌/◌, ◌%◌, ◌<◌, ◌≤◌, drop};
 ghost use Rattle.std.specs.Int.{to_be_bytes, w32};
@@ -26,8 +26,9 @@ fn byte_of(percent: u32) -> u8
     ((percent.min(100) * 255 + 50) / 100) as u8
 }
 
-/// The color of a hue in degrees, where blue is 0, and of a lightness and a saturation in percent,
-/// each taken as 100 where it is more. With no saturation it is a grey.
+/// The color of a hue in degrees, a lightness and a saturation in percent.
+///
+/// Blue is at 0 degrees. A percentage above 100 counts as 100. Without saturation it is a grey.
 pub fn hls(hue: u32, lightness: u32, saturation: u32) -> [u8; 3]
     ensures { result ≡ spec.hls hue lightness saturation }
 {

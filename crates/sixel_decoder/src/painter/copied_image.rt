@@ -64,7 +64,7 @@ impl Painter<BandCanvas> {
         self.canvas.release_rows(rows);
     }
 
-    /// Copies rows of the image to a caller's memory, and returns the image without its pixels.
+    /// Copies rows of the image to a caller's memory, and returns its shape.
     pub fn copy_image(
         &mut self,
         first: usize,

@@ -58,7 +58,7 @@ impl Cell {
         self.red.gap(color[0]) + self.green.gap(color[1]) + self.blue.gap(color[2])
     }
 
-    /// The squared distance of a color to the farthest corner, beyond which no color is.
+    /// The squared distance of a color to the farthest corner of the box.
     #[inline(always)]
     pub fn reach(&self, color: [u8; 3]) -> u32
         ensures most { (c : List ℕ) → IsInBox self.now c → distance color c ≤ result }

@@ -1,4 +1,4 @@
-//! The distinct colors of an image's opaque pixels, with the number of pixels that have each.
+//! The distinct colors of an image's opaque pixels, each with its number of pixels.
 
 ghost use Rattle.std.specs.Prelude.{◌≡◌, ◌+◌, ◌*◌, ◌/◌, ◌<◌, ◌≤◌, ℕ, List, map, length};
 ghost use Rattle.std.specs.Prelude.{All, Contains, IfOk, slice_index};

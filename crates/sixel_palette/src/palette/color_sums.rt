@@ -60,7 +60,7 @@ impl ColorSums {
         }
     }
 
-    /// The color of a register that is next to the mean, or `color` if there is no pixel.
+    /// The register color next to the mean, or `color` if there is no pixel.
     pub fn mean_or(self, color: [u8; 3]) -> [u8; 3]
         requires { IsRegisterColor color }
         ensures { IsRegisterColor result }
@@ -75,7 +75,7 @@ impl ColorSums {
         )
     }
 
-    /// By how much the summed squared error falls if other pixels get an entry of their own.
+    /// How much the summed squared error falls if `other` gets an entry of its own.
     ///
     /// It is in units of 1/16, and rounded down: a guide.
     pub fn gain(self, other: ColorSums) -> u64 {

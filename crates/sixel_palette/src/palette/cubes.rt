@@ -30,7 +30,7 @@ const MANY: usize = 4096;
 /// How many groups of cubes there are, of 32 colors a side.
 const GROUPS: usize = 512;
 
-/// The entries of a palette, and those that may be nearest in each group and in each cube.
+/// The entries of a palette, and those that can be nearest in each group and cube.
 ///
 /// The cubes have no lists if there are few colors to look up.
 #[derive(Drop)]

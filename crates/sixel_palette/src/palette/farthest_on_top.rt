@@ -31,7 +31,7 @@ pub struct Topped {
     pub traversal: Traversal,
 }
 
-/// Adds entries up to `room`, each for the color that is farthest from the entries before it.
+/// Adds entries up to `room`, each for the color farthest from those before it.
 pub fn add_farthest(
     alloc: Global,
     codes: &[u32],

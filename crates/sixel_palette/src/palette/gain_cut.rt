@@ -1,4 +1,4 @@
-//! Boxes of colors, cut in two again and again where the summed squared error falls most.
+//! Boxes of colors, cut in two where the summed squared error falls most.
 //!
 //! X. Wu, "Color quantization by dynamic programming and principal analysis", ACM Transactions on
 //! Graphics 11 (1992), 348-372, cuts boxes in this way.
@@ -60,7 +60,7 @@ impl Channel {
     }
 }
 
-/// The colors of registers next to the means of the boxes that the bins are cut into.
+/// The register colors next to the means of the boxes that the bins are cut into.
 ///
 /// There are at most `room`. The bins are reordered.
 pub fn cut_colors(alloc: Global, bins: &mut [Bin], room: usize) -> Result<Vec<[u8; 3]>, AllocError>

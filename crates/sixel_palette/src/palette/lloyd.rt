@@ -1,4 +1,4 @@
-//! Lloyd's algorithm: each entry moves to the mean of the pixels that it is nearest to.
+//! Lloyd's algorithm: each entry moves to the mean of the pixels that have it.
 //!
 //! S. P. Lloyd, "Least squares quantization in PCM", IEEE Transactions on Information Theory 28
 //! (1982), 129-137.

@@ -13,7 +13,7 @@ use crate::palette::indices::indices_of;
 use crate::palette::nearest_entry::{Entry, NO_ENTRY, NearestEntry};
 use std::alloc::{AllocError, Global};
 
-/// Returns the palette index of each pixel: that of its nearest entry, the first of equals.
+/// Returns the palette index of each pixel: its nearest entry, the first of equals.
 ///
 /// The index of a transparent pixel is 0.
 pub fn nearest_indices(

@@ -1,4 +1,4 @@
-//! The refined palette of an image: a small summed squared error, from colors that registers show.
+//! The refined palette of an image: register colors with a small summed error.
 
 ghost use Rattle.std.specs.Prelude.{◌≡◌, ◌≢◌, ◌⊎◌, ◌-◌, ◌%◌, ◌<◌, ◌≤◌, ◌/◌, ℕ, List, length};
 ghost use Rattle.std.specs.Prelude.{All, Contains, Some, None, OnOk, IfOk, MatchResult};
