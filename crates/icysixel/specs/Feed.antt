@@ -1,4 +1,4 @@
--- What a feed of a piece does, as C sees it: the state before and after, what is reported, and the
+-- What a feed of a chunk does, as C sees it: the state before and after, what is reported, and the
 -- code. Each field is one fact. The words for what bytes mean are those of the receiver.
 use Rattle.std.specs.Prelude.{ℕ, ◌≡◌, ◌≢◌, ◌+◌, ◌≤◌, ◌++◌, List, length, true, false, None, nat_lt}
 use Rattle.sixel_base.specs.Dcs.{dcs_fault, dcs_growths, IsSameString}
@@ -11,7 +11,7 @@ use Rattle.icysixel.specs.Kept.{AreKept}
 use Rattle.icysixel.specs.declared.state.State.{State}
 use Rattle.icysixel.specs.declared.sessions.Fed.{Fed}
 
--- the open image was fed the piece; code 0 reports what was done, another one an error
+-- The open image was fed the chunk. Code 0 reports what was done, any other code is an error.
 pub record IsFed (before after : State) (piece : List ℕ) (now : Fed) (code : ℕ) : Type 0 where
   -- what stays, and the bytes so far
   pub closed : is_open before.receiver.image.form ≡ false → code ≡ 2
@@ -44,7 +44,7 @@ pub record IsFed (before after : State) (piece : List ℕ) (now : Fed) (code : �
         byte = status_byte
             (receivers.status before.receiver.image.form before.receiver.image.bytes);
       })
-  -- and no bytes that follow change what a string means
+  -- and no bytes that follow change what a DCS sequence means
   pub over_for_good : (more : List ℕ) → code ≡ 0 → before.receiver.image.form ≡ OfString
       → is_over OfString after.receiver.image.bytes ≡ true
       → IsSameString before.receiver.image.start.pixel_limit

@@ -35,8 +35,8 @@ layout_of layout = record {
   order = order_of layout;
 }
 
--- the code of what is wrong with rows and a buffer for them: they are not final, they were released,
--- the buffer is too small, or the stride does not fit the rows
+-- the code of what is wrong with rows and a buffer for them: rows that are not final or were
+-- released, a buffer that is too small, or a stride that does not fit the rows
 abbrev pub rows_code : CallFault → ℕ
 rows_code RowsNotFinal = 22
 rows_code RowsReleased = 23

@@ -27,7 +27,7 @@ pub record IsFinished (before after : State) (now : Shape) (code : ℕ) : Type 0
   pub registers : code ≡ 0 → AreFoundRegisters before.receiver.image.start
       (receivers.found before.receiver.image.form before.receiver.image.bytes)
       after.receiver.decoder.registers
-  -- it is what decoding in one call finds, whatever bytes follow a string
+  -- it is what decoding in one call finds, whatever bytes follow a DCS sequence
   pub as_decoded : (image : SixelImage) (more : List ℕ) → after.image ≡ Some image
       → IsDecodedAs before.receiver.image.start
       (receivers.found_followed before.receiver.image.form before.receiver.image.bytes more)

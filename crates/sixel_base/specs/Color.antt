@@ -38,8 +38,8 @@ channel lightness saturation angle =
     (255 * channel_at (low_end lightness saturation) (high_end lightness saturation) (angle % 360)
     + 300000) / 600000
 
--- A hue of 0 degrees is blue, which stands at 240 on the common circle: red lies 120 before, green
--- at the hue, blue 120 behind.
+-- DEC's hue 0 is blue, which is at 240 on the common circle. By a hue on that circle the angle of
+-- red is 120 more, that of green is the same, and that of blue is 240 more.
 abbrev pub hls_circle : ℕ → ℕ → ℕ → List ℕ
 hls_circle hue lightness saturation =
     channel lightness saturation (hue + 120)

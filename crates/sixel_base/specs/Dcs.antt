@@ -57,8 +57,8 @@ abbrev pub after_terminator : List ℕ → List ℕ
 after_terminator [] = []
 after_terminator (byte ∷ bytes) = if is_terminator byte then bytes else after_terminator bytes
 
--- ESC ends a payload at once, and the string with the `\` after it; any other byte interrupts the
--- string, and is not its own.
+-- ESC ends a payload at once. A `\` after it completes the DCS sequence. Any other byte interrupts
+-- the sequence, and does not belong to it.
 abbrev pub escape_status : List ℕ → SixelDcsFeedStatus
 escape_status [] = NeedMoreData
 escape_status (byte ∷ rest) = if byte == 92 then Complete else Interrupted 27
@@ -67,7 +67,7 @@ abbrev pub escape_count : List ℕ → ℕ
 escape_count [] = 1
 escape_count (byte ∷ rest) = if byte == 92 then 2 else 1
 
--- how a string ends at a terminator with these bytes after it
+-- how a DCS sequence ends at a terminator with these bytes after it
 abbrev pub end_status : ℕ → List ℕ → SixelDcsFeedStatus
 end_status terminator rest =
     if terminator == 0x9c then Complete
@@ -75,7 +75,7 @@ end_status terminator rest =
     else if terminator == 27 then escape_status rest
     else Interrupted terminator
 
--- how many bytes from the terminator on are the string's own
+-- how many bytes from the terminator on belong to the sequence
 abbrev pub end_count : ℕ → List ℕ → ℕ
 end_count terminator rest =
     if terminator == 0x9c || (terminator == 0x18 || terminator == 0x1a) then 1
@@ -90,11 +90,11 @@ abbrev pub payload_count_by : Option ℕ → List ℕ → ℕ
 payload_count_by None rest = 0
 payload_count_by (Some terminator) rest = end_count terminator rest
 
--- how the string stands, by its payload
+-- the status of the sequence, by its payload
 abbrev pub payload_status : List ℕ → SixelDcsFeedStatus
 payload_status payload = payload_status_by (first_terminator payload) (after_terminator payload)
 
--- how many bytes after the `q` are its own
+-- how many bytes after the `q` belong to it
 abbrev pub payload_count : List ℕ → ℕ
 payload_count payload =
     count payload + payload_count_by (first_terminator payload) (after_terminator payload)
@@ -115,7 +115,7 @@ stage_fault limit Heading = None
 stage_fault limit (Failing fault) = Some fault
 stage_fault limit (Reading settings payload) = fed_fault limit payload
 
--- the status of the bytes, how many of them are the string's own, and what is wrong with them
+-- the status of the bytes, how many of them belong to the sequence, and their fault
 abbrev pub dcs_status : List ℕ → SixelDcsFeedStatus
 dcs_status bytes = stage_status (stage bytes)
 
@@ -125,8 +125,7 @@ dcs_count bytes = stage_count bytes (stage bytes)
 abbrev pub dcs_fault : Limit → List ℕ → Option Fault
 dcs_fault limit bytes = stage_fault limit (stage bytes)
 
--- bytes that mean the same string as these: as many are its own, it stands the same, and the same
--- is wrong with it
+-- bytes that mean the same DCS sequence as these: the same count, status and fault
 pub record IsSameString (limit : Limit) (bytes other : List ℕ) : Type 0 where
   pub count : dcs_count other ≡ dcs_count bytes
   pub status : dcs_status other ≡ dcs_status bytes
@@ -168,7 +167,7 @@ stage_size limit (Reading settings payload) = Some (size limit (settled payload)
 abbrev pub dcs_size : Limit → List ℕ → Option (ℕ × ℕ)
 dcs_size limit bytes = stage_size limit (stage bytes)
 
--- how a string has ended, once a terminator of its payload came
+-- how a DCS sequence has ended, once a terminator of its payload was read
 abbrev pub ended_by : Option ℕ → List ℕ → Option SixelDcsFeedStatus
 ended_by None rest = None
 ended_by (Some terminator) rest = Some (end_status terminator rest)
@@ -176,7 +175,7 @@ ended_by (Some terminator) rest = Some (end_status terminator rest)
 abbrev pub ended_with : List ℕ → Option SixelDcsFeedStatus
 ended_with payload = ended_by (first_terminator payload) (after_terminator payload)
 
--- whether a string of this status has ended
+-- whether a DCS sequence of this status has ended
 abbrev pub has_ended : SixelDcsFeedStatus → Bool
 has_ended NeedMoreData = false
 has_ended status = true
@@ -189,7 +188,7 @@ has_come (Some status) = has_ended status
 abbrev pub end_fault : SixelDcsFeedStatus → Option Fault
 end_fault status = if has_ended status then None else Some Incomplete
 
--- the image of a string whose payload has begun, on this decoder
+-- the image of a DCS sequence whose payload has begun, on this decoder
 abbrev pub IsStringImage : DecoderState → Stage → Image → Type 0
 IsStringImage decoder Heading image = ⊥
 IsStringImage decoder (Failing fault) image = ⊥

@@ -44,7 +44,8 @@ abbrev pub command_fault : ℕ → Option Fault
 command_fault byte =
     if byte == 113 then None else if is_terminator byte then Some Malformed else Some BadHeader
 
--- where a header stands: it may go on, its `q` came and these bytes follow, or it has a fault
+-- the status of a header: it may continue, its `q` was read and these bytes follow, or it has a
+-- fault
 pub data Headed : Type 0 where
   Open : Headed
   Begun : List ℕ → Headed

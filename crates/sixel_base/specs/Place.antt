@@ -1,5 +1,5 @@
--- Where a sixel stands and how far a picture reaches. Each word looks back from the newest token:
--- the span that a repeat introducer gives to the next sixel, the columns since the last return or
+-- Where a sixel is drawn and how large a picture is. Each definition looks back from the newest
+-- token: the count of a repeat introducer for the next sixel, the columns since the last return or
 -- new line, the new lines, the edges and the sizes of raster attributes.
 use Rattle.std.specs.Prelude.{ℕ, ◌+◌, max, nat_lt, if◌then◌else◌, [], ◌∷◌}
 use Rattle.sixel_base.specs.Fields.{field}

@@ -1,7 +1,7 @@
--- How far the sixels of a payload reach inside the clip: in each row the greatest right edge of a
--- sixel that covers a pixel of it, and the sum of these over all rows. The measure is this
--- library's own, and says nothing of how pixels are kept. Where sixels stand, by DEC's manual, is
--- in Place.
+-- The painted area of a payload inside the clip. The extent of a row is the greatest right edge of
+-- a sixel that covers a pixel of it, and the painted area is the sum over all rows. The measure is
+-- this library's own, and does not depend on how pixels are stored. Where sixels are drawn, by
+-- DEC's manual, is in Place.
 use Rattle.std.specs.Prelude.{ℕ, ◌+◌, max, min, ◌&&◌, if◌then◌else◌, [], ◌∷◌}
 use Rattle.sixel_base.specs.History.{Sixel, History}
 use Rattle.sixel_base.specs.Picture.{is_struck, total}

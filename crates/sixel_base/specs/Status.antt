@@ -1,6 +1,5 @@
--- How a payload stands by its first terminator, which ends it and is not its own. That sixel data
--- end at a control which does not belong to them is DEC's rule; the names of the two cases are
--- those of icy_sixel.
+-- The status of a payload by its first terminator, which ends it and does not belong to it. This is
+-- DEC's rule for sixel data. The names of the two cases are those of icy_sixel.
 use Rattle.std.specs.Prelude.{ℕ, Option, Some, None}
 use Rattle.sixel_base.specs.declared.status.SixelFeedStatus.{SixelFeedStatus}
 use Rattle.sixel_base.specs.declared.status.SixelFeedStatus.TheVariants.{NeedMoreData, Terminated}

@@ -1,5 +1,5 @@
 -- How rows of pixels lie in a caller's memory: each row begins a stride after the one before it.
--- The bytes of a pixel stand as the image has them, or with blue and red exchanged. The layout is
+-- The bytes of a pixel are in the order of the image, or with blue and red exchanged. The layout is
 -- this library's own.
 use Rattle.std.specs.Prelude.{◌≡◌, ℕ, ◌+◌, ◌-◌, ◌*◌, ◌/◌, ◌%◌, ◌≤◌, ◌<◌, nat_lt, ◌&&◌, max}
 use Rattle.std.specs.Prelude.{List, [], ◌∷◌, slice_index, if◌then◌else◌}

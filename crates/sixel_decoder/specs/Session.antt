@@ -1,8 +1,9 @@
 -- What contracts see of a session that decodes one payload in chunks: its start, the bytes fed,
 -- whether a feed was rejected, the pixels written to grow its canvas, the capacity of the rows in
--- pixels, how many pixels sixels have painted at most, and how many rows from the top the canvas has
--- released; whether it keeps the picture of the tokens before a fault, and whether it has one. This
--- library's own: it does not mention chunks, because chunk boundaries have no effect.
+-- pixels, an upper bound of the pixels that sixels have painted, and how many rows from the top the
+-- canvas has released. Then whether it keeps the picture of the tokens before a fault, and whether
+-- it has one. This library's own: it does not mention chunks, because chunk boundaries have no
+-- effect.
 use Rattle.std.specs.Prelude.{Bool, List, ℕ}
 use Rattle.sixel_base.specs.Stroke.{Origin}
 use Rattle.sixel_base.specs.declared.state.DecoderState.{DecoderState}

@@ -68,12 +68,11 @@ IsFarthestFirst Member entries =
     (i : ℕ) (d : List ℕ) → i < length entries
     → IsFarthest Member (take i entries) (slice_index_or entries i d)
 
--- how many entries a palette has room for
+-- how many entries a palette has at most
 abbrev pub palette_room : ℕ → ℕ
 palette_room max_colors = max 2 (min max_colors 256)
 
--- the palette of an image: farthest first, as many entries as there is room for and the image has
--- colors
+-- the palette of an image: farthest first, with as many entries as max_colors and its colors allow
 pub record IsPalette (pixels : List ℕ) (max_colors : ℕ) (entries : List (List ℕ)) : Type 0 where
   pub order : IsFarthestFirst (IsShown pixels) entries
   pub size : (n : ℕ) × HasSize (IsShown pixels) n

@@ -52,7 +52,7 @@ pub record IsRefined (pixels : List ℕ) (max_colors : ℕ) (palette : RefinedPa
   -- registers show the entries, of which there are not too many
   pub shown : All IsRegisterColor palette.colors.items
   pub few : length palette.colors.items ≤ max_colors
-  -- where there is room for the colors of all opaque pixels, each has its entry
+  -- with at most as many opaque colors as entries, each has its entry
   pub complete : (n : ℕ) → HasSize (IsShown pixels) n → n ≤ max_colors
       → (c : List ℕ) → IsShown pixels c → Contains palette.colors.items (register_color c)
   pub indices : AreIndices pixels palette.colors.items palette.indices.items

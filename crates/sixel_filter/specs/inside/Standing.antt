@@ -1,5 +1,5 @@
--- Where a filter stands: what its parts hold, and what is left to be written of the bytes that
--- come. This program's own.
+-- The state of a filter: its parts, and what is left to be written of the bytes that follow. This
+-- program's own.
 use Rattle.std.specs.Prelude.{ℕ, ◌≡◌, ◌==◌, Bool, true, false, ◌&&◌, List, [], ◌∷◌, ◌++◌, Option}
 use Rattle.std.specs.Prelude.{None}
 use Rattle.std.specs.Io.KnownBytes.{Appends}
@@ -21,13 +21,12 @@ use Rattle.sixel_filter.specs.declared.filter.Place.TheVariants.{RefusedEscape}
 abbrev pub decoder_of : Filter → DecoderState
 decoder_of filter = filter.receiver.decoder
 
--- bytes that may begin an image where they stand
+-- bytes that may begin an image here
 abbrev pub Starts : Bool → List ℕ → Type 0
 Starts in_character [] = ⊥
 Starts in_character (byte ∷ bytes) = (in_character && byte == 0x90) ≡ false
 
--- the receiver has a control string open, from the decoder that it has, and refused none of its
--- bytes
+-- the receiver has a DCS sequence open, which began with its decoder, and rejected none of its bytes
 pub record IsReceiving (filter : Filter) : Type 0 where
   pub form : filter.receiver.image.form ≡ OfString
   pub start : filter.receiver.image.start ≡ filter.receiver.decoder
@@ -35,7 +34,7 @@ pub record IsReceiving (filter : Filter) : Type 0 where
   pub sound : dcs_fault filter.receiver.decoder.pixel_limit filter.receiver.image.bytes ≡ None
   pub starts : Starts filter.in_character filter.receiver.image.bytes
 
--- the header of that string goes on, and is held back
+-- the header of that sequence continues, and its bytes are stored
 pub record IsHeading (filter : Filter) : Type 0 where
   pub receiving : IsReceiving filter
   pub heading : stage filter.receiver.image.bytes ≡ Heading
