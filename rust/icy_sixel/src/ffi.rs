@@ -880,7 +880,7 @@ mod tests {
     }
 
     #[test]
-    fn what_no_layout_has_is_refused() {
+    fn sizes_without_a_layout_are_rejected() {
         for size in [usize::MAX, usize::MAX - 15, isize::MAX as usize, isize::MAX as usize - 15] {
             assert!(!rattle_alloc(size, 1).ok);
             let old = block(b"kept", 1);

@@ -99,7 +99,7 @@ fn enums_agree_with_the_library() {
 }
 
 #[test]
-fn enums_are_asked_and_set() {
+fn enums_are_read_and_set() {
     use PixelAspectRatio::{Ratio2To1, Ratio3To1, Ratio5To1, Square};
     for ratio in [Ratio5To1, Ratio3To1, Ratio2To1, Square] {
         assert_eq!(ratio.is_square(), ratio == Square);

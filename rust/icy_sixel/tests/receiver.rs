@@ -96,7 +96,7 @@ fn rows(count: usize, pixels: [[u8; 4]; 3]) -> Vec<u8> {
 }
 
 #[test]
-fn rows_are_copied_while_an_image_comes() {
+fn rows_are_copied_before_the_image_ends() {
     const CLEAR: [u8; 4] = [0; 4];
     const UNTOUCHED: [u8; 4] = [9; 4];
     let mut receiver = SixelReceiver::new();

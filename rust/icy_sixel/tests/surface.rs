@@ -102,7 +102,7 @@ fn calls_of_sessions() {
 }
 
 #[test]
-fn what_is_ours() {
+fn names_of_our_own() {
     let _: fn(&Decoder, u8) -> [u8; 3] = Decoder::register;
     let _: fn(&mut Decoder, u8, [u8; 3]) = Decoder::set_register;
     let _: fn(&Decoder) -> [[u8; 3]; 256] = Decoder::registers;
