@@ -101,7 +101,7 @@ impl<'a> SixelStreamDecoder<'a> {
     /// Returns the width and the height of the image so far, unless a feed has failed.
     ///
     /// They are those of the closed sixels and raster attributes, at least 1 each. The image of the
-    /// whole payload is at least as large. The call does not allocate.
+    /// whole payload is at least as large, unless it is cropped. The call does not allocate.
     pub fn size_so_far(&self) -> Option<(usize, usize)>
         ensures { IsSizeSoFar (payload self.now) result }
     {
