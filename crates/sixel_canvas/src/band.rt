@@ -211,7 +211,9 @@ fn draw_rows(pixels: &mut [[u8; 4]], cap: usize, from: usize, to: usize, bits: u
     }
 }
 
-/// Does so eight columns at once. The last eight may go past the run, where nothing changes.
+/// Draws a run eight columns at once.
+///
+/// The last eight may go past the run, where nothing changes.
 #[inline(never)]
 fn draw_narrow(pixels: &mut [[u8; 4]], cap: usize, from: usize, to: usize, bits: u8, color: [u8; 4])
     requires ordered { from ≤ to }
