@@ -21,7 +21,7 @@ pub fn decode_payload(
     decoder.decode_from_dcs(alloc, payload, settings)
 }
 
-/// The text of an image in at most 16 colors.
+/// Returns the SIXEL output of an image in at most 16 colors.
 pub fn encode(alloc: Global, pixels: Vec<u8>, width: usize, height: usize) -> Result<String> {
     let image = SixelImage::try_from_rgba(pixels, width, height)?;
     image.encode_with(alloc, &EncodeOptions { max_colors: 16 })

@@ -1,4 +1,4 @@
-//! Lists of what a decoder is to do.
+//! Lists of steps on one decoder.
 
 use icy_sixel::script::{End, Outcome, Step, run};
 use icy_sixel::{Result, SixelDecoder};

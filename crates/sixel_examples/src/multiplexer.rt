@@ -2,10 +2,10 @@
 
 use icy_sixel::{Result, SixelDcsFeedStatus, SixelImage, SixelReceiver, Status};
 
-/// What a pane's bytes were, as far as they are an image's.
+/// How far the bytes of a pane belong to an image.
 #[derive(Drop)]
 pub enum Came {
-    /// All of them are the image's own, and more are.
+    /// All of them belong to the image, and it has not ended.
     Part,
     /// The image has ended, and so many bytes belong to it.
     Whole(SixelImage, usize),

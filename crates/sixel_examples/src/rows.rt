@@ -1,4 +1,4 @@
-//! A window that shows the rows of an image while it comes.
+//! A window that shows the rows of an image before it ends.
 
 use icy_sixel::{ChannelOrder, ImageShape, Result, RowLayout, SixelReceiver};
 
@@ -9,7 +9,7 @@ pub const WINDOW: RowLayout = RowLayout {
     order: ChannelOrder::Bgra,
 };
 
-/// Reads a chunk, draws the rows that are final now, and returns how many rows are drawn then.
+/// Reads a chunk, draws the rows that are final, and returns how many are drawn.
 pub fn draw_rows(
     receiver: &mut SixelReceiver,
     chunk: &[u8],

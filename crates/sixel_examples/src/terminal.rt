@@ -1,26 +1,27 @@
-//! A terminal that keeps its images in a struct, and gets bytes when they come.
+//! A terminal that stores its receiver in a struct.
 
 use icy_sixel::{DcsSettings, Result, SixelFeedStatus, SixelImage, SixelReceiver, Status};
 use std::alloc::Global;
 
-/// What a terminal keeps of its images.
+/// The images of a terminal.
 #[derive(Drop)]
 pub struct Images {
     receiver: SixelReceiver,
 }
 
-/// What came of some bytes of an image.
+/// The result of reading some bytes of an image.
 #[derive(Drop)]
 pub struct Read {
-    /// How many of them are the image's own.
+    /// How many of them belong to the image.
     pub consumed: usize,
     /// The image, once it has ended.
     pub image: Option<SixelImage>,
 }
 
 impl Images {
-    /// Images on a terminal with this background, which is what an opaque image begins with, and
-    /// with a screen of this width and height in pixels.
+    /// Creates the images of a terminal with this background, and a screen in pixels.
+    ///
+    /// The background is that of an opaque image.
     pub fn new(background: [u8; 3], width: usize, height: usize) -> Self {
         let mut receiver = SixelReceiver::new();
         receiver.set_register(0, background);
@@ -30,13 +31,13 @@ impl Images {
         Self { receiver }
     }
 
-    /// The terminal's parser has read DCS, these parameters and `q`.
+    /// Begins an image: the parser has read DCS, these parameters and `q`.
     pub fn begin(&mut self, alloc: Global, p1: Option<u16>, p2: Option<u16>) {
         let settings = DcsSettings::new(p1, p2, None);
         self.receiver.begin_frame(alloc, settings);
     }
 
-    /// Bytes that came since. The terminator is left to the parser.
+    /// Reads the next bytes of the payload. The terminator is left to the parser.
     pub fn read(&mut self, bytes: &[u8]) -> Result<Read> {
         let received = self.receiver.feed(bytes)?;
         let has_ended = matches!(
@@ -54,7 +55,7 @@ impl Images {
         })
     }
 
-    /// Width and height of the image so far, to reserve cells for it before it ends.
+    /// Returns the size of the image so far, to reserve cells before it ends.
     pub fn size_so_far(&self) -> Option<(usize, usize)> {
         self.receiver.size_so_far()
     }

@@ -9,11 +9,11 @@ pub struct View {
     pub image: SixelImage,
     /// How often each row is drawn, so that the pixels have their shape.
     pub row_repeat: u16,
-    /// Whether something has to stand behind the image.
+    /// Whether the viewer draws something behind the image.
     pub has_transparency: bool,
 }
 
-/// Reads the image of a file, whatever stands round it.
+/// Reads the image of a file, which may have other bytes around it.
 pub fn open(alloc: Global, bytes: &[u8]) -> Result<View> {
     let image = SixelImage::decode(alloc, bytes)?;
     let row_repeat = image.aspect_ratio.pad();
