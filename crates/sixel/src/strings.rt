@@ -53,7 +53,7 @@ pub fn write_strings<O: Write>(
     Ok(())
 }
 
-/// Writes the image of the DCS sequence at the front, and returns the bytes after it.
+/// Writes the image of the first DCS sequence, and returns the bytes after it.
 fn write_string<'a, O: Write>(
     alloc: Global,
     decoder: &mut SixelDecoder,

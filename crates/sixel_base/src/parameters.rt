@@ -44,7 +44,7 @@ impl Model for Parameters {
     ghost invariant = { λ p. p.count ≤ 6 };
 }
 
-/// The digits at the front of bytes: their number, and the parameters that they are.
+/// The digits at the front of bytes, as parameters, and their number.
 #[derive(Clone, Copy)]
 pub struct Digits {
     pub parameters: Parameters,

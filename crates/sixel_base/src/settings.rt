@@ -148,7 +148,7 @@ impl Model for DcsSettings {
 }
 
 impl DcsSettings {
-    /// Creates settings with a P1 (pixel shape), a P2 (background) and a P3 (grid size).
+    /// Creates settings with P1 (pixel shape), P2 (background) and P3 (grid size).
     pub fn new(aspect_ratio: Option<u16>, zero_color: Option<u16>, grid_size: Option<u16>) -> Self
         ensures { result ≡ record {
           aspect_ratio = aspect_ratio;

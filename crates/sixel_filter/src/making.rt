@@ -40,7 +40,7 @@ fn write_size(alloc: Global, image: &SixelImage, output: &mut Vec<u8>) -> Result
     Ok(())
 }
 
-/// Writes the compact output of the image in so many colors, or a note of the error.
+/// Writes the compact output of the image in so many colors, or a note.
 fn write_anew(
     alloc: Global,
     max_colors: u16,

@@ -279,7 +279,7 @@ fn answer<T>(code: u32, value: T) -> Answer<T> {
 /// The parameters of a DCS sequence, where -1 means an absent one.
 pub(crate) type Parameters = [i32; 3];
 
-/// Pixels that are to be encoded, four bytes each, with the parameters of the output.
+/// Pixels to encode, four bytes each, with the parameters of the output.
 pub(crate) struct Source<'a> {
     pub(crate) pixels: &'a [u8],
     pub(crate) width: usize,
@@ -739,9 +739,9 @@ struct Tried {
     block: *mut u8,
 }
 
-/// The bytes before each block of the library, which contain the size of its memory.
+/// The number of bytes before each block, which contain the size of its memory.
 ///
-/// Rust's allocator needs that size when the memory is freed. Their number is the alignment of all
+/// Rust's allocator needs that size when the memory is freed. The number is the alignment of all
 /// blocks, which is the greatest that the library asks for.
 const HEAD: usize = 16;
 
@@ -751,7 +751,7 @@ static NOTHING: u8 = 0;
 impl Tried {
     const REFUSED: Self = Self { ok: false, block: (&raw const NOTHING).cast_mut() };
 
-    /// The block in memory that was allocated with this layout, or an error if it is null.
+    /// The block in memory of this layout, or an error if it is null.
     ///
     /// # Safety
     ///

@@ -50,7 +50,7 @@ mod tests {
     use crate::codes::{BAD_DIMENSIONS, BUFFER_MISMATCH, OVERFLOW};
     use crate::ffi::{Handle, Source};
 
-    /// What the library returns for a size without pixels: a mismatch, if the size is valid.
+    /// What the library returns for a size without pixels: a mismatch if it is valid.
     fn of_the_library(handle: &mut Handle, width: usize, height: usize) -> Result<()> {
         let pixels = &[];
         let source = Source { pixels, width, height, p1: 9, p2: 1, max_colors: 2 };
