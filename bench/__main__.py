@@ -1,11 +1,12 @@
 """Times the program `sixel`, the library for C, the Rust crate and libsixel: python3 bench [FILE..]
 
 A FILE of a DCS sequence is decoded; one of raw RGBA pixels, named FILE:WIDTHxHEIGHT, is encoded. By
-default, two images are made here and encoded, and what that writes is decoded. Each column is a
-number per pixel; those of a tool that is not installed have a dash.
+default, two images are made here and encoded. What that writes is decoded, with an image of ten
+megapixels. Each column is a number per pixel; those of a tool that is not installed have a dash.
 
   instructions        of a process less those of one on a single pixel, by valgrind
   C, Rust, libsixel   nanoseconds in process, the least of RUNS turns; libsixel does not dither
+  C, bytes            nanoseconds of the library for C, fed in chunks of one byte
 """
 import itertools
 import math
@@ -37,6 +38,7 @@ BUILDS = {
 }
 TIMERS = {
     "C": "{room}/c {file} 12 {colors}",
+    "C, bytes": "{room}/c {file} 12 {colors} 1",
     "Rust": "{room}/target/release/examples/speed -t 0.2 -k {colors} {file}",
     "libsixel": "{room}/peer {file} 12 {colors}",
 }
@@ -56,17 +58,17 @@ def instructions(arguments, stdin):
     return int(re.search(rb"Collected : (\d+)", found)[1])
 
 
-def in_process(room, command, file, colors, timers):
+def in_process(room, command, file, colors):
     """The least nanoseconds of each timer. They take turns, because a machine may slow down."""
     least = dict.fromkeys(TIMERS, math.inf)
-    for timer in RUNS * timers:
+    for timer in RUNS * list(TIMERS):
         words = TIMERS[timer].format(room=room, file=shlex.quote(file), colors=colors)
         found = re.search(rb"^ *%s +(\S+)" % command.encode(), run(words)[0] or b"", re.M)
         least[timer] = min(least[timer], float(found[1]) if found else math.inf)
     return least.values()
 
 
-def report(room, file, timers):
+def report(room, file):
     """Prints the lines of a file."""
     raw = re.fullmatch(r"(.*):(\d+)x(\d+)", file)
     path = Path(raw[1] if raw else file)
@@ -79,7 +81,7 @@ def report(room, file, timers):
         whole = instructions(arguments.format(width, height), data)
         columns = [
             (whole - instructions(arguments.format(1, 1), single)) / (width * height),
-            *in_process(room, command, file, colors, timers),
+            *in_process(room, command, file, colors),
         ]
         texts = (f"{it:13.1f}" if math.isfinite(it) else f"{'-':>13}" for it in columns)
         title = f"{command} {path.name[:20]:20} {width:>5}x{height:<5} {colors:3}"
@@ -87,25 +89,28 @@ def report(room, file, timers):
 
 
 def made(room):
-    """Two images, one of smooth colors and one of flat ones, and their SIXEL output."""
+    """An image of smooth colors and one of flat ones, and SIXEL output of both and a tall one."""
     noise = random.Random(1)
     smooth, flat = [], []
     for y, x in itertools.product(range(480), range(640)):
         smooth += [x * 2 // 5, y // 2, (x + y) // 5 + noise.randrange(16), 255]
         flat += [x // 80 % 4 * 60, y // 40 % 3 * 90, (x + y) // 200 % 2 * 200, 255 * (x >= 20)]
-    for name, pixels in (("smooth", bytes(smooth)), ("flat", bytes(flat))):
-        (room / name).write_bytes(pixels)
-        (room / f"{name}.six").write_bytes(run(f"{SIXEL} encode 640 480 256", pixels)[0])
-    return [f"{room}/{it}" for it in ("smooth:640x480", "flat:640x480", "smooth.six", "flat.six")]
+    for name, pixels, times in (("smooth", smooth, 1), ("flat", flat, 1), ("tall", smooth, 33)):
+        (room / name).write_bytes(times * bytes(pixels))
+        text = run(f"{SIXEL} encode 640 {480 * times} 256 <{room}/{name}")[0]
+        (room / f"{name}.six").write_bytes(text)
+    names = ("smooth:640x480", "flat:640x480", "smooth.six", "flat.six", "tall.six")
+    return [f"{room}/{it}" for it in names]
 
 
 def main(files):
     with tempfile.TemporaryDirectory() as folder:
         room = Path(folder)
-        built = {it: run(how.format(room=room))[0] is not None for it, how in BUILDS.items()}
+        for how in BUILDS.values():
+            run(how.format(room=room))
         print(f"{'':42}", *(f"{it:>13}" for it in ("instructions", *TIMERS)), sep="")
         for file in files or made(room):
-            report(room, file, [it for it, found in built.items() if found])
+            report(room, file)
         for text in () if files else HOSTILE:
             start = time.perf_counter()
             run(f"{SIXEL} payload", text.encode() * (1_000_000 // len(text)))

@@ -87,27 +87,23 @@ static size_t encoded(const uint8_t *pixels, size_t width, size_t height, int co
 
 int main(int argc, char **argv)
 {
-    size_t length = 0, width, height, bytes = 0, turns = argc > 2 ? strtoull(argv[2], NULL, 10) : 0;
+    size_t length = 0, width, height, turns = argc > 2 ? strtoull(argv[2], NULL, 10) : 0;
     int colors = argc > 3 ? atoi(argv[3]) : 256;
     int is_raw = turns > 0 && part_size(argv[1], &width, &height);
     uint8_t *file = turns > 0 ? read_file(argv[1], &length) : NULL;
     double *times = calloc(turns, sizeof *times);
     if (file == NULL || times == NULL)
         return fputs("usage: libsixel FILE TURNS [COLORS]\n", stderr), 2;
-    uint8_t *pixels = is_raw ? file : decoded(file, length, &width, &height);
-    for (size_t turn = 0; turn < turns && !is_raw; turn++) {
-        double begun = now();
-        free(decoded(file, length, &width, &height));
-        times[turn] = now() - begun;
-    }
-    if (!is_raw) report("decode", times, turns, width * height, length);
+    size_t text = length;
     for (size_t turn = 0; turn < turns; turn++) {
         double begun = now();
-        bytes = encoded(pixels, width, height, colors);
+        if (is_raw)
+            text = encoded(file, width, height, colors);
+        else
+            free(decoded(file, length, &width, &height));
         times[turn] = now() - begun;
     }
-    report("encode", times, turns, width * height, bytes);
-    if (!is_raw) free(pixels);
+    report(is_raw ? "encode" : "decode", times, turns, width * height, text);
     free(times);
     free(file);
     return 0;
