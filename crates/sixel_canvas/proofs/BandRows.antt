@@ -9,6 +9,8 @@ use Rattle.std.proofs.lemmas.Bool.{cases_lt, cases_order, lt-ltb, le-ltb, lt-leb
 use Rattle.std.proofs.lemmas.Bool.{eqb-true, leb-true, true≢false}
 use Rattle.std.proofs.lemmas.Nat.{row_fits}
 use Rattle.std.proofs.lemmas.List.{get_or_append_left, get_or-append_right, get_or_past}
+use Rattle.std.proofs.lemmas.List.{get_or-set_same, get_or-set_other}
+use Rattle.std.proofs.Math.ListN.{set}
 use Rattle.sixel_canvas.proofs.Lanes.{each_of_four, four_lanes, get_or-twice}
 use Rattle.sixel_base.specs.Picture.{covers, is_set, is_struck}
 use Rattle.sixel_canvas.specs.inside.Drawn.{covers_block}
@@ -123,6 +125,113 @@ struck_same px mid wide from to bits bit color d column k miss before =
     (none_here (k == bit) (nat_le from column && nat_lt column to) (is_struck 0 bits k)
     (struck_not bits bit k miss))
     before (rows_up k bit)
+
+set_filled : (xs : List (List ℕ)) (place to i : ℕ) (color d : List ℕ) → place < length xs →
+    to ≡ place + 1 →
+    get_or (set xs place color) i d ≡ filled place to color i (get_or xs i d)
+set_filled xs place to i color d inside next = elim (cases_order i place) [
+  | inl same ↦
+      rw (
+        same,
+        get_or-set_same xs place color d inside,
+        le-leb place place (omega arith),
+        lt-ltb place to (omega (arith, next)),
+      ) refl
+  | inr (inl above) ↦
+      rw (
+        get_or-set_other xs place i color d (λ e. omega (arith, e, above)),
+        lt-leb place i above,
+      ) refl
+  | inr (inr below) ↦
+      rw (
+        get_or-set_other xs place i color d (λ e. omega (arith, e, below)),
+        le-leb place i (omega (arith, below)),
+        le-ltb i to (omega (arith, below, next)),
+      ) refl
+]
+
+or_swap : (a f h c : Bool) → (((a || f) || h) && c) ≡ (((a || h) || f) && c)
+or_swap true f h c = refl
+or_swap false true true c = refl
+or_swap false true false c = refl
+or_swap false false true c = refl
+or_swap false false false c = refl
+
+or_same : (a f h c : Bool) → (h ≡ true → c ≡ false) →
+    (((a || f) || f) && c) ≡ (((a || h) || f) && c)
+or_same true f h c none = refl
+or_same false true true c none = refl
+or_same false true false c none = refl
+or_same false false true c none = sym (none refl)
+or_same false false false c none = refl
+
+none_between : (between set : Bool) → set ≡ false → (between && set) ≡ false
+none_between true set is = is
+none_between false set is = refl
+
+-- the rows so far and the first one, with the row of the next bit
+next_row : (bits bit first row column at k : ℕ) (set : Bool) → is_set bits bit ≡ set →
+    (is_set bits bit ≡ true → row ≡ bit) → (is_set bits bit ≡ false → row ≡ first) →
+    (((nat_lt k bit || k == first) || k == row) && covers at (at + 1) 0 bits column k)
+    ≡ ((nat_lt k (bit + 1) || k == first) && covers at (at + 1) 0 bits column k)
+next_row bits bit first row column at k true is here other =
+    rw (here is, rows_up k bit)
+    (or_swap (nat_lt k bit) (k == first) (k == bit) (covers at (at + 1) 0 bits column k))
+next_row bits bit first row column at k false is here other =
+    rw (other is, rows_up k bit)
+    (or_same (nat_lt k bit) (k == first) (k == bit) (covers at (at + 1) 0 bits column k)
+    (λ same. none_between (nat_le at column && nat_lt column (at + 1)) (is_struck 0 bits k)
+    (struck_not bits bit k is same)))
+
+-- a set pixel of a column, drawn in this row
+set_row :
+    (px mid : List (List ℕ)) (wide at bits row : ℕ) (color d : List ℕ) (column k : ℕ)
+    (above : Bool) → length mid ≡ 6 * wide → column < wide → k < 6 → at < wide → row < 6 →
+    is_set bits row ≡ true →
+    stored mid wide d column k
+    ≡ (if above && covers at (at + 1) 0 bits column k then color else stored px wide d column k) →
+    stored (set mid (row * wide + at) color) wide d column k
+    ≡ (if (above || k == row) && covers at (at + 1) 0 bits column k then color
+    else stored px wide d column k)
+set_row px mid wide at bits row color d column k above fits inside six within low hit before =
+    let place = row_fits row wide 6 wide low (omega arith) in
+    more_rows _ above _ (k == row) (covers at (at + 1) 0 bits column k) _ _ _ color
+    (set_filled mid (row * wide + at) (row * wide + (at + 1)) (k * wide + column) color d
+    (omega (arith, fits, place, within)) (omega arith))
+    (within_row wide at (at + 1) row column k inside (omega arith) (omega (arith, within))
+    ∙ if_here (k == row) (nat_le at column && nat_lt column (at + 1)) (is_struck 0 bits k)
+    (struck_here bits row k six hit))
+    before refl
+
+-- the first of them
+pub set_first :
+    (px : List (List ℕ)) (wide at bits first : ℕ) (color d : List ℕ) (column k : ℕ) →
+    length px ≡ 6 * wide → column < wide → k < 6 → at < wide → first < 6 →
+    is_set bits first ≡ true →
+    stored (set px (first * wide + at) color) wide d column k
+    ≡ (if (nat_lt k 0 || k == first) && covers at (at + 1) 0 bits column k then color
+    else stored px wide d column k)
+set_first px wide at bits first color d column k fits inside six within low hit =
+    set_row px px wide at bits first color d column k (nat_lt k 0) fits inside six within low hit
+    (rw (le-ltb k 0 (omega arith)) refl)
+
+-- and one of the next row
+pub set_more :
+    (px mid : List (List ℕ)) (wide at bits bit first row : ℕ) (color d : List ℕ) (column k : ℕ) →
+    length mid ≡ 6 * wide → column < wide → k < 6 → at < wide → row < 6 → is_set bits row ≡ true →
+    (is_set bits bit ≡ true → row ≡ bit) → (is_set bits bit ≡ false → row ≡ first) →
+    stored mid wide d column k
+    ≡ (if (nat_lt k bit || k == first) && covers at (at + 1) 0 bits column k then color
+    else stored px wide d column k) →
+    stored (set mid (row * wide + at) color) wide d column k
+    ≡ (if (nat_lt k (bit + 1) || k == first) && covers at (at + 1) 0 bits column k then color
+    else stored px wide d column k)
+set_more px mid wide at bits bit first row color d column k fits inside six within low hit here
+    other before =
+    set_row px mid wide at bits row color d column k (nat_lt k bit || k == first) fits inside six
+    within low hit before
+    ∙ ap (λ drawn. if drawn then color else stored px wide d column k)
+    (next_row bits bit first row column at k (is_set bits bit) refl here other)
 
 sixel_here : (sixels : List ℕ) (wide from bit column k : ℕ) → k < 6 → from ≤ column →
     (k == bit) ≡ true →

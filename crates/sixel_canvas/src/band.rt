@@ -1,8 +1,8 @@
 //! Six rows of pixels in one block, for the bands of an image one after another.
 ghost use Rattle.std.specs.Prelude.{◌≡◌, ℕ, ◌+◌, ◌*◌, ◌≤◌, ◌<◌, List, length, max, min};
-ghost use Rattle.std.specs.Prelude.{false, nat_le, nat_lt, ◌&&◌, ◌==◌, slice_index_or};
+ghost use Rattle.std.specs.Prelude.{true, false, nat_le, nat_lt, ◌&&◌, ◌==◌, slice_index_or};
 ghost use Rattle.std.specs.Prelude.{IfOk, if◌then◌else◌};
-ghost use Rattle.sixel_base.specs.Picture.{covers};
+ghost use Rattle.sixel_base.specs.Picture.{covers, is_set};
 ghost use Rattle.sixel_canvas.specs.inside.Band.{cell, covers_four, stored, IsBand};
 ghost use Rattle.sixel_canvas.specs.inside.Drawn.{covers_block};
 
@@ -202,13 +202,62 @@ fn draw_rows(pixels: &mut [[u8; 4]], cap: usize, from: usize, to: usize, bits: u
         → stored pixels.new cap d column k
         ≡ (if covers from to 0 bits column k then color else stored pixels.old cap d column k) }
 {
-    if to - from > NARROW || to + 8 > cap {
+    if to - from == 1 {
+        draw_one(pixels, cap, from, bits, color);
+    } else if to - from > NARROW || to + 8 > cap {
         fill_rows(pixels, cap, from, to, bits, color);
     } else if to - from <= 8 {
         draw_eight(pixels, cap, from, to, bits, color);
     } else {
         draw_narrow(pixels, cap, from, to, bits, color);
     }
+}
+
+/// Draws a sixel of one column without a branch for each bit, and without reading a pixel.
+///
+/// For a bit that is not set, it draws the first set pixel again. Reading would wait for the sixel
+/// before, which wrote pixels on its right too if it was drawn in lanes.
+#[inline(always)]
+fn draw_one(pixels: &mut [[u8; 4]], cap: usize, at: usize, bits: u8, color: [u8; 4])
+    requires within { at < cap }
+    requires few { cap ≤ 1000008 }
+    requires fits { length pixels.old ≡ 6 * cap }
+    ensures len { length pixels.new ≡ length pixels.old }
+    ensures drawn { (d : List ℕ) (column k : ℕ) → column < cap → k < 6
+        → stored pixels.new cap d column k
+        ≡ (if covers at (at + 1) 0 bits column k then color else stored pixels.old cap d column k) }
+{
+    let first = first_row(bits);
+    if first < 6 {
+        pixels[first * cap + at] = color;
+        'drawn: for bit in 0..6 {
+            let row = row_or(bits, bit, first);
+            pixels[row * cap + at] = color;
+        }
+    }
+}
+
+/// Returns the first row with a set pixel, or a number above 5 if no row has one.
+#[inline(always)]
+fn first_row(bits: u8) -> usize
+    ensures set { result < 6 → is_set bits result ≡ true }
+    ensures none { 6 ≤ result → (k : ℕ) → k < 6 → is_set bits k ≡ false }
+{
+    bits.trailing_zeros() as usize
+}
+
+/// Returns the row of a bit if it is set, or else this other row.
+#[inline(always)]
+fn row_or(bits: u8, bit: usize, other: usize) -> usize
+    requires bit { bit < 6 }
+    requires six { other < 6 }
+    requires set { is_set bits other ≡ true }
+    ensures six { result < 6 }
+    ensures set { is_set bits result ≡ true }
+    ensures same { is_set bits bit ≡ true → result ≡ bit }
+    ensures other { is_set bits bit ≡ false → result ≡ other }
+{
+    if (bits >> bit) % 2 == 1 { bit } else { other }
 }
 
 /// Draws a run eight columns at once.

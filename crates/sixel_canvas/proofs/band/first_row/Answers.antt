@@ -1,0 +1,25 @@
+use Rattle.std.proofs.Common.{◌≡◌, ℕ, zero, suc, ◌<◌, ◌≤◌, true, false, refl, eq-eqb, arith, w8}
+use Rattle.std.proofs.lemmas.Nat.Bits.{bit_at-trailing_zeros, bit_at-zero}
+use Rattle.std.specs.Int.{trailing_zeros}
+use Rattle.std.specs.Int.Count.{count_trailing_zeros}
+use Rattle.sixel_base.specs.Picture.{is_set}
+use Rattle.sixel_canvas.proofs.band.first_row.Goals as goal
+
+first_set : (bits : ℕ) → bits < 256 → trailing_zeros w8 bits < 6 →
+    is_set bits (trailing_zeros w8 bits) ≡ true
+unfolding count_trailing_zeros
+first_set zero low less = let never : 8 < 6 = less in absurd (omega (arith, never))
+first_set (suc n) low less =
+    eq-eqb _ _ (bit_at-trailing_zeros w8 (suc n) (omega arith) low).1
+
+none_set : (bits : ℕ) → bits < 256 → 6 ≤ trailing_zeros w8 bits → (k : ℕ) → k < 6 →
+    is_set bits k ≡ false
+none_set zero low more k six = rw (bit_at-zero k) refl
+none_set (suc n) low more k six =
+    rw ((bit_at-trailing_zeros w8 (suc n) (omega arith) low).2 k (omega (arith, more, six))) refl
+
+pub returns-clause-set : goal.returns-clause-set
+returns-clause-set c = first_set c.args.bits (omega arith)
+
+pub returns-clause-none : goal.returns-clause-none
+returns-clause-none c = none_set c.args.bits (omega arith)
