@@ -18,6 +18,7 @@ use Rattle.sixel_base.specs.declared.state.DecoderState.{DecoderState}
 use Rattle.icy_sixel.specs.ImageView.{image_value}
 use Rattle.icy_sixel.specs.Receiver.{Form, Nothing, OfPayload, OfString, Receiver, Reception}
 use Rattle.icy_sixel.specs.Receiver.{end_fault, failed, found, no_image}
+use Rattle.icy_sixel.specs.ReceiverCalls.{StaysOpen}
 use Rattle.icy_sixel.specs.declared.receiver.partial.PartialImage.{PartialImage}
 
 -- why bytes that were accepted have no picture: a DCS sequence has one only once it has ended
@@ -43,8 +44,8 @@ IsPartialImage start OfString bytes image = IsFoundImage start (one_shot.found b
 -- is whole leaves its registers; else the decoder stays.
 pub record IsFinishedPartly (old new : Receiver) (result : Result PartialImage SixelError)
     : Type 0 where
-  -- no image is open then
-  pub closed : new.image ≡ no_image
+  -- no image is open then, unless rows were released
+  pub closed : old.image.released ≡ 0 → new.image ≡ no_image
   -- the picture is that of the tokens before the first fault
   pub image : IfOk result (λ partial.
       IsPartialImage old.image.start old.image.form old.image.bytes (image_value partial.image))
@@ -68,8 +69,10 @@ pub record IsFinishedPartly (old new : Receiver) (result : Result PartialImage S
   pub setting : new.keeps_partial ≡ old.keeps_partial
   -- the call succeeds only if there is a picture
   pub accepted : OnOk result (picture_fault old.image ≡ None)
-  -- it fails because there is none, or because an allocation failed
-  pub failed : IfErr result (λ error.
+  -- an image of which rows were released stays open
+  pub released : StaysOpen old new result
+  -- else it fails because there is no picture, or because an allocation failed
+  pub failed : old.image.released ≡ 0 → IfErr result (λ error.
       Faults error (is_none (picture_fault old.image)) (picture_fault old.image))
   -- an error of the call leaves the decoder as it was
   pub kept : OnErr result (new.decoder ≡ old.decoder)

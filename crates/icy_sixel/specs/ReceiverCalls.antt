@@ -1,9 +1,10 @@
 -- What the calls of a receiver do, by the receiver before and after. Each field is one fact. The
 -- facts are those of a payload session or a DCS session, in the words that Receiver has for both.
-use Rattle.std.specs.Prelude.{ℕ, ◌≡◌, ◌+◌, ◌*◌, ◌≤◌, ◌++◌, List, length, true, false}
-use Rattle.std.specs.Prelude.{nat_lt, Option, None, Result, Ok, Err}
+use Rattle.std.specs.Prelude.{ℕ, ◌≡◌, ◌+◌, ◌*◌, ◌<◌, ◌≤◌, ◌++◌, List, length, true, false}
+use Rattle.std.specs.Prelude.{nat_lt, Option, Some, None, Result, Ok, Err}
 use Rattle.std.specs.Prelude.{OnOk, OnErr, IfOk, IfErr, MatchBool}
 use Rattle.sixel_base.specs.declared.error.SixelError.{SixelError}
+use Rattle.sixel_base.specs.CallFault.{FailsBy, RowsReleased}
 use Rattle.sixel_base.specs.Dcs.{dcs_fault, dcs_growths, IsSameString}
 use Rattle.sixel_base.specs.Decoder.{IsSetAs}
 use Rattle.sixel_base.specs.Fault.{Faults, IsFault}
@@ -106,10 +107,16 @@ pub record KeepsPartial (old new : Reception) (result : Result Received SixelErr
   pub first : old.is_refused ≡ false → new.has_partial ≡ is_kept old.keeps_partial result
   pub later : old.is_refused ≡ true → new.has_partial ≡ old.has_partial
 
+-- No memory has an image of which rows were released. A call that returns the whole image fails
+-- with that, and the image stays open as it was.
+abbrev pub StaysOpen : {A : Type 0} → Receiver → Receiver → Result A SixelError → Type 0
+StaysOpen old new result =
+    0 < old.image.released → FailsBy (Some RowsReleased) result × (new ≡ old)
+
 -- The open image ends, and the decoder has the registers after it; or the call reports an error.
 pub record IsFinished (old new : Receiver) (result : Result SixelImage SixelError) : Type 0 where
-  -- no image is open then
-  pub closed : new.image ≡ no_image
+  -- no image is open then, unless rows were released
+  pub closed : old.image.released ≡ 0 → new.image ≡ no_image
   -- the image is that of its bytes
   pub image : IfOk result (λ image. IsFoundImage old.image.start
       (receivers.found old.image.form old.image.bytes) (image_value image))
@@ -135,16 +142,17 @@ pub record IsFinished (old new : Receiver) (result : Result SixelImage SixelErro
       (receivers.found old.image.form old.image.bytes) ≡ None)
   -- a rejected image is never returned
   pub accepted : OnOk result (old.image.is_refused ≡ false)
-  -- an image of which rows were released is never returned
+  -- an image of which rows were released is never returned, and stays open
   pub whole : OnOk result (old.image.released ≡ 0)
+  pub released : StaysOpen old new result
   -- a DCS sequence has an image only once it has ended
   pub ended : OnOk result (receivers.end_fault old.image.start.pixel_limit
       old.image.form old.image.bytes ≡ None)
   -- an error leaves the decoder as it was
   pub kept : OnErr result (new.decoder ≡ old.decoder)
-  -- an error is the fault of the bytes, or an allocation failed; a rejected image reports that the
-  -- stream has failed
-  pub error : IfErr result (λ error. MatchBool old.image.is_refused
+  -- an error of a whole image is the fault of the bytes, or an allocation failed; a rejected image
+  -- reports that the stream has failed
+  pub error : old.image.released ≡ 0 → IfErr result (λ error. MatchBool old.image.is_refused
       (IsFault error (receivers.failed old.image.form))
       (Faults error
       (receivers.end_wants old.image.start.pixel_limit old.image.form old.image.bytes)
@@ -152,6 +160,7 @@ pub record IsFinished (old new : Receiver) (result : Result SixelImage SixelErro
   -- decoding the bytes of a payload in one call fails with that error
   pub refused : (settings : Settings) (error : SixelError)
       → old.image.form ≡ OfPayload settings → result ≡ Err error → old.image.is_refused ≡ false
+      → old.image.released ≡ 0
       → Faults error
       (payload_wants old.image.start.pixel_limit old.image.bytes)
       (payload_fault old.image.start.pixel_limit old.image.bytes)

@@ -163,12 +163,17 @@ impl SixelReceiver {
     /// Closes the image, returns it, and stores its registers in the decoder.
     ///
     /// An error closes the image too, and leaves the decoder unchanged. The errors are those of the
-    /// sessions. If no image is open, the error is that of [`feed`](Self::feed). If rows were
-    /// released, the error is `OutOfMemory`, because no memory has the whole image: end such an
-    /// image by [`finish_into`](Self::finish_into).
+    /// sessions. If no image is open, the error is that of [`feed`](Self::feed).
+    ///
+    /// If rows were released, the error is `InvalidData("rows were released")`, because no memory
+    /// has the whole image. Then the image stays open as it was. End such an image by
+    /// [`finish_into`](Self::finish_into).
     pub fn finish(&mut self) -> Result<SixelImage>
         ensures { IsFinished self.old self.new result }
     {
+        if self.released_rows() > 0 {
+            return Err(SixelError::rows_released());
+        }
         let open = mem::replace(&mut self.open, Open::Nothing);
         let picture = match open {
             Open::Nothing => Err(SixelError::stream_failed()),

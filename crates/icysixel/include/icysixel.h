@@ -265,8 +265,8 @@ uint32_t icysixel_copy_rows(icysixel *handle, size_t first, size_t rows,
 
 /* Releases the final rows above row `rows` of the open image, which were copied. So an image that
  * is shown while it comes takes the memory of one band: copy the final rows and release them after
- * each band. icysixel_finish_into copies those that are left. icysixel_finish fails by
- * ICYSIXEL_OUT_OF_MEMORY, because no memory has the whole image. The call does not allocate. The
+ * each band. icysixel_finish_into copies those that are left. icysixel_finish fails with
+ * ICYSIXEL_ROWS_RELEASED, because no memory has the whole image. The call does not allocate. The
  * errors are ICYSIXEL_NO_SESSION if no image is open, and ICYSIXEL_ROWS_NOT_FINAL if `rows` is
  * above icysixel_get_rows_so_far. */
 uint32_t icysixel_release_rows(icysixel *handle, size_t rows);
@@ -274,16 +274,18 @@ uint32_t icysixel_release_rows(icysixel *handle, size_t rows);
 /* Closes the open image as icysixel_finish does, and copies its rows from `first` on to `buf` in
  * place of storing it. A stored image stays. With `first` 0 these are all rows, and otherwise those
  * below the rows that were copied before. No row is copied if crop ends the image above `first`.
- * It does not allocate. The errors of icysixel_finish come first. ICYSIXEL_ROWS_RELEASED,
- * ICYSIXEL_BAD_STRIDE and ICYSIXEL_BUFFER_TOO_SMALL leave the image open as it was. `wanted` is
- * the number of bytes needed with ICYSIXEL_BUFFER_TOO_SMALL, and 0 otherwise. */
+ * It does not allocate. The errors of the data come first, as in icysixel_finish.
+ * ICYSIXEL_ROWS_RELEASED, ICYSIXEL_BAD_STRIDE and ICYSIXEL_BUFFER_TOO_SMALL leave the image open
+ * as it was. `wanted` is the number of bytes needed with ICYSIXEL_BUFFER_TOO_SMALL, and 0
+ * otherwise. */
 uint32_t icysixel_finish_into(icysixel *handle, size_t first, const icysixel_layout *layout,
                               uint8_t *buf, size_t size, icysixel_shape *shape, size_t *wanted);
 
 /* Closes the open image, stores it and writes its properties. It replaces an image that is stored.
  * The decoder takes over the image's registers. The errors are those of icysixel_feed, and
  * ICYSIXEL_INCOMPLETE for a DCS sequence without terminator. A payload can end anywhere. An error
- * closes the image too. Then no image is stored and no register changes. */
+ * closes the image too. Then no image is stored and no register changes. ICYSIXEL_ROWS_RELEASED
+ * stores no image either, but leaves the image open: end it by icysixel_finish_into. */
 uint32_t icysixel_finish(icysixel *handle, icysixel_shape *shape);
 
 /* Opens a payload as icysixel_begin_payload does, but a fault leaves the picture before it. After
@@ -302,8 +304,10 @@ uint32_t icysixel_begin_partial(icysixel *handle, int32_t p1, int32_t p2, int32_
  *
  * The errors are ICYSIXEL_NO_SESSION if no image is open, ICYSIXEL_STREAM_FAILED or
  * ICYSIXEL_DCS_STREAM_FAILED after a feed that kept no picture, ICYSIXEL_INCOMPLETE for a DCS
- * sequence without terminator, and ICYSIXEL_OUT_OF_MEMORY. They close the image too. Then no image
- * is stored, no register changes, and `shape` and `fault` are not written. */
+ * sequence without terminator, and ICYSIXEL_OUT_OF_MEMORY, also if rows were released before the
+ * fault. They close the image too. Then no image is stored, no register changes, and `shape` and
+ * `fault` are not written. ICYSIXEL_ROWS_RELEASED does the same, but leaves the image open: end it
+ * by icysixel_finish_into. */
 uint32_t icysixel_finish_partial(icysixel *handle, icysixel_shape *shape, uint32_t *fault);
 
 /* Aborts the open image, if there is one. The decoder is unchanged. */

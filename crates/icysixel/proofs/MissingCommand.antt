@@ -1,6 +1,7 @@
 -- Finishing an image finds no missing command: neither a payload nor a control string that was
 -- begun has this fault.
-use Rattle.std.proofs.Common.{◌≡◌, ◌≢◌, ℕ, ◌+◌, ◌*◌, Bool, true, false, List, [], ◌∷◌, Option, Some}
+use Rattle.std.proofs.Common.{◌≡◌, ◌≢◌, ℕ, zero, suc, ◌+◌, ◌*◌, ◌<◌, Bool, true, false}
+use Rattle.std.proofs.Common.{List, [], ◌∷◌, Option, Some}
 use Rattle.std.proofs.Common.{None, refl, ◌∙◌, sym, arith, inl, inr}
 use Rattle.std.specs.Prelude.{IfSome, if◌then◌else◌, nat_lt, ◌||◌}
 use Rattle.std.specs.Option.{option_or}
@@ -115,11 +116,30 @@ form_other limit (OfPayload settings) bytes was_refused wants code unopened agai
 form_other limit OfString bytes was_refused wants code unopened again refused =
     opened_other limit OfString bytes was_refused wants code (again refl) (refused refl)
 
+-- of an image of which rows were released it has code 23
+released_other : (limit : Limit) (form : Form) (bytes : List ℕ) (was_refused wants : Bool)
+    (code released : ℕ)
+    → (is_open form ≡ false → code ≡ 2)
+    → (is_open form ≡ true → 0 < released → code ≡ 23)
+    → (is_open form ≡ true → released ≡ 0 → was_refused ≡ true → code ≡ fault_code (failed form))
+    → (is_open form ≡ true → released ≡ 0 → was_refused ≡ false → code ≢ 0
+    → IsTold code wants (end_fault limit form bytes)) → code ≢ 16
+released_other limit form bytes was_refused wants code zero unopened left again refused =
+    form_other limit form bytes was_refused wants code unopened (λ opened. again opened refl)
+    (λ opened. refused opened refl)
+released_other limit Nothing bytes was_refused wants code (suc n) unopened left again refused =
+    omega (arith, unopened refl)
+released_other limit (OfPayload settings) bytes was_refused wants code (suc n) unopened left again
+    refused = omega (arith, left refl (omega arith))
+released_other limit OfString bytes was_refused wants code (suc n) unopened left again refused =
+    omega (arith, left refl (omega arith))
+
 -- the code of finishing an image is not that of a missing command
 pub finish_other : (before after : State) (now : Shape) (code : ℕ)
     → IsFinished before after now code → code ≢ 16
 finish_other before after now code finished =
     let image = before.receiver.image in
-    form_other image.start.pixel_limit image.form image.bytes image.is_refused
-    (end_wants image.start.pixel_limit image.form image.bytes) code
-    finished.unopened finished.again finished.refused
+    released_other image.start.pixel_limit image.form image.bytes image.is_refused
+    (end_wants image.start.pixel_limit image.form image.bytes) code image.released
+    finished.unopened (λ opened some. (finished.released opened some).0) finished.again
+    finished.refused

@@ -10,6 +10,7 @@ use Rattle.icy_sixel.specs.PartialImages.{IsPartialImage, picture_fault}
 use Rattle.icy_sixel.specs.Receiver.{end_fault, found, is_open, no_image}
 use Rattle.icy_sixel.specs.declared.sixel_image.SixelImage.{SixelImage}
 use Rattle.icysixel.specs.Code.{IsTold, fault_code}
+use Rattle.icysixel.specs.Finish.{StaysOpen}
 use Rattle.icysixel.specs.Shape.{shape_of}
 use Rattle.icysixel.specs.declared.shape.Shape.{Shape}
 use Rattle.icysixel.specs.declared.state.State.{State}
@@ -23,7 +24,8 @@ beside_code (Some fault) = fault_code fault
 -- fault, another code is an error.
 pub record IsFinishedPartly (before after : State) (now : Shape) (fault code : ℕ) : Type 0 where
   pub unopened : is_open before.receiver.image.form ≡ false → code ≡ 2
-  pub closed : after.receiver.image ≡ no_image
+  pub closed : before.receiver.image.released ≡ 0 → after.receiver.image ≡ no_image
+  pub released : StaysOpen before after code
   -- the picture and its shape, with code 0
   pub stored : code ≡ 0 → is_some after.image ≡ true
   pub image : (image : SixelImage) → after.image ≡ Some image
@@ -48,6 +50,7 @@ pub record IsFinishedPartly (before after : State) (now : Shape) (fault code : �
   pub kept : code ≢ 0 → after.receiver.decoder ≡ before.receiver.decoder
   pub dropped : code ≢ 0 → after.image ≡ None
   -- an error says why there is no picture, or an allocation failed
-  pub refused : is_open before.receiver.image.form ≡ true → code ≢ 0
+  pub refused : is_open before.receiver.image.form ≡ true → before.receiver.image.released ≡ 0
+      → code ≢ 0
       → IsTold code (is_none (picture_fault before.receiver.image))
       (picture_fault before.receiver.image)

@@ -21,6 +21,8 @@ use std::alloc::Global;
 use std::mem;
 
 /// Closes the open image, stores it and writes its properties.
+///
+/// An image of which rows were released stays open.
 #[unsafe(no_mangle)]
 pub extern "C" fn icysixel_finish(slot: &mut Slot, shape: &mut Shape) -> u32
     ensures held { is_some slot.new.handle.state ≡ is_some slot.old.handle.state }
@@ -45,6 +47,9 @@ fn finish(state: &mut State, shape: &mut Shape) -> u32
     if !state.receiver.is_receiving() {
         state.receiver.abort();
         return Code::NoSession as u32;
+    }
+    if state.receiver.released_rows() > 0 {
+        return Code::RowsReleased as u32;
     }
     let answer = state.receiver.finish();
     state.store_decoded(answer, shape)

@@ -51,7 +51,8 @@ pub extern "C" fn icysixel_begin_partial(
 
 /// Closes the open image, and stores its picture up to the first fault.
 ///
-/// It writes the properties of the picture, and the code of the fault.
+/// It writes the properties of the picture, and the code of the fault. An image of which rows were
+/// released stays open.
 #[unsafe(no_mangle)]
 pub extern "C" fn icysixel_finish_partial(
     slot: &mut Slot,
@@ -82,6 +83,9 @@ fn finish_partial(state: &mut State, shape: &mut Shape, fault: &mut u32) -> u32
     if !state.receiver.is_receiving() {
         state.receiver.abort();
         return Code::NoSession as u32;
+    }
+    if state.receiver.released_rows() > 0 {
+        return Code::RowsReleased as u32;
     }
     match state.receiver.finish_partial() {
         Ok(partial) => {

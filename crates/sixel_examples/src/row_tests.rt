@@ -245,8 +245,22 @@ fn image_of_released_rows(rt: HostRuntime) {
 fn whole_image_of_released_rows(rt: HostRuntime) {
     let mut receiver = receiver(rt.alloc());
     let is_drawn = reads(&mut receiver, b"#1~-~", 6) & receiver.release_rows(1).is_ok();
-    let is_lost = receiver.finish().err() == Some(SixelError::OutOfMemory);
-    assert!(rt; is_drawn & is_lost & !receiver.is_receiving());
+    let is_released = Some(SixelError::InvalidData("rows were released"));
+    let is_rejected = receiver.finish().err() == is_released;
+    let is_rejected_partly = receiver.finish_partial().err() == is_released;
+    let is_open = receiver.is_receiving() & (receiver.released_rows() == 1);
+    let mut rows = [9; 132];
+    let is_ended = has_size(receiver.finish_into(1, NARROW, &mut rows), 1, 12);
+    let are_red = are_rows(&rows, [RED, CLEAR, UNTOUCHED]);
+    assert!(rt;
+        is_drawn
+            & is_rejected
+            & is_rejected_partly
+            & is_open
+            & is_ended
+            & are_red
+            & !receiver.is_receiving()
+    );
 }
 
 #[test]

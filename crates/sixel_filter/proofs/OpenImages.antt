@@ -149,16 +149,17 @@ pub fed_receiving : (f f' : Filter) (piece : List ℕ) → IsReceiving f
     → f'.in_character ≡ f.in_character → f'.receiver.decoder ≡ f.receiver.decoder
     → f'.receiver.image.form ≡ f.receiver.image.form
     → f'.receiver.image.start ≡ f.receiver.image.start
+    → f'.receiver.image.released ≡ f.receiver.image.released
     → f'.receiver.image.bytes ≡ f.receiver.image.bytes ++ piece
     → f'.receiver.image.is_refused ≡ false
     → dcs_fault f.receiver.decoder.pixel_limit f'.receiver.image.bytes ≡ None → IsReceiving f'
-fed_receiving f f' piece r same_c same_decoder same_form same_start grown accepted sound = record {
+fed_receiving f f' piece r same_c same_d same_form same_start kept grown accepted sound = record {
   form = same_form ∙ r.form;
-  start = same_start ∙ (r.start ∙ sym same_decoder);
+  start = same_start ∙ (r.start ∙ sym same_d);
   accepted = accepted;
+  whole = kept ∙ r.whole;
   sound =
-      ap (λ (d : DecoderState). dcs_fault d.pixel_limit f'.receiver.image.bytes) same_decoder
-      ∙ sound;
+      ap (λ (d : DecoderState). dcs_fault d.pixel_limit f'.receiver.image.bytes) same_d ∙ sound;
   starts = subst (λ (b : Bool). Starts b f'.receiver.image.bytes) (sym same_c)
       (subst (λ (l : List ℕ). Starts f.in_character l)
       (sym grown) (starts_more f.in_character f.receiver.image.bytes piece r.starts));
@@ -208,14 +209,15 @@ pub fed : (f f' : Filter) (piece : List ℕ) → IsReceiving f → f'.in_charact
     → f'.receiver.decoder ≡ f.receiver.decoder
     → f'.receiver.image.form ≡ f.receiver.image.form
     → f'.receiver.image.start ≡ f.receiver.image.start
+    → f'.receiver.image.released ≡ f.receiver.image.released
     → (is_open f.receiver.image.form ≡ true
     → f'.receiver.image.bytes ≡ f.receiver.image.bytes ++ piece)
     → f'.receiver.image.is_refused ≡ false
     → fault f.receiver.image.start.pixel_limit f'.receiver.image.form f'.receiver.image.bytes ≡ None
     → IsReceiving f'
-fed f f' piece r same_c same_decoder same_form same_start grown accepted sound =
-    fed_receiving f f' piece r same_c same_decoder same_form same_start (grown (ap is_open r.form))
-    accepted
+fed f f' piece r same_c same_decoder same_form same_start kept grown accepted sound =
+    fed_receiving f f' piece r same_c same_decoder same_form same_start kept
+    (grown (ap is_open r.form)) accepted
     (subst (λ (d : DecoderState). dcs_fault d.pixel_limit f'.receiver.image.bytes ≡ None) r.start
     (subst (λ (g : Form). fault f.receiver.image.start.pixel_limit g f'.receiver.image.bytes ≡ None)
     (same_form ∙ r.form) sound))

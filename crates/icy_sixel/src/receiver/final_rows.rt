@@ -105,9 +105,9 @@ impl SixelReceiver {
     /// The caller has copied them. Then an image that is shown while it comes takes the memory of
     /// the rows between two calls, and not of the image: copy the final rows and release them after
     /// each [`feed_band`](Self::feed_band). [`finish_into`](Self::finish_into) returns the rows
-    /// that are left. [`finish`](Self::finish) fails with `OutOfMemory`, because no memory has the
-    /// whole image. A number below [`released_rows`](Self::released_rows) changes nothing. The call
-    /// does not allocate.
+    /// that are left. [`finish`](Self::finish) and [`finish_partial`](Self::finish_partial) fail,
+    /// because no memory has the whole image, and leave it open. A number below
+    /// [`released_rows`](Self::released_rows) changes nothing. The call does not allocate.
     ///
     /// The error is `InvalidData("rows are not final")` if `rows` is greater than
     /// [`rows_so_far`](Self::rows_so_far).
@@ -151,7 +151,7 @@ impl SixelReceiver {
     ///
     /// The errors, in this order, leave the decoder and `out` as they were:
     ///
-    /// - those of `finish` but for `OutOfMemory`, which close the image,
+    /// - those of `finish` about the data of the image, which close it,
     /// - those of `copy_rows` about released rows, the stride and `out`, which leave the image open
     ///   as it was. The rows take at most those that [`size_so_far`](Self::size_so_far) reports
     ///   once the image has ended.

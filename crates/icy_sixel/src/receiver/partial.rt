@@ -46,10 +46,17 @@ impl SixelReceiver {
     /// - The error of [`feed`](Self::feed) after a failed feed: nothing was kept. An allocation that
     ///   fails keeps nothing.
     /// - `InvalidData("incomplete SIXEL DCS sequence")`: a DCS sequence has not ended.
-    /// - `OutOfMemory`: an allocation failed.
+    /// - `OutOfMemory`: an allocation failed, or rows were released before the fault.
+    ///
+    /// If rows were released and no feed has failed, the error is
+    /// `InvalidData("rows were released")`. Then the image stays open as it was, and
+    /// [`finish_into`](Self::finish_into) returns the rows that are left.
     pub fn finish_partial(&mut self) -> Result<PartialImage>
         ensures { IsFinishedPartly self.old self.new result }
     {
+        if self.released_rows() > 0 {
+            return Err(SixelError::rows_released());
+        }
         let open = mem::replace(&mut self.open, Open::Nothing);
         let PartialPayload { picture, error } = open.finish_partial()?;
         if error.is_none() {

@@ -68,10 +68,12 @@ impl<'a> Session<'a> {
         requires open { is_open receiver.old.image.form ≡ true }
         requires fresh { receiver.old.image.bytes ≡ [] }
         requires accepted { receiver.old.image.is_refused ≡ false }
+        requires stored { receiver.old.image.released ≡ 0 }
         ensures decoder { receiver.new.decoder ≡ receiver.old.decoder }
         ensures form { receiver.new.image.form ≡ receiver.old.image.form }
         ensures start { receiver.new.image.start ≡ receiver.old.image.start }
         ensures accepted { OnOk result (receiver.new.image.is_refused ≡ false) }
+        ensures stored { OnOk result (receiver.new.image.released ≡ 0) }
         ensures whole { OnOk result
             (IsWhole receiver.old.image.form receiver.new.image.bytes self.now.bytes.now) }
         ensures faultless { OnOk result (fault receiver.old.image.start.pixel_limit
@@ -120,6 +122,8 @@ fn feed_chunk(receiver: &mut SixelReceiver, chunk: &[u8], before: usize) -> Resu
     ensures start { receiver.new.image.start ≡ receiver.old.image.start }
     ensures bytes { receiver.new.image.bytes ≡ receiver.old.image.bytes ++ chunk.now }
     ensures accepted { OnOk result (receiver.new.image.is_refused ≡ false) }
+    ensures stored { OnOk result
+        (receiver.new.image.released ≡ receiver.old.image.released) }
     ensures faultless { OnOk result (fault receiver.old.image.start.pixel_limit
         receiver.old.image.form receiver.new.image.bytes ≡ None) }
     ensures consumed { IfOk result (λ fed.
@@ -150,6 +154,7 @@ fn has_ended(status: Status) -> bool
 /// Finishes or aborts the image that was fed.
 fn end(receiver: &mut SixelReceiver, fed: Received, ending: End) -> Outcome
     requires accepted { receiver.old.image.is_refused ≡ false }
+    requires stored { receiver.old.image.released ≡ 0 }
     requires start { receiver.old.image.start ≡ receiver.old.decoder }
     ensures { (bytes : List ℕ)
         → IsWhole receiver.old.image.form receiver.old.image.bytes bytes

@@ -26,11 +26,13 @@ abbrev pub Starts : Bool → List ℕ → Type 0
 Starts in_character [] = ⊥
 Starts in_character (byte ∷ bytes) = (in_character && byte == 0x90) ≡ false
 
--- the receiver has a DCS sequence open, which began with its decoder, and rejected none of its bytes
+-- the receiver has a DCS sequence open, which began with its decoder; it rejected none of its bytes,
+-- and released none of its rows
 pub record IsReceiving (filter : Filter) : Type 0 where
   pub form : filter.receiver.image.form ≡ OfString
   pub start : filter.receiver.image.start ≡ filter.receiver.decoder
   pub accepted : filter.receiver.image.is_refused ≡ false
+  pub whole : filter.receiver.image.released ≡ 0
   pub sound : dcs_fault filter.receiver.decoder.pixel_limit filter.receiver.image.bytes ≡ None
   pub starts : Starts filter.in_character filter.receiver.image.bytes
 

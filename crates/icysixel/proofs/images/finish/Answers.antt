@@ -31,7 +31,7 @@ store_decoded-requires-clause-known c =
     (λ error.
     MatchBool image.is_refused (IsFault error (failed image.form)) (Faults error wants fault))
     (λ error. received_known error image.is_refused wants (failed image.form) fault)
-    c.finish-answer.ensures.error
+    (c.finish-answer.ensures.error (grind arith))
 
 pub returns-clause-finished : goal.returns-clause-finished
 returns-clause-finished c =
@@ -41,10 +41,11 @@ returns-clause-finished c =
     let error : IfErr c.finish-answer.result
     (λ error.
     MatchBool image.is_refused (IsFault error (failed image.form)) (Faults error wants fault)) =
-    rw (← c.store_image.ensures.receiver) c.finish-answer.ensures.error in
+    rw (← c.store_image.ensures.receiver) (c.finish-answer.ensures.error (grind arith)) in
     record {
       unopened = grind arith;
       closed = grind arith;
+      released = grind arith;
       found = grind arith;
       image = grind arith;
       shape = grind arith;
@@ -67,7 +68,7 @@ returns-clause-finished c =
       text = grind arith;
       kept = grind arith;
       dropped = search rules;
-      refused = λ opened accepted refused. c.store_decoded.ensures.code wants fault refused
+      refused = λ opened none accepted refused. c.store_decoded.ensures.code wants fault refused
           (subst (λ is_refused.
           IfErr c.finish-answer.result
           (λ error.

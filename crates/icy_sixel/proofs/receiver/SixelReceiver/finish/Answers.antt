@@ -1,5 +1,5 @@
 use Rattle.std.proofs.Common.{◌≡◌, ◌≤◌, ◌*◌, ℕ, List, None, false, ap, sym, ◌∙◌, subst, refl}
-use Rattle.std.proofs.Common.{Result, Ok, Err, rules}
+use Rattle.std.proofs.Common.{Result, Ok, Err, rules, arith}
 use Rattle.std.specs.Prelude.{IfOk}
 use Rattle.sixel_base.specs.declared.error.SixelError.{SixelError}
 use Rattle.sixel_base.specs.OneShot.{found_fault, IsDecodedAs, IsFoundImage, AreFoundRegisters}
@@ -98,8 +98,9 @@ returns c =
       faultless = is.faultless;
       accepted = is.accepted;
       whole = is.whole;
+      released = λ some. absurd (omega (arith, some, is.whole));
       ended = is.ended;
       kept = tt;
-      error = tt;
+      error = λ none. tt;
       refused = λ settings error form failed. absurd cc;
     }

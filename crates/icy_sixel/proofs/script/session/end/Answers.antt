@@ -8,4 +8,5 @@ returns-in-Finish c = λ bytes whole sound counted stands.
     rw c.in-Finish.is (finishes c.finish.result _ c.args.receiver.now.decoder _ image.form
     image.bytes bytes _ _ c.finished.ensures whole sound counted stands
     (rw c.requires.start at told.as_decoded) (rw c.requires.start at told.ended)
-    (rw (c.requires.accepted, c.requires.start) at told.error) told.set told.kept)
+    (rw (c.requires.accepted, c.requires.start) at (told.error c.requires.stored))
+    told.set told.kept)

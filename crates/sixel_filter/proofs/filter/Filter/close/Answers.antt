@@ -64,7 +64,7 @@ returns-in-Err-clause-closed c = λ more last.
     subst (λ (g : Form).
     Faults c.in-Err.error (end_wants limit g f.receiver.image.bytes)
     (end_fault limit g f.receiver.image.bytes))
-    r.form (rw r.accepted at c.in-Err.ensures.error) in
+    r.form (rw r.accepted at (c.in-Err.ensures.error r.whole)) in
     on_ok c.write_refusal.result
     (closed_refused f.work f.receiver.decoder c.finish.new.self.decoder f.receiver.image.bytes more
     c.args.output.now.items c.write_refusal.new.output.items c.in-Err.error r.sound refused last

@@ -74,7 +74,8 @@ returns-then-in_payload-clause-sound c =
     record {
       receiving =
           fed f _ (byte ∷ []) h.receiving refl c.feed.ensures.fed.decoder c.feed.ensures.fed.form
-          c.feed.ensures.fed.start c.feed.ensures.fed.bytes c.in-Ok.ensures.fed.ok.1 c.in-Ok.ensures.fed.faultless;
+          c.feed.ensures.fed.start c.in-Ok.ensures.fed.released c.feed.ensures.fed.bytes
+          c.in-Ok.ensures.fed.ok.1 c.in-Ok.ensures.fed.faultless;
       reading = reading;
       waiting = waiting;
       none = c.clear.ensures.items;

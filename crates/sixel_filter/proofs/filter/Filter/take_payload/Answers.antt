@@ -82,7 +82,8 @@ returns-then-is_waiting-clause-sound c =
     sound_image g c.requires.place (record {
       receiving =
           fed f g piece r.receiving refl c.feed.ensures.fed.decoder c.feed.ensures.fed.form
-          c.feed.ensures.fed.start c.feed.ensures.fed.bytes c.in-Ok.ensures.fed.ok.1 c.in-Ok.ensures.fed.faultless;
+          c.feed.ensures.fed.start c.in-Ok.ensures.fed.released c.feed.ensures.fed.bytes
+          c.in-Ok.ensures.fed.ok.1 c.in-Ok.ensures.fed.faultless;
       reading =
           subst (λ (b : List ℕ). dcs_in_payload b ≡ true)
           (sym grown) (stays_in bytes piece r.reading);
@@ -196,6 +197,6 @@ close-requires c =
     let r = c.requires.reading in record {
       receiving =
           fed c.args.self.now _ c.args.bytes.now r.receiving refl c.feed.ensures.fed.decoder
-          c.feed.ensures.fed.form c.feed.ensures.fed.start c.feed.ensures.fed.bytes c.in-Ok.ensures.fed.ok.1
-          c.in-Ok.ensures.fed.faultless;
+          c.feed.ensures.fed.form c.feed.ensures.fed.start c.in-Ok.ensures.fed.released
+          c.feed.ensures.fed.bytes c.in-Ok.ensures.fed.ok.1 c.in-Ok.ensures.fed.faultless;
     }

@@ -8,6 +8,7 @@ invariant-loop-cut l = record {
   form : l.receiver.image.form ≡ l.fn.receiver.image.form;
   start : l.receiver.image.start ≡ l.fn.receiver.image.start;
   accepted : l.receiver.image.is_refused ≡ false;
+  stored : l.receiver.image.released ≡ 0;
   joined : l.receiver.image.bytes ++ l.rest ≡ l.self.bytes.now;
   counted : l.consumed ≡ count l.receiver.image.form l.receiver.image.bytes;
 }
