@@ -160,6 +160,8 @@ static void test_copied_rows(void)
     RETURNS(ROWS_RELEASED, icysixel_copy_rows(h, 5, 1, &rgba, rows, 72));
     RETURNS(OK, icysixel_feed_band(h, BYTES("!3~"), &fed));
     RETURNS(ROWS_RELEASED, icysixel_finish_into(h, 5, &rgba, rows, 72, &shape, &wanted));
+    RETURNS(ROWS_RELEASED, icysixel_finish(h, &shape));
+    RETURNS(ROWS_RELEASED, icysixel_finish_partial(h, &shape, &(uint32_t){0}));
     RETURNS(BUFFER_TOO_SMALL, icysixel_finish_into(h, 6, &rgba, rows, 67, &shape, &wanted));
     CHECK(wanted == 68 && icysixel_is_receiving(h) == 1 && shape.width == 7);
     RETURNS(BAD_STRIDE, icysixel_finish_into(h, 6, &wrong[2].layout, rows, 72, &shape, &wanted));
