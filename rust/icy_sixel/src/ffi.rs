@@ -112,6 +112,7 @@ unsafe extern "C" {
     safe fn icysixel_begin(handle: &mut Raw) -> u32;
     safe fn icysixel_begin_payload(handle: &mut Raw, p1: i32, p2: i32, grid: i32) -> u32;
     safe fn icysixel_begin_partial(handle: &mut Raw, p1: i32, p2: i32, grid: i32) -> u32;
+    safe fn icysixel_is_receiving(handle: &mut Raw) -> u8;
     safe fn icysixel_in_payload(handle: &mut Raw) -> u8;
     safe fn icysixel_get_size_so_far(handle: &mut Raw, size: &mut Size) -> u32;
     safe fn icysixel_get_drawn_height(handle: &mut Raw) -> usize;
@@ -394,6 +395,11 @@ impl Handle {
             icysixel_finish_into(handle, first, layout, start, size, &mut shape, &mut wanted)
         };
         answer(code, shape).map_err(|code| (code, wanted))
+    }
+
+    /// Whether an image is open.
+    pub(crate) fn is_receiving(&mut self) -> bool {
+        icysixel_is_receiving(&mut self.0) != 0
     }
 
     /// Whether the payload of the open image has begun.

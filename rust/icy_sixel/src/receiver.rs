@@ -142,10 +142,21 @@ impl SixelReceiver {
     ///
     /// Those of the sessions, and if no image is open that of [`feed`](Self::feed). An error closes
     /// the image too, and leaves the decoder unchanged.
+    ///
+    /// `InvalidData` with `rows were released` if rows were released, because no memory has the
+    /// whole image. Then the image stays open as it was. End such an image by
+    /// [`finish_into`](Self::finish_into).
     pub fn finish(&mut self) -> Result<SixelImage> {
         let answer = self.decoder.handle().finish();
-        self.abort();
+        self.update_open();
         answer
+    }
+
+    /// Stores that no image is open if a call has closed it.
+    fn update_open(&mut self) {
+        if !self.decoder.shared().is_receiving() {
+            self.open = Open::Nothing;
+        }
     }
 
     /// Aborts the open image, if there is one. The decoder is unchanged.

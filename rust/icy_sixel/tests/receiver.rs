@@ -115,6 +115,8 @@ fn rows_are_copied_before_the_image_ends() {
     assert_eq!(receiver.copy_rows(5, 1, NARROW, &mut out), released);
     assert!(receiver.feed_band(b"!3~").is_ok());
     assert_eq!(receiver.finish_into(5, NARROW, &mut out), Err(invalid("rows were released")));
+    assert_eq!(receiver.finish(), Err(invalid("rows were released")));
+    assert_eq!(receiver.finish_partial(), Err(invalid("rows were released")));
     let mismatch = SixelError::BufferSizeMismatch { expected: 68, actual: 67 };
     assert_eq!(receiver.finish_into(6, NARROW, &mut out[..67]), Err(mismatch));
     assert!(receiver.is_receiving());

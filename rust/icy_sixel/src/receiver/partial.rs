@@ -52,10 +52,14 @@ impl SixelReceiver {
     /// - that of [`feed`](Self::feed) after a failed feed, if nothing was kept, and if no image is
     ///   open
     /// - `InvalidData` with `incomplete SIXEL DCS sequence` if a DCS sequence has not ended
-    /// - `OutOfMemory` if an allocation fails
+    /// - `OutOfMemory` if an allocation fails, or if rows were released before the fault
+    ///
+    /// `InvalidData` with `rows were released` if rows were released and no feed has failed. Then
+    /// the image stays open as it was, and [`finish_into`](Self::finish_into) returns the rows that
+    /// are left.
     pub fn finish_partial(&mut self) -> Result<PartialImage> {
         let answer = self.decoder.handle().finish_partial();
-        self.abort();
+        self.update_open();
         answer
     }
 }

@@ -92,7 +92,9 @@ impl SixelReceiver {
     ///
     /// The caller has copied them. Then an image that is shown while it comes takes the memory of
     /// the rows between two calls, and not of the image. [`finish_into`](Self::finish_into) returns
-    /// the rows that are left, and [`finish`](Self::finish) fails. The call does not allocate.
+    /// the rows that are left. [`finish`](Self::finish) and
+    /// [`finish_partial`](Self::finish_partial) fail, because no memory has the whole image, and
+    /// leave it open. The call does not allocate.
     ///
     /// # Errors
     ///
@@ -115,7 +117,7 @@ impl SixelReceiver {
     ///
     /// # Errors
     ///
-    /// Those of `finish` but for `OutOfMemory`, which close the image. Then those of `copy_rows`
+    /// Those of `finish` about the data of the image, which close it. Then those of `copy_rows`
     /// about released rows, the stride and `out`, which leave the image open as it was. An error
     /// leaves the decoder and `out` as they were.
     pub fn finish_into(
