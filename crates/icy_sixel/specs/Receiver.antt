@@ -22,7 +22,7 @@ use Rattle.sixel_base.specs.OneShot.{Found, Payload, NoPayload}
 use Rattle.sixel_base.specs.OneShot as one_shot
 use Rattle.sixel_base.specs.Reach as reach
 use Rattle.sixel_decoder.specs.Paints as paints
-pub use Rattle.sixel_decoder.specs.Paints.{most_run_paints}
+pub use Rattle.sixel_decoder.specs.Paints.{area_of, most_row_writes, most_run_paints}
 
 -- what is received: nothing, a payload that is read with these settings, or a DCS sequence
 pub data Form : Type 0 where
@@ -31,14 +31,16 @@ pub data Form : Type 0 where
   OfString : Form
 
 -- The image that is open: its form, the decoder that it began from, the bytes fed, whether a feed
--- was rejected, the capacity of its canvas in pixels beside the image, how many columns and tags
--- sixels have painted at most, how many rows from the top were released, whether it keeps the picture
--- of the tokens before a fault, and whether it has one.
+-- was rejected, how many pixels its canvas wrote as rows became wider, the capacity of its canvas
+-- in pixels beside the image, how many columns and tags sixels have painted at most, how many rows
+-- from the top were released, whether it keeps the picture of the tokens before a fault, and
+-- whether it has one.
 pub record Reception : Type 0 where
   pub form : Form
   pub start : DecoderState
   pub bytes : List ℕ
   pub is_refused : Bool
+  pub writes : ℕ
   pub room : ℕ
   pub paints : ℕ
   pub released : ℕ
@@ -66,6 +68,7 @@ no_image = record {
   start = new_decoder;
   bytes = [];
   is_refused = true;
+  writes = 0;
   room = 0;
   paints = 0;
   released = 0;
@@ -84,6 +87,7 @@ begun form decoder setting = record {
   start = decoder;
   bytes = [];
   is_refused = false;
+  writes = 0;
   room = 0;
   paints = 0;
   released = 0;

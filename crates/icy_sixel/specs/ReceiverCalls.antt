@@ -174,6 +174,16 @@ pub record IsAborted (old new : Receiver) : Type 0 where
   -- the setting stays
   pub setting : new.keeps_partial ≡ old.keeps_partial
 
+-- The canvas of the open image has written this number of pixels as its rows became wider.
+pub record IsWriteCount (image : Reception) (writes : ℕ) : Type 0 where
+  -- the number that contracts see of the image
+  pub value : writes ≡ image.writes
+  -- at most four times the pixels of the image so far
+  pub at_most : writes ≤ receivers.most_row_writes
+      * receivers.area_of (receivers.size image.start.pixel_limit image.form image.bytes)
+  -- a rejected image has no canvas
+  pub refused : image.is_refused ≡ true → writes ≡ 0
+
 -- Sixels of the open image have painted at most this number of columns and tags. A tag is the color
 -- of 128 columns of a row.
 pub record IsPaintCount (image : Reception) (paints : ℕ) : Type 0 where

@@ -7,6 +7,7 @@ ghost use Rattle.sixel_base.specs.Decoder.{new_decoder};
 ghost use Rattle.icy_sixel.specs.Receiver.{OfPayload, OfString, idle, is_open, in_payload};
 ghost use Rattle.icy_sixel.specs.ReceiverCalls.{IsBegun, IsFed, IsFinished, IsAborted};
 ghost use Rattle.icy_sixel.specs.ReceiverCalls.{IsDrawnHeight, IsPaintCount, IsSizeSoFar};
+ghost use Rattle.icy_sixel.specs.ReceiverCalls.{IsWriteCount};
 ghost use Rattle.icy_sixel.specs.ReceiverCalls.{KeepsPartial};
 ghost use Rattle.icy_sixel.specs.inside.Receiving.{reception_of};
 
@@ -198,6 +199,27 @@ impl SixelReceiver {
         ensures setting { self.new.keeps_partial ≡ self.old.keeps_partial }
     {
         self.open = image;
+    }
+
+    /// Returns how many pixels the canvas has written again because rows became wider.
+    ///
+    /// It is 0 if no image is open and after an error. The call does not allocate.
+    ///
+    /// Stored rows have equal width: that of raster attributes, if these come first. A sixel that
+    /// needs more columns makes the rows at least twice as wide. Then the canvas writes the stored
+    /// rows again, and each of their pixels counts, background too. What the allocator copies is
+    /// not counted.
+    ///
+    /// The number is at most four times the pixels of the image so far, also if rows were released.
+    /// It saturates.
+    pub fn canvas_writes(&self) -> u64
+        ensures { IsWriteCount self.now.image result }
+    {
+        match &self.open {
+            Open::Nothing => 0,
+            Open::Payload(reader) => reader.writes(),
+            Open::ControlString(reader) => reader.writes(),
+        }
     }
 
     /// Returns an upper bound of the columns and tags that sixels have painted.

@@ -3,6 +3,7 @@ pub mod BandStates
 pub mod BandTags
 pub mod CopiedRows
 pub mod Lanes
+pub mod MovedRows
 pub mod HandedRows
 pub mod Pictures
 pub mod PixelBytes

@@ -59,11 +59,12 @@ removed_len bytes new width rows n few len is =
     ∙ omega (arith, length-drop (4 * (n * width)) bytes, len, products n rows width few)
 
 pub rows_removed :
-    (background bytes new : List ℕ) (width rows room room' count n : ℕ) → n ≡ min count rows →
+    (background bytes new : List ℕ) (width rows room room' moved count n : ℕ) →
+    n ≡ min count rows →
     new ≡ drop (4 * (n * width)) bytes → (column row : ℕ) →
-    final (rows_state background new width (rows - n) room') column row
-    ≡ final (rows_state background bytes width rows room) column (row + count)
-rows_removed background bytes new width rows room room' count n least is column row =
+    final (rows_state background new width (rows - n) room' moved) column row
+    ≡ final (rows_state background bytes width rows room moved) column (row + count)
+rows_removed background bytes new width rows room room' moved count n least is column row =
     elim (cases_lt row (rows - n)) [
       | inr below ↦ rw (
         le-ltb row (rows - n) below,

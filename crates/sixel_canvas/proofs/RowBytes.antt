@@ -130,11 +130,11 @@ pixels_picture p bytes width (suc height) len same =
     sym parts ∙ ap (λ xs. xs ++ last) is_front ∙ ap (λ xs. picture p width height ++ xs) is_last
 
 -- the pixel that stands in a row at a column
-pub final_stored : (background bytes : List ℕ) (width rows room column row : ℕ) → column < width →
-    row < rows →
+pub final_stored : (background bytes : List ℕ) (width rows room moved column row : ℕ) →
+    column < width → row < rows →
     pixel_at bytes (row * width + column)
-    ≡ final (rows_state background bytes width rows room) column row
-final_stored background bytes width rows room column row inside above =
+    ≡ final (rows_state background bytes width rows room moved) column row
+final_stored background bytes width rows room moved column row inside above =
     rw (lt-ltb column width inside, lt-ltb row rows above) refl
 
 -- so many background pixels, or those of a row and background to their right
@@ -179,16 +179,16 @@ row_len bytes part new background width rows held few four len part_len is =
     )
 
 pub row_appended :
-    (bytes part new background : List ℕ) (pixels : List (List ℕ)) (width rows room room' : ℕ) →
-    length pixels ≤ width → length background ≡ 4 →
+    (bytes part new background : List ℕ) (pixels : List (List ℕ))
+    (width rows room room' moved : ℕ) → length pixels ≤ width → length background ≡ 4 →
     ((i : ℕ) → i < length pixels → length (get_or pixels i []) ≡ 4) →
     length bytes ≡ 4 * (rows * width) → part ≡ flat_map (λ x. x) pixels →
     new ≡ bytes ++ (part ++ joined (λ _. background) (width - length pixels)) → (column row : ℕ) →
-    final (rows_state background new width (rows + 1) room') column row
+    final (rows_state background new width (rows + 1) room' moved) column row
     ≡ (if row == rows then get_or pixels column background
-    else final (rows_state background bytes width rows room) column row)
-row_appended bytes part new background pixels width rows room room' few four all len flat is column
-    row =
+    else final (rows_state background bytes width rows room moved) column row)
+row_appended bytes part new background pixels width rows room room' moved few four all len flat is
+    column row =
     let f = λ (k : ℕ). get_or pixels k background in
     let next : new ≡ bytes ++ joined f width =
     is

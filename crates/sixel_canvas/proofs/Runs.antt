@@ -5,8 +5,8 @@ use Rattle.std.proofs.Common.{length-take, arith}
 use Rattle.std.specs.Prelude.{nat_lt, ◌==◌, ◌&&◌, if◌then◌else◌}
 use Rattle.std.proofs.lemmas.Bool.{cases_lt, lt-ltb, le-ltb, ne_eqb}
 use Rattle.sixel_canvas.specs.inside.BandCanvas.{IsPaid}
-use Rattle.sixel_canvas.specs.inside.Drawn.{Run, band_edge, drawn_columns, right_edge, run}
-use Rattle.sixel_canvas.specs.inside.Drawn.{runs_paint, with_sixels}
+use Rattle.sixel_canvas.specs.inside.Drawn.{Run, band_edge, drawn_columns, lowest_top, right_edge}
+use Rattle.sixel_canvas.specs.inside.Drawn.{run, runs_paint, with_sixels}
 
 edge-sixels : (from : ℕ) (sixels : List ℕ) (top : ℕ) (runs : List Run) (edge : ℕ) →
     edge ≤ right_edge runs → edge ≤ right_edge (with_sixels from sixels top runs)
@@ -28,7 +28,7 @@ last-sixels from (sixel ∷ sixels) top runs (suc len) less =
     )
 
 -- the right edge of some runs, and that of sixels after them
-edges : (from : ℕ) (sixels : List ℕ) (top : ℕ) (runs : List Run) (len : ℕ) → 0 < len →
+pub edges : (from : ℕ) (sixels : List ℕ) (top : ℕ) (runs : List Run) (len : ℕ) → 0 < len →
     len ≤ length sixels →
     max (right_edge runs) (from + len) ≤ right_edge (with_sixels from (take len sixels) top runs)
 edges from sixels top runs zero some few = absurd (omega (arith, some))
@@ -38,6 +38,22 @@ edges from sixels top runs (suc len) some few =
       edge-sixels from (take (suc len) sixels) top runs (right_edge runs) (omega arith),
       last-sixels from sixels top runs len (omega (arith, few)),
     )
+
+-- the lowest band of some runs, and that of sixels after them
+pub lowest_sixels : (from : ℕ) (sixels : List ℕ) (top : ℕ) (runs : List Run) (row : ℕ) →
+    row ≤ lowest_top runs → row ≤ lowest_top (with_sixels from sixels top runs)
+lowest_sixels from [] top runs row le = le
+lowest_sixels from (sixel ∷ sixels) top runs row le =
+    lowest_sixels (from + 1) sixels top (run from (from + 1) top sixel ∷ runs) row
+    (omega (arith, le))
+
+pub lowest_here : (from : ℕ) (sixels : List ℕ) (top : ℕ) (runs : List Run) (len : ℕ) → 0 < len →
+    len ≤ length sixels → top ≤ lowest_top (with_sixels from (take len sixels) top runs)
+lowest_here from sixels top runs zero some few = absurd (omega (arith, some))
+lowest_here from [] top runs (suc len) some few = absurd (omega (arith, few))
+lowest_here from (sixel ∷ sixels) top runs (suc len) some few =
+    lowest_sixels (from + 1) (take len sixels) top (run from (from + 1) top sixel ∷ runs) top
+    (omega arith)
 
 -- one run more in the band from this row on, and in another one
 edge-here : (from to top bits : ℕ) (runs : List Run) →

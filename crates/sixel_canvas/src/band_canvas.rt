@@ -3,8 +3,10 @@ ghost use Rattle.std.specs.Prelude.{◌≡◌, ℕ, ◌+◌, ◌*◌, ◌^◌, �
 ghost use Rattle.std.specs.Prelude.{◌-◌, length, nat_lt, if◌then◌else◌};
 ghost use Rattle.sixel_canvas.specs.Layout.{AreCopied, AreRowsIn};
 ghost use Rattle.sixel_canvas.specs.inside.Band.{cell};
-ghost use Rattle.sixel_canvas.specs.inside.BandCanvas.{above_band, band_canvas_shown, IsPaid};
-ghost use Rattle.sixel_canvas.specs.inside.FinalRows.{final};
+ghost use Rattle.sixel_canvas.specs.inside.BandCanvas.{above_band, band_canvas_shown};
+ghost use Rattle.sixel_canvas.specs.inside.BandCanvas.{AreMoved, IsLaidOut, IsPaid};
+ghost use Rattle.sixel_canvas.specs.inside.Drawn.{Run};
+ghost use Rattle.sixel_canvas.specs.inside.FinalRows.{final, stored_area};
 ghost use Rattle.sixel_canvas.specs.inside.TaggedBand.{capacity, tagged_cell};
 
 use crate::channels::RowLayout;
@@ -40,10 +42,10 @@ impl Model for BandCanvas {
     ghost Value = { BandCanvasState };
 
     ghost view = { λ canvas. band_canvas_state canvas.gone.rows canvas.released canvas.rows
-        canvas.band canvas.top canvas.held };
+        canvas.band canvas.top canvas.held canvas.expected_width };
 
     ghost invariant = { λ canvas. IsBandCanvas (band_canvas_state canvas.gone.rows canvas.released
-        canvas.rows canvas.band canvas.top canvas.held) };
+        canvas.rows canvas.band canvas.top canvas.held canvas.expected_width) };
 }
 
 impl Canvas for BandCanvas {
@@ -56,13 +58,13 @@ impl Canvas for BandCanvas {
     ghost released = { λ canvas. canvas.released };
 
     ghost work = { λ canvas. record {
-      writes = 0;
+      writes = canvas.rows.moved;
       room = 6 * capacity canvas.band;
       paints = canvas.band.painted;
     } };
 
-    ghost paid = { λ canvas runs. IsPaid (capacity canvas.band) canvas.band.painted
-        canvas.band.pixels.reach canvas.top runs };
+    ghost paid = { λ canvas named runs. IsPaid (capacity canvas.band) canvas.band.painted
+        canvas.band.pixels.reach canvas.top runs × AreMoved canvas named runs };
 
     fn new(alloc: Global, background: [u8; 4]) -> BandCanvas {
         BandCanvas {
@@ -137,6 +139,13 @@ impl Canvas for BandCanvas {
 }
 
 impl BandCanvas {
+    /// Returns how many pixels were written to give final rows another width. The number saturates.
+    pub fn writes(&self) -> u64
+        ensures { result ≡ self.now.rows.moved }
+    {
+        self.rows.moved()
+    }
+
     /// Returns how many columns and tags were painted so far, at most. The number saturates.
     pub fn paints(&self) -> u64
         ensures { result ≡ self.now.band.painted }
@@ -188,6 +197,9 @@ impl BandCanvas {
         ensures released { self.new.released ≡ max self.old.released rows }
         ensures top { self.new.top ≡ self.old.top }
         ensures band { self.new.band ≡ self.old.band }
+        ensures writes { self.new.rows.moved ≡ self.old.rows.moved }
+        ensures moved { (named : ℕ) (runs : List Run) → AreMoved self.old named runs
+            → AreMoved self.new named runs }
         ensures room { self.old.band.pixels.reach ≡ 0
             → self.old.released + self.old.rows.rows ≤ rows → self.new.rows.room ≡ 0 }
     {
@@ -205,6 +217,10 @@ impl BandCanvas {
         ensures released { self.new.released ≡ self.old.released }
         ensures top { self.new.top ≡ self.old.top }
         ensures band { self.new.band ≡ self.old.band }
+        ensures moved { self.new.rows.moved ≡ self.old.rows.moved }
+        ensures width { self.new.rows.width ≡ self.old.rows.width }
+        ensures rows { self.new.rows.rows ≡ self.old.rows.rows }
+        ensures expected { self.new.expected ≡ self.old.expected }
         ensures room { self.old.band.pixels.reach ≡ 0 → self.old.rows.rows ≡ 0
             → self.new.rows.room ≡ 0 }
     {
@@ -229,6 +245,8 @@ impl BandCanvas {
             ≤ max (capacity self.old.band) (2 * columns + 16)) }
         ensures reach { OnOk result (self.new.band.pixels.reach ≡ self.old.band.pixels.reach) }
         ensures painted { OnOk result (self.new.band.painted ≡ self.old.band.painted) }
+        ensures laid { OnOk result ((width : ℕ) → columns ≤ width → IsLaidOut self.old width
+            → IsLaidOut self.new width) }
     {
         if columns <= self.held {
             return Ok(());
@@ -252,6 +270,8 @@ impl BandCanvas {
             ≤ max (capacity self.old.band) (2 * columns + 16)) }
         ensures reach { OnOk result (self.new.band.pixels.reach ≡ self.old.band.pixels.reach) }
         ensures painted { OnOk result (self.new.band.painted ≡ self.old.band.painted) }
+        ensures laid { OnOk result ((width : ℕ) → columns ≤ width → IsLaidOut self.old width
+            → IsLaidOut self.new width) }
     {
         let least = columns
             .max(self.held)
@@ -276,6 +296,8 @@ impl BandCanvas {
         ensures released { self.new.released ≡ self.old.released }
         ensures held { self.new.held ≡ 0 }
         ensures painted { self.new.band.painted ≡ self.old.band.painted }
+        ensures moved { (named : ℕ) (runs : List Run) → AreMoved self.old named runs
+            → AreMoved self.new named runs }
     {
         if self.band.reach() > 0 {
             let width = self.expected_width;
@@ -298,6 +320,9 @@ fn hand_out(rows: &mut FinalRows, band: &mut TaggedBand, top: usize, expected_wi
         then final rows.old column row else tagged_cell band.old column (row - top)) }
     ensures rows { rows.new.rows ≡ top + 6 }
     ensures rows_background { rows.new.background ≡ rows.old.background }
+    ensures moved { rows.new.moved ≡ rows.old.moved }
+    ensures width { rows.new.width ≤ rows.old.width }
+    ensures area { stored_area rows.old ≤ stored_area rows.new }
     ensures cleared { (column k : ℕ) → tagged_cell band.new column k ≡ band.old.pixels.background }
     ensures background { band.new.pixels.background ≡ band.old.pixels.background }
     ensures reach { band.new.pixels.reach ≡ 0 }

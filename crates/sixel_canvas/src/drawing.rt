@@ -1,6 +1,6 @@
 //! The trait of everything that a SIXEL decoder draws on.
 ghost use Rattle.std.specs.Prelude.{◌≡◌, ℕ, ◌+◌, ◌*◌, ◌^◌, ◌≤◌, ◌<◌, List, [], ◌∷◌, length, take};
-ghost use Rattle.std.specs.Prelude.{true, slice_index_or, IfOk, OnOk, if◌then◌else◌};
+ghost use Rattle.std.specs.Prelude.{true, max, slice_index_or, IfOk, OnOk, if◌then◌else◌};
 ghost use Rattle.sixel_base.specs.Limits.{area_limit, side_limit};
 ghost use Rattle.sixel_base.specs.Picture.{covers, picture};
 ghost use Rattle.sixel_canvas.specs.inside.Drawn.{Run, run, with_sixels, covers_block};
@@ -29,8 +29,9 @@ pub trait Canvas {
     /// What it has cost: pixels written as it grew, capacity, and pixels painted.
     ghost work: { Self → Work };
 
-    /// Its counts and its capacity are within its bounds for these runs, the newest first.
-    ghost paid: { Self → List Run → Type 0 };
+    /// Its counts and its capacity are within its bounds for these runs, the newest first, where
+    /// raster attributes name this width.
+    ghost paid: { Self → ℕ → List Run → Type 0 };
 
     /// Returns a canvas that shows the background everywhere. It does not allocate.
     fn new(alloc: Global, background: [u8; 4]) -> Self
@@ -38,7 +39,7 @@ pub trait Canvas {
         ensures top { top result ≡ 0 }
         ensures released { released result ≡ 0 }
         ensures work { work result ≡ no_work }
-        ensures paid { paid result [] };
+        ensures paid { paid result 0 [] };
 
     /// Returns the first row of the band.
     fn top(&self) -> usize
@@ -56,7 +57,8 @@ pub trait Canvas {
         ensures top { top self.new ≡ top self.old }
         ensures held { held self.new ≡ held self.old }
         ensures released { released self.new ≡ released self.old }
-        ensures paid { (runs : List Run) → paid self.old runs → paid self.new runs };
+        ensures paid { (named : ℕ) (runs : List Run) → paid self.old named runs
+            → paid self.new (max named width) runs };
 
     /// Draws a sixel over the columns from `from` up to before `to` of the band.
     fn draw(&mut self, from: usize, to: usize, bits: u8, color: [u8; 4]) -> Result<(), AllocError>
@@ -70,8 +72,8 @@ pub trait Canvas {
             else shown self.old column row)) }
         ensures top { OnOk result (top self.new ≡ top self.old) }
         ensures released { OnOk result (released self.new ≡ released self.old) }
-        ensures paid { OnOk result ((runs : List Run) → paid self.old runs
-            → paid self.new (run from to (top self.old) bits ∷ runs)) };
+        ensures paid { OnOk result ((named : ℕ) (runs : List Run) → paid self.old named runs
+            → paid self.new named (run from to (top self.old) bits ∷ runs)) };
 
     /// Draws a sixel of one column, for which there is memory.
     fn column(&mut self, at: usize, bits: u8, color: [u8; 4])
@@ -85,8 +87,8 @@ pub trait Canvas {
             else shown self.old column row) }
         ensures top { top self.new ≡ top self.old }
         ensures released { released self.new ≡ released self.old }
-        ensures paid { (runs : List Run) → paid self.old runs
-            → paid self.new (run at (at + 1) (top self.old) bits ∷ runs) };
+        ensures paid { (named : ℕ) (runs : List Run) → paid self.old named runs
+            → paid self.new named (run at (at + 1) (top self.old) bits ∷ runs) };
 
     /// Draws `len` sixels of one column each, from `from` on: the others of the eight are blank.
     fn block(
@@ -108,8 +110,8 @@ pub trait Canvas {
             else shown self.old column row)) }
         ensures top { OnOk result (top self.new ≡ top self.old) }
         ensures released { OnOk result (released self.new ≡ released self.old) }
-        ensures paid { OnOk result ((runs : List Run) → paid self.old runs
-            → paid self.new (with_sixels from (take len sixels) (top self.old) runs)) }
+        ensures paid { OnOk result ((named : ℕ) (runs : List Run) → paid self.old named runs
+            → paid self.new named (with_sixels from (take len sixels) (top self.old) runs)) }
     {
         'drawn: for j in 0..len {
             self.draw(from + j, from + j + 1, sixels[j], color)?;
@@ -123,7 +125,8 @@ pub trait Canvas {
         ensures shown { (column row : ℕ) → shown self.new column row ≡ shown self.old column row }
         ensures top { top self.new ≡ top self.old + 6 }
         ensures released { released self.new ≡ released self.old }
-        ensures paid { (runs : List Run) → paid self.old runs → paid self.new runs };
+        ensures paid { (named : ℕ) (runs : List Run) → paid self.old named runs
+            → paid self.new named runs };
 
     /// Returns the bytes of the picture of this size, and leaves the canvas without it.
     ///

@@ -6,7 +6,9 @@ ghost use Rattle.std.specs.Prelude.{IfOk, IsOk, OnErr, OnOk, if◌then◌else◌
 ghost use Rattle.std.specs.Prelude.{vec_len, vec_capacity};
 ghost use Rattle.sixel_base.specs.Picture.{joined, picture};
 ghost use Rattle.sixel_canvas.specs.Layout.{AreCopied, AreRowsIn, in_order};
-ghost use Rattle.sixel_canvas.specs.inside.FinalRows.{AreRows, final, pixel_at};
+ghost use Rattle.sixel_canvas.specs.inside.FinalRows.{AreMovedWithin, AreRows, final, pixel_at};
+ghost use Rattle.sixel_canvas.specs.inside.FinalRows.{stored_area};
+ghost use Rattle.sixel_canvas.specs.inside.Paints.{counted};
 
 use crate::channels::{ChannelOrder, RowLayout, copy_row};
 use crate::span::add_pixels;
@@ -26,6 +28,8 @@ pub struct FinalRows {
     width: usize,
     rows: usize,
     background: [u8; 4],
+    /// How many pixels were written to give rows another width.
+    moved: u64,
 }
 
 impl Model for FinalRows {
@@ -35,10 +39,10 @@ impl Model for FinalRows {
     ghost Value = { RowsState };
 
     ghost view = { λ all. rows_state all.background all.bytes.items all.width all.rows
-        (vec_capacity all.bytes) };
+        (vec_capacity all.bytes) all.moved };
 
-    ghost invariant = { λ all. AreRows
-        (rows_state all.background all.bytes.items all.width all.rows (vec_capacity all.bytes)) };
+    ghost invariant = { λ all. AreRows (rows_state all.background all.bytes.items all.width all.rows
+        (vec_capacity all.bytes) all.moved) };
 }
 
 impl FinalRows {
@@ -48,12 +52,14 @@ impl FinalRows {
         ensures background { result.background ≡ background }
         ensures width { result.width ≡ 0 }
         ensures rows { result.rows ≡ 0 }
+        ensures moved { result.moved ≡ 0 }
     {
         FinalRows {
             bytes: Vec::new(alloc),
             width: 0,
             rows: 0,
             background,
+            moved: 0,
         }
     }
 
@@ -71,6 +77,13 @@ impl FinalRows {
         self.rows
     }
 
+    /// Returns how many pixels were written to give rows another width. The number saturates.
+    pub fn moved(&self) -> u64
+        ensures { result ≡ self.now.moved }
+    {
+        self.moved
+    }
+
     /// Makes memory for so many rows of at least so many columns.
     ///
     /// Rows that are too narrow get twice their width, so that they seldom move.
@@ -80,9 +93,14 @@ impl FinalRows {
         ensures shown { OnOk result ((column row : ℕ) → final self.new column row
             ≡ final self.old column row) }
         ensures width { OnOk result (max columns self.old.width ≤ self.new.width) }
+        ensures narrow { OnOk result (self.new.width
+            ≤ (if nat_lt self.old.width columns then 2 * columns else self.old.width)) }
         ensures room { OnOk result (4 * (rows * self.new.width) ≤ self.new.room) }
         ensures rows { OnOk result (self.new.rows ≡ self.old.rows) }
         ensures background { OnOk result (self.new.background ≡ self.old.background) }
+        ensures moved { OnOk result (self.new.moved ≡ (if nat_lt self.old.width columns
+            then counted self.old.moved (self.old.rows * self.new.width) else self.old.moved)) }
+        ensures moved_within { OnOk result (AreMovedWithin self.old self.new) }
         ensures refused { OnErr result (self.new ≡ self.old) }
     {
         if columns > self.width {
@@ -102,6 +120,8 @@ impl FinalRows {
         ensures rows { self.new.rows ≡ self.old.rows }
         ensures room { self.new.room ≡ self.old.room }
         ensures background { self.new.background ≡ self.old.background }
+        ensures moved { self.new.moved ≡ self.old.moved }
+        ensures area { stored_area self.new ≡ stored_area self.old }
     {
         if self.rows == 0 {
             self.width = columns;
@@ -109,6 +129,8 @@ impl FinalRows {
     }
 
     /// Gives the rows another width, and makes memory for so many of them.
+    ///
+    /// It counts the pixels that it writes.
     fn lay_out(&mut self, width: usize, rows: usize) -> Result<(), AllocError>
         requires narrow { width ≤ 2000000 }
         requires few { rows ≤ 1000006 }
@@ -120,6 +142,10 @@ impl FinalRows {
         ensures room { OnOk result (4 * (rows * self.new.width) ≤ self.new.room) }
         ensures rows { OnOk result (self.new.rows ≡ self.old.rows) }
         ensures background { OnOk result (self.new.background ≡ self.old.background) }
+        ensures moved { OnOk result
+            (self.new.moved ≡ counted self.old.moved (self.old.rows * width)) }
+        ensures moved_within { OnOk result (2 * self.old.width ≤ width
+            → AreMovedWithin self.old self.new) }
         ensures refused { OnErr result (self.new ≡ self.old) }
     {
         let alloc = *self.bytes.allocator();
@@ -132,6 +158,7 @@ impl FinalRows {
         }
         self.bytes = bytes;
         self.width = width;
+        self.moved = self.moved.saturating_add((self.rows * width) as u64);
         Ok(())
     }
 
@@ -148,6 +175,7 @@ impl FinalRows {
         ensures rows { self.new.rows ≡ self.old.rows + 1 }
         ensures room { self.old.room ≤ self.new.room }
         ensures background { self.new.background ≡ self.old.background }
+        ensures moved { self.new.moved ≡ self.old.moved }
     {
         let rest = self.width - pixels.len();
         let _added = add_row(
@@ -168,6 +196,7 @@ impl FinalRows {
         ensures width { self.new.width ≡ self.old.width }
         ensures room { self.new.room ≡ self.old.room }
         ensures background { self.new.background ≡ self.old.background }
+        ensures moved { self.new.moved ≡ self.old.moved }
     {
         let count = count.min(self.rows);
         remove_front(&mut self.bytes, 4 * (count * self.width));
@@ -181,6 +210,7 @@ impl FinalRows {
         ensures width { self.new.width ≡ self.old.width }
         ensures room { self.old.rows ≡ 0 → self.new.room ≡ 0 }
         ensures background { self.new.background ≡ self.old.background }
+        ensures moved { self.new.moved ≡ self.old.moved }
     {
         if self.rows == 0 {
             self.bytes.shrink_to_fit();

@@ -54,7 +54,7 @@ impl Canvas for RowCanvas {
 
     ghost work = { row_canvas_work };
 
-    ghost paid = { IsDrawnBy };
+    ghost paid = { λ canvas named runs. IsDrawnBy canvas runs };
 
     fn new(alloc: Global, background: [u8; 4]) -> RowCanvas {
         RowCanvas {

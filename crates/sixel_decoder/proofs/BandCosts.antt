@@ -1,18 +1,22 @@
 -- What the runs of a history have cost a canvas of one band, against its sixels and its bands.
 use Rattle.std.proofs.Common.{◌≡◌, ℕ, suc, ◌+◌, ◌-◌, ◌*◌, ◌≤◌, ◌∷◌, [], max, min, None, refl}
-use Rattle.std.proofs.Common.{ap, arith, cond, false, true}
+use Rattle.std.proofs.Common.{Some, inl, inr, ap, arith, cond, false, true}
+use Rattle.std.proofs.lemmas.Nat.{mul-le}
+use Rattle.std.proofs.lemmas.Bool.{cases_lt, le-ltb, lt-ltb}
 use Rattle.std.specs.Prelude.{◌==◌, ◌&&◌, nat_lt, if◌then◌else◌}
 use Rattle.sixel_base.specs.History.{Sixel, Repeat, Raster, Color, Return, Newline, Skip, History}
 use Rattle.sixel_base.specs.Limits.{Limit}
-use Rattle.sixel_base.specs.Clip.{clipped_bits, clipped_width, is_inside}
+use Rattle.sixel_base.specs.Clip.{clipped_bits, clipped_height, clipped_width, is_inside}
 use Rattle.sixel_base.specs.Payload.{first_fault}
-use Rattle.sixel_base.specs.Place.{across, down, span, width}
-use Rattle.sixel_canvas.specs.inside.BandCanvas.{IsPaid}
-use Rattle.sixel_canvas.specs.inside.Drawn.{drawn_columns, right_edge, run, runs_paint}
+use Rattle.sixel_base.specs.Place.{across, down, span, width, height}
+use Rattle.sixel_base.specs.Reach.{size}
+use Rattle.sixel_canvas.specs.inside.BandCanvas.{AreMoved, BandCanvasState, IsPaid, least_width}
+use Rattle.sixel_canvas.specs.inside.Drawn.{drawn_columns, lowest_top, right_edge, run}
+use Rattle.sixel_canvas.specs.inside.Drawn.{runs_paint}
 use Rattle.sixel_canvas.specs.inside.Drawn.{band_edge as runs_edge}
 use Rattle.sixel_decoder.specs.Paints.{sixels, band_columns, band_edge, band_room}
-use Rattle.sixel_decoder.specs.Paints.{most_run_paints}
-use Rattle.sixel_decoder.specs.inside.Runs.{runs_of}
+use Rattle.sixel_decoder.specs.Paints.{area_of, most_row_writes, most_run_paints}
+use Rattle.sixel_decoder.specs.inside.Runs.{named_width, runs_of}
 use Rattle.sixel_decoder.proofs.RowExtents.{both_none}
 use Rattle.sixel_decoder.proofs.RunCosts.{span-fits}
 
@@ -125,3 +129,57 @@ band_cost limit cap painted reach top h faultless paid = (
   omega (arith, paid.few, band_columns-history limit h, runs_paint-history limit h faultless),
   omega (arith, paid.narrow, right_edge-history limit h),
 )
+
+-- the width after raster attributes
+named_width-history : (limit : Limit) (h : History) → named_width limit h ≤ clipped_width limit h
+named_width-history limit [] = omega arith
+named_width-history limit (Raster _ ∷ h) = omega (arith, named_width-history limit h)
+named_width-history limit (Sixel _ ∷ h) = omega (arith, named_width-history limit h)
+named_width-history limit (Repeat _ ∷ h) = named_width-history limit h
+named_width-history limit (Color _ ∷ h) = named_width-history limit h
+named_width-history limit (Return ∷ h) = named_width-history limit h
+named_width-history limit (Newline ∷ h) = named_width-history limit h
+named_width-history limit (Skip _ ∷ h) = named_width-history limit h
+
+-- the lowest band that was drawn on
+lowest_top-history : (limit : Limit) (h : History)
+    → lowest_top (runs_of limit h) ≤ clipped_height limit h
+lowest_top-history limit [] = omega arith
+lowest_top-history limit (Sixel bits ∷ h) =
+    let cut : ℕ = clipped_bits limit (down h) bits in
+    let right : ℕ = min (across h + span h) limit.columns in
+    let more : clipped_height limit h ≤ min (max (height h) (down h + 6)) limit.rows =
+    omega arith in
+    elim (nat_lt (across h) limit.columns) as
+    (λ t.
+    lowest_top (cond (t && nat_lt (down h) limit.rows)
+    (run (across h) right (down h) cut ∷ runs_of limit h) (runs_of limit h))
+    ≤ min (max (height h) (down h + 6)) limit.rows) [
+      | true ↦ elim (cases_lt (down h) limit.rows) [
+        | inl above ↦ rw (lt-ltb (down h) limit.rows above)
+            (omega (arith, lowest_top-history limit h, more, above))
+        | inr below ↦ rw (le-ltb (down h) limit.rows below)
+            (omega (arith, lowest_top-history limit h, more))
+      ]
+      | false ↦ omega (arith, lowest_top-history limit h, more)
+    ]
+lowest_top-history limit (Raster _ ∷ h) = omega (arith, lowest_top-history limit h)
+lowest_top-history limit (Repeat _ ∷ h) = lowest_top-history limit h
+lowest_top-history limit (Color _ ∷ h) = lowest_top-history limit h
+lowest_top-history limit (Return ∷ h) = lowest_top-history limit h
+lowest_top-history limit (Newline ∷ h) = lowest_top-history limit h
+lowest_top-history limit (Skip _ ∷ h) = lowest_top-history limit h
+
+-- What these tokens have made a canvas of one band write as its rows became wider.
+pub band_moved : (limit : Limit) (canvas : BandCanvasState) (h : History)
+    → AreMoved canvas (named_width limit h) (runs_of limit h)
+    → canvas.rows.moved ≤ most_row_writes * area_of (Some (size limit h))
+band_moved limit canvas h are =
+    let wide : least_width (named_width limit h) (runs_of limit h) ≤ clipped_width limit h =
+    omega (arith, named_width-history limit h, right_edge-history limit h) in
+    omega (
+      arith,
+      are.few,
+      mul-le (lowest_top (runs_of limit h)) (least_width (named_width limit h) (runs_of limit h))
+          (clipped_height limit h) (clipped_width limit h) (lowest_top-history limit h) wide,
+    )

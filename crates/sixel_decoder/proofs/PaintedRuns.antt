@@ -20,7 +20,7 @@ use Rattle.sixel_canvas.specs.declared.drawing.Canvas.{Ghosts}
 use Rattle.sixel_decoder.specs.declared.painter.Painter.{Painter}
 use Rattle.sixel_decoder.specs.inside.Painter.{FitsColumn, Shows}
 use Rattle.sixel_decoder.specs.inside.DrawnRows.{drawn_rows}
-use Rattle.sixel_decoder.specs.inside.Runs.{most_rows, runs_of}
+use Rattle.sixel_decoder.specs.inside.Runs.{most_rows, named_width, runs_of}
 use Rattle.sixel_canvas.specs.inside.Drawn.{Run, run, covers_block}
 use Rattle.sixel_canvas.specs.inside.Drawn.{with_sixels as with_runs}
 use Rattle.sixel_decoder.proofs.DrawnHeights.{drawn_height-sixels, most_rows-first}
@@ -233,13 +233,20 @@ inside_from o painter h n shows single right lower = record {
   faultless = shows.faultless;
 }
 
+-- sixels name no width
+named_width-sixels : (limit : Limit) (h : History) (sixels : List ℕ)
+    → named_width limit (with_sixels h sixels) ≡ named_width limit h
+named_width-sixels limit h [] = refl
+named_width-sixels limit h (bits ∷ sixels) = named_width-sixels limit (Sixel bits ∷ h) sixels
+
 -- the painter once such sixels were drawn on its canvas
 Shows-sixels : {C : Type 0} {canvas : Ghosts C} (o : Origin) (h : History)
     (old new : Painter C canvas) (sixels : List ℕ)
     → Shows o old h → IsInside o.pixel_limit (length sixels) h
     → ((column row : ℕ)
     → canvas.shown new.canvas column row ≡ clipped_pixel o (with_sixels h sixels) column row)
-    → canvas.paid new.canvas (runs_of o.pixel_limit (with_sixels h sixels))
+    → canvas.paid new.canvas (named_width o.pixel_limit h)
+    (runs_of o.pixel_limit (with_sixels h sixels))
     → canvas.top new.canvas ≡ canvas.top old.canvas
     → ((row : ℕ)
     → drawn_rows new.drawn row ≡ lowered (drawn_rows old.drawn row) row (most_rows sixels))
@@ -254,7 +261,7 @@ Shows-sixels o h old new sixels shows inside drawn paid' top' lower' registers' 
     let passed = IsPassed-sixels o.pixel_limit o h sixels inside in
     record {
       pixels = drawn;
-      paid = paid';
+      paid = rw (named_width-sixels o.pixel_limit h sixels) paid';
       registers = registers' ∙ shows.registers ∙ sym passed.registers;
       color = color' ∙ shows.color ∙ ap (λ c. c ++ 255 ∷ []) (sym passed.color);
       repeat = repeat' ∙ shows.repeat ∙ inside.single ∙ sym passed.span;
@@ -286,9 +293,9 @@ pub Shows-block : {C : Type 0} {canvas : Ghosts C} (o : Origin) (h after : Histo
     → canvas.shown new.canvas column row
     ≡ (if covers_block old.column eight (canvas.top old.canvas) column row then old.color
     else canvas.shown old.canvas column row))
-    → ((runs : List Run)
-    → canvas.paid old.canvas runs
-    → canvas.paid new.canvas (with_runs old.column sixels (canvas.top old.canvas) runs))
+    → ((named : ℕ) (runs : List Run)
+    → canvas.paid old.canvas named runs
+    → canvas.paid new.canvas named (with_runs old.column sixels (canvas.top old.canvas) runs))
     → canvas.top new.canvas ≡ canvas.top old.canvas
     → ((row : ℕ)
     → drawn_rows new.drawn row ≡ lowered (drawn_rows old.drawn row) row (most_rows eight))
@@ -313,8 +320,10 @@ Shows-block {C} {canvas} o h after old new sixels eight whole shows single right
       shows.color,
       shows.pixels column row,
     ) (sym (clipped_pixel-sixels o h sixels column row inside))))
-    (subst (canvas.paid new.canvas) (runs_of-sixels o.pixel_limit h sixels inside)
-    (rw (shows.column, shows.top) at (paid' (runs_of o.pixel_limit h) shows.paid)))
+    (subst (canvas.paid new.canvas (named_width o.pixel_limit h))
+    (runs_of-sixels o.pixel_limit h sixels inside)
+    (rw (shows.column, shows.top) at
+    (paid' (named_width o.pixel_limit h) (runs_of o.pixel_limit h) shows.paid)))
     top'
     (λ row.
     lower' row
@@ -345,9 +354,9 @@ pub Shows-column : {C : Type 0} {canvas : Ghosts C} (o : Origin) (h : History)
     → canvas.shown new.canvas column row
     ≡ (if covers old.column (old.column + 1) (canvas.top old.canvas) bits column row then old.color
     else canvas.shown old.canvas column row))
-    → ((runs : List Run)
-    → canvas.paid old.canvas runs
-    → canvas.paid new.canvas
+    → ((named : ℕ) (runs : List Run)
+    → canvas.paid old.canvas named runs
+    → canvas.paid new.canvas named
     (run old.column (old.column + 1) (canvas.top old.canvas) bits ∷ runs))
     → canvas.top new.canvas ≡ canvas.top old.canvas
     → ((row : ℕ)
@@ -371,8 +380,10 @@ Shows-column {C} {canvas} o h old new bits shows alone drawn paid' top' lower' r
       shows.color,
       shows.pixels column row,
     ) (sym (clipped_pixel-one o h bits column row inside))))
-    (subst (canvas.paid new.canvas) (sym (run_inside o.pixel_limit 0 bits h inside))
-    (rw (shows.column, shows.top) at (paid' (runs_of o.pixel_limit h) shows.paid)))
+    (subst (canvas.paid new.canvas (named_width o.pixel_limit h))
+    (sym (run_inside o.pixel_limit 0 bits h inside))
+    (rw (shows.column, shows.top) at
+    (paid' (named_width o.pixel_limit h) (runs_of o.pixel_limit h) shows.paid)))
     top'
     (λ row.
     lower' row

@@ -15,7 +15,8 @@ use Rattle.sixel_base.specs.OneShot.{found, found_fault, IsFoundImage, AreFoundR
 use Rattle.sixel_base.specs.OneShot.{IsDecodedAs}
 use Rattle.sixel_base.specs.Payload.{Image}
 use Rattle.sixel_decoder.specs.Paints.{dcs_sixels, dcs_least_count, most_sixel_paints}
-use Rattle.sixel_decoder.specs.Paints.{dcs_band_columns, dcs_band_room, most_run_paints}
+use Rattle.sixel_decoder.specs.Paints.{area_of, dcs_band_columns, dcs_band_room}
+use Rattle.sixel_decoder.specs.Paints.{most_row_writes, most_run_paints}
 use Rattle.sixel_decoder.specs.Session.{DcsSession}
 
 -- a session that was fed nothing
@@ -148,6 +149,16 @@ pub record IsBandPaintCount (session : DcsSession) (paints : ℕ) : Type 0 where
   pub room : session.room ≤ dcs_band_room session.decoder.pixel_limit session.bytes
   -- a rejected session has no canvas
   pub refused : session.is_refused ≡ true → paints ≡ 0
+
+-- This number of pixels was written on a canvas of one band as its rows became wider.
+pub record IsBandWriteCount (session : DcsSession) (writes : ℕ) : Type 0 where
+  -- the number that contracts see of the session
+  pub value : writes ≡ session.writes
+  -- at most four times the pixels of the image so far
+  pub at_most : writes ≤ most_row_writes
+      * area_of (dcs_size session.decoder.pixel_limit session.bytes)
+  -- a rejected session has no canvas
+  pub refused : session.is_refused ≡ true → writes ≡ 0
 
 -- The image has this size so far.
 pub record IsSizeSoFar (session : DcsSession) (answer : Option (ℕ × ℕ)) : Type 0 where

@@ -3,7 +3,7 @@
 -- this library's own, and says nothing of how pixels are stored. What a sixel is, by DEC's manual,
 -- is in History.
 use Rattle.std.specs.Prelude.{ℕ, suc, ◌+◌, ◌-◌, ◌*◌, ◌/◌, ◌==◌, ◌&&◌, min, max, nat_lt}
-use Rattle.std.specs.Prelude.{if◌then◌else◌, List, [], ◌∷◌}
+use Rattle.std.specs.Prelude.{if◌then◌else◌, List, [], ◌∷◌, Option, Some, None}
 use Rattle.sixel_base.specs.Clip.{clipped_bits, clipped_width, is_inside}
 use Rattle.sixel_base.specs.History.{Sixel, History}
 use Rattle.sixel_base.specs.Limits.{Limit}
@@ -66,6 +66,16 @@ most_run_paints = 1151
 -- of twice the width and 16 columns
 abbrev pub band_room : Limit → History → ℕ
 band_room limit history = 12 * clipped_width limit history + 96
+
+-- how often a canvas of one band writes each pixel of the picture at most, on average, as rows
+-- become wider than it expected
+abbrev pub most_row_writes : ℕ
+most_row_writes = 4
+
+-- how many pixels a picture of this size has, if there is one
+abbrev pub area_of : Option (ℕ × ℕ) → ℕ
+area_of None = 0
+area_of (Some size) = size.0 * size.1
 
 -- how many closed sixels the payload of a DCS sequence has
 abbrev pub stage_sixels : Stage → ℕ

@@ -15,7 +15,7 @@ use Rattle.sixel_base.specs.Reach.{reached_area, size}
 use Rattle.sixel_base.specs.Status.{status_of}
 use Rattle.sixel_base.specs.Stroke.{Origin}
 use Rattle.sixel_decoder.specs.Paints.{sixels, least_count, most_sixel_paints, band_columns}
-use Rattle.sixel_decoder.specs.Paints.{band_room, most_run_paints}
+use Rattle.sixel_decoder.specs.Paints.{area_of, band_room, most_row_writes, most_run_paints}
 use Rattle.sixel_decoder.specs.Session.{Session}
 
 -- a session that was fed nothing
@@ -149,6 +149,16 @@ pub record IsBandPaintCount (session : Session) (paints : ℕ) : Type 0 where
   pub room : session.room ≤ band_room session.origin.pixel_limit (settled session.bytes)
   -- a rejected session has no canvas
   pub refused : session.is_refused ≡ true → paints ≡ 0
+
+-- This number of pixels was written on a canvas of one band as its rows became wider.
+pub record IsBandWriteCount (session : Session) (writes : ℕ) : Type 0 where
+  -- the number that contracts see of the session
+  pub value : writes ≡ session.writes
+  -- at most four times the pixels of the image so far
+  pub at_most : writes ≤ most_row_writes
+      * area_of (Some (size session.origin.pixel_limit (settled session.bytes)))
+  -- a rejected session has no canvas
+  pub refused : session.is_refused ≡ true → writes ≡ 0
 
 -- The image has this size so far.
 pub record IsSizeSoFar (session : Session) (answer : Option (ℕ × ℕ)) : Type 0 where

@@ -7,6 +7,7 @@ ghost use Rattle.sixel_base.specs.Dcs.{dcs_in_payload, has_come};
 ghost use Rattle.sixel_decoder.specs.DcsCalls.{begun, IsFed, IsFinished, IsSizeSoFar};
 ghost use Rattle.sixel_decoder.specs.DcsCalls.{IsDrawnHeight};
 ghost use Rattle.sixel_decoder.specs.DcsCalls.{IsWriteCount, IsPaintCount, IsBandPaintCount};
+ghost use Rattle.sixel_decoder.specs.DcsCalls.{IsBandWriteCount};
 ghost use Rattle.sixel_decoder.specs.PictureView.{picture_value};
 
 mod final_rows;
@@ -140,6 +141,16 @@ impl DcsReader<RowCanvas> {
 }
 
 impl DcsReader<BandCanvas> {
+    /// Returns how many pixels were written as the rows of the payload's canvas became wider.
+    pub fn writes(&self) -> u64
+        ensures { IsBandWriteCount self.now result }
+    {
+        let DcsState::Payload(reader) = &self.parser.state else {
+            return 0;
+        };
+        reader.writes()
+    }
+
     /// Returns how many columns and tags sixels of the payload have painted at most.
     pub fn paints(&self) -> u64
         ensures { IsBandPaintCount self.now result }

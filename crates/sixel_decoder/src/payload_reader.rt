@@ -7,6 +7,7 @@ ghost use Rattle.sixel_base.specs.Decoder.{origin_of};
 ghost use Rattle.sixel_decoder.specs.PayloadCalls.{begun, IsFed, IsFinished, IsSizeSoFar};
 ghost use Rattle.sixel_decoder.specs.PayloadCalls.{IsDrawnHeight};
 ghost use Rattle.sixel_decoder.specs.PayloadCalls.{IsWriteCount, IsPaintCount, IsBandPaintCount};
+ghost use Rattle.sixel_decoder.specs.PayloadCalls.{IsBandWriteCount};
 ghost use Rattle.sixel_base.specs.Fault.{is_fault};
 ghost use Rattle.sixel_decoder.specs.PartialCalls.{KeepsPartial, IsFinishedPartly};
 ghost use Rattle.sixel_decoder.specs.PictureView.{picture_value};
@@ -212,6 +213,16 @@ impl PayloadReader<RowCanvas> {
 }
 
 impl PayloadReader<BandCanvas> {
+    /// Returns how many pixels were written as the rows of the canvas became wider.
+    pub fn writes(&self) -> u64
+        ensures { IsBandWriteCount self.now result }
+    {
+        let PayloadState::Reading(parser) = &self.state else {
+            return 0;
+        };
+        parser.painter.canvas.writes()
+    }
+
     /// Returns how many columns and tags sixels have painted at most.
     pub fn paints(&self) -> u64
         ensures { IsBandPaintCount self.now result }

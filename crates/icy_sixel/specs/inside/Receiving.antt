@@ -17,6 +17,7 @@ reception_of (opened.Payload reader) = record {
   };
   bytes = reader.bytes;
   is_refused = reader.is_refused;
+  writes = reader.writes;
   room = reader.room;
   paints = reader.paints;
   released = reader.released;
@@ -28,6 +29,7 @@ reception_of (opened.ControlString reader) = record {
   start = reader.decoder;
   bytes = reader.bytes;
   is_refused = reader.is_refused;
+  writes = reader.writes;
   room = reader.room;
   paints = reader.paints;
   released = reader.released;

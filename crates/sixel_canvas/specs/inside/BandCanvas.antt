@@ -2,14 +2,16 @@
 -- and the others are stored, the six rows of the band, and background elsewhere. That no row above
 -- the band changes any more is DEC's manual's: a graphics new line goes down, and nothing goes up.
 use Rattle.std.specs.Prelude.{◌≡◌, ℕ, ◌+◌, ◌-◌, ◌*◌, ◌<◌, ◌≤◌, List, nat_lt, if◌then◌else◌}
-use Rattle.std.specs.Prelude.{length}
-use Rattle.sixel_canvas.specs.inside.Drawn.{Run, band_edge, drawn_columns, right_edge, runs_paint}
+use Rattle.std.specs.Prelude.{length, max}
+use Rattle.sixel_canvas.specs.inside.Drawn.{Run, band_edge, drawn_columns, lowest_top, right_edge}
+use Rattle.sixel_canvas.specs.inside.Drawn.{runs_paint}
 use Rattle.sixel_canvas.specs.inside.TaggedBand.{TaggedState, tagged_cell}
-use Rattle.sixel_canvas.specs.inside.FinalRows.{RowsState, final}
+use Rattle.sixel_canvas.specs.inside.FinalRows.{RowsState, final, stored_area}
 use Rattle.sixel_canvas.specs.inside.ReleasedRows.{released_pixel}
 
 -- the bytes of the released rows, how many these are, the final rows that are stored, the band, its
--- first row, and how many columns of it are drawn on without an allocation
+-- first row, how many columns of it are drawn on without an allocation, and how wide the picture is
+-- at least, as raster attributes name it
 pub record BandCanvasState : Type 0 where
   pub gone : List (List ℕ)
   pub released : ℕ
@@ -17,17 +19,19 @@ pub record BandCanvasState : Type 0 where
   pub band : TaggedState
   pub top : ℕ
   pub held : ℕ
+  pub expected : ℕ
 
 -- the canvas with these parts
-abbrev pub band_canvas_state : List (List ℕ) → ℕ → RowsState → TaggedState → ℕ → ℕ
+abbrev pub band_canvas_state : List (List ℕ) → ℕ → RowsState → TaggedState → ℕ → ℕ → ℕ
     → BandCanvasState
-band_canvas_state gone released rows band top held = record {
+band_canvas_state gone released rows band top held expected = record {
   gone = gone;
   released = released;
   rows = rows;
   band = band;
   top = top;
   held = held;
+  expected = expected;
 }
 
 -- the pixel at this place of the rows above the band
@@ -66,3 +70,21 @@ pub record IsPaid (capacity painted reach top : ℕ) (runs : List Run) : Type 0 
   pub few : painted ≤ drawn_columns runs + runs_paint runs
   pub edge : band_edge runs top ≤ reach
   pub below : (row : ℕ) → top < row → band_edge runs row ≡ 0
+
+-- What is true of the rows of a canvas whose picture has so many columns, or will have: rows are at
+-- most twice as wide, and pixels were written to give rows another width at most twice for each
+-- stored pixel, and four times for each pixel that was released.
+pub record IsLaidOut (canvas : BandCanvasState) (width : ℕ) : Type 0 where
+  pub expected : canvas.expected ≤ width
+  pub wide : canvas.rows.width ≤ 2 * width
+  pub moved : canvas.rows.moved ≤ 2 * stored_area canvas.rows + 4 * (canvas.released * width)
+
+-- how wide the picture of these runs is at least, where raster attributes name this width
+abbrev pub least_width : ℕ → List Run → ℕ
+least_width named runs = max named (right_edge runs)
+
+-- What is true of a canvas that these runs were drawn on: pixels were written to give rows another
+-- width at most four times for each pixel of the picture above the lowest band.
+pub record AreMoved (canvas : BandCanvasState) (named : ℕ) (runs : List Run) : Type 0 where
+  pub laid : IsLaidOut canvas (least_width named runs)
+  pub few : canvas.rows.moved ≤ 4 * (lowest_top runs * least_width named runs)

@@ -37,6 +37,11 @@ abbrev pub right_edge : List Run → ℕ
 right_edge [] = 0
 right_edge (newest ∷ runs) = max (right_edge runs) newest.to
 
+-- the first row of the lowest band that one of these runs is in, 0 where there is none
+abbrev pub lowest_top : List Run → ℕ
+lowest_top [] = 0
+lowest_top (newest ∷ runs) = max (lowest_top runs) newest.top
+
 -- the greatest right edge in the band from this row on, 0 where nothing is set there
 abbrev pub band_edge : List Run → ℕ → ℕ
 band_edge [] top = 0

@@ -4,19 +4,30 @@
 use Rattle.std.specs.Prelude.{◌≡◌, ℕ, ◌+◌, ◌*◌, ◌≤◌, List, length, take, drop}
 use Rattle.std.specs.Prelude.{◌&&◌, nat_lt, if◌then◌else◌}
 
--- the background, the bytes of the rows, how many columns and rows they have, and for how many
--- bytes there is memory
+-- the background, the bytes of the rows, how many columns and rows they have, for how many bytes
+-- there is memory, and how many pixels were written to give rows another width
 pub record RowsState : Type 0 where
   pub background : List ℕ
   pub bytes : List ℕ
   pub width : ℕ
   pub rows : ℕ
   pub room : ℕ
+  pub moved : ℕ
 
 -- the rows with these parts
-abbrev pub rows_state : List ℕ → List ℕ → ℕ → ℕ → ℕ → RowsState
-rows_state background bytes width rows room =
-    record { background = background; bytes = bytes; width = width; rows = rows; room = room }
+abbrev pub rows_state : List ℕ → List ℕ → ℕ → ℕ → ℕ → ℕ → RowsState
+rows_state background bytes width rows room moved = record {
+  background = background;
+  bytes = bytes;
+  width = width;
+  rows = rows;
+  room = room;
+  moved = moved;
+}
+
+-- how many pixels are stored
+abbrev pub stored_area : RowsState → ℕ
+stored_area rows = rows.rows * rows.width
 
 -- the bytes of the pixel at this index
 abbrev pub pixel_at : List ℕ → ℕ → List ℕ
@@ -34,3 +45,8 @@ pub record AreRows (rows : RowsState) : Type 0 where
   pub fits : length rows.bytes ≡ 4 * (rows.rows * rows.width)
   pub narrow : rows.width ≤ 2000000
   pub few : rows.rows ≤ 1000006
+
+-- From the first of these to the second, pixels were written to give rows another width at most
+-- twice as often as pixels were added: each new width is at least twice the one before.
+abbrev pub AreMovedWithin : RowsState → RowsState → Type 0
+AreMovedWithin old new = new.moved + 2 * stored_area old ≤ old.moved + 2 * stored_area new

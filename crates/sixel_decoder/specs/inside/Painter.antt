@@ -21,14 +21,15 @@ use Rattle.sixel_decoder.specs.PictureView.{picture_value}
 use Rattle.sixel_decoder.specs.declared.decoded_payload.DecodedPayload.{DecodedPayload}
 use Rattle.sixel_decoder.specs.declared.painter.Painter.{Painter}
 use Rattle.sixel_decoder.specs.inside.DrawnRows.{drawn_rows}
-use Rattle.sixel_decoder.specs.inside.Runs.{runs_of}
+use Rattle.sixel_decoder.specs.inside.Runs.{named_width, runs_of}
 
 -- The painter has drawn these tokens, none of which has a fault, on its canvas.
 pub record Shows {C : Type 0} {canvas : Ghosts C} (origin : Origin) (painter : Painter C canvas)
     (history : History) : Type 0 where
   pub pixels : (column row : ℕ)
       → canvas.shown painter.canvas column row ≡ clipped_pixel origin history column row
-  pub paid : canvas.paid painter.canvas (runs_of origin.pixel_limit history)
+  pub paid : canvas.paid painter.canvas (named_width origin.pixel_limit history)
+      (runs_of origin.pixel_limit history)
   pub registers : painter.registers ≡ registers origin.registers history
   pub color : painter.color ≡ color origin.registers history ++ 255 ∷ []
   pub repeat : painter.repeat ≡ span history
@@ -90,8 +91,8 @@ pub record IsDrawnInside {C : Type 0} {canvas : Ghosts C} (old new : Painter C c
       && covers from right (canvas.top old.canvas) bits column row then old.color
       else canvas.shown old.canvas column row)
   pub top : canvas.top new.canvas ≡ canvas.top old.canvas
-  pub paid : (runs : List Run) → canvas.paid old.canvas runs
-      → canvas.paid new.canvas
+  pub paid : (named : ℕ) (runs : List Run) → canvas.paid old.canvas named runs
+      → canvas.paid new.canvas named
       (if is_pixel_inside old.pixel_limit from (canvas.top old.canvas)
       then run from (min right old.pixel_limit.columns) (canvas.top old.canvas)
       (clipped_bits old.pixel_limit (canvas.top old.canvas) bits) ∷ runs

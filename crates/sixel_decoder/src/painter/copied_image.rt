@@ -60,6 +60,7 @@ impl Painter<BandCanvas> {
         ensures shows { (o : Origin) (h : History) → Shows o self.old h → Shows o self.new h }
         ensures released { self.new.canvas.released ≡ max self.old.canvas.released rows }
         ensures band { self.new.canvas.band ≡ self.old.canvas.band }
+        ensures writes { self.new.canvas.rows.moved ≡ self.old.canvas.rows.moved }
     {
         self.canvas.release_rows(rows);
     }

@@ -40,6 +40,7 @@ impl PayloadParser<BandCanvas> {
         ensures released { self.new.painter.canvas.released
             ≡ max self.old.painter.canvas.released rows }
         ensures band { self.new.painter.canvas.band ≡ self.old.painter.canvas.band }
+        ensures writes { self.new.painter.canvas.rows.moved ≡ self.old.painter.canvas.rows.moved }
     {
         self.painter.release_rows(rows);
     }

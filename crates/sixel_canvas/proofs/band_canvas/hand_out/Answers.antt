@@ -17,11 +17,12 @@ handed-preserved c =
       new.ensures.width ∙ before.1,
       rw new.ensures.width (omega (arith, before.2, new.ensures.room)),
       new.ensures.background ∙ before.3,
+      new.ensures.moved ∙ before.4,
       λ column row.
           row_handed top k row c.handed.rows.rows (final c.args.rows.now column row)
           (cell band column (row - top)) (get_or c.row.result.now column c.handed.rows.background)
           (final c.handed.rows column row) (final new.new.self column row)
-          c.args.rows.now.background before.0 (new.ensures.shown column row) (before.4 column row)
+          c.args.rows.now.background before.0 (new.ensures.shown column row) (before.5 column row)
           (λ here.
           let down : k ≡ row - top = omega (arith, here) in
           ap (get_or c.row.result.now column) same ∙ c.row.ensures.pixels column

@@ -10,6 +10,7 @@ invariant-blank l =
     × (l.rows.width ≡ l.initial.rows.width)
     × (4 * ((l.top + 6) * l.rows.width) ≤ l.rows.room)
     × (l.rows.background ≡ l.fn.rows.background)
+    × (l.rows.moved ≡ l.fn.rows.moved)
     × ((column row : ℕ) → final l.rows column row ≡ final l.fn.rows column row)
 
 abbrev pub invariant-handed : goal.invariant-handed
@@ -18,6 +19,7 @@ invariant-handed l =
     × (l.rows.width ≡ l.initial.rows.width)
     × (4 * ((l.top + 6) * l.rows.width) ≤ l.rows.room)
     × (l.rows.background ≡ l.fn.rows.background)
+    × (l.rows.moved ≡ l.fn.rows.moved)
     × ((column row : ℕ)
     → final l.rows column row
     ≡ (if nat_lt row l.top then final l.fn.rows column row else if nat_lt row (l.top + l.k)

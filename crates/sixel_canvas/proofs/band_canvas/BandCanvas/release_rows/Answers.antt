@@ -2,6 +2,7 @@ use Rattle.std.proofs.Common.{◌+◌, ◌-◌, ap, ◌∙◌, refl}
 use Rattle.std.specs.Prelude.{nat_lt, if◌then◌else◌}
 use Rattle.sixel_canvas.specs.inside.BandCanvas.{BandCanvasState, band_canvas_shown}
 use Rattle.sixel_canvas.specs.inside.TaggedBand.{tagged_cell}
+use Rattle.sixel_canvas.proofs.MovedRows.{moved_released}
 use Rattle.sixel_canvas.proofs.ReleasedRows.{above_released}
 use Rattle.sixel_canvas.proofs.band_canvas.BandCanvas.release_rows.Goals as goal
 
@@ -15,3 +16,16 @@ returns-clause-shown c = λ column row.
     (all.released + count) count c.remove.ensures.sound c.self.invariant.logged refl
     c.remove.ensures.background c.extend.ensures.rows c.remove.ensures.shown column row)
     ∙ ap (λ (s : BandCanvasState). band_canvas_shown s column row) c.self.view_is
+
+pub returns-clause-moved : goal.returns-clause-moved
+returns-clause-moved c = λ named runs are.
+    let count = c.saturating_sub-count.result in
+    let left = c.free_unused.ensures in
+    let removed = c.remove.ensures in
+    let seen = c.self.view_is in
+    moved_released c.args.self.now c.free_unused.new.self named runs count are
+    (left.expected ∙ ap (λ (s : BandCanvasState). s.expected) seen)
+    (left.width ∙ removed.width ∙ ap (λ (s : BandCanvasState). s.rows.width) seen)
+    (left.moved ∙ removed.moved ∙ ap (λ (s : BandCanvasState). s.rows.moved) seen)
+    (left.rows ∙ removed.rows ∙ ap (λ (s : BandCanvasState). s.rows.rows - count) seen)
+    (left.released ∙ ap (λ (s : BandCanvasState). s.released + count) seen)

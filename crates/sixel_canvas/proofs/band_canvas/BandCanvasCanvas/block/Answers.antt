@@ -1,18 +1,21 @@
-use Rattle.std.proofs.Common.{◌≡◌, ◌≤◌, ◌∙◌, ◌+◌, ◌-◌, ◌*◌, max, length, get_or, ap, arith, rules}
+use Rattle.std.proofs.Common.{◌≡◌, ◌≤◌, ◌∙◌, ◌+◌, ◌-◌, ◌*◌, ℕ, List, max, length, get_or, take}
+use Rattle.std.proofs.Common.{ap, arith, rules}
 use Rattle.std.specs.Prelude.{nat_le, nat_lt, if◌then◌else◌}
 use Rattle.sixel_canvas.specs.inside.BandCanvas.{BandCanvasState, above_band, band_canvas_shown}
-use Rattle.sixel_canvas.specs.inside.BandCanvas.{band_canvas_state}
-use Rattle.sixel_canvas.specs.inside.Drawn.{covers_block}
+use Rattle.sixel_canvas.specs.inside.BandCanvas.{band_canvas_state, least_width}
+use Rattle.sixel_canvas.specs.inside.Drawn.{Run, covers_block, with_sixels}
 use Rattle.sixel_canvas.specs.inside.TaggedBand.{capacity, tagged_cell}
 use Rattle.sixel_canvas.proofs.HandedRows.{canvas_over}
-use Rattle.sixel_canvas.proofs.Runs.{paid-sixels}
+use Rattle.sixel_canvas.proofs.MovedRows.{laid_held, laid_wider, moved_more}
+use Rattle.sixel_canvas.proofs.Runs.{edges, lowest_here, paid-sixels}
 use Rattle.sixel_canvas.proofs.band_canvas.BandCanvasCanvas.block.Goals as goal
 
 pub returns-clause-drawn : goal.returns-clause-drawn
 returns-clause-drawn c = λ column row.
     let all = c.self.inside in
     let state =
-    band_canvas_state all.gone.rows all.released all.rows all.band all.top all.held in
+    band_canvas_state all.gone.rows all.released all.rows all.band all.top all.held
+    all.expected_width in
     let from = c.args.from in
     let sixels = c.args.sixels in
     let color = c.args.color in
@@ -32,7 +35,7 @@ returns-clause-drawn c = λ column row.
     top
 
 pub returns-clause-paid : goal.returns-clause-paid
-returns-clause-paid c = λ runs before.
+returns-clause-paid c = λ named runs before.
     let now = c.args.self.now in
     let band = c.block.new.self in
     let right = c.args.from + c.args.len in
@@ -57,6 +60,23 @@ returns-clause-paid c = λ runs before.
     omega (arith, c.block.ensures.painted, held_painted) in
     let reach : band.pixels.reach ≡ max now.band.pixels.reach right =
     omega (arith, c.block.ensures.reach, held_reach) in
-    rw same_top (paid-sixels (capacity now.band) (capacity band) now.band.painted band.painted
-    now.band.pixels.reach band.pixels.reach now.top c.args.from c.args.len c.args.sixels runs before
-    c.requires.some few cap painted reach)
+    let all = c.self.inside in
+    let state =
+    band_canvas_state all.gone.rows all.released all.rows band all.top all.held
+    all.expected_width in
+    let more : List Run = with_sixels c.args.from (take c.args.len c.args.sixels) all.top runs in
+    let edge = edges c.args.from c.args.sixels all.top runs c.args.len c.requires.some few in
+    let wide : ℕ = max (least_width named runs) right in
+    let laid =
+    laid_held now c.hold.new.self state named runs right before.1 c.in_ok-hold.ensures.laid
+    (ap (λ (s : BandCanvasState). s.expected) c.self.view_is)
+    (ap (λ (s : BandCanvasState). s.rows) c.self.view_is)
+    (ap (λ (s : BandCanvasState). s.released) c.self.view_is) in (
+      rw same_top (paid-sixels (capacity now.band) (capacity band) now.band.painted band.painted
+          now.band.pixels.reach band.pixels.reach now.top c.args.from c.args.len c.args.sixels runs
+          before.0 c.requires.some few cap painted reach),
+      rw (← same_top) (moved_more state named more
+          (laid_wider state wide (least_width named more) laid (omega (arith, edge)))
+          c.self.invariant.above
+          (lowest_here c.args.from c.args.sixels all.top runs c.args.len c.requires.some few)),
+    )

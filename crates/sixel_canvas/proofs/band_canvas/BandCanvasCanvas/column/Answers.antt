@@ -11,7 +11,8 @@ pub returns-clause-drawn : goal.returns-clause-drawn
 returns-clause-drawn c = λ column row.
     let all = c.self.inside in
     let state =
-    band_canvas_state all.gone.rows all.released all.rows all.band all.top all.held in
+    band_canvas_state all.gone.rows all.released all.rows all.band all.top all.held
+    all.expected_width in
     let at = c.args.at in
     let bits = c.args.bits in
     let color = c.args.color in

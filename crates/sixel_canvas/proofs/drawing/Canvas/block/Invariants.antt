@@ -17,5 +17,5 @@ invariant-drawn g l =
     ≡ (if nat_le l.from column && nat_lt column (l.from + l.j)
     && is_struck (top l.fn.self) (get_or l.sixels (column - l.from) 0) row then l.color
     else shown l.fn.self column row))
-    × ((runs : List Run) → paid l.fn.self runs
-    → paid l.self (with_sixels l.from (take l.j l.sixels) (top l.fn.self) runs))
+    × ((named : ℕ) (runs : List Run) → paid l.fn.self named runs
+    → paid l.self named (with_sixels l.from (take l.j l.sixels) (top l.fn.self) runs))

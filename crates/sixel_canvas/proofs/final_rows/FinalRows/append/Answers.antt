@@ -42,5 +42,5 @@ returns-clause-shown c =
     c.add_row-added.ensures.ok in
     rw (← c.self.view_is) (row_appended all.bytes.items c.as_flattened.result.now
     c.add_row-added.new.bytes.items all.background c.args.pixels.now all.width all.rows
-    (vec_capacity all.bytes) (vec_capacity c.add_row-added.new.bytes) few c.self.told c.told-pixels
-    c.self.invariant.fits c.as_flattened.ensures.value added)
+    (vec_capacity all.bytes) (vec_capacity c.add_row-added.new.bytes) all.moved few c.self.told
+    c.told-pixels c.self.invariant.fits c.as_flattened.ensures.value added)

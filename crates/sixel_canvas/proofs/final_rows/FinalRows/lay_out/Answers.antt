@@ -1,4 +1,6 @@
 use Rattle.std.proofs.Common.{◌≡◌, ◌+◌, ◌-◌, ◌*◌, ◌≤◌, ◌<◌, min, take, drop, ap, ◌∙◌, arith}
+use Rattle.sixel_canvas.specs.inside.FinalRows.{RowsState}
+use Rattle.sixel_canvas.proofs.MovedRows.{moved_within}
 use Rattle.sixel_canvas.proofs.RowBytes.{part_len_is, row_copied, row_len}
 use Rattle.sixel_canvas.proofs.final_rows.FinalRows.lay_out.Goals as goal
 
@@ -27,3 +29,10 @@ copied-preserved c =
           old.width width row old.rows kept least c.self.told inside c.self.invariant.fits before.0
           cut c.in_ok-add_row.ensures.ok before.2,
     )
+
+pub returns-clause-moved_within : goal.returns-clause-moved_within
+returns-clause-moved_within c = λ doubled.
+    let all = c.self.inside in
+    let width = ap (λ (r : RowsState). r.width) c.self.view_is in
+    rw (← c.self.view_is, c.saturating_add-self-inside.ensures)
+    (moved_within all.moved all.rows all.width c.args.width (omega (arith, width, doubled)))

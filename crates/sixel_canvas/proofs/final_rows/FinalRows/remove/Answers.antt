@@ -26,6 +26,6 @@ returns-clause-shown c = λ column row.
     let cut : c.remove_front.new.bytes.items ≡ drop (4 * (n * all.width)) all.bytes.items =
     c.remove_front.ensures.items in
     rows_removed all.background all.bytes.items c.remove_front.new.bytes.items all.width all.rows
-    (vec_capacity all.bytes) (vec_capacity c.remove_front.new.bytes) c.args.count n
+    (vec_capacity all.bytes) (vec_capacity c.remove_front.new.bytes) all.moved c.args.count n
     (omega (arith, c.min-count.ensures)) cut column row
     ∙ ap (λ (r : RowsState). final r column (row + c.args.count)) c.self.view_is

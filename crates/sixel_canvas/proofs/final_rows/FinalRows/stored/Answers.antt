@@ -16,6 +16,6 @@ returns-clause-pixels c = λ column left up.
     ap (λ n. pixel_at (take n (drop start c.deref.result.now)) column) many
     ∙ ap (λ b. pixel_at (take (4 * all.width) (drop start b)) column) c.deref.ensures.value
     ∙ pixel_part all.bytes.items (c.args.row * all.width) all.width column inside
-    ∙ final_stored all.background all.bytes.items all.width all.rows (vec_capacity all.bytes) column
-    c.args.row inside above
+    ∙ final_stored all.background all.bytes.items all.width all.rows (vec_capacity all.bytes)
+    all.moved column c.args.row inside above
     ∙ ap (λ (r : RowsState). final r column c.args.row) c.self.view_is

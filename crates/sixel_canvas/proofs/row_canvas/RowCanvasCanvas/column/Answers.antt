@@ -27,7 +27,7 @@ returns-clause-drawn c = λ column row.
     c.self.view_is
 
 pub returns-clause-paid : goal.returns-clause-paid
-returns-clause-paid c = λ runs is.
+returns-clause-paid c = λ named runs is.
     let one : c.args.at + 1 - c.args.at ≡ 1 = omega arith in
     drawn_run c.args.self.now c.draw_rows-drawn.new.self c.args.at (c.args.at + 1) c.args.bits runs
     is (omega (arith, c.if-bits-eq0.false)) c.draw_rows-drawn.ensures.sound

@@ -12,7 +12,7 @@ returns-clause-paid c =
     let to = c.args.to in
     let bits = c.args.bits in
     on_ok_weaker c.draw_rows.result
-    (λ grown runs is.
+    (λ grown named runs is.
     drawn_run c.args.self.now c.draw_rows.new.self c.args.from to bits runs is
     (omega (arith, c.if-bits-eq0.false)) c.draw_rows.ensures.sound
     (λ row.

@@ -48,7 +48,8 @@ returns g c =
                   covers_clipped limit c.args.from c.args.right top c.args.bits column row,
                 ) refl;
             top = drawn.top;
-            paid = λ runs paid. rw (inside, ← right, ← bits) (drawn.paid runs paid);
+            paid = λ named runs paid.
+                rw (inside, ← right, ← bits) (drawn.paid named runs paid);
             drawn = λ row. w.add.ensures row ∙ rw (inside, bits) refl;
             released = drawn.released;
             registers = refl;
@@ -80,7 +81,7 @@ returns g c =
                 covers_outside limit c.args.from c.args.right top c.args.bits column row outside in
                 rw none refl;
             top = refl;
-            paid = λ runs paid. rw outside paid;
+            paid = λ named runs paid. rw outside paid;
             drawn = λ row. rw outside refl;
             released = refl;
             registers = refl;

@@ -1,7 +1,7 @@
 use Rattle.std.proofs.Common.{◌+◌, ◌∙◌, ap, refl, arith}
 use Rattle.sixel_base.specs.Place.{down}
 use Rattle.sixel_decoder.specs.inside.DrawnRows.{drawn_rows}
-use Rattle.sixel_decoder.specs.inside.Runs.{runs_of}
+use Rattle.sixel_decoder.specs.inside.Runs.{named_width, runs_of}
 use Rattle.sixel_decoder.proofs.ShownRows.{drawn_fits, shown_drawn}
 use Rattle.sixel_decoder.proofs.painter.Painter.new_line.Goals as goal
 
@@ -12,7 +12,7 @@ returns-clause-draws g c = λ o h shows.
     let top = c.top-top.ensures in
     record {
       pixels = λ column row. is.shown column row ∙ shows.pixels column row;
-      paid = is.paid (runs_of o.pixel_limit h) shows.paid;
+      paid = is.paid (named_width o.pixel_limit h) (runs_of o.pixel_limit h) shows.paid;
       registers = shows.registers;
       color = shows.color;
       repeat = shows.repeat;

@@ -1,9 +1,11 @@
-use Rattle.std.proofs.Common.{◌≡◌, ◌∙◌, ap, arith, refl}
+use Rattle.std.proofs.Common.{◌≡◌, ◌∙◌, ◌∷◌, ap, arith, refl}
+use Rattle.sixel_base.specs.Clip.{clipped_width}
 use Rattle.sixel_base.specs.Fields.{field}
+use Rattle.sixel_base.specs.History.{Raster}
 use Rattle.sixel_base.specs.Place.{down}
 use Rattle.sixel_decoder.specs.declared.drawn_rows.DrawnRows.{DrawnRows}
 use Rattle.sixel_decoder.specs.inside.DrawnRows.{drawn_rows}
-use Rattle.sixel_decoder.specs.inside.Runs.{runs_of}
+use Rattle.sixel_decoder.specs.inside.Runs.{named_width, runs_of}
 use Rattle.sixel_decoder.proofs.RasterAttributes.{refused_raster, sound_raster}
 use Rattle.sixel_decoder.proofs.painter.Painter.set_raster.Goals as goal
 
@@ -16,9 +18,12 @@ returns-in-Ok-clause-draws g c = λ o h text keeps shows.
     c.get-wide.ensures ∙ keeps.valued 2 (omega arith) in
     let high : c.get-high.result ≡ field text 3 =
     c.get-high.ensures ∙ keeps.valued 3 (omega arith) in
+    let clipped : new.clipped_width ≡ clipped_width o.pixel_limit (Raster text ∷ h) =
+    new.clipped_width_is ∙ rw (is.width, is.limit, shows.width, shows.limit, wide) refl in
     record {
       pixels = λ column row. told.shown column row ∙ rw is.canvas (shows.pixels column row);
-      paid = told.paid (runs_of o.pixel_limit h) (rw is.canvas shows.paid);
+      paid = rw clipped at (told.paid (named_width o.pixel_limit h) (runs_of o.pixel_limit h)
+          (rw is.canvas shows.paid));
       registers = is.registers ∙ shows.registers;
       color = is.color ∙ shows.color;
       repeat = is.repeat ∙ shows.repeat;

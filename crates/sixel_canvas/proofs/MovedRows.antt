@@ -1,0 +1,152 @@
+-- How many pixels were written to give the rows of an image another width, against its pixels.
+use Rattle.std.proofs.Common.{◌≡◌, ℕ, ◌+◌, ◌-◌, ◌*◌, ◌≤◌, ◌∷◌, List, Bool, max, cond, subst}
+use Rattle.std.proofs.Common.{inl, inr, arith}
+use Rattle.std.specs.Prelude.{nat_lt, if◌then◌else◌}
+use Rattle.std.proofs.lemmas.Bool.{cases_lt, le-ltb, lt-ltb}
+use Rattle.std.proofs.Math.Nat.{mul-le-mul_left, mul-le-mul_right}
+use Rattle.sixel_canvas.specs.inside.BandCanvas.{AreMoved, BandCanvasState, IsBandCanvas, IsLaidOut}
+use Rattle.sixel_canvas.specs.inside.BandCanvas.{least_width}
+use Rattle.sixel_canvas.specs.inside.Drawn.{Run, lowest_top, run}
+use Rattle.sixel_canvas.specs.inside.FinalRows.{AreMovedWithin, stored_area}
+use Rattle.sixel_canvas.specs.inside.Paints.{counted}
+
+-- rows that were given at least twice their width
+pub moved_within : (moved rows old width : ℕ) → 2 * old ≤ width
+    → counted moved (rows * width) + 2 * (rows * old) ≤ moved + 2 * (rows * width)
+moved_within moved rows old width doubled = omega (arith, mul-le-mul_left rows doubled)
+
+-- what can be drawn without an allocation is stored
+held_stored : (canvas : BandCanvasState) → IsBandCanvas canvas → canvas.held ≤ canvas.rows.width
+held_stored canvas is = elim (cases_lt 0 canvas.held) [
+  | inl some ↦ (is.held some).stored
+  | inr none ↦ omega (arith, none)
+]
+
+-- rows with more pixels
+pub laid_out : (old new : BandCanvasState) (width : ℕ) → IsLaidOut old width
+    → new.expected ≡ old.expected → new.rows.width ≤ max old.rows.width (2 * width)
+    → AreMovedWithin old.rows new.rows → new.released ≡ old.released → IsLaidOut new width
+laid_out old new width is expected wide within released = record {
+  expected = omega (arith, is.expected, expected);
+  wide = omega (arith, is.wide, wide);
+  moved = rw released (omega (arith, is.moved, within));
+}
+
+-- memory for so many columns of the band
+pub laid_widened : (old new : BandCanvasState) (columns least width : ℕ) → IsBandCanvas old
+    → least ≤ max (max columns old.held) old.expected
+    → new.rows.width
+    ≤ (if nat_lt old.rows.width least then 2 * least else old.rows.width)
+    → AreMovedWithin old.rows new.rows → new.expected ≡ old.expected
+    → new.released ≡ old.released → columns ≤ width → IsLaidOut old width → IsLaidOut new width
+laid_widened old new columns least width sound least_is narrow within expected released le is =
+    let wide : new.rows.width ≤ max old.rows.width (2 * width) =
+    elim (cases_lt old.rows.width least) [
+      | inl less ↦
+          let most : new.rows.width ≤ 2 * least =
+          subst (λ (b : Bool). new.rows.width ≤ cond b (2 * least) old.rows.width)
+          (lt-ltb old.rows.width least less) narrow in
+          omega (arith, most, less, least_is, le, held_stored old sound, is.expected)
+      | inr enough ↦
+          let same : new.rows.width ≤ old.rows.width =
+          subst (λ (b : Bool). new.rows.width ≤ cond b (2 * least) old.rows.width)
+          (le-ltb old.rows.width least enough) narrow in
+          omega (arith, same)
+    ] in
+    laid_out old new width is expected wide within released
+
+-- a wider picture
+pub laid_wider : (canvas : BandCanvasState) (width wider : ℕ) → IsLaidOut canvas width
+    → width ≤ wider → IsLaidOut canvas wider
+laid_wider canvas width wider is le = record {
+  expected = omega (arith, is.expected, le);
+  wide = omega (arith, is.wide, le);
+  moved = omega (arith, is.moved, mul-le-mul_left canvas.released le);
+}
+
+-- memory was made for so many columns, and then the band was drawn on
+pub laid_held : (old held new : BandCanvasState) (named : ℕ) (runs : List Run) (columns : ℕ)
+    → AreMoved old named runs
+    → ((width : ℕ) → columns ≤ width → IsLaidOut old width → IsLaidOut held width)
+    → new.expected ≡ held.expected → new.rows ≡ held.rows → new.released ≡ held.released
+    → IsLaidOut new (max (least_width named runs) columns)
+laid_held old held new named runs columns are laid expected rows released =
+    let before : ℕ = least_width named runs in
+    let wide : ℕ = max before columns in
+    let is : IsLaidOut held wide =
+    laid wide (omega arith) (laid_wider old before wide are.laid (omega arith)) in
+    record {
+      expected = rw expected is.expected;
+      wide = rw rows is.wide;
+      moved = rw (rows, released) is.moved;
+    }
+
+-- the pixels that were written, where all rows are above this one
+moved_above : (moved rows wide released width top : ℕ) → wide ≤ 2 * width
+    → moved ≤ 2 * (rows * wide) + 4 * (released * width) → released + rows ≤ top
+    → moved ≤ 4 * (top * width)
+moved_above moved rows wide released width top narrow few above =
+    omega (arith, few, mul-le-mul_left rows narrow, mul-le-mul_right width above)
+
+-- runs more, of which one is in the band from this row on
+pub moved_more : (canvas : BandCanvasState) (named : ℕ) (runs : List Run)
+    → IsLaidOut canvas (least_width named runs) → canvas.released + canvas.rows.rows ≤ canvas.top
+    → canvas.top ≤ lowest_top runs → AreMoved canvas named runs
+moved_more canvas named runs is above lowest = record {
+  laid = is;
+  few = moved_above canvas.rows.moved canvas.rows.rows canvas.rows.width canvas.released
+      (least_width named runs) (lowest_top runs) is.wide is.moved (omega (arith, above, lowest));
+}
+
+-- rows with more pixels, of the same runs
+pub moved_same : (old new : BandCanvasState) (named : ℕ) (runs : List Run)
+    → AreMoved old named runs → new.expected ≡ old.expected → new.rows.width ≤ old.rows.width
+    → new.rows.moved ≡ old.rows.moved → stored_area old.rows ≤ stored_area new.rows
+    → new.released ≡ old.released → AreMoved new named runs
+moved_same old new named runs is expected wide moved area released = record {
+  laid = laid_out old new (least_width named runs) is.laid expected (omega (arith, wide))
+      (omega (arith, moved, area)) released;
+  few = rw moved is.few;
+}
+
+-- a wider picture of the same runs
+pub moved_wider : (canvas : BandCanvasState) (named wider : ℕ) (runs : List Run)
+    → AreMoved canvas named runs → named ≤ wider → AreMoved canvas wider runs
+moved_wider canvas named wider runs is le =
+    let more : least_width named runs ≤ least_width wider runs = omega (arith, le) in
+    record {
+      laid = laid_wider canvas (least_width named runs) (least_width wider runs) is.laid more;
+      few = omega (arith, is.few, mul-le-mul_left (lowest_top runs) more);
+    }
+
+-- so many rows released
+pub moved_released : (old new : BandCanvasState) (named : ℕ) (runs : List Run) (count : ℕ)
+    → AreMoved old named runs → new.expected ≡ old.expected
+    → new.rows.width ≡ old.rows.width → new.rows.moved ≡ old.rows.moved
+    → new.rows.rows ≡ old.rows.rows - count → new.released ≡ old.released + count
+    → AreMoved new named runs
+moved_released old new named runs count is expected width moved rows released =
+    let wide = least_width named runs in
+    let most : old.rows.rows * old.rows.width
+    ≤ (new.rows.rows + count) * old.rows.width =
+    mul-le-mul_right old.rows.width (omega (arith, rows)) in
+    record {
+      laid = record {
+        expected = omega (arith, is.laid.expected, expected);
+        wide = omega (arith, is.laid.wide, width);
+        moved = rw (moved, width, released)
+            (omega (arith, is.laid.moved, most, mul-le-mul_left count is.laid.wide));
+      };
+      few = rw moved is.few;
+    }
+
+-- a run more in the band of the canvas
+pub moved_run : (canvas : BandCanvasState) (named from to bits : ℕ) (runs : List Run)
+    → IsLaidOut canvas (max (least_width named runs) to)
+    → canvas.released + canvas.rows.rows ≤ canvas.top
+    → AreMoved canvas named (run from to canvas.top bits ∷ runs)
+moved_run canvas named from to bits runs is above =
+    let more : List Run = run from to canvas.top bits ∷ runs in
+    moved_more canvas named more
+    (laid_wider canvas (max (least_width named runs) to) (least_width named more) is (omega arith))
+    above (omega arith)

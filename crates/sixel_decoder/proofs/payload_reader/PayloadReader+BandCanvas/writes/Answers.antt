@@ -1,0 +1,24 @@
+use Rattle.std.proofs.Common.{ℕ, List, Some, refl, subst}
+use Rattle.sixel_base.specs.Payload.{settled}
+use Rattle.sixel_base.specs.Stroke.{Origin}
+use Rattle.sixel_decoder.specs.declared.payload_reader.PayloadState.{PayloadState}
+use Rattle.sixel_decoder.specs.inside.PayloadReader.{session_of, parser_of, HasRead}
+use Rattle.sixel_decoder.proofs.BandCosts.{band_moved}
+use Rattle.sixel_decoder.proofs.Chunks.{shown_settled}
+use Rattle.sixel_decoder.proofs.payload_reader.PayloadReader+BandCanvas.writes.Goals as goal
+
+pub returns : goal.returns
+returns c =
+    let inside = c.self.inside in
+    let origin : Origin = (session_of inside).origin in
+    let parser = c.in-Reading.parser in
+    let bytes : List ℕ = inside.log.bytes in
+    let read : HasRead (Some parser) origin inside.terminator bytes =
+    subst (λ (w : PayloadState _ _). HasRead (parser_of w) origin inside.terminator bytes)
+    c.in-Reading.is c.self.invariant.0 in
+    let shows = shown_settled origin parser inside.terminator bytes read in
+    rw (← c.self.view_is, c.in-Reading.is, c.writes.ensures) (record {
+      value = refl;
+      at_most = band_moved origin.pixel_limit parser.painter.canvas (settled bytes) shows.paid.1;
+      refused = λ is. absurd cc;
+    })
