@@ -7,6 +7,8 @@
 pub mod chunks;
 #[cfg(test)]
 mod drawn_tests;
+#[cfg(test)]
+mod growth_tests;
 pub mod host;
 pub mod in_one_call;
 pub mod lists;
