@@ -73,7 +73,8 @@ pub fn check_work(alloc: Global, columns: [&str; 5]) -> Result<()> {
         columns: columns.parse::<usize>().ok(),
         size: size(dimensions)?,
     };
-    for mut owner in Owner::both(&decoder)? {
+    for is_receiver in [false, true] {
+        let mut owner = Owner::new(&decoder, is_receiver)?;
         for length in [1, 7, 4096] {
             work.check(owner.begin(alloc, form)?, length)?;
         }

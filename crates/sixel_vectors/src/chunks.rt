@@ -48,7 +48,7 @@ impl Input {
     /// Feeds single bytes.
     pub fn feed(&self, alloc: Global) -> Result<Output> {
         let lengths = vec![in alloc; 1; self.bytes.len()]?;
-        let owner = Owner::Decoder(self.start.clone()?);
+        let owner = Owner::new(&self.start, false)?;
         let output = self.play(alloc, owner, &lengths, usize::MAX)?;
         self.check(alloc, &lengths, &output)?;
         Ok(output)
@@ -100,7 +100,8 @@ impl Input {
 
     /// Checks chunks of these lengths, and then of what remains.
     fn check(&self, alloc: Global, lengths: &[usize], output: &Output) -> Result<()> {
-        for owner in Owner::both(&self.start)? {
+        for is_receiver in [false, true] {
+            let owner = Owner::new(&self.start, is_receiver)?;
             let other = self.play(alloc, owner, lengths, output.count)?;
             ensure!(output.text == other.text, "{}", other.text);
             check_decoder(&other.after, &output.after)?;

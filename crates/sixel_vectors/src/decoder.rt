@@ -110,7 +110,8 @@ pub fn check_beginnings(alloc: Global, [settings, text, after]: [&str; 3]) -> Re
 pub fn check_aborts(alloc: Global, [settings, count, text]: [&str; 3]) -> Result<()> {
     let (input, text) = (Input::parse(alloc, settings, text)?, bytes(alloc, text)?);
     let count = count.parse::<usize>()?;
-    for owner in Owner::both(&input.start)? {
+    for is_receiver in [false, true] {
+        let owner = Owner::new(&input.start, is_receiver)?;
         abort_images(alloc, owner, &input, &text, count)?;
     }
     let (after, _) = input.decode(alloc, &mut String::new(alloc))?;

@@ -2,11 +2,11 @@
 
 use crate::chunks::Input;
 use crate::decoder::{check_outcome, write_whole};
-use crate::notation::{bytes, colors, image, numbers, pixels, push_image, ratio, size};
+use crate::notation::{bytes, colors, image, numbers, pixels, push_error, push_image, ratio, size};
 use crate::session::Form;
-use anyhow::{Context, Result, ensure};
+use anyhow::{Context, Result, bail, ensure};
 use icy_sixel::{
-    DcsSettings, EncodeOptions, SixelDecoder, SixelImage, choose_palette, sixel_encode,
+    DcsSettings, EncodeOptions, SixelDecoder, SixelError, SixelImage, choose_palette, sixel_encode,
     sixel_encode_default, validate_encode_dimensions, witnesses_hold,
 };
 use std::alloc::Global;
@@ -99,34 +99,45 @@ fn check_cropped(
 }
 
 /// Checks a vector of `sizes.tsv`.
-pub fn check_size(alloc: Global, [call, dimensions, buffer, answer]: [&str; 4]) -> Result<()> {
+pub fn write_size(alloc: Global, found: &mut String, columns: [&str; 4]) -> Result<()> {
+    let [call, dimensions, buffer, _] = columns;
     let (buffer, (width, height)) = (bytes(alloc, buffer)?, size(dimensions)?);
-    let options = EncodeOptions::default();
-    let error = match call.split_once(' ').unwrap_or((call, "")) {
-        ("choose_palette", _) => choose_palette(alloc, &buffer, 2).err(),
-        ("validate_encode_dimensions", _) => validate_encode_dimensions(width, height).err(),
-        ("sixel_encode", _) => sixel_encode(alloc, &buffer, width, height, &options).err(),
-        ("try_from_rgba", _) => SixelImage::try_from_rgba(buffer, width, height).err(),
-        ("has_transparency", _) => {
-            let image = SixelImage::from_rgba(buffer, width, height);
-            ensure!(image.has_transparency() == (answer == "yes"), "no");
-            return Ok(());
-        }
-        (_, shape) => {
+    match call.split_once(' ').unwrap_or((call, "")) {
+        ("corrected_dimensions", shape) => {
             ensure!(height <= 1_000_000, "no height: {height}");
             let image = SixelImage::from_rgba(buffer, width, height);
-            let image = image.with_aspect_ratio(ratio(shape)?);
-            let corrected = image.corrected_dimensions();
-            ensure!(corrected == size(answer)?, "{corrected:?}");
-            return Ok(());
+            let (width, height) = image
+                .with_aspect_ratio(ratio(shape)?)
+                .corrected_dimensions();
+            write!(found, "\t{width}x{height}")?;
         }
-    };
-    let found = match error {
-        Some(error) => format!(in alloc; "error: {error}")?,
-        None => String::from_str(alloc, "ok")?,
-    };
-    ensure!(found.as_str() == answer, "{found}");
+        ("has_transparency", _) => {
+            let is_transparent = SixelImage::from_rgba(buffer, width, height).has_transparency();
+            found.push_str(if is_transparent { "\tyes" } else { "\tno" })?;
+        }
+        _ => match size_error(alloc, call, buffer, (width, height))? {
+            Some(error) => push_error(found, &error)?,
+            None => found.push_str("\tok")?,
+        },
+    }
     Ok(())
+}
+
+/// The error of a call with pixels of a size.
+fn size_error(
+    alloc: Global,
+    call: &str,
+    buffer: Vec<u8>,
+    (width, height): (usize, usize),
+) -> Result<Option<SixelError>> {
+    let options = EncodeOptions::default();
+    Ok(match call {
+        "choose_palette" => choose_palette(alloc, &buffer, 2).err(),
+        "validate_encode_dimensions" => validate_encode_dimensions(width, height).err(),
+        "sixel_encode" => sixel_encode(alloc, &buffer, width, height, &options).err(),
+        "try_from_rgba" => SixelImage::try_from_rgba(buffer, width, height).err(),
+        _ => bail!("no call: {call}"),
+    })
 }
 
 /// Checks a vector of `palettes.tsv`.

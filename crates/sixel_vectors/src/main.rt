@@ -80,7 +80,7 @@ fn write_results(alloc: Global, found: &mut String, name: &str, line: &[&str]) -
         ("trips", [colors, image, _]) => encoder::write_trip(alloc, found, colors, image),
         ("palettes", columns) => encoder::check_palette(alloc, columns.try_into()?),
         ("witnesses", columns) => encoder::check_witnesses(alloc, columns.try_into()?),
-        ("sizes", columns) => encoder::check_size(alloc, columns.try_into()?),
+        ("sizes", columns) => encoder::write_size(alloc, found, columns.try_into()?),
         ("settings", [setting, ..]) => settings::write_setting(found, setting),
         ("registers", [register, _]) => settings::write_register(found, register),
         ("rows", columns) => canvas::write_row(alloc, found, columns),

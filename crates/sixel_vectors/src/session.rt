@@ -61,10 +61,14 @@ pub enum Owner {
 }
 
 impl Owner {
-    /// Both owners, each with a copy of a decoder.
-    pub fn both(decoder: &SixelDecoder) -> Result<[Self; 2]> {
-        let receiver = SixelReceiver::with_decoder(decoder.clone()?);
-        Ok([Self::Decoder(decoder.clone()?), Self::Receiver(receiver)])
+    /// Creates an owner with a copy of a decoder: a receiver, or one whose sessions borrow it.
+    pub fn new(decoder: &SixelDecoder, is_receiver: bool) -> Result<Self> {
+        let decoder = decoder.clone()?;
+        Ok(if is_receiver {
+            Self::Receiver(SixelReceiver::with_decoder(decoder))
+        } else {
+            Self::Decoder(decoder)
+        })
     }
 
     /// Begins an image.
