@@ -72,3 +72,8 @@ pub mod SegmentMarks
 pub mod SegmentTallies
 pub mod RefinedText
 pub mod RefinedAlike
+pub mod ColumnLanes
+pub mod RowBounds
+pub mod PlainBound
+pub mod LaneChanges
+pub mod RunSegments

@@ -7,6 +7,7 @@ use Rattle.std.proofs.Common.{◌++◌, ◌+◌, ◌<◌}
 use Rattle.std.proofs.Common.{◌-◌, ◌∙◌, ◌∷◌, ◌≡◌, ◌≤◌}
 use Rattle.std.proofs.lemmas.Bool.Decides.{nat_tests}
 use Rattle.std.proofs.Math.Seq.{drop-cons}
+use Rattle.std.proofs.lemmas.List.{append-nil}
 use Rattle.sixel_encoder.specs.declared.segments.Segment.{Segment}
 use Rattle.sixel_encoder.specs.Compact.{nth}
 use Rattle.sixel_encoder.specs.Segments.{after_pass, gap_of, in_pass, passes, segments_up_to}
@@ -240,3 +241,21 @@ pub none-replicated : (n k : ℕ) → slice_index_or (replicate n (nothing)) k N
 none-replicated zero k = refl
 none-replicated (suc n) zero = refl
 none-replicated (suc n) (suc k) = none-replicated n k
+
+-- a list of no segments
+pub length-none : (segments : List Segment) → length segments ≡ 0 → segments ≡ []
+length-none [] none = refl
+length-none (segment ∷ segments) none = absurd (omega arith)
+
+-- passes over no segment draw none
+passes-nothing : (n : ℕ) → passes n [] ≡ []
+unfolding passes
+passes-nothing zero = refl
+passes-nothing (suc n) = passes-nothing n
+
+-- once none is left all are drawn
+pub passes-end : (n : ℕ) (ordered left whole : List Segment) → left ≡ []
+    → ordered ++ passes n left ≡ whole → ordered ≡ whole
+passes-end n ordered left whole none was =
+    sym (append-nil ordered)
+    ∙ (ap (λ r. ordered ++ r) (sym (ap (passes n) none ∙ passes-nothing n)) ∙ was)

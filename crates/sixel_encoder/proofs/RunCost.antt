@@ -275,6 +275,24 @@ run_least n low high =
           omega (arith, ap run_cost same, length-decimal5 n (omega arith) (omega arith))
     ]
 
+-- a run takes at least a byte for each of its first three sixels
+pub run_low : (n m : ℕ) → m ≤ n → m ≤ 3 → m ≤ run_cost n
+run_low n m few three =
+    elim (cases_lt n 65535) [
+      | inl lt ↦
+          let same : n ≡ 65535 * 0 + n = omega arith in
+          let e : run_cost n ≡ rest_cost n = omega (arith, ap run_cost same, run_cost-is 0 n lt) in
+          elim (tier n (omega arith)) [
+            | tier0 u c ↦ omega arith
+            | tier1 l u c ↦ omega arith
+            | tier2 l u c ↦ omega arith
+            | tier3 l u c ↦ omega arith
+            | tier4 l u c ↦ omega arith
+            | tier5 l u c ↦ omega arith
+          ]
+      | inr ge ↦ let one : 1 ≤ n / 65535 = omega arith in omega arith
+    ]
+
 pub run_cost0 : run_cost 0 ≡ 0
 run_cost0 = refl
 

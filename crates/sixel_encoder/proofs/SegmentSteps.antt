@@ -1,7 +1,7 @@
 -- One pixel more in the segments of a band, and the last segment of each entry.
 use Rattle.std.specs.Prelude.{None, Option, Some, nat_lt, slice_index_or, ◌&&◌, ◌==◌}
-use Rattle.std.proofs.Common.{Bool, List, [], ap, arith, cond, false, inl, inr}
-use Rattle.std.proofs.Common.{length, refl, set, suc, sym, true, zero, ℕ}
+use Rattle.std.proofs.Common.{Bool, List, [], ap, arith, false, inl, inr}
+use Rattle.std.proofs.Common.{length, refl, set, sym, true, ℕ}
 use Rattle.std.proofs.Common.{◌++◌, ◌+◌, ◌<◌}
 use Rattle.std.proofs.Common.{◌∙◌, ◌∷◌, ◌≡◌, ◌≢◌, ◌≤◌, length-append}
 use Rattle.std.proofs.lemmas.Bool.{cases_eq, cases_lt}
@@ -10,7 +10,6 @@ use Rattle.std.proofs.lemmas.Grind.{get_or-set_at}
 use Rattle.std.proofs.lemmas.List.{get_or-set_other, get_or_append_left, get_or_push, length-set}
 use Rattle.sixel_encoder.specs.declared.segments.Segment.{Segment}
 use Rattle.sixel_encoder.specs.Compact.{nth}
-use Rattle.sixel_encoder.specs.Segments.{with_pixel}
 use Rattle.sixel_encoder.specs.inside.Compact.{AreLast}
 
 -- ---- the segment that a pixel joins
@@ -28,36 +27,6 @@ grown column segment =
 -- a segment of one pixel
 abbrev pub new_segment : ℕ → ℕ → Segment
 new_segment column entry = record { entry = entry; first = column; end = column + 1 }
-
--- the first segment that is near grows
-pub pixel-near : (gap column entry : ℕ) (segments : List Segment) (k : ℕ) (near : Segment)
-    → k < length segments → nth segments k ≡ near
-    → ((j : ℕ) → j < k → is_near gap column entry (nth segments j) ≡ false)
-    → is_near gap column entry near ≡ true
-    → with_pixel gap column entry segments ≡ set segments k (grown column near)
-pixel-near gap column entry [] k near l at before is = absurd (omega arith)
-pixel-near gap column entry (segment ∷ segments) zero near l at before is =
-    ap (λ t. cond t (grown column segment ∷ segments)
-    (segment ∷ with_pixel gap column entry segments))
-    (ap (is_near gap column entry) at ∙ is)
-    ∙ ap (λ s. grown column s ∷ segments) at
-pixel-near gap column entry (segment ∷ segments) (suc k) near l at before is =
-    ap (λ t. cond t (grown column segment ∷ segments)
-    (segment ∷ with_pixel gap column entry segments)) (before 0 (omega arith))
-    ∙ ap (λ r. segment ∷ r)
-    (pixel-near gap column entry segments k near (omega arith) at
-    (λ j lj. before (suc j) (omega arith)) is)
-
--- if none is near a new one begins
-pub pixel-new : (gap column entry : ℕ) (segments : List Segment)
-    → ((j : ℕ) → j < length segments → is_near gap column entry (nth segments j) ≡ false)
-    → with_pixel gap column entry segments ≡ segments ++ new_segment column entry ∷ []
-pixel-new gap column entry [] none = refl
-pixel-new gap column entry (segment ∷ segments) none =
-    ap (λ t. cond t (grown column segment ∷ segments)
-    (segment ∷ with_pixel gap column entry segments)) (none 0 (omega arith))
-    ∙ ap (λ r. segment ∷ r)
-    (pixel-new gap column entry segments (λ j l. none (suc j) (omega arith)))
 
 -- a segment of another entry is not near
 pub not-other : (gap column entry : ℕ) (segment : Segment) → segment.entry ≢ entry
@@ -207,17 +176,18 @@ AreLast-near segments last gap column entry k near are is at = record {
 
 -- an entry begins a segment
 pub AreLast-new : (segments : List Segment) (last : List (Option ℕ)) (gap column entry : ℕ)
+    (new : Segment) → new.entry ≡ entry → new.end ≤ column + 1
     → AreLast segments last gap column → entry < length last
     → ((j : ℕ) → j < length segments → is_near gap column entry (nth segments j) ≡ false)
-    → AreLast (segments ++ new_segment column entry ∷ []) (set last entry (Some (length segments)))
+    → AreLast (segments ++ new ∷ []) (set last entry (Some (length segments)))
     gap column
-AreLast-new segments last gap column entry are inside none = record {
+AreLast-new segments last gap column entry new own short are inside none = record {
   known = λ e j h. elim (cases_eq e entry) [
     | inl same ↦
         let value = some-same (length segments) j (sym (marked e same) ∙ h) in (
           omega (arith, size, value),
           ap (λ i. (nth longer i).entry) (sym value)
-              ∙ (ap (λ (s : Segment). s.entry) end ∙ sym same),
+              ∙ (ap (λ (s : Segment). s.entry) end ∙ (own ∙ sym same)),
         )
     | inr apart ↦
         let was = are.known e j (sym (kept e apart) ∙ h) in (
@@ -243,7 +213,7 @@ AreLast-new segments last gap column entry are inside none = record {
         let value : j ≡ length segments = omega (arith, l, size) in
         inl (ap (λ i. slice_index_or marks (nth longer i).entry None) value
         ∙ (ap (λ (s : Segment). slice_index_or marks s.entry None) end
-        ∙ (marked entry refl ∙ ap Some (sym value))))
+        ∙ (marked new.entry own ∙ ap Some (sym value))))
   ];
   ended = λ j l. elim (cases_lt j (length segments)) [
     | inl low ↦ omega (arith, are.ended j low, ap (λ (s : Segment). s.end) (front j low))
@@ -253,12 +223,13 @@ AreLast-new segments last gap column entry are inside none = record {
           arith,
           ap (λ i. (nth longer i).end) value,
           ap (λ (s : Segment). s.end) end,
+          short,
         )
   ];
 }
   where
     longer : List Segment
-    longer = segments ++ new_segment column entry ∷ []
+    longer = segments ++ new ∷ []
 
     marks : List (Option ℕ)
     marks = set last entry (Some (length segments))
@@ -267,13 +238,13 @@ AreLast-new segments last gap column entry are inside none = record {
     nothing = record { entry = 0; first = 0; end = 0 }
 
     size : length longer ≡ length segments + 1
-    size = omega (arith, length-append segments (new_segment column entry ∷ []))
+    size = omega (arith, length-append segments (new ∷ []))
 
-    end : nth longer (length segments) ≡ new_segment column entry
-    end = get_or_push segments (new_segment column entry) nothing (length segments) refl
+    end : nth longer (length segments) ≡ new
+    end = get_or_push segments (new) nothing (length segments) refl
 
     front : (j : ℕ) → j < length segments → nth longer j ≡ nth segments j
-    front j l = get_or_append_left segments (new_segment column entry ∷ []) nothing j l
+    front j l = get_or_append_left segments (new ∷ []) nothing j l
 
     marked : (e : ℕ) → e ≡ entry → slice_index_or marks e None ≡ Some (length segments)
     marked e same = get_or-set_at last entry e (Some (length segments)) None same inside

@@ -20,7 +20,7 @@ use Rattle.sixel_encoder.proofs.RunCost.{cost-append, cost-run}
 abbrev pub left : ℕ → ℕ → List ℕ → ℕ
 left n b row = cost (tokens_after n b row)
 
-left-nil : (n b : ℕ) → left n b [] ≡ run_cost n
+pub left-nil : (n b : ℕ) → left n b [] ≡ run_cost n
 left-nil n b = cost-run n b
 
 -- a row that goes on with the same sixel
@@ -33,17 +33,17 @@ pub tokens_after-other : (n b c : ℕ) (row : List ℕ) → c ≢ b
     → tokens_after n b (c ∷ row) ≡ run_tokens n b ++ tokens_after 1 c row
 tokens_after-other n b c row e = grind (arith, nat_tests)
 
-left-other : (n b c : ℕ) (row : List ℕ) → c ≢ b → left n b (c ∷ row) ≡ run_cost n + left 1 c row
+pub left-other : (n b c : ℕ) (row : List ℕ) → c ≢ b → left n b (c ∷ row) ≡ run_cost n + left 1 c row
 left-other n b c row e =
     ap cost (tokens_after-other n b c row e)
     ∙ (cost-append (run_tokens n b) (tokens_after 1 c row)
     ∙ ap (λ x. x + left 1 c row) (cost-run n b))
 
-left-same : (n b c : ℕ) (row : List ℕ) → c ≡ b → left n b (c ∷ row) ≡ left (n + 1) b row
+pub left-same : (n b c : ℕ) (row : List ℕ) → c ≡ b → left n b (c ∷ row) ≡ left (n + 1) b row
 left-same n b c row e = ap cost (tokens_after-same n b c row e)
 
 -- writing a run in two parts saves no byte
-left_cut : (m n b : ℕ) (row : List ℕ) → left (m + n) b row ≤ run_cost m + left n b row
+pub left_cut : (m n b : ℕ) (row : List ℕ) → left (m + n) b row ≤ run_cost m + left n b row
 left_cut m n b [] = omega (arith, left-nil (m + n) b, left-nil n b, run_cut m n)
 left_cut m n b (c ∷ row) =
     elim (cases_eq c b) [

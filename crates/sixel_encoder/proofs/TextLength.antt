@@ -1,11 +1,11 @@
 -- A text up to some band is no longer than the whole text.
-use Rattle.std.proofs.Common.{List, ap, append_assoc, arith, length, length-append, ℕ, ◌++◌, ◌+◌}
-use Rattle.std.proofs.Common.{◌-◌, ◌∷◌, ◌≡◌, ◌≤◌}
+use Rattle.std.proofs.Common.{List, ap, arith, length, length-append, ℕ, ◌++◌, ◌+◌}
+use Rattle.std.proofs.Common.{refl, ◌-◌, ◌∷◌, ◌≡◌, ◌≤◌}
 use Rattle.std.specs.Prelude.{codes}
 use Rattle.sixel_base.specs.Picture.{joined}
 use Rattle.sixel_encoder.specs.Text.{Drawing, band_text, bands, bands_text, palette_text}
 use Rattle.sixel_encoder.specs.Text.{parameters_text, raster_text, text_of}
-use Rattle.sixel_encoder.proofs.JoinedLists.{joined-add}
+use Rattle.sixel_encoder.proofs.JoinedLists.{joined-add, joined-more}
 
 -- the first n lists are no longer than more of them
 length-joined : (f : ℕ → List ℕ) (n m : ℕ) → n ≤ m → length (joined f n) ≤ length (joined f m)
@@ -41,3 +41,32 @@ length-stopped drawing band limit begun text is more low long =
     (joined (band_text drawing) band) (bands_text drawing) (27 ∷ codes "\\") limit
     (length-joined (band_text drawing) band (bands drawing.height) low)
     (rw is at (rw more at long))
+
+-- the bands up to some band are no longer than the whole text
+pub length-bands : (drawing : Drawing) (band : ℕ) → band ≤ bands drawing.height
+    → length (joined (band_text drawing) band) ≤ length (text_of drawing)
+length-bands drawing band low =
+    length-stopped drawing band (length (joined (band_text drawing) band))
+    (parameters_text drawing ++ raster_text drawing ++ palette_text drawing)
+    ((parameters_text drawing ++ raster_text drawing ++ palette_text drawing)
+    ++ joined (band_text drawing) band)
+    refl refl low
+    (omega (
+      arith,
+      length-append (parameters_text drawing ++ raster_text drawing ++ palette_text drawing)
+          (joined (band_text drawing) band),
+    ))
+
+-- one more band adds at least what it has at least
+pub length-band : (drawing : Drawing) (band old least new : ℕ)
+    → old ≤ length (joined (band_text drawing) band) → least ≤ length (band_text drawing band)
+    → new ≤ old + least → new ≤ length (joined (band_text drawing) (band + 1))
+length-band drawing band old least new low more le =
+    omega (
+      arith,
+      low,
+      more,
+      le,
+      ap length (joined-more (band_text drawing) band),
+      length-append (joined (band_text drawing) band) (band_text drawing band),
+    )

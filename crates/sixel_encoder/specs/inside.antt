@@ -3,3 +3,4 @@ pub mod Grid
 pub mod Runs
 pub mod Diffusion
 pub mod Compact
+pub mod Bound

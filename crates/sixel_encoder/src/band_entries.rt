@@ -1,7 +1,8 @@
 //! The palette entries of a band's pixels, column by column.
 
-ghost use Rattle.std.specs.Prelude.{◌≡◌, ◌≢◌, ℕ, [], ◌+◌, ◌*◌, ◌^◌, ◌<◌, ◌≤◌, ◌==◌, IfOk, length};
-ghost use Rattle.std.specs.Prelude.{slice_index};
+ghost use Rattle.std.specs.Prelude.{◌≡◌, ◌≢◌, ℕ, [], ◌+◌, ◌-◌, ◌*◌, ◌^◌};
+ghost use Rattle.std.specs.Prelude.{◌<◌, ◌≤◌, ◌==◌, IfOk, length};
+ghost use Rattle.std.specs.Prelude.{slice_index, true};
 ghost use Rattle.sixel_encoder.specs.Compact.{blocked_sixel};
 ghost use Rattle.sixel_encoder.specs.Text.{entry_at, mask, sixel_of};
 ghost use Rattle.sixel_encoder.specs.inside.Compact.{AreLanes, AreSpare, lane_of};
@@ -67,6 +68,53 @@ impl<'a> BandEntries<'a> {
             ≡ lane_of (entry_at (drawing_of self.now.image.now) column (6 * self.now.band + bit)) }
     {
         self.lanes[8 * column + bit]
+    }
+
+    /// Returns whether the pixels of a column have one entry, or are all transparent.
+    #[inline(always)]
+    pub fn is_uniform(&self, column: usize) -> bool
+        requires entries { AreLanes self.now }
+        requires column { column < self.now.image.now.width }
+        ensures { result ≡ true → (bit : ℕ) → bit < 6
+            → entry_at (drawing_of self.now.image.now) column (6 * self.now.band + bit)
+            ≡ entry_at (drawing_of self.now.image.now) column (6 * self.now.band + 0) }
+    {
+        let first = self.lane(column, 0);
+        equal_lanes(&self.lanes, 8 * column, first) % 64 == 63
+    }
+
+    /// Returns whether the pixels of a column have the same entries as those of the one before.
+    #[inline(always)]
+    pub fn is_repeated(&self, column: usize) -> bool
+        requires entries { AreLanes self.now }
+        requires column { column < self.now.image.now.width }
+        requires before { 0 < column }
+        ensures { result ≡ true → (bit : ℕ) → bit < 6
+            → entry_at (drawing_of self.now.image.now) column (6 * self.now.band + bit)
+            ≡ entry_at (drawing_of self.now.image.now) (column - 1) (6 * self.now.band + bit) }
+    {
+        have_equal_lanes(&self.lanes, 8 * column, 8 * (column - 1))
+    }
+
+    /// Returns the end of the columns whose pixels have the same entries as those of this one.
+    #[inline(always)]
+    pub fn end_of_repeats(&self, column: usize) -> usize
+        requires entries { AreLanes self.now }
+        requires column { column < self.now.image.now.width }
+        ensures order { column < result }
+        ensures within { result ≤ self.now.image.now.width }
+        ensures same { (k bit : ℕ) → column ≤ k → k < result → bit < 6
+            → entry_at (drawing_of self.now.image.now) k (6 * self.now.band + bit)
+            ≡ entry_at (drawing_of self.now.image.now) column (6 * self.now.band + bit) }
+    {
+        let mut end = column + 1;
+        'repeats: while end < self.image.width {
+            if !self.is_repeated(end) {
+                return end;
+            }
+            end += 1;
+        }
+        end
     }
 
     /// Returns the pixels of a column that have an entry.
@@ -141,4 +189,17 @@ fn equal_lanes(lanes: &[u16], at: usize, value: u16) -> u8
 {
     let chunk = u16x8::from_slice(&lanes[at..]);
     chunk.simd_eq(u16x8::splat(value)).to_bitmask() as u8
+}
+
+/// Returns whether eight lanes equal eight others.
+#[inline(always)]
+fn have_equal_lanes(lanes: &[u16], one: usize, other: usize) -> bool
+    requires one { one + 8 ≤ length lanes.now }
+    requires other { other + 8 ≤ length lanes.now }
+    ensures { result ≡ true → (k : ℕ) → k < 8
+        → slice_index lanes.now (one + k) ≡ slice_index lanes.now (other + k) }
+{
+    let first = u16x8::from_slice(&lanes[one..]);
+    let second = u16x8::from_slice(&lanes[other..]);
+    first.simd_ne(second).to_bitmask() == 0
 }

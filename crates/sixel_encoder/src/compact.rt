@@ -1,18 +1,20 @@
 //! The compact SIXEL output of an image whose colors are chosen.
 
-ghost use Rattle.std.specs.Prelude.{◌≡◌, ℕ, List, ◌*◌, ◌<◌, ◌++◌, ◌∷◌, [], IfOk, OnOk};
-ghost use Rattle.std.specs.Prelude.{string_bytes};
+ghost use Rattle.std.specs.Prelude.{◌≡◌, ℕ, List, ◌*◌, ◌<◌, ◌≤◌, ◌++◌, ◌∷◌, [], IfOk, OnOk};
+ghost use Rattle.std.specs.Prelude.{length, string_bytes};
 ghost use Rattle.sixel_encoder.specs.declared.segments.Segment.{Segment};
 ghost use Rattle.sixel_encoder.specs.Compact.{compact_text, marked_text, marks_after};
 ghost use Rattle.sixel_encoder.specs.Compact.{segments_marks};
 ghost use Rattle.sixel_encoder.specs.Marks.{Pen as MarkPen, first_pen, marks_text, moved_by};
 ghost use Rattle.sixel_encoder.specs.Numbers.{number_of};
 ghost use Rattle.sixel_encoder.specs.Segments.{drawn_segments};
+ghost use Rattle.sixel_encoder.specs.Text.{text_of};
 ghost use Rattle.sixel_encoder.specs.inside.Compact.{AreBlocked, AreLanes, AreNumbersOf, IsAtPen};
 ghost use Rattle.sixel_encoder.specs.inside.Compact.{IsWithin, IsWriter};
 ghost use Rattle.sixel_encoder.specs.inside.Indexed.{IsIndexed, drawing_of};
 
 use crate::band_entries::BandEntries;
+use crate::bound::least_bytes;
 use crate::numbers::{count_runs, number_entries, push_numbered};
 use crate::pen::Pen;
 use crate::pixels::used_bands;
@@ -26,17 +28,31 @@ pub fn encode_compact(alloc: Global, image: &IndexedImage<'_>) -> Result<String,
     requires { IsIndexed image.now }
     ensures { IfOk result (λ text. string_bytes text ≡ compact_text (drawing_of image.now)) }
 {
-    let marked = encode_marked(alloc, image)?;
-    match encode_below(alloc, image, marked.len())? {
+    let MarkedText { text, plain_bytes } = encode_marked(alloc, image)?;
+    if text.len() <= plain_bytes {
+        return Ok(text);
+    }
+    match encode_below(alloc, image, text.len())? {
         Some(plain) => Ok(plain),
-        None => Ok(marked),
+        None => Ok(text),
     }
 }
 
+/// The output in segments that share passes.
+#[derive(Drop)]
+struct MarkedText {
+    text: String,
+    /// How many bytes the plain output takes at least.
+    plain_bytes: usize,
+}
+
 /// Returns the output in segments that share passes.
-fn encode_marked(alloc: Global, image: &IndexedImage<'_>) -> Result<String, AllocError>
+fn encode_marked(alloc: Global, image: &IndexedImage<'_>) -> Result<MarkedText, AllocError>
     requires { IsIndexed image.now }
-    ensures { IfOk result (λ text. string_bytes text ≡ marked_text (drawing_of image.now)) }
+    ensures text { IfOk result
+        (λ marked. string_bytes marked.text ≡ marked_text (drawing_of image.now)) }
+    ensures plain { IfOk result
+        (λ marked. marked.plain_bytes ≤ length (text_of (drawing_of image.now))) }
 {
     let runs = count_runs(alloc, image)?;
     let numbers = number_entries(alloc, &runs)?;
@@ -45,11 +61,13 @@ fn encode_marked(alloc: Global, image: &IndexedImage<'_>) -> Result<String, Allo
     push_raster(&mut text, image)?;
     push_numbered(&mut text, image, &runs, &numbers)?;
     let mut writer = BandWriter::new(alloc, image, &numbers)?;
+    let mut plain_bytes: usize = 0;
     for band in 0..used_bands(image) {
         writer.push_band(alloc, &mut text, band)?;
+        plain_bytes = plain_bytes.saturating_add(least_bytes(&writer.entries));
     }
     text.push_str("\x1b\\")?;
-    Ok(text)
+    Ok(MarkedText { text, plain_bytes })
 }
 
 /// Writes the bands of a compact output.
@@ -98,6 +116,8 @@ impl<'a> BandWriter<'a> {
         requires band { 6 * band < self.old.entries.image.now.height }
         ensures writer { OnOk result (IsWriter self.new) }
         ensures image { self.new.entries.image ≡ self.old.entries.image }
+        ensures entries { OnOk result (AreLanes self.new.entries) }
+        ensures band { OnOk result (self.new.entries.band ≡ band) }
         ensures text { OnOk result ((pen : MarkPen) → IsAtPen self.old.pen pen
             → string_bytes text.new ≡ string_bytes text.old ++ marks_text
             (segments_marks (drawing_of self.old.entries.image.now)

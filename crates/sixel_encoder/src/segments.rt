@@ -1,12 +1,11 @@
 //! The segments of a band: pixels of one palette entry, close together.
 
-ghost use Rattle.std.specs.Prelude.{◌≡◌, ◌≢◌, ℕ, ◌+◌, ◌*◌, ◌<◌, ◌^◌, ◌++◌, IfOk, OnOk};
+ghost use Rattle.std.specs.Prelude.{◌≡◌, ◌≢◌, ℕ, ◌+◌, ◌-◌, ◌*◌, ◌<◌, ◌^◌, ◌++◌, IfOk, OnOk};
 ghost use Rattle.std.specs.Prelude.{length, true, false};
 ghost use Rattle.sixel_encoder.specs.Segments.{band_segments, drawn_segments, gap_of, passes};
-ghost use Rattle.sixel_encoder.specs.Segments.{with_pixel, in_pass, after_pass};
+ghost use Rattle.sixel_encoder.specs.Segments.{in_pass, after_pass};
 ghost use Rattle.sixel_encoder.specs.inside.Indexed.{drawing_of};
-ghost use Rattle.sixel_encoder.specs.inside.Compact.{AreLanes, AreLast};
-ghost use Rattle.sixel_encoder.specs.Text.{entry_at};
+ghost use Rattle.sixel_encoder.specs.inside.Compact.{AreLanes, AreLast, with_run};
 
 use crate::band_entries::{BandEntries, TRANSPARENT};
 use crate::text::IndexedImage;
@@ -42,36 +41,30 @@ fn band_segments(alloc: Global, entries: &BandEntries<'_>) -> Result<Vec<Segment
     let gap = gap_of(entries.image);
     let mut segments = Vec::new(alloc);
     let mut last: [Option<usize>; 256] = [None; 256];
-    for column in 0..entries.image.width {
-        let mut above = TRANSPARENT;
-        let rows = if is_uniform(entries, column) { 1 } else { 6 };
-        for bit in 0..rows {
-            let lane = entries.lane(column, bit);
-            if is_new(lane, above) {
-                push_pixel(&mut segments, &mut last, gap, column, usize::from(lane))?;
+    let mut column = 0;
+    'columns: while column < entries.image.width {
+        if entries.is_uniform(column) {
+            let lane = entries.lane(column, 0);
+            let first = column;
+            column = entries.end_of_repeats(column);
+            if lane != TRANSPARENT {
+                let run = run_of(lane, first, column);
+                push_run(&mut segments, &mut last, gap, run)?;
             }
-            above = lane;
+        } else {
+            let mut above = TRANSPARENT;
+            for bit in 0..6 {
+                let lane = entries.lane(column, bit);
+                if is_new(lane, above) {
+                    let run = run_of(lane, column, column + 1);
+                    push_run(&mut segments, &mut last, gap, run)?;
+                }
+                above = lane;
+            }
+            column += 1;
         }
     }
     Ok(segments)
-}
-
-/// Returns whether the pixels of a column have one entry, or are all transparent.
-#[inline(always)]
-fn is_uniform(entries: &BandEntries<'_>, column: usize) -> bool
-    requires entries { AreLanes entries.now }
-    requires column { column < entries.now.image.now.width }
-    ensures { result ≡ true → (bit : ℕ) → bit < 6
-        → entry_at (drawing_of entries.now.image.now) column (6 * entries.now.band + bit)
-        ≡ entry_at (drawing_of entries.now.image.now) column (6 * entries.now.band + 0) }
-{
-    let first = entries.lane(column, 0);
-    for bit in 1..6 {
-        if entries.lane(column, bit) != first {
-            return false;
-        }
-    }
-    true
 }
 
 /// Returns whether the pixel of a lane is opaque, and has another entry than the one above it.
@@ -94,44 +87,54 @@ fn gap_of(image: &IndexedImage<'_>) -> usize
     }
 }
 
-/// Adds a pixel to the last segment of its palette entry, or to a new one.
+/// Returns a run of pixels of a lane.
+#[inline(always)]
+fn run_of(lane: u16, first: usize, end: usize) -> Segment
+    ensures entry { result.entry ≡ lane }
+    ensures first { result.first ≡ first }
+    ensures end { result.end ≡ end }
+{
+    Segment {
+        entry: usize::from(lane),
+        first,
+        end,
+    }
+}
+
+/// Adds a run of pixels to the last segment of its palette entry, or as a new one.
 ///
 /// `last` has the index of the last segment of each entry.
 #[inline(always)]
-fn push_pixel(
+fn push_run(
     segments: &mut Vec<Segment>,
     last: &mut [Option<usize>],
     gap: usize,
-    column: usize,
-    entry: usize,
+    run: Segment,
 ) -> Result<(), AllocError>
-    requires entry { entry < length last.old }
-    requires last { AreLast segments.old.items last.old gap column }
-    requires small { column + gap < 2 ^ 32 }
-    ensures segments { OnOk result
-        (segments.new.items ≡ with_pixel gap column entry segments.old.items) }
-    ensures last { OnOk result (AreLast segments.new.items last.new gap column) }
+    requires entry { run.entry < length last.old }
+    requires some { run.first < run.end }
+    requires last { AreLast segments.old.items last.old gap run.first }
+    requires small { run.end + gap < 2 ^ 32 }
+    ensures segments { OnOk result (segments.new.items ≡ with_run gap run segments.old.items) }
+    ensures last { OnOk result (AreLast segments.new.items last.new gap (run.end - 1)) }
+    ensures size { length last.new ≡ length last.old }
 {
-    match last[entry] {
+    match last[run.entry] {
         Some(index) => {
             let near = segments[index];
-            if column < near.end + gap {
+            if run.first < near.end + gap {
                 segments[index] = Segment {
                     entry: near.entry,
                     first: near.first,
-                    end: column + 1,
+                    end: run.end,
                 };
                 return Ok(());
             }
         }
         None => {}
     }
-    last[entry] = Some(segments.len());
-    segments.push(Segment {
-        entry,
-        first: column,
-        end: column + 1,
-    })?;
+    last[run.entry] = Some(segments.len());
+    segments.push(run)?;
     Ok(())
 }
 
@@ -140,11 +143,14 @@ fn in_passes(alloc: Global, segments: &[Segment]) -> Result<Vec<Segment>, AllocE
     ensures { IfOk result (λ ordered.
         ordered.items ≡ passes (length segments.now) segments.now) }
 {
-    let mut ordered = Vec::new(alloc);
-    let mut left = Vec::new(alloc);
+    let mut ordered = Vec::with_capacity(alloc, segments.len())?;
+    let mut left = Vec::with_capacity(alloc, segments.len())?;
     left.extend_from_slice(segments)?;
     for _ in 0..segments.len() {
-        let mut rest = Vec::new(alloc);
+        if left.is_empty() {
+            return Ok(ordered);
+        }
+        let mut rest = Vec::with_capacity(alloc, left.len())?;
         push_pass(&mut ordered, &mut rest, &left)?;
         left = rest;
     }

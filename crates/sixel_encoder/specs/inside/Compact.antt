@@ -1,7 +1,8 @@
 -- The state of the writer of a compact text. It is internal to the encoder: the compact text of a
 -- drawing defines its output.
 use Rattle.std.specs.Prelude.{◌≡◌, ℕ, ◌+◌, ◌*◌, ◌<◌, ◌≤◌, ◌⊎◌, List, length, slice_index}
-use Rattle.std.specs.Prelude.{slice_index_or, Option, Some, None}
+use Rattle.std.specs.Prelude.{slice_index_or, Option, Some, None, [], ◌∷◌, ◌==◌, ◌&&◌, nat_lt}
+use Rattle.std.specs.Prelude.{if◌then◌else◌}
 use Rattle.sixel_encoder.specs.declared.band_entries.BandEntries.{BandEntries}
 use Rattle.sixel_encoder.specs.declared.compact.BandWriter.{BandWriter}
 use Rattle.sixel_encoder.specs.declared.pen.Pen.{Pen as PenState}
@@ -25,6 +26,15 @@ pub record AreRanks (runs numbers : List ℕ) : Type 0 where
   pub size : length numbers ≡ length runs
   pub each : (entry : ℕ) → entry < length runs
       → slice_index numbers entry ≡ rank (slice_index runs) (length runs) entry
+
+-- the segments after a run of pixels of one entry: the first near segment of the entry goes on to
+-- the end of the run, else the run is a new one
+abbrev pub with_run : ℕ → Segment → List Segment → List Segment
+with_run gap run [] = run ∷ []
+with_run gap run (segment ∷ segments) =
+    if segment.entry == run.entry && nat_lt run.first (segment.end + gap)
+    then record { entry = segment.entry; first = segment.first; end = run.end } ∷ segments
+    else segment ∷ with_run gap run segments
 
 -- The last segment of each entry, by its index. Each other segment ended a gap before the column.
 pub record AreLast (segments : List Segment) (last : List (Option ℕ)) (gap column : ℕ)

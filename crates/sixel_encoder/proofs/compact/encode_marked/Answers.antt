@@ -11,6 +11,7 @@ use Rattle.sixel_encoder.specs.inside.Indexed.{drawing_of}
 use Rattle.sixel_encoder.proofs.CompactSteps.{AreNumbersOf-ranks, follow-pen, follow-pen_start}
 use Rattle.sixel_encoder.proofs.CompactSteps.{follow-text, follow-text_start, marked-joined}
 use Rattle.sixel_encoder.proofs.DrawnHeight.{bands_up_to-le}
+use Rattle.sixel_encoder.proofs.TextLength.{length-band, length-bands}
 use Rattle.sixel_encoder.proofs.compact.encode_marked.Goals as goal
 
 pub new-requires-clause-numbers : goal.new-requires-clause-numbers
@@ -28,6 +29,7 @@ loop-band-init c =
       writer = c.in_ok-writer.ensures.writer;
       image = c.in_ok-writer.ensures.image;
       text = follow-text_start step first_pen _;
+      plain = omega arith;
       pen = follow-pen_start step first_pen _ c.in_ok-writer.ensures.pen;
     }
 
@@ -51,12 +53,32 @@ loop-band-preserved c =
       image = ap (λ b. b.now) c.push_band.ensures.image ∙ is.image;
       text = follow-text step band first_pen _ (string_bytes c.loop-band.text)
           (string_bytes c.push_band.new.text) is.text (rw is.image at (told.text here is.pen));
+      plain = length-band drawing band c.loop-band.plain_bytes c.least_bytes.result
+          c.saturating_add-plain_bytes.result is.plain
+          (rw (c.push_band.ensures.image, is.image, told.band) at c.least_bytes.ensures)
+          (omega (arith, c.saturating_add-plain_bytes.ensures));
       pen = follow-pen step band first_pen c.push_band.new.self.pen
           (rw is.image at (told.pen here is.pen));
     }
 
-pub returns : goal.returns
-returns c =
+pub returns-clause-plain : goal.returns-clause-plain
+returns-clause-plain c =
+    let drawing = drawing_of c.args.image.now in
+    let most = bands_up_to-le (is_used drawing) (bands c.args.image.now.height) in
+    omega (
+      arith,
+      c.loop-band.invariant.plain,
+      length-bands drawing c.loop-band.band
+          (omega (
+            arith,
+            most,
+            c.loop-band.auto.band-end,
+            c.used_bands-band-end.ensures,
+          )),
+    )
+
+pub returns-clause-text : goal.returns-clause-text
+returns-clause-text c =
     let drawing = drawing_of c.args.image.now in
     let step = segments_marks drawing (number_of drawing) (drawn_segments drawing) in
     let all : c.loop-band.band ≡ bands_up_to (is_used drawing) (bands drawing.height) =

@@ -1,8 +1,10 @@
-use Rattle.std.proofs.Common.{◌≡◌, ◌++◌, string_bytes}
+use Rattle.std.proofs.Common.{◌≡◌, ◌≤◌, ◌++◌, length, string_bytes}
+use Rattle.sixel_base.specs.Picture.{joined}
 use Rattle.sixel_encoder.specs.Compact.{follow, segments_marks}
 use Rattle.sixel_encoder.specs.Marks.{first_pen, marks_text, moved_by}
 use Rattle.sixel_encoder.specs.Numbers.{number_of}
 use Rattle.sixel_encoder.specs.Segments.{drawn_segments}
+use Rattle.sixel_encoder.specs.Text.{band_text}
 use Rattle.sixel_encoder.specs.inside.Compact.{IsAtPen, IsWriter}
 use Rattle.sixel_encoder.specs.inside.Indexed.{drawing_of}
 use Rattle.sixel_encoder.proofs.compact.encode_marked.Given as goal
@@ -17,6 +19,7 @@ invariant-loop-band l = record {
       (follow
       (segments_marks (drawing_of l.fn.image) (number_of (drawing_of l.fn.image))
       (drawn_segments (drawing_of l.fn.image))) l.band first_pen);
+  plain : l.plain_bytes ≤ length (joined (band_text (drawing_of l.fn.image)) l.band);
   pen : IsAtPen l.writer.pen
       (moved_by
       (follow

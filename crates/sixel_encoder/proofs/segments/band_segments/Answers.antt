@@ -1,64 +1,129 @@
-use Rattle.std.proofs.Common.{◌≡◌, ◌+◌, ◌*◌, ◌<◌, length, ap, sym, refl, ◌∙◌, inl, inr, arith, ℕ}
+use Rattle.std.proofs.Common.{◌≡◌, ◌+◌, ◌-◌, ◌*◌, ◌<◌, length, ap, sym, refl}
+use Rattle.std.proofs.Common.{◌∙◌, inl, inr, arith, ℕ}
 use Rattle.std.proofs.lemmas.Bool.{cases_eq}
 use Rattle.sixel_encoder.specs.Segments.{segments_up_to, with_pixel}
+use Rattle.sixel_encoder.specs.inside.Compact.{with_run}
 use Rattle.sixel_encoder.specs.inside.Indexed.{drawing_of}
 use Rattle.sixel_encoder.proofs.EntryLaneMasks.{opaque-lane, transparent-lane}
-use Rattle.sixel_encoder.proofs.SegmentSteps.{AreLast-none}
 use Rattle.sixel_encoder.proofs.PassSteps.{none-replicated, segment-pixel, segment-skip}
-use Rattle.sixel_encoder.proofs.PassSteps.{segment-uniform}
 use Rattle.sixel_encoder.proofs.PassSteps.{segments_up_to-none, with_pixel-twice}
+use Rattle.sixel_encoder.proofs.RunSegments.{columns-blank, columns-whole, run-made, run-pixel}
+use Rattle.sixel_encoder.proofs.SegmentSteps.{AreLast-later, AreLast-none}
 use Rattle.sixel_encoder.proofs.segments.band_segments.Goals as goal
-use Rattle.sixel_encoder.proofs.segments.band_segments.Goals.{then-is_new+in_ok-push_pixel}
-use Rattle.sixel_encoder.proofs.segments.band_segments.Goals.{else-is_new, then-is_uniform}
-use Rattle.sixel_encoder.proofs.segments.band_segments.Goals.{else-is_uniform}
+use Rattle.sixel_encoder.proofs.segments.band_segments.Goals.{then-is_new+in_ok-push_run-2}
+use Rattle.sixel_encoder.proofs.segments.band_segments.Goals.{else-is_new}
 
-pub loop-column-init : goal.loop-column-init
-loop-column-init c = record {
+pub columns-init : goal.columns-init
+columns-init c = record {
   segments = c.new-segments.ensures.items
       ∙ sym (segments_up_to-none (drawing_of c.args.entries.now.image.now) c.args.entries.now.band);
   last = rw c.new-segments.ensures.items
       (AreLast-none _ c.gap_of-gap.result 0 (λ e. none-replicated 256 e));
   size = refl;
+  within = omega arith;
 }
 
-pub push_pixel-requires-clause-entry : goal.push_pixel-requires-clause-entry
-push_pixel-requires-clause-entry c =
+pub push_run-requires-clause-entry : goal.push_run-requires-clause-entry
+push_run-requires-clause-entry c =
     let lane =
-    opaque-lane c.args.entries.now c.loop-column.column c.loop-bit.bit c.lane-lane.result c.requires
-    (omega (arith, c.loop-column-test.true, c.loop-column.auto.column-end)) c.lane-lane.ensures
+    opaque-lane c.args.entries.now c.columns.column 0 c.lane-lane.result c.requires
+    c.columns-test.true c.lane-lane.ensures c.if-lane-ne-TRANSPARENT.true in
+    omega (arith, c.run_of-run.ensures.entry, lane.1, c.columns.invariant.size)
+
+pub columns-preserved-in-Continue-1 : goal.columns-preserved-in-Continue-1
+columns-preserved-in-Continue-1 c =
+    let entries = c.args.entries.now in
+    let drawing = drawing_of entries.image.now in
+    let column = c.columns.column in
+    let end = c.end_of_repeats-column.result in
+    let lane = c.lane-lane.result in
+    let gap = c.gap_of-gap.result in
+    let run = c.run_of-run.result in
+    let items = c.columns.segments.items in
+    let is = c.columns.invariant in
+    let told = c.end_of_repeats-column.ensures in
+    let at =
+    opaque-lane entries column 0 lane c.requires c.columns-test.true c.lane-lane.ensures
+    c.if-lane-ne-TRANSPARENT.true in
+    let made =
+    run-made run lane column end c.run_of-run.ensures.entry c.run_of-run.ensures.first
+    c.run_of-run.ensures.end in
+    record {
+      segments = columns-whole drawing entries.band column end gap lane items
+          c.push_run.new.segments.items told.order c.columns-test.true c.gap_of-gap.ensures
+          is.segments (c.is_uniform.ensures c.if-is_uniform.true) told.same at.0
+          (c.in_ok-push_run.ensures.segments ∙ ap (λ r. with_run gap r items) made);
+      last = AreLast-later c.push_run.new.segments.items c.push_run.new.last gap (run.end - 1) end
+          (omega (arith, c.run_of-run.ensures.end)) c.in_ok-push_run.ensures.last;
+      size = c.push_run.ensures.size ∙ is.size;
+      within = told.within;
+    }
+
+pub columns-preserved-else-lane-ne-TRANSPARENT : goal.columns-preserved-else-lane-ne-TRANSPARENT
+columns-preserved-else-lane-ne-TRANSPARENT c =
+    let entries = c.args.entries.now in
+    let column = c.columns.column in
+    let end = c.end_of_repeats-column.result in
+    let is = c.columns.invariant in
+    let told = c.end_of_repeats-column.ensures in
+    let none =
+    transparent-lane entries column 0 c.lane-lane.result c.requires c.columns-test.true
+    c.lane-lane.ensures c.if-lane-ne-TRANSPARENT.false in
+    record {
+      segments = columns-blank (drawing_of entries.image.now) entries.band column end
+          c.columns.segments.items told.order is.segments
+          (c.is_uniform.ensures c.if-is_uniform.true) told.same none;
+      last = AreLast-later c.columns.segments.items c.columns.last c.gap_of-gap.result column end
+          (omega (arith, told.order)) is.last;
+      size = is.size;
+      within = told.within;
+    }
+
+pub push_run-requires-then-is_new-clause-entry : goal.push_run-requires-then-is_new-clause-entry
+push_run-requires-then-is_new-clause-entry c =
+    let lane =
+    opaque-lane c.args.entries.now c.columns.column c.loop-bit.bit c.lane-lane-in-loop-bit.result
+    c.requires c.columns-test.true c.lane-lane-in-loop-bit.ensures
     (c.is_new.ensures.opaque c.if-is_new.true) in
-    omega (arith, c.from.ensures, lane.1, c.loop-bit.invariant.size)
+    omega (arith, c.run_of-run-then-is_new.ensures.entry, lane.1, c.loop-bit.invariant.size)
 
 pub loop-bit-preserved : goal.loop-bit-preserved
 loop-bit-preserved c =
     let entries = c.args.entries.now in
     let drawing = drawing_of entries.image.now in
-    let column = c.loop-column.column in
+    let column = c.columns.column in
     let bit = c.loop-bit.bit in
-    let lane = c.lane-lane.result in
+    let lane = c.lane-lane-in-loop-bit.result in
     let gap = c.gap_of-gap.result in
     let was = c.loop-bit.segments.items in
     let is = c.loop-bit.invariant in
-    let lc : column < entries.image.now.width =
-    omega (arith, c.loop-column-test.true, c.loop-column.auto.column-end) in
+    let lc : column < entries.image.now.width = c.columns-test.true in
     let lb : bit < 6 = omega (arith, c.loop-bit-test.true, c.loop-bit.auto.bit-end) in
     elim c.if-is_new.branch [
-      | then-is_new+in_ok-push_pixel w ↦
+      | then-is_new+in_ok-push_run-2 w ↦
+          let run = w.run_of-run-then-is_new.result in
+          let new = w.push_run-then-is_new.new in
           let at =
-          opaque-lane entries column bit lane c.requires lc c.lane-lane.ensures
+          opaque-lane entries column bit lane c.requires lc c.lane-lane-in-loop-bit.ensures
           (c.is_new.ensures.opaque w.if-is_new.true) in
-          let items : c.if-is_new.segments.items ≡ w.push_pixel.new.segments.items =
+          let made =
+          run-made run lane column (column + 1) w.run_of-run-then-is_new.ensures.entry
+          w.run_of-run-then-is_new.ensures.first w.run_of-run-then-is_new.ensures.end in
+          let items : c.if-is_new.segments.items ≡ new.segments.items =
           ap (λ v. v.items) w.segments-is in
-          let pushed : w.push_pixel.new.segments.items ≡ with_pixel gap column lane was =
-          w.in_ok-push_pixel.ensures.segments
-          ∙ ap (λ (e : ℕ). with_pixel gap column e was) w.from.ensures in
+          let pushed : new.segments.items ≡ with_pixel gap column lane was =
+          w.in_ok-push_run-2.ensures.segments
+          ∙ (ap (λ r. with_run gap r was) made ∙ run-pixel gap column lane was) in
           record {
             segments =
                 items
-                ∙ segment-pixel drawing entries.band column bit gap lane was
-                w.push_pixel.new.segments.items lb c.gap_of-gap.ensures is.segments at.0 pushed;
-            last = rw (items, w.last-is) w.in_ok-push_pixel.ensures.last;
-            size = ap length w.last-is ∙ (w.push_pixel.auto.last ∙ is.size);
+                ∙ segment-pixel drawing entries.band column bit gap lane was new.segments.items lb
+                c.gap_of-gap.ensures is.segments at.0 pushed;
+            last = rw (items, w.last-is)
+                (AreLast-later new.segments.items new.last gap (run.end - 1) column
+                (omega (arith, w.run_of-run-then-is_new.ensures.end))
+                w.in_ok-push_run-2.ensures.last);
+            size = ap length w.last-is ∙ (w.push_run-then-is_new.ensures.size ∙ is.size);
             above = λ l. rw (items, pushed) (with_pixel-twice gap column lane was);
           }
       | else-is_new w ↦
@@ -68,7 +133,8 @@ loop-bit-preserved c =
               segments =
                   items
                   ∙ segment-skip drawing entries.band column bit was lb is.segments
-                  (transparent-lane entries column bit lane c.requires lc c.lane-lane.ensures none);
+                  (transparent-lane entries column bit lane c.requires lc
+                  c.lane-lane-in-loop-bit.ensures none);
               last = rw (items, w.last-is) is.last;
               size = ap length w.last-is ∙ is.size;
               above = λ l. absurd (omega (arith, none, l));
@@ -76,7 +142,8 @@ loop-bit-preserved c =
             | inr other ↦
                 let same = c.is_new.ensures.same w.if-is_new.false other in
                 let at =
-                opaque-lane entries column bit lane c.requires lc c.lane-lane.ensures other in
+                opaque-lane entries column bit lane c.requires lc c.lane-lane-in-loop-bit.ensures
+                other in
                 let kept : with_pixel gap column lane was ≡ was =
                 ap (λ (e : ℕ). with_pixel gap column e was) same
                 ∙ is.above (omega (arith, same, at.1)) in
@@ -92,36 +159,10 @@ loop-bit-preserved c =
           ]
     ]
 
-pub loop-column-preserved : goal.loop-column-preserved
-loop-column-preserved c =
-    let entries = c.args.entries.now in
-    let drawing = drawing_of entries.image.now in
-    let column = c.loop-column.column in
-    let items = c.loop-bit.segments.items in
-    let is = c.loop-bit.invariant in
-    let end = c.loop-bit.auto.bit-end in
-    let past = c.loop-bit-test.false in
-    let whole : items ≡ segments_up_to drawing entries.band (6 * column + 6) =
-    elim c.if-is_uniform.branch [
-      | then-is_uniform w ↦
-          let one : c.loop-bit.bit ≡ 1 = omega (arith, end, past, w.rows-is) in
-          segment-uniform drawing entries.band column items
-          (is.segments ∙ ap (λ n. segments_up_to drawing entries.band (6 * column + n)) one)
-          (c.is_uniform.ensures w.if-is_uniform.true) 5 (omega arith)
-      | else-is_uniform w ↦
-          let six : c.loop-bit.bit ≡ 6 = omega (arith, end, past, w.rows-is) in
-          is.segments ∙ ap (λ n. segments_up_to drawing entries.band (6 * column + n)) six
-    ] in
-    let next : 6 * column + 6 ≡ 6 * (column + 1) = omega arith in
-    record {
-      segments = whole ∙ ap (segments_up_to drawing entries.band) next;
-      last = record {
-        known = is.last.known;
-        closed = λ k l. elim (is.last.closed k l) [
-          | inl own ↦ inl own
-          | inr far ↦ inr (omega (arith, far))
-        ];
-        ended = λ k l. omega (arith, is.last.ended k l);
-      };
-      size = is.size;
-    }
+pub returns : goal.returns
+returns c =
+    let drawing = drawing_of c.args.entries.now.image.now in
+    let whole : c.columns.column ≡ drawing.width =
+    omega (arith, c.columns-test.false, c.columns.invariant.within) in
+    c.columns.invariant.segments
+    ∙ ap (λ n. segments_up_to drawing c.args.entries.now.band (6 * n)) whole

@@ -1,6 +1,8 @@
-use Rattle.std.proofs.Common.{◌≡◌, ◌-◌, ◌++◌, length, ap, sym, ◌∙◌, arith}
+use Rattle.std.specs.Prelude.{vec_len}
+use Rattle.std.proofs.lemmas.Bool.{eqb-true}
+use Rattle.std.proofs.Common.{◌≡◌, ◌-◌, ◌++◌, [], length, ap, sym, ◌∙◌, arith}
 use Rattle.sixel_encoder.specs.Segments.{passes}
-use Rattle.sixel_encoder.proofs.PassSteps.{passes-none, passes-step}
+use Rattle.sixel_encoder.proofs.PassSteps.{length-none, passes-end, passes-none, passes-step}
 use Rattle.sixel_encoder.proofs.segments.in_passes.Goals as goal
 
 pub loop-preserved : goal.loop-preserved
@@ -11,7 +13,16 @@ loop-preserved c =
     passes-step (length segments) c.loop.counter c.loop.ordered.items left
     c.push_pass.new.ordered.items c.push_pass.new.rest.items (passes (length segments) segments)
     (omega (arith, c.loop-test.true)) c.loop.invariant (rw c.deref.ensures.value at told.ordered)
-    (rw (c.deref.ensures.value, c.new-rest.ensures.items) at told.rest)
+    (rw (c.deref.ensures.value, c.in_ok-rest.ensures.items) at told.rest)
+
+pub returns-then-is_empty : goal.returns-then-is_empty
+returns-then-is_empty c =
+    let left = c.loop.left.items in
+    let zero : vec_len c.loop.left ≡ 0 =
+    eqb-true (vec_len c.loop.left) 0 (sym c.is_empty.ensures ∙ c.if-is_empty.true) in
+    let none : left ≡ [] = length-none left (omega (arith, zero, c.loop.left.ok.0)) in
+    passes-end (length c.args.segments.now - c.loop.counter) c.loop.ordered.items left
+    (passes (length c.args.segments.now) c.args.segments.now) none c.loop.invariant
 
 pub returns : goal.returns
 returns c =

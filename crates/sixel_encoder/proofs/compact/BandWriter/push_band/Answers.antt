@@ -1,4 +1,4 @@
-use Rattle.std.proofs.Common.{◌≡◌, length, take, refl, ◌∙◌}
+use Rattle.std.proofs.Common.{◌≡◌, length, take, ◌∙◌}
 use Rattle.std.proofs.Common.{arith}
 use Rattle.std.specs.Prelude.{string_bytes}
 use Rattle.sixel_encoder.specs.Compact.{follow, segment_marks, to_band}

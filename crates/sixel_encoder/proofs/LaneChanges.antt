@@ -1,0 +1,109 @@
+-- Lanes that differ from those of the column before: the rows of their entries change there.
+use Rattle.std.specs.Prelude.{None, Option, Some, ◌≢◌}
+use Rattle.std.proofs.Common.{Bool, ap, arith, false, length, refl, sym, true, ℕ, ◌*◌, ◌+◌, ◌-◌}
+use Rattle.std.proofs.Common.{◌<◌, ◌∙◌, ◌≡◌, ◌≤◌, inl, inr}
+use Rattle.std.proofs.lemmas.Bool.{both_ways, cases_eq, cases_lt}
+use Rattle.std.proofs.lemmas.Bool.Decides.{nat_tests}
+use Rattle.sixel_base.specs.Picture.{is_set}
+use Rattle.sixel_encoder.specs.declared.band_entries.BandEntries.{BandEntries}
+use Rattle.sixel_encoder.specs.Text.{entry_at, has_dot, is_entry, row_of, sixel_of}
+use Rattle.sixel_encoder.specs.inside.Bound.{IsChange}
+use Rattle.sixel_encoder.specs.inside.Compact.{AreLanes, lane_of}
+use Rattle.sixel_encoder.specs.inside.Indexed.{drawing_of}
+use Rattle.sixel_encoder.proofs.EntryLaneMasks.{opaque-lane}
+use Rattle.sixel_encoder.proofs.EntryRows.{no_dot-own}
+use Rattle.sixel_encoder.proofs.Masks.{hits, hits-past}
+use Rattle.sixel_encoder.proofs.SixBits.{is_set-mask}
+
+-- an entry is itself
+itself : (entry : ℕ) → is_entry entry (Some entry) ≡ true
+itself entry = grind (arith, nat_tests)
+
+-- a pixel of another lane has not the entry
+off : (lane next : ℕ) (place : Option ℕ) → next ≡ lane_of place → lane ≢ next
+    → is_entry lane place ≡ false
+off lane next None is other = refl
+off lane next (Some entry) is other = grind (arith, nat_tests)
+
+-- what a pixel shows of the row of its entry, if the pixel in another column has another lane
+record IsOther (entries : BandEntries) (here there lane : ℕ) : Type 0 where
+  known : lane < length entries.image.now.colors.now
+  other : sixel_of (drawing_of entries.image.now) entries.band lane here
+      ≢ sixel_of (drawing_of entries.image.now) entries.band lane there
+  dotted : has_dot (row_of (drawing_of entries.image.now) entries.band lane) ≡ true
+
+other-lane : (entries : BandEntries) (here there bit lane next : ℕ) → AreLanes entries
+    → here < entries.image.now.width → bit < 6
+    → lane ≡ lane_of (entry_at (drawing_of entries.image.now) here (6 * entries.band + bit))
+    → next ≡ lane_of (entry_at (drawing_of entries.image.now) there (6 * entries.band + bit))
+    → lane ≢ next → lane ≢ 256 → IsOther entries here there lane
+other-lane entries here there bit lane next are lh lb is at apart some =
+    let image = entries.image.now in
+    let drawing = drawing_of image in
+    let band = entries.band in
+    let own = (opaque-lane entries here bit lane are lh is some).0 in
+    let on : is_entry lane (entry_at drawing here (6 * band + bit)) ≡ true =
+    ap (is_entry lane) own ∙ itself lane in
+    record {
+      known = elim (cases_lt lane (length image.colors.now)) [
+        | inl l ↦ l
+        | inr past ↦ absurd (both_ways (hits image band lane here bit)
+            (hits-past image band lane here bit are.indexed lh past) on)
+      ];
+      other = λ e.
+          both_ways (is_entry lane (entry_at drawing there (6 * band + bit)))
+          (off lane next (entry_at drawing there (6 * band + bit)) at apart)
+          (sym (is_set-mask (λ k. is_entry lane (entry_at drawing there (6 * band + k))) bit lb)
+          ∙ (ap (λ m. is_set m bit) (sym e)
+          ∙ (is_set-mask (λ k. is_entry lane (entry_at drawing here (6 * band + k))) bit lb ∙ on)));
+      dotted = dot (has_dot (row_of drawing band lane)) refl own;
+    }
+  where
+    dot : (b : Bool) → has_dot (row_of (drawing_of entries.image.now) entries.band lane) ≡ b
+        → entry_at (drawing_of entries.image.now) here (6 * entries.band + bit) ≡ Some lane
+        → has_dot (row_of (drawing_of entries.image.now) entries.band lane) ≡ true
+    dot true is own = is
+    dot false is own =
+        absurd
+        (no_dot-own (drawing_of entries.image.now) entries.band lane here
+        (6 * entries.band + bit) lh
+        record { since = omega arith; before = omega arith } is own)
+
+-- the entry on the left ends its run
+pub change-left : (entries : BandEntries) (column bit lane next : ℕ) → AreLanes entries
+    → column < entries.image.now.width → bit < 6
+    → lane ≡ lane_of (entry_at (drawing_of entries.image.now) (column - 1) (6 * entries.band + bit))
+    → next ≡ lane_of (entry_at (drawing_of entries.image.now) column (6 * entries.band + bit))
+    → lane ≢ next → lane ≢ 256
+    → IsChange (drawing_of entries.image.now) entries.band lane column
+change-left entries column bit lane next are l lb is at apart some =
+    let found = other-lane entries (column - 1) column bit lane next are (omega arith) lb is at
+    apart some in
+    record {
+      inside = l;
+      known = found.known;
+      other = λ e. found.other (sym e);
+      dotted = found.dotted;
+    }
+
+-- and the one on the right ends a blank
+pub change-right : (entries : BandEntries) (column bit lane next : ℕ) → AreLanes entries
+    → column < entries.image.now.width → bit < 6
+    → lane ≡ lane_of (entry_at (drawing_of entries.image.now) column (6 * entries.band + bit))
+    → next ≡ lane_of (entry_at (drawing_of entries.image.now) (column - 1) (6 * entries.band + bit))
+    → lane ≢ next → lane ≢ 256
+    → IsChange (drawing_of entries.image.now) entries.band lane column
+change-right entries column bit lane next are l lb is at apart some =
+    let found = other-lane entries column (column - 1) bit lane next are l lb is at apart some in
+    record { inside = l; known = found.known; other = found.other; dotted = found.dotted }
+
+-- no lane is past that of a transparent pixel
+pub lane-most : (entries : BandEntries) (column bit lane : ℕ) → AreLanes entries
+    → column < entries.image.now.width
+    → lane ≡ lane_of (entry_at (drawing_of entries.image.now) column (6 * entries.band + bit))
+    → lane ≤ 256
+lane-most entries column bit lane are l is =
+    elim (cases_eq lane 256) [
+      | inl none ↦ omega arith
+      | inr some ↦ omega (arith, (opaque-lane entries column bit lane are l is some).1)
+    ]

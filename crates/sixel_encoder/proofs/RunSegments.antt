@@ -1,0 +1,258 @@
+-- The segments of a band after a run of columns whose pixels all have one entry.
+use Rattle.std.specs.Prelude.{None, Option, Some, nat_le, slice_index_or}
+use Rattle.std.proofs.Common.{Bool, List, [], ap, arith, cond, false, length, refl, set}
+use Rattle.std.proofs.Common.{suc, sym, true, zero, ℕ, ◌++◌, ◌+◌, ◌-◌, ◌*◌, ◌<◌, ◌≤◌, ◌≡◌, ◌∙◌, ◌∷◌}
+use Rattle.std.proofs.lemmas.Bool.Decides.{nat_tests}
+use Rattle.sixel_encoder.specs.declared.segments.Segment.{Segment}
+use Rattle.sixel_encoder.specs.Compact.{nth}
+use Rattle.sixel_encoder.specs.Segments.{gap_of, segments_up_to, with_pixel}
+use Rattle.sixel_encoder.specs.Text.{Drawing, entry_at}
+use Rattle.sixel_encoder.specs.inside.Compact.{with_run}
+use Rattle.sixel_encoder.proofs.PassSteps.{segment-pixel, segment-skip, segment-uniform}
+use Rattle.sixel_encoder.specs.inside.Compact.{AreLast}
+use Rattle.sixel_encoder.proofs.SegmentSteps.{AreLast-later, AreLast-near, AreLast-new, grown}
+use Rattle.sixel_encoder.proofs.SegmentSteps.{is_near, near-own, new_segment}
+
+-- a run of pixels of an entry
+abbrev pub run_of : ℕ → ℕ → ℕ → Segment
+run_of entry first end = record { entry = entry; first = first; end = end }
+
+-- a segment with these parts is this one
+pub run-made : (run : Segment) (entry first end : ℕ) → run.entry ≡ entry → run.first ≡ first
+    → run.end ≡ end → run ≡ run_of entry first end
+run-made run entry first end a b c =
+    ap (λ x. run_of x run.first run.end) a
+    ∙ (ap (λ x. run_of entry x run.end) b ∙ ap (run_of entry first) c)
+
+-- a segment up to the end of a run
+abbrev pub longer : Segment → Segment → Segment
+longer run segment = record { entry = segment.entry; first = segment.first; end = run.end }
+
+-- a run of one pixel
+pub run-pixel : (gap column entry : ℕ) (segments : List Segment)
+    → with_run gap (run_of entry column (column + 1)) segments
+    ≡ with_pixel gap column entry segments
+run-pixel gap column entry [] = refl
+run-pixel gap column entry (segment ∷ segments) =
+    ap (λ r. cond (is_near gap column entry segment) (grown column segment ∷ segments)
+    (segment ∷ r)) (run-pixel gap column entry segments)
+
+-- a segment that is not near a column is not near a later one
+far-later : (gap first end entry : ℕ) (segment : Segment) → first ≤ end
+    → is_near gap first entry segment ≡ false → is_near gap end entry segment ≡ false
+far-later gap first end entry segment l far = grind (arith, nat_tests)
+
+-- a run of one pixel more
+run-more : (gap first end entry : ℕ) (segments : List Segment) → 0 < gap → first ≤ end
+    → with_pixel gap end entry (with_run gap (run_of entry first end) segments)
+    ≡ with_run gap (run_of entry first (end + 1)) segments
+run-more gap first end entry [] some l =
+    ap (λ t. cond t (run_of entry first (end + 1) ∷ [])
+    (run_of entry first end ∷ new_segment end entry ∷ []))
+    (near-own gap end entry (run_of entry first end) refl (omega arith))
+run-more gap first end entry (segment ∷ segments) some l =
+    go (is_near gap first entry segment) refl (run-more gap first end entry segments some l)
+  where
+    go : (b : Bool) → is_near gap first entry segment ≡ b
+        → with_pixel gap end entry (with_run gap (run_of entry first end) segments)
+        ≡ with_run gap (run_of entry first (end + 1)) segments
+        → with_pixel gap end entry
+        (cond b (longer (run_of entry first end) segment ∷ segments)
+        (segment ∷ with_run gap (run_of entry first end) segments))
+        ≡ cond b (longer (run_of entry first (end + 1)) segment ∷ segments)
+        (segment ∷ with_run gap (run_of entry first (end + 1)) segments)
+    go true near rest =
+        let same : segment.entry ≡ entry = grind (arith, nat_tests) in
+        let last : Segment = longer (run_of entry first end) segment in
+        ap (λ t. cond t (grown end last ∷ segments) (last ∷ with_pixel gap end entry segments))
+        (near-own gap end entry last same (omega arith))
+    go false far rest =
+        ap (λ t. cond t
+        (grown end segment ∷ with_run gap (run_of entry first end) segments)
+        (segment ∷ with_pixel gap end entry (with_run gap (run_of entry first end) segments)))
+        (far-later gap first end entry segment l far)
+        ∙ ap (λ s. segment ∷ s) rest
+
+-- ---- the segment that a run joins
+
+-- the first segment that is near goes on
+pub run-near : (gap : ℕ) (run : Segment) (segments : List Segment) (k : ℕ) (near : Segment)
+    → k < length segments → nth segments k ≡ near
+    → ((j : ℕ) → j < k → is_near gap run.first run.entry (nth segments j) ≡ false)
+    → is_near gap run.first run.entry near ≡ true
+    → with_run gap run segments ≡ set segments k (longer run near)
+run-near gap run [] k near l at before is = absurd (omega arith)
+run-near gap run (segment ∷ segments) zero near l at before is =
+    ap (λ t. cond t (longer run segment ∷ segments) (segment ∷ with_run gap run segments))
+    (ap (is_near gap run.first run.entry) at ∙ is)
+    ∙ ap (λ s. longer run s ∷ segments) at
+run-near gap run (segment ∷ segments) (suc k) near l at before is =
+    ap (λ t. cond t (longer run segment ∷ segments) (segment ∷ with_run gap run segments))
+    (before 0 (omega arith))
+    ∙ ap (λ r. segment ∷ r)
+    (run-near gap run segments k near (omega arith) at (λ j lj. before (suc j) (omega arith)) is)
+
+-- if none is near the run is a new one
+pub run-new : (gap : ℕ) (run : Segment) (segments : List Segment)
+    → ((j : ℕ) → j < length segments
+    → is_near gap run.first run.entry (nth segments j) ≡ false)
+    → with_run gap run segments ≡ segments ++ run ∷ []
+run-new gap run [] none = refl
+run-new gap run (segment ∷ segments) none =
+    ap (λ t. cond t (longer run segment ∷ segments) (segment ∷ with_run gap run segments))
+    (none 0 (omega arith))
+    ∙ ap (λ r. segment ∷ r) (run-new gap run segments (λ j l. none (suc j) (omega arith)))
+
+-- an entry's last segment goes on
+pub AreLast-longer : (segments : List Segment) (last : List (Option ℕ)) (gap k : ℕ)
+    (run near : Segment) → run.first < run.end → AreLast segments last gap run.first
+    → slice_index_or last run.entry None ≡ Some k → nth segments k ≡ near
+    → AreLast (set segments k (longer run near)) last gap (run.end - 1)
+AreLast-longer segments last gap k run near some are is at =
+    let e : run.end - 1 + 1 ≡ run.end = omega arith in
+    let same : grown (run.end - 1) near ≡ longer run near =
+    ap (λ n. run_of near.entry near.first n) e in
+    rw same at (AreLast-near segments last gap (run.end - 1) run.entry k near
+    (AreLast-later segments last gap run.first (run.end - 1) (omega arith) are) is at)
+
+-- an entry begins a segment with a run
+pub AreLast-run : (segments : List Segment) (last : List (Option ℕ)) (gap : ℕ) (run : Segment)
+    → run.first < run.end → AreLast segments last gap run.first → run.entry < length last
+    → ((j : ℕ) → j < length segments
+    → is_near gap run.first run.entry (nth segments j) ≡ false)
+    → AreLast (segments ++ run ∷ []) (set last run.entry (Some (length segments))) gap
+    (run.end - 1)
+AreLast-run segments last gap run some are inside none =
+    AreLast-new segments last gap (run.end - 1) run.entry run refl (omega arith)
+    (AreLast-later segments last gap run.first (run.end - 1) (omega arith) are) inside
+    (λ j l. far-later gap run.first (run.end - 1) run.entry (nth segments j) (omega arith)
+    (none j l))
+
+-- ---- the columns of a band
+
+-- an image with a column has a gap
+pub gap-positive : (drawing : Drawing) → 0 < drawing.width → 0 < gap_of drawing
+gap-positive drawing wide =
+    (elim (nat_le (length drawing.colors) 24) as (λ b. 0 < cond b drawing.width 10) [
+      | true ↦ wide
+      | false ↦ omega arith
+    ])
+
+-- the pixels of a column all have this entry, or none
+abbrev pub IsColumn : Drawing → ℕ → ℕ → Option ℕ → Type 0
+IsColumn drawing band column place =
+    (bit : ℕ) → bit < 6 → entry_at drawing column (6 * band + bit) ≡ place
+
+-- the column after this one
+next-column : (drawing : Drawing) (band column : ℕ)
+    → segments_up_to drawing band (6 * column + (5 + 1))
+    ≡ segments_up_to drawing band (6 * (column + 1))
+next-column drawing band column =
+    let e : 6 * column + (5 + 1) ≡ 6 * (column + 1) = omega arith in
+    ap (segments_up_to drawing band) e
+
+-- the first pixel of a column
+first-pixel : (drawing : Drawing) (band column : ℕ)
+    → segments_up_to drawing band (6 * column) ≡ segments_up_to drawing band (6 * column + 0)
+first-pixel drawing band column =
+    let e : 6 * column ≡ 6 * column + 0 = omega arith in ap (segments_up_to drawing band) e
+
+-- one column of an entry
+column-pixel : (drawing : Drawing) (band column entry : ℕ)
+    → IsColumn drawing band column (Some entry)
+    → with_pixel (gap_of drawing) column entry (segments_up_to drawing band (6 * column))
+    ≡ segments_up_to drawing band (6 * (column + 1))
+column-pixel drawing band column entry is =
+    let new = with_pixel (gap_of drawing) column entry (segments_up_to drawing band (6 * column)) in
+    segment-uniform drawing band column new
+    (segment-pixel drawing band column 0 (gap_of drawing) entry
+    (segments_up_to drawing band (6 * column)) new (omega arith) refl
+    (first-pixel drawing band column) (is 0 (omega arith)) refl)
+    (λ bit l. is bit l ∙ sym (is 0 (omega arith))) 5 (omega arith)
+    ∙ next-column drawing band column
+
+-- one transparent column
+column-none : (drawing : Drawing) (band column : ℕ) → IsColumn drawing band column None
+    → segments_up_to drawing band (6 * column) ≡ segments_up_to drawing band (6 * (column + 1))
+column-none drawing band column is =
+    let items = segments_up_to drawing band (6 * column) in
+    segment-uniform drawing band column items
+    (segment-skip drawing band column 0 items (omega arith) (first-pixel drawing band column)
+    (is 0 (omega arith)))
+    (λ bit l. is bit l ∙ sym (is 0 (omega arith))) 5 (omega arith)
+    ∙ next-column drawing band column
+
+-- columns of an entry
+columns-run : (drawing : Drawing) (band first entry n : ℕ) → 0 < gap_of drawing
+    → ((k : ℕ) → k < n + 1 → IsColumn drawing band (first + k) (Some entry))
+    → with_run (gap_of drawing) (run_of entry first (first + (n + 1)))
+    (segments_up_to drawing band (6 * first))
+    ≡ segments_up_to drawing band (6 * (first + (n + 1)))
+columns-run drawing band first entry zero some is =
+    let start = segments_up_to drawing band (6 * first) in
+    let e : first + (zero + 1) ≡ first + 1 = omega arith in
+    let at : first + 0 ≡ first = omega arith in
+    ap (λ end. with_run (gap_of drawing) (run_of entry first end) start) e
+    ∙ (run-pixel (gap_of drawing) first entry start
+    ∙ (column-pixel drawing band first entry (rw at at (is 0 (omega arith)))
+    ∙ ap (λ c. segments_up_to drawing band (6 * c)) (sym e)))
+columns-run drawing band first entry (suc n) some is =
+    let gap = gap_of drawing in
+    let start = segments_up_to drawing band (6 * first) in
+    let column : ℕ = first + (n + 1) in
+    let e : first + (suc n + 1) ≡ column + 1 = omega arith in
+    ap (λ end. with_run gap (run_of entry first end) start) e
+    ∙ (sym (run-more gap first column entry start some (omega arith))
+    ∙ (ap (with_pixel gap column entry)
+    (columns-run drawing band first entry n some (λ k l. is k (omega arith)))
+    ∙ (column-pixel drawing band column entry (is (n + 1) (omega arith))
+    ∙ ap (λ c. segments_up_to drawing band (6 * c)) (sym e))))
+
+-- transparent columns
+columns-none : (drawing : Drawing) (band first n : ℕ)
+    → ((k : ℕ) → k < n → IsColumn drawing band (first + k) None)
+    → segments_up_to drawing band (6 * first) ≡ segments_up_to drawing band (6 * (first + n))
+columns-none drawing band first zero is =
+    let e : first ≡ first + zero = omega arith in
+    ap (λ c. segments_up_to drawing band (6 * c)) e
+columns-none drawing band first (suc n) is =
+    let e : first + n + 1 ≡ first + suc n = omega arith in
+    columns-none drawing band first n (λ k l. is k (omega arith))
+    ∙ (column-none drawing band (first + n) (is n (omega arith))
+    ∙ ap (λ c. segments_up_to drawing band (6 * c)) e)
+
+-- the segments after columns that are like the first, whose pixels are all alike
+pub columns-whole : (drawing : Drawing) (band first end gap lane : ℕ) (items new : List Segment)
+    → first < end → first < drawing.width → gap ≡ gap_of drawing
+    → items ≡ segments_up_to drawing band (6 * first)
+    → ((bit : ℕ) → bit < 6 → entry_at drawing first (6 * band + bit)
+    ≡ entry_at drawing first (6 * band + 0))
+    → ((k bit : ℕ) → first ≤ k → k < end → bit < 6 → entry_at drawing k (6 * band + bit)
+    ≡ entry_at drawing first (6 * band + bit))
+    → entry_at drawing first (6 * band + 0) ≡ Some lane
+    → new ≡ with_run gap (run_of lane first end) items
+    → new ≡ segments_up_to drawing band (6 * end)
+columns-whole drawing band first end gap lane items new some wide is was alike same at pushed =
+    let n : ℕ = end - first - 1 in
+    let e : first + (n + 1) ≡ end = omega arith in
+    pushed
+    ∙ (ap (λ g. with_run g (run_of lane first end) items) is
+    ∙ (ap (with_run (gap_of drawing) (run_of lane first end)) was
+    ∙ rw e at (columns-run drawing band first lane n (gap-positive drawing (omega arith))
+    (λ k l bit lb. same (first + k) bit (omega arith) (omega arith) lb ∙ (alike bit lb ∙ at)))))
+
+-- and after transparent ones
+pub columns-blank : (drawing : Drawing) (band first end : ℕ) (items : List Segment)
+    → first < end → items ≡ segments_up_to drawing band (6 * first)
+    → ((bit : ℕ) → bit < 6 → entry_at drawing first (6 * band + bit)
+    ≡ entry_at drawing first (6 * band + 0))
+    → ((k bit : ℕ) → first ≤ k → k < end → bit < 6 → entry_at drawing k (6 * band + bit)
+    ≡ entry_at drawing first (6 * band + bit))
+    → entry_at drawing first (6 * band + 0) ≡ None
+    → items ≡ segments_up_to drawing band (6 * end)
+columns-blank drawing band first end items some was alike same at =
+    let n : ℕ = end - first in
+    let e : first + n ≡ end = omega arith in
+    was
+    ∙ rw e at (columns-none drawing band first n
+    (λ k l bit lb. same (first + k) bit (omega arith) (omega arith) lb ∙ (alike bit lb ∙ at)))

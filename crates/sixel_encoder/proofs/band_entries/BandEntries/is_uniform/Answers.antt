@@ -1,0 +1,18 @@
+use Rattle.std.proofs.Common.{List, ap, arith, ℕ, ◌*◌, ◌+◌, ◌%◌, ◌∙◌, ◌≡◌}
+use Rattle.std.specs.Prelude.{slice_index, ◌==◌}
+use Rattle.std.proofs.lemmas.Bool.Decides.{nat_tests}
+use Rattle.sixel_encoder.specs.Text.{mask}
+use Rattle.sixel_encoder.proofs.ColumnLanes.{uniform-lanes}
+use Rattle.sixel_encoder.proofs.band_entries.BandEntries.is_uniform.Goals as goal
+
+pub returns : goal.returns
+returns c = λ all bit lb.
+    let all_set : c.equal_lanes.result % 64 ≡ 63 = grind (arith, nat_tests) in
+    uniform-lanes c.args.self.now c.args.column c.lane-first.result c.equal_lanes.result
+    c.requires.entries c.requires.column c.lane-first.ensures
+    (c.equal_lanes.ensures
+    ∙ ap
+    (λ (lanes : List ℕ).
+    mask (λ bit. slice_index lanes (8 * c.args.column + bit) == c.lane-first.result) 8)
+    c.deref.ensures.value)
+    all_set bit lb
