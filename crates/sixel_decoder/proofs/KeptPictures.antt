@@ -34,7 +34,7 @@ use Rattle.sixel_decoder.proofs.TokenFaults.{all_data, fault_found, fault_named,
 use Rattle.sixel_decoder.proofs.TokenFaults.{never_memory}
 use Rattle.sixel_decoder.proofs.PartialPictures.{part_after, part_closed}
 
-both_right : (a b : Bool) → a && b ≡ true → b ≡ true
+pub both_right : (a b : Bool) → a && b ≡ true → b ≡ true
 both_right true b is = is
 both_right false b is = absurd (cc is)
 

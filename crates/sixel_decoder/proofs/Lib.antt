@@ -18,9 +18,11 @@ pub mod Terminators
 pub mod DcsEnds
 pub mod DcsChunks
 pub mod DcsPayloads
+pub mod DcsRejections
 pub mod Finality
 pub mod FinalRows
 pub mod Sessions
+pub mod DcsPartialPictures
 pub mod Lanes
 pub mod SixelRuns
 pub mod PaintedRuns

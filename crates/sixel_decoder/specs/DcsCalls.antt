@@ -29,6 +29,8 @@ begun decoder = record {
   room = 0;
   paints = 0;
   released = 0;
+  keeps_partial = false;
+  has_partial = false;
 }
 
 -- The session reads the chunk as far as the DCS sequence goes, or rejects it.

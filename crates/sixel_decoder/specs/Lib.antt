@@ -1,5 +1,6 @@
 pub mod CopiedImage
 pub mod DcsCalls
+pub mod DcsPartialCalls
 pub mod FinalRows
 pub mod OneShotCalls
 pub mod Paints

@@ -21,7 +21,7 @@ pub record Session : Type 0 where
 
 -- What contracts see of a session that decodes one DCS sequence in chunks: the decoder that it
 -- began from, the bytes fed, whether a feed was rejected, and the same numbers for the canvas of
--- its payload.
+-- its payload; whether it keeps the picture of the tokens before a fault, and whether it has one.
 pub record DcsSession : Type 0 where
   pub decoder : DecoderState
   pub bytes : List ℕ
@@ -30,3 +30,5 @@ pub record DcsSession : Type 0 where
   pub room : ℕ
   pub paints : ℕ
   pub released : ℕ
+  pub keeps_partial : Bool
+  pub has_partial : Bool

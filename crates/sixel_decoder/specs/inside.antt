@@ -10,5 +10,6 @@ pub mod Partial
 pub mod Header
 pub mod DcsParser
 pub mod DcsReader
+pub mod DcsRejection
 pub mod Runs
 pub mod Sizes

@@ -1,14 +1,15 @@
 //! The parser of a DCS sequence: introducer, header, payload and end.
 
 ghost use Rattle.std.specs.Prelude.{◌≡◌, ◌≤◌, ◌++◌, ◌+◌, ◌∷◌, [], true, false, List, ℕ, length};
-ghost use Rattle.std.specs.Prelude.{None, Option, IfOk, OnOk, MatchResult};
+ghost use Rattle.std.specs.Prelude.{None, Option, IfOk, IfErr, OnOk, OnErr, MatchResult};
 ghost use Rattle.sixel_base.specs.declared.state.DecoderState.{DecoderState};
 ghost use Rattle.sixel_base.specs.Fault.{IsFault, DcsStreamFailed};
 ghost use Rattle.sixel_decoder.specs.declared.dcs_parser.DcsState.TheVariants.{Start, Payload};
-ghost use Rattle.sixel_decoder.specs.declared.dcs_parser.DcsState.TheVariants.{Failed};
 ghost use Rattle.sixel_decoder.specs.inside.DcsParser.{HasFollowed, IsInPayload};
 ghost use Rattle.sixel_decoder.specs.inside.DcsParser.{is_head, is_failed, StepsInto};
 ghost use Rattle.sixel_decoder.specs.inside.DcsParser.{Heads, Follows};
+ghost use Rattle.sixel_decoder.specs.inside.DcsRejection.{IsKeeping, IsStopped, Stops};
+ghost use Rattle.sixel_decoder.specs.inside.DcsRejection.{rejected_state, with_setting};
 ghost use Rattle.sixel_decoder.specs.inside.DcsReader.{released_of};
 
 use crate::bytes::tail;
@@ -20,37 +21,49 @@ use sixel_base::status::{SixelDcsFeedResult, SixelDcsFeedStatus, SixelFeedStatus
 use sixel_base::{Result, SixelError};
 use sixel_canvas::drawing::Canvas;
 use std::alloc::Global;
+use std::mem;
 
-/// How far a DCS sequence was read.
+/// How far a DCS sequence was read, or what is left after an error.
 #[derive(Drop)]
 pub enum DcsState<C: Canvas + Drop> {
     Start,
     Escape,
     Header(Header),
     Payload(PayloadReader<C>),
+    Rejected(PayloadReader<C>),
     Failed,
 }
 
 impl<C: Canvas + Drop> DcsState<C> {
     /// Whether the payload has not begun.
+    #[inline(always)]
     fn is_head(&self) -> bool
         ensures { result ≡ is_head self.now }
     {
         match self {
             DcsState::Start | DcsState::Escape | DcsState::Header(_) => true,
-            DcsState::Payload(_) | DcsState::Failed => false,
+            DcsState::Payload(_) | DcsState::Rejected(_) | DcsState::Failed => false,
         }
     }
 
-    /// Drops what was read.
+    /// Drops what was read. A payload that has a picture stays.
     ///
     /// Out of line: inlined, LLVM clears the moved value on every feed.
     #[cold]
     #[inline(never)]
     pub fn fail(&mut self)
-        ensures { self.new ≡ Failed }
+        ensures { self.new ≡ rejected_state self.old }
     {
-        *self = DcsState::Failed;
+        let state = mem::replace(self, DcsState::Failed);
+        match state {
+            DcsState::Payload(reader) => {
+                if reader.has_partial() {
+                    *self = DcsState::Rejected(reader);
+                }
+            }
+            DcsState::Rejected(reader) => *self = DcsState::Rejected(reader),
+            DcsState::Start | DcsState::Escape | DcsState::Header(_) | DcsState::Failed => {}
+        }
     }
 }
 
@@ -61,6 +74,7 @@ pub struct DcsParser<C: Canvas + Drop> {
     pub ended: Option<SixelDcsFeedStatus>,
     pub alloc: Global,
     pub decoder: DecoderState,
+    pub keeps_partial: bool,
 }
 
 impl<C: Canvas + Drop> DcsParser<C> {
@@ -69,12 +83,27 @@ impl<C: Canvas + Drop> DcsParser<C> {
         ensures state { result.state ≡ Start }
         ensures ended { result.ended ≡ None }
         ensures decoder { result.decoder ≡ decoder }
+        ensures setting { result.keeps_partial ≡ false }
     {
         DcsParser {
             state: DcsState::Start,
             ended: None,
             alloc,
             decoder,
+            keeps_partial: false,
+        }
+    }
+
+    /// Sets whether a fault of the payload leaves the image of the tokens before it.
+    pub fn set_keep_partial(&mut self, on: bool)
+        ensures { self.new ≡ record self.old {
+          state = with_setting self.old.state on;
+          keeps_partial = on;
+        } }
+    {
+        self.keeps_partial = on;
+        if let DcsState::Payload(reader) = &mut self.state {
+            reader.set_keep_partial(on);
         }
     }
 
@@ -89,11 +118,22 @@ impl<C: Canvas + Drop> DcsParser<C> {
             → Follows result self.new.state self.old.decoder self.new.ended before chunk.now }
         ensures released { OnOk result
             (released_of self.new.state ≡ released_of self.old.state) }
+        ensures left { is_failed self.old.state ≡ true → self.new.state ≡ self.old.state }
+        ensures setting { self.new.keeps_partial ≡ self.old.keeps_partial }
+        ensures keeps { IsKeeping self.old.state self.old.keeps_partial
+            → IsKeeping self.new.state self.old.keeps_partial }
+        ensures stops { (before : List ℕ) → is_failed self.old.state ≡ false
+            → HasFollowed self.old.state self.old.decoder self.old.ended before
+            → IsKeeping self.old.state self.old.keeps_partial
+            → Stops result self.new.state self.old.decoder self.old.keeps_partial
+            (before ++ chunk.now) }
     {
+        if self.state.is_head() {
+            return self.read_beginning(chunk);
+        }
         match &mut self.state {
-            DcsState::Failed => Err(SixelError::dcs_stream_failed()),
             DcsState::Payload(reader) => read_payload(reader, &mut self.ended, chunk),
-            DcsState::Start | DcsState::Escape | DcsState::Header(_) => self.read_beginning(chunk),
+            _ => Err(SixelError::dcs_stream_failed()),
         }
     }
 
@@ -105,6 +145,13 @@ impl<C: Canvas + Drop> DcsParser<C> {
             → Follows result self.new.state self.old.decoder self.new.ended before chunk.now }
         ensures released { OnOk result
             (released_of self.new.state ≡ released_of self.old.state) }
+        ensures setting { self.new.keeps_partial ≡ self.old.keeps_partial }
+        ensures keeps { is_head self.old.state ≡ true
+            → IsKeeping self.new.state self.old.keeps_partial }
+        ensures stops { (before : List ℕ) → is_head self.old.state ≡ true
+            → HasFollowed self.old.state self.old.decoder self.old.ended before
+            → Stops result self.new.state self.old.decoder self.old.keeps_partial
+            (before ++ chunk.now) }
     {
         let start = self.read_head(chunk)?;
         match &mut self.state {
@@ -132,6 +179,10 @@ impl<C: Canvas + Drop> DcsParser<C> {
             → Heads result self.new.state self.old.decoder self.new.ended before chunk.now }
         ensures released { OnOk result
             (released_of self.new.state ≡ released_of self.old.state) }
+        ensures setting { self.new.keeps_partial ≡ self.old.keeps_partial }
+        ensures keeps { IsKeeping self.old.state self.old.keeps_partial
+            → IsKeeping self.new.state self.old.keeps_partial }
+        ensures head { OnErr result (is_head self.new.state ≡ true) }
     {
         'head: for (index, byte) in chunk.iter().enumerate() {
             if !self.state.is_head() {
@@ -152,6 +203,10 @@ impl<C: Canvas + Drop> DcsParser<C> {
             (before ++ byte ∷ []) }
         ensures released { OnOk result
             (released_of self.new.state ≡ released_of self.old.state) }
+        ensures setting { self.new.keeps_partial ≡ self.old.keeps_partial }
+        ensures keeps { IsKeeping self.old.state self.old.keeps_partial
+            → IsKeeping self.new.state self.old.keeps_partial }
+        ensures head { OnErr result (is_head self.new.state ≡ true) }
     {
         match &mut self.state {
             DcsState::Start => match byte {
@@ -175,13 +230,14 @@ impl<C: Canvas + Drop> DcsParser<C> {
             DcsState::Header(header) => match header.push(byte) {
                 Ok(None) => Ok(()),
                 Ok(Some(settings)) => {
-                    let reader = PayloadReader::new(self.alloc, self.decoder, settings);
+                    let mut reader = PayloadReader::new(self.alloc, self.decoder, settings);
+                    reader.set_keep_partial(self.keeps_partial);
                     self.state = DcsState::Payload(reader);
                     Ok(())
                 }
                 Err(error) => Err(error),
             },
-            DcsState::Payload(_) | DcsState::Failed => Ok(()),
+            DcsState::Payload(_) | DcsState::Rejected(_) | DcsState::Failed => Ok(()),
         }
     }
 }
@@ -198,6 +254,11 @@ fn read_payload<C: Canvas + Drop>(
         → IsInPayload reader.old decoder ended.old before
         → Follows {C = C} result (Payload reader.new) decoder ended.new before chunk.now }
     ensures released { OnOk result (reader.new.released ≡ reader.old.released) }
+    ensures setting { reader.new.keeps_partial ≡ reader.old.keeps_partial }
+    ensures stops { (decoder : DecoderState) (before : List ℕ)
+        → IsInPayload reader.old decoder ended.old before
+        → IfErr result (λ error. IsStopped reader.new decoder reader.old.keeps_partial
+        (before ++ chunk.now) error) }
 {
     let fed = reader.feed(chunk)?;
     match fed.status {

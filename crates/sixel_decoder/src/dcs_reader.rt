@@ -8,9 +8,11 @@ ghost use Rattle.sixel_decoder.specs.DcsCalls.{begun, IsFed, IsFinished, IsSizeS
 ghost use Rattle.sixel_decoder.specs.DcsCalls.{IsDrawnHeight};
 ghost use Rattle.sixel_decoder.specs.DcsCalls.{IsWriteCount, IsPaintCount, IsBandPaintCount};
 ghost use Rattle.sixel_decoder.specs.DcsCalls.{IsBandWriteCount};
+ghost use Rattle.sixel_decoder.specs.DcsPartialCalls.{KeepsPartial};
 ghost use Rattle.sixel_decoder.specs.PictureView.{picture_value};
 
 mod final_rows;
+mod partial;
 
 use crate::dcs_parser::{DcsParser, DcsState};
 use crate::decoded_payload::DecodedPayload;
@@ -56,7 +58,8 @@ impl<C: Canvas + Drop> DcsReader<C> {
 
     /// Reads a chunk as far as the DCS sequence goes. After an error every feed fails.
     pub fn feed(&mut self, chunk: &[u8]) -> Result<SixelDcsFeedResult>
-        ensures { IsFed self.old self.new chunk.now result }
+        ensures fed { IsFed self.old self.new chunk.now result }
+        ensures partial { KeepsPartial self.old self.new result }
     {
         self.log.extend(chunk);
         match self.parser.feed(chunk) {
@@ -82,7 +85,7 @@ impl<C: Canvas + Drop> DcsReader<C> {
     {
         match &self.parser.state {
             DcsState::Payload(reader) => reader.size_so_far(),
-            DcsState::Start | DcsState::Escape | DcsState::Header(_) | DcsState::Failed => None,
+            _ => None,
         }
     }
 
@@ -92,7 +95,7 @@ impl<C: Canvas + Drop> DcsReader<C> {
     {
         match &self.parser.state {
             DcsState::Payload(reader) => reader.drawn_height(),
-            DcsState::Start | DcsState::Escape | DcsState::Header(_) | DcsState::Failed => 0,
+            _ => 0,
         }
     }
 
@@ -103,7 +106,7 @@ impl<C: Canvas + Drop> DcsReader<C> {
         let DcsReader { parser, .. } = self;
         let DcsParser { state, ended, .. } = parser;
         match state {
-            DcsState::Failed => Err(SixelError::dcs_stream_failed()),
+            DcsState::Rejected(_) | DcsState::Failed => Err(SixelError::dcs_stream_failed()),
             DcsState::Payload(reader) => {
                 if has_come(ended) {
                     reader.finish()

@@ -111,6 +111,13 @@ impl<C: Canvas + Drop> PayloadReader<C> {
         self.keeps_partial = on;
     }
 
+    /// Whether a feed has failed and left the image of the tokens before its fault.
+    pub fn has_partial(&self) -> bool
+        ensures { result ≡ self.now.has_partial }
+    {
+        matches!(self.state, PayloadState::Failed(Some(_)))
+    }
+
     /// Reads a chunk up to the first terminator of all chunks.
     ///
     /// After an error every feed fails.

@@ -25,7 +25,7 @@ impl<C: Canvas + Drop> DcsReader<C> {
     {
         match &self.parser.state {
             DcsState::Payload(reader) => reader.rows_so_far(),
-            DcsState::Start | DcsState::Escape | DcsState::Header(_) | DcsState::Failed => 0,
+            _ => 0,
         }
     }
 
@@ -36,7 +36,7 @@ impl<C: Canvas + Drop> DcsReader<C> {
             (end_fault (dcs_status self.now.bytes))) result }
     {
         match &self.parser.state {
-            DcsState::Failed => Err(SixelError::dcs_stream_failed()),
+            DcsState::Rejected(_) | DcsState::Failed => Err(SixelError::dcs_stream_failed()),
             DcsState::Payload(reader) => {
                 if has_come(self.parser.ended) {
                     reader.end_height()
@@ -75,7 +75,7 @@ impl DcsReader<BandCanvas> {
     {
         match &self.parser.state {
             DcsState::Payload(reader) => reader.released_rows(),
-            DcsState::Start | DcsState::Escape | DcsState::Header(_) | DcsState::Failed => 0,
+            _ => 0,
         }
     }
 
@@ -110,7 +110,7 @@ impl DcsReader<BandCanvas> {
         let DcsReader { parser, .. } = self;
         let DcsParser { state, ended, .. } = parser;
         match state {
-            DcsState::Failed => Err(SixelError::dcs_stream_failed()),
+            DcsState::Rejected(_) | DcsState::Failed => Err(SixelError::dcs_stream_failed()),
             DcsState::Payload(reader) => {
                 if has_come(ended) {
                     reader.finish_into(first, rows, layout, out)

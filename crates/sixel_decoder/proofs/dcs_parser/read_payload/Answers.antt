@@ -1,4 +1,4 @@
-use Rattle.std.proofs.Common.{◌≡◌, ◌+◌, ◌++◌, List, ℕ, Some, None, sym, ap, ◌∙◌}
+use Rattle.std.proofs.Common.{◌≡◌, ◌+◌, ◌++◌, List, ℕ, Some, None, Err, refl, sym, ap, ◌∙◌}
 use Rattle.std.specs.Prelude.{nat_lt}
 use Rattle.std.proofs.lemmas.Result.{err_from_is_err_and}
 use Rattle.sixel_base.specs.Bytes.{count, first_terminator}
@@ -6,6 +6,7 @@ use Rattle.sixel_base.specs.Fault.{Faults}
 use Rattle.sixel_base.specs.Payload.{fed_fault, settled, growths}
 use Rattle.sixel_decoder.proofs.DcsEnds.{goes_open, ended_at, terminated_by, waiting_by}
 use Rattle.sixel_decoder.proofs.DcsChunks.{payload_follows, payload_refuses}
+use Rattle.sixel_decoder.proofs.DcsRejections.{payload_stopped}
 use Rattle.sixel_decoder.proofs.dcs_parser.read_payload.Goals as goal
 
 pub returns-in_err-fed-clause-follows : goal.returns-in_err-fed-clause-follows
@@ -55,3 +56,11 @@ returns-in-Terminated-clause-follows g c = λ decoder before is.
     (Some c.end_now-end.result.status) before piece _ _ is
     now.origin now.bytes now.ok.1 now.faultless goes
     (ap Some goes.1 ∙ sym (ended_at (payload ++ piece) t some))
+
+pub returns-in_err-fed-clause-stops : goal.returns-in_err-fed-clause-stops
+returns-in_err-fed-clause-stops g c = λ decoder before is.
+    let e = c.in_err-fed.field-0.0 in
+    let p = err_from_is_err_and c.from_residual.result c.from_residual.ensures.1 in
+    rw (p.1, p.2)
+    (payload_stopped e c.args.reader.now c.feed.new.self decoder c.args.ended.now before
+    c.args.chunk.now (Err e) refl is c.in_err-fed.ensures.fed c.in_err-fed.ensures.partial)

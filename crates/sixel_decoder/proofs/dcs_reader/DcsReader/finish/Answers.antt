@@ -1,4 +1,4 @@
-use Rattle.std.proofs.Common.{◌≡◌, ◌*◌, ◌≤◌, ℕ, List, Bool, true, false, ap, subst, sym, ◌∙◌, rules}
+use Rattle.std.proofs.Common.{◌≡◌, ◌*◌, ◌≤◌, ℕ, List, Bool, true, false, ap, subst, sym, ◌∙◌}
 use Rattle.std.specs.Prelude.{IfOk, OnOk}
 use Rattle.std.proofs.lemmas.Result.{on_ok_weaker}
 use Rattle.sixel_base.specs.Dcs.{dcs_status, has_come, has_ended}
@@ -8,7 +8,6 @@ use Rattle.sixel_base.specs.Payload.{payload_fault}
 use Rattle.sixel_base.specs.Stroke.{Origin}
 use Rattle.sixel_decoder.specs.inside.DcsParser.{HasFollowed, IsInPayload}
 use Rattle.sixel_decoder.specs.declared.dcs_parser.DcsState.{DcsState}
-use Rattle.sixel_decoder.proofs.FoundPayloads.{Faults-named}
 use Rattle.sixel_decoder.proofs.DcsPayloads.{found_image, found_reading, found_registers}
 use Rattle.sixel_decoder.proofs.Sessions.{string_decoded, string_ended, string_image}
 use Rattle.sixel_decoder.proofs.Sessions.{string_refused_at_end, string_registers}
@@ -23,7 +22,7 @@ returns-then-has_come g c =
     let bytes : List ℕ = inside.log.bytes in
     let is : IsInPayload reader inside.parser.decoder inside.parser.ended bytes =
     subst (λ (p : DcsState _). HasFollowed p inside.parser.decoder inside.parser.ended bytes)
-    c.in-Payload.is c.self.invariant in
+    c.in-Payload.is c.self.invariant.0 in
     let come : has_come inside.parser.ended ≡ true =
     sym c.has_come.ensures ∙ c.if-has_come.true in
     let limit : Limit = inside.parser.decoder.pixel_limit in
@@ -54,31 +53,4 @@ returns-then-has_come g c =
       ended = rw (← c.self.view_is) (on_ok_weaker result (λ _. over) told.accepted);
       error = rw (← c.self.view_is, c.in-Payload.is)
           (string_refused_at_end result reader _ _ _ is come told.error);
-    }
-
-pub returns-else-has_come : goal.returns-else-has_come
-returns-else-has_come g c =
-    let inside = c.self.inside in
-    let reader = c.in-Payload.reader in
-    let bytes : List ℕ = inside.log.bytes in
-    let is : IsInPayload reader inside.parser.decoder inside.parser.ended bytes =
-    subst (λ (p : DcsState _). HasFollowed p inside.parser.decoder inside.parser.ended bytes)
-    c.in-Payload.is c.self.invariant in
-    let waits : has_ended (dcs_status bytes) ≡ false =
-    string_ended reader inside.parser.decoder inside.parser.ended bytes is
-    ∙ (sym c.has_come.ensures ∙ c.if-has_come.false) in
-    record {
-      image = search rules;
-      registers = search rules;
-      found_image = search rules;
-      found_registers = search rules;
-      as_decoded = search rules;
-      area = search rules;
-      pixels = search rules;
-      faultless = search rules;
-      accepted = search rules;
-      whole = search rules;
-      ended = search rules;
-      error = rw (← c.self.view_is, c.in-Payload.is, waits)
-          (Faults-named c.incomplete.result false _ c.incomplete.ensures);
     }
