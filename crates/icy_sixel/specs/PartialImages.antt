@@ -3,29 +3,26 @@
 use Rattle.std.specs.Prelude.{ℕ, ◌≡◌, ◌*◌, ◌≤◌, List, length, if◌then◌else◌}
 use Rattle.std.specs.Prelude.{Option, Some, None, is_none, Result, IfOk, OnOk, IfErr, OnErr}
 use Rattle.std.specs.Prelude.{MatchOption}
-use Rattle.sixel_base.specs.Bytes.{front}
-use Rattle.sixel_base.specs.Dcs.{dcs_status}
-use Rattle.sixel_base.specs.Dcs as strings
-use Rattle.sixel_base.specs.Decoder.{IsSetAs, origin_of}
-use Rattle.sixel_base.specs.Fault.{Fault, Faults, Names, StreamFailed}
-use Rattle.sixel_base.specs.History.{history_of}
+use Rattle.sixel_base.specs.Dcs.{dcs_in_payload}
+use Rattle.sixel_base.specs.Decoder.{IsSetAs}
+use Rattle.sixel_base.specs.Fault.{Fault, Faults, Incomplete, Names, StreamFailed}
+use Rattle.sixel_base.specs.Limits.{Limit}
 use Rattle.sixel_base.specs.OneShot.{AreFoundRegisters, IsFoundImage}
-use Rattle.sixel_base.specs.OneShot as one_shot
-use Rattle.sixel_base.specs.Partial.{partial_image}
-use Rattle.sixel_base.specs.Payload.{Image}
+use Rattle.sixel_base.specs.Payload.{Image, payload_fault}
 use Rattle.sixel_base.specs.declared.error.SixelError.{SixelError}
 use Rattle.sixel_base.specs.declared.state.DecoderState.{DecoderState}
+use Rattle.sixel_decoder.specs.DcsPartialCalls.{IsPartialFound, string_fault}
 use Rattle.icy_sixel.specs.ImageView.{image_value}
 use Rattle.icy_sixel.specs.Receiver.{Form, Nothing, OfPayload, OfString, Receiver, Reception}
-use Rattle.icy_sixel.specs.Receiver.{end_fault, failed, found, no_image}
+use Rattle.icy_sixel.specs.Receiver.{failed, found, no_image}
 use Rattle.icy_sixel.specs.ReceiverCalls.{StaysOpen}
 use Rattle.icy_sixel.specs.declared.receiver.partial.PartialImage.{PartialImage}
 
--- why bytes that were accepted have no picture: a DCS sequence has one only once it has ended
+-- why bytes that were accepted have no picture: a DCS sequence has one once its payload has begun
 abbrev pub open_fault : Form → List ℕ → Option Fault
 open_fault Nothing bytes = Some StreamFailed
 open_fault (OfPayload settings) bytes = None
-open_fault OfString bytes = strings.end_fault (dcs_status bytes)
+open_fault OfString bytes = if dcs_in_payload bytes then None else Some Incomplete
 
 -- why there is no picture of what was fed: after an error there is one only if it was kept
 abbrev pub picture_fault : Reception → Option Fault
@@ -33,12 +30,16 @@ picture_fault image =
     if image.is_refused then (if image.has_partial then None else Some (failed image.form))
     else open_fault image.form image.bytes
 
--- this is the picture: of a payload that of the tokens before its first fault
+-- this is the picture: that of the tokens before the first fault of the payload
 abbrev pub IsPartialImage : DecoderState → Form → List ℕ → Image → Type 0
-IsPartialImage start Nothing bytes image = ⊥
-IsPartialImage start (OfPayload settings) bytes image =
-    image ≡ partial_image (origin_of start settings) (history_of (front bytes))
-IsPartialImage start OfString bytes image = IsFoundImage start (one_shot.found bytes) image
+IsPartialImage start form bytes image = IsPartialFound start (found form bytes) image
+
+-- what is wrong with an image if no more bytes come: the first fault of its payload, or that its
+-- DCS sequence has not ended
+abbrev pub partial_fault : Limit → Form → List ℕ → Option Fault
+partial_fault limit Nothing bytes = Some StreamFailed
+partial_fault limit (OfPayload settings) bytes = payload_fault limit bytes
+partial_fault limit OfString bytes = string_fault limit bytes
 
 -- The open image ends with this picture, and what is wrong with it is named beside it. An image that
 -- is whole leaves its registers; else the decoder stays.
@@ -49,9 +50,12 @@ pub record IsFinishedPartly (old new : Receiver) (result : Result PartialImage S
   -- the picture is that of the tokens before the first fault
   pub image : IfOk result (λ partial.
       IsPartialImage old.image.start old.image.form old.image.bytes (image_value partial.image))
-  -- the error is the fault of the image
+  -- the error is what is wrong with the image
   pub error : IfOk result (λ partial. Names partial.error
-      (end_fault old.image.start.pixel_limit old.image.form old.image.bytes))
+      (partial_fault old.image.start.pixel_limit old.image.form old.image.bytes))
+  -- without an error the picture is that of decoding the bytes in one call
+  pub whole : IfOk result (λ partial. partial.error ≡ None → IsFoundImage old.image.start
+      (found old.image.form old.image.bytes) (image_value partial.image))
   -- without an error the registers are those that the image leaves; with one the decoder stays
   pub registers : IfOk result (λ partial. MatchOption partial.error
       (AreFoundRegisters old.image.start (found old.image.form old.image.bytes)

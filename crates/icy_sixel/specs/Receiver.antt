@@ -47,19 +47,17 @@ pub record Reception : Type 0 where
   pub keeps_partial : Bool
   pub has_partial : Bool
 
--- a decoder, the image that it is receiving, and whether a payload that is begun keeps the picture of
--- the tokens before a fault
+-- a decoder, the image that it is receiving, and whether an image that is begun keeps the picture
+-- of the tokens before a fault
 pub record Receiver : Type 0 where
   pub decoder : DecoderState
   pub image : Reception
   pub keeps_partial : Bool
 
--- whether an image of this form keeps the picture of the tokens before a fault: a DCS sequence keeps
--- none
+-- whether an image of this form keeps the picture of the tokens before a fault
 abbrev pub keeps : Form → Bool → Bool
 keeps Nothing setting = false
-keeps (OfPayload settings) setting = setting
-keeps OfString setting = false
+keeps form setting = setting
 
 -- if none is open, every call fails
 abbrev pub no_image : Reception

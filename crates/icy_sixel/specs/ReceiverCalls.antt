@@ -1,7 +1,7 @@
 -- What the calls of a receiver do, by the receiver before and after. Each field is one fact. The
 -- facts are those of a payload session or a DCS session, in the words that Receiver has for both.
 use Rattle.std.specs.Prelude.{ℕ, ◌≡◌, ◌+◌, ◌*◌, ◌<◌, ◌≤◌, ◌++◌, List, length, true, false}
-use Rattle.std.specs.Prelude.{nat_lt, Option, Some, None, Result, Ok, Err}
+use Rattle.std.specs.Prelude.{◌&&◌, nat_lt, Option, Some, None, Result, Ok, Err}
 use Rattle.std.specs.Prelude.{OnOk, OnErr, IfOk, IfErr, MatchBool}
 use Rattle.sixel_base.specs.declared.error.SixelError.{SixelError}
 use Rattle.sixel_base.specs.CallFault.{FailsBy, RowsReleased}
@@ -100,11 +100,13 @@ pub record IsFed (old new : Receiver) (chunk : List ℕ)
       (dcs_fault old.image.start.pixel_limit (new.image.bytes ++ more))
 
 -- What a feed leaves of a rejected image: the setting that it began with stays, and a fault of the
--- data leaves the picture of the tokens before it, for good.
+-- payload leaves the picture of the tokens before it, for good.
 pub record KeepsPartial (old new : Reception) (result : Result Received SixelError)
     : Type 0 where
   pub setting : new.keeps_partial ≡ old.keeps_partial
-  pub first : old.is_refused ≡ false → new.has_partial ≡ is_kept old.keeps_partial result
+  pub first : old.is_refused ≡ false
+      → new.has_partial
+      ≡ receivers.in_payload new.form new.bytes && is_kept old.keeps_partial result
   pub later : old.is_refused ≡ true → new.has_partial ≡ old.has_partial
 
 -- No memory has an image of which rows were released. A call that returns the whole image fails

@@ -137,7 +137,8 @@ impl SixelReceiver {
     pub fn begin_dcs(&mut self, alloc: Global)
         ensures { IsBegun self.old self.new OfString }
     {
-        let reader = DcsReader::new(alloc, self.decoder.state);
+        let mut reader = DcsReader::new(alloc, self.decoder.state);
+        reader.set_keep_partial(self.keeps_partial);
         self.replace_open(Open::ControlString(reader));
     }
 

@@ -293,21 +293,27 @@ uint32_t icysixel_finish(icysixel *handle, icysixel_shape *shape);
  * then, or until the image is aborted. */
 uint32_t icysixel_begin_partial(icysixel *handle, int32_t p1, int32_t p2, int32_t grid);
 
+/* Opens a DCS sequence as icysixel_begin does, but a fault of its payload leaves the picture before
+ * it, as with icysixel_begin_partial. A fault of the header leaves none. */
+uint32_t icysixel_begin_dcs_partial(icysixel *handle);
+
 /* Closes the open image, stores its picture up to the first fault, and writes the properties of
  * the picture and the code of the fault. It replaces an image that is stored.
  *
  * - An image without a fault is stored whole, `fault` is ICYSIXEL_OK, and the decoder takes over
  *   its registers.
- * - A payload with a fault is stored as the image of the commands before the faulty one. The
+ * - An image with a fault is stored as the image of the commands before the faulty one. The
  *   decoder is unchanged. After a feed that failed there is this picture only if the image was
- *   begun by icysixel_begin_partial.
+ *   begun by icysixel_begin_partial or icysixel_begin_dcs_partial.
+ * - A DCS sequence without terminator is stored as the image of its commands so far, and `fault` is
+ *   ICYSIXEL_INCOMPLETE. An open command is closed first. The decoder is unchanged.
  *
  * The errors are ICYSIXEL_NO_SESSION if no image is open, ICYSIXEL_STREAM_FAILED or
  * ICYSIXEL_DCS_STREAM_FAILED after a feed that kept no picture, ICYSIXEL_INCOMPLETE for a DCS
- * sequence without terminator, and ICYSIXEL_OUT_OF_MEMORY, also if rows were released before the
- * fault. They close the image too. Then no image is stored, no register changes, and `shape` and
- * `fault` are not written. ICYSIXEL_ROWS_RELEASED does the same, but leaves the image open: end it
- * by icysixel_finish_into. */
+ * sequence whose payload has not begun, and ICYSIXEL_OUT_OF_MEMORY, also if rows were released
+ * before the fault. They close the image too. Then no image is stored, no register changes, and
+ * `shape` and `fault` are not written. ICYSIXEL_ROWS_RELEASED does the same, but leaves the image
+ * open: end it by icysixel_finish_into. */
 uint32_t icysixel_finish_partial(icysixel *handle, icysixel_shape *shape, uint32_t *fault);
 
 /* Aborts the open image, if there is one. The decoder is unchanged. */

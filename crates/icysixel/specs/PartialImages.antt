@@ -4,10 +4,10 @@ use Rattle.std.specs.Prelude.{ℕ, ◌≡◌, ◌≢◌, ◌*◌, ◌≤◌, tru
 use Rattle.std.specs.Prelude.{is_none}
 use Rattle.sixel_base.specs.Decoder.{IsSetAs}
 use Rattle.sixel_base.specs.Fault.{Fault}
-use Rattle.sixel_base.specs.OneShot.{AreFoundRegisters}
+use Rattle.sixel_base.specs.OneShot.{AreFoundRegisters, IsFoundImage}
 use Rattle.icy_sixel.specs.ImageView.{image_value}
-use Rattle.icy_sixel.specs.PartialImages.{IsPartialImage, picture_fault}
-use Rattle.icy_sixel.specs.Receiver.{end_fault, found, is_open, no_image}
+use Rattle.icy_sixel.specs.PartialImages.{IsPartialImage, partial_fault, picture_fault}
+use Rattle.icy_sixel.specs.Receiver.{found, is_open, no_image}
 use Rattle.icy_sixel.specs.declared.sixel_image.SixelImage.{SixelImage}
 use Rattle.icysixel.specs.Code.{IsTold, fault_code}
 use Rattle.icysixel.specs.Finish.{StaysOpen}
@@ -31,11 +31,15 @@ pub record IsFinishedPartly (before after : State) (now : Shape) (fault code : �
   pub image : (image : SixelImage) → after.image ≡ Some image
       → IsPartialImage before.receiver.image.start before.receiver.image.form
       before.receiver.image.bytes (image_value image)
+  -- without a fault it is that of decoding the bytes in one call
+  pub whole : code ≡ 0 → fault ≡ 0 → (image : SixelImage) → after.image ≡ Some image
+      → IsFoundImage before.receiver.image.start
+      (found before.receiver.image.form before.receiver.image.bytes) (image_value image)
   pub shape : (image : SixelImage) → after.image ≡ Some image → now ≡ shape_of (image_value image)
   pub bytes : code ≡ 0 → now.bytes ≡ 4 * (now.width * now.height)
   pub area : code ≡ 0 → now.width * now.height ≤ before.receiver.image.start.pixel_limit.pixels
   -- what is wrong with the image
-  pub named : code ≡ 0 → fault ≡ beside_code (end_fault before.receiver.image.start.pixel_limit
+  pub named : code ≡ 0 → fault ≡ beside_code (partial_fault before.receiver.image.start.pixel_limit
       before.receiver.image.form before.receiver.image.bytes)
   -- a whole image leaves its registers, and one with a fault those of before
   pub registers : code ≡ 0 → fault ≡ 0 → AreFoundRegisters before.receiver.image.start

@@ -3,7 +3,7 @@
 ghost use Rattle.std.specs.Prelude.{◌≡◌, ◌≢◌, Option, Some, None, is_some, true};
 ghost use Rattle.std.specs.Option.{ForSome};
 ghost use Rattle.sixel_base.specs.Fault.{Fault, Names};
-ghost use Rattle.icy_sixel.specs.Receiver.{OfPayload, begun};
+ghost use Rattle.icy_sixel.specs.Receiver.{OfPayload, OfString, begun};
 ghost use Rattle.icysixel.specs.Code.{IsKnown, settings_of};
 ghost use Rattle.icysixel.specs.Kept.{AreKept};
 ghost use Rattle.icysixel.specs.PartialImages.{IsFinishedPartly, beside_code};
@@ -49,10 +49,34 @@ pub extern "C" fn icysixel_begin_partial(
     Code::Success as u32
 }
 
+/// Opens a DCS sequence of which a fault leaves the picture. An open image is aborted.
+#[unsafe(no_mangle)]
+pub extern "C" fn icysixel_begin_dcs_partial(alloc: Global, slot: &mut Slot) -> u32
+    ensures held { is_some slot.new.handle.state ≡ is_some slot.old.handle.state }
+    ensures none { slot.old.handle.state ≡ None → result ≡ 1 }
+    ensures done { is_some slot.old.handle.state ≡ true → result ≡ 0 }
+    ensures decoder { (before after : State) → slot.old.handle.state ≡ Some before
+        → slot.new.handle.state ≡ Some after
+        → after.receiver.decoder ≡ before.receiver.decoder }
+    ensures kept { (before after : State) → slot.old.handle.state ≡ Some before
+        → slot.new.handle.state ≡ Some after → AreKept before after }
+    ensures image { (before after : State) → slot.old.handle.state ≡ Some before
+        → slot.new.handle.state ≡ Some after
+        → after.receiver.image ≡ begun OfString before.receiver.decoder true }
+{
+    if !slot.is_held() {
+        return Code::NoHandle as u32;
+    }
+    let state = slot.state();
+    state.receiver.set_keep_partial(true);
+    state.receiver.begin_dcs(alloc);
+    Code::Success as u32
+}
+
 /// Closes the open image, and stores its picture up to the first fault.
 ///
-/// It writes the properties of the picture, and the code of the fault. An image of which rows were
-/// released stays open.
+/// It writes the properties of the picture, and the code of the fault or of a missing terminator.
+/// An image of which rows were released stays open.
 #[unsafe(no_mangle)]
 pub extern "C" fn icysixel_finish_partial(
     slot: &mut Slot,

@@ -87,13 +87,14 @@ pub extern "C" fn icysixel_begin(alloc: Global, slot: &mut Slot) -> u32
         → slot.new.handle.state ≡ Some after → AreKept before after }
     ensures image { (before after : State) → slot.old.handle.state ≡ Some before
         → slot.new.handle.state ≡ Some after
-        → after.receiver.image
-        ≡ begun OfString before.receiver.decoder before.receiver.keeps_partial }
+        → after.receiver.image ≡ begun OfString before.receiver.decoder false }
 {
     if !slot.is_held() {
         return Code::NoHandle as u32;
     }
-    slot.state().receiver.begin_dcs(alloc);
+    let state = slot.state();
+    state.receiver.set_keep_partial(false);
+    state.receiver.begin_dcs(alloc);
     Code::Success as u32
 }
 

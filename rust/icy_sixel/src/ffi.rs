@@ -112,6 +112,7 @@ unsafe extern "C" {
     safe fn icysixel_begin(handle: &mut Raw) -> u32;
     safe fn icysixel_begin_payload(handle: &mut Raw, p1: i32, p2: i32, grid: i32) -> u32;
     safe fn icysixel_begin_partial(handle: &mut Raw, p1: i32, p2: i32, grid: i32) -> u32;
+    safe fn icysixel_begin_dcs_partial(handle: &mut Raw) -> u32;
     safe fn icysixel_is_receiving(handle: &mut Raw) -> u8;
     safe fn icysixel_in_payload(handle: &mut Raw) -> u8;
     safe fn icysixel_get_size_so_far(handle: &mut Raw, size: &mut Size) -> u32;
@@ -339,6 +340,11 @@ impl Handle {
     /// Opens a payload of which a fault leaves the picture, in place of an open image.
     pub(crate) fn begin_partial(&mut self, [p1, p2, grid]: Parameters) {
         icysixel_begin_partial(&mut self.0, p1, p2, grid);
+    }
+
+    /// Opens a DCS sequence of which a fault leaves the picture, in place of an open image.
+    pub(crate) fn begin_dcs_partial(&mut self) {
+        icysixel_begin_dcs_partial(&mut self.0);
     }
 
     /// Reads a chunk of the open image.

@@ -109,7 +109,11 @@ impl SixelReceiver {
     ///
     /// An open image is aborted. The call does not allocate.
     pub fn begin_dcs(&mut self) {
-        self.decoder.begin_string();
+        if self.keeps_partial {
+            self.decoder.handle().begin_dcs_partial();
+        } else {
+            self.decoder.begin_string();
+        }
         self.open = Open::ControlString;
     }
 

@@ -181,6 +181,44 @@ fn a_fault_leaves_the_picture_before_it() {
 }
 
 #[test]
+fn a_sequence_leaves_the_picture_before_a_fault() {
+    let mut receiver = SixelReceiver::new();
+    let malformed = || invalid("malformed SIXEL data");
+    for keeps in [true, false] {
+        receiver.set_keep_partial(keeps);
+        receiver.begin_dcs();
+        assert!(receiver.feed(b"\x1bP9;1q#1;2;100;0;0~~!655").is_ok());
+        assert_eq!(receiver.feed(b"36~"), Err(malformed()));
+        assert_eq!(receiver.feed(b"~\x1b\\"), Err(invalid("DCS stream decoder has failed")));
+        let answer = receiver.finish_partial();
+        assert!(!receiver.is_receiving() && receiver.register(1) == [51, 51, 204]);
+        if keeps {
+            let partial = answer.unwrap();
+            assert_eq!((partial.image.dimensions(), partial.error), ((2, 6), Some(malformed())));
+            assert_eq!(partial.image.pixels, RED.repeat(12));
+        } else {
+            assert_eq!(answer, Err(invalid("DCS stream decoder has failed")));
+        }
+    }
+}
+
+#[test]
+fn a_cut_sequence_leaves_its_picture() {
+    let mut receiver = SixelReceiver::new();
+    for (data, error) in
+        [("~~~", INCOMPLETE), ("~~~!4", INCOMPLETE), ("~~~!65536", "malformed SIXEL data")]
+    {
+        receiver.begin_dcs();
+        assert!(receiver.feed(format!("\x1bP9;1q{data}").as_bytes()).is_ok());
+        let partial = receiver.finish_partial().unwrap();
+        assert_eq!((partial.image.dimensions(), partial.error), ((3, 6), Some(invalid(error))));
+    }
+    receiver.begin_dcs();
+    assert!(receiver.feed(b"\x1bP9;1").is_ok());
+    assert_eq!(receiver.finish_partial(), Err(invalid(INCOMPLETE)));
+}
+
+#[test]
 fn nothing_is_open() {
     let mut receiver = SixelReceiver::new();
     assert_eq!(receiver.feed(b"~"), Err(invalid(STREAM_FAILED)));

@@ -1,6 +1,5 @@
 -- What contracts see of a receiver, by its parts: the record of the session inside, in the words of
 -- both forms. This library's own.
-use Rattle.std.specs.Prelude.{false}
 use Rattle.icy_sixel.specs.Receiver.{Reception, Receiver, no_image, OfPayload, OfString}
 use Rattle.icy_sixel.specs.declared.receiver.Open.{Open}
 use Rattle.icy_sixel.specs.declared.receiver.Open.TheVariants as opened
@@ -33,8 +32,8 @@ reception_of (opened.ControlString reader) = record {
   room = reader.room;
   paints = reader.paints;
   released = reader.released;
-  keeps_partial = false;
-  has_partial = false;
+  keeps_partial = reader.keeps_partial;
+  has_partial = reader.has_partial;
 }
 
 abbrev pub receiver_of : Inside → Receiver

@@ -16,16 +16,16 @@ use std::mem;
 pub struct PartialImage {
     /// The image of the tokens before the first fault.
     pub image: SixelImage,
-    /// That fault, or `None` if the image is whole.
+    /// That fault, or why the image has not ended; `None` if it is whole.
     pub error: Option<SixelError>,
 }
 
 impl SixelReceiver {
-    /// Sets whether a payload that is rejected leaves the picture before its fault.
+    /// Sets whether an image that is rejected leaves the picture before its fault.
     ///
     /// It is off in a new receiver. A rejected image is dropped then. The setting applies to each
-    /// payload that is begun afterwards. A DCS sequence keeps no picture. A picture that is kept
-    /// occupies its memory until the image is closed.
+    /// payload and each DCS sequence that is begun afterwards. A header with a fault leaves no
+    /// picture. A picture that is kept occupies its memory until the image is closed.
     pub fn set_keep_partial(&mut self, on: bool)
         ensures { self.new ≡ record self.old { keeps_partial = on } }
     {
@@ -37,15 +37,18 @@ impl SixelReceiver {
     /// A host can call it in place of [`finish`](Self::finish), after a failed feed too:
     ///
     /// - An image without a fault is returned whole, and its registers are stored in the decoder.
-    /// - A payload with a fault is returned as the image of the tokens before the faulty one. The
+    /// - An image with a fault is returned as the image of the tokens before the faulty one. The
     ///   decoder is unchanged. After a failed feed there is this picture only if the image was begun
     ///   with [`set_keep_partial`](Self::set_keep_partial).
+    /// - A DCS sequence that has not ended is returned as the image of its tokens so far, with the
+    ///   error `InvalidData("incomplete SIXEL DCS sequence")` beside it. An open command is closed
+    ///   first, as at the end of a payload. The decoder is unchanged.
     ///
     /// The errors close the image too, and leave the decoder unchanged:
     ///
     /// - The error of [`feed`](Self::feed) after a failed feed: nothing was kept. An allocation that
     ///   fails keeps nothing.
-    /// - `InvalidData("incomplete SIXEL DCS sequence")`: a DCS sequence has not ended.
+    /// - `InvalidData("incomplete SIXEL DCS sequence")`: a DCS sequence without payload so far.
     /// - `OutOfMemory`: an allocation failed, or rows were released before the fault.
     ///
     /// If rows were released and no feed has failed, the error is
@@ -77,13 +80,7 @@ impl Open {
         match self {
             Open::Nothing => Err(SixelError::stream_failed()),
             Open::Payload(reader) => reader.finish_partial(),
-            Open::ControlString(reader) => match reader.finish() {
-                Ok(picture) => Ok(PartialPayload {
-                    picture,
-                    error: None,
-                }),
-                Err(error) => Err(error),
-            },
+            Open::ControlString(reader) => reader.finish_partial(),
         }
     }
 }

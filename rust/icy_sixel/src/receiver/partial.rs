@@ -9,16 +9,16 @@ use crate::sixel_image::SixelImage;
 pub struct PartialImage {
     /// The image of the commands before the first fault.
     pub image: SixelImage,
-    /// That fault, or `None` if the image is whole.
+    /// That fault, or why the image has not ended; `None` if it is whole.
     pub error: Option<SixelError>,
 }
 
 impl SixelReceiver {
-    /// Sets whether a payload that is rejected leaves the picture before its fault.
+    /// Sets whether an image that is rejected leaves the picture before its fault.
     ///
     /// It is off in a new receiver. A rejected image is dropped then. The setting applies to each
-    /// payload that is begun afterwards. A DCS sequence keeps no picture. A picture that is kept
-    /// occupies its memory until the image is closed.
+    /// payload and each DCS sequence that is begun afterwards. A header with a fault leaves no
+    /// picture. A picture that is kept occupies its memory until the image is closed.
     pub fn set_keep_partial(&mut self, on: bool) {
         self.keeps_partial = on;
     }
@@ -28,9 +28,12 @@ impl SixelReceiver {
     /// A host can call it in place of [`finish`](Self::finish), after a failed feed too:
     ///
     /// - An image without a fault is returned whole, and its registers are stored in the decoder.
-    /// - A payload with a fault is returned as the image of the commands before the faulty one. The
+    /// - An image with a fault is returned as the image of the commands before the faulty one. The
     ///   decoder is unchanged. After a failed feed there is this picture only if the image was
     ///   begun with [`set_keep_partial`](Self::set_keep_partial).
+    /// - A DCS sequence that has not ended is returned as the image of its commands so far, with
+    ///   the error `InvalidData` with `incomplete SIXEL DCS sequence` beside it. An open command is
+    ///   closed first, as at the end of a payload. The decoder is unchanged.
     ///
     /// ```
     /// use icy_sixel::{DcsSettings, SixelReceiver};
@@ -51,7 +54,8 @@ impl SixelReceiver {
     ///
     /// - that of [`feed`](Self::feed) after a failed feed, if nothing was kept, and if no image is
     ///   open
-    /// - `InvalidData` with `incomplete SIXEL DCS sequence` if a DCS sequence has not ended
+    /// - `InvalidData` with `incomplete SIXEL DCS sequence` if the payload of a DCS sequence has
+    ///   not begun
     /// - `OutOfMemory` if an allocation fails, or if rows were released before the fault
     ///
     /// `InvalidData` with `rows were released` if rows were released and no feed has failed. Then
