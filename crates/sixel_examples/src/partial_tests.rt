@@ -1,4 +1,4 @@
-//! Pictures of payloads with a fault, worked out by hand.
+//! Pictures of payloads and DCS sequences with a fault, worked out by hand.
 //!
 //! `@` sets the first row of a band, `A` the second one and `B` both. Register 1 is red.
 
@@ -14,6 +14,8 @@ const CLEAR: [u8; 4] = [0, 0, 0, 0];
 const MALFORMED: &str = "malformed SIXEL data";
 
 const TOO_LARGE: &str = "image dimensions too large";
+
+const INCOMPLETE: &str = "incomplete SIXEL DCS sequence";
 
 /// A payload, and its picture before the first fault on a transparent background.
 #[derive(Clone, Copy)]
@@ -169,25 +171,69 @@ fn nothing_kept(rt: HostRuntime) {
 }
 
 #[test]
-fn sequences(rt: HostRuntime) {
+fn sequences_before_a_fault(rt: HostRuntime) {
+    let mut are_right = true;
+    for row in ROWS {
+        for size in [1, 4, 100] {
+            let mut receiver = receiver(rt.alloc(), true);
+            receiver.begin_dcs(rt.alloc());
+            are_right &= receiver.feed(b"\x1bP0;1q").is_ok();
+            for chunk in row.payload.chunks(size) {
+                are_right &= receiver.feed(chunk).is_ok() | !row.error.is_empty();
+            }
+            are_right &= receiver.feed(b"\x1b\\").is_ok() == row.error.is_empty();
+            are_right &= is_row(receiver.finish_partial(), row) & !receiver.is_receiving();
+            are_right &= receiver.register(1) == [255, 0, 0];
+        }
+    }
+    assert!(rt; are_right);
+}
+
+#[test]
+fn sequences_without_a_picture(rt: HostRuntime) {
     let mut receiver = receiver(rt.alloc(), true);
     receiver.begin_dcs(rt.alloc());
-    let is_fed = receiver.feed(b"\x1bP0;1q#1;2;0;100;0@\x1b\\").is_ok();
-    let whole = Row {
+    let is_open = receiver.feed(b"\x1bP0;1").is_ok();
+    let is_incomplete = is_refused(receiver.finish_partial(), INCOMPLETE);
+    receiver.begin_dcs(rt.alloc());
+    let is_rejected = receiver.feed(b"\x1bP0;1z").is_err();
+    let is_lost = is_refused(receiver.finish_partial(), "DCS stream decoder has failed");
+    receiver.set_keep_partial(false);
+    receiver.begin_dcs(rt.alloc());
+    let is_rejected = is_rejected & receiver.feed(b"\x1bPq#1@!65536@").is_err();
+    let is_dropped = is_refused(receiver.finish_partial(), "DCS stream decoder has failed");
+    assert!(rt; is_open & is_incomplete & is_rejected & is_lost & is_dropped);
+}
+
+/// A picture of one pixel in the first row.
+fn pixel(color: [u8; 4], error: &'static str) -> Row {
+    Row {
         payload: b"",
         width: 1,
         height: 6,
-        color: GREEN,
+        color,
         set: &[0],
-        error: "",
-    };
-    let is_whole = is_row(receiver.finish_partial(), &whole);
-    let is_defined = receiver.register(1) == [0, 255, 0];
+        error,
+    }
+}
+
+#[test]
+fn sequences_that_end_early(rt: HostRuntime) {
+    let mut receiver = receiver(rt.alloc(), false);
+    let mut are_right = true;
+    for (data, error) in [
+        ("@", INCOMPLETE),
+        ("@!4", INCOMPLETE),
+        ("@!65536", MALFORMED),
+    ] {
+        receiver.begin_dcs(rt.alloc());
+        are_right &= receiver.feed(b"\x1bP0;1q#1;2;0;100;0").is_ok();
+        are_right &= receiver.feed(data.as_bytes()).is_ok();
+        are_right &= is_row(receiver.finish_partial(), &pixel(GREEN, error));
+        are_right &= receiver.register(1) == [255, 0, 0];
+    }
     receiver.begin_dcs(rt.alloc());
-    let is_open = receiver.feed(b"\x1bPq#1@").is_ok();
-    let is_incomplete = is_refused(receiver.finish_partial(), "incomplete SIXEL DCS sequence");
-    receiver.begin_dcs(rt.alloc());
-    let is_rejected = receiver.feed(b"\x1bPq#1@!65536@").is_err();
-    let is_lost = is_refused(receiver.finish_partial(), "DCS stream decoder has failed");
-    assert!(rt; is_fed & is_whole & is_defined & is_open & is_incomplete & is_rejected & is_lost);
+    are_right &= receiver.feed(b"\x1bP0;1q#1;2;0;100;0@\x1b\\").is_ok();
+    are_right &= is_row(receiver.finish_partial(), &pixel(GREEN, ""));
+    assert!(rt; are_right & (receiver.register(1) == [0, 255, 0]));
 }
