@@ -13,7 +13,7 @@ pub data RunToken : Type 0 where
 abbrev pub longest : ℕ
 longest = 65535
 
--- the sixels that a token stands for
+-- the sixels of a token
 unfoldable pub sixels : RunToken → List ℕ
 sixels (One bits) = bits ∷ []
 sixels (Many count bits) = replicate count bits

@@ -13,7 +13,7 @@ use std::alloc::{AllocError, Global};
 /// A decoder returns the same image from both.
 #[derive(Debug, Clone, Copy, PartialEq, Eq)]
 pub enum TextForm {
-    /// Each palette entry of a band has a pass of its own, to the right edge of the image.
+    /// Each palette entry of a band has a pass of its own, to the right edge.
     Plain,
     /// The same pixels in fewer bytes, or the plain output if that is shorter.
     Compact,

@@ -44,7 +44,7 @@ pub fn encode_in_palette(
     encode_drawing(alloc, source, colors, &indices, form)
 }
 
-/// Returns the SIXEL output of an image whose opaque pixels have these palette indices.
+/// Returns the SIXEL output of an image by given palette indices.
 ///
 /// # Errors
 ///
@@ -71,7 +71,7 @@ pub fn encode_with_indices(
     encode_drawing(alloc, source, colors, indices, form)
 }
 
-/// Returns an error unless an image has valid sizes and as many bytes as they require.
+/// Returns an error unless an image has valid sizes and the bytes for them.
 pub fn validate_source(source: &Source<'_>) -> Result<()>
     ensures { result ≡ verdict (image_fault (source_value source.now)) }
 {

@@ -62,7 +62,7 @@ pub fn palette_indices(
     Ok(dithered_indices(alloc, pixels, width, colors, dither)?)
 }
 
-/// Returns the palette index of each pixel of whole rows, in a palette of 1 to 256 colors.
+/// Returns the palette index of each pixel of whole rows, in 1 to 256 colors.
 pub fn dithered_indices(
     alloc: Global,
     pixels: &[u8],

@@ -147,7 +147,7 @@ pub fn second_trip()
         → IsText image max_colors text → IsReadAs decoder text image }
 {}
 
-/// States that a refined output of an image is one of each image that looks the same.
+/// States that images that look the same have the same refined outputs.
 ///
 /// So colors of transparent pixels are no part of what a refined output has to be.
 pub fn refined_text()

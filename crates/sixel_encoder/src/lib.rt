@@ -1,8 +1,9 @@
 //! The SIXEL output of an image.
 //!
-//! Each image gets a palette of its own, chosen farthest first, without dithering. Each band of six
-//! rows is written once for each palette entry that it uses. Every row takes the fewest bytes that
-//! it can be written in. `icy_sixel` re-exports the public names.
+//! By default an image gets a palette of its own, chosen farthest first, without dithering. Each
+//! band of six rows is written once for each palette entry that it uses. Every row takes the fewest
+//! bytes that it can be written in. Other calls encode in a refined or a given palette, dither, or
+//! write the compact form. `icy_sixel` re-exports the public names.
 #![tactic(auto)]
 
 ghost use Rattle.std.specs.Prelude.{◌≡◌, ℕ, ◌<◌, All, IfErr, IfOk, MatchOption, string_bytes};

@@ -15,7 +15,9 @@ use sixel_base::Result;
 use sixel_palette::palette::{RefinedPalette, refine_palette};
 use std::alloc::Global;
 
-/// Returns the SIXEL output of an image in a refined palette of at most `max_colors` colors.
+/// Returns the SIXEL output of an image in a refined palette.
+///
+/// It has at most `max_colors` colors.
 ///
 /// # Errors
 ///

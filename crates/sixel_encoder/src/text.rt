@@ -63,7 +63,7 @@ pub fn encode_below(
     Ok(Some(text))
 }
 
-/// Returns the output before the first band: parameters, raster attributes and palette.
+/// Returns the output before the first band.
 fn begin_text(alloc: Global, image: &IndexedImage<'_>) -> Result<String, AllocError>
     ensures { IfOk result (λ text. string_bytes text ≡ parameters_text (drawing_of image.now)
         ++ raster_text (drawing_of image.now) ++ palette_text (drawing_of image.now)) }
@@ -75,7 +75,7 @@ fn begin_text(alloc: Global, image: &IndexedImage<'_>) -> Result<String, AllocEr
     Ok(text)
 }
 
-/// Appends the introducer and the parameters: aspect ratio, background, no grid size.
+/// Appends the introducer and the parameters: shape, background, no grid size.
 pub fn push_parameters(text: &mut String, image: &IndexedImage<'_>) -> Result<(), AllocError>
     ensures { OnOk result
         (string_bytes text.new ≡ string_bytes text.old ++ parameters_text (drawing_of image.now)) }
@@ -85,7 +85,7 @@ pub fn push_parameters(text: &mut String, image: &IndexedImage<'_>) -> Result<()
     write!(text, "\x1bP{p1};{p2};0q")
 }
 
-/// Appends the raster attributes: a pixel's height and width, then the image's sizes.
+/// Appends the raster attributes: a pixel's height and width, then the sizes.
 pub fn push_raster(text: &mut String, image: &IndexedImage<'_>) -> Result<(), AllocError>
     ensures { OnOk result
         (string_bytes text.new ≡ string_bytes text.old ++ raster_text (drawing_of image.now)) }

@@ -1,4 +1,4 @@
-//! Error diffusion by Floyd and Steinberg, in serpentine order and whole sixteenths.
+//! Error diffusion by Floyd and Steinberg, serpentine, in whole sixteenths.
 //!
 //! R. W. Floyd, L. Steinberg, "An adaptive algorithm for spatial greyscale", Proceedings of the
 //! Society for Information Display 17 (1976), 75-77.

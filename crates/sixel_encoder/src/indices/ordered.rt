@@ -19,7 +19,7 @@ pub struct OrderedImage<'a> {
     pub amplitude: u8,
 }
 
-/// Returns the palette index of each pixel, of the entry nearest to its moved color.
+/// Returns the palette index of each pixel: the entry nearest to its moved color.
 pub fn ordered_indices(alloc: Global, image: &OrderedImage<'_>) -> Result<Vec<u8>, AllocError>
     requires width { 0 < image.now.width }
     requires some { 0 < length image.now.colors.now }
