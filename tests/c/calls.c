@@ -67,10 +67,9 @@ static void test_empty_handle(void)
     fed.consumed = shape.width = shape.bytes = size.width = wanted = length = color.red = 7;
     const uint32_t codes[] = {
         icysixel_begin(h), icysixel_begin_payload(h, 9, 1, -1), icysixel_begin_partial(h, 9, 1, -1),
-        icysixel_begin_dcs_partial(h),
-        FEED("~"), icysixel_feed_band(h, BYTES("~"), &fed), icysixel_finish(h, &shape),
-        icysixel_abort(h), icysixel_discard_image(h), icysixel_release_rows(h, 0),
-        icysixel_finish_partial(h, &shape, &fault),
+        icysixel_begin_dcs_partial(h), FEED("~"), icysixel_feed_band(h, BYTES("~"), &fed),
+        icysixel_finish(h, &shape), icysixel_abort(h), icysixel_discard_image(h),
+        icysixel_release_rows(h, 0), icysixel_finish_partial(h, &shape, &fault),
         icysixel_get_size_so_far(h, &size), icysixel_copy_rows(h, 0, 1, &layout, buffer, 4),
         icysixel_finish_into(h, 0, &layout, buffer, 4, &shape, &wanted),
         DECODE(red), icysixel_decode_payload(h, BYTES("~"), 9, 1, -1, &shape),
@@ -254,29 +253,38 @@ static void test_errors(void)
     CHECK(DECODE(red) == OK && DECODE("!65536~") == BAD && !HAS_IMAGE);
 }
 
-/* A payload with a fault leaves the picture before it, if the feed kept it. */
+/* An image with a fault leaves the picture before it, if the feed kept it. A DCS sequence that has
+ * not ended leaves its picture. */
 static void test_partial(void)
 {
-    enum { FAILED = ICYSIXEL_STREAM_FAILED };
+    enum { FAILED = ICYSIXEL_STREAM_FAILED, DCS_FAILED = ICYSIXEL_DCS_STREAM_FAILED,
+           CUT = ICYSIXEL_INCOMPLETE };
     static const struct {
         const char *data;
         bool is_kept;
         uint32_t fed, code, fault;
         size_t width, height;
-    } payloads[] = {
+    } images[] = {
         {"#1;2;100;0;0~~!65536~", true, BAD, OK, BAD, 2, 6},
         {"#1;2;100;0;0~~!65536~", false, BAD, FAILED, 7, 0, 0},
         {"#1~-~~!65536~", true, BAD, OK, BAD, 2, 12}, {"!65536~", true, BAD, OK, BAD, 1, 1},
         {"~~!65536", false, OK, OK, BAD, 2, 6}, {"#1;2;100;0;0~~~", true, OK, OK, OK, 3, 6},
-        {"#1;2;100;0;0~~~", false, OK, OK, OK, 3, 6},
+        {"#1;2;100;0;0~~~", false, OK, OK, OK, 3, 6}, {"\033Pq~~!65536~", true, BAD, OK, BAD, 2, 6},
+        {"\033Pq~~!65536~", false, BAD, DCS_FAILED, 7, 0, 0}, {"\033P1;", true, OK, CUT, 7, 0, 0},
+        {"\033P1;z", true, ICYSIXEL_BAD_HEADER, DCS_FAILED, 7, 0, 0},
+        {"\033Pq~~!65536", false, OK, OK, BAD, 2, 6}, {"\033Pq~~~", false, OK, OK, CUT, 3, 6},
+        {"\033Pq~~~\033", true, OK, OK, CUT, 3, 6},
+        {"\033Pq#1;2;100;0;0~~~\033\\", true, OK, OK, OK, 3, 6},
     };
     icysixel_bytes pixels = {0};
     uint32_t fault;
-    EACH(row, payloads) {
+    EACH(row, images) {
+        bool is_dcs = row->data[0] == '\033';
         shape = (icysixel_shape){0}, fault = 7;
         RETURNS(OK, icysixel_reset_registers(h));
-        RETURNS(OK, row->is_kept ? icysixel_begin_partial(h, 9, 1, -1)
-                                 : icysixel_begin_payload(h, 9, 1, -1));
+        if (is_dcs) RETURNS(OK, row->is_kept ? icysixel_begin_dcs_partial(h) : icysixel_begin(h));
+        else RETURNS(OK, row->is_kept ? icysixel_begin_partial(h, 9, 1, -1)
+                                      : icysixel_begin_payload(h, 9, 1, -1));
         CHECK(FEED(row->data) == row->fed);
         CHECK(icysixel_finish_partial(h, &shape, &fault) == row->code);
         CHECK(fault == row->fault && icysixel_is_receiving(h) == 0);
@@ -288,35 +296,6 @@ static void test_partial(void)
         icysixel_free_bytes(&pixels);
     }
     RETURNS(NO_SESSION, icysixel_finish_partial(h, &shape, &fault));
-}
-
-/* A DCS sequence with a fault leaves the picture before it, if the feed kept it. One that has not
- * ended leaves its picture. */
-static void test_partial_dcs(void)
-{
-    enum { FAILED = ICYSIXEL_DCS_STREAM_FAILED, CUT = ICYSIXEL_INCOMPLETE };
-    static const struct {
-        const char *data;
-        bool is_kept;
-        uint32_t fed, code, fault;
-        size_t width, height;
-    } sequences[] = {
-        {"\033Pq~~!65536~", true, BAD, OK, BAD, 2, 6},
-        {"\033Pq~~!65536~", false, BAD, FAILED, 7, 0, 0},
-        {"\033P1;z", true, ICYSIXEL_BAD_HEADER, FAILED, 7, 0, 0},
-        {"\033P1;", true, OK, CUT, 7, 0, 0}, {"\033Pq~~!65536", false, OK, OK, BAD, 2, 6},
-        {"\033Pq~~~", false, OK, OK, CUT, 3, 6}, {"\033Pq~~~\033", true, OK, OK, CUT, 3, 6},
-        {"\033Pq~~~\033\\", true, OK, OK, OK, 3, 6},
-    };
-    uint32_t fault;
-    EACH(row, sequences) {
-        shape = (icysixel_shape){0}, fault = 7;
-        RETURNS(OK, row->is_kept ? icysixel_begin_dcs_partial(h) : icysixel_begin(h));
-        CHECK(FEED(row->data) == row->fed);
-        CHECK(icysixel_finish_partial(h, &shape, &fault) == row->code);
-        CHECK(fault == row->fault && icysixel_is_receiving(h) == 0);
-        CHECK(shape.width == row->width && shape.height == row->height);
-    }
 }
 
 /* Registers are set and read together: not past the last one, and not past the buffer. */
@@ -543,8 +522,7 @@ int main(void)
 {
     static const struct { const char *name; void (*test)(void); } tests[] = {
         TEST(empty_handle), TEST(new_on_full_handle), TEST(progress),
-        TEST(copied_rows), TEST(pixels), TEST(errors), TEST(partial), TEST(partial_dcs),
-        TEST(take_pixels),
+        TEST(copied_rows), TEST(pixels), TEST(errors), TEST(partial), TEST(take_pixels),
         TEST(new_on_full_handle), TEST(registers), TEST(settings), TEST(encode), TEST(encodings),
         TEST(widest), TEST(palettes), TEST(indices), TEST(code_texts),
     };
