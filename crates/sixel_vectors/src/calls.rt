@@ -1,38 +1,38 @@
 //! Vectors of `sessions.tsv` and `receivers.tsv`: calls and their results.
 
 use crate::notation::{bytes, color, push_error, push_fed, push_hexadecimal, push_outcome};
-use crate::session::{Owner, Session, check_decoder, clip, settings};
+use crate::session::{Owner, Session, begin, check_decoder, clip, settings};
 use anyhow::{Context, Result, bail, ensure};
-use icy_sixel::SixelError;
 use icy_sixel::receiver::{Received, SixelReceiver};
+use icy_sixel::{SixelDecoder, SixelError};
 use std::alloc::Global;
 
 /// Checks a vector of `sessions.tsv`, by a session that borrows its decoder and by a receiver.
 pub fn write_session(alloc: Global, found: &mut String, columns: &[&str]) -> Result<()> {
     let (start, calls) = columns.split_first().context("no settings")?;
-    let mut owner = Owner::Decoder(settings(start)?.1);
-    let mut receiver = Owner::Receiver(SixelReceiver::with_decoder(settings(start)?.1));
     let mut received = String::new(alloc);
-    run_owner(alloc, found, &mut owner, start, calls)?;
-    run_owner(alloc, &mut received, &mut receiver, start, calls)?;
+    let decoder = run_owner(alloc, found, false, start, calls)?;
+    let other = run_owner(alloc, &mut received, true, start, calls)?;
     ensure!(received == *found, "receiver: {received}");
-    check_decoder(receiver.decoder(), owner.decoder())
+    check_decoder(&other, &decoder)
 }
 
-/// Makes the calls on an owner, whose decoder stays unless there is an image.
+/// Makes the calls on an owner and returns its decoder, which stays unless there is an image.
 fn run_owner(
     alloc: Global,
     found: &mut String,
-    owner: &mut Owner,
+    is_receiver: bool,
     start: &str,
     calls: &[&str],
-) -> Result<()> {
+) -> Result<SixelDecoder> {
     let (form, decoder) = settings(start)?;
+    let mut owner = Owner::new(&decoder, is_receiver)?;
     let is_finished = run(alloc, found, owner.begin(alloc, form)?, calls)?;
-    if is_finished {
-        return Ok(());
+    let after = owner.into_decoder();
+    if !is_finished {
+        check_decoder(&after, &decoder)?;
     }
-    check_decoder(owner.decoder(), &decoder)
+    Ok(after)
 }
 
 /// Feeds chunks, ends the session, writes the results and returns whether there is an image.
@@ -84,15 +84,17 @@ fn make(alloc: Global, found: &mut String, receiver: &mut SixelReceiver, call: &
         "feed" => return push_received(found, receiver.feed(&bytes(alloc, argument)?)),
         "finish" => return push_outcome(found, &receiver.finish()),
         "state" => return push_state(found, receiver),
-        "register" => {
-            let register = argument.parse::<u8>()?;
-            let color = receiver.register(register);
-            ensure!(receiver.decoder().register(register) == color, "decoder");
-            found.push('\t')?;
-            return push_hexadecimal(found, &color);
-        }
-        "begin" => drop(Session::receive(alloc, receiver, settings(argument)?.0)),
+        "register" => return push_register(found, receiver, argument),
+        "begin" => begin(alloc, receiver, settings(argument)?.0),
         "abort" => receiver.abort(),
+        _ => set(receiver, word, argument)?,
+    }
+    Ok(found.push('\t')?)
+}
+
+/// Makes a call that changes a setting or a register.
+fn set(receiver: &mut SixelReceiver, word: &str, argument: &str) -> Result<()> {
+    match word {
         "reset" => receiver.reset_palette(),
         "crop" => receiver.set_raster_crop(argument == "on"),
         "limit" => receiver.set_pixel_limit(argument.parse::<usize>()?),
@@ -106,7 +108,16 @@ fn make(alloc: Global, found: &mut String, receiver: &mut SixelReceiver, call: &
         }
         _ => bail!("no call"),
     }
-    Ok(found.push('\t')?)
+    Ok(())
+}
+
+/// Writes the color of a register.
+fn push_register(found: &mut String, receiver: &SixelReceiver, register: &str) -> Result<()> {
+    let register = register.parse::<u8>()?;
+    let color = receiver.register(register);
+    ensure!(receiver.decoder().register(register) == color, "decoder");
+    found.push('\t')?;
+    push_hexadecimal(found, &color)
 }
 
 /// Writes whether an image is open, and its size so far.

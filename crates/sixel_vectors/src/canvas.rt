@@ -74,10 +74,7 @@ pub fn check_work(alloc: Global, columns: [&str; 5]) -> Result<()> {
         size: size(dimensions)?,
     };
     for is_receiver in [false, true] {
-        let mut owner = Owner::new(&decoder, is_receiver)?;
-        for length in [1, 7, 4096] {
-            work.check(owner.begin(alloc, form)?, length)?;
-        }
+        work.check_owner(alloc, Owner::new(&decoder, is_receiver)?, form)?;
     }
     match form {
         Form::Payload(settings) => work.check_counted(decoder.begin_frame(alloc, settings)?),
@@ -86,6 +83,14 @@ pub fn check_work(alloc: Global, columns: [&str; 5]) -> Result<()> {
 }
 
 impl Work {
+    /// Checks the work of an owner's sessions.
+    fn check_owner(&self, alloc: Global, mut owner: Owner, form: Form) -> Result<()> {
+        for length in [1, 7, 4096] {
+            self.check(owner.begin(alloc, form)?, length)?;
+        }
+        Ok(())
+    }
+
     /// Feeds chunks of a length and checks the work after each.
     fn check(&self, mut session: Session<'_>, length: usize) -> Result<()>
         requires { 0 < length }

@@ -96,6 +96,14 @@ impl Owner {
     }
 }
 
+/// Begins an image of a receiver.
+pub fn begin(alloc: Global, receiver: &mut SixelReceiver, form: Form) {
+    match form {
+        Form::Payload(settings) => receiver.begin_frame(alloc, settings),
+        Form::Dcs => receiver.begin_dcs(alloc),
+    }
+}
+
 /// A session of either kind, or a receiver with an open image.
 #[derive(Drop)]
 pub enum Session<'a> {
@@ -114,11 +122,8 @@ impl<'a> Session<'a> {
     }
 
     /// Begins an image of a receiver.
-    pub fn receive(alloc: Global, receiver: &'a mut SixelReceiver, form: Form) -> Self {
-        match form {
-            Form::Payload(settings) => receiver.begin_frame(alloc, settings),
-            Form::Dcs => receiver.begin_dcs(alloc),
-        }
+    fn receive(alloc: Global, receiver: &'a mut SixelReceiver, form: Form) -> Self {
+        begin(alloc, receiver, form);
         Self::Receiver(receiver)
     }
 
