@@ -69,10 +69,20 @@ fn push_received(found: &mut String, fed: icy_sixel::Result<Received>) -> Result
 /// Checks a vector of `receivers.tsv`.
 pub fn write_receiver(alloc: Global, found: &mut String, columns: &[&str]) -> Result<()> {
     let mut receiver = SixelReceiver::with_decoder(SixelReceiver::default().into_decoder());
+    make_all(alloc, found, &mut receiver, columns)
+}
+
+/// Makes the calls of a line, each of which has a result after it, and writes both.
+fn make_all(
+    alloc: Global,
+    found: &mut String,
+    receiver: &mut SixelReceiver,
+    columns: &[&str],
+) -> Result<()> {
     for pair in columns.chunks(2) {
         let call = pair.first().context("no call")?;
         write!(found, "\t{call}")?;
-        make(alloc, found, &mut receiver, call)?;
+        make(alloc, found, receiver, call)?;
     }
     Ok(())
 }
