@@ -5,8 +5,8 @@ ghost use Rattle.std.specs.Prelude.{◌<◌};
 use crate::notation::{bytes, numbers, rgba, size};
 use crate::session::{Form, Owner, Session, settings};
 use anyhow::{Context, Result, bail, ensure};
-use icy_sixel::SixelStreamDecoder;
 use icy_sixel::canvas::{Row, fill_rgba_span};
+use icy_sixel::{SixelDecoder, SixelStreamDecoder};
 use std::alloc::Global;
 
 /// Checks a vector of `rows.tsv`.
@@ -74,7 +74,7 @@ pub fn check_work(alloc: Global, columns: [&str; 5]) -> Result<()> {
         size: size(dimensions)?,
     };
     for is_receiver in [false, true] {
-        work.check_owner(alloc, Owner::new(&decoder, is_receiver)?, form)?;
+        work.check_owner(alloc, &decoder, is_receiver, form)?;
     }
     match form {
         Form::Payload(settings) => work.check_counted(decoder.begin_frame(alloc, settings)?),
@@ -84,7 +84,19 @@ pub fn check_work(alloc: Global, columns: [&str; 5]) -> Result<()> {
 
 impl Work {
     /// Checks the work of an owner's sessions.
-    fn check_owner(&self, alloc: Global, mut owner: Owner, form: Form) -> Result<()> {
+    fn check_owner(
+        &self,
+        alloc: Global,
+        decoder: &SixelDecoder,
+        is_receiver: bool,
+        form: Form,
+    ) -> Result<()> {
+        let mut owner = Owner::new(decoder, is_receiver)?;
+        self.check_lengths(alloc, &mut owner, form)
+    }
+
+    /// Checks the work of sessions with chunks of these lengths.
+    fn check_lengths(&self, alloc: Global, owner: &mut Owner, form: Form) -> Result<()> {
         for length in [1, 7, 4096] {
             self.check(owner.begin(alloc, form)?, length)?;
         }

@@ -111,8 +111,7 @@ pub fn check_aborts(alloc: Global, [settings, count, text]: [&str; 3]) -> Result
     let (input, text) = (Input::parse(alloc, settings, text)?, bytes(alloc, text)?);
     let count = count.parse::<usize>()?;
     for is_receiver in [false, true] {
-        let owner = Owner::new(&input.start, is_receiver)?;
-        abort_images(alloc, owner, &input, &text, count)?;
+        check_owner(alloc, is_receiver, &input, &text, count)?;
     }
     let (after, _) = input.decode(alloc, &mut String::new(alloc))?;
     for register in 0..=255 {
@@ -122,10 +121,22 @@ pub fn check_aborts(alloc: Global, [settings, count, text]: [&str; 3]) -> Result
     Ok(())
 }
 
+/// Aborts images of an owner.
+fn check_owner(
+    alloc: Global,
+    is_receiver: bool,
+    input: &Input,
+    text: &[u8],
+    count: usize,
+) -> Result<()> {
+    let mut owner = Owner::new(&input.start, is_receiver)?;
+    abort_images(alloc, &mut owner, input, text, count)
+}
+
 /// Aborts images of one owner, whose decoder must not change.
 fn abort_images(
     alloc: Global,
-    mut owner: Owner,
+    owner: &mut Owner,
     input: &Input,
     text: &[u8],
     count: usize,
