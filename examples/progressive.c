@@ -8,20 +8,27 @@ enum { COLUMNS = 640, ROWS = 480 };
 static uint8_t window[4 * COLUMNS * ROWS];
 static const icysixel_layout layout = {4 * COLUMNS, COLUMNS, ICYSIXEL_ORDER_BGRA};
 
+/* Whether the image needs more data. */
+static int goes_on(const icysixel_fed *fed)
+{
+    return fed->status == ICYSIXEL_MORE || fed->status == ICYSIXEL_ROWS;
+}
+
 /* Reads a chunk band by band, and draws the rows that are final then, below those drawn before. */
 static uint32_t draw_bands(icysixel *sixel, const uint8_t *chunk, size_t length, icysixel_fed *fed,
                            size_t *drawn)
 {
     uint32_t code = ICYSIXEL_OK;
-    for (size_t at = 0; at < length && fed->status == ICYSIXEL_MORE; at += fed->consumed) {
+    for (size_t at = 0; at < length && goes_on(fed); at += fed->consumed) {
         code = icysixel_feed_band(sixel, chunk + at, length - at, fed);
         if (code != ICYSIXEL_OK) break;
+        if (fed->status != ICYSIXEL_ROWS) continue;
         size_t rows = icysixel_get_rows_so_far(sixel), start = *drawn * layout.stride;
         code = icysixel_copy_rows(sixel, *drawn, rows - *drawn, &layout, window + start,
                                   sizeof window - start);
         if (code == ICYSIXEL_OK) code = icysixel_release_rows(sixel, rows);
         if (code != ICYSIXEL_OK) break;
-        if (rows > *drawn) printf("rows %zu to %zu\n", *drawn, rows - 1);
+        printf("rows %zu to %zu\n", *drawn, rows - 1);
         *drawn = rows;
     }
     return code;
@@ -48,7 +55,7 @@ int main(void)
     size_t length, drawn = 0;
     uint32_t code = icysixel_new(&sixel);
     icysixel_begin(&sixel);
-    while (code == ICYSIXEL_OK && fed.status == ICYSIXEL_MORE
+    while (code == ICYSIXEL_OK && goes_on(&fed)
            && (length = fread(chunk, 1, sizeof chunk, stdin)) > 0)
         code = draw_bands(&sixel, chunk, length, &fed, &drawn);
     if (code == ICYSIXEL_OK) code = draw_rest(&sixel, drawn);

@@ -144,7 +144,7 @@ static void test_copied_rows(void)
     RETURNS(NO_SESSION, icysixel_release_rows(h, 0));
     RETURNS(OK, icysixel_begin_payload(h, 3, 1, -1));
     RETURNS(OK, icysixel_feed_band(h, BYTES("#1;2;100;0;0~-~-"), &fed));
-    CHECK(fed.consumed == 14 && fed.status == ICYSIXEL_MORE && icysixel_get_rows_so_far(h) == 6);
+    CHECK(fed.consumed == 14 && fed.status == ICYSIXEL_ROWS && icysixel_get_rows_so_far(h) == 6);
     EACH(row, wrong)
         CHECK(icysixel_copy_rows(h, row->first, row->rows, &row->layout, rows, row->size)
               == row->code);
@@ -159,6 +159,7 @@ static void test_copied_rows(void)
     RETURNS(OK, icysixel_release_rows(h, 6));
     RETURNS(ROWS_RELEASED, icysixel_copy_rows(h, 5, 1, &rgba, rows, 72));
     RETURNS(OK, icysixel_feed_band(h, BYTES("!3~"), &fed));
+    CHECK(fed.consumed == 3 && fed.status == ICYSIXEL_MORE);
     RETURNS(ROWS_RELEASED, icysixel_finish_into(h, 5, &rgba, rows, 72, &shape, &wanted));
     RETURNS(ROWS_RELEASED, icysixel_finish(h, &shape));
     RETURNS(ROWS_RELEASED, icysixel_finish_partial(h, &shape, &(uint32_t){0}));

@@ -82,14 +82,18 @@ static void try_rows(struct bytes data, const struct outcome *image)
     bool is_image = image->code == ICYSIXEL_OK;
     icysixel_layout layout = {0, is_image ? image->shape.width : 1, (uint8_t)below(2)};
     size_t row = 4 * layout.columns, size = is_image ? row * image->shape.height : 0;
-    size_t copied = 0, wanted;
+    size_t copied = 0, seen = 0, wanted;
     struct outcome rows = {ICYSIXEL_OK, shape, malloc(size)};
     for (size_t at = 0; rows.code == ICYSIXEL_OK && at < data.length; at += fed.consumed) {
         struct bytes chunk = part(data, at, 1 + below(30));
         rows.code = icysixel_feed_band(&decoder, chunk.at, chunk.length, &fed);
-        if (fed.status != ICYSIXEL_MORE) break;
+        if (rows.code != ICYSIXEL_OK) continue;
         size_t final = icysixel_get_rows_so_far(&decoder);
-        if (rows.code != ICYSIXEL_OK || final <= copied || final * row > size) continue;
+        CHECK(fed.status != ICYSIXEL_ROWS || final > seen);
+        CHECK(fed.status != ICYSIXEL_MORE || final == seen);
+        seen = final;
+        if (fed.status != ICYSIXEL_MORE && fed.status != ICYSIXEL_ROWS) break;
+        if (final <= copied || final * row > size) continue;
         CHECK(icysixel_copy_rows(&decoder, copied, final - copied, &layout,
                                  rows.pixels + copied * row, size - copied * row) == ICYSIXEL_OK);
         if (below(2)) CHECK(icysixel_release_rows(&decoder, final) == ICYSIXEL_OK);

@@ -3,7 +3,7 @@ use Rattle.std.proofs.Common.{◌≡◌, ℕ, zero, suc, ◌<◌, false, List, [
 use Rattle.std.proofs.Common.{length, take, get_or}
 use Rattle.std.specs.Prelude.{◌==◌}
 use Rattle.std.proofs.lemmas.Bool.Decides.{nat_tests}
-use Rattle.icy_sixel.specs.FinalRows.{band_of}
+use Rattle.icy_sixel.specs.Bands.{band_of}
 
 -- the first new line is at this index
 pub band_at : (chunk : List ℕ) (index : ℕ) → index < length chunk

@@ -17,7 +17,8 @@ use Rattle.icy_sixel.specs.declared.script.Status.TheVariants.{Payload, Dcs}
 use Rattle.sixel_base.specs.Limits.{Limit}
 use Rattle.icy_sixel.specs.Receiver.{Form, Nothing, OfPayload, OfString, count, status, fault}
 use Rattle.icy_sixel.specs.Receiver.{growths, is_over, end_fault, end_wants}
-use Rattle.icy_sixel.specs.inside.Session.{IsWhole, has_ended}
+use Rattle.icy_sixel.specs.inside.Session.{IsWhole}
+use Rattle.icy_sixel.specs.Receiver.{has_ended}
 use Rattle.sixel_decoder.proofs.ParserSteps.{Faults-along}
 use Rattle.sixel_decoder.proofs.Chunks.{first_terminator-ended}
 use Rattle.sixel_decoder.proofs.Finality.{front_ended, count_ended, settled_ended}

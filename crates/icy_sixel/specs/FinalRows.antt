@@ -41,11 +41,6 @@ rows_so_far image =
 abbrev pub pixel_so_far : DecoderState → Form → List ℕ → ℕ → ℕ → List ℕ
 pixel_so_far decoder form bytes = found_pixel decoder (found form bytes)
 
--- the bytes up to and with the first graphics new line, or all
-abbrev pub band_of : List ℕ → List ℕ
-band_of [] = []
-band_of (byte ∷ bytes) = if byte == 45 then byte ∷ [] else byte ∷ band_of bytes
-
 -- the greatest number of a usize
 abbrev pub usize_max : ℕ
 usize_max = 0xffff_ffff_ffff_ffff

@@ -1,3 +1,4 @@
+pub mod Bands
 pub mod ClippedImages
 pub mod FinalRows
 pub mod ImageView

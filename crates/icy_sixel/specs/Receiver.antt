@@ -10,11 +10,11 @@ use Rattle.sixel_base.specs.Payload as payloads
 use Rattle.sixel_base.specs.Decoder.{new_decoder}
 use Rattle.sixel_base.specs.declared.state.DecoderState.{DecoderState}
 use Rattle.sixel_base.specs.Settings.{Settings}
-use Rattle.sixel_base.specs.declared.status.SixelFeedStatus.TheVariants.{NeedMoreData}
+use Rattle.sixel_base.specs.declared.status.SixelFeedStatus.TheVariants.{NeedMoreData, Terminated}
 use Rattle.icy_sixel.specs.declared.script.Status.{Status}
 use Rattle.icy_sixel.specs.declared.script.Status.TheVariants as statuses
 use Rattle.sixel_base.specs.Dcs.{dcs_count, dcs_status, dcs_fault, dcs_growths}
-use Rattle.sixel_base.specs.Dcs.{dcs_in_payload, dcs_size, has_ended}
+use Rattle.sixel_base.specs.Dcs.{dcs_in_payload, dcs_size}
 use Rattle.sixel_base.specs.Dcs as strings
 use Rattle.sixel_base.specs.Status.{status_of}
 use Rattle.sixel_base.specs.Limits.{Limit}
@@ -109,11 +109,17 @@ status Nothing bytes = statuses.Payload NeedMoreData
 status (OfPayload settings) bytes = statuses.Payload (status_of (first_terminator bytes))
 status OfString bytes = statuses.Dcs (dcs_status bytes)
 
+-- whether an image of this status has ended
+abbrev pub has_ended : Status → Bool
+has_ended (statuses.Payload NeedMoreData) = false
+has_ended (statuses.Payload (Terminated byte)) = true
+has_ended (statuses.Dcs status) = strings.has_ended status
+
 -- whether it has ended
 abbrev pub is_over : Form → List ℕ → Bool
 is_over Nothing bytes = false
 is_over (OfPayload settings) bytes = is_terminated bytes
-is_over OfString bytes = has_ended (dcs_status bytes)
+is_over OfString bytes = strings.has_ended (dcs_status bytes)
 
 -- what is wrong with the bytes so far
 abbrev pub fault : Limit → Form → List ℕ → Option Fault
@@ -185,7 +191,7 @@ end_fault limit OfString bytes = strings.end_fault (dcs_status bytes)
 abbrev pub end_wants : Limit → Form → List ℕ → Bool
 end_wants limit Nothing bytes = false
 end_wants limit (OfPayload settings) bytes = is_none (payload_fault limit bytes)
-end_wants limit OfString bytes = has_ended (dcs_status bytes)
+end_wants limit OfString bytes = strings.has_ended (dcs_status bytes)
 
 -- the error of each call after an error
 abbrev pub failed : Form → Fault

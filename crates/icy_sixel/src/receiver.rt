@@ -11,6 +11,7 @@ ghost use Rattle.icy_sixel.specs.ReceiverCalls.{IsWriteCount};
 ghost use Rattle.icy_sixel.specs.ReceiverCalls.{KeepsPartial};
 ghost use Rattle.icy_sixel.specs.inside.Receiving.{reception_of};
 
+mod bands;
 mod final_rows;
 mod partial;
 mod row_buffer;
@@ -19,7 +20,8 @@ mod settings;
 use crate::decoder::{DcsSettings, SixelDcsFeedResult, SixelDecoder, SixelFeedResult};
 use crate::script::Status;
 use crate::sixel_image::SixelImage;
-pub use final_rows::{band_len, stable_rows};
+pub use bands::{BandStatus, ReceivedBand, band_len};
+pub use final_rows::stable_rows;
 pub use partial::PartialImage;
 use sixel_base::{Result, SixelError};
 use sixel_canvas::band_canvas::BandCanvas;

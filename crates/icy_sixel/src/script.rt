@@ -8,6 +8,7 @@ ghost use Rattle.sixel_base.specs.declared.error.SixelError.TheVariants.{OutOfMe
 ghost use Rattle.sixel_base.specs.Color.{default_registers};
 ghost use Rattle.sixel_base.specs.Decoder.{with_clip, with_pixel_limit};
 ghost use Rattle.sixel_base.specs.OneShot.{found, Payload};
+ghost use Rattle.icy_sixel.specs.Receiver.{has_ended};
 ghost use Rattle.icy_sixel.specs.Script.{AreOutcomes, IsOutcome};
 ghost use Rattle.icy_sixel.specs.Script.{IsDecoding, IsSessionOutcome};
 ghost use Rattle.icy_sixel.specs.Script.{frame_meaning, string_meaning};
@@ -74,6 +75,18 @@ pub enum Status {
     Payload(SixelFeedStatus),
     /// The status of a DCS sequence.
     Dcs(SixelDcsFeedStatus),
+}
+
+impl Status {
+    /// Whether the image has ended, and no later byte belongs to it.
+    pub fn has_ended(self) -> bool
+        ensures { result ≡ has_ended self }
+    {
+        match self {
+            Self::Payload(status) => status.terminator().is_some(),
+            Self::Dcs(status) => status.has_ended(),
+        }
+    }
 }
 
 /// The outcome of a step.

@@ -183,10 +183,11 @@ enum icysixel_form {
 
 /* What to do after a feed. */
 enum icysixel_status {
-    ICYSIXEL_MORE = 0,       /* feed the next chunk */
-    ICYSIXEL_COMPLETE = 1,   /* the image has ended: finish */
-    ICYSIXEL_CANCELLED = 2,  /* CAN or SUB, in `byte`, ended it early: finish or abort */
-    ICYSIXEL_INTERRUPTED = 3 /* another control, in `byte`, ended it early: finish or abort */
+    ICYSIXEL_MORE = 0,        /* feed the next chunk */
+    ICYSIXEL_COMPLETE = 1,    /* the image has ended: finish */
+    ICYSIXEL_CANCELLED = 2,   /* CAN or SUB, in `byte`, ended it early: finish or abort */
+    ICYSIXEL_INTERRUPTED = 3, /* another control, in `byte`, ended it early: finish or abort */
+    ICYSIXEL_ROWS = 4         /* from icysixel_feed_band: rows became final; feed the next bytes */
 };
 
 /* -- Handles -- */
@@ -218,7 +219,8 @@ uint32_t icysixel_feed(icysixel *handle, const uint8_t *chunk, size_t length, ic
 
 /* Reads a chunk of the open image as icysixel_feed does, but only up to its first graphics new
  * line, the byte `-`. So a host can draw each band of six rows at once. The caller feeds the rest
- * of the chunk after the bytes consumed. */
+ * of the chunk after the bytes consumed. The status is ICYSIXEL_ROWS in place of ICYSIXEL_MORE if
+ * icysixel_get_rows_so_far has become greater. */
 uint32_t icysixel_feed_band(icysixel *handle, const uint8_t *chunk, size_t length,
                             icysixel_fed *fed);
 

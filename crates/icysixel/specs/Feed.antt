@@ -1,9 +1,12 @@
 -- What a feed of a chunk does, as C sees it: the state before and after, what is reported, and the
 -- code. Each field is one fact. The words for what bytes mean are those of the receiver.
 use Rattle.std.specs.Prelude.{ℕ, ◌≡◌, ◌≢◌, ◌+◌, ◌≤◌, ◌++◌, List, length, true, false, None, nat_lt}
+use Rattle.std.specs.Prelude.{◌==◌, ◌&&◌, if◌then◌else◌}
 use Rattle.sixel_base.specs.Dcs.{dcs_fault, dcs_growths, IsSameString}
 use Rattle.sixel_base.specs.Payload.{payload_fault, payload_wants}
 use Rattle.sixel_base.specs.Settings.{Settings}
+use Rattle.icy_sixel.specs.Bands.{band_of}
+use Rattle.icy_sixel.specs.FinalRows.{rows_so_far}
 use Rattle.icy_sixel.specs.Receiver.{OfPayload, OfString, is_open, is_over, count, fault, growths}
 use Rattle.icy_sixel.specs.Receiver as receivers
 use Rattle.icysixel.specs.Code.{IsTold, fault_code, status_code, status_byte}
@@ -79,3 +82,17 @@ pub record IsFed (before after : State) (piece : List ℕ) (now : Fed) (code : �
   pub again : is_open before.receiver.image.form ≡ true
       → before.receiver.image.is_refused ≡ true
       → code ≡ fault_code (receivers.failed before.receiver.image.form)
+
+-- what is reported of a feed that made so many final rows so many: as of the feed, but rows, 4, in
+-- place of more, 0, if there are more of them
+abbrev pub band_report : ℕ → ℕ → Fed → Fed
+band_report rows_before rows_after fed =
+    if (fed.status == 0) && nat_lt rows_before rows_after then record fed { status = 4 } else fed
+
+-- The open image was fed the chunk up to its first graphics new line.
+pub record IsBandFed (before after : State) (piece : List ℕ) (now : Fed) (code : ℕ) : Type 0 where
+  -- what a feed of these bytes reports
+  pub fed : Fed
+  pub is_fed : IsFed before after (band_of piece) fed code
+  pub reported : code ≡ 0 → now ≡ band_report (rows_so_far before.receiver.image)
+      (rows_so_far after.receiver.image) fed

@@ -64,6 +64,21 @@ pub enum Code {
     RowsReleased = 23,
 }
 
+/// What C does after a feed: `icysixel_status` of the header.
+#[derive(Clone, Copy)]
+pub enum FeedStatus {
+    /// It feeds the next chunk.
+    More = 0,
+    /// The image has ended.
+    Complete = 1,
+    /// CAN or SUB ended the image early.
+    Cancelled = 2,
+    /// Another control ended the image early.
+    Interrupted = 3,
+    /// The image needs more data, and rows of it have become final.
+    Rows = 4,
+}
+
 /// The code of an error.
 pub fn code_of(error: &SixelError) -> u32
     requires { IsKnown error.now }
@@ -107,17 +122,17 @@ fn text_code(text: &str) -> u32
     }
 }
 
-/// The number of a status: `icysixel_status` of the header.
+/// The number of a status.
 pub fn status_code(status: Status) -> u32
     ensures { result ≡ status_code status }
 {
     match status {
-        Status::Payload(SixelFeedStatus::NeedMoreData) => 0,
-        Status::Payload(SixelFeedStatus::Terminated(_)) => 1,
-        Status::Dcs(SixelDcsFeedStatus::NeedMoreData) => 0,
-        Status::Dcs(SixelDcsFeedStatus::Complete) => 1,
-        Status::Dcs(SixelDcsFeedStatus::Cancelled(_)) => 2,
-        Status::Dcs(SixelDcsFeedStatus::Interrupted(_)) => 3,
+        Status::Payload(SixelFeedStatus::NeedMoreData) => FeedStatus::More as u32,
+        Status::Payload(SixelFeedStatus::Terminated(_)) => FeedStatus::Complete as u32,
+        Status::Dcs(SixelDcsFeedStatus::NeedMoreData) => FeedStatus::More as u32,
+        Status::Dcs(SixelDcsFeedStatus::Complete) => FeedStatus::Complete as u32,
+        Status::Dcs(SixelDcsFeedStatus::Cancelled(_)) => FeedStatus::Cancelled as u32,
+        Status::Dcs(SixelDcsFeedStatus::Interrupted(_)) => FeedStatus::Interrupted as u32,
     }
 }
 

@@ -2,16 +2,15 @@
 
 ghost use Rattle.std.specs.Prelude.{◌≡◌, ◌≢◌, Some, None, is_some, false, true};
 ghost use Rattle.sixel_base.specs.Decoder.{new_decoder};
-ghost use Rattle.icy_sixel.specs.FinalRows.{band_of};
 ghost use Rattle.icy_sixel.specs.Receiver.{OfPayload, OfString, begun, idle, no_image};
 ghost use Rattle.icysixel.specs.Code.{settings_of};
 ghost use Rattle.icysixel.specs.Code.{status_code as code_of_status};
 ghost use Rattle.icysixel.specs.Code.{status_byte as byte_of_status};
-ghost use Rattle.icysixel.specs.Feed.{IsFed};
+ghost use Rattle.icysixel.specs.Feed.{IsBandFed, IsFed};
 ghost use Rattle.icysixel.specs.Kept.{AreKept};
 ghost use Rattle.icysixel.specs.declared.state.State.{State};
 
-use crate::code::{Code, code_of, status_byte, status_code};
+use crate::code::{Code, FeedStatus, code_of, status_byte, status_code};
 use crate::parameters::settings;
 use crate::slot::Slot;
 use crate::state::State;
@@ -147,20 +146,34 @@ pub extern "C" fn icysixel_feed(slot: &mut Slot, piece: &[u8], fed: &mut Fed) ->
 
 /// Reads a chunk of the open image up to its first graphics new line.
 ///
-/// It writes the result as [`icysixel_feed`] does.
+/// It writes the result as [`icysixel_feed`] does, with a status of its own if rows became final.
 #[unsafe(no_mangle)]
 pub extern "C" fn icysixel_feed_band(slot: &mut Slot, piece: &[u8], fed: &mut Fed) -> u32
     ensures held { is_some slot.new.handle.state ≡ is_some slot.old.handle.state }
     ensures none { slot.old.handle.state ≡ None → result ≡ 1 }
     ensures fed { (before after : State) → slot.old.handle.state ≡ Some before
         → slot.new.handle.state ≡ Some after
-        → IsFed before after (band_of piece.now) fed.new result }
+        → IsBandFed before after piece.now fed.new result }
     ensures told { result ≢ 0 → fed.new ≡ fed.old }
 {
     if !slot.is_held() {
         return Code::NoHandle as u32;
     }
-    feed(slot.state(), &piece[..band_len(piece)], fed)
+    feed_band(slot.state(), piece, fed)
+}
+
+/// Reads a chunk of the image, if one is open, up to its first graphics new line.
+fn feed_band(state: &mut State, piece: &[u8], fed: &mut Fed) -> u32
+    ensures fed { IsBandFed state.old state.new piece.now fed.new result }
+    ensures told { result ≢ 0 → fed.new ≡ fed.old }
+{
+    let before = state.receiver.rows_so_far();
+    let code = feed(state, &piece[..band_len(piece)], fed);
+    let goes_on = code == Code::Success as u32 && fed.status == FeedStatus::More as u32;
+    if goes_on && before < state.receiver.rows_so_far() {
+        fed.status = FeedStatus::Rows as u32;
+    }
+    code
 }
 
 /// Reads a chunk of the image, if one is open, and writes the result.

@@ -2,14 +2,20 @@
 
 use crate::rows::{draw_rest, draw_rows};
 use icy_sixel::{
-    BackgroundMode, ChannelOrder, DcsSettings, ImageShape, PixelAspectRatio, Result, RowLayout,
-    SixelError, SixelReceiver,
+    BackgroundMode, BandStatus, ChannelOrder, DcsSettings, ImageShape, PixelAspectRatio, Result,
+    RowLayout, SixelError, SixelFeedStatus, SixelReceiver, Status,
 };
 use std::alloc::Global;
 
 const RED: [u8; 4] = [255, 0, 0, 255];
 
 const CLEAR: [u8; 4] = [0, 0, 0, 0];
+
+/// The image goes on, and no row has become final.
+const MORE: BandStatus = BandStatus::Image(Status::Payload(SixelFeedStatus::NeedMoreData));
+
+/// The image has ended at an ESC.
+const ENDED: BandStatus = BandStatus::Image(Status::Payload(SixelFeedStatus::Terminated(0x1b)));
 
 /// A byte that no pixel here has.
 const UNTOUCHED: [u8; 4] = [9, 9, 9, 9];
@@ -34,10 +40,15 @@ fn reads(receiver: &mut SixelReceiver, chunk: &[u8], rows: usize) -> bool {
     receiver.feed(chunk).is_ok() & (receiver.rows_so_far() == rows)
 }
 
-/// Whether so many bytes of the rest of a chunk are a band, and so many rows are final then.
-fn reads_band(receiver: &mut SixelReceiver, rest: &[u8], consumed: usize, rows: usize) -> bool {
+/// Whether so many bytes of the rest of a chunk are a band with this status.
+fn reads_band(
+    receiver: &mut SixelReceiver,
+    rest: &[u8],
+    consumed: usize,
+    status: BandStatus,
+) -> bool {
     match receiver.feed_band(rest) {
-        Ok(received) => (received.consumed == consumed) & (receiver.rows_so_far() == rows),
+        Ok(band) => (band.consumed == consumed) & (band.status == status),
         Err(_) => false,
     }
 }
@@ -112,11 +123,15 @@ fn final_rows(rt: HostRuntime) {
 #[test]
 fn bands_of_a_chunk(rt: HostRuntime) {
     let mut receiver = receiver(rt.alloc());
-    let first = reads_band(&mut receiver, b"#1~-~-~", 4, 6);
-    let second = reads_band(&mut receiver, b"~-~", 2, 12);
-    let last = reads_band(&mut receiver, b"~", 1, 12);
-    let ended = reads_band(&mut receiver, b"~\x1b-~-", 1, 12);
-    assert!(rt; first & second & last & ended);
+    let first = reads_band(&mut receiver, b"#1~-~-~", 4, BandStatus::Rows);
+    let second = reads_band(&mut receiver, b"~-~", 2, BandStatus::Rows);
+    let last = reads_band(&mut receiver, b"~", 1, MORE) & (receiver.rows_so_far() == 12);
+    let empty = reads_band(&mut receiver, b"--~", 1, BandStatus::Rows)
+        & reads_band(&mut receiver, b"-~", 1, MORE)
+        & reads_band(&mut receiver, b"~", 1, BandStatus::Rows)
+        & (receiver.rows_so_far() == 24);
+    let ended = reads_band(&mut receiver, b"~\x1b-~-", 1, ENDED);
+    assert!(rt; first & second & last & empty & ended);
 }
 
 #[test]
@@ -225,9 +240,11 @@ fn released_rows(rt: HostRuntime) {
 #[test]
 fn image_of_released_rows(rt: HostRuntime) {
     let mut receiver = receiver(rt.alloc());
-    let first = reads_band(&mut receiver, b"#1~-", 4, 6) & receiver.release_rows(6).is_ok();
-    let second = reads_band(&mut receiver, b"#1!3~-", 6, 12) & receiver.release_rows(12).is_ok();
-    let last = reads_band(&mut receiver, b"#1;2;0;100;0~~", 14, 12);
+    let first = reads_band(&mut receiver, b"#1~-", 4, BandStatus::Rows)
+        & receiver.release_rows(6).is_ok();
+    let second = reads_band(&mut receiver, b"#1!3~-", 6, BandStatus::Rows)
+        & receiver.release_rows(12).is_ok();
+    let last = reads_band(&mut receiver, b"#1;2;0;100;0~~", 14, MORE);
     let mut rows = [9; 72];
     let is_gone = match receiver.finish_into(11, NARROW, &mut rows) {
         Err(SixelError::InvalidData(text)) => text == "rows were released",

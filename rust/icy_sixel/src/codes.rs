@@ -29,6 +29,8 @@ pub(crate) const MORE: u32 = 0;
 pub(crate) const COMPLETE: u32 = 1;
 /// CAN or SUB ended the image early.
 pub(crate) const CANCELLED: u32 = 2;
+/// The image needs more data, and rows of it have become final.
+pub(crate) const ROWS: u32 = 4;
 
 /// The error of decoding that a code means.
 pub(crate) fn error_of(code: u32) -> SixelError {

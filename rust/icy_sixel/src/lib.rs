@@ -24,7 +24,10 @@ pub use encoder::{
 };
 pub use error::{Result, SixelError};
 pub use palette::{PaletteChoice, RefinedPalette, choose_palette, refine_palette, witnesses_hold};
-pub use receiver::{ChannelOrder, ImageShape, PartialImage, Received, RowLayout, SixelReceiver};
+pub use receiver::{
+    BandStatus, ChannelOrder, ImageShape, PartialImage, Received, ReceivedBand, RowLayout,
+    SixelReceiver,
+};
 pub use script::Status;
 pub use sixel_image::{BackgroundMode, PixelAspectRatio, SixelImage};
 pub use size::validate_encode_dimensions;

@@ -11,7 +11,7 @@ use crate::ffi::Fed;
 use crate::script::Status;
 use crate::sixel_image::SixelImage;
 pub use partial::PartialImage;
-pub use rows::{ChannelOrder, ImageShape, RowLayout};
+pub use rows::{BandStatus, ChannelOrder, ImageShape, ReceivedBand, RowLayout};
 
 /// The result of a feed of a receiver.
 #[derive(Clone, Copy, Debug, PartialEq, Eq)]

@@ -10,3 +10,15 @@ pub enum Status {
     /// The status of a DCS sequence.
     Dcs(SixelDcsFeedStatus),
 }
+
+impl Status {
+    /// Whether the image has ended, and no later byte belongs to it.
+    #[must_use]
+    pub const fn has_ended(self) -> bool {
+        !matches!(
+            self,
+            Self::Payload(SixelFeedStatus::NeedMoreData)
+                | Self::Dcs(SixelDcsFeedStatus::NeedMoreData)
+        )
+    }
+}

@@ -6,7 +6,7 @@ use common::*;
 use icy_sixel::receiver::{Received, SixelReceiver};
 use icy_sixel::script::Status;
 use icy_sixel::{
-    ChannelOrder, DcsSettings, Result, RowLayout, SixelDcsFeedStatus as Dcs, SixelDecoder,
+    BandStatus, ChannelOrder, DcsSettings, Result, RowLayout, SixelDcsFeedStatus as Dcs, SixelDecoder,
     SixelError, SixelFeedStatus as Payload, SixelImage,
 };
 use std::sync::{Arc, Mutex, RwLock, mpsc};
@@ -102,7 +102,8 @@ fn rows_are_copied_before_the_image_ends() {
     let mut receiver = SixelReceiver::new();
     receiver.begin_frame(DcsSettings::new(Some(9), Some(1), None));
     let received = receiver.feed_band(b"#1;2;100;0;0~-!3~-").unwrap();
-    assert_eq!((received.consumed, receiver.rows_so_far()), (14, 6));
+    assert_eq!((received.consumed, received.status), (14, BandStatus::Rows));
+    assert_eq!(receiver.rows_so_far(), 6);
     let mut out = vec![9; 68];
     assert_eq!(receiver.copy_rows(0, 6, NARROW, &mut out), Ok(()));
     assert_eq!(out, rows(6, [RED, CLEAR, UNTOUCHED]));
@@ -113,7 +114,8 @@ fn rows_are_copied_before_the_image_ends() {
     assert_eq!(receiver.release_rows(6), Ok(()));
     let released = Err(invalid("rows were released"));
     assert_eq!(receiver.copy_rows(5, 1, NARROW, &mut out), released);
-    assert!(receiver.feed_band(b"!3~").is_ok());
+    let goes_on = BandStatus::Image(Status::Payload(Payload::NeedMoreData));
+    assert_eq!(receiver.feed_band(b"!3~").unwrap().status, goes_on);
     assert_eq!(receiver.finish_into(5, NARROW, &mut out), Err(invalid("rows were released")));
     assert_eq!(receiver.finish(), Err(invalid("rows were released")));
     assert_eq!(receiver.finish_partial(), Err(invalid("rows were released")));

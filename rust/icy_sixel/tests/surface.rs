@@ -141,7 +141,8 @@ fn names_of_our_own() {
         receiver::SixelReceiver::feed;
     type Receiver = receiver::SixelReceiver;
     type Layout = icy_sixel::RowLayout;
-    let _: fn(&mut Receiver, &[u8]) -> Answer<receiver::Received> = Receiver::feed_band;
+    let _: fn(&mut Receiver, &[u8]) -> Answer<receiver::ReceivedBand> = Receiver::feed_band;
+    let _: fn(icy_sixel::Status) -> bool = icy_sixel::Status::has_ended;
     let _: fn(&Receiver, usize, usize, Layout, &mut [u8]) -> Answer<()> = Receiver::copy_rows;
     let _: fn(&mut Receiver, usize) -> Answer<()> = Receiver::release_rows;
     let _: fn(&mut Receiver, usize, Layout, &mut [u8]) -> Answer<icy_sixel::ImageShape> =
@@ -152,6 +153,8 @@ fn names_of_our_own() {
     is_value::<icy_sixel::ChannelOrder>();
     is_value::<icy_sixel::ImageShape>();
     is_value::<icy_sixel::Status>();
+    is_value::<icy_sixel::ReceivedBand>();
+    is_value::<icy_sixel::BandStatus>();
     let receiver = receiver::SixelReceiver::new();
     assert!(format!("{receiver:?}").starts_with("SixelReceiver"));
     let mut decoder = Decoder::new();

@@ -1,15 +1,11 @@
 -- What the session of a step was fed, and what the bytes of the step mean by the form of the image.
 -- Invariants of this library's own: what a step comes to is in Script.
-use Rattle.std.specs.Prelude.{ℕ, ◌≡◌, ◌++◌, ◌⊎◌, Bool, true, false, nat_lt, List, [], Option, Some}
+use Rattle.std.specs.Prelude.{ℕ, ◌≡◌, ◌++◌, ◌⊎◌, true, nat_lt, List, [], Option, Some}
 use Rattle.std.specs.Option.{option_or}
 use Rattle.sixel_base.specs.Fault.{Fault, StreamFailed}
 use Rattle.sixel_base.specs.Payload.{payload_fault}
 use Rattle.sixel_base.specs.Dcs.{dcs_status, dcs_fault, end_fault}
-use Rattle.sixel_base.specs.Dcs as strings
-use Rattle.sixel_base.specs.declared.status.SixelFeedStatus.TheVariants.{NeedMoreData, Terminated}
 use Rattle.sixel_base.specs.Limits.{Limit}
-use Rattle.icy_sixel.specs.declared.script.Status.{Status}
-use Rattle.icy_sixel.specs.declared.script.Status.TheVariants.{Payload, Dcs}
 use Rattle.icy_sixel.specs.Receiver.{Form, Nothing, OfPayload, OfString, is_over}
 use Rattle.icy_sixel.specs.Receiver as images
 use Rattle.icy_sixel.specs.Script.{Meaning}
@@ -19,12 +15,6 @@ pub record IsWhole (form : Form) (fed bytes : List ℕ) : Type 0 where
   pub left : List ℕ
   pub joined : fed ++ left ≡ bytes
   pub over : (left ≡ []) ⊎ (is_over form fed ≡ true)
-
--- whether an image of this status has ended
-abbrev pub has_ended : Status → Bool
-has_ended (Payload NeedMoreData) = false
-has_ended (Payload (Terminated byte)) = true
-has_ended (Dcs status) = strings.has_ended status
 
 -- what is wrong with bytes that are fed and finished
 abbrev pub whole_fault : Limit → Form → List ℕ → Option Fault

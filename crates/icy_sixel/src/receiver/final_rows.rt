@@ -4,7 +4,7 @@
 //! follows changes a row above it.
 
 ghost use Rattle.std.specs.Prelude.{◌≡◌, ◌≤◌, ◌<◌, ◌+◌, ◌^◌, ◌++◌, nat_le, ℕ, List, length};
-ghost use Rattle.std.specs.Prelude.{max, take};
+ghost use Rattle.std.specs.Prelude.{max};
 ghost use Rattle.sixel_base.specs.Limits.{Limit};
 ghost use Rattle.sixel_base.specs.OneShot.{IsFoundImage};
 ghost use Rattle.sixel_base.specs.Payload.{Image};
@@ -12,15 +12,14 @@ ghost use Rattle.sixel_base.specs.Picture.{picture};
 ghost use Rattle.sixel_base.specs.declared.state.DecoderState.{DecoderState};
 ghost use Rattle.sixel_canvas.specs.Layout.{AreRowsIn};
 ghost use Rattle.sixel_decoder.specs.CopiedImage.{IsEndHeight, IsImageCopied};
-ghost use Rattle.icy_sixel.specs.FinalRows.{band_of, final_rows, image_fault, pixel_so_far};
+ghost use Rattle.icy_sixel.specs.FinalRows.{final_rows, image_fault, pixel_so_far};
 ghost use Rattle.icy_sixel.specs.FinalRows.{rows_so_far};
 ghost use Rattle.icy_sixel.specs.FinalRows.{AreRowsCopied, AreRowsReleased, IsFinishedInto};
 ghost use Rattle.icy_sixel.specs.Receiver.{Form, found};
-ghost use Rattle.icy_sixel.specs.ReceiverCalls.{IsFed, KeepsPartial};
 ghost use Rattle.icy_sixel.specs.inside.Receiving.{reception_of};
 
 use crate::receiver::row_buffer::check_rows;
-use crate::receiver::{Open, Received, SixelReceiver};
+use crate::receiver::{Open, SixelReceiver};
 use sixel_base::{Result, SixelError};
 use sixel_canvas::channels::RowLayout;
 use sixel_decoder::{CopiedPayload, ImageShape};
@@ -45,17 +44,6 @@ impl SixelReceiver {
             Open::Payload(reader) => reader.rows_so_far(),
             Open::ControlString(reader) => reader.rows_so_far(),
         }
-    }
-
-    /// Reads a chunk up to its first graphics new line, which makes rows final.
-    ///
-    /// It does what [`feed`](Self::feed) does with the bytes up to and with the first `-`, or with
-    /// all bytes if there is none. So a host can draw each band at once, however long the chunk is.
-    pub fn feed_band(&mut self, chunk: &[u8]) -> Result<Received>
-        ensures fed { IsFed self.old self.new (band_of chunk.now) result }
-        ensures partial { KeepsPartial self.old.image self.new.image result }
-    {
-        self.feed(&chunk[..band_len(chunk)])
     }
 
     /// Copies final rows of the open image to the caller's memory.
@@ -236,21 +224,6 @@ impl Open {
             Open::ControlString(reader) => reader.finish_into(first, rows, layout, out),
         }
     }
-}
-
-/// Returns how many bytes of a chunk [`feed_band`](SixelReceiver::feed_band) reads.
-///
-/// They are the bytes up to and with the first graphics new line, or all if there is none.
-pub fn band_len(chunk: &[u8]) -> usize
-    ensures within { result ≤ length chunk.now }
-    ensures band { take result chunk.now ≡ band_of chunk.now }
-{
-    'bytes: for index in 0..chunk.len() {
-        if chunk[index] == b'-' {
-            return index + 1;
-        }
-    }
-    chunk.len()
 }
 
 /// States that final rows stay as they are, whatever bytes follow.

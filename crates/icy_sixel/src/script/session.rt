@@ -5,7 +5,7 @@ ghost use Rattle.std.specs.Prelude.{OnOk, IfOk, IfErr, MatchResult, List, ℕ};
 ghost use Rattle.sixel_base.specs.Fault.{Faults};
 ghost use Rattle.icy_sixel.specs.Receiver.{begun, count, fault, growths, is_open, status};
 ghost use Rattle.icy_sixel.specs.Script.{IsSessionOutcome};
-ghost use Rattle.icy_sixel.specs.inside.Session.{IsWhole, has_ended, meaning};
+ghost use Rattle.icy_sixel.specs.inside.Session.{IsWhole, meaning};
 
 use crate::decoder::SixelDecoder;
 use crate::receiver::{Received, SixelReceiver};
@@ -92,7 +92,7 @@ impl<'a> Session<'a> {
         for cut in self.cuts {
             let (chunk, left) = split_chunk(rest, *cut);
             match feed_chunk(receiver, chunk, consumed) {
-                Ok(fed) if !has_ended(fed.status) => {
+                Ok(fed) if !fed.status.has_ended() => {
                     consumed = fed.consumed;
                     rest = left;
                 }
@@ -139,16 +139,6 @@ fn feed_chunk(receiver: &mut SixelReceiver, chunk: &[u8], before: usize) -> Resu
     let mut fed = receiver.feed(chunk)?;
     fed.consumed += before;
     Ok(fed)
-}
-
-/// Whether an image of this status has ended.
-fn has_ended(status: Status) -> bool
-    ensures { result ≡ has_ended status }
-{
-    match status {
-        Status::Payload(status) => status.terminator().is_some(),
-        Status::Dcs(status) => status.has_ended(),
-    }
 }
 
 /// Finishes or aborts the image that was fed.

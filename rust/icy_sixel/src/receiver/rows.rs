@@ -1,11 +1,31 @@
 //! Rows of an open image, copied to a caller's memory in its own layout.
 
-use super::{Open, Received, SixelReceiver};
-use crate::codes::{BAD_STRIDE, BUFFER_TOO_SMALL, NO_SESSION, ROWS_NOT_FINAL};
+use super::{Open, SixelReceiver};
+use crate::codes::{BAD_STRIDE, BUFFER_TOO_SMALL, NO_SESSION, ROWS, ROWS_NOT_FINAL};
 use crate::codes::{ROWS_RELEASED, error_of};
 use crate::error::{Result, SixelError};
 use crate::ffi::BufferLayout;
+use crate::script::Status;
 use crate::settings::{BackgroundMode, PixelAspectRatio};
+
+/// What a feed of a band did.
+#[derive(Clone, Copy, Debug, PartialEq, Eq)]
+#[must_use = "it says how many bytes belong to the image, and what to do next"]
+pub struct ReceivedBand {
+    /// How many bytes of the chunk belong to the image.
+    pub consumed: usize,
+    /// What the caller does next.
+    pub status: BandStatus,
+}
+
+/// What the caller does after a feed of a band.
+#[derive(Clone, Copy, Debug, PartialEq, Eq)]
+pub enum BandStatus {
+    /// The image goes on, and rows have become final: copy them, and feed the next bytes.
+    Rows,
+    /// The image has ended, or no row has become final: the status of the image.
+    Image(Status),
+}
 
 /// The order of a pixel's bytes in memory.
 #[derive(Clone, Copy, Debug, PartialEq, Eq)]
@@ -45,13 +65,19 @@ impl SixelReceiver {
     ///
     /// It does what [`feed`](Self::feed) does with the bytes up to and with the first `-`, or with
     /// all bytes if there is none. So a host can draw each band at once, however long the chunk is.
+    /// The status is [`BandStatus::Rows`] if [`rows_so_far`](Self::rows_so_far) has become greater
+    /// and the image goes on. The caller feeds the rest of the chunk after the bytes consumed.
     ///
     /// # Errors
     ///
     /// Those of `feed`.
-    pub fn feed_band(&mut self, chunk: &[u8]) -> Result<Received> {
+    pub fn feed_band(&mut self, chunk: &[u8]) -> Result<ReceivedBand> {
         let fed = self.decoder.handle().feed_band(chunk).map_err(error_of)?;
-        Ok(self.received(fed))
+        let status = match fed.status {
+            ROWS => BandStatus::Rows,
+            _ => BandStatus::Image(self.received(fed).status),
+        };
+        Ok(ReceivedBand { consumed: fed.consumed, status })
     }
 
     /// Copies final rows of the open image to the caller's memory.

@@ -1,7 +1,7 @@
 use Rattle.std.proofs.Common.{◌≡◌, get_or, add-one, arith}
 use Rattle.std.proofs.lemmas.Bool.Decides.{nat_tests}
 use Rattle.icy_sixel.proofs.Bands.{band_at, band_whole}
-use Rattle.icy_sixel.proofs.receiver.final_rows.band_len.Goals as goal
+use Rattle.icy_sixel.proofs.receiver.bands.band_len.Goals as goal
 
 pub returns-then-chunk-index-eq45-clause-band : goal.returns-then-chunk-index-eq45-clause-band
 returns-then-chunk-index-eq45-clause-band c =
