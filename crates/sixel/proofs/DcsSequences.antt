@@ -4,6 +4,7 @@ use Rattle.std.proofs.Common.{sym, ◌∙◌, subst, arith, length, length-appen
 use Rattle.std.specs.Prelude.{◌==◌, IsSomeAnd}
 use Rattle.std.specs.Option.{option_or}
 use Rattle.std.proofs.lemmas.Bool.{false≢true}
+use Rattle.std.proofs.lemmas.Option.{none-some}
 use Rattle.std.proofs.lemmas.Bool.Decides.{nat_tests}
 use Rattle.sixel_base.specs.declared.error.SixelError.{SixelError}
 use Rattle.sixel_base.specs.declared.error.SixelError.TheVariants.{InvalidDimensions}
@@ -95,3 +96,39 @@ ended_faultless limit bytes some ended faultless =
     string_fault-some limit bytes some
     ∙ ap (λ o. option_or o (end_fault (dcs_status bytes))) faultless
     ∙ no_end_fault (dcs_status bytes) ended
+
+at_end : (e : SixelError) (limit : Limit) (fed bytes : List ℕ) (status : SixelDcsFeedStatus)
+    → dcs_status fed ≡ status → 0 < length bytes → dcs_fault limit fed ≡ None
+    → (status ≡ NeedMoreData → fed ≡ bytes)
+    → Faults e (has_ended status) (end_fault status) → Faults e true (string_fault limit bytes)
+at_end e limit fed bytes NeedMoreData is some none enough wrong =
+    let whole = enough refl in
+    let fault : string_fault limit bytes ≡ end_fault NeedMoreData =
+    string_fault-some limit bytes some
+    ∙ (ap (λ b. option_or (dcs_fault limit b) (end_fault (dcs_status b))) (sym whole)
+    ∙ (ap (λ o. option_or o (end_fault (dcs_status fed))) none ∙ ap end_fault is)) in
+    Faults-weaker e false _ (string_fault limit bytes) (λ f found. fault ∙ found) wrong
+at_end e limit fed bytes Complete is some none enough wrong =
+    Faults-weaker e true None (string_fault limit bytes) (λ f found. absurd (none-some f found))
+    wrong
+at_end e limit fed bytes (Cancelled byte) is some none enough wrong =
+    Faults-weaker e true None (string_fault limit bytes) (λ f found. absurd (none-some f found))
+    wrong
+at_end e limit fed bytes (Interrupted byte) is some none enough wrong =
+    Faults-weaker e true None (string_fault limit bytes) (λ f found. absurd (none-some f found))
+    wrong
+
+-- an error at the end of what was fed is the sequence's fault, or an allocation failed
+pub refused_at_end : (e : SixelError) (limit : Limit) (fed bytes : List ℕ) → 0 < length bytes
+    → dcs_fault limit fed ≡ None → (dcs_status fed ≡ NeedMoreData → fed ≡ bytes)
+    → Faults e (has_ended (dcs_status fed)) (end_fault (dcs_status fed))
+    → Faults e true (string_fault limit bytes)
+refused_at_end e limit fed bytes = at_end e limit fed bytes (dcs_status fed) refl
+
+-- a status without a fault at the end has ended
+pub has_ended-faultless : (status : SixelDcsFeedStatus) → end_fault status ≡ None
+    → has_ended status ≡ true
+has_ended-faultless NeedMoreData none = absurd (none-some _ (sym none))
+has_ended-faultless Complete none = refl
+has_ended-faultless (Cancelled byte) none = refl
+has_ended-faultless (Interrupted byte) none = refl

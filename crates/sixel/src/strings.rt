@@ -9,17 +9,15 @@ ghost use Rattle.sixel_base.specs.Dcs.{dcs_status, dcs_count, dcs_fault, has_end
 ghost use Rattle.sixel_base.specs.Payload.{Image};
 ghost use Rattle.sixel_base.specs.declared.status.SixelDcsFeedStatus.TheVariants.{Complete};
 ghost use Rattle.icy_sixel.specs.ImageView.{image_value};
-ghost use Rattle.icy_sixel.specs.Sessions.{sequence, sequence_owner};
+ghost use Rattle.icy_sixel.specs.Receiver.{OfString};
+ghost use Rattle.icy_sixel.specs.declared.script.Status.TheVariants.{Dcs};
 ghost use Rattle.sixel_base.specs.OneShot.{found, IsFoundImage, AreFoundRegisters};
 ghost use Rattle.sixel.specs.Strings.{string_fault, is_cut_short, IsFedInPieces, AreAnswered};
 ghost use Rattle.sixel.specs.Form.{image_form};
 ghost use Rattle.sixel.specs.Answer.{IsImageAnswer, Serves};
 
 use crate::images::write_image;
-use icy_sixel::{
-    SixelDcsFeedResult, SixelDcsFeedStatus, SixelDcsStreamDecoder, SixelDecoder, SixelError,
-    SixelImage,
-};
+use icy_sixel::{Received, SixelDcsFeedStatus, SixelError, SixelImage, SixelReceiver, Status};
 use sixel_io::Fault;
 use std::alloc::Global;
 use std::io::Write;
@@ -29,7 +27,7 @@ use std::io::Write;
 struct ControlString {
     image: SixelImage,
     len: usize,
-    status: SixelDcsFeedStatus,
+    status: Status,
 }
 
 /// Writes the image of each DCS sequence, until one ends early or no byte is left.
@@ -45,10 +43,10 @@ pub fn write_strings<O: Write>(
     ensures { Serves result (AreAnswered new_decoder bytes.now)
         (O.contents output.old) (O.contents output.new) }
 {
-    let mut decoder = SixelDecoder::new();
+    let mut receiver = SixelReceiver::new();
     let mut rest = bytes;
     'strings: while !rest.is_empty() {
-        rest = write_string(alloc, &mut decoder, piece_len, rest, output)?;
+        rest = write_string(alloc, &mut receiver, piece_len, rest, output)?;
     }
     Ok(())
 }
@@ -56,28 +54,28 @@ pub fn write_strings<O: Write>(
 /// Writes the image of the first DCS sequence, and returns the bytes after it.
 fn write_string<'a, O: Write>(
     alloc: Global,
-    decoder: &mut SixelDecoder,
+    receiver: &mut SixelReceiver,
     piece_len: usize,
     bytes: &'a [u8],
     output: &mut O,
 ) -> Result<&'a [u8], Fault>
     requires pieces { 0 < piece_len }
     requires some { 0 < length bytes.now }
-    ensures image { OnOk result ((image : Image) × IsFoundImage decoder.old (found bytes.now) image
+    ensures image { OnOk result ((image : Image) × IsFoundImage receiver.old.decoder (found bytes.now) image
         × Appends (O.contents output.old) (O.contents output.new) (image_form image)) }
     ensures registers { OnOk result
-        (AreFoundRegisters decoder.old (found bytes.now) decoder.new.registers) }
-    ensures set { OnOk result (IsSetAs decoder.old decoder.new) }
+        (AreFoundRegisters receiver.old.decoder (found bytes.now) receiver.new.decoder.registers) }
+    ensures set { OnOk result (IsSetAs receiver.old.decoder receiver.new.decoder) }
     ensures ended { OnOk result (has_ended (dcs_status bytes.now) ≡ true) }
-    ensures faultless { OnOk result (string_fault decoder.old.pixel_limit bytes.now ≡ None) }
+    ensures faultless { OnOk result (string_fault receiver.old.decoder.pixel_limit bytes.now ≡ None) }
     ensures complete { IfOk result (λ after. dcs_status bytes.now ≡ Complete
         → after.now ≡ drop (dcs_count bytes.now) bytes.now) }
     ensures cut_short { IfOk result (λ after. is_cut_short (dcs_status bytes.now) ≡ true
         → after.now ≡ []) }
-    ensures stopped { OnErr result (Serves result (AreAnswered decoder.old bytes.now)
+    ensures stopped { OnErr result (Serves result (AreAnswered receiver.old.decoder bytes.now)
         (O.contents output.old) (O.contents output.new)) }
 {
-    let string = read_string(alloc, decoder, piece_len, bytes)?;
+    let string = read_string(alloc, receiver, piece_len, bytes)?;
     write_read(alloc, string, bytes, output)
 }
 
@@ -92,10 +90,10 @@ fn write_read<'a, O: Write>(
     ensures image { Serves result
         (IsImageAnswer image_form None (λ i. i ≡ image_value string.image))
         (O.contents output.old) (O.contents output.new) }
-    ensures complete { IfOk result (λ after. string.status ≡ Complete
+    ensures complete { IfOk result (λ after. string.status ≡ Dcs Complete
         → after.now ≡ drop string.len bytes.now) }
-    ensures cut_short { IfOk result (λ after. is_cut_short string.status ≡ true
-        → after.now ≡ []) }
+    ensures cut_short { IfOk result (λ after. (status : SixelDcsFeedStatus)
+        → string.status ≡ Dcs status → is_cut_short status ≡ true → after.now ≡ []) }
 {
     match write_image(alloc, &string.image, output) {
         Ok(()) => Ok(bytes_after(string.status, string.len, bytes)),
@@ -104,13 +102,14 @@ fn write_read<'a, O: Write>(
 }
 
 /// The bytes to read after a DCS sequence of `len` bytes: none if it ended early.
-fn bytes_after(status: SixelDcsFeedStatus, len: usize, bytes: &[u8]) -> &[u8]
+fn bytes_after(status: Status, len: usize, bytes: &[u8]) -> &[u8]
     requires { len ≤ length bytes.now }
-    ensures complete { status ≡ Complete → result.now ≡ drop len bytes.now }
-    ensures cut_short { is_cut_short status ≡ true → result.now ≡ [] }
+    ensures complete { status ≡ Dcs Complete → result.now ≡ drop len bytes.now }
+    ensures cut_short { (found : SixelDcsFeedStatus) → status ≡ Dcs found
+        → is_cut_short found ≡ true → result.now ≡ [] }
 {
     match status {
-        SixelDcsFeedStatus::Complete => &bytes[len..],
+        Status::Dcs(SixelDcsFeedStatus::Complete) => &bytes[len..],
         _ => &[],
     }
 }
@@ -118,28 +117,28 @@ fn bytes_after(status: SixelDcsFeedStatus, len: usize, bytes: &[u8]) -> &[u8]
 /// Decodes the DCS sequence at the start of the bytes. Those after it are not read.
 fn read_string(
     alloc: Global,
-    decoder: &mut SixelDecoder,
+    receiver: &mut SixelReceiver,
     piece_len: usize,
     bytes: &[u8],
 ) -> Result<ControlString, SixelError>
     requires pieces { 0 < piece_len }
     requires some { 0 < length bytes.now }
     ensures image { IfOk result (λ string.
-        IsFoundImage decoder.old (found bytes.now) (image_value string.image)) }
+        IsFoundImage receiver.old.decoder (found bytes.now) (image_value string.image)) }
     ensures registers { OnOk result
-        (AreFoundRegisters decoder.old (found bytes.now) decoder.new.registers) }
-    ensures set { OnOk result (IsSetAs decoder.old decoder.new) }
+        (AreFoundRegisters receiver.old.decoder (found bytes.now) receiver.new.decoder.registers) }
+    ensures set { OnOk result (IsSetAs receiver.old.decoder receiver.new.decoder) }
     ensures len { IfOk result (λ string. string.len ≡ dcs_count bytes.now) }
     ensures within { IfOk result (λ string. string.len ≤ length bytes.now) }
-    ensures status { IfOk result (λ string. string.status ≡ dcs_status bytes.now) }
+    ensures status { IfOk result (λ string. string.status ≡ Dcs (dcs_status bytes.now)) }
     ensures ended { OnOk result (has_ended (dcs_status bytes.now) ≡ true) }
-    ensures faultless { OnOk result (string_fault decoder.old.pixel_limit bytes.now ≡ None) }
+    ensures faultless { OnOk result (string_fault receiver.old.decoder.pixel_limit bytes.now ≡ None) }
     ensures refused { IfErr result (λ error. Faults error true
-        (string_fault decoder.old.pixel_limit bytes.now)) }
+        (string_fault receiver.old.decoder.pixel_limit bytes.now)) }
 {
-    let mut session = decoder.begin_dcs(alloc);
-    let fed = feed_pieces(&mut session, piece_len, bytes)?;
-    let image = session.finish()?;
+    receiver.begin_dcs(alloc);
+    let fed = feed_pieces(receiver, piece_len, bytes)?;
+    let image = receiver.finish()?;
     Ok(ControlString {
         image,
         len: fed.consumed,
@@ -147,46 +146,45 @@ fn read_string(
     })
 }
 
-/// Feeds a new session chunks of `piece_len` bytes, until the sequence ends.
+/// Feeds a new DCS sequence chunks of `piece_len` bytes, until it ends.
 ///
 /// It also stops if no byte is left.
 fn feed_pieces(
-    session: &mut SixelDcsStreamDecoder,
+    receiver: &mut SixelReceiver,
     piece_len: usize,
     bytes: &[u8],
-) -> Result<SixelDcsFeedResult, SixelError>
+) -> Result<Received, SixelError>
     requires pieces { 0 < piece_len }
     requires some { 0 < length bytes.now }
-    requires fresh { (sequence session.old).bytes ≡ [] }
-    requires accepted { (sequence session.old).is_refused ≡ false }
-    ensures owner { (sequence_owner session.new).ghost_name
-        ≡ (sequence_owner session.old).ghost_name }
-    ensures kept { (sequence_owner session.new).now ≡ (sequence_owner session.old).now }
-    ensures start { (sequence session.new).decoder ≡ (sequence session.old).decoder }
-    ensures accepts { OnOk result ((sequence session.new).is_refused ≡ false) }
+    requires form { receiver.old.image.form ≡ OfString }
+    requires fresh { receiver.old.image.bytes ≡ [] }
+    requires accepted { receiver.old.image.is_refused ≡ false }
+    ensures decoder { receiver.new.decoder ≡ receiver.old.decoder }
+    ensures form { receiver.new.image.form ≡ OfString }
+    ensures start { receiver.new.image.start ≡ receiver.old.image.start }
+    ensures released { OnOk result
+        (receiver.new.image.released ≡ receiver.old.image.released) }
+    ensures accepts { OnOk result (receiver.new.image.is_refused ≡ false) }
     ensures pieces { OnOk result
-        (IsFedInPieces piece_len bytes.now (sequence session.new).bytes) }
-    ensures consumed { IfOk result (λ fed.
-        fed.consumed ≡ dcs_count (sequence session.new).bytes) }
-    ensures status { IfOk result (λ fed. fed.status ≡ dcs_status (sequence session.new).bytes) }
-    ensures within { IfOk result (λ fed.
-        fed.consumed ≤ length (sequence session.new).bytes) }
-    ensures over { IfOk result (λ fed. has_ended fed.status ≡ true
-        → IsSameString (sequence session.old).decoder.pixel_limit
-        (sequence session.new).bytes bytes.now) }
+        (IsFedInPieces piece_len bytes.now receiver.new.image.bytes) }
+    ensures consumed { IfOk result (λ fed. fed.consumed ≡ dcs_count receiver.new.image.bytes) }
+    ensures status { IfOk result (λ fed. fed.status ≡ Dcs (dcs_status receiver.new.image.bytes)) }
+    ensures within { IfOk result (λ fed. fed.consumed ≤ length receiver.new.image.bytes) }
+    ensures over { IfOk result (λ fed. has_ended (dcs_status receiver.new.image.bytes) ≡ true
+        → IsSameString receiver.old.image.start.pixel_limit receiver.new.image.bytes bytes.now) }
     ensures faultless { OnOk result
-        (dcs_fault (sequence session.old).decoder.pixel_limit (sequence session.new).bytes ≡ None) }
+        (dcs_fault receiver.old.image.start.pixel_limit receiver.new.image.bytes ≡ None) }
     ensures refused { IfErr result (λ error. Faults error true
-        (string_fault (sequence session.old).decoder.pixel_limit bytes.now)) }
+        (string_fault receiver.old.image.start.pixel_limit bytes.now)) }
 {
     let mut rest = bytes;
-    let mut fed = SixelDcsFeedResult {
+    let mut fed = Received {
         consumed: 0,
-        status: SixelDcsFeedStatus::NeedMoreData,
+        status: Status::Dcs(SixelDcsFeedStatus::NeedMoreData),
     };
     'pieces: while !rest.is_empty() && !fed.status.has_ended() {
         let (piece, after) = split_piece(piece_len, rest);
-        fed = together(fed, session.feed(piece)?);
+        fed = together(fed, receiver.feed(piece)?);
         rest = after;
     }
     Ok(fed)
@@ -201,12 +199,12 @@ fn split_piece(piece_len: usize, rest: &[u8]) -> (&[u8], &[u8])
 }
 
 /// The sum of the chunks before and of the last one.
-fn together(earlier: SixelDcsFeedResult, last: SixelDcsFeedResult) -> SixelDcsFeedResult
+fn together(earlier: Received, last: Received) -> Received
     requires { earlier.consumed + last.consumed < 2 ^ 64 }
     ensures consumed { result.consumed ≡ earlier.consumed + last.consumed }
     ensures status { result.status ≡ last.status }
 {
-    SixelDcsFeedResult {
+    Received {
         consumed: earlier.consumed + last.consumed,
         status: last.status,
     }

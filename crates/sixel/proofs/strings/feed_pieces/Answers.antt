@@ -1,6 +1,7 @@
 use Rattle.std.proofs.Common.{ℕ, ◌+◌, List, refl, ap, sym, ◌∙◌, arith, length, length-append, subst}
 use Rattle.std.proofs.lemmas.Result.{err_from_is_err_and}
-use Rattle.sixel_base.specs.Dcs.{IsSameString, has_ended}
+use Rattle.sixel_base.specs.Dcs.{IsSameString, dcs_status}
+use Rattle.icy_sixel.specs.Receiver.{has_ended}
 use Rattle.sixel.proofs.Chunks.{Cut, cut_begins, cut_joined, cut_more}
 use Rattle.sixel.proofs.DcsSequences.{begins_fits, goes_on, refused_early}
 use Rattle.sixel.proofs.strings.feed_pieces.Goals as goal
@@ -8,105 +9,84 @@ use Rattle.sixel.proofs.strings.feed_pieces.Goals as goal
 pub pieces-init : goal.pieces-init
 pieces-init c = grind arith
 
-pub returns-in_err-feed-clause-start : goal.returns-in_err-feed-clause-start
-returns-in_err-feed-clause-start c = grind arith
-
-pub returns-in_err-feed-clause-accepts : goal.returns-in_err-feed-clause-accepts
-returns-in_err-feed-clause-accepts c = grind arith
-
-pub returns-in_err-feed-clause-pieces : goal.returns-in_err-feed-clause-pieces
-returns-in_err-feed-clause-pieces c = grind arith
-
-pub returns-in_err-feed-clause-consumed : goal.returns-in_err-feed-clause-consumed
-returns-in_err-feed-clause-consumed c = grind arith
-
-pub returns-in_err-feed-clause-status : goal.returns-in_err-feed-clause-status
-returns-in_err-feed-clause-status c = grind arith
-
-pub returns-in_err-feed-clause-within : goal.returns-in_err-feed-clause-within
-returns-in_err-feed-clause-within c = grind arith
-
-pub returns-in_err-feed-clause-over : goal.returns-in_err-feed-clause-over
-returns-in_err-feed-clause-over c = grind arith
-
-pub returns-in_err-feed-clause-faultless : goal.returns-in_err-feed-clause-faultless
-returns-in_err-feed-clause-faultless c = grind arith
-
 pub returns-in_err-feed-clause-refused : goal.returns-in_err-feed-clause-refused
 returns-in_err-feed-clause-refused c =
     let p = err_from_is_err_and c.from_residual.result c.from_residual.ensures.1 in
+    let before = c.pieces.invariant in
     let fed = c.in_err-feed.ensures.fed in
     let waits =
-    sym c.pieces.invariant.known ∙ goes_on c.pieces.fed.status c.if-not-has_ended.ensures in
-    let cut : Cut c.args.piece_len c.args.bytes.now c.feed.new.self.reader.bytes
+    goes_on (dcs_status c.pieces.receiver.image.bytes)
+    (c.if-not-has_ended.ensures ∙ ap has_ended before.known) in
+    let cut : Cut c.args.piece_len c.args.bytes.now c.feed.new.self.image.bytes
     c.split_piece.result.1.now =
     cut_more _ _ _ _ _ _ _ c.split_piece.ensures.piece c.split_piece.ensures.after
-    fed.bytes waits c.pieces.invariant.cut in
-    let refused = fed.refused_for_good c.in_err-feed.field-0.0 c.split_piece.result.1.now refl
-    c.pieces.invariant.accepted in
-    rw (p.1, p.2) (refused_early _ _ c.args.session.now.reader.decoder.pixel_limit
+    (fed.bytes (rw before.form refl)) waits before.cut in
+    let refused = fed.string_refused_for_good c.in_err-feed.field-0.0 c.split_piece.result.1.now
+    before.form refl before.accepted in
+    rw (p.1, p.2) (refused_early _ _ c.args.receiver.now.image.start.pixel_limit
     c.args.bytes.now c.requires.some
-    (rw (cut_joined _ _ _ _ cut, c.pieces.invariant.start) at refused))
+    (rw (cut_joined _ _ _ _ cut, before.start) at refused))
 
 pub together-fed-requires : goal.together-fed-requires
 together-fed-requires c =
+    let before = c.pieces.invariant in
     let fed = c.in_ok-feed.ensures.fed in
+    let bytes = fed.bytes (rw before.form refl) in
     let waits =
-    sym c.pieces.invariant.known ∙ goes_on c.pieces.fed.status c.if-not-has_ended.ensures in
-    let cut : Cut c.args.piece_len c.args.bytes.now c.feed.new.self.reader.bytes
+    goes_on (dcs_status c.pieces.receiver.image.bytes)
+    (c.if-not-has_ended.ensures ∙ ap has_ended before.known) in
+    let cut : Cut c.args.piece_len c.args.bytes.now c.feed.new.self.image.bytes
     c.split_piece.result.1.now =
     cut_more _ _ _ _ _ _ _ c.split_piece.ensures.piece c.split_piece.ensures.after
-    fed.bytes waits c.pieces.invariant.cut in
+    bytes waits before.cut in
     omega (
       arith,
-      c.pieces.invariant.within,
+      before.within,
       fed.within,
-      ap length fed.bytes,
-      length-append c.pieces.session.reader.bytes c.split_piece.result.0.now,
-      begins_fits c.feed.new.self.reader.bytes c.args.bytes.now (cut_begins _ _ _ _ cut),
+      ap length bytes,
+      length-append c.pieces.receiver.image.bytes c.split_piece.result.0.now,
+      begins_fits c.feed.new.self.image.bytes c.args.bytes.now (cut_begins _ _ _ _ cut),
     )
 
 pub pieces-preserved : goal.pieces-preserved
 pieces-preserved c =
     let before = c.pieces.invariant in
-    let told = c.in_ok-feed.ensures in
-    let s = told.fed in
-    let fed : List ℕ = c.feed.new.self.reader.bytes in
+    let s = c.in_ok-feed.ensures.fed in
+    let form = s.form ∙ before.form in
+    let bytes = s.bytes (rw before.form refl) in
+    let fed : List ℕ = c.feed.new.self.image.bytes in
     let after : List ℕ = c.split_piece.result.1.now in
     let waits =
-    sym c.pieces.invariant.known ∙ goes_on c.pieces.fed.status c.if-not-has_ended.ensures in
-    let cut : Cut c.args.piece_len c.args.bytes.now c.feed.new.self.reader.bytes
-    c.split_piece.result.1.now =
+    goes_on (dcs_status c.pieces.receiver.image.bytes)
+    (c.if-not-has_ended.ensures ∙ ap has_ended before.known) in
+    let cut : Cut c.args.piece_len c.args.bytes.now fed after =
     cut_more _ _ _ _ _ _ _ c.split_piece.ensures.piece c.split_piece.ensures.after
-    s.bytes waits c.pieces.invariant.cut in
+    bytes waits before.cut in
     let all = c.together-fed.ensures in
     record {
-      owner = told.owner ∙ before.owner;
-      kept = told.registers ∙ before.kept;
+      decoder = s.decoder ∙ before.decoder;
+      form = form;
       start = s.start ∙ before.start;
+      released = s.released ∙ before.released;
       accepted = s.ok.1;
       cut = cut;
-      faultless = rw before.start at s.faultless;
+      faultless = rw (before.start, form) at s.faultless;
       counted =
-          all.consumed ∙ (ap (λ n. n + c.in_ok-feed.field-0.consumed) before.counted ∙ s.consumed);
+          all.consumed
+          ∙ (ap (λ n. n + c.in_ok-feed.field-0.consumed) before.counted
+          ∙ (rw (before.form, form) at s.consumed));
       within =
           omega (
             arith,
             all.consumed,
             before.within,
             s.within,
-            ap length s.bytes,
-            length-append c.pieces.session.reader.bytes c.split_piece.result.0.now,
+            ap length bytes,
+            length-append c.pieces.receiver.image.bytes c.split_piece.result.0.now,
           );
       over = λ ended.
-          subst (λ (w : List ℕ). IsSameString c.args.session.now.reader.decoder.pixel_limit fed w)
+          subst (λ (w : List ℕ). IsSameString c.args.receiver.now.image.start.pixel_limit fed w)
           (cut_joined _ _ fed after cut)
-          (rw before.start at (s.over_for_good after (ap has_ended (sym all.status) ∙ ended)));
-      known = all.status ∙ s.status;
+          (rw before.start at (s.over_for_good after before.form ended));
+      known = all.status ∙ (rw form at s.status);
     }
-
-pub returns-clause-consumed : goal.returns-clause-consumed
-returns-clause-consumed c = grind arith
-
-pub returns-clause-within : goal.returns-clause-within
-returns-clause-within c = grind arith

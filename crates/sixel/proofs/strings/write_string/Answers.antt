@@ -12,15 +12,15 @@ returns-in_err-string-clause-stopped g c =
     let p = err_from_is_err_and c.from_residual.result c.from_residual.ensures.1 in
     rw (p.1, p.2) (
       [],
-      Broken c.args.decoder.now c.args.bytes.now _ c.in_err-string.ensures.refused,
+      Broken c.args.receiver.now.decoder c.args.bytes.now _ c.in_err-string.ensures.refused,
       Appends-nil _,
     )
 
 pub returns-clause-stopped : goal.returns-clause-stopped
 returns-clause-stopped g c =
     let s = c.in_ok-string.ensures in
-    let string : HasEnded c.args.decoder.now c.args.bytes.now
-    (image_value c.in_ok-string.string.image) c.read_string.new.decoder =
+    let string : HasEnded c.args.receiver.now.decoder c.args.bytes.now
+    (image_value c.in_ok-string.string.image) c.read_string.new.receiver.decoder =
     record {
       ended = s.ended;
       faultless = s.faultless;
@@ -32,5 +32,5 @@ returns-clause-stopped g c =
 
 pub returns-clause-image : goal.returns-clause-image
 returns-clause-image g c =
-    OnOk-image (IsFoundImage c.args.decoder.now (found c.args.bytes.now)) _ c.write_read.result _ _
+    OnOk-image (IsFoundImage c.args.receiver.now.decoder (found c.args.bytes.now)) _ c.write_read.result _ _
     c.in_ok-string.ensures.image c.write_read.ensures.image

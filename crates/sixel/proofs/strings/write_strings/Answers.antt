@@ -1,4 +1,4 @@
-use Rattle.std.proofs.Common.{ℕ, List, Bor}
+use Rattle.std.proofs.Common.{ℕ, List, Bor, ap}
 use Rattle.std.proofs.lemmas.Result.{err_from_is_err_and}
 use Rattle.sixel.proofs.ImageSequences.{HasEnded, Serves-led, Serves-stopped, stands_first}
 use Rattle.sixel.proofs.ImageSequences.{still_leads, stands_last, stands_more, follows_smaller}
@@ -6,7 +6,7 @@ use Rattle.sixel.proofs.DcsSequences.{no_bytes, some_bytes}
 use Rattle.sixel.proofs.strings.write_strings.Goals as goal
 
 pub strings-init : goal.strings-init
-strings-init g c = stands_first _ _ _ _ c.new-decoder.ensures
+strings-init g c = stands_first _ _ _ _ (ap (λ r. r.decoder) c.new-receiver.ensures)
 
 pub returns-in_err-rest : goal.returns-in_err-rest
 returns-in_err-rest g c =
@@ -14,7 +14,7 @@ returns-in_err-rest g c =
     let leads =
     still_leads _ _ _ _ _ _ (some_bytes c.strings.rest.now c.strings-test.ensures)
     c.strings.invariant in
-    Serves-led c.from_residual.result _ _ c.strings.decoder c.strings.rest.now _ _ _ leads
+    Serves-led c.from_residual.result _ _ c.strings.receiver.decoder c.strings.rest.now _ _ _ leads
     (rw (p.1, p.2) (Serves-stopped (Bor (List ℕ)) (Unit {0}) _ _ _ _ c.in_err-rest.ensures.stopped))
 
 pub strings-smaller : goal.strings-smaller
@@ -31,8 +31,8 @@ strings-preserved g c =
     let leads =
     still_leads _ _ _ _ _ _ (some_bytes c.strings.rest.now c.strings-test.ensures)
     c.strings.invariant in
-    let string : HasEnded c.strings.decoder c.strings.rest.now s.image.0
-    c.write_string.new.decoder =
+    let string : HasEnded c.strings.receiver.decoder c.strings.rest.now s.image.0
+    c.write_string.new.receiver.decoder =
     record {
       ended = s.ended;
       faultless = s.faultless;

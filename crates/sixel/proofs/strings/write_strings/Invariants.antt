@@ -6,7 +6,7 @@ use Rattle.sixel.proofs.strings.write_strings.Given as goal
 
 abbrev pub invariant-strings : goal.invariant-strings
 invariant-strings g l =
-    Stands new_decoder l.bytes l.decoder l.rest (g.O.Write.contents l.fn.output)
+    Stands new_decoder l.bytes l.receiver.decoder l.rest (g.O.Write.contents l.fn.output)
     (g.O.Write.contents l.output)
 
 abbrev pub decreases-strings : goal.decreases-strings
