@@ -1,6 +1,7 @@
 //! Bytes that are decoded at once and in chunks, which never change what comes of them.
 
 use crate::notation::{bytes, push_error, push_fed, push_outcome, word};
+use crate::random::Random;
 use crate::session::{Form, Owner, Session, check_decoder, settings};
 use anyhow::{Result, ensure};
 use icy_sixel::receiver::Received;
@@ -193,12 +194,11 @@ fn follows(before: Status, chunk: &[u8], fed: Received) -> bool {
     }
 }
 
-/// Lengths of 1 to 97 bytes by a linear congruential generator, an empty chunk after each.
+/// Random lengths of 1 to 97 bytes, an empty chunk after each.
 fn uneven(alloc: Global, seed: u32, len: usize) -> Result<Vec<usize>> {
-    let (mut lengths, mut random) = (Vec::new(alloc), seed);
+    let (mut lengths, mut random) = (Vec::new(alloc), Random::new(seed));
     for _ in 0..=len / 8 {
-        random = random.wrapping_mul(1_664_525).wrapping_add(1_013_904_223);
-        lengths.extend_from_slice(&[(random % 97) as usize + 1, 0])?;
+        lengths.extend_from_slice(&[random.below(97).saturating_add(1), 0])?;
     }
     Ok(lengths)
 }

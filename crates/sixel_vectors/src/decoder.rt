@@ -1,9 +1,11 @@
-//! Vectors of `images.tsv`, `strings.tsv`, `controls.tsv`, `beginnings.tsv` and `aborts.tsv`.
+//! Vectors of `images.tsv`, `strings.tsv`, `controls.tsv`, `beginnings.tsv`, `tokens.tsv` and
+//! `aborts.tsv`.
 
 use crate::chunks::Input;
 use crate::notation::{Outcome, bytes, push_outcome};
+use crate::random::Random;
 use crate::session::{Form, Owner, Session, check_decoder};
-use anyhow::{Result, ensure};
+use anyhow::{Context, Result, ensure};
 use icy_sixel::{SixelDecoder, SixelImage, sixel_decode, sixel_decode_from_dcs};
 use std::alloc::Global;
 
@@ -102,6 +104,24 @@ pub fn check_beginnings(alloc: Global, [settings, text, after]: [&str; 3]) -> Re
             input.bytes = [beginning, &[byte], &after].concat(alloc)?;
             input.check_whole(alloc, &mut String::new(alloc))?;
         }
+    }
+    Ok(())
+}
+
+/// Checks a vector of `tokens.tsv`: payloads of these tokens in random order, on both canvases.
+pub fn check_tokens(alloc: Global, [settings, count, text]: [&str; 3]) -> Result<()> {
+    let tokens: Vec<&str> = text.split(' ').collect(alloc)?;
+    let mut input = Input::parse(alloc, settings, "")?;
+    let mut random = Random::new(1);
+    for number in 0..count.parse::<usize>()? {
+        input.bytes = Vec::new(alloc);
+        for _ in 0..random.below(61) {
+            let token = tokens.get(random.below(tokens.len())).unwrap_or(&"");
+            input.bytes.extend_from_slice(token.as_bytes())?;
+        }
+        input
+            .check_whole(alloc, &mut String::new(alloc))
+            .with_context(|| number)?;
     }
     Ok(())
 }

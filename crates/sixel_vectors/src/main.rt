@@ -10,6 +10,7 @@ mod chunks;
 mod decoder;
 mod encoder;
 mod notation;
+mod random;
 mod session;
 mod settings;
 mod steps;
@@ -20,8 +21,8 @@ use std::fs;
 use std::process::ExitCode;
 
 /// The names of the files, in the order in which they are checked.
-const FILES: &str = "images strings sessions steps receivers controls beginnings aborts writes \
-    texts trips palettes witnesses sizes settings registers rows spans";
+const FILES: &str = "images strings sessions steps receivers controls beginnings tokens aborts \
+    writes texts trips palettes witnesses sizes settings registers rows spans";
 
 fn main(rt: HostRuntime) -> Result<ExitCode> {
     let mut status = ExitCode::SUCCESS;
@@ -74,6 +75,7 @@ fn write_results(alloc: Global, found: &mut String, name: &str, line: &[&str]) -
         ("receivers", columns) => calls::write_receiver(alloc, found, columns),
         ("controls", columns) => decoder::check_controls(alloc, columns.try_into()?),
         ("beginnings", columns) => decoder::check_beginnings(alloc, columns.try_into()?),
+        ("tokens", columns) => decoder::check_tokens(alloc, columns.try_into()?),
         ("aborts", columns) => decoder::check_aborts(alloc, columns.try_into()?),
         ("writes", columns) => canvas::check_work(alloc, columns.try_into()?),
         ("texts", columns) => encoder::check_text(alloc, columns.try_into()?),
