@@ -176,6 +176,9 @@ static void test_copied_rows(void)
     CHECK(icysixel_begin(h) == OK && FEED("\033Pq~") == OK);
     RETURNS(INCOMPLETE, icysixel_finish_into(h, 0, &rgba, rows, 72, &shape, &wanted));
     CHECK(icysixel_is_receiving(h) == 0);
+    CHECK(icysixel_begin_partial(h, 9, 1, -1) == OK && FEED("~-~") == OK);
+    CHECK(icysixel_release_rows(h, 6) == OK && FEED("!65536~") == BAD);
+    RETURNS(STREAM_FAILED, icysixel_finish_partial(h, &shape, &(uint32_t){0}));
 }
 
 /* Pixels are copied row by row with a stride, only into a buffer that is large enough, and once. */

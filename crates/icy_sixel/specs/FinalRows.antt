@@ -3,7 +3,7 @@
 use Rattle.std.specs.Prelude.{ℕ, ◌≡◌, ◌+◌, ◌-◌, ◌*◌, ◌≤◌, ◌==◌, max, min, nat_lt}
 use Rattle.std.specs.Prelude.{if◌then◌else◌, List, [], ◌∷◌, length}
 use Rattle.std.specs.Prelude.{Option, Some, None, Result, IfOk, OnOk, IfErr, OnErr, IsSomeAnd}
-use Rattle.std.specs.Prelude.{MatchOption}
+use Rattle.std.specs.Prelude.{◌&&◌, MatchOption}
 use Rattle.sixel_base.specs.CallFault.{CallFault, Exactly, RowsNotFinal, RowsReleased, ShortStride}
 use Rattle.sixel_base.specs.CallFault.{IsCallFault, IsVerdict}
 use Rattle.sixel_base.specs.Decoder.{IsSetAs}
@@ -66,6 +66,14 @@ copy_fault image first rows layout len =
     else if nat_lt first image.released then Some RowsReleased
     else layout_fault layout rows len
 
+-- the open image after the rows above this one were released: a fault leaves no picture then, because
+-- no memory has all of its rows
+abbrev pub with_released : Reception → ℕ → Reception
+with_released image rows = record image {
+  released = max image.released rows;
+  keeps_partial = image.keeps_partial && (rows == 0);
+}
+
 -- Final rows of the open image are copied to the caller's memory, or the call fails.
 pub record AreRowsCopied (image : Reception) (first rows : ℕ) (layout : RowLayout)
     (old new : List ℕ) (result : Result (Unit {0}) SixelError) : Type 0 where
@@ -102,9 +110,8 @@ pub record AreRowsReleased (old new : Receiver) (rows : ℕ)
     (result : Result (Unit {0}) SixelError) : Type 0 where
   -- the call fails exactly for what is wrong with it
   pub verdict : IsVerdict (release_fault old.image rows) result
-  -- only the number of released rows changes, and it never becomes smaller
-  pub released : OnOk result
-      (new ≡ record old { image = record old.image { released = max old.image.released rows } })
+  -- the number of released rows never becomes smaller, and nothing else of the rows changes
+  pub released : OnOk result (new ≡ record old { image = with_released old.image rows })
   -- an error leaves the receiver as it was
   pub unchanged : OnErr result (new ≡ old)
 

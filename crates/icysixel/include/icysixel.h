@@ -268,7 +268,8 @@ uint32_t icysixel_copy_rows(icysixel *handle, size_t first, size_t rows,
 /* Releases the final rows above row `rows` of the open image, which were copied. So an image that
  * is shown while it comes takes the memory of one band: copy the final rows and release them after
  * each band. icysixel_finish_into copies those that are left. icysixel_finish fails with
- * ICYSIXEL_ROWS_RELEASED, because no memory has the whole image. The call does not allocate. The
+ * ICYSIXEL_ROWS_RELEASED, because no memory has the whole image, and a later fault leaves no
+ * picture. The call does not allocate. The
  * errors are ICYSIXEL_NO_SESSION if no image is open, and ICYSIXEL_ROWS_NOT_FINAL if `rows` is
  * above icysixel_get_rows_so_far. */
 uint32_t icysixel_release_rows(icysixel *handle, size_t rows);
@@ -312,10 +313,10 @@ uint32_t icysixel_begin_dcs_partial(icysixel *handle);
  *
  * The errors are ICYSIXEL_NO_SESSION if no image is open, ICYSIXEL_STREAM_FAILED or
  * ICYSIXEL_DCS_STREAM_FAILED after a feed that kept no picture, ICYSIXEL_INCOMPLETE for a DCS
- * sequence whose payload has not begun, and ICYSIXEL_OUT_OF_MEMORY, also if rows were released
- * before the fault. They close the image too. Then no image is stored, no register changes, and
- * `shape` and `fault` are not written. ICYSIXEL_ROWS_RELEASED does the same, but leaves the image
- * open: end it by icysixel_finish_into. */
+ * sequence whose payload has not begun, and ICYSIXEL_OUT_OF_MEMORY. They close the image too. Then
+ * no image is stored, no register changes, and `shape` and `fault` are not written.
+ * ICYSIXEL_ROWS_RELEASED does the same, but leaves the image open: end it by
+ * icysixel_finish_into. */
 uint32_t icysixel_finish_partial(icysixel *handle, icysixel_shape *shape, uint32_t *fault);
 
 /* Aborts the open image, if there is one. The decoder is unchanged. */

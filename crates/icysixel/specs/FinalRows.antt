@@ -11,7 +11,7 @@ use Rattle.sixel_base.specs.Settings.{pad_of, p1_of, p2_of}
 use Rattle.sixel_base.specs.declared.error.SixelError.TheVariants.{BufferSizeMismatch}
 use Rattle.icy_sixel.specs.FinalRows.{AreCopied, ImageShape, IsFoundShape, RowLayout, buffer_len}
 use Rattle.icy_sixel.specs.FinalRows.{copy_fault, image_fault, into_fault, pixel_so_far}
-use Rattle.icy_sixel.specs.FinalRows.{release_fault, rows_from, usize_max}
+use Rattle.icy_sixel.specs.FinalRows.{release_fault, rows_from, usize_max, with_released}
 use Rattle.icy_sixel.specs.Receiver.{is_open, no_image}
 use Rattle.icy_sixel.specs.Receiver as receivers
 use Rattle.sixel_canvas.specs.declared.channels.ChannelOrder.{ChannelOrder}
@@ -64,11 +64,9 @@ pub record AreRowsReleased (before after : State) (rows code : ℕ) : Type 0 whe
   pub closed : is_open before.receiver.image.form ≡ false → code ≡ 2
   pub verdict : is_open before.receiver.image.form ≡ true
       → IsRowsVerdict (release_fault before.receiver.image rows) code
-  -- only the number of released rows changes
+  -- the number of released rows never becomes smaller, and nothing else of the rows changes
   pub released : code ≡ 0 → after.receiver ≡ record before.receiver {
-    image = record before.receiver.image {
-      released = max before.receiver.image.released rows;
-    };
+    image = with_released before.receiver.image rows;
   }
   pub kept : AreKept before after
   pub unchanged : code ≢ 0 → after.receiver ≡ before.receiver

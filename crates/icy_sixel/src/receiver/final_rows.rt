@@ -4,7 +4,6 @@
 //! follows changes a row above it.
 
 ghost use Rattle.std.specs.Prelude.{◌≡◌, ◌≤◌, ◌<◌, ◌+◌, ◌^◌, ◌++◌, nat_le, ℕ, List, length};
-ghost use Rattle.std.specs.Prelude.{max};
 ghost use Rattle.sixel_base.specs.Limits.{Limit};
 ghost use Rattle.sixel_base.specs.OneShot.{IsFoundImage};
 ghost use Rattle.sixel_base.specs.Payload.{Image};
@@ -15,6 +14,7 @@ ghost use Rattle.sixel_decoder.specs.CopiedImage.{IsEndHeight, IsImageCopied};
 ghost use Rattle.icy_sixel.specs.FinalRows.{final_rows, image_fault, pixel_so_far};
 ghost use Rattle.icy_sixel.specs.FinalRows.{rows_so_far};
 ghost use Rattle.icy_sixel.specs.FinalRows.{AreRowsCopied, AreRowsReleased, IsFinishedInto};
+ghost use Rattle.icy_sixel.specs.FinalRows.{with_released};
 ghost use Rattle.icy_sixel.specs.Receiver.{Form, found};
 ghost use Rattle.icy_sixel.specs.inside.Receiving.{reception_of};
 
@@ -94,7 +94,8 @@ impl SixelReceiver {
     /// the rows between two calls, and not of the image: copy the final rows and release them after
     /// each [`feed_band`](Self::feed_band). [`finish_into`](Self::finish_into) returns the rows
     /// that are left. [`finish`](Self::finish) and [`finish_partial`](Self::finish_partial) fail,
-    /// because no memory has the whole image, and leave it open. A number below
+    /// because no memory has the whole image, and leave it open. For the same reason a later fault
+    /// leaves no picture, whatever [`set_keep_partial`](Self::set_keep_partial) was. A number below
     /// [`released_rows`](Self::released_rows) changes nothing. The call does not allocate.
     ///
     /// The error is `InvalidData("rows are not final")` if `rows` is greater than
@@ -191,9 +192,7 @@ impl Open {
     /// Releases the rows above row `rows`, which are final.
     fn release_rows(&mut self, rows: usize)
         requires { rows ≤ rows_so_far (reception_of self.old) }
-        ensures { reception_of self.new ≡ record (reception_of self.old) {
-          released = max (reception_of self.old).released rows;
-        } }
+        ensures { reception_of self.new ≡ with_released (reception_of self.old) rows }
     {
         match self {
             Open::Nothing => {}

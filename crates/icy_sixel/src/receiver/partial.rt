@@ -47,9 +47,9 @@ impl SixelReceiver {
     /// The errors close the image too, and leave the decoder unchanged:
     ///
     /// - The error of [`feed`](Self::feed) after a failed feed: nothing was kept. An allocation that
-    ///   fails keeps nothing.
+    ///   fails keeps nothing, and so does an image of which rows were released.
     /// - `InvalidData("incomplete SIXEL DCS sequence")`: a DCS sequence without payload so far.
-    /// - `OutOfMemory`: an allocation failed, or rows were released before the fault.
+    /// - `OutOfMemory`: an allocation failed.
     ///
     /// If rows were released and no feed has failed, the error is
     /// `InvalidData("rows were released")`. Then the image stays open as it was, and

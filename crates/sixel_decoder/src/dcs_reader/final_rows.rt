@@ -1,6 +1,6 @@
 //! The rows of a DCS sequence's image, final or all, in a caller's memory.
 
-ghost use Rattle.std.specs.Prelude.{◌≡◌, ◌≤◌, ◌<◌, ◌+◌, ◌^◌, false, length, max};
+ghost use Rattle.std.specs.Prelude.{◌≡◌, ◌==◌, ◌≤◌, ◌<◌, ◌+◌, ◌^◌, ◌&&◌, false, length, max};
 ghost use Rattle.sixel_base.specs.Dcs.{dcs_status, end_fault};
 ghost use Rattle.sixel_base.specs.Fault.{DcsStreamFailed};
 ghost use Rattle.sixel_base.specs.OneShot.{found};
@@ -79,16 +79,20 @@ impl DcsReader<BandCanvas> {
         }
     }
 
-    /// Releases the rows above row `rows`, which are final.
+    /// Releases the rows above row `rows`, which are final. Then a fault leaves no picture.
     pub fn release_rows(&mut self, rows: usize)
         requires above { rows ≤ dcs_final_rows self.old.decoder.pixel_limit self.old.bytes }
         requires accepted { 0 < rows → self.old.is_refused ≡ false }
-        ensures { self.new ≡ record self.old { released = max self.old.released rows } }
+        ensures { self.new ≡ record self.old {
+          released = max self.old.released rows;
+          keeps_partial = self.old.keeps_partial && (rows == 0);
+        } }
     {
         let DcsState::Payload(reader) = &mut self.parser.state else {
             return;
         };
         reader.release_rows(rows);
+        self.parser.keeps_partial &= rows == 0;
     }
 
     /// Ends the image, and copies rows of it to a caller's memory.

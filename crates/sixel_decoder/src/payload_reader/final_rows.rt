@@ -1,6 +1,6 @@
 //! The rows of a payload's image, final or all, in a caller's memory.
 
-ghost use Rattle.std.specs.Prelude.{◌≡◌, ◌≤◌, ◌<◌, ◌+◌, ◌^◌, false, length, max};
+ghost use Rattle.std.specs.Prelude.{◌≡◌, ◌==◌, ◌≤◌, ◌<◌, ◌+◌, ◌^◌, ◌&&◌, false, length, max};
 ghost use Rattle.sixel_base.specs.Bytes.{front};
 ghost use Rattle.sixel_base.specs.Clip.{clipped_pixel};
 ghost use Rattle.sixel_base.specs.Fault.{StreamFailed};
@@ -78,16 +78,20 @@ impl PayloadReader<BandCanvas> {
         }
     }
 
-    /// Releases the rows above row `rows`, which are final.
+    /// Releases the rows above row `rows`, which are final. Then a fault leaves no picture.
     pub fn release_rows(&mut self, rows: usize)
         requires above { rows ≤ final_rows self.old.origin.pixel_limit (settled self.old.bytes) }
         requires accepted { 0 < rows → self.old.is_refused ≡ false }
-        ensures { self.new ≡ record self.old { released = max self.old.released rows } }
+        ensures { self.new ≡ record self.old {
+          released = max self.old.released rows;
+          keeps_partial = self.old.keeps_partial && (rows == 0);
+        } }
     {
         let PayloadState::Reading(parser) = &mut self.state else {
             return;
         };
         parser.release_rows(rows);
+        self.keeps_partial &= rows == 0;
     }
 
     /// Ends the image, and copies rows of it to a caller's memory.

@@ -53,10 +53,10 @@ impl SixelReceiver {
     /// They close the image too, and leave the decoder unchanged:
     ///
     /// - that of [`feed`](Self::feed) after a failed feed, if nothing was kept, and if no image is
-    ///   open
+    ///   open; an image of which rows were released keeps nothing
     /// - `InvalidData` with `incomplete SIXEL DCS sequence` if the payload of a DCS sequence has
     ///   not begun
-    /// - `OutOfMemory` if an allocation fails, or if rows were released before the fault
+    /// - `OutOfMemory` if an allocation fails
     ///
     /// `InvalidData` with `rows were released` if rows were released and no feed has failed. Then
     /// the image stays open as it was, and [`finish_into`](Self::finish_into) returns the rows that

@@ -120,7 +120,8 @@ impl SixelReceiver {
     /// the rows between two calls, and not of the image. [`finish_into`](Self::finish_into) returns
     /// the rows that are left. [`finish`](Self::finish) and
     /// [`finish_partial`](Self::finish_partial) fail, because no memory has the whole image, and
-    /// leave it open. The call does not allocate.
+    /// leave it open. For the same reason a later fault leaves no picture. The call does not
+    /// allocate.
     ///
     /// # Errors
     ///
