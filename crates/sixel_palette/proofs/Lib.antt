@@ -15,6 +15,7 @@ pub mod PaletteNearest
 pub mod PaletteNearestEntry
 pub mod PaletteOrder
 pub mod PalettePages
+pub mod PalettePositions
 pub mod PaletteRanks
 pub mod PaletteRefined
 pub mod PaletteRelaxation

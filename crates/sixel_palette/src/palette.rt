@@ -28,6 +28,7 @@ mod indices;
 mod lloyd;
 mod nearest_entry;
 pub mod nearest_indices;
+mod positions;
 mod rank_bitmap;
 mod refined;
 mod register_color;

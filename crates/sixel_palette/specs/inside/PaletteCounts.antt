@@ -1,7 +1,7 @@
 -- The distinct colors of an image's opaque pixels, with the number of pixels that have each.
-use Rattle.std.specs.Prelude.{◌≡◌, ℕ, ◌+◌, ◌*◌, List, [], ◌∷◌, map, length}
+use Rattle.std.specs.Prelude.{◌≡◌, ℕ, ◌+◌, ◌*◌, ◌<◌, List, [], ◌∷◌, map, length}
 use Rattle.std.specs.Prelude.{nat_lt, if◌then◌else◌, slice_index}
-use Rattle.sixel_palette.specs.Palette.{rank, color_at, nearest}
+use Rattle.sixel_palette.specs.Palette.{rank, color_at, nearest, IsOpaque}
 use Rattle.sixel_palette.specs.Refined.{sum_to}
 use Rattle.sixel_palette.specs.inside.PaletteCodes.{color_of}
 
@@ -23,6 +23,17 @@ pub record AreCounts (pixels codes counts : List ℕ) (count : ℕ) : Type 0 whe
   pub same : length counts ≡ length codes
   pub sums : (number : ℕ → ℕ)
       → dot counts (map number codes) ≡ sum_to (pixel_number number pixels) count
+
+-- the position is that of the code of a pixel's color
+pub record IsPosition (pixels codes : List ℕ) (pixel position : ℕ) : Type 0 where
+  pub within : position < length codes
+  pub code : slice_index codes position ≡ rank (color_at pixels pixel)
+
+-- the positions of the first opaque pixels are stored, as far as there are places for them
+abbrev pub ArePositions : List ℕ → List ℕ → List ℕ → ℕ → Type 0
+ArePositions pixels codes positions count =
+    (pixel : ℕ) → pixel < count → pixel < length positions → IsOpaque pixels pixel
+    → IsPosition pixels codes pixel (slice_index positions pixel)
 
 -- the squared distance of a code's color to its nearest entry
 abbrev pub near_code : List (List ℕ) → ℕ → ℕ

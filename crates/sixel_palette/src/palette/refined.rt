@@ -10,20 +10,20 @@ ghost use Rattle.sixel_palette.specs.PaletteBound.{AreApart};
 ghost use Rattle.sixel_palette.specs.Palette.{IsShown, distance};
 ghost use Rattle.sixel_palette.specs.Refined.{IsRegisterColor, register_color, IsRefined};
 ghost use Rattle.sixel_palette.specs.inside.PaletteAssignment.{IsAssignment, IsWeighed};
-ghost use Rattle.sixel_palette.specs.inside.PaletteCounts.{counted_error, AreCounts};
+ghost use Rattle.sixel_palette.specs.inside.PaletteCounts.{counted_error, AreCounts, ArePositions};
 ghost use Rattle.sixel_palette.specs.inside.PaletteCodes.{color_of, IsListed, AreColorCodes};
 
 use crate::palette::assignment::{Assignment, summed};
 use crate::palette::bins::bins_of;
-use crate::palette::color_counts::counts_of;
+use crate::palette::color_counts::{Counts, counts_of};
 use crate::palette::color_sums::AREA_LIMIT;
 use crate::palette::colors::{color_of, shown_codes};
 use crate::palette::distance::distance;
 use crate::palette::farthest_on_top::add_farthest;
 use crate::palette::gain_cut::cut_colors;
-use crate::palette::indices::indices_of;
 use crate::palette::lloyd::improve;
 use crate::palette::nearest_entry::NO_ENTRY;
+use crate::palette::positions::indices_by;
 use crate::palette::register_color::register_color;
 use sixel_base::size::validate_color_count;
 use sixel_base::{Result, SixelError};
@@ -110,16 +110,16 @@ fn palette_of(
     if codes.is_empty() {
         return transparent(alloc, pixels);
     }
-    let counts = counts_of(alloc, pixels, &codes)?;
-    palette_of_counts(alloc, pixels, &codes, &counts, room)
+    let counted = counts_of(alloc, pixels, &codes)?;
+    palette_of_counts(alloc, pixels, &codes, &counted, room)
 }
 
-/// The refined palette from the codes of the opaque pixels' colors and their numbers of pixels.
+/// The refined palette from the codes and the counts of the opaque pixels' colors.
 fn palette_of_counts(
     alloc: Global,
     pixels: &[u8],
     codes: &[u32],
-    counts: &[u32],
+    counted: &Counts,
     room: usize,
 ) -> std::result::Result<RefinedPalette, AllocError>
     requires area { length pixels.now / 4 ≤ area_limit }
@@ -130,14 +130,19 @@ fn palette_of_counts(
     requires small { AreColorCodes codes.now }
     requires shown { (c : List ℕ) → IsShown pixels.now c → IsListed codes.now c }
     requires listed { (c : List ℕ) → IsListed codes.now c → IsShown pixels.now c }
-    requires counts { AreCounts pixels.now codes.now counts.now (length pixels.now / 4) }
+    requires counts { AreCounts pixels.now codes.now counted.now.counts.items
+        (length pixels.now / 4) }
+    requires positions { ArePositions pixels.now codes.now counted.now.positions.items
+        (length pixels.now / 4) }
     ensures { IfOk result (IsRefined pixels.now room) }
 {
+    let counts: &[u32] = &counted.counts;
     let initial = initial_colors(alloc, codes, counts, room)?;
     let assignment = assignment_of(alloc, codes, counts, &initial, room)?;
     let topped = add_farthest(alloc, codes, assignment, room)?;
     let error = summed(counts, &topped.traversal.squares);
-    let indices = indices_of(alloc, pixels, codes, &topped.traversal.indices)?;
+    let positions: &[u32] = &counted.positions;
+    let indices = indices_by(alloc, pixels, codes, positions, &topped.traversal.indices)?;
     let apart = least_apart(&topped.witnesses);
     Ok(RefinedPalette {
         colors: topped.colors,

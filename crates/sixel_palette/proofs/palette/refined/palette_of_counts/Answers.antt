@@ -14,8 +14,8 @@ use Rattle.sixel_palette.proofs.palette.refined.palette_of_counts.Goals as goal
 
 pub assignment_of-requires-clause-weighed : goal.assignment_of-requires-clause-weighed
 assignment_of-requires-clause-weighed c =
-    weighed_from_counts c.args.pixels.now c.args.codes.now c.args.counts.now c.requires.counts
-    c.requires.area
+    rw c.deref-counts.ensures.value (weighed_from_counts c.args.pixels.now c.args.codes.now
+    c.args.counted.now.counts.items c.requires.counts c.requires.area)
 
 pub assignment_of-requires-clause-shown : goal.assignment_of-requires-clause-shown
 assignment_of-requires-clause-shown c = rw c.deref.ensures.value c.in_ok-initial.ensures.shown
@@ -27,22 +27,22 @@ summed-error-requires-clause-small c =
     squares_mapped topped.colors.items c.args.codes.now topped.traversal.squares.items
     topped.traversal.indices.items c.in_ok-topped.ensures.whole.squares
     c.in_ok-topped.ensures.relaxed in
-    rw (c.deref-2.ensures.value, mapped)
+    rw (c.deref-counts.ensures.value, c.deref-2.ensures.value, mapped)
     (omega (
       arith,
-      error-small topped.colors.items c.args.codes.now c.args.counts.now
-          (weighed_from_counts c.args.pixels.now c.args.codes.now c.args.counts.now
+      error-small topped.colors.items c.args.codes.now c.args.counted.now.counts.items
+          (weighed_from_counts c.args.pixels.now c.args.codes.now c.args.counted.now.counts.items
           c.requires.counts c.requires.area),
     ))
 
-pub indices_of-requires-clause-listed : goal.indices_of-requires-clause-listed
-indices_of-requires-clause-listed c = c.requires.shown
+pub indices_by-requires-clause-listed : goal.indices_by-requires-clause-listed
+indices_by-requires-clause-listed c = c.requires.shown
 
 pub returns : goal.returns
 returns c =
     let pixels = c.args.pixels.now in
     let codes = c.args.codes.now in
-    let counts = c.args.counts.now in
+    let counts = c.args.counted.now.counts.items in
     let initial = c.in_ok-initial.initial.items in
     let assignment = c.in_ok-assignment.assignment in
     let topped = c.in_ok-topped.topped in
@@ -86,14 +86,17 @@ returns c =
           (λ d m.
           nearest_entry-lt colors d some c.in_ok-topped.ensures.shown
           (IsColor-shown pixels d bytes m));
-      error = (rw (c.deref-2.ensures.value, mapped) at c.summed-error.ensures) ∙ own;
+      error =
+          (rw (c.deref-counts.ensures.value, c.deref-2.ensures.value, mapped) at
+          c.summed-error.ensures) ∙ own;
       falls =
           omega (
             arith,
             own,
             first,
             c.in_ok-topped.ensures.falls counts,
-            rw c.deref.ensures.value at c.in_ok-assignment.ensures.falls,
+            rw (c.deref-counts.ensures.value, c.deref.ensures.value) at
+                c.in_ok-assignment.ensures.falls,
           );
       initial_shown = c.in_ok-initial.ensures.shown;
       initial_few = c.in_ok-initial.ensures.few;
@@ -111,3 +114,6 @@ returns c =
       bound = λ n l.
           bound_of_shown pixels topped.witnesses.items c.least_apart-apart.result n apart occur l;
     }
+
+pub indices_by-requires-clause-positions : goal.indices_by-requires-clause-positions
+indices_by-requires-clause-positions c = rw c.deref-positions.ensures.value c.requires.positions
