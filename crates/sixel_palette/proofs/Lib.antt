@@ -1,5 +1,6 @@
 pub mod PaletteApart
 pub mod PaletteBits
+pub mod PaletteBoxes
 pub mod PaletteCandidates
 pub mod PaletteCells
 pub mod PaletteChoices

@@ -1,6 +1,10 @@
 //! A histogram of colors by the six highest bits of each channel.
 
 ghost use Rattle.std.specs.Prelude.{◌≡◌, ◌+◌, ◌*◌, ◌/◌, ◌<◌, ◌≤◌, ℕ, List, length, All, IfOk};
+ghost use Rattle.std.specs.Prelude.{OnOk};
+ghost use Rattle.sixel_base.specs.Limits.{area_limit};
+ghost use Rattle.sixel_palette.specs.inside.PaletteAssignment.{IsWeighed};
+ghost use Rattle.sixel_palette.specs.inside.PaletteBoxes.{binned_pixels};
 ghost use Rattle.sixel_palette.specs.inside.PaletteCodes.{AreColorCodes};
 
 use crate::palette::color_sums::ColorSums;
@@ -21,7 +25,8 @@ pub struct Bin {
 #[inline(never)]
 pub fn bins_of(alloc: Global, codes: &[u32], counts: &[u32]) -> Result<Vec<Bin>, AllocError>
     requires small { AreColorCodes codes.now }
-    requires same { length counts.now ≡ length codes.now }
+    requires weighed { IsWeighed codes.now counts.now }
+    ensures { IfOk result (λ bins. binned_pixels bins.items ≤ area_limit) }
 {
     // The codes rise, so the bins of one red come one after the other.
     let mut positions = vec![in alloc; 0; SLAB]?;
@@ -42,7 +47,10 @@ fn add_color(
     color: [u8; 3],
     sums: ColorSums,
 ) -> Result<(), AllocError>
-    requires { length positions.old ≡ 4096 }
+    requires positions { length positions.old ≡ 4096 }
+    requires few { binned_pixels bins.old.items + sums.count ≤ area_limit }
+    ensures { OnOk result
+        (binned_pixels bins.new.items ≡ binned_pixels bins.old.items + sums.count) }
 {
     let corner = [color[0] / 4, color[1] / 4, color[2] / 4];
     let cell = usize::from(corner[1]) * 64 + usize::from(corner[2]);

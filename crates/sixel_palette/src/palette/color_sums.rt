@@ -24,7 +24,9 @@ pub struct ColorSums {
 
 impl ColorSums {
     /// The sums of no pixel.
-    pub fn none() -> ColorSums {
+    pub fn none() -> ColorSums
+        ensures { result.count ≡ 0 }
+    {
         ColorSums {
             count: 0,
             red: 0,
@@ -34,8 +36,11 @@ impl ColorSums {
     }
 
     /// The sums of so many pixels of one color.
-    pub fn of(color: [u8; 3], count: u32) -> ColorSums {
-        let count = u64::from(count).min(AREA_LIMIT);
+    pub fn of(color: [u8; 3], count: u32) -> ColorSums
+        requires { count ≤ area_limit }
+        ensures { result.count ≡ count }
+    {
+        let count = u64::from(count);
         ColorSums {
             count,
             red: count * u64::from(color[0]),
@@ -45,13 +50,11 @@ impl ColorSums {
     }
 
     /// The sums of these pixels and of others.
-    ///
-    /// It saturates: no image has more pixels than the greatest one.
     #[inline(always)]
-    pub fn plus(self, more: ColorSums) -> ColorSums {
-        if self.count + more.count > AREA_LIMIT {
-            return self;
-        }
+    pub fn plus(self, more: ColorSums) -> ColorSums
+        requires { self.count + more.count ≤ area_limit }
+        ensures { result.count ≡ self.count + more.count }
+    {
         ColorSums {
             count: self.count + more.count,
             red: self.red + more.red,

@@ -3,10 +3,12 @@
 //! X. Wu, "Color quantization by dynamic programming and principal analysis", ACM Transactions on
 //! Graphics 11 (1992), 348-372, cuts boxes in this way.
 
-ghost use Rattle.std.specs.Prelude.{◌≡◌, ◌+◌, ◌*◌, ◌/◌, ◌<◌, ◌≤◌, ℕ, length, All, IfOk};
-ghost use Rattle.std.specs.Prelude.{OnOk};
+ghost use Rattle.std.specs.Prelude.{◌≡◌, ◌+◌, ◌-◌, ◌*◌, ◌/◌, ◌%◌, ◌<◌, ◌≤◌, ℕ, length, All};
+ghost use Rattle.std.specs.Prelude.{IfOk, OnOk, slice_index};
+ghost use Rattle.sixel_base.specs.Limits.{area_limit};
 ghost use Rattle.sixel_palette.specs.Refined.{IsRegisterColor};
-ghost use Rattle.sixel_palette.specs.inside.PaletteBoxes.{AreRanges};
+ghost use Rattle.sixel_palette.specs.inside.PaletteBoxes.{AreRanges, AreWithin, binned_pixels};
+ghost use Rattle.sixel_palette.specs.inside.PaletteBoxes.{channel_place, side, summed_pixels};
 
 use crate::palette::bins::Bin;
 use crate::palette::color_sums::ColorSums;
@@ -21,7 +23,6 @@ const SIDES: usize = 64;
 struct ColorBox {
     start: usize,
     end: usize,
-    sums: ColorSums,
     cut: Cut,
 }
 
@@ -51,7 +52,9 @@ enum Channel {
 impl Channel {
     /// The channel of a bin's corner.
     #[inline(always)]
-    fn of(self, bin: &Bin) -> u8 {
+    fn of(self, bin: &Bin) -> u8
+        ensures { result ≡ slice_index bin.now.corner (channel_place self) }
+    {
         match self {
             Channel::Red => bin.corner[0],
             Channel::Green => bin.corner[1],
@@ -64,7 +67,8 @@ impl Channel {
 ///
 /// There are at most `room`. The bins are reordered.
 pub fn cut_colors(alloc: Global, bins: &mut [Bin], room: usize) -> Result<Vec<[u8; 3]>, AllocError>
-    requires { 0 < room }
+    requires room { 0 < room }
+    requires few { binned_pixels bins.old ≤ area_limit }
     ensures shown { IfOk result (λ colors. All IsRegisterColor colors.items) }
     ensures room { IfOk result (λ colors. length colors.items ≤ room) }
     ensures some { IfOk result (λ colors. 0 < length colors.items) }
@@ -72,16 +76,31 @@ pub fn cut_colors(alloc: Global, bins: &mut [Bin], room: usize) -> Result<Vec<[u
     let boxes = boxes_of(alloc, bins, room)?;
     let mut colors = Vec::with_capacity(alloc, boxes.len())?;
     for color_box in &boxes {
-        colors.push(color_box.sums.mean_or(percent_color(0, 0, 0)))?;
+        colors.push(mean_of(&bins[color_box.start..color_box.end]))?;
     }
     Ok(colors)
 }
 
+/// The register color next to the mean of some bins.
+fn mean_of(bins: &[Bin]) -> [u8; 3]
+    requires { binned_pixels bins.now ≤ area_limit }
+    ensures { IsRegisterColor result }
+{
+    let mut sums = ColorSums::none();
+    for bin in bins {
+        sums = sums.plus(bin.sums);
+    }
+    sums.mean_or(percent_color(0, 0, 0))
+}
+
 /// The bins in boxes, at most `room`.
 fn boxes_of(alloc: Global, bins: &mut [Bin], room: usize) -> Result<Vec<ColorBox>, AllocError>
-    requires { 0 < room }
+    requires room { 0 < room }
+    requires few { binned_pixels bins.old ≤ area_limit }
     ensures room { IfOk result (λ boxes. length boxes.items ≤ room) }
     ensures some { IfOk result (λ boxes. 0 < length boxes.items) }
+    ensures ranges { IfOk result (λ boxes. AreRanges (length bins.new) boxes.items) }
+    ensures pixels { OnOk result (binned_pixels bins.new ≡ binned_pixels bins.old) }
 {
     let mut lower = vec![in alloc; ColorSums::none(); SIDES]?;
     let mut upper = vec![in alloc; ColorSums::none(); SIDES]?;
@@ -108,8 +127,10 @@ fn cut_in_two(
 ) -> Result<(), AllocError>
     requires position { position < length boxes.old.items }
     requires ranges { AreRanges (length bins.old) boxes.old.items }
+    requires few { binned_pixels bins.old ≤ area_limit }
     requires lower { length lower.old ≡ 64 }
     requires upper { length upper.old ≡ 64 }
+    ensures pixels { OnOk result (binned_pixels bins.new ≡ binned_pixels bins.old) }
     ensures one_more { OnOk result (length boxes.new.items ≡ length boxes.old.items + 1) }
     ensures ranges { OnOk result (AreRanges (length bins.old) boxes.new.items) }
 {
@@ -141,6 +162,7 @@ fn divide(bins: &mut [Bin], start: usize, end: usize, cut: Cut) -> usize
     requires within { end ≤ length bins.old }
     ensures from { start ≤ result }
     ensures to { result ≤ end }
+    ensures pixels { binned_pixels bins.new ≡ binned_pixels bins.old }
 {
     let mut middle = start;
     for position in start..end {
@@ -162,6 +184,7 @@ fn box_of(
 ) -> ColorBox
     requires order { start ≤ end }
     requires within { end ≤ length bins.now }
+    requires few { binned_pixels bins.now ≤ area_limit }
     requires lower { length lower.old ≡ 64 }
     requires upper { length upper.old ≡ 64 }
     ensures start { result.start ≡ start }
@@ -176,11 +199,9 @@ fn box_of(
     let blue = cut_along(part, Channel::Blue, lower, upper, none);
     let green = cut_along(part, Channel::Green, lower, upper, blue);
     let red = cut_along(part, Channel::Red, lower, upper, green);
-    let least = sides_of(part, Channel::Red).low;
     ColorBox {
         start,
         end,
-        sums: lower[least].plus(upper[least]),
         cut: red,
     }
 }
@@ -196,21 +217,23 @@ fn cut_along(
     upper: &mut [ColorSums],
     cut: Cut,
 ) -> Cut
+    requires few { binned_pixels bins.now ≤ area_limit }
     requires lower { length lower.old ≡ 64 }
     requires upper { length upper.old ≡ 64 }
-    ensures lower { length lower.new ≡ 64 }
-    ensures upper { length upper.new ≡ 64 }
 {
     let sides = sides_of(bins, channel);
+    let lower = &mut lower[sides.low..sides.high + 1];
+    let upper = &mut upper[sides.low..sides.high + 1];
     gather(bins, channel, sides, lower);
-    sum_above(lower, sides, upper);
+    sum_above(lower, upper);
     best_cut(lower, upper, channel, sides, cut)
 }
 
 /// The least and the greatest value of a channel, or of all if there are many bins.
 fn sides_of(bins: &[Bin], channel: Channel) -> Sides
-    ensures low { result.low < 64 }
+    ensures order { result.low ≤ result.high }
     ensures high { result.high < 64 }
+    ensures within { AreWithin channel result bins.now }
 {
     if bins.len() > SIDES {
         return Sides {
@@ -225,43 +248,44 @@ fn sides_of(bins: &[Bin], channel: Channel) -> Sides
         low = value.min(low);
         high = value.max(high);
     }
-    Sides { low, high }
+    Sides {
+        low: low.min(high),
+        high,
+    }
 }
 
 /// The value of a channel of a bin's corner.
 #[inline(always)]
 fn side_of(bin: &Bin, channel: Channel) -> usize
-    ensures { result < 64 }
+    ensures value { result ≡ side channel bin.now }
+    ensures small { result < 64 }
 {
     usize::from(channel.of(bin)) % SIDES
 }
 
-/// Sums the bins of each value of a channel.
+/// Sums the bins of each value of a channel, from the least value on.
 #[inline(always)]
 fn gather(bins: &[Bin], channel: Channel, sides: Sides, sums: &mut [ColorSums])
-    requires high { sides.high < 64 }
-    requires sums { length sums.old ≡ 64 }
-    ensures { length sums.new ≡ 64 }
+    requires few { binned_pixels bins.now ≤ area_limit }
+    requires within { AreWithin channel sides bins.now }
+    requires sums { length sums.old ≡ sides.high + 1 - sides.low }
+    ensures { summed_pixels sums.new ≡ binned_pixels bins.now }
 {
-    for value in sides.low..sides.high + 1 {
-        sums[value] = ColorSums::none();
-    }
+    sums.fill(ColorSums::none());
     for bin in bins {
-        let value = side_of(bin, channel);
+        let value = side_of(bin, channel) - sides.low;
         sums[value] = sums[value].plus(bin.sums);
     }
 }
 
 /// Sums what is above each value.
 #[inline(always)]
-fn sum_above(sums: &[ColorSums], sides: Sides, upper: &mut [ColorSums])
-    requires high { sides.high < 64 }
-    requires sums { length sums.now ≡ 64 }
-    requires upper { length upper.old ≡ 64 }
-    ensures { length upper.new ≡ 64 }
+fn sum_above(sums: &[ColorSums], upper: &mut [ColorSums])
+    requires few { summed_pixels sums.now ≤ area_limit }
+    requires upper { length upper.old ≡ length sums.now }
 {
     let mut above = ColorSums::none();
-    for value in (sides.low..sides.high + 1).rev() {
+    for value in (0..sums.len()).rev() {
         upper[value] = above;
         above = above.plus(sums[value]);
     }
@@ -276,20 +300,22 @@ fn best_cut(
     sides: Sides,
     cut: Cut,
 ) -> Cut
+    requires few { summed_pixels lower.now ≤ area_limit }
+    requires order { sides.low ≤ sides.high }
     requires high { sides.high < 64 }
-    requires lower { length lower.now ≡ 64 }
-    requires upper { length upper.now ≡ 64 }
+    requires lower { length lower.now ≡ sides.high + 1 - sides.low }
+    requires upper { length upper.now ≡ length lower.now }
 {
     let mut best = cut;
     let mut left = ColorSums::none();
-    for value in sides.low..sides.high {
-        if lower[value].count > 0 {
-            left = left.plus(lower[value]);
-            let gain = left.gain(upper[value]);
+    for position in 0..sides.high - sides.low {
+        if lower[position].count > 0 {
+            left = left.plus(lower[position]);
+            let gain = left.gain(upper[position]);
             if best.gain < gain {
                 best = Cut {
                     channel,
-                    value: value as u8,
+                    value: (sides.low + position) as u8,
                     gain,
                 };
             }

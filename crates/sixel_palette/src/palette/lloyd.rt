@@ -5,6 +5,7 @@
 
 ghost use Rattle.std.specs.Prelude.{◌≡◌, ◌<◌, ◌≤◌, ℕ, List, length, All, IfOk};
 ghost use Rattle.sixel_palette.specs.Refined.{IsRegisterColor};
+ghost use Rattle.sixel_palette.specs.inside.PaletteBoxes.{summed_pixels};
 ghost use Rattle.sixel_palette.specs.inside.PaletteCodes.{AreColorCodes};
 ghost use Rattle.sixel_palette.specs.inside.PaletteCounts.{counted_error};
 ghost use Rattle.sixel_palette.specs.inside.PaletteAssignment.{IsAssignment, IsWeighed};
@@ -55,7 +56,7 @@ fn means_of(
     assignment: &Assignment,
 ) -> Result<Vec<[u8; 3]>, AllocError>
     requires small { AreColorCodes codes.now }
-    requires counts { length counts.now ≡ length codes.now }
+    requires weighed { IsWeighed codes.now counts.now }
     requires indices { length assignment.now.indices.items ≡ length codes.now }
     requires few { length assignment.now.colors.items ≤ 256 }
     requires shown { All IsRegisterColor assignment.now.colors.items }
@@ -76,8 +77,9 @@ fn means_of(
 #[inline(never)]
 fn add_colors(sums: &mut [ColorSums], codes: &[u32], counts: &[u32], indices: &[u8])
     requires sums { length sums.old ≡ 256 }
+    requires none { summed_pixels sums.old ≡ 0 }
     requires small { AreColorCodes codes.now }
-    requires counts { length counts.now ≡ length codes.now }
+    requires weighed { IsWeighed codes.now counts.now }
     requires indices { length indices.now ≡ length codes.now }
 {
     for position in 0..codes.len() {

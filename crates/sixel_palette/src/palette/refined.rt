@@ -178,7 +178,7 @@ fn initial_colors(
 ) -> std::result::Result<Vec<[u8; 3]>, AllocError>
     requires some { 0 < room }
     requires small { AreColorCodes codes.now }
-    requires same { length counts.now ≡ length codes.now }
+    requires weighed { IsWeighed codes.now counts.now }
     ensures shown { IfOk result (λ colors. All IsRegisterColor colors.items) }
     ensures few { IfOk result (λ colors. length colors.items ≤ room) }
     ensures some { IfOk result (λ colors. 0 < length codes.now → 0 < length colors.items) }

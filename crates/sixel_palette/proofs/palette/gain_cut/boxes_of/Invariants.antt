@@ -1,5 +1,5 @@
 use Rattle.std.proofs.Common.{◌≡◌, length}
-use Rattle.sixel_palette.specs.inside.PaletteBoxes.{AreRanges}
+use Rattle.sixel_palette.specs.inside.PaletteBoxes.{AreRanges, binned_pixels}
 use Rattle.sixel_palette.proofs.palette.gain_cut.boxes_of.Given as goal
 
 abbrev pub invariant-loop-count : goal.invariant-loop-count
@@ -8,4 +8,5 @@ invariant-loop-count l = record {
   ranges : AreRanges (length l.bins) l.boxes.items;
   lower : length l.lower.items ≡ 64;
   upper : length l.upper.items ≡ 64;
+  pixels : binned_pixels l.bins ≡ binned_pixels l.fn.bins;
 }

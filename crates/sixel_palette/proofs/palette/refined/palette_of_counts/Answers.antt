@@ -12,6 +12,11 @@ use Rattle.sixel_palette.proofs.PaletteRefined.{nearest_entry-lt, bound_of_shown
 use Rattle.sixel_palette.proofs.PaletteSize.{one_size}
 use Rattle.sixel_palette.proofs.palette.refined.palette_of_counts.Goals as goal
 
+pub initial_colors-requires-clause-weighed : goal.initial_colors-requires-clause-weighed
+initial_colors-requires-clause-weighed c =
+    rw c.deref-counts.ensures.value (weighed_from_counts c.args.pixels.now c.args.codes.now
+    c.args.counted.now.counts.items c.requires.counts c.requires.area)
+
 pub assignment_of-requires-clause-weighed : goal.assignment_of-requires-clause-weighed
 assignment_of-requires-clause-weighed c =
     rw c.deref-counts.ensures.value (weighed_from_counts c.args.pixels.now c.args.codes.now
