@@ -111,6 +111,12 @@ pub record ArePushed (cube : Cube) (greatest : ℕ) (before old new : List Entry
   pub least : (c : List ℕ) → IsInCube cube c
       → min (least_key some c) (greatest + 1) ≡ min (least_key before c) (greatest + 1)
 
+-- the keys are at most those of the entries of a block that begins at a position
+pub record AreLeastKeys (cube : Cube) (entries : List Entry) (from : ℕ) (keys : List ℕ)
+    : Type 0 where
+  pub least : (k : ℕ) → k < 64 → from + k < length entries → (c : List ℕ) → IsInCube cube c
+      → get_or keys k 0 ≤ key_of (get_or entries (from + k) none) c
+
 -- no entry is appended yet
 pub pushed_none : (cube : Cube) (greatest : ℕ) (list : List Entry)
     → ArePushed cube greatest [] list list
@@ -137,12 +143,12 @@ pushed_taken cube greatest before old new e h = record {
 }
 
 -- an entry whose keys are above the greatest one is not appended
-pub pushed_skipped : (cube : Cube) (greatest gap : ℕ) (before old new : List Entry) (e : Entry)
-    → greatest < 256 * gap + e.index
-    → ((c : List ℕ) → IsInCube cube c → gap ≤ distance e.color c)
+pub pushed_skipped : (cube : Cube) (greatest least : ℕ) (before old new : List Entry) (e : Entry)
+    → greatest < least → ((c : List ℕ) → IsInCube cube c → least ≤ key_of e c)
     → ArePushed cube greatest before old new
     → ArePushed cube greatest (before ++ e ∷ []) old new
-pushed_skipped cube greatest gap before old new e above far h = record {
+unfolding key_of
+pushed_skipped cube greatest least before old new e above far h = record {
   some = h.some;
   whole = h.whole;
   least = λ c box.

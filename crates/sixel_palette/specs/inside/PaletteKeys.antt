@@ -16,6 +16,10 @@ use Rattle.sixel_palette.specs.inside.PaletteCodes.{color_of, code_count}
 unfoldable pub key_of : Entry → List ℕ → ℕ
 key_of entry c = 256 * distance entry.color c + entry.index
 
+-- the entry at a position
+abbrev pub entry_at : List Entry → ℕ → Entry
+entry_at entries k = slice_index_or entries k (record { color = []; index = 0 })
+
 -- the least key of some entries for a color
 unfoldable pub least_key : List Entry → List ℕ → ℕ
 least_key [] c = 256 * no_entry

@@ -10,7 +10,8 @@ ghost use Rattle.sixel_palette.specs.Palette.{distance};
 ghost use Rattle.sixel_palette.specs.inside.PaletteCells.{IsInInterval};
 ghost use Rattle.sixel_palette.specs.inside.PaletteCodes.{color_of, code_count};
 ghost use Rattle.sixel_palette.specs.inside.PaletteNearest.{IsNearestEntry};
-ghost use Rattle.sixel_palette.specs.inside.PaletteKeys.{least_key, IsInCube, Appends};
+ghost use Rattle.sixel_palette.specs.inside.PaletteKeys.{entry_at, key_of, least_key};
+ghost use Rattle.sixel_palette.specs.inside.PaletteKeys.{IsInCube, Appends};
 ghost use Rattle.sixel_palette.specs.inside.PaletteKeys.{AreNumbered, HasNearest, AreLists};
 ghost use Rattle.sixel_palette.specs.inside.PaletteKeys.{IsSearch, cube_position, group_position};
 
@@ -29,6 +30,9 @@ const MANY: usize = 4096;
 
 /// How many groups of cubes there are, of 32 colors a side.
 const GROUPS: usize = 512;
+
+/// How many keys of entries are found at once.
+const BLOCK: usize = 64;
 
 /// The entries of a palette, and those that can be nearest in each group and cube.
 ///
@@ -244,6 +248,25 @@ impl Cube {
         self.red.reach(color[0]) + self.green.reach(color[1]) + self.blue.reach(color[2])
     }
 
+    /// Keys of the entries of a block that begins at `from`: no color of the cube has lesser ones.
+    ///
+    /// They are found apart from their comparison, so that the compiler finds four at once.
+    #[inline(never)]
+    fn least_keys(&self, entries: &[Entry], from: usize) -> [u32; BLOCK]
+        requires { from < length entries.now }
+        ensures { (k : ℕ) → k < 64 → from + k < length entries.now → (c : List ℕ)
+            → IsInCube self.now c
+            → slice_index result k ≤ key_of (entry_at entries.now (from + k)) c }
+    {
+        let block = &entries[from..entries.len().min(from + BLOCK)];
+        let mut keys = [0; BLOCK];
+        for lane in 0..block.len() {
+            let entry = block[lane];
+            keys[lane] = key(self.gap(entry.color), entry.index);
+        }
+        keys
+    }
+
     /// A key that the least key for each color of the cube is not above.
     fn greatest_key(&self, entries: &[Entry]) -> u32
         ensures { (c : List ℕ) → IsInCube self.now c → least_key entries.now c ≤ result }
@@ -344,11 +367,13 @@ fn push_nearest(list: &mut Vec<Entry>, cube: &Cube, entries: &[Entry]) -> Result
     let greatest = cube.greatest_key(entries);
     let mut end = list.len();
     list.extend_from_slice(entries)?;
+    let mut keys = [0; BLOCK];
     for position in 0..entries.len() {
-        let entry = entries[position];
-        let least = key(cube.gap(entry.color), entry.index);
-        list[end] = entry;
-        end += usize::from(least <= greatest);
+        if position % BLOCK == 0 {
+            keys = cube.least_keys(entries, position);
+        }
+        list[end] = entries[position];
+        end += usize::from(keys[position % BLOCK] <= greatest);
     }
     list.truncate(end);
     Ok(())

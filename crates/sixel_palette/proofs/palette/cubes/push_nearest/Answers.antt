@@ -1,10 +1,14 @@
-use Rattle.std.proofs.Common.{◌≡◌, ◌+◌, ◌<◌, length, take, get_or, ⊎_elim, arith}
+use Rattle.std.proofs.Common.{◌≡◌, ◌≢◌, ℕ, ◌+◌, ◌-◌, ◌%◌, ◌<◌, ◌≤◌, List, length, take, get_or}
+use Rattle.std.proofs.Common.{refl, ⊎_elim, arith}
 use Rattle.std.proofs.lemmas.Bool.Decides.{leb_tells}
 use Rattle.std.proofs.lemmas.List.{take_at, take_more, take_all, take_more_set, take-set-le}
 use Rattle.std.proofs.lemmas.List.{length-append, length-set}
 use Rattle.sixel_palette.proofs.PaletteKeys.{none, pushed_none, pushed_taken, pushed_skipped}
-use Rattle.sixel_palette.proofs.PaletteKeys.{appends_from_pushed}
+use Rattle.sixel_palette.proofs.PaletteKeys.{appends_from_pushed, AreLeastKeys}
+use Rattle.sixel_palette.specs.inside.PaletteKeys.{key_of, IsInCube}
 use Rattle.sixel_palette.proofs.palette.cubes.push_nearest.Goals as goal
+use Rattle.sixel_palette.proofs.palette.cubes.push_nearest.Goals.{then-position-eq0}
+use Rattle.sixel_palette.proofs.palette.cubes.push_nearest.Goals.{else-position-eq0}
 
 pub loop-position-init : goal.loop-position-init
 loop-position-init c =
@@ -15,7 +19,43 @@ loop-position-init c =
       pushed = pushed_none c.args.cube.now c.greatest_key-greatest.result old;
       size = length-append old entries;
       end = omega arith;
+      keys = λ other. absurd (other refl);
     })
+
+-- the keys are those of the block that the position is in
+current : (c : goal.After-from-end)
+    → AreLeastKeys c.args.cube.now c.args.entries.now
+    (c.loop-position.position - c.loop-position.position % 64) c.if-position-eq0.keys
+current c =
+    let position = c.loop-position.position in
+    elim c.if-position-eq0.branch [
+      | then-position-eq0 w ↦
+          let start : position - position % 64 ≡ position = omega (arith, w.if-position-eq0.true) in
+          rw (w.keys-is, start) (record { least = w.least_keys-keys.ensures })
+      | else-position-eq0 w ↦
+          rw w.keys-is (c.loop-position.invariant.keys
+          (λ e. absurd (omega (arith, e, w.if-position-eq0.false))))
+    ]
+
+-- the key of the entry at the position
+this_key : (c : goal.After-from-end) (color : List ℕ) → IsInCube c.args.cube.now color
+    → get_or c.if-position-eq0.keys (c.loop-position.position % 64) 0
+    ≤ key_of (get_or c.args.entries.now c.loop-position.position none) color
+this_key c color box =
+    let position = c.loop-position.position in
+    let at : position - position % 64 + position % 64 ≡ position = omega arith in
+    rw at at ((current c).least (position % 64) (omega arith) (omega arith) color box)
+
+-- the keys after the position, if the block has not ended
+later : (c : goal.After-from-end) → (c.loop-position.position + 1) % 64 ≢ 0
+    → AreLeastKeys c.args.cube.now c.args.entries.now
+    (c.loop-position.position + 1 - (c.loop-position.position + 1) % 64) c.if-position-eq0.keys
+later c other =
+    let position = c.loop-position.position in
+    let some : 0 < (position + 1) % 64 = omega (arith, other) in
+    let same : position + 1 - (position + 1) % 64 ≡ position - position % 64 =
+    omega (arith, some) in
+    rw same (current c)
 
 pub loop-position-preserved : goal.loop-position-preserved
 loop-position-preserved c =
@@ -28,6 +68,7 @@ loop-position-preserved c =
     let old = c.args.list.now.items in
     let list = c.loop-position.list.items in
     let end = c.loop-position.end in
+    let key = get_or c.if-position-eq0.keys (position % 64) 0 in
     let h = c.loop-position.invariant in
     let next = take_more entries position none (omega arith) in
     let within : end < length list = omega (arith, h.size, h.end) in
@@ -40,17 +81,19 @@ loop-position-preserved c =
           (pushed_taken cube greatest before old (take end list) e h.pushed);
       size = omega (arith, h.size, length-set list end e);
       end = omega (arith, h.end);
+      keys = later c;
     })) (λ f.
     let more : c.from-end.result ≡ 0 = rw f.0 at c.from-end.ensures in
     let to : end + c.from-end.result ≡ end = omega (arith, more) in
     rw to (record {
       pushed =
           rw (next, take-set-le end list end e (omega arith))
-          (pushed_skipped cube greatest c.gap.result before old (take end list) e
-          (omega (arith, f.1, c.key-least.ensures)) c.gap.ensures.least h.pushed);
+          (pushed_skipped cube greatest key before old (take end list) e f.1 (this_key c)
+          h.pushed);
       size = omega (arith, h.size, length-set list end e);
       end = omega (arith, h.end);
-    })) (leb_tells c.key-least.result greatest)
+      keys = later c;
+    })) (leb_tells key greatest)
 
 pub returns : goal.returns
 returns c =

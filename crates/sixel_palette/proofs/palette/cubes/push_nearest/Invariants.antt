@@ -1,5 +1,5 @@
-use Rattle.std.proofs.Common.{◌≡◌, ◌+◌, ◌≤◌, length, take}
-use Rattle.sixel_palette.proofs.PaletteKeys.{ArePushed}
+use Rattle.std.proofs.Common.{◌≡◌, ◌≢◌, ◌+◌, ◌-◌, ◌%◌, ◌≤◌, length, take}
+use Rattle.sixel_palette.proofs.PaletteKeys.{AreLeastKeys, ArePushed}
 use Rattle.sixel_palette.proofs.palette.cubes.push_nearest.Given as goal
 
 abbrev pub invariant-loop-position : goal.invariant-loop-position
@@ -8,4 +8,6 @@ invariant-loop-position l = record {
       (take l.end l.list.items);
   size : length l.list.items ≡ length l.fn.list.items + length l.entries;
   end : l.end ≤ length l.fn.list.items + l.position;
+  keys : l.position % 64 ≢ 0
+      → AreLeastKeys l.cube l.entries (l.position - l.position % 64) l.keys;
 }
