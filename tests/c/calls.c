@@ -426,7 +426,7 @@ static void test_encodings(void)
 }
 
 /* An image of the greatest width, 15 * 65535 + 16975 columns, in both forms of output. The last
- * pixel of the second image is blue. */
+ * pixel of the other images is blue. Blue is the first entry of the refined palette. */
 #define WIDEST "\033P9;1;0q\"1;1;1000000;1#0;2;100;0;0"
 #define FIVE(text) text text text text text
 #define FIFTEEN(text) FIVE(text) FIVE(text) FIVE(text)
@@ -436,8 +436,12 @@ static void test_widest(void)
     static const char *const reds[] = {"!16975@$-\033\\", "!16975@\033\\"};
     static const char *const blues[] = {
         "!16974@?$#1" FIFTEEN("!65535?") "!16974?@$-\033\\", "!16974@#1@\033\\"};
-    static uint8_t pixels[4000000], indices[1000000] = {[999999] = 1};
+    static uint8_t pixels[4000000], indices[1000000] = {[999999] = 1}, found[1000000];
+    static const icysixel_dithering dithers[] = {
+        {ICYSIXEL_DITHER_OFF, 0}, {ICYSIXEL_DITHER_ORDERED, 64}, {ICYSIXEL_DITHER_DIFFUSION, 8}};
     icysixel_encoding e = {.width = 1000000, .height = 1, .p1 = 9, .p2 = 1};
+    icysixel_color colors[2], witnesses[3];
+    icysixel_refined r;
     for (size_t i = 0; i < 1000000; i++) memcpy(pixels + 4 * i, (uint8_t[]){255, 0, 0, 255}, 4);
     for (; e.form <= ICYSIXEL_FORM_COMPACT; e.form++) {
         RETURNS(OK, icysixel_encode_refined(h, pixels, sizeof pixels, &e, 256, &length));
@@ -446,6 +450,23 @@ static void test_widest(void)
                                             sizeof indices, &length));
         CHECK(has_text(WIDEST "#1;2;0;0;100#0" FIFTEEN("!65535@"), blues[e.form]));
     }
+    memcpy(pixels + 3999996, (uint8_t[]){0, 0, 255, 255}, 4);
+    EACH(row, dithers) {
+        e.dithering = *row;
+        for (e.form = 0; e.form <= ICYSIXEL_FORM_COMPACT; e.form++) {
+            RETURNS(OK, icysixel_encode_with_palette(h, pixels, sizeof pixels, &e, red_blue, 2,
+                                                     &length));
+            CHECK(has_text(WIDEST "#1;2;0;0;100#0" FIFTEEN("!65535@"), blues[e.form]));
+        }
+        RETURNS(OK, icysixel_palette_indices(pixels, sizeof pixels, 1000000, red_blue, 2, row,
+                                             found, sizeof found));
+        CHECK(memcmp(found, indices, sizeof found) == 0);
+    }
+    RETURNS(OK, icysixel_refine_palette(pixels, sizeof pixels, 2, colors, 2, witnesses, 3, found,
+                                        sizeof found, &r));
+    CHECK(r.colors == 2 && r.witnesses == 0 && r.error == 0);
+    CHECK(memcmp(colors, "\0\0\377\377\0\0", 6) == 0);
+    for (size_t i = 0; i < sizeof found; i++) CHECK(found[i] == 1 - indices[i]);
 }
 
 /* Three pixels of gray 100. The first passes 700 of 1600 sixteenths on, so the second is white.

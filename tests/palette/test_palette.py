@@ -7,6 +7,7 @@ import ctypes
 import itertools
 import os
 import random
+import re
 import tempfile
 import unittest
 from pathlib import Path
@@ -96,6 +97,31 @@ def image(rng):
     return width, pixels
 
 
+def shown(colors, pixels, indices):
+    """The colors that a terminal shows for the indices of pixels, None for a transparent one."""
+    pairs = zip(indices, pixels)
+    return [grid_color(colors[at]) if it[3] >= 128 else None for at, it in pairs]
+
+
+def drawn(text):
+    """The colors of the first row that an output draws, None for a pixel that is not drawn."""
+    width, body = re.fullmatch(rb'\x1bP9;1;0q"1;1;(\d+);1(.*)\x1b\\', text).groups()
+    row, colors, register, column = int(width) * [None], {}, None, 0
+    for token in re.findall(rb"#[\d;]+|!\d+[?-~]|[?-~$-]", body):
+        if token[:1] == b"#":
+            register, *definition = map(int, token[1:].split(b";"))
+            if definition:
+                colors[register] = tuple((it * 255 + 50) // 100 for it in definition[1:])
+        elif token in b"$-":
+            column = 0
+        else:
+            count = int(token[1:-1] or 1)
+            if token[-1] - ord("?") == 1:
+                row[column : column + count] = count * [colors[register]]
+            column += count
+    return row
+
+
 @unittest.skipUnless(SHARED.exists(), f"not built: {SHARED}")
 class PaletteTest(unittest.TestCase):
     """The calls on random images."""
@@ -152,6 +178,61 @@ class PaletteTest(unittest.TestCase):
                 self.assertLessEqual(set(points), seen)
                 for one, other in itertools.combinations(points, 2):
                     self.assertGreaterEqual(distance(one, other), properties.apart)
+
+    def test_limits(self):
+        """Palettes of 256 colors and of one, and an image without an opaque pixel."""
+        every, middle = [(it, it, it) for it in range(256)], [(128, 128, 128)]
+        grays, clear = ([(*it, alpha) for it in every] for alpha in (255, 127))
+        # The mean of all grays is 127.5, which is 50 percent.
+        cases = [
+            ("256 colors", grays, every, [grid_color(it) for it in every]),
+            ("one color", grays, middle, middle),
+            ("no opaque pixel", clear, every, []),
+        ]
+        for title, pixels, colors, refined in cases:
+            with self.subTest(title):
+                self.check_given(pixels, colors)
+                self.check_refined(pixels, len(colors), refined)
+
+    def check_given(self, pixels, colors):
+        """Checks the indices and the output of a row of pixels in a palette."""
+        data, count = bytes(itertools.chain(*pixels)), len(pixels)
+        models = [
+            (OFF, 0, nearest_of(colors, pixels)),
+            (ORDERED, 16, ordered(count, pixels, colors, 16)),
+            (DIFFUSION, 6, diffused(count, pixels, colors, 6)),
+        ]
+        for (kind, amount, indices), form in itertools.product(models, (PLAIN, COMPACT)):
+            found, dithering = ctypes.create_string_buffer(count), bytes([kind, amount])
+            source = data, len(data), count, colors, len(colors)
+            call("icysixel_palette_indices", *source, dithering, found, count)
+            self.assertEqual(list(found.raw), indices)
+            encoding = Encoding(0, count, 1, 9, 1, kind, amount, form)
+            text = encoded("icysixel_encode_with_palette", data, encoding, colors, len(colors))
+            self.assertEqual(drawn(text), shown(colors, pixels, indices))
+            arguments = colors, len(colors), bytes(indices), count
+            text = encoded("icysixel_encode_indexed", data, encoding, *arguments)
+            self.assertEqual(drawn(text), shown(colors, pixels, indices))
+
+    def check_refined(self, pixels, most, colors):
+        """Checks the refined palette of a row of pixels, and the output in it."""
+        data, count = bytes(itertools.chain(*pixels)), len(pixels)
+        parts, witnesses = (ctypes.create_string_buffer(3 * 257) for _ in range(2))
+        found, properties = ctypes.create_string_buffer(count), Refined()
+        source, buffers = (data, len(data), most), (parts, 257, witnesses, 257, found, count)
+        call("icysixel_refine_palette", *source, *buffers, ctypes.byref(properties))
+        entries = [tuple(parts.raw[it : it + 3]) for it in range(0, 3 * properties.colors, 3)]
+        self.assertEqual(sorted(entries), sorted(colors))
+        indices = nearest_of(entries, pixels) if entries else count * [0]
+        self.assertEqual(list(found.raw), indices)
+        picture = shown(entries, pixels, indices)
+        pairs = [it for it in zip(picture, pixels) if it[0]]
+        self.assertEqual(properties.error, sum(distance(*it) for it in pairs))
+        self.assertEqual(properties.witnesses, 0)
+        for form in (PLAIN, COMPACT):
+            encoding = Encoding(0, count, 1, 9, 1, OFF, 0, form)
+            text = encoded("icysixel_encode_refined", data, encoding, most)
+            self.assertEqual(drawn(text), picture)
 
     @needs("sixel2png", "img2sixel", "convert")
     def test_compact(self):
