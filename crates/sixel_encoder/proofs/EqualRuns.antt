@@ -1,8 +1,10 @@
--- What a row's tokens are where equal sixels follow.
-use Rattle.std.proofs.Common.{◌≡◌, ℕ, zero, suc, ◌+◌, ◌<◌, ◌≤◌, List, ◌∷◌, length, get_or, drop}
-use Rattle.std.proofs.Common.{refl, ap, ◌∙◌, arith}
+-- What a row's tokens are where equal sixels follow, and runs of equal sixels that are joined.
+use Rattle.std.proofs.Common.{◌≡◌, ℕ, zero, suc, ◌+◌, ◌-◌, ◌<◌, ◌≤◌, List, ◌∷◌, length, get_or, drop}
+use Rattle.std.proofs.Common.{refl, ap, inl, inr, ◌∙◌, arith}
+use Rattle.std.proofs.lemmas.Bool.{cases_lt}
 use Rattle.std.proofs.Math.Seq.{drop-cons}
 use Rattle.sixel_encoder.specs.RunTokens.{tokens_after}
+use Rattle.sixel_encoder.specs.inside.Runs.{IsRun}
 use Rattle.sixel_encoder.proofs.ShortestRows.{tokens_after-same}
 
 -- equal sixels add to the run
@@ -24,3 +26,16 @@ tokens_skip (suc n) row at count bits l same =
     (same at (omega arith) (omega arith))
     ∙ rw (a, c) (tokens_skip n row (at + 1) (count + 1) bits (omega arith)
     (λ k f t. same k (omega arith) (omega arith)))
+
+-- a run and the one right after it are one run
+pub run_join : (row : List ℕ) (at middle end bits : ℕ) → at ≤ middle → middle ≤ end
+    → IsRun row at bits (middle - at) → IsRun row middle bits (end - middle)
+    → IsRun row at bits (end - at)
+run_join row at middle end bits first second run more = record {
+  within = omega (arith, more.within);
+  same = λ k f t.
+      elim (cases_lt k middle) [
+        | inl l ↦ run.same k f (omega (arith, l))
+        | inr g ↦ more.same k (omega (arith, g)) (omega (arith, t))
+      ];
+}

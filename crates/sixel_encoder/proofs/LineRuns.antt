@@ -1,10 +1,15 @@
 -- Some columns of a line: one pixel, sixteen of one entry at once, and one part after another.
-use Rattle.std.proofs.Common.{◌≡◌, ◌≢◌, ℕ, ◌+◌, ◌-◌, ◌*◌, ◌<◌, ◌≤◌, Bool, true, false, List, length}
+use Rattle.std.proofs.Common.{◌≡◌, ◌≢◌, ℕ, ◌+◌, ◌-◌, ◌*◌, ◌%◌, ◌<◌, ◌≤◌, Bool, true, false, List}
+use Rattle.std.proofs.Common.{length, replicate}
 use Rattle.std.proofs.Common.{get_or, set, ap, sym, ◌∙◌, inl, inr, arith}
 use Rattle.std.proofs.lemmas.Bool.{cases_eq, cases_lt}
 use Rattle.std.proofs.lemmas.Bool.Decides.{nat_tests}
 use Rattle.std.proofs.lemmas.Nat.{same_from_place}
 use Rattle.std.proofs.lemmas.List.{get_or-set_same, get_or-set_other, length-set}
+use Rattle.std.proofs.lemmas.Simd.{length-chunk, get_or-chunk, length-zip2, get_or-zip2}
+use Rattle.std.proofs.lemmas.Simd.{get_or-replicate, get_or-put_chunk_below}
+use Rattle.std.proofs.lemmas.Simd.{get_or-put_chunk_at, get_or-put_chunk_above}
+use lib.Lanes.{chunk, put_chunk, zip2}
 use Rattle.sixel_encoder.specs.inside.Grid.{cell, dot_at, between, AreMarks}
 
 -- no place is between a place and itself
@@ -52,37 +57,44 @@ column-one bit was now column x apart here =
           ]
     ]
 
--- one more sixel gets the weight
-pub weight-more : (rows old : List ℕ) (from place weight : ℕ) → place < length rows
-    → from ≤ place
-    → ((k : ℕ) → get_or rows k 0 ≡ get_or old k 0 + between from place weight k) → (k : ℕ)
-    → get_or (set rows place (get_or rows place 0 + weight)) k 0
-    ≡ get_or old k 0 + between from (place + 1) weight k
-weight-more rows old from place weight inside l before k =
-    let was = before k in
-    elim (cases_eq k place) [
-      | inl same ↦
-          let own : get_or (set rows place (get_or rows place 0 + weight)) k 0
-          ≡ get_or rows place 0 + weight =
-          ap (λ i. get_or (set rows place (get_or rows place 0 + weight)) i 0) same
-          ∙ get_or-set_same rows place (get_or rows place 0 + weight) 0 inside in
-          let at_place : get_or rows k 0 ≡ get_or rows place 0 =
-          ap (λ i. get_or rows i 0) same in
-          let none : between from place weight k ≡ 0 =
-          between-past from place weight k (omega arith) in
-          let some : between from (place + 1) weight k ≡ weight = grind (arith, nat_tests) in
-          omega (arith, own, at_place, was, none, some)
-      | inr other ↦
-          let kept = get_or-set_other rows place k (get_or rows place 0 + weight) 0 other in
-          let same : between from (place + 1) weight k ≡ between from place weight k =
-          elim (cases_lt k from) [
-            | inl below ↦ grind (arith, nat_tests)
-            | inr above ↦ elim (cases_lt k place) [
-              | inl first ↦ grind (arith, nat_tests)
-              | inr past ↦ grind (arith, nat_tests)
-            ]
-          ] in
-          omega (arith, kept, was, same)
+-- sixteen sixels that get the weight in lanes
+pub lanes-more : (rows : List ℕ) (from weight : ℕ) → from + 16 ≤ length rows
+    → ((k : ℕ) → from ≤ k → k < from + 16 → get_or rows k 0 + weight < 256) → (k : ℕ)
+    → get_or (put_chunk from rows
+    (zip2 (λ a b. (a + b) % 256) (chunk from 16 rows) (replicate 16 weight))) k 0
+    ≡ get_or rows k 0 + between from (from + 16) weight k
+lanes-more rows from weight inside fits k =
+    let add = (λ (a b : ℕ). (a + b) % 256) in
+    let old = chunk from 16 rows in
+    let new = zip2 add old (replicate 16 weight) in
+    let width : length old ≡ 16 = length-chunk from 16 rows inside in
+    let many : length new ≡ 16 =
+    length-zip2 add old (replicate 16 weight) width ∙ width in
+    elim (cases_lt k from) [
+      | inl below ↦
+          let kept = get_or-put_chunk_below from rows new k 0 below in
+          let none : between from (from + 16) weight k ≡ 0 = grind (arith, nat_tests) in
+          omega (arith, kept, none)
+      | inr above ↦ elim (cases_lt k (from + 16)) [
+        | inl under ↦
+            let j = k - from in
+            let small : j < 16 = omega (arith, above, under) in
+            let place : from + j ≡ k = omega (arith, above) in
+            let own : get_or (put_chunk from rows new) k 0 ≡ get_or new j 0 =
+            rw place at (get_or-put_chunk_at from rows new j 0 (omega (arith, small, many))
+            (omega (arith, inside, many))) in
+            let lane : get_or new j 0 ≡ (get_or old j 0 + get_or (replicate 16 weight) j 0) % 256 =
+            get_or-zip2 add old (replicate 16 weight) j 0 0 0 (omega (arith, small, width)) small in
+            let was : get_or old j 0 ≡ get_or rows k 0 =
+            rw place at (get_or-chunk from 16 rows j 0 small) in
+            let amount = get_or-replicate 16 j weight 0 small in
+            let some : between from (from + 16) weight k ≡ weight = grind (arith, nat_tests) in
+            omega (arith, own, lane, was, amount, some, fits k above under)
+        | inr past ↦
+            let kept = get_or-put_chunk_above from rows new k 0 (omega (arith, past, many)) in
+            let none = between-past from (from + 16) weight k past in
+            omega (arith, kept, none)
+      ]
     ]
 
 -- sixteen sixels of an entry that got the weight

@@ -18,6 +18,7 @@ use crate::run_tokens::push_row;
 use crate::runs::equal_from;
 use crate::text::IndexedImage;
 use std::alloc::{AllocError, Global};
+use std::simd::prelude::*;
 
 /// How many bytes the rows and their marks may take.
 const CAPACITY: usize = 2 * 1024 * 1024;
@@ -204,12 +205,14 @@ fn add_whole_line(rows: &mut [u8], used: &mut [bool], image: &IndexedImage<'_>, 
         (entry_of image.now.pixels.now image.now.indices.now (line.start + x)) }
     ensures marks { AreMarks rows.new used.new image.now.width }
 {
-    let blocks = image.width / BLOCK;
+    // A copy of its own stays in registers while rows change.
+    let own = *image;
+    let blocks = own.width / BLOCK;
     for block in 0..blocks {
-        add_sixteen(rows, used, image, line, BLOCK * block);
+        add_sixteen(rows, used, &own, line, BLOCK * block);
     }
-    for column in BLOCK * blocks..image.width {
-        add_pixel(rows, used, image, line, column);
+    for column in BLOCK * blocks..own.width {
+        add_pixel(rows, used, &own, line, column);
     }
 }
 
@@ -286,9 +289,8 @@ fn add_weight(rows: &mut [u8], from: usize, weight: u8)
     ensures { (k : ℕ) → slice_index rows.new k
         ≡ slice_index rows.old k + between from (from + 16) weight k }
 {
-    for place in from..from + BLOCK {
-        rows[place] += weight;
-    }
+    let sixels = u8x16::from_slice(&rows[from..]) + u8x16::splat(weight);
+    sixels.copy_to_slice(&mut rows[from..]);
 }
 
 /// Returns whether sixteen pixels from this one on are opaque and have the same entry.

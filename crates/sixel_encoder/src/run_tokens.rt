@@ -5,7 +5,7 @@ ghost use Rattle.sixel_encoder.specs.RunTokens.{One, Many, spelling, Spells, IsS
 ghost use Rattle.sixel_encoder.specs.RunTokens.{run_tokens, rest_tokens, row_tokens};
 
 use crate::decimal::push_number;
-use crate::runs::equal_from;
+use crate::runs::run_from;
 use std::alloc::AllocError;
 
 /// The greatest count of a repeat introducer.
@@ -24,7 +24,7 @@ pub fn push_row(text: &mut String, row: &[u8]) -> Result<(), AllocError>
     let mut bits = 0;
     let mut at = 0;
     'sixels: while at < row.len() {
-        let same = equal_from(row, at, bits);
+        let same = run_from(row, at, bits);
         if same > 0 {
             count += same;
             at += same;

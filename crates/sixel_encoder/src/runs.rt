@@ -1,12 +1,16 @@
-//! Runs of equal sixels in a row, counted sixteen at a time.
+//! Runs of equal sixels in a row, counted sixteen or 64 at a time.
 
-ghost use Rattle.std.specs.Prelude.{◌≡◌, ◌≢◌, ◌+◌, ◌<◌, ◌≤◌, length, slice_index};
+ghost use Rattle.std.specs.Prelude.{◌≡◌, ◌≢◌, ◌+◌, ◌<◌, ◌≤◌, true, length};
+ghost use Rattle.std.specs.Prelude.{slice_index};
 ghost use Rattle.sixel_encoder.specs.inside.Runs.{IsRun};
 
 use std::simd::prelude::*;
 
 /// How many sixels one comparison covers.
 const LANES: usize = 16;
+
+/// How many sixels a block of a long run has.
+const BLOCK: usize = 64;
 
 /// Returns how many sixels from `at` on equal `bits`, up to sixteen.
 ///
@@ -21,6 +25,37 @@ pub fn equal_from(row: &[u8], at: usize, bits: u8) -> usize
         return usize::from(row[at] == bits);
     }
     equal_lanes(row, at, bits)
+}
+
+/// Returns how many sixels from `at` on equal `bits`, of a long run maybe fewer.
+///
+/// At least 1 if the first one does. After sixteen of them it compares whole blocks.
+#[inline(always)]
+pub fn run_from(row: &[u8], at: usize, bits: u8) -> usize
+    requires { at < length row.now }
+    ensures run { IsRun row.now at bits result }
+    ensures stop { result ≡ 0 → slice_index row.now at ≢ bits }
+{
+    let same = equal_from(row, at, bits);
+    if same < LANES {
+        return same;
+    }
+    let mut end = at + same;
+    'run: while row.len() - end >= BLOCK && is_block_of(row, end, bits) {
+        end += BLOCK;
+    }
+    end - at
+}
+
+/// Returns whether the 64 sixels of a block all equal `bits`.
+#[inline(always)]
+fn is_block_of(row: &[u8], at: usize, bits: u8) -> bool
+    requires { at + 64 ≤ length row.now }
+    ensures { result ≡ true → IsRun row.now at bits 64 }
+{
+    let sixels = u8x64::from_slice(&row[at..]);
+    let others = sixels.simd_ne(u8x64::splat(bits)).to_bitmask();
+    others == 0
 }
 
 /// Returns how many of sixteen sixels equal `bits` before the first that differs.

@@ -18,13 +18,13 @@ returns-clause-shortest c = shortest c.args.row.now
 
 pub sixels-preserved-then-same-gt0 : goal.sixels-preserved-then-same-gt0
 sixels-preserved-then-same-gt0 c =
-    let run = c.equal_from-same.ensures.run in
+    let run = c.run_from-same.ensures.run in
     record {
       sixel = c.sixels.invariant.sixel;
       few = omega (arith, c.sixels.invariant.few);
       within = run.within;
       text =
           ap (λ p. string_bytes c.sixels.text ++ written p)
-          (sym (tokens_skip c.equal_from-same.result c.args.row.now c.sixels.at c.sixels.count
+          (sym (tokens_skip c.run_from-same.result c.args.row.now c.sixels.at c.sixels.count
           c.sixels.bits run.within run.same)) ∙ c.sixels.invariant.text;
     }

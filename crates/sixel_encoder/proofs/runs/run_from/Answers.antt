@@ -1,0 +1,23 @@
+use Rattle.std.proofs.Common.{◌≡◌, ◌+◌, ◌-◌, arith}
+use Rattle.sixel_encoder.proofs.EqualRuns.{run_join}
+use Rattle.sixel_encoder.proofs.runs.run_from.Goals as goal
+
+pub run-init : goal.run-init
+run-init c =
+    let count : c.args.at + c.equal_from-same.result - c.args.at ≡ c.equal_from-same.result =
+    omega arith in
+    record {
+      some = omega (arith, c.if-same-lt-LANES.false);
+      run = rw count c.equal_from-same.ensures.run;
+    }
+
+pub run-preserved : goal.run-preserved
+run-preserved c =
+    let count : c.run.end + 64 - c.run.end ≡ 64 = omega arith in
+    record {
+      some = omega (arith, c.run.invariant.some);
+      run =
+          run_join c.args.row.now c.args.at c.run.end (c.run.end + 64) c.args.bits
+          (omega (arith, c.run.invariant.some)) (omega arith) c.run.invariant.run
+          (rw count (c.is_block_of.ensures c.if-is_block_of.true));
+    }
