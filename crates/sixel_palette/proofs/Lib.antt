@@ -19,6 +19,7 @@ pub mod PalettePages
 pub mod PalettePositions
 pub mod PaletteRanks
 pub mod PaletteRefined
+pub mod PaletteLanes
 pub mod PaletteRelaxation
 pub mod PaletteShown
 pub mod PaletteSize

@@ -1,6 +1,7 @@
 -- Lists of numbers: one more at the end, one set, a part, and numbers that rise.
 use Rattle.std.proofs.Common.{◌≡◌, ◌≢◌, ℕ, zero, suc, ◌+◌, ◌-◌, ◌<◌, ◌≤◌, List, [], ◌∷◌, ◌++◌}
-use Rattle.std.proofs.Common.{length, get_or, take, drop, set, replicate, ap, ◌∙◌, ⊎_elim, arith}
+use Rattle.std.proofs.Common.{length, get_or, take, drop, set, replicate, ap, ◌∙◌, inl, inr, ⊎_elim}
+use Rattle.std.proofs.Common.{arith}
 use Rattle.std.specs.List.{All}
 use Rattle.std.specs.List.Sorted.{IsStrictlyIncreasing}
 use Rattle.std.proofs.lemmas.Bool.{cases_lt}
@@ -33,6 +34,17 @@ four_cases P a b c d (suc zero) l = b
 four_cases P a b c d (suc (suc zero)) l = c
 four_cases P a b c d (suc (suc (suc zero))) l = d
 four_cases P a b c d (suc (suc (suc (suc k)))) l = absurd (omega arith)
+
+-- each position below eight
+pub eight_cases : (P : ℕ → Type 0) → P 0 → P 1 → P 2 → P 3 → P 4 → P 5 → P 6 → P 7 → (k : ℕ)
+    → k < 8 → P k
+eight_cases P a b c d e f g h k l =
+    elim (cases_lt k 4) [
+      | inl low ↦ four_cases P a b c d k low
+      | inr high ↦
+          let place : 4 + (k - 4) ≡ k = omega (arith, high) in
+          rw place at (four_cases (λ j. P (4 + j)) e f g h (k - 4) (omega (arith, l, high)))
+    ]
 
 -- rising numbers do not fall from an earlier position to a later one
 pub increasing-le : (xs : List ℕ) → IsStrictlyIncreasing xs → (i j : ℕ) → i ≤ j → j < length xs

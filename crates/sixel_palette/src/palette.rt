@@ -32,6 +32,7 @@ mod positions;
 mod rank_bitmap;
 mod refined;
 mod register_color;
+mod relaxation;
 
 use crate::palette::colors::shown_codes;
 use crate::palette::distance::is_apart_from;

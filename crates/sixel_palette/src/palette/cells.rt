@@ -11,16 +11,17 @@ ghost use Rattle.std.specs.Int.{abs_diff};
 ghost use Rattle.sixel_palette.specs.Palette.{distance, no_entry};
 ghost use Rattle.sixel_palette.specs.inside.PaletteNearest.{AreNearest};
 ghost use Rattle.sixel_palette.specs.inside.PaletteCells.{IsInInterval, IsInBox, IsCell, AreCells};
-ghost use Rattle.sixel_palette.specs.inside.PaletteCells.{AreNearestIn, IsSameOutside, AreAll};
-ghost use Rattle.sixel_palette.specs.inside.PaletteCells.{IsGreatestIn, IsFirstGreatest, channel};
+ghost use Rattle.sixel_palette.specs.inside.PaletteCells.{AreAll, IsGreatestIn, IsFirstGreatest};
+ghost use Rattle.sixel_palette.specs.inside.PaletteCells.{channel};
 ghost use Rattle.sixel_palette.specs.inside.PaletteCodes.{AreColorCodes};
 
-use crate::palette::distance::{distance_to, wrapped_gap};
-use crate::palette::nearest_entry::{Entry, NO_ENTRY, NearestEntry};
+use crate::palette::distance::wrapped_gap;
+use crate::palette::nearest_entry::{Entry, NO_ENTRY};
+use crate::palette::relaxation::relax_cell;
 use std::alloc::{AllocError, Global};
 
 /// How many colors a cell has; the last one may have fewer.
-const CELL: usize = 64;
+pub const CELL: usize = 64;
 
 /// The bounding box of some colors, and the greatest distance to a nearest entry.
 #[derive(Clone, Copy)]
@@ -204,42 +205,6 @@ pub fn relax_cells(
             cells[position] = Cell { greatest, ..cell };
         }
     }
-}
-
-/// Relaxes a cell's distances by one more entry, and returns the greatest of them.
-#[inline(never)]
-fn relax_cell(
-    codes: &[u32],
-    squares: &mut [u32],
-    indices: &mut [u8],
-    cell: usize,
-    entry: Entry,
-) -> u32
-    requires some { 64 * cell < length codes.now }
-    requires small { AreColorCodes codes.now }
-    requires squares { length squares.old ≡ length codes.now }
-    requires indices { length indices.old ≡ length codes.now }
-    ensures near { (entries : List (List ℕ)) → length entries ≡ entry.index
-        → AreNearestIn entries codes.now squares.old indices.old cell
-        → AreNearestIn (entries ++ entry.color ∷ []) codes.now squares.new indices.new cell }
-    ensures squares { IsSameOutside cell squares.old squares.new }
-    ensures indices { IsSameOutside cell indices.old indices.new }
-    ensures greatest { IsGreatestIn codes.now squares.new cell result }
-{
-    let start = CELL * cell;
-    let end = codes.len().min(start + CELL);
-    let mut greatest = 0;
-    for position in start..end {
-        let before = NearestEntry {
-            squared: squares[position],
-            index: indices[position],
-        };
-        let near = before.with(distance_to(codes[position], entry.color), entry.index);
-        squares[position] = near.squared;
-        indices[position] = near.index;
-        greatest = near.squared.max(greatest);
-    }
-    greatest
 }
 
 /// The position of the first of the farthest colors.

@@ -56,6 +56,6 @@ pub fn wrapped_gap(a: u32, b: u32) -> u32
     ensures value { result ≡ abs_diff a b * abs_diff a b }
     ensures small { result ≤ 65025 }
 {
-    let gap = a.wrapping_sub(b);
+    let gap = b.wrapping_sub(a);
     gap.wrapping_mul(gap)
 }

@@ -3,7 +3,7 @@ use Rattle.sixel_palette.specs.inside.PaletteCodes.{color_of}
 use Rattle.sixel_palette.specs.inside.PaletteNearest.{IsNearestEntry}
 use Rattle.sixel_palette.specs.inside.PaletteCells.{AreNearestIn}
 use Rattle.sixel_palette.proofs.PaletteRelaxation.{relaxed_more, old_more, greatest_more}
-use Rattle.sixel_palette.proofs.palette.cells.relax_cell.Goals as goal
+use Rattle.sixel_palette.proofs.palette.relaxation.relax_last_cell.Goals as goal
 
 -- the nearest entry of the color at the position, after the new entry
 near_at : (c : goal.After-max-greatest) (entries : List (List ℕ))

@@ -1,7 +1,7 @@
 use Rattle.std.proofs.Common.{◌≡◌, ℕ, ◌*◌, List, [], ◌∷◌, ◌++◌, length}
 use Rattle.sixel_palette.specs.inside.PaletteCells.{AreNearestIn}
 use Rattle.sixel_palette.proofs.PaletteRelaxation.{AreRelaxedIn, AreOld, IsGreatestOf}
-use Rattle.sixel_palette.proofs.palette.cells.relax_cell.Given as goal
+use Rattle.sixel_palette.proofs.palette.relaxation.relax_last_cell.Given as goal
 
 abbrev pub invariant-loop-position : goal.invariant-loop-position
 invariant-loop-position l = record {
