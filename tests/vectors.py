@@ -13,7 +13,7 @@ STATUSES = ["more", "complete", "cancelled", "interrupted", "rejected"]
 # The end of a payload: CAN, SUB, ESC or a C1 control.
 TERMINATOR = re.compile(rb"[\x18\x1a\x1b\x80-\x9f]")
 # The struct of c/vectors.c, and its members after the shape, with what they are by default.
-STRUCT = "32s6Q3Q2H2B2x4i4?6QIB3x"
+STRUCT = "32s6Q4Q2H2B2x4i4?6QIB3x"
 MEMBERS = dict.fromkeys(("p1", "p2", "p3", "colors"), -1)
 MEMBERS |= {"payload": False, "crop": False, "at_once": True, "sessions": False}
 MEMBERS |= dict.fromkeys(("limit", "columns", "rows", "ends_after", "fails_at"), 2**64 - 1)
@@ -50,9 +50,13 @@ def packed(place, data, result, **members):
     width, height, p1, p2, pixels = image_of(image) if image else (0, 0, 0, 0, b"")
     blocks = [data, pixels, error.removeprefix("invalid SIXEL data: ").encode()]
     lengths = itertools.chain(*((0, len(it)) for it in blocks))
-    shape = width, height, len(pixels), 1, {9: 1, 0: 2, 3: 3, 2: 5}[p1], p1, p2
-    members = (MEMBERS | members).values()
-    return struct.pack(STRUCT, place.encode(), *lengths, *shape, *members) + b"".join(blocks)
+    members = MEMBERS | members
+    # In a transparent image the pixels that are set are the opaque ones. Crop can remove some.
+    is_drawn = p2 == 1 and not members["crop"]
+    drawn = -(-len(pixels[3::4].rstrip(b"\0")) // max(width, 1)) if is_drawn else 2**64 - 1
+    shape = width, height, drawn, len(pixels), 1, {9: 1, 0: 2, 3: 3, 2: 5}[p1], p1, p2
+    values = place.encode(), *lengths, *shape, *members.values()
+    return struct.pack(STRUCT, *values) + b"".join(blocks)
 
 
 def packed_vectors():

@@ -9,7 +9,7 @@ class Handle(c.Structure):
 
 
 class Shape(c.Structure):
-    _fields_ = [(name, c.c_size_t) for name in ("width", "height", "bytes")]
+    _fields_ = [(name, c.c_size_t) for name in ("width", "height", "drawn_height", "bytes")]
     _fields_ += [(name, c.c_uint16) for name in ("pixel_width", "pixel_height")]
     _fields_ += [(name, c.c_uint8) for name in ("p1", "p2")]
 

@@ -2,7 +2,7 @@
 #include "checks.h"
 
 _Static_assert(sizeof(icysixel) == 16 && sizeof(icysixel_fed) == 16 && sizeof(icysixel_size) == 16
-    && sizeof(icysixel_shape) == 32 && sizeof(icysixel_color) == 3 && sizeof(icysixel_bytes) == 24
+    && sizeof(icysixel_shape) == 40 && sizeof(icysixel_color) == 3 && sizeof(icysixel_bytes) == 24
     && sizeof(icysixel_palette) == 24 && sizeof(icysixel_refined) == 32
     && sizeof(icysixel_dithering) == 2 && sizeof(icysixel_encoding) == 40
     && sizeof(icysixel_layout) == 24, "the sizes of the structs");
@@ -170,6 +170,7 @@ static void test_copied_rows(void)
     RETURNS(OK, icysixel_finish_into(h, 6, &rgba, rows, 68, &shape, &wanted));
     CHECK(are_rows(rows, 6, "\377\0\0\377\377\0\0\377\7\7\7\7", 12) && wanted == 0);
     CHECK(shape.width == 3 && shape.height == 12 && shape.bytes == 144 && shape.p2 == 1);
+    CHECK(shape.drawn_height == 12);
     CHECK(shape.pixel_width == 1 && shape.pixel_height == 3 && shape.p1 == 3 && red_of_1() == 255);
     RETURNS(NO_SESSION, icysixel_finish_into(h, 0, &rgba, rows, 72, &shape, &wanted));
     RETURNS(NO_SESSION, icysixel_feed_band(h, BYTES("~"), &fed));
@@ -293,6 +294,7 @@ static void test_partial(void)
         CHECK(icysixel_finish_partial(h, &shape, &fault) == row->code);
         CHECK(fault == row->fault && icysixel_is_receiving(h) == 0);
         CHECK(shape.width == row->width && shape.height == row->height);
+        CHECK(shape.drawn_height == (row->height == 1 ? 0 : row->height));
         CHECK(red_of_1() == (fault == ICYSIXEL_OK ? 255 : 51));
         CHECK(icysixel_take_pixels(h, &pixels) == (row->width > 0 ? OK : ICYSIXEL_NO_IMAGE));
         CHECK(pixels.length == 4 * row->width * row->height && pixels.length == shape.bytes);
@@ -300,6 +302,37 @@ static void test_partial(void)
         icysixel_free_bytes(&pixels);
     }
     RETURNS(NO_SESSION, icysixel_finish_partial(h, &shape, &fault));
+}
+
+/* The shape of each finished image has the drawn height, at most the height. */
+static void test_drawn_height(void)
+{
+    static const struct {
+        const char *data;
+        uint8_t crop;
+        size_t rows, height, drawn_height;
+    } images[] = {
+        {"", 0, 99, 1, 0}, {"?", 0, 99, 6, 0}, {"~-@", 0, 99, 12, 7}, {"~-B", 0, 2, 2, 2},
+        {"~-B", 0, 8, 8, 8}, {"~-B", 0, 11, 11, 8}, {"\"1;1;1;3~", 0, 99, 6, 6},
+        {"\"1;1;1;3~", 1, 99, 3, 3}, {"\"1;1;1;9~", 1, 99, 9, 6}, {"\"1;1;1;2@-@", 1, 99, 2, 2},
+    };
+    static const icysixel_layout layout = {.columns = 1};
+    uint8_t pixels[48];
+    EACH(row, images) {
+        CHECK(icysixel_set_crop(h, row->crop) == OK && icysixel_set_clip(h, 9, row->rows) == OK);
+        for (int call = 0; call < 5; call++) {
+            CHECK(icysixel_begin_payload(h, 9, 1, -1) == OK && FEED(row->data) == OK);
+            const uint32_t code = call == 0 ? DECODE(row->data)
+                : call == 1 ? icysixel_decode_payload(h, BYTES(row->data), 9, 1, -1, &shape)
+                : call == 2 ? icysixel_finish(h, &shape)
+                : call == 3 ? icysixel_finish_partial(h, &shape, &(uint32_t){0})
+                : icysixel_finish_into(h, 0, &layout, pixels, 48, &shape, &wanted);
+            CHECK(code == OK && shape.height == row->height);
+            CHECK(shape.drawn_height == row->drawn_height);
+            shape = (icysixel_shape){0};
+        }
+    }
+    CHECK(icysixel_set_crop(h, 0) == OK && icysixel_set_clip(h, SIZE_MAX, SIZE_MAX) == OK);
 }
 
 /* Registers are set and read together: not past the last one, and not past the buffer. */
@@ -547,9 +580,9 @@ int main(void)
 {
     static const struct { const char *name; void (*test)(void); } tests[] = {
         TEST(empty_handle), TEST(new_on_full_handle), TEST(progress),
-        TEST(copied_rows), TEST(pixels), TEST(errors), TEST(partial), TEST(take_pixels),
-        TEST(new_on_full_handle), TEST(registers), TEST(settings), TEST(encode), TEST(encodings),
-        TEST(widest), TEST(palettes), TEST(indices), TEST(code_texts),
+        TEST(copied_rows), TEST(pixels), TEST(errors), TEST(partial), TEST(drawn_height),
+        TEST(take_pixels), TEST(new_on_full_handle), TEST(registers), TEST(settings), TEST(encode),
+        TEST(encodings), TEST(widest), TEST(palettes), TEST(indices), TEST(code_texts),
     };
     for (size_t i = 0; i < COUNT_OF(tests); i++) subject = tests[i].name, tests[i].test();
     icysixel_free(h);

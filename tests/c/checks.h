@@ -108,12 +108,14 @@ static inline struct outcome outcome_of(icysixel *decoder, uint32_t code, icysix
     return outcome;
 }
 
+/* Whether two outcomes are the same. A drawn height of SIZE_MAX in the second one is unknown. */
 static inline bool is_same(const struct outcome *one, const struct outcome *other)
 {
     const icysixel_shape *a = &one->shape, *b = &other->shape;
     if (one->code != other->code || one->code != ICYSIXEL_OK) return one->code == other->code;
     return a->width == b->width && a->height == b->height && a->pixel_width == b->pixel_width
         && a->pixel_height == b->pixel_height && a->p1 == b->p1 && a->p2 == b->p2
+        && (a->drawn_height == b->drawn_height || b->drawn_height == SIZE_MAX)
         && a->bytes == b->bytes && memcmp(one->pixels, other->pixels, a->bytes) == 0;
 }
 

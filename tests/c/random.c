@@ -31,7 +31,8 @@ static void add(const void *bytes, size_t length)
 static void add_outcome(icysixel *decoder, const struct outcome *outcome)
 {
     const icysixel_shape *shape = &outcome->shape;
-    uint64_t numbers[] = {outcome->code, shape->width, shape->height, shape->p1, shape->p2};
+    uint64_t numbers[] = {outcome->code, shape->width, shape->height, shape->drawn_height,
+                          shape->p1, shape->p2};
     struct registers registers = registers_of(decoder);
     add(numbers, sizeof numbers);
     add(outcome->pixels, outcome->code == ICYSIXEL_OK ? shape->bytes : 0);

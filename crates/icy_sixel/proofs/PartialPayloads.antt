@@ -48,6 +48,7 @@ pub payload_partly : (result : Result PartialPayload SixelError) (session : Sess
     → EndsPartly result (reception_of (opened.Payload session))
 payload_partly (Ok partial) session is = record {
   image = is.image;
+  drawn = is.drawn;
   error = is.error;
   whole = λ none.
       is.image
@@ -66,6 +67,7 @@ pub string_partly : (result : Result PartialPayload SixelError) (session : DcsSe
     → EndsPartly result (reception_of (opened.ControlString session))
 string_partly (Ok partial) session is = record {
   image = is.image;
+  drawn = is.drawn;
   error = is.error;
   whole = is.whole;
   registers = is.registers;

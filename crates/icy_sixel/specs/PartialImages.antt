@@ -5,6 +5,7 @@ use Rattle.std.specs.Prelude.{Option, Some, None, is_none, Result, IfOk, OnOk, I
 use Rattle.std.specs.Prelude.{MatchOption}
 use Rattle.sixel_base.specs.Dcs.{dcs_in_payload}
 use Rattle.sixel_base.specs.Decoder.{IsSetAs}
+use Rattle.sixel_base.specs.DrawnHeight.{partial_drawn_height}
 use Rattle.sixel_base.specs.Fault.{Fault, Faults, Incomplete, Names, StreamFailed}
 use Rattle.sixel_base.specs.Limits.{Limit}
 use Rattle.sixel_base.specs.OneShot.{AreFoundRegisters, IsFoundImage}
@@ -50,6 +51,9 @@ pub record IsFinishedPartly (old new : Receiver) (result : Result PartialImage S
   -- the picture is that of the tokens before the first fault
   pub image : IfOk result (λ partial.
       IsPartialImage old.image.start old.image.form old.image.bytes (image_value partial.image))
+  -- its drawn height is that of the image of these tokens
+  pub drawn : IfOk result (λ partial. partial.drawn_height
+      ≡ partial_drawn_height old.image.start (found old.image.form old.image.bytes))
   -- the error is what is wrong with the image
   pub error : IfOk result (λ partial. Names partial.error
       (partial_fault old.image.start.pixel_limit old.image.form old.image.bytes))

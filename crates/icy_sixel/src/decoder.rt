@@ -20,10 +20,12 @@ ghost use Rattle.sixel_decoder.specs.OneShotCalls.{IsDecoded};
 ghost use Rattle.sixel_decoder.specs.PayloadCalls.{begun};
 
 mod dcs_session;
+mod drawn;
 mod stream;
 
 use crate::sixel_image::SixelImage;
 pub use dcs_session::SixelDcsStreamDecoder;
+pub use drawn::DrawnImage;
 use sixel_base::Result;
 use sixel_base::registers::{REGISTERS, Registers};
 pub use sixel_base::settings::DcsSettings;
@@ -31,7 +33,6 @@ use sixel_base::state::DecoderState;
 pub use sixel_base::status::{
     SixelDcsFeedResult, SixelDcsFeedStatus, SixelFeedResult, SixelFeedStatus,
 };
-use sixel_decoder::{decode_found, decode_payload};
 use std::alloc::Global;
 use std::marker::Model;
 pub use stream::SixelStreamDecoder;
@@ -219,9 +220,8 @@ impl SixelDecoder {
         ensures set { IsSetAs self.old self.new }
         ensures kept { OnErr result (self.new ≡ self.old) }
     {
-        let picture = decode_found(alloc, self.state, bytes)?;
-        self.state.registers = picture.registers;
-        Ok(SixelImage::from_picture(picture))
+        let DrawnImage { image, .. } = self.decode_drawn(alloc, bytes)?;
+        Ok(image)
     }
 
     /// Begins a payload that is decoded in chunks.
@@ -298,9 +298,8 @@ impl SixelDecoder {
         ensures set { IsSetAs self.old self.new }
         ensures kept { OnErr result (self.new ≡ self.old) }
     {
-        let picture = decode_payload(alloc, self.state, bytes, settings)?;
-        self.state.registers = picture.registers;
-        Ok(SixelImage::from_picture(picture))
+        let DrawnImage { image, .. } = self.decode_from_dcs_drawn(alloc, bytes, settings)?;
+        Ok(image)
     }
 }
 

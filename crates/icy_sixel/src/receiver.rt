@@ -12,12 +12,13 @@ ghost use Rattle.icy_sixel.specs.ReceiverCalls.{KeepsPartial};
 ghost use Rattle.icy_sixel.specs.inside.Receiving.{reception_of};
 
 mod bands;
+mod drawn;
 mod final_rows;
 mod partial;
 mod row_buffer;
 mod settings;
 
-use crate::decoder::{DcsSettings, SixelDcsFeedResult, SixelDecoder, SixelFeedResult};
+use crate::decoder::{DcsSettings, DrawnImage, SixelDcsFeedResult, SixelDecoder, SixelFeedResult};
 use crate::script::Status;
 use crate::sixel_image::SixelImage;
 pub use bands::{BandStatus, ReceivedBand, band_len};
@@ -28,7 +29,6 @@ use sixel_canvas::band_canvas::BandCanvas;
 use sixel_decoder::{DcsReader, PayloadReader};
 use std::alloc::Global;
 use std::marker::Model;
-use std::mem;
 
 /// What a feed of a receiver did.
 #[derive(Clone, Copy, Debug, PartialEq, Eq)]
@@ -175,17 +175,8 @@ impl SixelReceiver {
     pub fn finish(&mut self) -> Result<SixelImage>
         ensures { IsFinished self.old self.new result }
     {
-        if self.released_rows() > 0 {
-            return Err(SixelError::rows_released());
-        }
-        let open = mem::replace(&mut self.open, Open::Nothing);
-        let picture = match open {
-            Open::Nothing => Err(SixelError::stream_failed()),
-            Open::Payload(reader) => reader.finish(),
-            Open::ControlString(reader) => reader.finish(),
-        }?;
-        self.decoder.state.registers = picture.registers;
-        Ok(SixelImage::from_picture(picture))
+        let DrawnImage { image, .. } = self.finish_drawn()?;
+        Ok(image)
     }
 
     /// Aborts the open image, if there is one. The decoder is unchanged.

@@ -68,6 +68,7 @@ typedef struct {
 typedef struct {
     size_t width;          /* pixels in a row */
     size_t height;         /* rows */
+    size_t drawn_height;   /* rows down to the last one with a set pixel, at most height; or 0 */
     size_t bytes;          /* 4 * width * height, the size of all pixels with stride 0 */
     uint16_t pixel_width;  /* the displayed width of a pixel: 1 */
     uint16_t pixel_height; /* the displayed height of a pixel in the same unit: 1, 2, 3 or 5 */
@@ -236,8 +237,8 @@ uint32_t icysixel_get_size_so_far(icysixel *handle, icysixel_size *size);
 
 /* Returns the last row of the open image with a set pixel, plus one. It is 0 if there is none, if
  * no image is open, and after an error. The height of an image with sixels and without raster
- * attributes is a multiple of six, and this number can be less. Call it before icysixel_finish,
- * which does not change it. A cropped image can be lower. It does not allocate. */
+ * attributes is a multiple of six, and this number can be less. The shape of the finished image
+ * has it too, or the height if crop ends the image above that row. It does not allocate. */
 size_t icysixel_get_drawn_height(icysixel *handle);
 
 /* Returns how many rows from the top of the open image are final. No byte that follows changes a

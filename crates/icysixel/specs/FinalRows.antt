@@ -76,6 +76,7 @@ abbrev pub copied_shape_of : ImageShape → Shape
 copied_shape_of image = record {
   width = image.width;
   height = image.height;
+  drawn_height = image.drawn_height;
   bytes = 4 * (image.width * image.height);
   pixel_width = 1;
   pixel_height = pad_of image.aspect_ratio;

@@ -3,6 +3,7 @@
 use Rattle.std.specs.Prelude.{ℕ, ◌≡◌, ◌≢◌, ◌*◌, ◌<◌, ◌≤◌, List, true, false, Some, None, is_some}
 use Rattle.sixel_base.specs.CallFault.{RowsReleased}
 use Rattle.sixel_base.specs.Decoder.{IsSetAs}
+use Rattle.sixel_base.specs.DrawnHeight.{found_drawn_height}
 use Rattle.sixel_base.specs.OneShot.{IsFoundImage, AreFoundRegisters, IsDecodedAs}
 use Rattle.icy_sixel.specs.ImageView.{image_value}
 use Rattle.icy_sixel.specs.Receiver.{end_fault, end_wants, is_open, no_image}
@@ -30,7 +31,9 @@ pub record IsFinished (before after : State) (now : Shape) (code : ℕ) : Type 0
   pub image : (image : SixelImage) → after.image ≡ Some image
       → IsFoundImage before.receiver.image.start
       (receivers.found before.receiver.image.form before.receiver.image.bytes) (image_value image)
-  pub shape : (image : SixelImage) → after.image ≡ Some image → now ≡ shape_of (image_value image)
+  pub shape : (image : SixelImage) → after.image ≡ Some image
+      → now ≡ shape_of (image_value image) (found_drawn_height before.receiver.image.start
+      (receivers.found before.receiver.image.form before.receiver.image.bytes))
   pub bytes : code ≡ 0 → now.bytes ≡ 4 * (now.width * now.height)
   pub area : code ≡ 0 → now.width * now.height ≤ before.receiver.image.start.pixel_limit.pixels
   pub registers : code ≡ 0 → AreFoundRegisters before.receiver.image.start

@@ -3,6 +3,7 @@
 use Rattle.std.specs.Prelude.{ℕ, ◌≡◌, ◌≢◌, ◌*◌, ◌≤◌, true, false, Option, Some, None, is_some}
 use Rattle.std.specs.Prelude.{is_none}
 use Rattle.sixel_base.specs.Decoder.{IsSetAs}
+use Rattle.sixel_base.specs.DrawnHeight.{partial_drawn_height}
 use Rattle.sixel_base.specs.Fault.{Fault}
 use Rattle.sixel_base.specs.OneShot.{AreFoundRegisters, IsFoundImage}
 use Rattle.icy_sixel.specs.ImageView.{image_value}
@@ -35,7 +36,9 @@ pub record IsFinishedPartly (before after : State) (now : Shape) (fault code : �
   pub whole : code ≡ 0 → fault ≡ 0 → (image : SixelImage) → after.image ≡ Some image
       → IsFoundImage before.receiver.image.start
       (found before.receiver.image.form before.receiver.image.bytes) (image_value image)
-  pub shape : (image : SixelImage) → after.image ≡ Some image → now ≡ shape_of (image_value image)
+  pub shape : (image : SixelImage) → after.image ≡ Some image
+      → now ≡ shape_of (image_value image) (partial_drawn_height before.receiver.image.start
+      (found before.receiver.image.form before.receiver.image.bytes))
   pub bytes : code ≡ 0 → now.bytes ≡ 4 * (now.width * now.height)
   pub area : code ≡ 0 → now.width * now.height ≤ before.receiver.image.start.pixel_limit.pixels
   -- what is wrong with the image

@@ -51,7 +51,7 @@ fn finish(state: &mut State, shape: &mut Shape) -> u32
     if state.receiver.released_rows() > 0 {
         return Code::RowsReleased as u32;
     }
-    let answer = state.receiver.finish();
+    let answer = state.receiver.finish_drawn();
     state.store_decoded(answer, shape)
 }
 

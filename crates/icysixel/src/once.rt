@@ -2,7 +2,8 @@
 
 ghost use Rattle.std.specs.Prelude.{◌≡◌, ◌≢◌, ◌*◌, ◌≤◌, Some, None, is_some, true};
 ghost use Rattle.sixel_base.specs.Decoder.{IsSetAs, origin_of};
-ghost use Rattle.sixel_base.specs.OneShot.{IsFoundImage, AreFoundRegisters};
+ghost use Rattle.sixel_base.specs.DrawnHeight.{found_drawn_height};
+ghost use Rattle.sixel_base.specs.OneShot.{IsFoundImage, AreFoundRegisters, Payload};
 ghost use Rattle.sixel_base.specs.OneShot.{found, found_fault, found_wants};
 ghost use Rattle.sixel_base.specs.Payload.{payload_fault, payload_image};
 ghost use Rattle.sixel_base.specs.Payload.{payload_registers, payload_wants};
@@ -40,8 +41,10 @@ pub extern "C" fn icysixel_decode(
         → slot.old.handle.state ≡ Some before → slot.new.handle.state ≡ Some after
         → after.image ≡ Some image
         → IsFoundImage before.receiver.decoder (found bytes.now) (image_value image) }
-    ensures shape { (after : State) (image : SixelImage) → slot.new.handle.state ≡ Some after
-        → after.image ≡ Some image → shape.new ≡ shape_of (image_value image) }
+    ensures shape { (before after : State) (image : SixelImage)
+        → slot.old.handle.state ≡ Some before → slot.new.handle.state ≡ Some after
+        → after.image ≡ Some image → shape.new ≡ shape_of (image_value image)
+        (found_drawn_height before.receiver.decoder (found bytes.now)) }
     ensures bytes { result ≡ 0 → shape.new.bytes ≡ 4 * (shape.new.width * shape.new.height) }
     ensures area { (before : State) → slot.old.handle.state ≡ Some before → result ≡ 0
         → shape.new.width * shape.new.height ≤ before.receiver.decoder.pixel_limit.pixels }
@@ -71,7 +74,7 @@ pub extern "C" fn icysixel_decode(
     }
     let state = slot.state();
     let mut decoder = state.replace_decoder(SixelDecoder::new());
-    let answer = decoder.decode(alloc, bytes);
+    let answer = decoder.decode_drawn(alloc, bytes);
     state.replace_decoder(decoder);
     state.store_decoded(answer, shape)
 }
@@ -97,8 +100,10 @@ pub extern "C" fn icysixel_decode_payload(
         → slot.old.handle.state ≡ Some before → slot.new.handle.state ≡ Some after
         → after.image ≡ Some image → image_value image
         ≡ payload_image (origin_of before.receiver.decoder (settings_of p1 p2 grid)) bytes.now }
-    ensures shape { (after : State) (image : SixelImage) → slot.new.handle.state ≡ Some after
-        → after.image ≡ Some image → shape.new ≡ shape_of (image_value image) }
+    ensures shape { (before after : State) (image : SixelImage)
+        → slot.old.handle.state ≡ Some before → slot.new.handle.state ≡ Some after
+        → after.image ≡ Some image → shape.new ≡ shape_of (image_value image)
+        (found_drawn_height before.receiver.decoder (Payload (settings_of p1 p2 grid) bytes.now)) }
     ensures bytes { result ≡ 0 → shape.new.bytes ≡ 4 * (shape.new.width * shape.new.height) }
     ensures area { (before : State) → slot.old.handle.state ≡ Some before → result ≡ 0
         → shape.new.width * shape.new.height ≤ before.receiver.decoder.pixel_limit.pixels }
@@ -127,7 +132,7 @@ pub extern "C" fn icysixel_decode_payload(
     }
     let state = slot.state();
     let mut decoder = state.replace_decoder(SixelDecoder::new());
-    let answer = decoder.decode_from_dcs(alloc, bytes, settings(p1, p2, grid));
+    let answer = decoder.decode_from_dcs_drawn(alloc, bytes, settings(p1, p2, grid));
     state.replace_decoder(decoder);
     state.store_decoded(answer, shape)
 }

@@ -14,8 +14,8 @@ use crate::parameters::settings;
 use crate::shape::Shape;
 use crate::slot::Slot;
 use crate::state::State;
-use icy_sixel::SixelError;
 use icy_sixel::receiver::PartialImage;
+use icy_sixel::{DrawnImage, SixelError};
 use std::alloc::Global;
 
 /// Opens a payload of which a fault leaves the picture. An open image is aborted.
@@ -113,9 +113,17 @@ fn finish_partial(state: &mut State, shape: &mut Shape, fault: &mut u32) -> u32
     }
     match state.receiver.finish_partial() {
         Ok(partial) => {
-            let PartialImage { image, error } = partial;
+            let PartialImage {
+                image,
+                drawn_height,
+                error,
+            } = partial;
             *fault = code_beside(&error);
-            state.store_decoded(Ok(image), shape)
+            let drawn = DrawnImage {
+                image,
+                drawn_height,
+            };
+            state.store_decoded(Ok(drawn), shape)
         }
         Err(error) => code_of(&error),
     }

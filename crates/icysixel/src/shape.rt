@@ -6,7 +6,7 @@ ghost use Rattle.sixel_base.specs.Limits.{area_limit};
 ghost use Rattle.icysixel.specs.FinalRows.{copied_shape_of};
 ghost use Rattle.icysixel.specs.Shape.{shape_of};
 
-use icy_sixel::{ImageShape, SixelImage};
+use icy_sixel::{DrawnImage, ImageShape};
 
 /// The properties of an image, without its pixels.
 #[repr(C)]
@@ -14,6 +14,7 @@ use icy_sixel::{ImageShape, SixelImage};
 pub struct Shape {
     pub width: usize,
     pub height: usize,
+    pub drawn_height: usize,
     pub bytes: usize,
     pub pixel_width: u16,
     pub pixel_height: u16,
@@ -23,12 +24,14 @@ pub struct Shape {
 
 impl Shape {
     /// The properties of an image.
-    pub fn of(image: &SixelImage) -> Shape
-        ensures { result ≡ shape_of (image_value image.now) }
+    pub fn of(drawn: &DrawnImage) -> Shape
+        ensures { result ≡ shape_of (image_value drawn.now.image) drawn.now.drawn_height }
     {
+        let image = &drawn.image;
         Shape {
             width: image.width,
             height: image.height,
+            drawn_height: drawn.drawn_height,
             bytes: image.pixels.len(),
             pixel_width: image.aspect_ratio.pan(),
             pixel_height: image.aspect_ratio.pad(),
@@ -36,6 +39,7 @@ impl Shape {
             p2: image.background_mode.to_p2_value(),
         }
     }
+
     /// The properties of an image whose pixels were copied.
     pub fn of_copied(image: ImageShape) -> Shape
         requires { image.width * image.height ≤ area_limit }
@@ -44,6 +48,7 @@ impl Shape {
         Shape {
             width: image.width,
             height: image.height,
+            drawn_height: image.drawn_height,
             bytes: 4 * (image.width * image.height),
             pixel_width: image.aspect_ratio.pan(),
             pixel_height: image.aspect_ratio.pad(),

@@ -5,15 +5,16 @@ ghost use Rattle.std.specs.Prelude.{OnOk, OnErr, IfOk, IfErr, string_bytes};
 ghost use Rattle.std.specs.Option.{ForSome};
 ghost use Rattle.sixel_base.specs.Decoder.{new_decoder};
 ghost use Rattle.sixel_base.specs.Fault.{Fault, Faults, IsFault};
-ghost use Rattle.icy_sixel.specs.ImageView.{image_value};
+ghost use Rattle.icy_sixel.specs.ImageView.{image_result, image_value};
 ghost use Rattle.icy_sixel.specs.Receiver.{idle};
 ghost use Rattle.icysixel.specs.Code.{IsKnown, IsTold, fault_code};
+ghost use Rattle.icy_sixel.specs.declared.sixel_image.SixelImage.{SixelImage};
 ghost use Rattle.icysixel.specs.Shape.{shape_of};
 
 use crate::code::{Code, code_of};
 use crate::shape::Shape;
 use icy_sixel::receiver::SixelReceiver;
-use icy_sixel::{SixelDecoder, SixelError, SixelImage};
+use icy_sixel::{DrawnImage, SixelDecoder, SixelError, SixelImage};
 use std::mem;
 
 /// A receiver, and the last image and the last text until the caller takes them.
@@ -62,31 +63,37 @@ impl State {
     /// Stores a decoded image and writes its properties, or stores none.
     pub fn store_decoded(
         &mut self,
-        answer: Result<SixelImage, SixelError>,
+        answer: Result<DrawnImage, SixelError>,
         shape: &mut Shape,
     ) -> u32
-        requires pixels { IfOk answer (λ i. length i.pixels.items ≡ 4 * (i.width * i.height)) }
-        requires known { IfErr answer IsKnown }
-        ensures done { OnOk answer (result ≡ 0) }
-        ensures image { IfOk answer (λ image. self.new.image ≡ Some image) }
-        ensures shape { IfOk answer (λ image. shape.new ≡ shape_of (image_value image)) }
+        requires pixels { IfOk (image_result answer)
+            (λ i. length i.pixels.items ≡ 4 * (i.width * i.height)) }
+        requires known { IfErr (image_result answer) IsKnown }
+        ensures done { OnOk (image_result answer) (result ≡ 0) }
+        ensures image { IfOk (image_result answer) (λ image. self.new.image ≡ Some image) }
+        ensures shape { (rows : ℕ) (image : SixelImage) → self.new.image ≡ Some image
+            → IfOk answer (λ drawn. drawn.drawn_height ≡ rows)
+            → shape.new ≡ shape_of (image_value image) rows }
         ensures bytes { result ≡ 0 → shape.new.bytes ≡ 4 * (shape.new.width * shape.new.height) }
-        ensures area { (limit : ℕ) → result ≡ 0 → IfOk answer (λ i. i.width * i.height ≤ limit)
+        ensures area { (limit : ℕ) → result ≡ 0
+            → IfOk (image_result answer) (λ i. i.width * i.height ≤ limit)
             → shape.new.width * shape.new.height ≤ limit }
-        ensures refused { OnErr answer (result ≢ 0) }
-        ensures dropped { OnErr answer (self.new.image ≡ None) }
-        ensures told { OnErr answer (shape.new ≡ shape.old) }
+        ensures refused { OnErr (image_result answer) (result ≢ 0) }
+        ensures dropped { OnErr (image_result answer) (self.new.image ≡ None) }
+        ensures told { OnErr (image_result answer) (shape.new ≡ shape.old) }
         ensures fault { (fault : Fault) → result ≢ 0
-            → IfErr answer (λ error. IsFault error fault) → result ≡ fault_code fault }
+            → IfErr (image_result answer) (λ error. IsFault error fault)
+            → result ≡ fault_code fault }
         ensures code { (may_want : Bool) (found : Option Fault) → result ≢ 0
-            → IfErr answer (λ error. Faults error may_want found)
+            → IfErr (image_result answer) (λ error. Faults error may_want found)
             → IsTold result may_want found }
         ensures receiver { self.new.receiver ≡ self.old.receiver }
         ensures text { self.new.text ≡ self.old.text }
     {
         match answer {
-            Ok(image) => {
-                *shape = Shape::of(&image);
+            Ok(drawn) => {
+                *shape = Shape::of(&drawn);
+                let DrawnImage { image, .. } = drawn;
                 self.store_image(Some(image));
                 Code::Success as u32
             }

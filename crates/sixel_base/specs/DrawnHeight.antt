@@ -1,14 +1,19 @@
 -- How high the drawn part of a picture is inside the clip: the last row with a set pixel, plus one.
 -- A picture without raster attributes is a whole number of bands high, and this is not. The measure
 -- is this library's own; where sixels are drawn, by DEC's manual, is in Place.
-use Rattle.std.specs.Prelude.{ℕ, zero, suc, ◌+◌, max, nat_lt, if◌then◌else◌, List, [], ◌∷◌}
+use Rattle.std.specs.Prelude.{ℕ, zero, suc, ◌+◌, max, min, nat_lt, Bool, if◌then◌else◌, List, []}
+use Rattle.std.specs.Prelude.{◌∷◌}
 use Rattle.sixel_base.specs.Bytes.{front}
 use Rattle.sixel_base.specs.Clip.{clipped_bits, is_inside}
 use Rattle.sixel_base.specs.Dcs.{Stage, Heading, Failing, Reading, stage}
 use Rattle.sixel_base.specs.History.{Sixel, History, history_of}
 use Rattle.sixel_base.specs.Picture.{is_set}
 use Rattle.sixel_base.specs.Limits.{Limit}
+use Rattle.sixel_base.specs.OneShot.{Found, Payload, NoPayload}
+use Rattle.sixel_base.specs.Partial.{faultless_part}
+use Rattle.sixel_base.specs.Payload.{image_height}
 use Rattle.sixel_base.specs.Place.{down}
+use Rattle.sixel_base.specs.declared.state.DecoderState.{DecoderState}
 
 -- the last of the first k rows that a sixel with these bits sets, plus one, or 0 if there is none
 abbrev pub set_rows_within : ℕ → ℕ → ℕ
@@ -45,3 +50,22 @@ stage_drawn_height limit (Reading settings payload) = payload_drawn_height limit
 
 abbrev pub dcs_drawn_height : Limit → List ℕ → ℕ
 dcs_drawn_height limit bytes = stage_drawn_height limit (stage bytes)
+
+-- that of the image itself, which is at most as high as the image: crop can end an image above the
+-- last set pixel of its picture
+abbrev pub image_drawn_height : Limit → Bool → History → ℕ
+image_drawn_height limit raster_crop history =
+    min (drawn_height limit history) (image_height limit raster_crop history)
+
+-- that of the image of a payload, where there is a payload
+abbrev pub found_drawn_height : DecoderState → Found → ℕ
+found_drawn_height decoder (Payload settings payload) =
+    image_drawn_height decoder.pixel_limit decoder.raster_crop (history_of (front payload))
+found_drawn_height decoder (NoPayload fault) = 0
+
+-- and of the image of the tokens before its first fault
+abbrev pub partial_drawn_height : DecoderState → Found → ℕ
+partial_drawn_height decoder (Payload settings payload) =
+    image_drawn_height decoder.pixel_limit decoder.raster_crop
+    (faultless_part decoder.pixel_limit (history_of (front payload)))
+partial_drawn_height decoder (NoPayload fault) = 0

@@ -11,6 +11,7 @@ use Rattle.sixel_base.specs.declared.status.SixelDcsFeedStatus.{SixelDcsFeedStat
 use Rattle.sixel_base.specs.Dcs.{after_terminator, dcs_in_payload, dcs_status, end_fault, has_come}
 use Rattle.sixel_base.specs.Dcs.{has_ended, stage_in_payload}
 use Rattle.sixel_base.specs.Decoder.{origin_of}
+use Rattle.sixel_base.specs.DrawnHeight.{image_drawn_height, partial_drawn_height}
 use Rattle.sixel_base.specs.Fault.{Fault, Faults, Incomplete, Names}
 use Rattle.sixel_base.specs.History.{History, history_of}
 use Rattle.sixel_base.specs.Limits.{Limit}
@@ -21,6 +22,7 @@ use Rattle.sixel_base.specs.Payload.{fed_fault, image_of, payload_fault}
 use Rattle.sixel_base.specs.Payload.{payload_registers}
 use Rattle.sixel_base.specs.Stroke.{Origin}
 use Rattle.sixel_base.proofs.FaultlessParts.{faultless_whole}
+use Rattle.sixel_decoder.specs.CopiedImage.{decoder_of}
 use Rattle.sixel_decoder.specs.DcsPartialCalls.{IsPartialFound, picture_fault, string_fault}
 use Rattle.sixel_decoder.specs.DcsPartialCalls as strings
 use Rattle.sixel_decoder.specs.PartialCalls as payloads
@@ -89,6 +91,14 @@ rejected_by partial reader session f is refused has fault told =
       error = subst (λ (w : Option Fault). Names partial.error w) (sym whole) named;
       whole = λ none. absurd (named_some partial.error f named none);
       registers = λ none. absurd (named_some partial.error f named none);
+      drawn =
+          subst (λ (w : Found). partial.picture.drawn_height ≡ partial_drawn_height decoder w)
+          (sym at)
+          (told.drawn
+          ∙ (ap (λ (w : Origin).
+          partial_drawn_height (decoder_of w) (Payload settings reader.bytes)) is.start
+          ∙ ap (image_drawn_height limit decoder.raster_crop)
+          (sym (part_later limit reader.bytes is.more f fault))));
       area =
           subst (λ (w : Origin).
           partial.picture.width * partial.picture.height ≤ w.pixel_limit.pixels)
@@ -118,6 +128,7 @@ string_rejected (Err e) reader session is refused has told =
       error = tt;
       whole = tt;
       registers = tt;
+      drawn = tt;
       area = tt;
       accepted = tt;
       failed = rw (refused, has) (memory_only e memory);
@@ -171,6 +182,13 @@ ended_by_fault partial after reader session is told same named sound =
           (ap (λ picture. picture.registers) same
           ∙ (told.registers (sound none).0
           ∙ ap (λ (w : Origin). payload_registers w reader.bytes) is.start));
+      drawn =
+          subst (λ (w : Found). after.picture.drawn_height ≡ partial_drawn_height decoder w)
+          (sym is.at)
+          (ap (λ picture. picture.drawn_height) same
+          ∙ (told.drawn
+          ∙ ap (λ (w : Origin).
+          partial_drawn_height (decoder_of w) (Payload settings reader.bytes)) is.start));
       area =
           subst (λ (w : Origin).
           after.picture.width * after.picture.height ≤ w.pixel_limit.pixels) is.start

@@ -3,6 +3,7 @@ use Rattle.std.proofs.Common.{◌≡◌, ℕ, true, false, cond, List, [], ◌�
 use Rattle.std.proofs.Common.{Option, Some, Result, Ok, Err}
 use Rattle.std.specs.Prelude.{◌==◌, ◌&&◌, IfOk}
 use Rattle.sixel_base.specs.declared.error.SixelError.{SixelError}
+use Rattle.sixel_base.specs.DrawnHeight.{found_drawn_height}
 use Rattle.sixel_base.specs.Settings.{Settings}
 use Rattle.sixel_base.specs.declared.state.DecoderState.{DecoderState}
 use Rattle.sixel_base.specs.Stroke.{Origin}
@@ -14,6 +15,7 @@ use Rattle.sixel_base.specs.OneShot.{found_in, found_by, Found, Payload, IsFound
 use Rattle.sixel_base.specs.OneShot.{AreFoundRegisters}
 use Rattle.sixel_base.specs.Dcs.{Introduced, Waiting, Absent, Entered, introduced, escaped, Reading}
 use Rattle.sixel_base.specs.Dcs.{stage_after, stage_by, stage}
+use Rattle.sixel_decoder.specs.CopiedImage.{decoder_of}
 use Rattle.sixel_decoder.specs.Session.{Session}
 use Rattle.sixel_decoder.specs.PictureView.{picture_value}
 use Rattle.sixel_decoder.specs.inside.DcsParser.{IsInPayload}
@@ -92,3 +94,16 @@ found_registers (Ok picture) reader decoder ended bytes is defined =
     (sym (found_reading bytes reader.origin.settings reader.bytes is.reading))
     (defined ∙ ap (λ (o : Origin). payload_registers o reader.bytes) is.start)
 found_registers (Err e) reader decoder ended bytes is defined = tt
+
+pub found_drawn : (result : Result DecodedPayload SixelError) (reader : Session)
+    (decoder : DecoderState) (ended : Option SixelDcsFeedStatus) (bytes : List ℕ)
+    → IsInPayload reader decoder ended bytes
+    → IfOk result (λ picture. picture.drawn_height
+    ≡ found_drawn_height (decoder_of reader.origin) (Payload reader.origin.settings reader.bytes))
+    → IfOk result (λ picture. picture.drawn_height ≡ found_drawn_height decoder (found bytes))
+found_drawn (Ok picture) reader decoder ended bytes is drawn =
+    subst (λ (w : Found). picture.drawn_height ≡ found_drawn_height decoder w)
+    (sym (found_reading bytes reader.origin.settings reader.bytes is.reading))
+    (drawn ∙ ap (λ (o : Origin).
+    found_drawn_height (decoder_of o) (Payload reader.origin.settings reader.bytes)) is.start)
+found_drawn (Err e) reader decoder ended bytes is drawn = tt

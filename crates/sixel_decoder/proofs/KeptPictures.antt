@@ -5,6 +5,7 @@ use Rattle.std.specs.Prelude.{IsSomeAnd, ◌++◌, ◌&&◌, is_some}
 use Rattle.std.specs.Result.{result_err}
 use Rattle.sixel_base.specs.declared.error.SixelError.{SixelError}
 use Rattle.sixel_base.specs.Bytes.{first_terminator, front, is_terminated}
+use Rattle.sixel_base.specs.DrawnHeight.{image_drawn_height}
 use Rattle.sixel_base.specs.Fault.{Fault, Faults, IsFault, Names}
 use Rattle.sixel_base.specs.Fault.{is_fault}
 use Rattle.sixel_base.specs.History.{History, history_of}
@@ -152,6 +153,7 @@ pub ends_partly : (picture : DecodedPayload) (error : Option SixelError) (o : Or
 ends_partly picture error o h ends names = record {
   image = ends.1;
   registers = ends.2;
+  drawn = ends.4;
   area = ends.3;
   error = names;
 }
@@ -172,6 +174,7 @@ finished_partly (Ok partial) s has ends = record {
       ends.registers
       ∙ ap (registers s.origin.registers)
       (partly_whole partial.error s.origin.pixel_limit (history_of (front s.bytes)) ends.error none);
+  drawn = ends.drawn;
   area = ends.area;
   accepted = has;
   failed = tt;
@@ -180,6 +183,7 @@ finished_partly (Err e) s has ends = record {
   image = tt;
   error = tt;
   registers = tt;
+  drawn = tt;
   area = tt;
   accepted = tt;
   failed = rw has ends;
@@ -196,6 +200,7 @@ rejected_partly (Ok partial) o rejected bytes is ends =
     record {
       image = ends.image ∙ ap (image_of o) same;
       registers = ends.registers ∙ ap (registers o.registers) same;
+      drawn = ends.drawn ∙ ap (image_drawn_height o.pixel_limit o.raster_crop) same;
       area = ends.area;
       error =
           subst (λ (w : Option Fault). Names partial.error w)

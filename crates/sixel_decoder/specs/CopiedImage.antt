@@ -6,6 +6,7 @@ use Rattle.std.specs.Prelude.{Result, MatchResult, IfOk, OnOk, IfErr, OnErr}
 use Rattle.sixel_base.specs.Bytes.{front}
 use Rattle.sixel_base.specs.Clip.{clipped_pixel}
 use Rattle.sixel_base.specs.Decoder.{origin_of}
+use Rattle.sixel_base.specs.DrawnHeight.{found_drawn_height}
 use Rattle.sixel_base.specs.Fault.{Fault, Faults}
 use Rattle.sixel_base.specs.History.{history_of}
 use Rattle.sixel_base.specs.Limits.{area_limit}
@@ -19,11 +20,12 @@ use Rattle.sixel_canvas.specs.declared.channels.RowLayout.{RowLayout}
 use Rattle.sixel_decoder.specs.declared.copied_payload.CopiedPayload.{CopiedPayload}
 use Rattle.sixel_decoder.specs.declared.copied_payload.ImageShape.{ImageShape}
 
--- an image without its pixels
-abbrev pub shape_of : Image → ImageShape
-shape_of image = record {
+-- an image without its pixels, but with the height that is drawn
+abbrev pub shape_of : Image → ℕ → ImageShape
+shape_of image drawn_height = record {
   width = image.width;
   height = image.height;
+  drawn_height = drawn_height;
   aspect_ratio = image.aspect_ratio;
   background_mode = image.background_mode;
 }
@@ -53,6 +55,7 @@ found_height decoder (NoPayload fault) = 0
 abbrev pub IsFoundShape : DecoderState → Found → ImageShape → Type 0
 IsFoundShape decoder (Payload settings payload) shape =
     shape ≡ shape_of (payload_image (origin_of decoder settings) payload)
+    (found_drawn_height decoder (Payload settings payload))
 IsFoundShape decoder (NoPayload fault) shape = ⊥
 
 -- why an image that ends now is rejected: after an error because the stream has failed

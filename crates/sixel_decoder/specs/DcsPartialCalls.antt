@@ -6,6 +6,7 @@ use Rattle.std.specs.Option.{option_or}
 use Rattle.sixel_base.specs.Bytes.{front}
 use Rattle.sixel_base.specs.Dcs.{dcs_in_payload, dcs_status, end_fault}
 use Rattle.sixel_base.specs.Decoder.{origin_of}
+use Rattle.sixel_base.specs.DrawnHeight.{partial_drawn_height}
 use Rattle.sixel_base.specs.Fault.{Fault, DcsStreamFailed, Faults, Incomplete, Names}
 use Rattle.sixel_base.specs.History.{history_of}
 use Rattle.sixel_base.specs.Limits.{Limit}
@@ -64,6 +65,9 @@ pub record IsFinishedPartly (session : DcsSession) (result : Result PartialPaylo
   -- without one the registers are those that the payload leaves
   pub registers : IfOk result (λ partial. partial.error ≡ None
       → AreFoundRegisters session.decoder (found session.bytes) partial.picture.registers)
+  -- its drawn height is that of the image of these tokens
+  pub drawn : IfOk result (λ partial. partial.picture.drawn_height
+      ≡ partial_drawn_height session.decoder (found session.bytes))
   -- the area is within the limit
   pub area : IfOk result (λ partial.
       partial.picture.width * partial.picture.height ≤ session.decoder.pixel_limit.pixels)

@@ -3,12 +3,15 @@
 use Rattle.std.specs.Prelude.{◌≡◌, ◌*◌, ◌≤◌, Bool, true, false, ◌&&◌, if◌then◌else◌}
 use Rattle.std.specs.Prelude.{None, Result, IfOk, OnOk, IfErr, MatchBool}
 use Rattle.sixel_base.specs.Bytes.{front}
+use Rattle.sixel_base.specs.DrawnHeight.{partial_drawn_height}
 use Rattle.sixel_base.specs.Fault.{IsFault, Names, StreamFailed, is_faulty}
 use Rattle.sixel_base.specs.History.{history_of}
+use Rattle.sixel_base.specs.OneShot.{Payload}
 use Rattle.sixel_base.specs.Partial.{partial_image}
 use Rattle.sixel_base.specs.Payload.{payload_fault, payload_registers}
 use Rattle.sixel_base.specs.declared.error.SixelError.{SixelError}
 use Rattle.sixel_base.specs.declared.error.SixelError.TheVariants.{OutOfMemory}
+use Rattle.sixel_decoder.specs.CopiedImage.{decoder_of}
 use Rattle.sixel_decoder.specs.PictureView.{picture_value}
 use Rattle.sixel_decoder.specs.Session.{Session}
 use Rattle.sixel_decoder.specs.declared.partial_payload.PartialPayload.{PartialPayload}
@@ -41,6 +44,10 @@ pub record IsFinishedPartly (session : Session) (result : Result PartialPayload 
   -- without one the registers are those that the payload leaves
   pub registers : IfOk result (λ partial. partial.error ≡ None
       → partial.picture.registers ≡ payload_registers session.origin session.bytes)
+  -- its drawn height is that of the image of these tokens
+  pub drawn : IfOk result (λ partial. partial.picture.drawn_height
+      ≡ partial_drawn_height (decoder_of session.origin)
+      (Payload session.origin.settings session.bytes))
   -- the area is within the limit
   pub area : IfOk result (λ partial.
       partial.picture.width * partial.picture.height ≤ session.origin.pixel_limit.pixels)

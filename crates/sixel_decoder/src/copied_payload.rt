@@ -10,6 +10,10 @@ pub struct ImageShape {
     pub width: usize,
     /// Rows.
     pub height: usize,
+    /// Rows down to the last one with a set pixel, or 0 if there is none.
+    ///
+    /// It is at most the height, because crop can end an image above that row.
+    pub drawn_height: usize,
     /// The shape of a pixel.
     pub aspect_ratio: PixelAspectRatio,
     /// Whether pixels that were not drawn are opaque or transparent.

@@ -2,8 +2,10 @@
 //!
 //! The contracts of its calls are the records of `DcsCalls`.
 
-ghost use Rattle.std.specs.Prelude.{◌≡◌, true, false};
+ghost use Rattle.std.specs.Prelude.{◌≡◌, true, false, IfOk};
 ghost use Rattle.sixel_base.specs.Dcs.{dcs_in_payload, has_come};
+ghost use Rattle.sixel_base.specs.DrawnHeight.{found_drawn_height};
+ghost use Rattle.sixel_base.specs.OneShot.{found};
 ghost use Rattle.sixel_decoder.specs.DcsCalls.{begun, IsFed, IsFinished, IsSizeSoFar};
 ghost use Rattle.sixel_decoder.specs.DcsCalls.{IsDrawnHeight};
 ghost use Rattle.sixel_decoder.specs.DcsCalls.{IsWriteCount, IsPaintCount, IsBandPaintCount};
@@ -101,7 +103,9 @@ impl<C: Canvas + Drop> DcsReader<C> {
 
     /// Returns the image and the registers, once the DCS sequence has ended.
     pub fn finish(self) -> Result<DecodedPayload>
-        ensures { IsFinished picture_value (λ picture. picture.registers) self result }
+        ensures finished { IsFinished picture_value (λ picture. picture.registers) self result }
+        ensures drawn { IfOk result (λ picture.
+            picture.drawn_height ≡ found_drawn_height self.decoder (found self.bytes)) }
     {
         let DcsReader { parser, .. } = self;
         let DcsParser { state, ended, .. } = parser;

@@ -12,6 +12,8 @@ pub struct DecodedPayload {
     pub pixels: Vec<u8>,
     pub width: usize,
     pub height: usize,
+    /// Rows down to the last one with a set pixel, at most the height.
+    pub drawn_height: usize,
     pub aspect_ratio: PixelAspectRatio,
     pub background_mode: BackgroundMode,
     pub registers: Registers,

@@ -1,9 +1,10 @@
 //! The decoding of a payload, or of the first DCS sequence in bytes, in one call.
 //!
-//! The contracts of both calls are the record of `OneShotCalls`.
+//! The contracts of both calls are the record of `OneShotCalls`, registers and drawn height.
 
 ghost use Rattle.std.specs.Prelude.{◌≡◌, IfOk, []};
 ghost use Rattle.sixel_base.specs.Decoder.{origin_of};
+ghost use Rattle.sixel_base.specs.DrawnHeight.{found_drawn_height};
 ghost use Rattle.sixel_base.specs.OneShot.{found, Payload, AreFoundRegisters};
 ghost use Rattle.sixel_base.specs.Payload.{payload_registers};
 ghost use Rattle.sixel_base.specs.Stroke.{Origin};
@@ -26,6 +27,8 @@ pub fn decode_found(alloc: Global, decoder: DecoderState, bytes: &[u8]) -> Resul
     ensures decoded { IsDecoded picture_value decoder (found bytes.now) result }
     ensures registers { IfOk result (λ picture.
         AreFoundRegisters decoder (found bytes.now) picture.registers) }
+    ensures drawn { IfOk result (λ picture.
+        picture.drawn_height ≡ found_drawn_height decoder (found bytes.now)) }
 {
     let Some(start) = introducer_end(bytes) else {
         return decode_payload(alloc, decoder, bytes, DcsSettings::default());
@@ -47,6 +50,8 @@ pub fn decode_payload(
     ensures decoded { IsDecoded picture_value decoder (Payload settings bytes.now) result }
     ensures registers { IfOk result (λ picture. picture.registers ≡ payload_registers
         (origin_of decoder settings) bytes.now) }
+    ensures drawn { IfOk result (λ picture.
+        picture.drawn_height ≡ found_drawn_height decoder (Payload settings bytes.now)) }
 {
     read_whole(PayloadParser::new(alloc, decoder, settings), bytes)
 }

@@ -339,11 +339,13 @@ impl<C: Canvas + Drop> Painter<C> {
         ensures whole { OnOk result (C.released self.old.canvas ≡ 0) }
     {
         let height = self.image_height();
+        let drawn_height = self.drawn_height().min(height);
         let pixels = self.canvas.take_picture(self.clipped_width, height)?;
         Ok(DecodedPayload {
             pixels,
             width: self.clipped_width,
             height,
+            drawn_height,
             aspect_ratio: self.ratio,
             background_mode: self.settings.background_mode(),
             registers: self.registers,

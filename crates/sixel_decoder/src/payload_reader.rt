@@ -2,8 +2,11 @@
 //!
 //! The contracts of its calls are the records of `PayloadCalls`.
 
-ghost use Rattle.std.specs.Prelude.{◌≡◌, None, Some, ◌&&◌};
+ghost use Rattle.std.specs.Prelude.{◌≡◌, None, Some, ◌&&◌, IfOk};
 ghost use Rattle.sixel_base.specs.Decoder.{origin_of};
+ghost use Rattle.sixel_base.specs.DrawnHeight.{found_drawn_height};
+ghost use Rattle.sixel_base.specs.OneShot.{Payload};
+ghost use Rattle.sixel_decoder.specs.CopiedImage.{decoder_of};
 ghost use Rattle.sixel_decoder.specs.PayloadCalls.{begun, IsFed, IsFinished, IsSizeSoFar};
 ghost use Rattle.sixel_decoder.specs.PayloadCalls.{IsDrawnHeight};
 ghost use Rattle.sixel_decoder.specs.PayloadCalls.{IsWriteCount, IsPaintCount, IsBandPaintCount};
@@ -173,7 +176,10 @@ impl<C: Canvas + Drop> PayloadReader<C> {
 
     /// Returns the image and the registers after the bytes that were fed.
     pub fn finish(self) -> Result<DecodedPayload>
-        ensures { IsFinished picture_value (λ picture. picture.registers) self result }
+        ensures finished { IsFinished picture_value (λ picture. picture.registers) self result }
+        ensures drawn { IfOk result (λ picture. picture.drawn_height
+            ≡ found_drawn_height (decoder_of self.origin)
+            (Payload self.origin.settings self.bytes)) }
     {
         let PayloadReader { state, .. } = self;
         match state {

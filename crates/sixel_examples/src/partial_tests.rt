@@ -123,8 +123,17 @@ fn is_row(finished: Result<PartialImage>, row: &Row) -> bool {
     let Ok(partial) = finished else {
         return false;
     };
-    let PartialImage { image, error } = partial;
-    let mut is_equal = (image.width == row.width) & (image.height == row.height);
+    let PartialImage {
+        image,
+        drawn_height,
+        error,
+    } = partial;
+    let last = match row.set.last() {
+        Some(place) => place / row.width.max(1) + 1,
+        None => 0,
+    };
+    let is_size = (image.width == row.width) & (image.height == row.height);
+    let mut is_equal = is_size & (drawn_height == last);
     for (index, pixel) in image.pixels.chunks(4).enumerate() {
         let color = if row.set.contains(&index) {
             row.color

@@ -82,14 +82,17 @@ fn has_text(copied: Result<()>, text: &str) -> bool {
 
 /// Whether the call returned a shape of this size, with square pixels on a transparent background.
 fn has_size(finished: Result<ImageShape>, width: usize, height: usize) -> bool {
-    let expected = ImageShape {
-        width,
-        height,
-        aspect_ratio: PixelAspectRatio::Square,
-        background_mode: BackgroundMode::Transparent,
-    };
     match finished {
-        Ok(shape) => shape == expected,
+        Ok(shape) => {
+            shape
+                == ImageShape {
+                    width,
+                    height,
+                    aspect_ratio: PixelAspectRatio::Square,
+                    background_mode: BackgroundMode::Transparent,
+                    ..shape
+                }
+        }
         Err(_) => false,
     }
 }

@@ -3,6 +3,7 @@
 //! A payload is the data between the `q` and the terminator of a DCS sequence.
 
 mod dcs_session;
+mod drawn;
 mod stream;
 
 use crate::codes::error_of;
@@ -13,6 +14,7 @@ use crate::sixel_image::SixelImage;
 pub use crate::status::{SixelDcsFeedResult, SixelDcsFeedStatus, SixelFeedResult, SixelFeedStatus};
 pub use dcs_session::SixelDcsStreamDecoder;
 pub(crate) use dcs_session::string_status;
+pub use drawn::DrawnImage;
 use std::alloc::{Layout, handle_alloc_error};
 use std::fmt;
 use std::sync::{Mutex, MutexGuard, PoisonError};
@@ -191,7 +193,7 @@ impl SixelDecoder {
     /// [`InvalidData`](crate::SixelError::InvalidData) for a header that is invalid or does not
     /// end. After an error the registers are unchanged.
     pub fn decode(&mut self, bytes: &[u8]) -> Result<SixelImage> {
-        self.by_copy(|copy| copy.decode(bytes))
+        Ok(self.decode_drawn(bytes)?.image)
     }
 
     /// Decodes one payload: the data between a DCS sequence's `q` and its terminator.
@@ -217,7 +219,7 @@ impl SixelDecoder {
     /// - `IntegerOverflow` for more new lines than a row number can count
     /// - `OutOfMemory` if an allocation fails
     pub fn decode_from_dcs(&mut self, bytes: &[u8], settings: DcsSettings) -> Result<SixelImage> {
-        self.by_copy(|copy| copy.decode_payload(bytes, settings))
+        Ok(self.decode_from_dcs_drawn(bytes, settings)?.image)
     }
 
     /// Decodes by a copy, which replaces the decoder if it succeeds.
@@ -225,12 +227,12 @@ impl SixelDecoder {
     /// So an error leaves the registers unchanged, also if the caller's pixels cannot be allocated.
     fn by_copy(
         &mut self,
-        decode: impl FnOnce(&mut Handle) -> Result<SixelImage>,
-    ) -> Result<SixelImage> {
+        decode: impl FnOnce(&mut Handle) -> Result<DrawnImage>,
+    ) -> Result<DrawnImage> {
         let mut copy = self.handle().copy()?;
-        let image = decode(&mut copy)?;
+        let drawn = decode(&mut copy)?;
         *self.handle() = copy;
-        Ok(image)
+        Ok(drawn)
     }
 
     /// Begins a payload that is decoded in chunks.

@@ -38,6 +38,7 @@ pub(crate) struct Size {
 pub(crate) struct Shape {
     pub(crate) width: usize,
     pub(crate) height: usize,
+    pub(crate) drawn_height: usize,
     pub(crate) bytes: usize,
     pub(crate) pixel_width: u16,
     pub(crate) pixel_height: u16,

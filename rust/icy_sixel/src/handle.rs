@@ -1,6 +1,7 @@
 //! Images out of a handle.
 
 use crate::codes::{OK, error_of};
+use crate::decoder::DrawnImage;
 use crate::error::Result;
 use crate::ffi::{Handle, Shape};
 use crate::receiver::PartialImage;
@@ -9,8 +10,8 @@ use crate::sixel_image::SixelImage;
 
 impl Handle {
     /// Decodes the first DCS sequence in the bytes, or all of them as a payload.
-    pub(crate) fn decode(&mut self, bytes: &[u8]) -> Result<SixelImage> {
-        self.read(bytes).map(image).map_err(error_of)
+    pub(crate) fn decode(&mut self, bytes: &[u8]) -> Result<DrawnImage> {
+        self.read(bytes).map(drawn_image).map_err(error_of)
     }
 
     /// Decodes one payload.
@@ -18,13 +19,13 @@ impl Handle {
         &mut self,
         bytes: &[u8],
         settings: DcsSettings,
-    ) -> Result<SixelImage> {
-        self.read_payload(bytes, settings.parameters()).map(image).map_err(error_of)
+    ) -> Result<DrawnImage> {
+        self.read_payload(bytes, settings.parameters()).map(drawn_image).map_err(error_of)
     }
 
     /// Closes the open image, and returns it.
-    pub(crate) fn finish(&mut self) -> Result<SixelImage> {
-        self.close().map(image).map_err(error_of)
+    pub(crate) fn finish(&mut self) -> Result<DrawnImage> {
+        self.close().map(drawn_image).map_err(error_of)
     }
 
     /// Closes the open image, and returns its picture up to the first fault.
@@ -32,8 +33,9 @@ impl Handle {
     /// That fault is beside it.
     pub(crate) fn finish_partial(&mut self) -> Result<PartialImage> {
         let (picture, fault) = self.close_partial().map_err(error_of)?;
+        let DrawnImage { image, drawn_height } = drawn_image(picture);
         let error = (fault != OK).then(|| error_of(fault));
-        Ok(PartialImage { image: image(picture), error })
+        Ok(PartialImage { image, drawn_height, error })
     }
 
     /// A new decoder with the registers and the settings of this one.
@@ -49,12 +51,13 @@ impl Handle {
 }
 
 /// The image of this shape with these pixels.
-fn image((shape, pixels): (Shape, Vec<u8>)) -> SixelImage {
-    SixelImage {
+fn drawn_image((shape, pixels): (Shape, Vec<u8>)) -> DrawnImage {
+    let image = SixelImage {
         pixels,
         width: shape.width,
         height: shape.height,
         aspect_ratio: PixelAspectRatio::from_p1(u16::from(shape.p1)),
         background_mode: BackgroundMode::from_p2(u16::from(shape.p2)),
-    }
+    };
+    DrawnImage { image, drawn_height: shape.drawn_height }
 }

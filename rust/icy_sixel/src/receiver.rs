@@ -4,7 +4,7 @@ mod partial;
 mod rows;
 
 use crate::codes::error_of;
-use crate::decoder::{DcsSettings, SixelDecoder};
+use crate::decoder::{DcsSettings, DrawnImage, SixelDecoder};
 use crate::decoder::{payload_status, string_status};
 use crate::error::Result;
 use crate::ffi::Fed;
@@ -151,6 +151,18 @@ impl SixelReceiver {
     /// whole image. Then the image stays open as it was. End such an image by
     /// [`finish_into`](Self::finish_into).
     pub fn finish(&mut self) -> Result<SixelImage> {
+        Ok(self.finish_drawn()?.image)
+    }
+
+    /// Closes the image as [`finish`](Self::finish) does, and returns the drawn height too.
+    ///
+    /// The height is that of [`drawn_height`](Self::drawn_height) before the call, or the height of
+    /// the image if crop ends it above that row.
+    ///
+    /// # Errors
+    ///
+    /// Those of `finish`.
+    pub fn finish_drawn(&mut self) -> Result<DrawnImage> {
         let answer = self.decoder.handle().finish();
         self.update_open();
         answer

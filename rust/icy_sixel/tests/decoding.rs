@@ -4,7 +4,8 @@ mod common;
 
 use common::*;
 use icy_sixel::{
-    BackgroundMode, DcsSettings, PixelAspectRatio, SixelDecoder, SixelError, SixelImage,
+    BackgroundMode, ChannelOrder, DcsSettings, DrawnImage, PixelAspectRatio, RowLayout,
+    SixelDecoder, SixelError, SixelImage, SixelReceiver,
 };
 
 #[test]
@@ -118,4 +119,48 @@ fn enums_are_read_and_set() {
 fn errors_have_texts() {
     assert_eq!(invalid("x").to_string(), "invalid SIXEL data: x");
     assert_eq!(SixelError::OutOfMemory.to_string(), "out of memory");
+}
+
+/// The height of an image, and the height that is drawn.
+fn heights(drawn: DrawnImage) -> (usize, usize) {
+    (drawn.image.height, drawn.drawn_height)
+}
+
+#[test]
+fn finished_images_have_a_drawn_height() {
+    let settings = DcsSettings::default;
+    for (payload, crop, rows, expected) in [
+        ("", false, 99, (1, 0)),
+        ("?", false, 99, (6, 0)),
+        ("~-@", false, 99, (12, 7)),
+        ("~-B", false, 2, (2, 2)),
+        ("~-B", false, 11, (11, 8)),
+        ("\"1;1;1;3~", false, 99, (6, 6)),
+        ("\"1;1;1;3~", true, 99, (3, 3)),
+        ("\"1;1;1;9~", true, 99, (9, 6)),
+        ("\"1;1;1;2@-@", true, 99, (2, 2)),
+    ] {
+        let mut decoder = SixelDecoder::new();
+        decoder.set_raster_crop(crop);
+        decoder.set_clip(9, rows);
+        let bytes = payload.as_bytes();
+        assert_eq!(heights(decoder.decode_drawn(bytes).unwrap()), expected, "{payload}");
+        let drawn = decoder.decode_from_dcs_drawn(bytes, settings()).unwrap();
+        assert_eq!(heights(drawn), expected, "{payload}");
+
+        let mut receiver = SixelReceiver::with_decoder(decoder);
+        receiver.begin_frame(settings());
+        assert!(receiver.feed(bytes).is_ok());
+        assert_eq!(heights(receiver.finish_drawn().unwrap()), expected, "{payload}");
+        receiver.begin_frame(settings());
+        assert!(receiver.feed(bytes).is_ok());
+        let layout = RowLayout { stride: 4, columns: 1, order: ChannelOrder::Rgba };
+        let shape = receiver.finish_into(0, layout, &mut [0; 48]).unwrap();
+        assert_eq!((shape.height, shape.drawn_height), expected, "{payload}");
+        receiver.set_keep_partial(true);
+        receiver.begin_frame(settings());
+        assert!(receiver.feed(bytes).is_ok() && receiver.feed(b"$!65536~").is_err());
+        let partial = receiver.finish_partial().unwrap();
+        assert_eq!((partial.image.height, partial.drawn_height), expected, "{payload}");
+    }
 }

@@ -147,6 +147,11 @@ fn names_of_our_own() {
     let _: fn(&mut Receiver, usize) -> Answer<()> = Receiver::release_rows;
     let _: fn(&mut Receiver, usize, Layout, &mut [u8]) -> Answer<icy_sixel::ImageShape> =
         Receiver::finish_into;
+    type Drawn = icy_sixel::DrawnImage;
+    let _: fn(&mut Decoder, &[u8]) -> Answer<Drawn> = Decoder::decode_drawn;
+    let _: fn(&mut Decoder, &[u8], Settings) -> Answer<decoder::DrawnImage> =
+        Decoder::decode_from_dcs_drawn;
+    let _: fn(&mut Receiver) -> Answer<Drawn> = Receiver::finish_drawn;
     let _: fn(&mut Receiver, bool) = Receiver::set_keep_partial;
     let _: fn(&mut Receiver) -> Answer<icy_sixel::PartialImage> = Receiver::finish_partial;
     is_value::<Layout>();

@@ -1,5 +1,6 @@
 -- How an open image ends with the picture of the tokens before a fault, before it is the caller's.
 use Rattle.std.specs.Prelude.{◌≡◌, ◌*◌, ◌≤◌, None, is_none, Result, MatchResult}
+use Rattle.sixel_base.specs.DrawnHeight.{partial_drawn_height}
 use Rattle.sixel_base.specs.Fault.{Faults, Names}
 use Rattle.sixel_base.specs.OneShot.{AreFoundRegisters, IsFoundImage}
 use Rattle.sixel_base.specs.declared.error.SixelError.{SixelError}
@@ -12,6 +13,8 @@ use Rattle.icy_sixel.specs.Receiver.{Reception, found}
 pub record IsPartialPayload (open_image : Reception) (partial : PartialPayload) : Type 0 where
   pub image : IsPartialImage open_image.start open_image.form open_image.bytes
       (picture_value partial.picture)
+  pub drawn : partial.picture.drawn_height
+      ≡ partial_drawn_height open_image.start (found open_image.form open_image.bytes)
   pub error : Names partial.error
       (partial_fault open_image.start.pixel_limit open_image.form open_image.bytes)
   pub whole : partial.error ≡ None → IsFoundImage open_image.start

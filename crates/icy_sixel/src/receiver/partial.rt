@@ -16,6 +16,10 @@ use std::mem;
 pub struct PartialImage {
     /// The image of the tokens before the first fault.
     pub image: SixelImage,
+    /// Rows down to the last one with a set pixel, or 0 if there is none.
+    ///
+    /// It is at most the height, because crop can end an image above that row.
+    pub drawn_height: usize,
     /// That fault, or why the image has not ended; `None` if it is whole.
     pub error: Option<SixelError>,
 }
@@ -66,6 +70,7 @@ impl SixelReceiver {
             self.decoder.state.registers = picture.registers;
         }
         Ok(PartialImage {
+            drawn_height: picture.drawn_height,
             image: SixelImage::from_picture(picture),
             error,
         })

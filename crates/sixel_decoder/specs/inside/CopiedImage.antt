@@ -2,6 +2,7 @@
 -- memory, by the history. What that means of its bytes is in CopiedImage.
 use Rattle.std.specs.Prelude.{◌≡◌, ◌≤◌, ◌*◌, ℕ, min, false, List, None, Result, MatchResult}
 use Rattle.sixel_base.specs.Clip.{clipped_pixel}
+use Rattle.sixel_base.specs.DrawnHeight.{image_drawn_height}
 use Rattle.sixel_base.specs.Fault.{Faults}
 use Rattle.sixel_base.specs.History.{History}
 use Rattle.sixel_base.specs.Limits.{area_limit}
@@ -27,6 +28,7 @@ pub record IsCopied (origin : Origin) (history : History) (first rows : ℕ) (la
     (old new : List ℕ) (copied : CopiedPayload) : Type 0 where
   pub faultless : first_fault origin.pixel_limit history ≡ None
   pub shape : copied.shape ≡ shape_of (image_of origin history)
+      (image_drawn_height origin.pixel_limit origin.raster_crop history)
   pub area : copied.shape.width * copied.shape.height ≤ min origin.pixel_limit.pixels area_limit
   pub registers : copied.registers ≡ registers origin.registers history
   pub pixels : AreCopied (clipped_pixel origin history) first rows layout old new

@@ -6,7 +6,7 @@ use Rattle.std.specs.Prelude.{None, is_none, [], ◌∷◌, ◌++◌, List, max,
 use Rattle.std.specs.Prelude.{min, ◌&&◌, if◌then◌else◌}
 use Rattle.sixel_base.specs.declared.error.SixelError.{SixelError}
 use Rattle.sixel_base.specs.Clip.{clipped_bits, clipped_pixel, is_pixel_inside}
-use Rattle.sixel_base.specs.DrawnHeight.{drawn_height, lowered, set_rows}
+use Rattle.sixel_base.specs.DrawnHeight.{drawn_height, image_drawn_height, lowered, set_rows}
 use Rattle.sixel_base.specs.Fault.{Faults}
 use Rattle.sixel_base.specs.History.{History, Sixel, read}
 use Rattle.sixel_base.specs.Limits.{side_limit}
@@ -115,15 +115,18 @@ pub record IsDrawnInside {C : Type 0} {canvas : Ghosts C} (old new : Painter C c
   pub height : new.height ≡ old.height
   pub raster_height : new.raster_height ≡ old.raster_height
 
--- The history has no fault, and this is its image, within the limit, with the registers after it;
--- or it is rejected by its first fault, and by a failed allocation only if it has an image.
+-- The history has no fault, and this is its image, within the limit, with the registers after it
+-- and its drawn height; or it is rejected by its first fault, and by a failed allocation only if it
+-- has an image.
 abbrev pub Ends : Result DecodedPayload SixelError → Origin → History → Type 0
 Ends result origin history =
     MatchResult result
     (λ picture. (first_fault origin.pixel_limit history ≡ None)
     × (picture_value picture ≡ image_of origin history)
     × (picture.registers ≡ registers origin.registers history)
-    × (picture.width * picture.height ≤ origin.pixel_limit.pixels))
+    × (picture.width * picture.height ≤ origin.pixel_limit.pixels)
+    × (picture.drawn_height
+    ≡ image_drawn_height origin.pixel_limit origin.raster_crop history))
     (λ error.
     Faults error (is_none (first_fault origin.pixel_limit history))
     (first_fault origin.pixel_limit history))

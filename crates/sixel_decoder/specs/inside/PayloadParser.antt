@@ -6,6 +6,7 @@ use Rattle.std.specs.Prelude.{Result, IfErr, List, ◌∷◌, fold, if◌then◌
 use Rattle.sixel_base.specs.Status.{status_of}
 use Rattle.sixel_base.specs.declared.status.SixelFeedResult.{SixelFeedResult}
 use Rattle.sixel_base.specs.Bytes.{front, count, first_terminator, is_terminated}
+use Rattle.sixel_base.specs.DrawnHeight.{image_drawn_height}
 use Rattle.sixel_base.specs.declared.error.SixelError.{SixelError}
 use Rattle.sixel_decoder.specs.declared.payload_parser.PayloadParser.{PayloadParser}
 use Rattle.sixel_decoder.specs.declared.payload_parser.OpenCommand.{OpenCommand}
@@ -14,6 +15,7 @@ use Rattle.sixel_decoder.specs.declared.payload_parser.OpenCommand.TheVariants.{
 use Rattle.sixel_base.specs.Fault.{Faults, is_fault}
 use Rattle.sixel_base.specs.inside.Parameters.{Keeps}
 use Rattle.sixel_base.specs.History.{Token, Repeat, Raster, Color, History, goes_on, read}
+use Rattle.sixel_base.specs.History.{history_of}
 use Rattle.sixel_base.specs.Stroke.{Origin}
 use Rattle.sixel_base.specs.Payload.{first_fault, closed, growths, payload_fault, payload_image}
 use Rattle.sixel_base.specs.Payload.{payload_registers, payload_wants}
@@ -102,6 +104,8 @@ Decodes result origin bytes =
     (λ picture. (payload_fault origin.pixel_limit bytes ≡ None)
     × (picture_value picture ≡ payload_image origin bytes)
     × (picture.registers ≡ payload_registers origin bytes)
-    × (picture.width * picture.height ≤ origin.pixel_limit.pixels))
+    × (picture.width * picture.height ≤ origin.pixel_limit.pixels)
+    × (picture.drawn_height
+    ≡ image_drawn_height origin.pixel_limit origin.raster_crop (history_of (front bytes))))
     (λ error.
     Faults error (payload_wants origin.pixel_limit bytes) (payload_fault origin.pixel_limit bytes))

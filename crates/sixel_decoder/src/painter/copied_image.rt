@@ -81,11 +81,13 @@ impl Painter<BandCanvas> {
             → IsCopied o h first rows layout out.old out.new result }
     {
         let height = self.image_height();
+        let drawn_height = self.drawn_height().min(height);
         self.canvas.copy_picture(first, rows, layout, out);
         CopiedPayload {
             shape: ImageShape {
                 width: self.clipped_width,
                 height,
+                drawn_height,
                 aspect_ratio: self.ratio,
                 background_mode: self.settings.background_mode(),
             },

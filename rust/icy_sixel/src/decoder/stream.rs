@@ -74,7 +74,7 @@ impl<'a> SixelStreamDecoder<'a> {
     ///
     /// Those of [`feed`](Self::feed), and `OutOfMemory`. They leave the decoder unchanged.
     pub fn finish(self) -> Result<SixelImage> {
-        self.owner.handle().finish()
+        Ok(self.owner.handle().finish()?.image)
     }
 
     /// Ends the session without changing the decoder, as dropping it does.

@@ -9,6 +9,10 @@ use crate::sixel_image::SixelImage;
 pub struct PartialImage {
     /// The image of the commands before the first fault.
     pub image: SixelImage,
+    /// Rows down to the last one with a set pixel, or 0 if there is none.
+    ///
+    /// It is at most the height, because crop can end an image above that row.
+    pub drawn_height: usize,
     /// That fault, or why the image has not ended; `None` if it is whole.
     pub error: Option<SixelError>,
 }
@@ -44,6 +48,7 @@ impl SixelReceiver {
     /// assert!(receiver.feed(b"~~!65536~").is_err());
     /// let partial = receiver.finish_partial()?;
     /// assert_eq!(partial.image.dimensions(), (2, 6));
+    /// assert_eq!(partial.drawn_height, 6);
     /// assert!(partial.error.is_some());
     /// # Ok::<(), icy_sixel::SixelError>(())
     /// ```

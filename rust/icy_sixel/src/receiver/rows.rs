@@ -54,6 +54,10 @@ pub struct ImageShape {
     pub width: usize,
     /// Rows.
     pub height: usize,
+    /// Rows down to the last one with a set pixel, or 0 if there is none.
+    ///
+    /// It is at most the height, because crop can end an image above that row.
+    pub drawn_height: usize,
     /// The shape of a pixel.
     pub aspect_ratio: PixelAspectRatio,
     /// Whether pixels that were not drawn are opaque or transparent.
@@ -159,6 +163,7 @@ impl SixelReceiver {
                 Ok(ImageShape {
                     width: shape.width,
                     height: shape.height,
+                    drawn_height: shape.drawn_height,
                     aspect_ratio: PixelAspectRatio::from_p1(u16::from(shape.p1)),
                     background_mode: BackgroundMode::from_p2(u16::from(shape.p2)),
                 })

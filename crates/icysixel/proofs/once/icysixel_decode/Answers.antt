@@ -1,4 +1,4 @@
-use Rattle.std.proofs.Common.{◌≡◌, arith}
+use Rattle.std.proofs.Common.{◌≡◌, Some, arith}
 use Rattle.icysixel.proofs.once.icysixel_decode.Goals as goal
 
 pub returns-then-not-is_held : goal.returns-then-not-is_held
@@ -26,7 +26,20 @@ pub returns-clause-image : goal.returns-clause-image
 returns-clause-image c = grind arith
 
 pub returns-clause-shape : goal.returns-clause-shape
-returns-clause-shape c = grind arith
+returns-clause-shape c = λ before after image is is_now kept.
+    let same : c.replace_decoder-decoder.result ≡ before.receiver.decoder =
+    grind (arith, c.state-state.ensures.value) in
+    let now : c.store_decoded.new.self.image ≡ Some image = grind arith in
+    rw (← same)
+    (c.store_decoded.ensures.shape _ image now c.decode_drawn-answer.ensures.drawn)
+
+pub returns-clause-area : goal.returns-clause-area
+returns-clause-area c = λ before is done.
+    let same : c.replace_decoder-decoder.result ≡ before.receiver.decoder =
+    grind (arith, c.state-state.ensures.value) in
+    rw (← same)
+    (c.store_decoded.ensures.area c.replace_decoder-decoder.result.pixel_limit.pixels done
+    c.decode_drawn-answer.ensures.decoded.area)
 
 pub returns-clause-registers : goal.returns-clause-registers
 returns-clause-registers c = grind arith
@@ -50,7 +63,8 @@ pub returns-clause-refused : goal.returns-clause-refused
 returns-clause-refused c = λ before is refused.
     let same : c.replace_decoder-decoder.result ≡ before.receiver.decoder =
     grind (arith, c.state-state.ensures.value) in
-    rw (← same) (c.store_decoded.ensures.code _ _ refused c.decode-answer.ensures.decoded.refused)
+    let decoded = c.decode_drawn-answer.ensures.decoded in
+    rw (← same) (c.store_decoded.ensures.code _ _ refused decoded.refused)
 
 pub returns-clause-told : goal.returns-clause-told
 returns-clause-told c = grind arith

@@ -2,7 +2,7 @@ use Rattle.std.proofs.Common.{◌≡◌, Some, ap, ◌∙◌, arith, rules}
 use Rattle.sixel_base.specs.Decoder.{origin_of}
 use Rattle.sixel_base.specs.Fault.{Faults}
 use Rattle.sixel_base.specs.Payload.{payload_fault, payload_image, payload_wants}
-use Rattle.icy_sixel.specs.ImageView.{image_value}
+use Rattle.icy_sixel.specs.ImageView.{image_result, image_value}
 use Rattle.icysixel.specs.Code.{settings_of}
 use Rattle.icysixel.proofs.Known.{found_known, result_known}
 use Rattle.icysixel.proofs.Stored.{of_stored}
@@ -22,10 +22,10 @@ store_decoded-requires-clause-known c =
     let limit = c.replace_decoder-decoder.result.pixel_limit in
     let wants = payload_wants limit c.args.bytes.now in
     let fault = payload_fault limit c.args.bytes.now in
-    result_known c.decode_from_dcs-answer.result
+    result_known (image_result c.decode_from_dcs_drawn-answer.result)
     (λ error. Faults error wants fault)
     (λ error. found_known error wants fault)
-    c.decode_from_dcs-answer.ensures.decoded.refused
+    c.decode_from_dcs_drawn-answer.ensures.decoded.refused
 
 pub returns-clause-held : goal.returns-clause-held
 returns-clause-held c = grind arith
@@ -40,7 +40,7 @@ pub returns-clause-refused : goal.returns-clause-refused
 returns-clause-refused c = λ before is refused.
     let same : c.replace_decoder-decoder.result ≡ before.receiver.decoder =
     grind (arith, c.state-state.ensures.value) in
-    let decoded = c.decode_from_dcs-answer.ensures.decoded in
+    let decoded = c.decode_from_dcs_drawn-answer.ensures.decoded in
     rw (← same) (c.store_decoded.ensures.code _ _ refused decoded.refused)
 
 pub returns-clause-closed : goal.returns-clause-closed
@@ -56,17 +56,30 @@ returns-clause-image c = λ before after image is is_now kept.
     let now : c.store_decoded.new.self.image ≡ Some image = grind arith in
     let settings : c.settings.result ≡ settings_of c.args.p1 c.args.p2 c.args.grid = search rules in
     let bytes = c.args.bytes.now in
-    of_stored c.decode_from_dcs-answer.result c.store_decoded.new.self.image
+    of_stored (image_result c.decode_from_dcs_drawn-answer.result) c.store_decoded.new.self.image
     (λ image.
     image_value image
     ≡ payload_image (origin_of c.replace_decoder-decoder.result c.settings.result) bytes)
-    c.decode_from_dcs-answer.ensures.decoded.image c.store_decoded.ensures.image
+    c.decode_from_dcs_drawn-answer.ensures.decoded.image c.store_decoded.ensures.image
     c.store_decoded.ensures.dropped image now
     ∙ (ap (λ decoder. payload_image (origin_of decoder c.settings.result) bytes) same
     ∙ ap (λ settings. payload_image (origin_of before.receiver.decoder settings) bytes) settings)
 
 pub returns-clause-shape : goal.returns-clause-shape
-returns-clause-shape c = grind arith
+returns-clause-shape c = λ before after image is is_now kept.
+    let same : c.replace_decoder-decoder.result ≡ before.receiver.decoder =
+    grind (arith, c.state-state.ensures.value) in
+    let now : c.store_decoded.new.self.image ≡ Some image = grind arith in
+    rw (← same)
+    (c.store_decoded.ensures.shape _ image now c.decode_from_dcs_drawn-answer.ensures.drawn)
+
+pub returns-clause-area : goal.returns-clause-area
+returns-clause-area c = λ before is done.
+    let same : c.replace_decoder-decoder.result ≡ before.receiver.decoder =
+    grind (arith, c.state-state.ensures.value) in
+    rw (← same)
+    (c.store_decoded.ensures.area c.replace_decoder-decoder.result.pixel_limit.pixels done
+    c.decode_from_dcs_drawn-answer.ensures.decoded.area)
 
 pub returns-clause-registers : goal.returns-clause-registers
 returns-clause-registers c = grind arith

@@ -1,5 +1,6 @@
 use Rattle.std.proofs.Common.{◌≡◌, Some, sym, ◌∙◌, ap, subst}
 use Rattle.std.specs.Prelude.{IfOk}
+use Rattle.sixel_base.specs.DrawnHeight.{found_drawn_height}
 use Rattle.sixel_base.specs.Header.{Begun, headed}
 use Rattle.sixel_decoder.specs.OneShotCalls.{IsDecoded}
 use Rattle.sixel_decoder.specs.PictureView.{picture_value}
@@ -30,6 +31,13 @@ returns-in-Ok-clause-registers c =
     IfOk c.decode_payload-in-Ok.result
     (λ picture. AreFoundRegisters c.args.decoder w picture.registers))
     (sym (is_payload c)) c.decode_payload-in-Ok.ensures.registers
+
+pub returns-in-Ok-clause-drawn : goal.returns-in-Ok-clause-drawn
+returns-in-Ok-clause-drawn c =
+    subst (λ (w : Found).
+    IfOk c.decode_payload-in-Ok.result
+    (λ picture. picture.drawn_height ≡ found_drawn_height c.args.decoder w))
+    (sym (is_payload c)) c.decode_payload-in-Ok.ensures.drawn
 
 pub returns-in-Err-clause-decoded : goal.returns-in-Err-clause-decoded
 returns-in-Err-clause-decoded c =

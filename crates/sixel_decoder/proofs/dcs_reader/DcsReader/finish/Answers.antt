@@ -8,17 +8,18 @@ use Rattle.sixel_base.specs.Payload.{payload_fault}
 use Rattle.sixel_base.specs.Stroke.{Origin}
 use Rattle.sixel_decoder.specs.inside.DcsParser.{HasFollowed, IsInPayload}
 use Rattle.sixel_decoder.specs.declared.dcs_parser.DcsState.{DcsState}
-use Rattle.sixel_decoder.proofs.DcsPayloads.{found_image, found_reading, found_registers}
+use Rattle.sixel_decoder.proofs.DcsPayloads.{found_drawn, found_image, found_reading}
+use Rattle.sixel_decoder.proofs.DcsPayloads.{found_registers}
 use Rattle.sixel_decoder.proofs.Sessions.{string_decoded, string_ended, string_image}
 use Rattle.sixel_decoder.proofs.Sessions.{string_refused_at_end, string_registers}
 use Rattle.sixel_decoder.proofs.dcs_reader.DcsReader.finish.Goals as goal
 
-pub returns-then-has_come : goal.returns-then-has_come
-returns-then-has_come g c =
+pub returns-then-has_come-clause-finished : goal.returns-then-has_come-clause-finished
+returns-then-has_come-clause-finished g c =
     let inside = c.self.inside in
     let reader = c.in-Payload.reader in
     let result = c.finish.result in
-    let told = c.finish.ensures in
+    let told = c.finish.ensures.finished in
     let bytes : List ℕ = inside.log.bytes in
     let is : IsInPayload reader inside.parser.decoder inside.parser.ended bytes =
     subst (λ (p : DcsState _). HasFollowed p inside.parser.decoder inside.parser.ended bytes)
@@ -54,3 +55,14 @@ returns-then-has_come g c =
       error = rw (← c.self.view_is, c.in-Payload.is)
           (string_refused_at_end result reader _ _ _ is come told.error);
     }
+
+pub returns-then-has_come-clause-drawn : goal.returns-then-has_come-clause-drawn
+returns-then-has_come-clause-drawn g c =
+    let inside = c.self.inside in
+    let is : IsInPayload c.in-Payload.reader inside.parser.decoder inside.parser.ended
+    inside.log.bytes =
+    subst (λ (p : DcsState _).
+    HasFollowed p inside.parser.decoder inside.parser.ended inside.log.bytes)
+    c.in-Payload.is c.self.invariant.0 in
+    rw (← c.self.view_is)
+    (found_drawn c.finish.result c.in-Payload.reader _ _ _ is c.finish.ensures.drawn)

@@ -77,6 +77,7 @@ returns-clause-ends g c = λ o h shows.
         mul-le-mul_left painter.clipped_width (low painter height c.image_height-height.ensures),
         area_fits,
       ),
+      c.min-drawn_height.ensures ∙ rw (c.drawn_height.ensures o h shows, tall) refl,
     )
 
 pub returns-in_err-pixels-clause-ends : goal.returns-in_err-pixels-clause-ends

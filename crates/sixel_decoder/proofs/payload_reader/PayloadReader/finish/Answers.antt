@@ -1,15 +1,21 @@
-use Rattle.std.proofs.Common.{◌≡◌, Some, Ok, Err, false, Result, subst, refl, rules}
-use Rattle.std.specs.Prelude.{is_some, OnOk}
+use Rattle.std.proofs.Common.{◌≡◌, ℕ, List, Option, Ok, Err, false, Result, subst, refl, rules}
+use Rattle.std.specs.Prelude.{is_some, IfOk, OnOk}
 use Rattle.sixel_base.specs.declared.error.SixelError.{SixelError}
 use Rattle.sixel_base.specs.Bytes.{front}
+use Rattle.sixel_base.specs.DrawnHeight.{found_drawn_height}
 use Rattle.sixel_base.specs.History.{history_of}
+use Rattle.sixel_base.specs.OneShot.{Payload}
 use Rattle.sixel_base.specs.Stroke.{Origin}
+use Rattle.sixel_canvas.specs.declared.drawing.Canvas.{Ghosts}
+use Rattle.sixel_decoder.specs.CopiedImage.{decoder_of}
 use Rattle.sixel_decoder.specs.PayloadCalls.{IsFinished}
 use Rattle.sixel_decoder.specs.PictureView.{picture_value}
 use Rattle.sixel_decoder.specs.Session.{Session}
 use Rattle.sixel_decoder.specs.inside.Painter.{Ends}
-use Rattle.sixel_decoder.specs.inside.PayloadParser.{Decodes}
+use Rattle.sixel_decoder.specs.inside.PayloadParser.{Decodes, StandsAfter}
+use Rattle.sixel_decoder.specs.declared.payload_parser.PayloadParser.{PayloadParser}
 use Rattle.sixel_decoder.specs.declared.payload_reader.PayloadState.{PayloadState}
+use Rattle.sixel_decoder.specs.declared.payload_reader.PayloadState.TheVariants as states
 use Rattle.sixel_decoder.specs.inside.PayloadReader.{session_of, parser_of, HasRead}
 use Rattle.sixel_decoder.specs.declared.decoded_payload.DecodedPayload.{DecodedPayload}
 use Rattle.sixel_decoder.proofs.ChunkReads.{payload_ends}
@@ -44,14 +50,41 @@ finished_by (Err e) s accepted ends whole =
       refused = λ error is sound. search (rules, decodes, is);
     }
 
-pub returns-in-Reading : goal.returns-in-Reading
-returns-in-Reading g c =
+-- and its drawn height
+drawn_by : (result : Result DecodedPayload SixelError) (s : Session)
+    → Ends result s.origin (history_of (front s.bytes))
+    → IfOk result (λ picture. picture.drawn_height
+    ≡ found_drawn_height (decoder_of s.origin) (Payload s.origin.settings s.bytes))
+drawn_by (Ok picture) s ends = ends.4
+drawn_by (Err e) s ends = tt
+
+-- the parser of a reader without an error has read its bytes
+reading : {C : Type 0} {canvas : Ghosts C} (state : PayloadState C canvas)
+    (parser : PayloadParser C canvas) (o : Origin) (terminator : Option ℕ) (bytes : List ℕ)
+    → state ≡ states.Reading parser → HasRead (parser_of state) o terminator bytes
+    → StandsAfter (is_some terminator) o parser (history_of (front bytes))
+reading {canvas = canvas} state parser o terminator bytes is read =
+    (subst (λ (w : PayloadState _ canvas). HasRead (parser_of w) o terminator bytes) is read).1
+
+pub returns-in-Reading-clause-finished : goal.returns-in-Reading-clause-finished
+returns-in-Reading-clause-finished g c =
     let inside = c.self.inside in
-    let origin : Origin = (session_of inside).origin in
-    let read : HasRead (Some c.in-Reading.parser) origin inside.terminator inside.log.bytes =
-    subst (λ (w : PayloadState _ _). HasRead (parser_of w) origin inside.terminator inside.log.bytes)
+    let o : Origin = (session_of inside).origin in
+    let read =
+    reading inside.state c.in-Reading.parser o inside.terminator inside.log.bytes
     c.in-Reading.is c.self.invariant.0 in
-    let ends = c.finish.ensures.ends origin _ (is_some inside.terminator) read.1 in
     rw (← c.self.view_is)
-    (finished_by c.finish.result (session_of inside) (rw c.in-Reading.is refl) ends
+    (finished_by c.finish.result (session_of inside) (rw c.in-Reading.is refl)
+    (c.finish.ensures.ends o _ (is_some inside.terminator) read)
     (rw c.in-Reading.is c.finish.ensures.whole))
+
+pub returns-in-Reading-clause-drawn : goal.returns-in-Reading-clause-drawn
+returns-in-Reading-clause-drawn g c =
+    let inside = c.self.inside in
+    let o : Origin = (session_of inside).origin in
+    let read =
+    reading inside.state c.in-Reading.parser o inside.terminator inside.log.bytes
+    c.in-Reading.is c.self.invariant.0 in
+    rw (← c.self.view_is)
+    (drawn_by c.finish.result (session_of inside)
+    (c.finish.ensures.ends o _ (is_some inside.terminator) read))
