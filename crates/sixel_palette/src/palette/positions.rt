@@ -18,7 +18,7 @@ const FEW: usize = 524_288;
 ///
 /// They take at most 8 bytes a color beside 2 MiB.
 pub fn position_count(pixels: usize, colors: usize) -> usize {
-    if pixels.saturating_sub(FEW) / 2 > colors {
+    if pixels.saturating_sub(FEW).div_ceil(2) > colors {
         return 0;
     }
     pixels
