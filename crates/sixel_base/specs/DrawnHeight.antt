@@ -51,8 +51,8 @@ stage_drawn_height limit (Reading settings payload) = payload_drawn_height limit
 abbrev pub dcs_drawn_height : Limit → List ℕ → ℕ
 dcs_drawn_height limit bytes = stage_drawn_height limit (stage bytes)
 
--- that of the image itself, which is at most as high as the image: crop can end an image above the
--- last set pixel of its picture
+-- the drawn height of an image: at most its height, because crop can end an image above the last
+-- set pixel of its picture
 abbrev pub image_drawn_height : Limit → Bool → History → ℕ
 image_drawn_height limit raster_crop history =
     min (drawn_height limit history) (image_height limit raster_crop history)
