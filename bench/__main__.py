@@ -2,9 +2,11 @@
 
 A FILE of a DCS sequence is decoded; one of raw RGBA pixels, named FILE:WIDTHxHEIGHT, is encoded. By
 default, two images are made here and encoded. What that writes is decoded, with an image of ten
-megapixels. Each column is a number per pixel; those of a tool that is not installed have a dash.
+megapixels. Each column but memory is a number per pixel. A tool that is not installed has dashes.
 
   instructions        of a process less those of one on a single pixel, by valgrind
+  memory              peak of a process, in sizes of the image, without its input and what a
+                      process on a single pixel takes
   C, Rust, libsixel   nanoseconds in process, the least of RUNS turns; libsixel does not dither
   C, bytes            nanoseconds of the library for C, fed in chunks of one byte
 
@@ -60,6 +62,15 @@ def instructions(arguments, stdin):
     return int(re.search(rb"Collected : (\d+)", found)[1])
 
 
+def resident(arguments, file):
+    """The peak of the resident memory of a process, in bytes."""
+    with open(file, "rb") as stdin:
+        command = [SIXEL, *arguments.split()]
+        with subprocess.Popen(command, stdin=stdin, stdout=subprocess.DEVNULL) as child:
+            _, child.returncode, usage = os.wait4(child.pid, 0)
+    return 1024 * usage.ru_maxrss
+
+
 def in_process(room, command, file, colors):
     """The least nanoseconds of each timer. They take turns, because a machine may slow down."""
     least = dict.fromkeys(TIMERS, math.inf)
@@ -80,12 +91,16 @@ def report(room, file):
     for colors in (256, 16) if raw else (256,):
         command, single = ("encode", bytes(4)) if raw else ("decode", b"\x1bPq@\x1b\\")
         arguments = f"encode {{}} {{}} {colors}" if raw else command
-        whole = instructions(arguments.format(width, height), data)
+        (room / "single").write_bytes(single)
+        whole, one = arguments.format(width, height), arguments.format(1, 1)
+        spent = instructions(whole, data) - instructions(one, single)
+        peak = resident(whole, path) - resident(one, room / "single") - len(data)
         columns = [
-            (whole - instructions(arguments.format(1, 1), single)) / (width * height),
+            spent / (width * height),
+            peak / (4 * width * height),
             *in_process(room, command, file, colors),
         ]
-        texts = (f"{it:13.1f}" if math.isfinite(it) else f"{'-':>13}" for it in columns)
+        texts = (f"{it:13.2f}" if math.isfinite(it) else f"{'-':>13}" for it in columns)
         title = f"{command} {path.name[:20]:20} {width:>5}x{height:<5} {colors:3}"
         print(title, *texts, sep="", flush=True)
 
@@ -120,7 +135,7 @@ def main(files):
         room = Path(folder)
         for how in BUILDS.values():
             run(how.format(room=room))
-        print(f"{'':42}", *(f"{it:>13}" for it in ("instructions", *TIMERS)), sep="")
+        print(f"{'':42}", *(f"{it:>13}" for it in ("instructions", "memory", *TIMERS)), sep="")
         for file in files or made(room):
             report(room, file)
         for text in () if files else HOSTILE:
