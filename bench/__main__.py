@@ -5,8 +5,8 @@ default, two images are made here and encoded. What that writes is decoded, with
 megapixels. Each column but memory is a number per pixel. A tool that is not installed has dashes.
 
   instructions        of a process less those of one on a single pixel, by valgrind
-  memory              peak of a process, in sizes of the image, without its input and what a
-                      process on a single pixel takes
+  memory              resident at the peak of a process, by GNU time, less its input and what a
+                      process on a single pixel takes; in sizes of the image
   C, Rust, libsixel   nanoseconds in process, the least of RUNS turns; libsixel does not dither
   C, bytes            nanoseconds of the library for C, fed in chunks of one byte
 
@@ -62,13 +62,11 @@ def instructions(arguments, stdin):
     return int(re.search(rb"Collected : (\d+)", found)[1])
 
 
-def resident(arguments, file):
-    """The peak of the resident memory of a process, in bytes."""
-    with open(file, "rb") as stdin:
-        command = [SIXEL, *arguments.split()]
-        with subprocess.Popen(command, stdin=stdin, stdout=subprocess.DEVNULL) as child:
-            _, child.returncode, usage = os.wait4(child.pid, 0)
-    return 1024 * usage.ru_maxrss
+def resident(arguments, stdin):
+    """The bytes that are resident at the peak of a process."""
+    if not which("time"):
+        return math.nan
+    return 1024 * int(run(f"{which('time')} -f %M {SIXEL} {arguments}", stdin)[1])
 
 
 def in_process(room, command, file, colors):
@@ -91,13 +89,10 @@ def report(room, file):
     for colors in (256, 16) if raw else (256,):
         command, single = ("encode", bytes(4)) if raw else ("decode", b"\x1bPq@\x1b\\")
         arguments = f"encode {{}} {{}} {colors}" if raw else command
-        (room / "single").write_bytes(single)
-        whole, one = arguments.format(width, height), arguments.format(1, 1)
-        spent = instructions(whole, data) - instructions(one, single)
-        peak = resident(whole, path) - resident(one, room / "single") - len(data)
+        whole, one = (arguments.format(*it) for it in ((width, height), (1, 1)))
         columns = [
-            spent / (width * height),
-            peak / (4 * width * height),
+            (instructions(whole, data) - instructions(one, single)) / (width * height),
+            (resident(whole, data) - resident(one, single) - len(data)) / (4 * width * height),
             *in_process(room, command, file, colors),
         ]
         texts = (f"{it:13.2f}" if math.isfinite(it) else f"{'-':>13}" for it in columns)
