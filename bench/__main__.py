@@ -2,8 +2,9 @@
 
 A FILE of a DCS sequence is decoded; one of raw RGBA pixels, named FILE:WIDTHxHEIGHT, is encoded. By
 default, two images are made here and encoded. What that writes is decoded, with an image of ten
-megapixels. Each column but memory is a number per pixel. A tool that is not installed has dashes.
+megapixels. The columns are numbers per pixel, but for two. A tool that is not installed has dashes.
 
+  first rows          percent of the bytes that are read before the first six rows are final
   instructions        of a process less those of one on a single pixel, by valgrind
   memory              resident at the peak of a process, by GNU time, less its input and what a
                       process on a single pixel takes; in sizes of the image
@@ -89,8 +90,10 @@ def report(room, file):
     for colors in (256, 16) if raw else (256,):
         command, single = ("encode", bytes(4)) if raw else ("decode", b"\x1bPq@\x1b\\")
         arguments = f"encode {{}} {{}} {colors}" if raw else command
+        end = 100 * (data.find(b"-") + 1) / len(data)
         whole, one = (arguments.format(*it) for it in ((width, height), (1, 1)))
         columns = [
+            math.nan if raw else end,
             (instructions(whole, data) - instructions(one, single)) / (width * height),
             (resident(whole, data) - resident(one, single) - len(data)) / (4 * width * height),
             *in_process(room, command, file, colors),
@@ -130,7 +133,8 @@ def main(files):
         room = Path(folder)
         for how in BUILDS.values():
             run(how.format(room=room))
-        print(f"{'':42}", *(f"{it:>13}" for it in ("instructions", "memory", *TIMERS)), sep="")
+        titles = ("first rows", "instructions", "memory", *TIMERS)
+        print(f"{'':42}", *(f"{it:>13}" for it in titles), sep="")
         for file in files or made(room):
             report(room, file)
         for text in () if files else HOSTILE:
