@@ -6,8 +6,8 @@ use common::*;
 use icy_sixel::receiver::{Received, SixelReceiver};
 use icy_sixel::script::Status;
 use icy_sixel::{
-    BandStatus, ChannelOrder, DcsSettings, Result, RowLayout, SixelDcsFeedStatus as Dcs, SixelDecoder,
-    SixelError, SixelFeedStatus as Payload, SixelImage,
+    BandStatus, ChannelOrder, DcsSettings, Result, RowLayout, SixelDcsFeedStatus as Dcs,
+    SixelDecoder, SixelError, SixelFeedStatus as Payload, SixelImage,
 };
 use std::sync::{Arc, Mutex, RwLock, mpsc};
 use std::thread;
