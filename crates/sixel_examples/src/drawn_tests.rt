@@ -108,70 +108,90 @@ fn receiver(crop: bool, rows: usize) -> SixelReceiver {
     receiver
 }
 
-/// The heights of an image.
-fn heights(drawn: &DrawnImage) -> Heights {
-    (drawn.image.height, drawn.drawn_height)
-}
-
-/// Decodes bytes in one call.
-fn decode(mut decoder: SixelDecoder, alloc: Global, bytes: &[u8]) -> Result<Heights> {
-    Ok(heights(&decoder.decode_drawn(alloc, bytes)?))
-}
-
-/// Decodes a payload in one call.
-fn decode_payload(mut decoder: SixelDecoder, alloc: Global, payload: &[u8]) -> Result<Heights> {
-    let settings = DcsSettings::default();
-    let drawn = decoder.decode_from_dcs_drawn(alloc, payload, settings)?;
-    Ok(heights(&drawn))
-}
-
-/// Receives a payload in single bytes.
-fn receive(mut receiver: SixelReceiver, alloc: Global, payload: &[u8]) -> Result<Heights> {
-    receiver.begin_frame(alloc, DcsSettings::default());
-    for byte in payload.chunks(1) {
-        receiver.feed(byte)?;
+/// Whether a call returned an image of these heights.
+fn are_heights(found: Result<DrawnImage>, expected: Heights) -> bool {
+    match found {
+        Ok(drawn) => (drawn.image.height, drawn.drawn_height) == expected,
+        Err(_) => false,
     }
-    Ok(heights(&receiver.finish_drawn()?))
 }
 
-/// Receives a DCS sequence with this payload.
-fn receive_dcs(mut receiver: SixelReceiver, alloc: Global, payload: &[u8]) -> Result<Heights> {
+/// Whether a payload has these heights when it is decoded in one call.
+fn are_decoded(
+    decoder: &mut SixelDecoder,
+    alloc: Global,
+    payload: &[u8],
+    expected: Heights,
+) -> bool {
+    let settings = DcsSettings::default();
+    are_heights(decoder.decode_drawn(alloc, payload), expected)
+        & are_heights(
+            decoder.decode_from_dcs_drawn(alloc, payload, settings),
+            expected,
+        )
+}
+
+/// Whether a payload has these heights when it is received, and as a DCS sequence.
+fn are_received(
+    receiver: &mut SixelReceiver,
+    alloc: Global,
+    payload: &[u8],
+    expected: Heights,
+) -> bool {
+    receiver.begin_frame(alloc, DcsSettings::default());
+    let is_fed = receiver.feed(payload).is_ok();
+    let is_payload = are_heights(receiver.finish_drawn(), expected);
     receiver.begin_dcs(alloc);
-    receiver.feed(b"\x1bP9;1q")?;
-    receiver.feed(payload)?;
-    receiver.feed(b"\x1b\\")?;
-    Ok(heights(&receiver.finish_drawn()?))
+    let is_introduced = receiver.feed(b"\x1bP9;1q").is_ok() & receiver.feed(payload).is_ok();
+    let is_ended = receiver.feed(b"\x1b\\").is_ok();
+    let is_sequence = are_heights(receiver.finish_drawn(), expected);
+    is_fed & is_payload & is_introduced & is_ended & is_sequence
 }
 
-/// Receives a payload whose image ends in the caller's memory.
-fn receive_into(mut receiver: SixelReceiver, alloc: Global, payload: &[u8]) -> Result<Heights> {
+/// Whether a payload has these heights when it ends in the caller's memory.
+fn are_copied(
+    receiver: &mut SixelReceiver,
+    alloc: Global,
+    payload: &[u8],
+    expected: Heights,
+) -> bool {
     let layout = RowLayout {
         stride: 4,
         columns: 1,
         order: ChannelOrder::Rgba,
     };
     receiver.begin_frame(alloc, DcsSettings::default());
-    receiver.feed(payload)?;
-    let shape = receiver.finish_into(0, layout, &mut [0; 48])?;
-    Ok((shape.height, shape.drawn_height))
-}
-
-/// Receives a payload with a fault after it, which leaves the picture.
-fn receive_partly(mut receiver: SixelReceiver, alloc: Global, payload: &[u8]) -> Result<Heights> {
-    receiver.set_keep_partial(true);
-    receiver.begin_frame(alloc, DcsSettings::default());
-    receiver.feed(payload)?;
-    let _fault = receiver.feed(b"$!65536~");
-    let partial = receiver.finish_partial()?;
-    Ok((partial.image.height, partial.drawn_height))
-}
-
-/// Whether a call returned these heights.
-fn are_heights(found: Result<Heights>, expected: Heights) -> bool {
-    match found {
-        Ok(found) => found == expected,
+    let is_fed = receiver.feed(payload).is_ok();
+    match receiver.finish_into(0, layout, &mut [0; 48]) {
+        Ok(shape) => is_fed & ((shape.height, shape.drawn_height) == expected),
         Err(_) => false,
     }
+}
+
+/// Whether a payload has these heights when a fault follows it.
+fn are_partial(
+    receiver: &mut SixelReceiver,
+    alloc: Global,
+    payload: &[u8],
+    expected: Heights,
+) -> bool {
+    receiver.set_keep_partial(true);
+    receiver.begin_frame(alloc, DcsSettings::default());
+    let is_rejected = receiver.feed(payload).is_ok() & receiver.feed(b"$!65536~").is_err();
+    match receiver.finish_partial() {
+        Ok(partial) => is_rejected & ((partial.image.height, partial.drawn_height) == expected),
+        Err(_) => false,
+    }
+}
+
+/// Whether a payload has these heights, however it is decoded.
+fn are_finished(alloc: Global, payload: &[u8], crop: bool, rows: usize, expected: Heights) -> bool {
+    let mut receiver = receiver(crop, rows);
+    let is_received = are_received(&mut receiver, alloc, payload, expected)
+        & are_copied(&mut receiver, alloc, payload, expected)
+        & are_partial(&mut receiver, alloc, payload, expected);
+    let mut decoder = receiver.into_decoder();
+    is_received & are_decoded(&mut decoder, alloc, payload, expected)
 }
 
 #[test]
@@ -179,18 +199,7 @@ fn finished_images(rt: HostRuntime) {
     let alloc = rt.alloc();
     let mut are_drawn = true;
     for (payload, crop, rows, expected) in FINISHED {
-        let decoder = receiver(*crop, *rows).into_decoder();
-        are_drawn &= are_heights(decode(decoder, alloc, payload), *expected);
-        let decoder = receiver(*crop, *rows).into_decoder();
-        are_drawn &= are_heights(decode_payload(decoder, alloc, payload), *expected);
-        let host = receiver(*crop, *rows);
-        are_drawn &= are_heights(receive(host, alloc, payload), *expected);
-        let host = receiver(*crop, *rows);
-        are_drawn &= are_heights(receive_dcs(host, alloc, payload), *expected);
-        let host = receiver(*crop, *rows);
-        are_drawn &= are_heights(receive_into(host, alloc, payload), *expected);
-        let host = receiver(*crop, *rows);
-        are_drawn &= are_heights(receive_partly(host, alloc, payload), *expected);
+        are_drawn &= are_finished(alloc, payload, *crop, *rows, *expected);
     }
     assert!(rt; are_drawn);
 }
