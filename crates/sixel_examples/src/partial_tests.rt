@@ -129,7 +129,9 @@ fn is_row(finished: Result<PartialImage>, row: &Row) -> bool {
         error,
     } = partial;
     let last = match row.set.last() {
-        Some(place) => place / row.width.max(1) + 1,
+        Some(place) => place
+            .checked_div(row.width)
+            .map_or(0, |above| above.saturating_add(1)),
         None => 0,
     };
     let is_size = (image.width == row.width) & (image.height == row.height);
