@@ -108,8 +108,8 @@ def milliseconds(room, stream):
     if not which("hyperfine"):
         return math.nan
     (room / "stream").write_bytes(stream)
-    run(f"hyperfine --warmup 1 --runs {RUNS} --ignore-failure --input {room}/stream"
-        f" --export-json {room}/times '{SIXEL} payload'")
+    run(f"hyperfine --warmup 1 --runs {max(RUNS, 2)} --ignore-failure"
+        f" --export-json {room}/times '{SIXEL} payload <{room}/stream'")
     return 1000 * json.loads((room / "times").read_text())["results"][0]["min"]
 
 
