@@ -1,9 +1,12 @@
 -- The nearest entry of each distinct color, with the summed squared error, and more entries on top.
-use Rattle.std.specs.Prelude.{◌≡◌, ℕ, ◌≤◌, List, map, length}
+use Rattle.std.specs.Prelude.{◌≡◌, ℕ, ◌<◌, ◌≤◌, List, map, length, All, Contains}
 use Rattle.sixel_base.specs.Limits.{area_limit}
 use Rattle.sixel_palette.specs.declared.palette.assignment.Assignment.{Assignment}
-use Rattle.sixel_palette.specs.inside.PaletteCounts.{dot}
-use Rattle.sixel_palette.specs.inside.PaletteNearest.{AreNearest}
+use Rattle.sixel_palette.specs.declared.palette.refined.Start.{Start}
+use Rattle.sixel_palette.specs.Refined.{IsRegisterColor, register_color}
+use Rattle.sixel_palette.specs.inside.PaletteCodes.{color_of}
+use Rattle.sixel_palette.specs.inside.PaletteCounts.{dot, counted_error}
+use Rattle.sixel_palette.specs.inside.PaletteTraversal.{IsTraversal, HasRelaxed}
 
 -- each code has a count, and there are no more pixels than the greatest image has
 pub record IsWeighed (codes counts : List ℕ) : Type 0 where
@@ -12,7 +15,19 @@ pub record IsWeighed (codes counts : List ℕ) : Type 0 where
 
 -- the distances and the palette indices are those of the nearest entries
 pub record IsAssignment (codes : List ℕ) (assignment : Assignment) : Type 0 where
-  pub squares : length assignment.squares.items ≡ length codes
-  pub indices : length assignment.indices.items ≡ length codes
-  pub near : AreNearest assignment.colors.items codes assignment.squares.items
-      assignment.indices.items
+  pub whole : IsTraversal codes assignment.traversal
+  pub relaxed : HasRelaxed assignment.colors.items codes assignment.traversal
+
+-- the entries before the rounds and after them: all are register colors, and the error falls; with
+-- at most as many colors as entries, each color has its entry
+pub record IsStart (codes counts : List ℕ) (room : ℕ) (start : Start) : Type 0 where
+  pub initial_shown : All IsRegisterColor start.initial.items
+  pub initial_few : length start.initial.items ≤ room
+  pub initial_some : 0 < length codes → 0 < length start.initial.items
+  pub assignment : IsAssignment codes start.assignment
+  pub shown : All IsRegisterColor start.assignment.colors.items
+  pub size : length start.assignment.colors.items ≡ length start.initial.items
+  pub falls : counted_error start.assignment.colors.items codes counts
+      ≤ counted_error start.initial.items codes counts
+  pub complete : length codes ≤ room
+      → All (λ code. Contains start.assignment.colors.items (register_color (color_of code))) codes

@@ -74,10 +74,9 @@ pub record AreLists (position : ℕ → ℕ) (entries : List Entry) (lists : Lis
       → (span_at lists (position code)).start < (span_at lists (position code)).end
       → HasNearest entries (color_of code) lists (span_at lists (position code))
 
--- the lists of a search are those of its entries: for each group, and for each cube or for none
+-- the lists of a search are those of its entries: for each group, and for each cube
 pub record IsSearch (search : Search) : Type 0 where
   pub group_count : length search.groups.spans.items ≡ 512
-  pub cube_count : 0 < length search.cubes.spans.items
-      → length search.cubes.spans.items ≡ 32768
+  pub cube_count : length search.cubes.spans.items ≡ 32768
   pub groups : AreLists group_position search.entries.items search.groups
   pub cubes : AreLists cube_position search.entries.items search.cubes

@@ -4,19 +4,22 @@ ghost use Rattle.std.specs.Prelude.{◌≡◌, ◌+◌, ◌*◌, ◌<◌, ◌≤
 ghost use Rattle.sixel_palette.specs.inside.PaletteCodes.{AreColorCodes, code_count};
 ghost use Rattle.sixel_palette.specs.inside.PaletteCounts.{dot, counted_error};
 ghost use Rattle.sixel_palette.specs.inside.PaletteAssignment.{IsAssignment, IsWeighed};
+ghost use Rattle.sixel_palette.specs.inside.PaletteTraversal.{IsTraversal, HasRelaxed};
 
-use crate::palette::cubes::Search;
+use crate::palette::cubes::{CUBES, Search};
+use crate::palette::farthest::Traversal;
 use std::alloc::{AllocError, Global};
+
+/// How many entries are always relaxed one after the other.
+const FEW: usize = 16;
 
 /// Entries, each color's nearest one, and the summed squared error.
 #[derive(Drop)]
 pub struct Assignment {
     /// The entries.
     pub colors: Vec<[u8; 3]>,
-    /// Each color's squared distance to its nearest entry.
-    pub squares: Vec<u32>,
-    /// The palette index of each color's nearest entry.
-    pub indices: Vec<u8>,
+    /// Each color's nearest entry.
+    pub traversal: Traversal,
     /// The sum over all pixels of the squared distance to the nearest entry.
     pub error: u64,
 }
@@ -26,17 +29,51 @@ pub fn assign(
     alloc: Global,
     codes: &[u32],
     counts: &[u32],
-    colors: Vec<[u8; 3]>,
+    entries: &[[u8; 3]],
 ) -> Result<Assignment, AllocError>
     requires small { AreColorCodes codes.now }
     requires weighed { IsWeighed codes.now counts.now }
-    requires few { length colors.items ≤ 256 }
-    ensures colors { IfOk result (λ a. a.colors.items ≡ colors.items) }
+    requires few { length entries.now ≤ 256 }
+    ensures colors { IfOk result (λ a. a.colors.items ≡ entries.now) }
     ensures assignment { IfOk result (IsAssignment codes.now) }
     ensures error { IfOk result (λ a.
-        a.error ≡ counted_error colors.items codes.now counts.now) }
+        a.error ≡ counted_error entries.now codes.now counts.now) }
 {
-    let mut search = Search::new(alloc, &colors, codes.len())?;
+    let mut colors = Vec::with_capacity(alloc, entries.len())?;
+    colors.extend_from_slice(entries)?;
+    let traversal = traversal_of(alloc, codes, entries)?;
+    let error = summed(counts, &traversal.squares);
+    Ok(Assignment {
+        colors,
+        traversal,
+        error,
+    })
+}
+
+/// Each color's nearest entry.
+///
+/// A search among the entries pays if there are more colors than cubes that it makes lists for.
+fn traversal_of(alloc: Global, codes: &[u32], colors: &[[u8; 3]]) -> Result<Traversal, AllocError>
+    requires small { AreColorCodes codes.now }
+    requires few { length colors.now ≤ 256 }
+    ensures whole { IfOk result (IsTraversal codes.now) }
+    ensures relaxed { IfOk result (HasRelaxed colors.now codes.now) }
+{
+    if codes.len() > CUBES && colors.len() > FEW {
+        searched(alloc, codes, colors)
+    } else {
+        Traversal::among(alloc, codes, colors)
+    }
+}
+
+/// Each color's nearest entry, found by a search for each.
+fn searched(alloc: Global, codes: &[u32], colors: &[[u8; 3]]) -> Result<Traversal, AllocError>
+    requires small { AreColorCodes codes.now }
+    requires few { length colors.now ≤ 256 }
+    ensures whole { IfOk result (IsTraversal codes.now) }
+    ensures relaxed { IfOk result (HasRelaxed colors.now codes.now) }
+{
+    let mut search = Search::new(alloc, colors)?;
     let mut squares = Vec::with_capacity(alloc, codes.len())?;
     let mut indices = Vec::with_capacity(alloc, codes.len())?;
     for code in codes {
@@ -44,13 +81,8 @@ pub fn assign(
         squares.push(near.squared)?;
         indices.push(near.index)?;
     }
-    let error = summed(counts, &squares);
-    Ok(Assignment {
-        colors,
-        squares,
-        indices,
-        error,
-    })
+    let traversal = Traversal::of(alloc, codes, squares, indices)?;
+    Ok(traversal)
 }
 
 /// The sum of the products of counts and squared distances.

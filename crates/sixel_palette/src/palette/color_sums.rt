@@ -3,6 +3,7 @@
 ghost use Rattle.std.specs.Prelude.{◌≡◌, ◌+◌, ◌*◌, ◌/◌, ◌<◌, ◌≤◌, ℕ};
 ghost use Rattle.sixel_base.specs.Limits.{area_limit};
 ghost use Rattle.sixel_palette.specs.Refined.{IsRegisterColor};
+ghost use Rattle.sixel_palette.specs.inside.PaletteCodes.{code_count};
 
 use crate::palette::register_color::percent_color;
 
@@ -63,6 +64,19 @@ impl ColorSums {
         }
     }
 
+    /// The code of the mean color, rounded down, or 0 if there is no pixel.
+    pub fn mean_code(self) -> u32
+        ensures { result < code_count }
+    {
+        if self.count == 0 {
+            return 0;
+        }
+        let red = mean_byte(self.red, self.count);
+        let green = mean_byte(self.green, self.count);
+        let blue = mean_byte(self.blue, self.count);
+        65536 * red + 256 * green + blue
+    }
+
     /// The register color next to the mean, or `color` if there is no pixel.
     pub fn mean_or(self, color: [u8; 3]) -> [u8; 3]
         requires { IsRegisterColor color }
@@ -91,6 +105,15 @@ impl ColorSums {
         let blue = mean_gap(self.blue, self.count, other.blue, other.count);
         scaled(red + green + blue, weight)
     }
+}
+
+/// A mean, rounded down.
+fn mean_byte(sum: u64, count: u64) -> u32
+    requires some { 0 < count }
+    requires mean { sum ≤ 255 * count }
+    ensures { result ≤ 255 }
+{
+    (sum / count) as u32
 }
 
 /// The percentage next to a mean.

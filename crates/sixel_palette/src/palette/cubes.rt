@@ -21,12 +21,7 @@ use crate::palette::nearest_entry::{Entry, NO_ENTRY, NearestEntry};
 use std::alloc::{AllocError, Global};
 
 /// How many cubes there are, of 8 colors a side.
-const CUBES: usize = 32_768;
-
-/// From how many colors on each cube has a list of its own.
-///
-/// For fewer colors it costs less to search the lists of the groups.
-const MANY: usize = 4096;
+pub const CUBES: usize = 32_768;
 
 /// How many groups of cubes there are, of 32 colors a side.
 const GROUPS: usize = 512;
@@ -35,8 +30,6 @@ const GROUPS: usize = 512;
 const BLOCK: usize = 64;
 
 /// The entries of a palette, and those that can be nearest in each group and cube.
-///
-/// The cubes have no lists if there are few colors to look up.
 #[derive(Drop)]
 pub struct Search {
     pub entries: Vec<Entry>,
@@ -67,8 +60,8 @@ pub struct Cube {
 }
 
 impl Search {
-    /// A search among the entries of these colors, for so many colors to look up.
-    pub fn new(alloc: Global, colors: &[[u8; 3]], count: usize) -> Result<Search, AllocError>
+    /// A search among the entries of these colors.
+    pub fn new(alloc: Global, colors: &[[u8; 3]]) -> Result<Search, AllocError>
         requires { length colors.now ≤ 256 }
         ensures search { IfOk result IsSearch }
         ensures numbered { IfOk result (λ s. AreNumbered colors.now s.entries.items) }
@@ -76,7 +69,7 @@ impl Search {
         Ok(Search {
             entries: numbered(alloc, colors)?,
             groups: Lists::new(alloc, GROUPS)?,
-            cubes: Lists::new(alloc, cubes_for(count))?,
+            cubes: Lists::new(alloc, CUBES)?,
         })
     }
 
@@ -108,25 +101,8 @@ impl Search {
         ensures key { IfOk result (λ key.
             key ≡ least_key self.old.entries.items (color_of code)) }
     {
-        if self.cubes.spans.is_empty() {
-            return self.key_in_group(code);
-        }
         let span = self.span_of(code)?;
         Ok(least_key(&self.cubes.entries[span.start..span.end], code))
-    }
-
-    /// The least key of the entries for the color of a code, by the list of its group.
-    #[inline(never)]
-    fn key_in_group(&mut self, code: u32) -> Result<u32, AllocError>
-        requires small { code < code_count }
-        requires search { IsSearch self.old }
-        ensures search { OnOk result (IsSearch self.new) }
-        ensures entries { OnOk result (self.new.entries.items ≡ self.old.entries.items) }
-        ensures key { IfOk result (λ key.
-            key ≡ least_key self.old.entries.items (color_of code)) }
-    {
-        let span = self.group_of(code)?;
-        Ok(least_key(&self.groups.entries[span.start..span.end], code))
     }
 
     /// The span of the cube of a code, which is filled if it is not yet.
@@ -134,7 +110,6 @@ impl Search {
     fn span_of(&mut self, code: u32) -> Result<Span, AllocError>
         requires small { code < code_count }
         requires search { IsSearch self.old }
-        requires cubes { length self.old.cubes.spans.items ≡ 32768 }
         ensures search { OnOk result (IsSearch self.new) }
         ensures entries { OnOk result (self.new.entries.items ≡ self.old.entries.items) }
         ensures nearest { IfOk result (HasNearest self.old.entries.items (color_of code)
@@ -152,7 +127,6 @@ impl Search {
     fn fill_cube(&mut self, code: u32) -> Result<Span, AllocError>
         requires small { code < code_count }
         requires search { IsSearch self.old }
-        requires cubes { length self.old.cubes.spans.items ≡ 32768 }
         ensures search { OnOk result (IsSearch self.new) }
         ensures entries { OnOk result (self.new.entries.items ≡ self.old.entries.items) }
         ensures nearest { IfOk result (HasNearest self.old.entries.items (color_of code)
@@ -277,13 +251,6 @@ impl Cube {
         }
         greatest
     }
-}
-
-/// How many cubes have lists if so many colors are to be looked up.
-fn cubes_for(count: usize) -> usize
-    ensures { 0 < result → result ≡ 32768 }
-{
-    if count < MANY { 0 } else { CUBES }
 }
 
 /// The entries of the colors, numbered from 0 on.

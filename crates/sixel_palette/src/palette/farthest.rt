@@ -126,6 +126,30 @@ impl Traversal {
         })
     }
 
+    /// A traversal of each color's nearest one among some entries, in order.
+    pub fn among(alloc: Global, codes: &[u32], colors: &[[u8; 3]]) -> Result<Traversal, AllocError>
+        requires small { AreColorCodes codes.now }
+        requires few { length colors.now ≤ 256 }
+        ensures whole { IfOk result (IsTraversal codes.now) }
+        ensures relaxed { IfOk result (HasRelaxed colors.now codes.now) }
+    {
+        let mut traversal = Traversal::new(alloc, codes)?;
+        for index in 0..colors.len() {
+            let entry = Entry {
+                color: colors[index],
+                index: index as u8,
+            };
+            relax_cells(
+                codes,
+                &mut traversal.squares,
+                &mut traversal.indices,
+                &mut traversal.cells,
+                entry,
+            );
+        }
+        Ok(traversal)
+    }
+
     /// A traversal of colors whose nearest entries are given.
     pub fn of(
         alloc: Global,

@@ -58,7 +58,7 @@ pub fn add_farthest(
     ensures witnesses { IfOk result (λ t. All (IsListed codes.now) t.witnesses.items) }
 {
     let mut colors = assignment.colors;
-    let mut traversal = Traversal::of(alloc, codes, assignment.squares, assignment.indices)?;
+    let mut traversal = assignment.traversal;
     let mut witnesses = Vec::new(alloc);
     let mut farthest = traversal.farthest(codes);
     for index in colors.len()..room {

@@ -72,6 +72,7 @@ pub fn cut_colors(alloc: Global, bins: &mut [Bin], room: usize) -> Result<Vec<[u
     ensures shown { IfOk result (λ colors. All IsRegisterColor colors.items) }
     ensures room { IfOk result (λ colors. length colors.items ≤ room) }
     ensures some { IfOk result (λ colors. 0 < length colors.items) }
+    ensures pixels { OnOk result (binned_pixels bins.new ≡ binned_pixels bins.old) }
 {
     let boxes = boxes_of(alloc, bins, room)?;
     let mut colors = Vec::with_capacity(alloc, boxes.len())?;

@@ -5,12 +5,11 @@ ghost use Rattle.sixel_palette.specs.Palette.{AreIndices, IsNearest};
 ghost use Rattle.sixel_palette.specs.inside.PaletteCodes.{AreColorCodes};
 ghost use Rattle.sixel_palette.specs.inside.PaletteNearest.{AreNearest};
 
-use crate::palette::cells::relax_cells;
 use crate::palette::colors::shown_codes;
 use crate::palette::distance::distance;
 use crate::palette::farthest::Traversal;
 use crate::palette::indices::indices_of;
-use crate::palette::nearest_entry::{Entry, NO_ENTRY, NearestEntry};
+use crate::palette::nearest_entry::{NO_ENTRY, NearestEntry};
 use std::alloc::{AllocError, Global};
 
 /// Returns the palette index of each pixel: its nearest entry, the first of equals.
@@ -39,20 +38,7 @@ fn color_indices_of(alloc: Global, codes: &[u32], colors: &[[u8; 3]]) -> Result<
         × AreNearest colors.now codes.now squares indices.items) }
     ensures size { IfOk result (λ indices. length indices.items ≡ length codes.now) }
 {
-    let mut traversal = Traversal::new(alloc, codes)?;
-    for index in 0..colors.len() {
-        let entry = Entry {
-            color: colors[index],
-            index: index as u8,
-        };
-        relax_cells(
-            codes,
-            &mut traversal.squares,
-            &mut traversal.indices,
-            &mut traversal.cells,
-            entry,
-        );
-    }
+    let traversal = Traversal::among(alloc, codes, colors)?;
     Ok(traversal.indices)
 }
 

@@ -9,11 +9,11 @@ ghost use Rattle.sixel_base.specs.Fault.{IsFault, TooLarge};
 ghost use Rattle.sixel_palette.specs.PaletteBound.{AreApart};
 ghost use Rattle.sixel_palette.specs.Palette.{IsShown, distance};
 ghost use Rattle.sixel_palette.specs.Refined.{IsRegisterColor, register_color, IsRefined};
-ghost use Rattle.sixel_palette.specs.inside.PaletteAssignment.{IsAssignment, IsWeighed};
+ghost use Rattle.sixel_palette.specs.inside.PaletteAssignment.{IsStart, IsWeighed};
 ghost use Rattle.sixel_palette.specs.inside.PaletteCounts.{counted_error, AreCounts, ArePositions};
 ghost use Rattle.sixel_palette.specs.inside.PaletteCodes.{color_of, IsListed, AreColorCodes};
 
-use crate::palette::assignment::{Assignment, summed};
+use crate::palette::assignment::{Assignment, assign, summed};
 use crate::palette::bins::bins_of;
 use crate::palette::color_counts::{Counts, counts_of};
 use crate::palette::color_sums::AREA_LIMIT;
@@ -28,9 +28,6 @@ use crate::palette::register_color::register_color;
 use sixel_base::size::validate_color_count;
 use sixel_base::{Result, SixelError};
 use std::alloc::{AllocError, Global};
-
-/// How many rounds move the entries at most.
-const ROUNDS: usize = 2;
 
 /// A refined palette, each pixel's palette index, and its summed squared error.
 #[derive(Debug, Drop)]
@@ -51,14 +48,22 @@ pub struct RefinedPalette {
     pub apart: u32,
 }
 
+/// The entries before the rounds, and each color's nearest one after them.
+#[derive(Drop)]
+pub struct Start {
+    pub initial: Vec<[u8; 3]>,
+    pub assignment: Assignment,
+}
+
 /// Returns a refined palette of an image of RGBA pixels, four bytes each.
 ///
 /// Only opaque pixels count, those whose alpha is at least 128; the others get index 0. There are
 /// at most `max_colors` entries, 1 to 256, each a color that a register shows. If the opaque pixels
 /// have at most `max_colors` colors, each of these has its entry, rounded to percentages. Otherwise
 /// the colors are cut into boxes, one after the other where the summed squared error falls most.
-/// Two rounds of Lloyd's algorithm move the entries, and a round that does not lower the error is
-/// undone. At last come entries farthest first, `max_colors / 16` or more.
+/// Two rounds of Lloyd's algorithm move the entries, unless the error does not fall. They take the
+/// colors together whose channels have the same six highest bits. At last come entries farthest
+/// first, `max_colors / 16` or more.
 ///
 /// The witnesses certify these: no list of fewer colors than there are witnesses, whatever they
 /// are, has an entry nearer to each witness than by a fourth of `apart`.
@@ -137,9 +142,8 @@ fn palette_of_counts(
     ensures { IfOk result (IsRefined pixels.now room) }
 {
     let counts: &[u32] = &counted.counts;
-    let initial = initial_colors(alloc, codes, counts, room)?;
-    let assignment = assignment_of(alloc, codes, counts, &initial, room)?;
-    let topped = add_farthest(alloc, codes, assignment, room)?;
+    let start = start_of(alloc, codes, counts, room)?;
+    let topped = add_farthest(alloc, codes, start.assignment, room)?;
     let error = summed(counts, &topped.traversal.squares);
     let positions: &[u32] = &counted.positions;
     let indices = indices_by(alloc, pixels, codes, positions, &topped.traversal.indices)?;
@@ -148,7 +152,7 @@ fn palette_of_counts(
         colors: topped.colors,
         indices,
         error,
-        initial,
+        initial: start.initial,
         witnesses: topped.witnesses,
         apart,
     })
@@ -170,26 +174,66 @@ fn transparent(alloc: Global, pixels: &[u8]) -> std::result::Result<RefinedPalet
 }
 
 /// The entries to begin with: one for each color if there is room, or those of a gain cut.
-fn initial_colors(
+fn start_of(
     alloc: Global,
     codes: &[u32],
     counts: &[u32],
     room: usize,
-) -> std::result::Result<Vec<[u8; 3]>, AllocError>
+) -> std::result::Result<Start, AllocError>
     requires some { 0 < room }
+    requires room { room ≤ 256 }
     requires small { AreColorCodes codes.now }
     requires weighed { IsWeighed codes.now counts.now }
-    ensures shown { IfOk result (λ colors. All IsRegisterColor colors.items) }
-    ensures few { IfOk result (λ colors. length colors.items ≤ room) }
-    ensures some { IfOk result (λ colors. 0 < length codes.now → 0 < length colors.items) }
-    ensures complete { IfOk result (λ colors. length codes.now ≤ room
-        → All (λ code. Contains colors.items (register_color (color_of code))) codes.now) }
+    ensures { IfOk result (IsStart codes.now counts.now room) }
 {
     if codes.len() > room {
-        let mut bins = bins_of(alloc, codes, counts)?;
-        return cut_colors(alloc, &mut bins, room - room / 16);
+        cut_start(alloc, codes, counts, room)
+    } else {
+        whole_start(alloc, codes, counts)
     }
-    register_colors(alloc, codes)
+}
+
+/// The entries of a gain cut, moved by the rounds.
+fn cut_start(
+    alloc: Global,
+    codes: &[u32],
+    counts: &[u32],
+    room: usize,
+) -> std::result::Result<Start, AllocError>
+    requires some { 0 < room }
+    requires room { room ≤ 256 }
+    requires many { room < length codes.now }
+    requires small { AreColorCodes codes.now }
+    requires weighed { IsWeighed codes.now counts.now }
+    ensures { IfOk result (IsStart codes.now counts.now room) }
+{
+    let mut bins = bins_of(alloc, codes, counts)?;
+    let initial = cut_colors(alloc, &mut bins, room - room / 16)?;
+    let assignment = improve(alloc, codes, counts, &bins, &initial)?;
+    Ok(Start {
+        initial,
+        assignment,
+    })
+}
+
+/// An entry for each color.
+fn whole_start(
+    alloc: Global,
+    codes: &[u32],
+    counts: &[u32],
+) -> std::result::Result<Start, AllocError>
+    requires few { length codes.now ≤ 256 }
+    requires small { AreColorCodes codes.now }
+    requires weighed { IsWeighed codes.now counts.now }
+    ensures { IfOk result (λ start. (room : ℕ) → length codes.now ≤ room
+        → IsStart codes.now counts.now room start) }
+{
+    let initial = register_colors(alloc, codes)?;
+    let assignment = assign(alloc, codes, counts, &initial)?;
+    Ok(Start {
+        initial,
+        assignment,
+    })
 }
 
 /// The color that a register shows for each color.
@@ -205,31 +249,6 @@ fn register_colors(alloc: Global, codes: &[u32]) -> std::result::Result<Vec<[u8;
         colors.push(register_color(color_of(codes[position])))?;
     }
     Ok(colors)
-}
-
-/// The entries after the rounds, which need no rounds if each color has its entry.
-fn assignment_of(
-    alloc: Global,
-    codes: &[u32],
-    counts: &[u32],
-    initial: &[[u8; 3]],
-    room: usize,
-) -> std::result::Result<Assignment, AllocError>
-    requires small { AreColorCodes codes.now }
-    requires weighed { IsWeighed codes.now counts.now }
-    requires few { length initial.now ≤ 256 }
-    requires shown { All IsRegisterColor initial.now }
-    ensures assignment { IfOk result (IsAssignment codes.now) }
-    ensures same { IfOk result (λ a. length codes.now ≤ room → a.colors.items ≡ initial.now) }
-    ensures shown { IfOk result (λ a. All IsRegisterColor a.colors.items) }
-    ensures size { IfOk result (λ a. length a.colors.items ≡ length initial.now) }
-    ensures falls { IfOk result (λ a. counted_error a.colors.items codes.now counts.now
-        ≤ counted_error initial.now codes.now counts.now) }
-{
-    let mut colors = Vec::with_capacity(alloc, initial.len())?;
-    colors.extend_from_slice(initial)?;
-    let rounds = if codes.len() <= room { 0 } else { ROUNDS };
-    improve(alloc, codes, counts, colors, rounds)
 }
 
 /// The least squared distance of two of the colors, above that of any two if there are not two.

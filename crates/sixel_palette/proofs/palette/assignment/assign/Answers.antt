@@ -1,48 +1,31 @@
 use Rattle.std.proofs.Common.{arith}
-use Rattle.std.proofs.lemmas.List.{length_push}
 use Rattle.sixel_palette.proofs.PaletteCounts.{squares_mapped, error-small}
-use Rattle.sixel_palette.proofs.PaletteNearestEntry.{near_pushed}
 use Rattle.sixel_palette.proofs.palette.assignment.assign.Goals as goal
-
-pub loop-code-preserved : goal.loop-code-preserved
-loop-code-preserved c =
-    let colors = c.args.colors.items in
-    let squares = c.loop-code.squares.items in
-    let indices = c.loop-code.indices.items in
-    let near = c.in_ok-near.near in
-    let h = c.loop-code.invariant in
-    rw (c.in_ok-push.ensures.items, c.in_ok-push-2.ensures.items) (record {
-      search = c.in_ok-near.ensures.search;
-      numbered = rw c.in_ok-near.ensures.entries h.numbered;
-      squares = omega (arith, length_push squares near.squared, h.squares);
-      indices = omega (arith, length_push indices near.index, h.indices);
-      near =
-          near_pushed colors c.args.codes.now squares indices c.loop-code.code-index near h.squares
-          h.indices h.near (c.in_ok-near.ensures.nearest colors h.numbered);
-    })
 
 pub summed-error-requires-clause-small : goal.summed-error-requires-clause-small
 summed-error-requires-clause-small c =
-    let colors = c.args.colors.items in
+    let entries = c.args.entries.now in
     let codes = c.args.codes.now in
+    let traversal = c.in_ok-traversal.traversal in
     let mapped =
-    squares_mapped colors codes c.loop-code.squares.items c.loop-code.indices.items
-    (omega (arith, c.loop-code.invariant.squares))
-    (λ k l. c.loop-code.invariant.near k (omega arith)) in
-    rw (c.deref-2.ensures.value, mapped)
-    (omega (arith, error-small colors codes c.args.counts.now c.requires.weighed))
+    squares_mapped entries codes traversal.squares.items traversal.indices.items
+    c.in_ok-traversal.ensures.whole.squares c.in_ok-traversal.ensures.relaxed in
+    rw (c.deref.ensures.value, mapped)
+    (omega (arith, error-small entries codes c.args.counts.now c.requires.weighed))
 
 pub returns-clause-assignment : goal.returns-clause-assignment
 returns-clause-assignment c = record {
-  squares = omega (arith, c.loop-code.invariant.squares);
-  indices = omega (arith, c.loop-code.invariant.indices);
-  near = λ k l. c.loop-code.invariant.near k (omega arith);
+  whole = c.in_ok-traversal.ensures.whole;
+  relaxed =
+      rw (c.in_ok-extend_from_slice.ensures.items, c.in_ok-colors.ensures.items)
+      c.in_ok-traversal.ensures.relaxed;
 }
 
 pub returns-clause-error : goal.returns-clause-error
 returns-clause-error c =
+    let traversal = c.in_ok-traversal.traversal in
     let mapped =
-    squares_mapped c.args.colors.items c.args.codes.now c.loop-code.squares.items
-    c.loop-code.indices.items (omega (arith, c.loop-code.invariant.squares))
-    (λ k l. c.loop-code.invariant.near k (omega arith)) in
-    rw (c.deref-2.ensures.value, mapped) at c.summed-error.ensures
+    squares_mapped c.args.entries.now c.args.codes.now traversal.squares.items
+    traversal.indices.items c.in_ok-traversal.ensures.whole.squares
+    c.in_ok-traversal.ensures.relaxed in
+    rw (c.deref.ensures.value, mapped) at c.summed-error.ensures

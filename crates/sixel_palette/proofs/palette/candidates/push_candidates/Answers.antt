@@ -1,4 +1,4 @@
-use Rattle.std.proofs.Common.{◌≡◌, ◌+◌, ◌<◌, ◌++◌, ◌∷◌, [], List, ℕ, ap, subst, sym, ◌∙◌, arith}
+use Rattle.std.proofs.Common.{◌+◌, List, ℕ, ap, subst, sym, ◌∙◌, arith}
 use Rattle.sixel_palette.proofs.PaletteCandidates.{IsChoice, IsChoice-in, IsChoice-out}
 use Rattle.sixel_palette.proofs.palette.candidates.push_candidates.Goals as goal
 use Rattle.sixel_palette.proofs.palette.candidates.push_candidates.Goals.{else-gap-reach}

@@ -1,33 +1,17 @@
-use Rattle.std.proofs.Common.{refl, sym, arith}
+use Rattle.std.proofs.Common.{arith}
 use Rattle.sixel_palette.proofs.palette.lloyd.improve.Goals as goal
 
-pub loop-round-init : goal.loop-round-init
-loop-round-init c =
-    let same = sym c.in_ok-best.ensures.colors in
-    record {
-      assignment = c.in_ok-best.ensures.assignment;
-      same = λ _. c.in_ok-best.ensures.colors;
-      shown = rw same at c.requires.shown;
-      size = rw c.in_ok-best.ensures.colors refl;
-      error = rw same at c.in_ok-best.ensures.error;
-      falls = rw c.in_ok-best.ensures.colors (omega arith);
-    }
+pub returns-then-before-after-clause-shown : goal.returns-then-before-after-clause-shown
+returns-then-before-after-clause-shown c = rw c.in_ok-before.ensures.colors c.requires.shown
 
-pub loop-round-preserved : goal.loop-round-preserved
-loop-round-preserved c =
-    let same = sym c.in_ok-next.ensures.colors in
-    let old = c.loop-round.invariant in
-    record {
-      assignment = c.in_ok-next.ensures.assignment;
-      same = λ e. absurd (omega arith);
-      shown = rw same at c.in_ok-means.ensures.shown;
-      size = rw c.in_ok-next.ensures.colors (omega (arith, c.in_ok-means.ensures.size, old.size));
-      error = rw same at c.in_ok-next.ensures.error;
-      falls =
-          rw c.in_ok-next.ensures.colors
-          (omega (arith, old.falls, old.error, c.in_ok-next.ensures.error));
-    }
+pub returns-then-before-after-clause-falls : goal.returns-then-before-after-clause-falls
+returns-then-before-after-clause-falls c = rw c.in_ok-before.ensures.colors (omega arith)
 
-pub returns-clause-same : goal.returns-clause-same
-returns-clause-same c = λ e.
-    c.loop-round.invariant.same (omega (arith, e, c.loop-round.auto._round-end))
+pub returns-clause-shown : goal.returns-clause-shown
+returns-clause-shown c =
+    rw (c.in_ok-after.ensures.colors, c.deref.ensures.value) c.in_ok-moved.ensures.shown
+
+pub returns-clause-falls : goal.returns-clause-falls
+returns-clause-falls c =
+    rw (c.in_ok-after.ensures.colors)
+    (omega (arith, c.in_ok-before.ensures.error, c.in_ok-after.ensures.error))

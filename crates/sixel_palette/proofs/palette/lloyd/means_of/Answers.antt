@@ -1,13 +1,11 @@
-use Rattle.std.proofs.Common.{sym, arith}
+use Rattle.std.proofs.Common.{[], arith}
 use Rattle.std.proofs.lemmas.List.{length_push}
 use Rattle.std.proofs.lemmas.List.Elements.{All-push}
 use Rattle.sixel_palette.specs.Refined.{IsRegisterColor}
 use Rattle.sixel_palette.proofs.palette.lloyd.means_of.Goals as goal
 
 pub mean_or-requires : goal.mean_or-requires
-mean_or-requires c =
-    rw (sym c.index-in-loop-position.ensures) at
-    (c.requires.shown c.loop-position.position c.index-in-loop-position.result.now (omega arith))
+mean_or-requires c = c.requires.shown c.loop-position.position [] (omega arith)
 
 pub loop-position-preserved : goal.loop-position-preserved
 loop-position-preserved c =

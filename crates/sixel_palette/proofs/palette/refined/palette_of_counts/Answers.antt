@@ -12,18 +12,10 @@ use Rattle.sixel_palette.proofs.PaletteRefined.{nearest_entry-lt, bound_of_shown
 use Rattle.sixel_palette.proofs.PaletteSize.{one_size}
 use Rattle.sixel_palette.proofs.palette.refined.palette_of_counts.Goals as goal
 
-pub initial_colors-requires-clause-weighed : goal.initial_colors-requires-clause-weighed
-initial_colors-requires-clause-weighed c =
+pub start_of-requires-clause-weighed : goal.start_of-requires-clause-weighed
+start_of-requires-clause-weighed c =
     rw c.deref-counts.ensures.value (weighed_from_counts c.args.pixels.now c.args.codes.now
     c.args.counted.now.counts.items c.requires.counts c.requires.area)
-
-pub assignment_of-requires-clause-weighed : goal.assignment_of-requires-clause-weighed
-assignment_of-requires-clause-weighed c =
-    rw c.deref-counts.ensures.value (weighed_from_counts c.args.pixels.now c.args.codes.now
-    c.args.counted.now.counts.items c.requires.counts c.requires.area)
-
-pub assignment_of-requires-clause-shown : goal.assignment_of-requires-clause-shown
-assignment_of-requires-clause-shown c = rw c.deref.ensures.value c.in_ok-initial.ensures.shown
 
 pub summed-error-requires-clause-small : goal.summed-error-requires-clause-small
 summed-error-requires-clause-small c =
@@ -32,7 +24,7 @@ summed-error-requires-clause-small c =
     squares_mapped topped.colors.items c.args.codes.now topped.traversal.squares.items
     topped.traversal.indices.items c.in_ok-topped.ensures.whole.squares
     c.in_ok-topped.ensures.relaxed in
-    rw (c.deref-counts.ensures.value, c.deref-2.ensures.value, mapped)
+    rw (c.deref-counts.ensures.value, c.deref.ensures.value, mapped)
     (omega (
       arith,
       error-small topped.colors.items c.args.codes.now c.args.counted.now.counts.items
@@ -48,8 +40,8 @@ returns c =
     let pixels = c.args.pixels.now in
     let codes = c.args.codes.now in
     let counts = c.args.counted.now.counts.items in
-    let initial = c.in_ok-initial.initial.items in
-    let assignment = c.in_ok-assignment.assignment in
+    let start = c.in_ok-start.ensures in
+    let initial = c.in_ok-start.start.initial.items in
     let topped = c.in_ok-topped.topped in
     let colors = topped.colors.items in
     let squares = topped.traversal.squares.items in
@@ -58,17 +50,15 @@ returns c =
     error_from_counts colors pixels codes counts bytes c.requires.counts in
     let first : counted_error initial codes counts ≡ summed_error initial pixels =
     error_from_counts initial pixels codes counts bytes c.requires.counts in
-    let size : length assignment.colors.items ≡ length initial =
-    rw c.deref.ensures.value at c.in_ok-assignment.ensures.size in
     let top = c.in_ok-topped.ensures.top in
     let long : length colors ≡ length top.base + length (map register_color top.tops) =
     rw top.whole (length-append top.base (map register_color top.tops)) in
     let some : 0 < length colors =
-    omega (arith, long, top.size, size, c.in_ok-initial.ensures.some c.requires.some) in
+    omega (arith, long, top.size, start.size, start.initial_some c.requires.some) in
     let mapped =
     squares_mapped colors codes squares topped.traversal.indices.items
     c.in_ok-topped.ensures.whole.squares c.in_ok-topped.ensures.relaxed in
-    let apart = rw c.deref-4.ensures.value at c.least_apart-apart.ensures in
+    let apart = rw c.deref-3.ensures.value at c.least_apart-apart.ensures in
     let occur : All (IsShown pixels) topped.witnesses.items =
     λ k d l. c.requires.listed _ (c.in_ok-topped.ensures.witnesses k d l) in
     record {
@@ -81,18 +71,17 @@ returns c =
           (size_from_codes (IsShown pixels) codes c.requires.ascending c.requires.shown
           c.requires.listed) in
           let fits : length codes ≤ c.args.room = omega arith in
-          let same = rw c.deref.ensures.value at (c.in_ok-assignment.ensures.same fits) in
           let listed = c.requires.shown d m in
-          let entry = c.in_ok-initial.ensures.complete fits listed.0 0 listed.1 in
-          c.in_ok-topped.ensures.kept (register_color d) (rw (same, ← listed.2) entry);
+          let entry = start.complete fits listed.0 0 listed.1 in
+          c.in_ok-topped.ensures.kept (register_color d) (rw (← listed.2) entry);
       indices =
           c.in_ok-indices.ensures colors squares
-          (rw c.deref-3.ensures.value c.in_ok-topped.ensures.relaxed)
+          (rw c.deref-2.ensures.value c.in_ok-topped.ensures.relaxed)
           (λ d m.
           nearest_entry-lt colors d some c.in_ok-topped.ensures.shown
           (IsColor-shown pixels d bytes m));
       error =
-          (rw (c.deref-counts.ensures.value, c.deref-2.ensures.value, mapped) at
+          (rw (c.deref-counts.ensures.value, c.deref.ensures.value, mapped) at
           c.summed-error.ensures) ∙ own;
       falls =
           omega (
@@ -100,16 +89,15 @@ returns c =
             own,
             first,
             c.in_ok-topped.ensures.falls counts,
-            rw (c.deref-counts.ensures.value, c.deref.ensures.value) at
-                c.in_ok-assignment.ensures.falls,
+            rw c.deref-counts.ensures.value at start.falls,
           );
-      initial_shown = c.in_ok-initial.ensures.shown;
-      initial_few = c.in_ok-initial.ensures.few;
+      initial_shown = start.initial_shown;
+      initial_few = start.initial_few;
       top = record {
         base = top.base;
         tops = top.tops;
         far = top.far;
-        size = top.size ∙ size;
+        size = top.size ∙ start.size;
         whole = top.whole;
         none = top.none;
         some = top.some;

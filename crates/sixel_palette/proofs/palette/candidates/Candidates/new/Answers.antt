@@ -1,4 +1,4 @@
-use Rattle.std.proofs.Common.{length, arith}
+use Rattle.std.proofs.Common.{arith}
 use Rattle.sixel_palette.proofs.PaletteLists.{all_replicated}
 use Rattle.sixel_palette.proofs.palette.candidates.Candidates.new.Goals as goal
 

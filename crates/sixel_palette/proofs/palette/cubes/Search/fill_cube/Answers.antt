@@ -30,10 +30,10 @@ returns-clause-search c =
     let search = c.in_ok-group.ensures.search in
     record {
       group_count = search.group_count;
-      cube_count = λ some.
+      cube_count =
           c.in_ok-filled.ensures.size
           ∙ ap (λ (lists : Lists). length lists.spans.items) c.in_ok-group.ensures.cubes
-          ∙ c.requires.cubes;
+          ∙ c.requires.search.cube_count;
       groups = search.groups;
       cubes =
           c.in_ok-filled.ensures.lists cube_position c.group_of.new.self.entries.items

@@ -1,6 +1,6 @@
 use Rattle.std.proofs.Common.{take}
 use Rattle.sixel_palette.specs.inside.PaletteTraversal.{IsTraversal, HasRelaxed}
-use Rattle.sixel_palette.proofs.palette.nearest_indices.color_indices_of.Given as goal
+use Rattle.sixel_palette.proofs.palette.farthest.Traversal.among.Given as goal
 
 abbrev pub invariant-loop-index : goal.invariant-loop-index
 invariant-loop-index l = record {

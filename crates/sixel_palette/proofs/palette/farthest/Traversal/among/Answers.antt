@@ -1,6 +1,6 @@
 use Rattle.std.proofs.Common.{◌≡◌, ◌++◌, [], List, length, take, drop, ℕ, arith}
 use Rattle.std.proofs.lemmas.List.{take_at, take_all, take_more, length-take}
-use Rattle.sixel_palette.proofs.palette.nearest_indices.color_indices_of.Goals as goal
+use Rattle.sixel_palette.proofs.palette.farthest.Traversal.among.Goals as goal
 
 -- a list of the same length replaces an old one
 replaced : {X : Type 0} (new old : List X) (len : ℕ) → length new ≡ len
@@ -35,11 +35,7 @@ loop-index-preserved c =
           (rw (c.deref_mut.ensures.value, c.deref_mut-in-loop-index.ensures.value) h.relaxed));
     }
 
-pub returns-clause-nearest : goal.returns-clause-nearest
-returns-clause-nearest c =
-    let all : take c.loop-index.index c.args.colors.now ≡ c.args.colors.now =
-    take_all c.loop-index.index c.args.colors.now (omega arith) in
-    (c.loop-index.traversal.squares.items, rw all at c.loop-index.invariant.relaxed)
-
-pub returns-clause-size : goal.returns-clause-size
-returns-clause-size c = c.loop-index.invariant.whole.indices
+pub returns-clause-relaxed : goal.returns-clause-relaxed
+returns-clause-relaxed c =
+    rw (take_all c.loop-index.index c.args.colors.now (omega arith)) at
+    c.loop-index.invariant.relaxed

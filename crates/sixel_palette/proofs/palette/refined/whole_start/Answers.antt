@@ -1,0 +1,17 @@
+use Rattle.std.proofs.Common.{refl, arith}
+use Rattle.sixel_palette.proofs.palette.refined.whole_start.Goals as goal
+
+pub returns : goal.returns
+returns c = λ room few.
+    let initial = c.in_ok-initial.ensures in
+    let same = (rw c.deref.ensures.value at c.in_ok-assignment.ensures.colors) in
+    record {
+      initial_shown = initial.shown;
+      initial_few = omega (arith, initial.size, few);
+      initial_some = λ some. omega (arith, initial.size, some);
+      assignment = c.in_ok-assignment.ensures.assignment;
+      shown = rw same initial.shown;
+      size = rw same refl;
+      falls = rw same (omega arith);
+      complete = λ _. rw same initial.complete;
+    }
