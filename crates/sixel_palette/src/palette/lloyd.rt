@@ -21,6 +21,8 @@ use std::alloc::{AllocError, Global};
 const ROUNDS: usize = 2;
 
 /// Moves the entries to the means of their bins, unless the summed squared error does not fall.
+///
+/// They stay if there is one for each bin. At most one assignment is stored at a time.
 pub fn improve(
     alloc: Global,
     codes: &[u32],
@@ -39,11 +41,14 @@ pub fn improve(
     ensures falls { IfOk result (λ a. counted_error a.colors.items codes.now counts.now
         ≤ counted_error colors.now codes.now counts.now) }
 {
+    if bins.len() <= colors.len() {
+        return Ok(assign(alloc, codes, counts, colors)?);
+    }
     let moved = moved_colors(alloc, bins, colors)?;
-    let before = assign(alloc, codes, counts, colors)?;
+    let before = assign(alloc, codes, counts, colors)?.error;
     let after = assign(alloc, codes, counts, &moved)?;
-    if before.error <= after.error {
-        return Ok(before);
+    if before <= after.error {
+        return Ok(assign(alloc, codes, counts, colors)?);
     }
     Ok(after)
 }
