@@ -11,6 +11,7 @@ pub mod PaletteFarthest
 pub mod PaletteFlags
 pub mod PaletteKeys
 pub mod PaletteLaw
+pub mod PaletteLevels
 pub mod PaletteLists
 pub mod PaletteNearest
 pub mod PaletteNearestEntry
@@ -23,4 +24,3 @@ pub mod PaletteLanes
 pub mod PaletteRelaxation
 pub mod PaletteShown
 pub mod PaletteSize
-pub mod PaletteWords
