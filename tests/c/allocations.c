@@ -28,11 +28,14 @@ struct call {
     int kind; /* one of the calls that `make` makes */
 };
 
+enum {
+    DECODE, CLIPPED, DECODE_PAYLOAD, DECODE_TAGS, OF_DCS, OF_PAYLOAD, PARTIAL, IN_BANDS, ENCODE_16,
+    ENCODE_64, COMPACT, REFINED, IN_PALETTE, INDEXED, CHOOSE, REFINE, INDICES, NEW,
+};
+
 /* Wide runs over drawn pixels, which set tags; and a payload with a fault at its end. */
 #define WIDE "$#1!65535N$#2!65535~"
 static const uint8_t tags[] = WIDE WIDE WIDE WIDE WIDE WIDE, faulty[] = PAYLOAD "!65536~";
-
-enum { DECODE, CLIPPED, DECODE_PAYLOAD, DECODE_TAGS, OF_DCS, OF_PAYLOAD, PARTIAL };
 
 #define INPUT(bytes) {bytes, sizeof bytes - 1}
 static const struct { const uint8_t *at; size_t length; } inputs[] = {
@@ -106,8 +109,6 @@ static const icysixel_encoding compact = {
 };
 static const icysixel_color two[] = {{0, 0, 9}, {200, 200, 9}};
 
-enum { ENCODE_16, ENCODE_64, COMPACT, REFINED, IN_PALETTE, INDEXED };
-
 /* Encodes the columns and copies the stored text. After an error there is none. */
 static uint32_t make_text(icysixel *h, int kind, struct bytes *made)
 {
@@ -126,8 +127,6 @@ static uint32_t make_text(icysixel *h, int kind, struct bytes *made)
           == (code == ICYSIXEL_OK ? ICYSIXEL_OK : ICYSIXEL_NO_TEXT));
     return code;
 }
-
-enum { CHOOSE, REFINE, INDICES };
 
 /* Finds a palette, or indices in a palette of two colors. The indices are compared. */
 static uint32_t make_palette(icysixel *h, int kind, struct bytes *made)
@@ -158,25 +157,13 @@ static uint32_t make_new(icysixel *h, int kind, struct bytes *made)
     return append(made, "new", is_ok ? 3 : 0), code;
 }
 
+#define CALL(make, kind) {#kind, make_##make, kind}
 static const struct call calls[] = {
-    {"a DCS session", make_image, OF_DCS},
-    {"a payload session", make_image, OF_PAYLOAD},
-    {"a partial picture", make_image, PARTIAL},
-    {"rows", make_rows, 0},
-    {"decode", make_image, DECODE},
-    {"decode in a clip", make_image, CLIPPED},
-    {"decode_payload", make_image, DECODE_PAYLOAD},
-    {"tags", make_image, DECODE_TAGS},
-    {"encode in 16 colors", make_text, ENCODE_16},
-    {"encode in 64 colors", make_text, ENCODE_64},
-    {"encode_compact", make_text, COMPACT},
-    {"encode_refined", make_text, REFINED},
-    {"encode_with_palette", make_text, IN_PALETTE},
-    {"encode_indexed", make_text, INDEXED},
-    {"choose_palette", make_palette, CHOOSE},
-    {"palette_indices", make_palette, INDICES},
-    {"refine_palette", make_palette, REFINE},
-    {"new", make_new, 0},
+    CALL(image, OF_DCS), CALL(image, OF_PAYLOAD), CALL(image, PARTIAL), CALL(rows, IN_BANDS),
+    CALL(image, DECODE), CALL(image, CLIPPED), CALL(image, DECODE_PAYLOAD),
+    CALL(image, DECODE_TAGS), CALL(text, ENCODE_16), CALL(text, ENCODE_64), CALL(text, COMPACT),
+    CALL(text, REFINED), CALL(text, IN_PALETTE), CALL(text, INDEXED), CALL(palette, CHOOSE),
+    CALL(palette, INDICES), CALL(palette, REFINE), CALL(new, NEW),
 };
 
 /* A decoder with a register that no new one has, an image and a text. */

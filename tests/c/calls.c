@@ -10,13 +10,23 @@ _Static_assert(sizeof(icysixel) == 16 && sizeof(icysixel_fed) == 16 && sizeof(ic
 /* Checks that a call returns the code of this name. */
 #define RETURNS(name, call) CHECK((call) == ICYSIXEL_##name)
 
+#define SIZED(array) (array), sizeof(array)
 #define BYTES(text) (const uint8_t *)(text), strlen(text)
 #define DECODE(text) icysixel_decode(h, BYTES(text), &shape)
 #define FEED(text) icysixel_feed(h, BYTES(text), &fed)
+#define ENCODE(call, pixels, ...)                                                                  \
+    icysixel_encode_##call(h, SIZED(pixels), &e, __VA_ARGS__, &length)
 #define HAS_IMAGE (icysixel_copy_pixels(h, NULL, 0, 0, &wanted) != ICYSIXEL_NO_IMAGE)
-#define IS_RED(pixels, count) are_rows(pixels, count, "\377\0\0\377", 4)
+#define RED "\377\0\0\377"
+#define FOUR_RED RED RED RED RED
+#define IS_RED(pixels, count) are_rows(pixels, count, RED, 4)
 
-enum { OK = ICYSIXEL_OK, BAD = ICYSIXEL_MALFORMED, NO_SIZE = ICYSIXEL_NO_SIZE };
+enum {
+    OK = ICYSIXEL_OK, BAD = ICYSIXEL_MALFORMED, CUT = ICYSIXEL_INCOMPLETE,
+    FAILED = ICYSIXEL_STREAM_FAILED, DCS_FAILED = ICYSIXEL_DCS_STREAM_FAILED,
+    SMALL = ICYSIXEL_BUFFER_TOO_SMALL, STRIDE = ICYSIXEL_BAD_STRIDE, NO_SIZE = ICYSIXEL_NO_SIZE,
+    MISMATCH = ICYSIXEL_BUFFER_MISMATCH, COLORS = ICYSIXEL_COLOR_COUNT,
+};
 
 /* Begins a loop over the rows of a table, which a failed check names. */
 #define EACH(row, table)                                                                           \
@@ -39,12 +49,6 @@ static uint8_t red_of_1(void)
 {
     RETURNS(OK, icysixel_get_register(h, 1, &color));
     return color.red;
-}
-
-static bool is_size_so_far(size_t width, size_t height)
-{
-    RETURNS(OK, icysixel_get_size_so_far(h, &size));
-    return size.width == width && size.height == height;
 }
 
 /* Whether so many rows are all these bytes. */
@@ -95,8 +99,7 @@ static void test_empty_handle(void)
     icysixel_free(h);
 }
 
-/* A session reports its progress. The rows above the band of the next sixel are final, if they are
- * rows of the image. */
+/* A session reports its progress. Rows of the image above the band of the next sixel are final. */
 static void test_progress(void)
 {
     static const struct {
@@ -114,29 +117,26 @@ static void test_progress(void)
     EACH(row, chunks) {
         CHECK(FEED(row->chunk) == row->code && icysixel_get_rows_so_far(h) == row->rows);
         CHECK(icysixel_in_payload(h) == (row->code == OK) && icysixel_is_receiving(h) == 1);
-        CHECK(row->code == BAD || is_size_so_far(row->width, row->height));
+        CHECK(icysixel_get_size_so_far(h, &size) == (row->code == OK ? OK : NO_SIZE));
+        CHECK(row->code == BAD || (size.width == row->width && size.height == row->height));
         CHECK(icysixel_get_drawn_height(h) == row->drawn_height);
         uint64_t paints = icysixel_get_canvas_paints(h);
         CHECK(row->painted <= paints && paints <= row->painted + 1151);
     }
-    CHECK(icysixel_get_size_so_far(h, &size) == NO_SIZE && icysixel_abort(h) == OK);
-    CHECK(icysixel_get_rows_so_far(h) == 0 && icysixel_is_receiving(h) == 0);
+    CHECK(icysixel_abort(h) == OK && icysixel_is_receiving(h) == 0);
+    CHECK(icysixel_get_rows_so_far(h) == 0);
 }
 
 /* Final rows are copied to memory with a stride, and the others when the image ends. */
 static void test_copied_rows(void)
 {
-    enum { NOT_FINAL = ICYSIXEL_ROWS_NOT_FINAL, STRIDE = ICYSIXEL_BAD_STRIDE };
+    enum { NOT_FINAL = ICYSIXEL_ROWS_NOT_FINAL };
     static const icysixel_layout rgba = {12, 2, ICYSIXEL_ORDER_RGBA}, bgra = {12, 2, 9};
-    static const struct {
-        uint32_t code;
-        size_t first, rows, size;
-        icysixel_layout layout;
-    } wrong[] = {
+    static const struct { uint32_t code; size_t first, rows, size; icysixel_layout to; } wrong[] = {
         {NOT_FINAL, 1, 6, 72, {12, 2, 0}}, {NOT_FINAL, SIZE_MAX, 1, 72, {12, 2, 0}},
         {STRIDE, 0, 1, 72, {7, 2, 0}}, {STRIDE, 0, 1, 72, {3, 0, 0}},
         {STRIDE, 0, 0, 72, {0, 0, 0}}, {STRIDE, 0, 0, 72, {0, SIZE_MAX, 0}},
-        {STRIDE, 0, 3, 72, {SIZE_MAX, 2, 0}}, {ICYSIXEL_BUFFER_TOO_SMALL, 0, 6, 67, {12, 2, 0}},
+        {STRIDE, 0, 3, 72, {SIZE_MAX, 2, 0}}, {SMALL, 0, 6, 67, {12, 2, 0}},
     };
     uint8_t rows[72], dense[24];
     memset(rows, 7, sizeof rows), shape.width = 7;
@@ -145,9 +145,8 @@ static void test_copied_rows(void)
     RETURNS(OK, icysixel_begin_payload(h, 3, 1, -1));
     RETURNS(OK, icysixel_feed_band(h, BYTES("#1;2;100;0;0~-~-"), &fed));
     CHECK(fed.consumed == 14 && fed.status == ICYSIXEL_ROWS && icysixel_get_rows_so_far(h) == 6);
-    EACH(row, wrong)
-        CHECK(icysixel_copy_rows(h, row->first, row->rows, &row->layout, rows, row->size)
-              == row->code);
+    EACH(it, wrong)
+        CHECK(icysixel_copy_rows(h, it->first, it->rows, &it->to, rows, it->size) == it->code);
     CHECK(are_rows(rows, 6, "\7\7\7\7\7\7\7\7\7\7\7\7", 12));
     RETURNS(OK, icysixel_copy_rows(h, 0, 6, &rgba, rows, 68));
     CHECK(are_rows(rows, 6, "\377\0\0\377\0\0\0\0\7\7\7\7", 12));
@@ -165,13 +164,13 @@ static void test_copied_rows(void)
     RETURNS(ROWS_RELEASED, icysixel_finish_partial(h, &shape, &(uint32_t){0}));
     RETURNS(BUFFER_TOO_SMALL, icysixel_finish_into(h, 6, &rgba, rows, 67, &shape, &wanted));
     CHECK(wanted == 68 && icysixel_is_receiving(h) == 1 && shape.width == 7);
-    RETURNS(BAD_STRIDE, icysixel_finish_into(h, 6, &wrong[2].layout, rows, 72, &shape, &wanted));
+    RETURNS(BAD_STRIDE, icysixel_finish_into(h, 6, &wrong[2].to, rows, 72, &shape, &wanted));
     CHECK(wanted == 0 && icysixel_is_receiving(h) == 1 && shape.width == 7);
     RETURNS(OK, icysixel_finish_into(h, 6, &rgba, rows, 68, &shape, &wanted));
     CHECK(are_rows(rows, 6, "\377\0\0\377\377\0\0\377\7\7\7\7", 12) && wanted == 0);
-    CHECK(shape.width == 3 && shape.height == 12 && shape.bytes == 144 && shape.p2 == 1);
-    CHECK(shape.drawn_height == 12);
-    CHECK(shape.pixel_width == 1 && shape.pixel_height == 3 && shape.p1 == 3 && red_of_1() == 255);
+    CHECK(shape.width == 3 && shape.height == 12 && shape.drawn_height == 12 && shape.bytes == 144);
+    CHECK(shape.p1 == 3 && shape.p2 == 1 && shape.pixel_width == 1 && shape.pixel_height == 3);
+    CHECK(red_of_1() == 255);
     RETURNS(NO_SESSION, icysixel_finish_into(h, 0, &rgba, rows, 72, &shape, &wanted));
     RETURNS(NO_SESSION, icysixel_feed_band(h, BYTES("~"), &fed));
     CHECK(icysixel_begin(h) == OK && FEED("\033Pq~") == OK);
@@ -185,14 +184,11 @@ static void test_copied_rows(void)
 /* Pixels are copied row by row with a stride, only into a buffer that is large enough, and once. */
 static void test_pixels(void)
 {
-    enum { STRIDE = 64, NEEDED = 5 * STRIDE + 48 };
     static const struct { size_t size, stride, wanted; uint32_t code; } copies[] = {
-        {287, 0, 288, ICYSIXEL_BUFFER_TOO_SMALL}, {0, 0, 288, ICYSIXEL_BUFFER_TOO_SMALL},
-        {6 * STRIDE, 47, 0, ICYSIXEL_BAD_STRIDE},
-        {NEEDED - 1, STRIDE, NEEDED, ICYSIXEL_BUFFER_TOO_SMALL},
-        {NEEDED, STRIDE, NEEDED, ICYSIXEL_OK}, {0, 0, 0, ICYSIXEL_NO_IMAGE},
+        {287, 0, 288, SMALL}, {0, 0, 288, SMALL}, {312, 47, 0, STRIDE}, {307, 52, 308, SMALL},
+        {308, 52, 308, OK}, {0, 0, 0, ICYSIXEL_NO_IMAGE},
     };
-    uint8_t buffer[6 * STRIDE];
+    uint8_t buffer[6 * 52];
     RETURNS(OK, DECODE(red));
     memset(buffer, 7, sizeof buffer);
     EACH(row, copies) {
@@ -200,10 +196,7 @@ static void test_pixels(void)
         CHECK(icysixel_copy_pixels(h, start, row->size, row->stride, &wanted) == row->code);
         CHECK(wanted == row->wanted);
     }
-    for (size_t row = 0; row < 6; row++) {
-        CHECK(IS_RED(buffer + STRIDE * row, 12));
-        for (size_t gap = 48; gap < STRIDE; gap++) CHECK(buffer[STRIDE * row + gap] == 7);
-    }
+    CHECK(are_rows(buffer, 6, FOUR_RED FOUR_RED FOUR_RED "\7\7\7\7", 52));
 }
 
 /* The library's own block belongs to the caller, and outlives later images and the handle. */
@@ -251,10 +244,7 @@ static void test_errors(void)
     RETURNS(NO_SESSION, icysixel_finish(h, &shape));
     CHECK(DECODE(red) == OK && icysixel_begin_payload(h, -1, -1, -1) == OK);
     CHECK(FEED("!9~!65536~") == BAD && icysixel_in_payload(h) == 0);
-    CHECK(icysixel_is_receiving(h) == 1);
-    CHECK(icysixel_finish(h, &shape) == ICYSIXEL_STREAM_FAILED && !HAS_IMAGE);
-    CHECK(icysixel_begin(h) == OK && FEED("\033Pq!65536~") == BAD);
-    CHECK(icysixel_abort(h) == OK && icysixel_is_receiving(h) == 0);
+    CHECK(icysixel_is_receiving(h) == 1 && icysixel_finish(h, &shape) == FAILED && !HAS_IMAGE);
     CHECK(DECODE(red) == OK && DECODE("!65536~") == BAD && !HAS_IMAGE);
 }
 
@@ -262,8 +252,6 @@ static void test_errors(void)
  * not ended leaves its picture. */
 static void test_partial(void)
 {
-    enum { FAILED = ICYSIXEL_STREAM_FAILED, DCS_FAILED = ICYSIXEL_DCS_STREAM_FAILED,
-           CUT = ICYSIXEL_INCOMPLETE };
     static const struct {
         const char *data;
         bool is_kept;
@@ -284,12 +272,11 @@ static void test_partial(void)
     icysixel_bytes pixels = {0};
     uint32_t fault;
     EACH(row, images) {
-        bool is_dcs = row->data[0] == '\033';
         shape = (icysixel_shape){0}, fault = 7;
         RETURNS(OK, icysixel_reset_registers(h));
-        if (is_dcs) RETURNS(OK, row->is_kept ? icysixel_begin_dcs_partial(h) : icysixel_begin(h));
-        else RETURNS(OK, row->is_kept ? icysixel_begin_partial(h, 9, 1, -1)
-                                      : icysixel_begin_payload(h, 9, 1, -1));
+        RETURNS(OK, row->data[0] == '\033'
+            ? (row->is_kept ? icysixel_begin_dcs_partial : icysixel_begin)(h)
+            : (row->is_kept ? icysixel_begin_partial : icysixel_begin_payload)(h, 9, 1, -1));
         CHECK(FEED(row->data) == row->fed);
         CHECK(icysixel_finish_partial(h, &shape, &fault) == row->code);
         CHECK(fault == row->fault && icysixel_is_receiving(h) == 0);
@@ -307,11 +294,7 @@ static void test_partial(void)
 /* The shape of each finished image has the drawn height, at most the height. */
 static void test_drawn_height(void)
 {
-    static const struct {
-        const char *data;
-        uint8_t crop;
-        size_t rows, height, drawn_height;
-    } images[] = {
+    static const struct { const char *data; uint8_t crop; size_t rows, height, drawn; } images[] = {
         {"", 0, 99, 1, 0}, {"?", 0, 99, 6, 0}, {"~-@", 0, 99, 12, 7}, {"~-B", 0, 2, 2, 2},
         {"~-B", 0, 8, 8, 8}, {"~-B", 0, 11, 11, 8}, {"\"1;1;1;3~", 0, 99, 6, 6},
         {"\"1;1;1;3~", 1, 99, 3, 3}, {"\"1;1;1;9~", 1, 99, 9, 6}, {"\"1;1;1;2@-@", 1, 99, 2, 2},
@@ -327,8 +310,7 @@ static void test_drawn_height(void)
                 : call == 2 ? icysixel_finish(h, &shape)
                 : call == 3 ? icysixel_finish_partial(h, &shape, &(uint32_t){0})
                 : icysixel_finish_into(h, 0, &layout, pixels, 48, &shape, &wanted);
-            CHECK(code == OK && shape.height == row->height);
-            CHECK(shape.drawn_height == row->drawn_height);
+            CHECK(code == OK && shape.height == row->height && shape.drawn_height == row->drawn);
             shape = (icysixel_shape){0};
         }
     }
@@ -377,16 +359,18 @@ static void test_settings(void)
     RETURNS(OK, DECODE("\033Pq!9~-~\033\\"));
     CHECK(shape.width == 2 && shape.height == 1 && shape.bytes == 8);
     CHECK(icysixel_begin_payload(h, 9, 1, -1) == OK && FEED("!9~-~") == OK);
-    CHECK(is_size_so_far(2, 1) && icysixel_get_drawn_height(h) == 1);
+    RETURNS(OK, icysixel_get_size_so_far(h, &size));
+    CHECK(size.width == 2 && size.height == 1 && icysixel_get_drawn_height(h) == 1);
     CHECK(icysixel_get_rows_so_far(h) == 1 && icysixel_abort(h) == OK);
     RETURNS(OK, icysixel_set_clip(h, SIZE_MAX, SIZE_MAX));
     RETURNS(OK, icysixel_get_clip(h, &size));
     CHECK(size.width == 1000000 && size.height == 1000000);
 }
 
-/* Whether the stored text has these two parts. The text is released. */
-static bool has_text(const char *start, const char *end)
+/* Whether a call with this code has stored a text of these two parts. The text is released. */
+static bool has_text(uint32_t code, const char *start, const char *end)
 {
+    if (code != ICYSIXEL_OK) return false;
     struct bytes text = text_of(h, length);
     size_t at = strlen(start);
     bool has_parts = length == at + strlen(end) && memcmp(text.at, start, at) == 0
@@ -408,7 +392,7 @@ static void test_encode(void)
     CHECK(length == 7);
     RETURNS(OK, icysixel_encode(h, rgba, 8, 4, 1, 2, 9, 1, 256, &length));
     RETURNS(BUFFER_TOO_SMALL, icysixel_copy_text(h, text, length - 1, &wanted));
-    CHECK(wanted == length && has_text(expected, ""));
+    CHECK(wanted == length && has_text(OK, expected, ""));
     CHECK(icysixel_copy_text(h, text, sizeof text, &wanted) == ICYSIXEL_NO_TEXT && wanted == 0);
     RETURNS(OK, icysixel_encode(h, rgba, 4, 0, 1, 1, 2, 0, 2, &length));
     CHECK(icysixel_discard_image(h) == OK);
@@ -426,35 +410,33 @@ static const icysixel_color black_white[] = {{0, 0, 0}, {255, 255, 255}};
 static void test_encodings(void)
 {
     static const char *const ends[] = {"#0@@?$#1??@$-\033\\", "#0@@#1@\033\\"};
+    static const char mean[] = ROW "#0;2;2;0;0#1;2;100;100;100";
     static const uint8_t nearest[] = {0, 0, 1}, others[] = {1, 0, 1}, above[] = {0, 2, 1};
+    static const struct { icysixel_encoding encoding; uint32_t code; } wrong[] = {
+        {{.stride = 11, .width = 3, .height = 2}, STRIDE}, {{.width = 3, .height = 2}, MISMATCH},
+        {{.width = 3, .height = 0}, ICYSIXEL_BAD_DIMENSIONS},
+    };
     icysixel_encoding e = {.width = 3, .height = 1, .p1 = 9, .p2 = 1};
     const icysixel_color *two = black_white;
-    RETURNS(OK, icysixel_encode_compact(h, row, 12, &e, 2, &length));
-    CHECK(has_text(BLACK_WHITE, ends[1]));
-    RETURNS(OK, icysixel_encode_indexed(h, row, 12, &e, two, 2, others, 3, &length));
-    CHECK(has_text(BLACK_WHITE, "#0?@?$#1@?@$-\033\\"));
+    CHECK(has_text(ENCODE(compact, row, 2), BLACK_WHITE, ends[1]));
+    CHECK(has_text(ENCODE(indexed, row, two, 2, others, 3), BLACK_WHITE, "#0?@?$#1@?@$-\033\\"));
     for (; e.form <= ICYSIXEL_FORM_COMPACT; e.form++) {
-        RETURNS(OK, icysixel_encode_refined(h, row, 12, &e, 2, &length));
-        CHECK(has_text(ROW "#0;2;2;0;0#1;2;100;100;100", ends[e.form]));
-        RETURNS(OK, icysixel_encode_with_palette(h, row, 12, &e, two, 2, &length));
-        CHECK(has_text(BLACK_WHITE, ends[e.form]));
-        RETURNS(OK, icysixel_encode_indexed(h, row, 12, &e, two, 2, nearest, 3, &length));
-        CHECK(has_text(BLACK_WHITE, ends[e.form]));
+        CHECK(has_text(ENCODE(refined, row, 2), mean, ends[e.form]));
+        CHECK(has_text(ENCODE(with_palette, row, two, 2), BLACK_WHITE, ends[e.form]));
+        CHECK(has_text(ENCODE(indexed, row, two, 2, nearest, 3), BLACK_WHITE, ends[e.form]));
     }
-    RETURNS(OK, icysixel_encode_compact(h, row, 12, &e, 2, &length));
+    RETURNS(OK, ENCODE(compact, row, 2));
     length = 7;
-    RETURNS(COLOR_COUNT, icysixel_encode_refined(h, row, 12, &e, 0, &length));
+    RETURNS(COLOR_COUNT, ENCODE(refined, row, 0));
     RETURNS(NO_TEXT, icysixel_copy_text(h, NULL, 0, &wanted));
-    RETURNS(COLOR_COUNT, icysixel_encode_refined(h, row, 12, &e, 257, &length));
-    RETURNS(COLOR_COUNT, icysixel_encode_with_palette(h, row, 12, &e, NULL, 0, &length));
-    RETURNS(INDEX_RANGE, icysixel_encode_indexed(h, row, 12, &e, two, 2, above, 3, &length));
-    RETURNS(BUFFER_MISMATCH, icysixel_encode_indexed(h, row, 12, &e, two, 2, above, 2, &length));
-    e.height = 2, e.stride = 11;
-    RETURNS(BAD_STRIDE, icysixel_encode_compact(h, row, 12, &e, 2, &length));
-    e.stride = 0;
-    RETURNS(BUFFER_MISMATCH, icysixel_encode_compact(h, row, 12, &e, 2, &length));
-    e.height = 0;
-    RETURNS(BAD_DIMENSIONS, icysixel_encode_compact(h, row, 12, &e, 2, &length));
+    RETURNS(COLOR_COUNT, ENCODE(refined, row, 257));
+    RETURNS(COLOR_COUNT, ENCODE(with_palette, row, NULL, 0));
+    RETURNS(INDEX_RANGE, ENCODE(indexed, row, two, 2, above, 3));
+    RETURNS(BUFFER_MISMATCH, ENCODE(indexed, row, two, 2, above, 2));
+    EACH(it, wrong) {
+        e = it->encoding;
+        CHECK(ENCODE(compact, row, 2) == it->code);
+    }
     CHECK(length == 7);
 }
 
@@ -463,10 +445,12 @@ static void test_encodings(void)
 #define WIDEST "\033P9;1;0q\"1;1;1000000;1#0;2;100;0;0"
 #define FIVE(text) text text text text text
 #define FIFTEEN(text) FIVE(text) FIVE(text) FIVE(text)
+#define LONG_RUNS FIFTEEN("!65535@")
 static void test_widest(void)
 {
     static const icysixel_color red_blue[] = {{255, 0, 0}, {0, 0, 255}};
     static const char *const reds[] = {"!16975@$-\033\\", "!16975@\033\\"};
+    static const char start[] = WIDEST "#1;2;0;0;100#0" LONG_RUNS;
     static const char *const blues[] = {
         "!16974@?$#1" FIFTEEN("!65535?") "!16974?@$-\033\\", "!16974@#1@\033\\"};
     static uint8_t pixels[4000000], indices[1000000] = {[999999] = 1}, found[1000000];
@@ -477,26 +461,20 @@ static void test_widest(void)
     icysixel_refined r;
     for (size_t i = 0; i < 1000000; i++) memcpy(pixels + 4 * i, (uint8_t[]){255, 0, 0, 255}, 4);
     for (; e.form <= ICYSIXEL_FORM_COMPACT; e.form++) {
-        RETURNS(OK, icysixel_encode_refined(h, pixels, sizeof pixels, &e, 256, &length));
-        CHECK(has_text(WIDEST "#0" FIFTEEN("!65535@"), reds[e.form]));
-        RETURNS(OK, icysixel_encode_indexed(h, pixels, sizeof pixels, &e, red_blue, 2, indices,
-                                            sizeof indices, &length));
-        CHECK(has_text(WIDEST "#1;2;0;0;100#0" FIFTEEN("!65535@"), blues[e.form]));
+        CHECK(has_text(ENCODE(refined, pixels, 256), WIDEST "#0" LONG_RUNS, reds[e.form]));
+        CHECK(has_text(ENCODE(indexed, pixels, red_blue, 2, SIZED(indices)), start, blues[e.form]));
     }
     memcpy(pixels + 3999996, (uint8_t[]){0, 0, 255, 255}, 4);
     EACH(row, dithers) {
         e.dithering = *row;
-        for (e.form = 0; e.form <= ICYSIXEL_FORM_COMPACT; e.form++) {
-            RETURNS(OK, icysixel_encode_with_palette(h, pixels, sizeof pixels, &e, red_blue, 2,
-                                                     &length));
-            CHECK(has_text(WIDEST "#1;2;0;0;100#0" FIFTEEN("!65535@"), blues[e.form]));
-        }
-        RETURNS(OK, icysixel_palette_indices(pixels, sizeof pixels, 1000000, red_blue, 2, row,
-                                             found, sizeof found));
+        for (e.form = 0; e.form <= ICYSIXEL_FORM_COMPACT; e.form++)
+            CHECK(has_text(ENCODE(with_palette, pixels, red_blue, 2), start, blues[e.form]));
+        RETURNS(OK,
+                icysixel_palette_indices(SIZED(pixels), 1000000, red_blue, 2, row, SIZED(found)));
         CHECK(memcmp(found, indices, sizeof found) == 0);
     }
-    RETURNS(OK, icysixel_refine_palette(pixels, sizeof pixels, 2, colors, 2, witnesses, 3, found,
-                                        sizeof found, &r));
+    RETURNS(OK,
+            icysixel_refine_palette(SIZED(pixels), 2, colors, 2, witnesses, 3, SIZED(found), &r));
     CHECK(r.colors == 2 && r.witnesses == 0 && r.error == 0);
     CHECK(memcmp(colors, "\0\0\377\377\0\0", 6) == 0);
     for (size_t i = 0; i < sizeof found; i++) CHECK(found[i] == 1 - indices[i]);
@@ -530,23 +508,22 @@ static void test_indices(void)
 static void test_palettes(void)
 {
     static const uint8_t rgba[] = {255, 255, 255, 255, 10, 0, 0, 128, 0, 0, 0, 200, 9, 9, 9, 127};
-    static const size_t small[][3] = {{1, 3, 4}, {2, 2, 4}, {2, 3, 3}};
+    static const struct { uint32_t code; uint16_t most; size_t length, c, w, i; } wrong[] = {
+        {SMALL, 2, 16, 1, 3, 4}, {SMALL, 2, 16, 2, 2, 4}, {SMALL, 2, 16, 2, 3, 3},
+        {MISMATCH, 2, 15, 2, 3, 4}, {COLORS, 0, 16, 2, 3, 4}, {COLORS, 257, 16, 256, 257, 4},
+    };
     struct { icysixel_color c[256], w[257]; uint8_t i[5]; } of, untouched;
     icysixel_palette p = {7, 7, 7};
     icysixel_refined r = {7, 7, 7, 7};
     memset(&of, 7, sizeof of), memset(&untouched, 7, sizeof untouched);
-    EACH(row, small) {
-        size_t c = (*row)[0], w = (*row)[1], i = (*row)[2];
-        RETURNS(BUFFER_TOO_SMALL,
-                icysixel_choose_palette(rgba, 16, 2, of.c, c, of.w, w, of.i, i, &p));
-        RETURNS(BUFFER_TOO_SMALL,
-                icysixel_refine_palette(rgba, 16, 2, of.c, c, of.w, w, of.i, i, &r));
+    EACH(it, wrong) {
+        size_t c = it->c, w = it->w, i = it->i;
+        CHECK(icysixel_refine_palette(rgba, it->length, it->most, of.c, c, of.w, w, of.i, i, &r)
+              == it->code);
+        if (it->code == COLORS) continue;
+        CHECK(icysixel_choose_palette(rgba, it->length, it->most, of.c, c, of.w, w, of.i, i, &p)
+              == it->code);
     }
-    RETURNS(BUFFER_MISMATCH, icysixel_choose_palette(rgba, 15, 2, of.c, 2, of.w, 3, of.i, 4, &p));
-    RETURNS(BUFFER_MISMATCH, icysixel_refine_palette(rgba, 15, 2, of.c, 2, of.w, 3, of.i, 4, &r));
-    RETURNS(COLOR_COUNT, icysixel_refine_palette(rgba, 16, 0, of.c, 2, of.w, 3, of.i, 4, &r));
-    RETURNS(COLOR_COUNT,
-            icysixel_refine_palette(rgba, 16, 257, of.c, 256, of.w, 257, of.i, 4, &r));
     CHECK(p.colors == 7 && p.error == 7 && r.colors == 7 && r.error == 7);
     CHECK(memcmp(&of, &untouched, sizeof of) == 0);
     RETURNS(OK, icysixel_choose_palette(rgba, 16, 2, of.c, 2, of.w, 3, of.i, 4, &p));

@@ -28,15 +28,16 @@ static void add(const void *bytes, size_t length)
         digest = (digest ^ ((const uint8_t *)bytes)[i]) * 0x100000001b3;
 }
 
-static void add_outcome(icysixel *decoder, const struct outcome *outcome)
+/* The outcome of a call, which is added with the registers after it. */
+static struct outcome add_outcome(icysixel *decoder, uint32_t code, icysixel_shape shape)
 {
-    const icysixel_shape *shape = &outcome->shape;
-    uint64_t numbers[] = {outcome->code, shape->width, shape->height, shape->drawn_height,
-                          shape->p1, shape->p2};
+    uint64_t numbers[] = {code, shape.width, shape.height, shape.drawn_height, shape.p1, shape.p2};
+    struct outcome outcome = outcome_of(decoder, code, shape);
     struct registers registers = registers_of(decoder);
     add(numbers, sizeof numbers);
-    add(outcome->pixels, outcome->code == ICYSIXEL_OK ? shape->bytes : 0);
+    add(outcome.pixels, code == ICYSIXEL_OK ? shape.bytes : 0);
     add(&registers, sizeof registers);
+    return outcome;
 }
 
 /* SIXEL data: sixels between commands, terminators and bytes of any value. */
@@ -124,8 +125,7 @@ static void try_data(bool is_string)
         ? icysixel_decode(&whole, data.at, data.length, &shape)
         : icysixel_decode_payload(&whole, data.at, data.length, settings.p1, settings.p2, -1,
                                   &shape);
-    struct outcome at_once = outcome_of(&whole, code, shape);
-    add_outcome(&whole, &at_once);
+    struct outcome at_once = add_outcome(&whole, code, shape);
     code = ICYSIXEL_OK;
     for (size_t at = 0; code == ICYSIXEL_OK && at < data.length;) {
         struct bytes chunk = part(data, at, below(30)), copy = {0};
@@ -137,8 +137,7 @@ static void try_data(bool is_string)
         free(copy.at);
     }
     if (code == ICYSIXEL_OK) code = icysixel_finish(&parts, &shape);
-    struct outcome fed_outcome = outcome_of(&parts, code, shape);
-    add_outcome(&parts, &fed_outcome);
+    struct outcome fed_outcome = add_outcome(&parts, code, shape);
     CHECK(is_string || is_same(&fed_outcome, &at_once));
     try_rows(data, &fed_outcome);
     free(data.at), free(at_once.pixels), free(fed_outcome.pixels);
@@ -170,8 +169,7 @@ static void try_pixels(icysixel *h)
     struct bytes text = text_of(h, length);
     add(text.at, text.length);
     CHECK(icysixel_decode(h, text.at, text.length, &shape) == ICYSIXEL_OK);
-    struct outcome outcome = outcome_of(h, ICYSIXEL_OK, shape);
-    add_outcome(h, &outcome);
+    struct outcome outcome = add_outcome(h, ICYSIXEL_OK, shape);
     free(pixels.at), free(indices.at), free(text.at), free(outcome.pixels);
 }
 
