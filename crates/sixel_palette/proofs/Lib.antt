@@ -24,3 +24,4 @@ pub mod PaletteLanes
 pub mod PaletteRelaxation
 pub mod PaletteShown
 pub mod PaletteSize
+pub mod PaletteStores
