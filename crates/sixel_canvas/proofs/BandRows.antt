@@ -75,7 +75,7 @@ if_here false between set is = refl
 if_here true false set is = refl
 if_here true true set is = sym (is refl)
 
-struck_here : (bits bit k : ℕ) → k < 6 → is_set bits bit ≡ true → (k == bit) ≡ true →
+pub struck_here : (bits bit k : ℕ) → k < 6 → is_set bits bit ≡ true → (k == bit) ≡ true →
     is_struck 0 bits k ≡ true
 struck_here bits bit k six hit here = grind (arith, hit, eqb-true k bit here)
 

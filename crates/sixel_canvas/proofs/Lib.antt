@@ -1,3 +1,4 @@
+pub mod BandCopies
 pub mod BandRows
 pub mod BandStates
 pub mod BandTags

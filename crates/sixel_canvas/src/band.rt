@@ -1,12 +1,12 @@
 //! Six rows of pixels in one block, for the bands of an image one after another.
-ghost use Rattle.std.specs.Prelude.{◌≡◌, ℕ, ◌+◌, ◌*◌, ◌≤◌, ◌<◌, List, length, max, min};
+ghost use Rattle.std.specs.Prelude.{◌≡◌, ℕ, ◌+◌, ◌-◌, ◌*◌, ◌≤◌, ◌<◌, List, [], length, max, min};
 ghost use Rattle.std.specs.Prelude.{true, false, nat_le, nat_lt, ◌&&◌, ◌==◌, slice_index_or};
 ghost use Rattle.std.specs.Prelude.{IfOk, if◌then◌else◌};
 ghost use Rattle.sixel_base.specs.Picture.{covers, is_set};
-ghost use Rattle.sixel_canvas.specs.inside.Band.{cell, covers_four, stored, IsBand};
+ghost use Rattle.sixel_canvas.specs.inside.Band.{cell, covers_four, filled, stored, IsBand};
 ghost use Rattle.sixel_canvas.specs.inside.Drawn.{covers_block};
 
-use crate::pixel_row::{fill, mix};
+use crate::pixel_row::{fill, fill_by_copy, mix};
 use std::alloc::{AllocError, Global};
 use std::marker::Model;
 use std::simd::prelude::*;
@@ -308,7 +308,7 @@ fn repeated(bits: u8, count: usize) -> [u8; 8]
         .to_array()
 }
 
-/// Draws a sixel row by row.
+/// Draws a sixel row by row: the first by a loop, the others by copies of it.
 #[inline(never)]
 fn fill_rows(pixels: &mut [[u8; 4]], cap: usize, from: usize, to: usize, bits: u8, color: [u8; 4])
     requires ordered { from ≤ to }
@@ -320,11 +320,33 @@ fn fill_rows(pixels: &mut [[u8; 4]], cap: usize, from: usize, to: usize, bits: u
         → stored pixels.new cap d column k
         ≡ (if covers from to 0 bits column k then color else stored pixels.old cap d column k) }
 {
+    let source = first_row(bits).min(5) * cap + from;
     'drawn: for bit in 0..6 {
         if (bits >> bit) % 2 == 1 {
             let start = bit * cap;
-            fill(pixels, start + from, start + to, color);
+            fill_row(pixels, source, start + from, start + to, color);
         }
+    }
+}
+
+/// Gives one color to the pixels from `from` up to before `to`.
+///
+/// Pixels from `source` on have it already if they come before: then they are copied.
+#[inline(always)]
+fn fill_row(pixels: &mut [[u8; 4]], source: usize, from: usize, to: usize, color: [u8; 4])
+    requires ordered { from ≤ to }
+    requires within { to ≤ length pixels.old }
+    requires before { source < from → source + (to - from) ≤ from }
+    requires colored { source < from → (i : ℕ) → source ≤ i → i < source + (to - from)
+        → slice_index_or pixels.old i [] ≡ color }
+    ensures len { length pixels.new ≡ length pixels.old }
+    ensures filled { (d : List ℕ) (i : ℕ) → slice_index_or pixels.new i d
+        ≡ filled from to color i (slice_index_or pixels.old i d) }
+{
+    if source < from {
+        fill_by_copy(pixels, source, from, to);
+    } else {
+        fill(pixels, from, to, color);
     }
 }
 

@@ -1,6 +1,6 @@
 //! A row of pixels, drawn on by a run or by four sixels at once.
 
-ghost use Rattle.std.specs.Prelude.{◌≡◌, ℕ, ◌+◌, ◌≤◌, ◌<◌, List, length};
+ghost use Rattle.std.specs.Prelude.{◌≡◌, ℕ, ◌+◌, ◌-◌, ◌≤◌, ◌<◌, List, [], length};
 ghost use Rattle.std.specs.Prelude.{slice_index, slice_index_or, if◌then◌else◌};
 ghost use Rattle.std.specs.Int.{to_le_bytes, w32};
 ghost use Rattle.sixel_base.specs.Picture.{is_set};
@@ -20,6 +20,25 @@ pub fn fill(pixels: &mut [[u8; 4]], from: usize, to: usize, color: [u8; 4])
     'filled: for i in from..to {
         pixels[i] = color;
     }
+}
+
+/// Gives one color to the pixels from `from` up to before `to`, by a copy of pixels that have it.
+///
+/// These begin at `source`. A copy stores more pixels at once than a loop does.
+#[inline(always)]
+pub fn fill_by_copy(pixels: &mut [[u8; 4]], source: usize, from: usize, to: usize)
+    requires ordered { from ≤ to }
+    requires within { to ≤ length pixels.old }
+    requires before { source + (to - from) ≤ from }
+    ensures len { length pixels.new ≡ length pixels.old }
+    ensures filled { (color : List ℕ) → ((i : ℕ) → source ≤ i → i < source + (to - from)
+        → slice_index_or pixels.old i [] ≡ color)
+        → (d : List ℕ) (i : ℕ) → slice_index_or pixels.new i d
+        ≡ filled from to color i (slice_index_or pixels.old i d) }
+{
+    let count = to - from;
+    let (front, back) = pixels.split_at_mut(from);
+    back[..count].copy_from_slice(&front[source..source + count]);
 }
 
 /// Gives one color to those of four pixels from `at` on whose sixel has the bit.

@@ -1,5 +1,7 @@
-use Rattle.std.proofs.Common.{◌∙◌, eq-eqb}
-use Rattle.std.proofs.lemmas.Bool.{ne_eqb}
+use Rattle.std.proofs.Common.{◌≡◌, ◌<◌, ◌≤◌, [], ◌∙◌, true, sym, eq-eqb, ⊎_elim, arith}
+use Rattle.std.proofs.lemmas.Bool.{cases_lt, ne_eqb, true≢false}
+use Rattle.sixel_base.specs.Picture.{is_set}
+use Rattle.sixel_canvas.proofs.BandCopies.{row_above, row_before, row_colored}
 use Rattle.sixel_canvas.proofs.BandRows.{struck_more, struck_same}
 use Rattle.sixel_canvas.proofs.band.fill_rows.Goals as goal
 use Rattle.sixel_canvas.proofs.band.fill_rows.Goals.{then-bits-bit-eq1, else-bits-bit-eq1}
@@ -10,12 +12,12 @@ drawn-preserved c =
     elim c.if-bits-bit-eq1.branch [
       | then-bits-bit-eq1 w ↦
           rw w.pixels-is (
-            w.fill.ensures.len ∙ before.0,
+            w.fill_row.ensures.len ∙ before.0,
             λ d column k inside six.
-                struck_more c.args.pixels.now c.drawn.pixels w.fill.new.pixels c.args.cap
+                struck_more c.args.pixels.now c.drawn.pixels w.fill_row.new.pixels c.args.cap
                 c.args.from c.args.to c.args.bits c.drawn.bit c.args.color d column k inside six
                 c.requires.ordered c.requires.within (eq-eqb _ _ w.if-bits-bit-eq1.true)
-                (before.1 d column k inside six) (w.fill.ensures.filled d),
+                (before.1 d column k inside six) (w.fill_row.ensures.filled d),
           )
       | else-bits-bit-eq1 w ↦
           rw w.pixels-is (
@@ -26,3 +28,25 @@ drawn-preserved c =
                 (before.1 d column k inside six),
           )
     ]
+
+pub fill_row-requires-clause-before : goal.fill_row-requires-clause-before
+fill_row-requires-clause-before c =
+    row_before c.args.cap c.args.from c.args.to c.drawn.bit c.min.result c.requires.ordered
+    c.requires.within
+
+pub fill_row-requires-clause-colored : goal.fill_row-requires-clause-colored
+fill_row-requires-clause-colored c = λ above i low high.
+    let first = c.min.result in
+    let lower = row_above c.args.cap c.args.from c.drawn.bit first above in
+    let six : first < 6 = omega (arith, c.min.ensures) in
+    let set : is_set c.args.bits first ≡ true =
+    ⊎_elim (λ (some : c.first_row.result < 6).
+    let same : first ≡ c.first_row.result = omega (arith, c.min.ensures, some) in
+    rw same (c.first_row.ensures.set some))
+    (λ (none : 6 ≤ c.first_row.result).
+    absurd (true≢false (sym (eq-eqb _ _ c.if-bits-bit-eq1.true)
+    ∙ c.first_row.ensures.none none c.drawn.bit c.drawn-test.true)))
+    (cases_lt c.first_row.result 6) in
+    row_colored c.args.pixels.now c.drawn.pixels c.args.cap c.args.from c.args.to c.args.bits
+    c.drawn.bit first c.args.color i c.requires.within lower six set
+    (λ column inside. c.drawn.invariant.1 [] column first inside six) low (omega (arith, high))
