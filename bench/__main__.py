@@ -1,8 +1,9 @@
 """Times the program `sixel`, the library for C, the Rust crate and libsixel: python3 bench [FILE..]
 
-A FILE of a DCS sequence is decoded; one of raw RGBA pixels, named FILE:WIDTHxHEIGHT, is encoded. By
-default, two images are made here and encoded. What that writes is decoded, with an image of ten
-megapixels. The columns are numbers per pixel, but for two. A tool that is not installed has dashes.
+A FILE of a DCS sequence is decoded. One of raw RGBA pixels, named FILE:WIDTHxHEIGHT, is encoded,
+and by the library for C also in a refined palette. By default, two images are made here and
+encoded. What that writes is decoded, with an image of ten megapixels. The columns are numbers per
+pixel, but for two. A tool that is not installed has dashes.
 
   first rows          percent of the bytes that are read before the first six rows are final
   instructions        of a process less those of one on a single pixel, by valgrind
@@ -47,6 +48,7 @@ TIMERS = {
     "Rust": "{room}/target/release/examples/speed -t 0.2 -k {colors} {file}",
     "libsixel": "{room}/peer {file} 12 {colors}",
 }
+REFINED = {"C": TIMERS["C"] + " refined", "libsixel": TIMERS["libsixel"]}
 
 
 def run(command, stdin=None):
@@ -70,11 +72,11 @@ def resident(arguments, stdin):
     return 1024 * int(run(f"{which('time')} -f %M {SIXEL} {arguments}", stdin)[1])
 
 
-def in_process(room, command, file, colors):
+def in_process(timers, room, command, file, colors):
     """The least nanoseconds of each timer. They take turns, because a machine may slow down."""
     least = dict.fromkeys(TIMERS, math.inf)
-    for timer in RUNS * list(TIMERS):
-        words = TIMERS[timer].format(room=room, file=shlex.quote(file), colors=colors)
+    for timer in RUNS * list(timers):
+        words = timers[timer].format(room=room, file=shlex.quote(file), colors=colors)
         found = re.search(rb"^ *%s +(\S+)" % command.encode(), run(words)[0] or b"", re.M)
         least[timer] = min(least[timer], float(found[1]) if found else math.inf)
     return least.values()
@@ -96,11 +98,18 @@ def report(room, file):
             math.nan if raw else end,
             (instructions(whole, data) - instructions(one, single)) / (width * height),
             (resident(whole, data) - resident(one, single) - len(data)) / (4 * width * height),
-            *in_process(room, command, file, colors),
+            *in_process(TIMERS, room, command, file, colors),
         ]
-        texts = (f"{it:13.2f}" if math.isfinite(it) else f"{'-':>13}" for it in columns)
-        title = f"{command} {path.name[:20]:20} {width:>5}x{height:<5} {colors:3}"
-        print(title, *texts, sep="", flush=True)
+        title = f"{path.name[:20]:20} {width:>5}x{height:<5} {colors:3}"
+        print_line(f"{command} {title}", columns)
+        if raw:
+            times = in_process(REFINED, room, command, file, colors)
+            print_line(f"refine {title}", [math.nan] * 3 + [*times])
+
+
+def print_line(title, columns):
+    texts = (f"{it:13.2f}" if math.isfinite(it) else f"{'-':>13}" for it in columns)
+    print(title, *texts, sep="", flush=True)
 
 
 def milliseconds(room, stream):

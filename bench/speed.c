@@ -1,8 +1,9 @@
-/* Times decoding or encoding in process: speed FILE TURNS [COLORS [CHUNK]]
+/* Times decoding or encoding in process: speed FILE TURNS [COLORS [CHUNK | refined]]
  *
  * A FILE of a DCS sequence is decoded, fed in chunks of CHUNK bytes or as one. A FILE of raw
- * pixels, named FILE:WIDTHxHEIGHT, is encoded. The line has `decode` or `encode`, nanoseconds per
- * pixel of the best turn and of the median, and the bytes of the SIXEL output. */
+ * pixels, named FILE:WIDTHxHEIGHT, is encoded, in a refined palette if that is said. The line has
+ * `decode` or `encode`, nanoseconds per pixel of the best turn and of the median, and the bytes of
+ * the SIXEL output. */
 #define _POSIX_C_SOURCE 200809L
 #include "timing.h"
 #include "want.h"
@@ -27,19 +28,23 @@ int main(int argc, char **argv)
 {
     size_t length = 0, turns = argc > 2 ? strtoull(argv[2], NULL, 10) : 0;
     uint16_t colors = argc > 3 ? (uint16_t)strtoul(argv[3], NULL, 10) : 256;
-    size_t chunk = argc > 4 ? strtoull(argv[4], NULL, 10) : SIZE_MAX;
+    int is_refined = argc > 4 && strcmp(argv[4], "refined") == 0;
+    size_t chunk = argc > 4 && !is_refined ? strtoull(argv[4], NULL, 10) : SIZE_MAX;
     icysixel_shape shape = {.p1 = 9, .p2 = 1};
     int is_raw = turns > 0 && part_size(argv[1], &shape.width, &shape.height);
+    icysixel_encoding encoding = {0, shape.width, shape.height, shape.p1, shape.p2, {0}, 0};
     uint8_t *bytes = turns > 0 ? read_file(argv[1], &length) : NULL;
     double *times = calloc(turns, sizeof *times);
-    if (bytes == NULL || times == NULL || chunk == 0 || (is_raw && argc > 4))
-        return fputs("usage: speed FILE TURNS [COLORS [CHUNK]]\n", stderr), 2;
+    if (bytes == NULL || times == NULL || chunk == 0 || (argc > 4 && is_raw != is_refined))
+        return fputs("usage: speed FILE TURNS [COLORS [CHUNK | refined]]\n", stderr), 2;
     size_t text = length;
     icysixel handle = {0};
     want(icysixel_new(&handle));
     for (size_t turn = 0; turn < turns; turn++) {
         double begun = now();
-        if (is_raw)
+        if (is_refined)
+            want(icysixel_encode_refined(&handle, bytes, length, &encoding, colors, &text));
+        else if (is_raw)
             want(icysixel_encode(&handle, bytes, length, 0, shape.width, shape.height, shape.p1,
                                  shape.p2, colors, &text));
         else

@@ -3,12 +3,11 @@ import re
 
 TYPES = {
     "": "void", "u8": "uint8_t", "u16": "uint16_t", "u32": "uint32_t", "u64": "uint64_t",
-    "i32": "int32_t", "usize": "size_t", "c_void": "void", "Raw": "icysixel", "Fed": "icysixel_fed",
-    "Size": "icysixel_size", "Shape": "icysixel_shape",
-    "Color": "icysixel_color", "Palette": "icysixel_palette", "Refined": "icysixel_refined",
-    "Dithering": "icysixel_dithering", "Encoding": "icysixel_encoding",
+    "i32": "int32_t", "usize": "size_t", "c_void": "void", "Raw": "icysixel",
     "BufferLayout": "icysixel_layout",
 }  # fmt: skip
+STRUCTS = "Fed Size Shape Color Palette Refined Dithering Encoding".split()
+TYPES |= {name: f"icysixel_{name.lower()}" for name in STRUCTS}
 FUNCTION = r"\bfn (icysixel_\w+)\(([^)]*)\)\s*(?:-> (\w+))?;"
 
 
