@@ -6,7 +6,7 @@ use Rattle.std.proofs.lemmas.Bool.{cases_lt}
 use Rattle.std.proofs.lemmas.List.{take_more, take_all, drop_at, drop-append-le}
 use Rattle.std.proofs.lemmas.List.{take-append-le, length-append, length-drop, get_or-set_same}
 use Rattle.std.proofs.lemmas.List.{get_or-set_other, length-take-le}
-use Rattle.sixel_palette.specs.declared.palette.cubes.Cube.{Cube}
+use Rattle.sixel_palette.specs.declared.palette.cube.Cube.{Cube}
 use Rattle.sixel_palette.specs.declared.palette.cubes.Lists.{Lists}
 use Rattle.sixel_palette.specs.declared.palette.cubes.Span.{Span}
 use Rattle.sixel_palette.specs.declared.palette.nearest_entry.Entry.{Entry}

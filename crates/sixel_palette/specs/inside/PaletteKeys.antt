@@ -3,7 +3,7 @@
 -- first of those.
 use Rattle.std.specs.Prelude.{◌≡◌, ℕ, ◌+◌, ◌-◌, ◌*◌, ◌/◌, ◌%◌, ◌<◌, ◌≤◌, min, List, [], ◌∷◌, ◌++◌}
 use Rattle.std.specs.Prelude.{length, take, drop, slice_index, slice_index_or}
-use Rattle.sixel_palette.specs.declared.palette.cubes.Cube.{Cube}
+use Rattle.sixel_palette.specs.declared.palette.cube.Cube.{Cube}
 use Rattle.sixel_palette.specs.declared.palette.cubes.Lists.{Lists}
 use Rattle.sixel_palette.specs.declared.palette.cubes.Search.{Search}
 use Rattle.sixel_palette.specs.declared.palette.cubes.Span.{Span}

@@ -20,7 +20,7 @@ use std::alloc::{AllocError, Global};
 /// How many rounds move the entries.
 const ROUNDS: usize = 2;
 
-/// Moves the entries to the means of their bins, unless the summed squared error does not fall.
+/// Moves the entries to the means of their bins if that lowers the summed squared error.
 ///
 /// They stay if there is one for each bin. At most one assignment is stored at a time.
 pub fn improve(

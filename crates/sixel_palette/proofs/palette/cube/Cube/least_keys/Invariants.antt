@@ -1,7 +1,7 @@
 use Rattle.std.proofs.Common.{◌≡◌, ℕ, ◌+◌, ◌<◌, ◌≤◌, List, length, get_or}
 use Rattle.sixel_palette.specs.inside.PaletteKeys.{key_of, IsInCube}
 use Rattle.sixel_palette.proofs.PaletteKeys.{none}
-use Rattle.sixel_palette.proofs.palette.cubes.Cube.least_keys.Given as goal
+use Rattle.sixel_palette.proofs.palette.cube.Cube.least_keys.Given as goal
 
 abbrev pub invariant-loop-lane : goal.invariant-loop-lane
 invariant-loop-lane l = record {

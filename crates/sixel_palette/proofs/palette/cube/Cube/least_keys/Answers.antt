@@ -4,7 +4,7 @@ use Rattle.std.proofs.lemmas.List.{get_or-take, get_or-drop, get_or-set_same, ge
 use Rattle.std.proofs.lemmas.List.{length-set}
 use Rattle.sixel_palette.specs.inside.PaletteKeys.{key_of, IsInCube}
 use Rattle.sixel_palette.proofs.PaletteKeys.{none}
-use Rattle.sixel_palette.proofs.palette.cubes.Cube.least_keys.Goals as goal
+use Rattle.sixel_palette.proofs.palette.cube.Cube.least_keys.Goals as goal
 
 pub loop-lane-preserved : goal.loop-lane-preserved
 unfolding key_of

@@ -1,6 +1,6 @@
 use Rattle.std.proofs.Common.{arith}
 use Rattle.sixel_palette.specs.inside.PaletteCodes.{color_of}
-use Rattle.sixel_palette.proofs.palette.cubes.group_around.Goals as goal
+use Rattle.sixel_palette.proofs.palette.cube.cube_around.Goals as goal
 
 pub returns : goal.returns
 unfolding color_of

@@ -1,6 +1,6 @@
 use Rattle.std.proofs.Common.{get_or, arith}
 use Rattle.sixel_palette.specs.Palette.{distance, square_gap}
-use Rattle.sixel_palette.proofs.palette.cubes.Cube.gap.Goals as goal
+use Rattle.sixel_palette.proofs.palette.cube.Cube.gap.Goals as goal
 
 pub returns-clause-least : goal.returns-clause-least
 unfolding distance square_gap

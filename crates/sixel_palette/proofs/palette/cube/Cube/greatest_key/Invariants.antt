@@ -1,6 +1,6 @@
 use Rattle.std.proofs.Common.{ℕ, ◌≤◌, List, take}
 use Rattle.sixel_palette.specs.inside.PaletteKeys.{least_key, IsInCube}
-use Rattle.sixel_palette.proofs.palette.cubes.Cube.greatest_key.Given as goal
+use Rattle.sixel_palette.proofs.palette.cube.Cube.greatest_key.Given as goal
 
 abbrev pub invariant-loop-entry : goal.invariant-loop-entry
 invariant-loop-entry l =

@@ -1,6 +1,6 @@
 use Rattle.std.proofs.Common.{get_or, arith}
 use Rattle.sixel_palette.specs.Palette.{distance, square_gap}
-use Rattle.sixel_palette.proofs.palette.cubes.Cube.reach.Goals as goal
+use Rattle.sixel_palette.proofs.palette.cube.Cube.reach.Goals as goal
 
 pub returns-clause-greatest : goal.returns-clause-greatest
 unfolding distance square_gap

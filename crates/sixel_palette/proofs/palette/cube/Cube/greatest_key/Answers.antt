@@ -1,7 +1,7 @@
 use Rattle.std.proofs.Common.{take, get_or, arith}
 use Rattle.std.proofs.lemmas.List.{take_more, take_all}
 use Rattle.sixel_palette.proofs.PaletteKeys.{none, least_key-nil, least_key-push}
-use Rattle.sixel_palette.proofs.palette.cubes.Cube.greatest_key.Goals as goal
+use Rattle.sixel_palette.proofs.palette.cube.Cube.greatest_key.Goals as goal
 
 pub loop-entry-init : goal.loop-entry-init
 loop-entry-init c = λ c' box. omega (arith, least_key-nil c')
