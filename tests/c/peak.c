@@ -48,7 +48,6 @@ static const struct {
 static struct bytes make_pixels(size_t width, size_t height, uint32_t (*color)(size_t, size_t))
 {
     struct bytes pixels = {malloc(4 * width * height), 4 * width * height};
-    CHECK(pixels.at != NULL);
     for (size_t i = 0; i < width * height; i++) {
         uint32_t c = color == NULL ? 0 : color(i % width, i / width);
         memcpy(pixels.at + 4 * i, (uint8_t[]){c >> 24, c >> 16 & 255, c >> 8 & 255, c & 255}, 4);

@@ -82,7 +82,7 @@ static void try_rows(struct bytes data, const struct outcome *image)
     icysixel_fed fed = {0};
     icysixel_shape shape = {0};
     bool is_image = image->code == ICYSIXEL_OK;
-    icysixel_layout layout = {0, is_image ? image->shape.width : 1, (uint8_t)below(2)};
+    icysixel_layout layout = {.columns = is_image ? image->shape.width : 1};
     size_t row = 4 * layout.columns, size = is_image ? row * image->shape.height : 0;
     size_t copied = 0, seen = 0, wanted;
     struct outcome rows = {ICYSIXEL_OK, shape, malloc(size)};
@@ -104,10 +104,6 @@ static void try_rows(struct bytes data, const struct outcome *image)
     if (rows.code == ICYSIXEL_OK)
         rows.code = icysixel_finish_into(&decoder, copied, &layout, rows.pixels + copied * row,
                                          size - copied * row, &rows.shape, &wanted);
-    for (size_t i = 0; rows.code == ICYSIXEL_OK && layout.order == 1 && i < size; i += 4) {
-        uint8_t blue = rows.pixels[i];
-        rows.pixels[i] = rows.pixels[i + 2], rows.pixels[i + 2] = blue;
-    }
     CHECK(is_same(&rows, image));
     free(rows.pixels), icysixel_free(&decoder);
 }
@@ -128,13 +124,11 @@ static void try_data(bool is_string)
     struct outcome at_once = add_outcome(&whole, code, shape);
     code = ICYSIXEL_OK;
     for (size_t at = 0; code == ICYSIXEL_OK && at < data.length;) {
-        struct bytes chunk = part(data, at, below(30)), copy = {0};
-        append(&copy, chunk.at, chunk.length);
-        code = icysixel_feed(&parts, copy.at, copy.length, &fed);
+        struct bytes chunk = part(data, at, below(30));
+        code = icysixel_feed(&parts, chunk.at, chunk.length, &fed);
         uint64_t numbers[] = {code, fed.consumed, fed.status, fed.byte};
         add(numbers, sizeof numbers);
-        at += copy.length;
-        free(copy.at);
+        at += chunk.length;
     }
     if (code == ICYSIXEL_OK) code = icysixel_finish(&parts, &shape);
     struct outcome fed_outcome = add_outcome(&parts, code, shape);

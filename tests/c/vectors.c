@@ -138,13 +138,14 @@ static void try_sessions(const struct vector *vector, const struct registers *af
     for (size_t seed = 1; seed <= (is_small ? 16 : 1); seed++) try_session(vector, after, seed, 0);
 }
 
-/* Encodes pixels with a stride, and checks the output or the error. */
-static void encode(const struct vector *vector, struct bytes pixels, size_t stride)
+/* Encodes pixels, and checks the output or the error. */
+static void encode(const struct vector *vector)
 {
     icysixel encoder = new_handle();
     icysixel_shape shape = vector->shape;
+    struct bytes pixels = vector->pixels;
     size_t length = 0;
-    uint32_t code = icysixel_encode(&encoder, pixels.at, pixels.length, stride, shape.width,
+    uint32_t code = icysixel_encode(&encoder, pixels.at, pixels.length, 0, shape.width,
                                     shape.height, shape.p1, shape.p2, (uint16_t)vector->colors,
                                     &length);
     /* Bytes after the last row are no error in C. */
@@ -157,20 +158,6 @@ static void encode(const struct vector *vector, struct bytes pixels, size_t stri
         free(text.at);
     }
     icysixel_free(&encoder);
-}
-
-/* Encodes an image, and again with five bytes between rows. */
-static void try_encode(const struct vector *vector)
-{
-    size_t row = 4 * vector->shape.width, height = vector->shape.height;
-    encode(vector, vector->pixels, 0);
-    if (vector->error.length > 0) return;
-    struct bytes spaced = {malloc(height * (row + 5) - 5), height * (row + 5) - 5};
-    memset(spaced.at, 7, spaced.length);
-    for (size_t i = 0; i < height; i++)
-        memcpy(spaced.at + i * (row + 5), vector->pixels.at + i * row, row);
-    encode(vector, spaced, row + 5);
-    free(spaced.at);
 }
 
 int main(int argc, char **argv)
@@ -187,7 +174,7 @@ int main(int argc, char **argv)
             CHECK(fread(blocks[i]->at, 1, blocks[i]->length, file) == blocks[i]->length);
         }
         if (vector.colors >= 0) {
-            try_encode(&vector);
+            encode(&vector);
         } else {
             struct registers after = {0};
             if (vector.is_decoded_at_once) after = decode(&vector);
