@@ -92,10 +92,9 @@ def report(room, file):
     for colors in (256, 16) if raw else (256,):
         command, single = ("encode", bytes(4)) if raw else ("decode", b"\x1bPq@\x1b\\")
         arguments = f"encode {{}} {{}} {colors}" if raw else command
-        end = 100 * (data.find(b"-") + 1) / len(data)
         whole, one = (arguments.format(*it) for it in ((width, height), (1, 1)))
         columns = [
-            math.nan if raw else end,
+            math.nan if raw else 100 * (data.find(b"-") + 1) / len(data),
             (instructions(whole, data) - instructions(one, single)) / (width * height),
             (resident(whole, data) - resident(one, single) - len(data)) / (4 * width * height),
             *in_process(TIMERS, room, command, file, colors),

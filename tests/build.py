@@ -9,6 +9,7 @@ from pathlib import Path
 ROOT = Path(__file__).resolve().parent.parent
 DATA = ROOT / "crates/sixel_vectors/data"
 HEADERS = ROOT / "crates/icysixel/include"
+MEMORY = ROOT / "crates/icysixel/memory/icysixel_memory.c"
 # The library for C, as LLVM and as Rattle's own compiler build it.
 ARCHIVES = [ROOT / f"crates/icysixel/out/libicysixel{it}.a" for it in ("", ".by-rattle")]
 

@@ -11,12 +11,11 @@ import tempfile
 import unittest
 from pathlib import Path
 
-from build import ARCHIVES, HEADERS, ROOT, needs, run
+from build import ARCHIVES, HEADERS, MEMORY, ROOT, needs, run
 from vectors import bytes_of, packed_vectors, vectors
 
 HERE = ROOT / "tests/c"
 EXAMPLES = ROOT / "examples"
-MEMORY = ROOT / "crates/icysixel/memory/icysixel_memory.c"
 FILTER = ROOT / "crates/sixel_filter/out/sixel_filter"
 
 C11 = ["gcc", "-std=c11", "-pedantic", "-Wall", "-Wextra", "-Werror", f"-I{HEADERS}"]
@@ -64,7 +63,7 @@ class TestC(unittest.TestCase):
         return words.get(name, [self.folder])
 
     def test_archives(self):
-        """The archives define the functions of the header and no variable, and need six at most."""
+        """They define the calls of the header and no variable, need six, and have its version."""
         header = (HEADERS / "icysixel.h").read_text()
         declared = sorted(re.findall(r"^\w+ (icysixel_\w+)\(", header, re.M))
         called = re.findall(r"\b(icysixel_\w+)\(", (HERE / "calls.c").read_text())
@@ -72,6 +71,7 @@ class TestC(unittest.TestCase):
         *numbers, version = re.findall(r"_VERSION\w* \"?([\d.]+)", header)
         self.assertEqual(".".join(numbers), version)
         self.assertIn(f"Version: {version}\n", (ROOT / "out/icysixel.pc").read_text())
+        self.assertIn(f'version = "{version}"\n', (ROOT / "rust/icy_sixel/Cargo.toml").read_text())
         for archive in ARCHIVES:
             with self.subTest(archive=archive.name):
                 names = re.findall(r" (\w) (\w+)$", self.succeeds("nm", archive).decode(), re.M)
@@ -93,8 +93,7 @@ class TestC(unittest.TestCase):
         runs = [*((MEMCHECK, it) for it in programs), (HELGRIND, "random")]
         for build, (tool, name) in itertools.product(("LLVM", "Rattle"), runs):
             with self.subTest(program=name, build=build, tool=tool[2]):
-                arguments = self.arguments(name, is_brief=True)
-                self.succeeds(*tool, self.program(name, build), *arguments)
+                self.succeeds(*tool, self.program(name, build), *self.arguments(name, True))
 
     def test_random(self):
         """The builds of both compilers give the same results for random inputs, in threads too."""

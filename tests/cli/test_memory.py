@@ -37,12 +37,10 @@ def distinct(items):
 class Memory(unittest.TestCase):
     @classmethod
     def setUpClass(cls):
-        folder = tempfile.TemporaryDirectory()
-        cls.addClassCleanup(folder.cleanup)
-        cls.shim, cls.failed = Path(folder.name, "shim.so"), Path(folder.name, "failed")
-        source = Path(__file__).with_name("fail_alloc.c")
-        options = ["-shared", "-fPIC", "-Wall", "-Wextra", "-Werror"]
-        subprocess.run(["cc", *options, "-o", cls.shim, source], check=True)
+        folder = Path(cls.enterClassContext(tempfile.TemporaryDirectory()))
+        cls.shim, cls.failed = folder / "shim.so", folder / "failed"
+        options = ["-shared", "-fPIC", "-Wall", "-Wextra", "-Werror", "-o", cls.shim]
+        subprocess.run(["cc", *options, Path(__file__).with_name("fail_alloc.c")], check=True)
 
     def failures(self, *command, stdin=b""):
         """How a program ends, for each of its allocations in turn, which fails."""

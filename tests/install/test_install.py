@@ -106,9 +106,3 @@ class TestManual(unittest.TestCase):
         found = MANUAL.findall((ROOT / "man/icysixel.3").read_text())
         called = {name: [kind, *re.findall('"(.*)"', it)] for kind, name, it in found}
         self.assertEqual(called, CALLS)
-
-    def test_version(self):
-        """The header has the version of the Rust crate."""
-        version = re.search(r'ICYSIXEL_VERSION "(.*)"', HEADER)[1]
-        manifest = (ROOT / "rust/icy_sixel/Cargo.toml").read_text()
-        self.assertIn(f'\nversion = "{version}"\n', manifest)

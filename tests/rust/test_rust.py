@@ -6,11 +6,10 @@ import tempfile
 import unittest
 from pathlib import Path
 
-from build import ARCHIVES, DATA, HEADERS, ROOT, needs, run
+from build import ARCHIVES, DATA, HEADERS, MEMORY, ROOT, needs, run
 from rust.declared import of_header, of_rust
 
 CRATE = ROOT / "rust/icy_sixel"
-MEMORY = ROOT / "crates/icysixel/memory/icysixel_memory.c"
 MEMCHECK = ["valgrind", "-q", "--leak-check=full", "--show-leak-kinds=definite,indirect"]
 MEMCHECK += ["--errors-for-leak-kinds=definite,indirect", "--error-exitcode=9"]
 STRING = b"text\x1bP9;1q#1;2;100;0;0@\x1b\\text"
