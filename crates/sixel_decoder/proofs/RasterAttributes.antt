@@ -7,7 +7,6 @@ use Rattle.sixel_base.specs.Fault.{Malformed, TooLarge, Faults}
 use Rattle.sixel_base.specs.Fields.{field}
 use Rattle.sixel_base.specs.History.{Raster, History}
 use Rattle.sixel_base.specs.Payload.{first_fault}
-use Rattle.sixel_base.specs.Place.{width, height}
 use Rattle.sixel_base.specs.Stroke.{Origin}
 use Rattle.sixel_base.specs.declared.error.SixelError.{SixelError}
 use Rattle.sixel_canvas.specs.declared.drawing.Canvas.{Ghosts}

@@ -1,26 +1,19 @@
 -- What a sixel does to what was drawn, and when it is rejected.
-use Rattle.std.proofs.Common.{◌≡◌, ℕ, ◌+◌, ◌*◌, ◌<◌, ◌≤◌, ◌⊎◌, true, List, [], ◌∷◌, ◌++◌, max}
-use Rattle.std.proofs.Common.{Some, refl, ap, ◌∙◌}
+use Rattle.std.proofs.Common.{◌≡◌, ℕ, ◌+◌, ◌*◌, ◌<◌, ◌≤◌, ◌⊎◌, true, ◌∷◌, max}
+use Rattle.std.proofs.Common.{Some, refl}
 use Rattle.std.proofs.Common.{inl, inr, arith}
-use Rattle.std.specs.Prelude.{nat_lt, if◌then◌else◌}
+use Rattle.std.specs.Prelude.{nat_lt}
 use Rattle.std.proofs.lemmas.Bool.{lt-ltb, le-ltb}
 use Rattle.sixel_base.specs.Clip.{clipped_height, clipped_width}
-use Rattle.sixel_base.specs.DrawnHeight.{lowered, set_rows}
 use Rattle.sixel_base.specs.Fault.{Malformed, TooLarge, Faults}
 use Rattle.sixel_base.specs.History.{Sixel, History}
 use Rattle.sixel_base.specs.Limits.{Limit, side_limit}
 use Rattle.sixel_base.specs.Payload.{extent_fault, first_fault}
-use Rattle.sixel_base.specs.Picture.{covers}
-use Rattle.sixel_base.specs.Place.{width, height, across, down, span}
-use Rattle.sixel_base.specs.Stroke.{Origin, color}
+use Rattle.sixel_base.specs.Stroke.{Origin}
 use Rattle.sixel_base.specs.declared.error.SixelError.{SixelError}
 use Rattle.sixel_canvas.specs.declared.drawing.Canvas.{Ghosts}
-use Rattle.sixel_decoder.specs.declared.drawn_rows.DrawnRows.{DrawnRows}
 use Rattle.sixel_decoder.specs.declared.painter.Painter.{Painter}
-use Rattle.sixel_decoder.specs.inside.DrawnRows.{drawn_rows}
-use Rattle.sixel_decoder.specs.inside.Painter.{Shows, IsExtended}
-use Rattle.sixel_canvas.specs.inside.Drawn.{Run, run}
-use Rattle.sixel_decoder.specs.inside.Runs.{runs_of}
+use Rattle.sixel_decoder.specs.inside.Painter.{Shows}
 use Rattle.sixel_decoder.specs.inside.Sizes.{IsTooLarge}
 use Rattle.sixel_decoder.proofs.ChunkReads.{or_right}
 use Rattle.sixel_decoder.proofs.FoundPayloads.{Faults-named}

@@ -1,10 +1,7 @@
-use Rattle.std.proofs.Common.{◌≡◌, ◌∙◌, ℕ, List, true, false, min, refl, sym, ap, arith}
-use Rattle.std.specs.Prelude.{◌&&◌, if◌then◌else◌}
+use Rattle.std.proofs.Common.{◌≡◌, ◌∙◌, ℕ, true, false, min, refl, sym, ap, arith}
 use Rattle.std.proofs.lemmas.Bool.{le-ltb, lt-ltb}
 use Rattle.sixel_base.specs.Clip.{clipped_bits, is_pixel_inside}
 use Rattle.sixel_base.specs.Limits.{Limit}
-use Rattle.sixel_base.specs.Picture.{covers}
-use Rattle.sixel_decoder.specs.inside.Painter.{IsDrawnInside}
 use Rattle.sixel_decoder.proofs.Clips.{covers_clipped, covers_outside}
 use Rattle.sixel_decoder.proofs.painter.Painter.draw_inside.Goals as goal
 use Rattle.sixel_decoder.proofs.painter.Painter.draw_inside.Goals.{
