@@ -22,6 +22,7 @@ pub mod DcsRejections
 pub mod Finality
 pub mod FinalRows
 pub mod Sessions
+pub mod Feeds
 pub mod DcsPartialPictures
 pub mod Lanes
 pub mod SixelRuns

@@ -6,6 +6,7 @@ use Rattle.std.specs.Prelude.{OnOk, OnErr, IfOk, IfErr, MatchBool}
 use Rattle.sixel_base.specs.declared.error.SixelError.{SixelError}
 use Rattle.sixel_base.specs.declared.state.DecoderState.{DecoderState}
 use Rattle.sixel_base.specs.declared.status.SixelDcsFeedResult.{SixelDcsFeedResult}
+use Rattle.sixel_base.specs.declared.status.SixelDcsFeedStatus.TheVariants.{NeedMoreData}
 use Rattle.sixel_base.specs.Dcs.{dcs_count, dcs_status, dcs_fault, dcs_growths}
 use Rattle.sixel_base.specs.Dcs.{dcs_reached_area, dcs_size, has_ended, end_fault, stage}
 use Rattle.sixel_base.specs.Dcs.{IsSameString, IsStringImage, AreStringRegisters}
@@ -32,6 +33,10 @@ begun decoder = record {
   keeps_partial = false;
   has_partial = false;
 }
+
+-- the result of a feed of one byte of the payload
+abbrev pub byte_read : Result SixelDcsFeedResult SixelError
+byte_read = Ok (record { consumed = 1; status = NeedMoreData })
 
 -- The session reads the chunk as far as the DCS sequence goes, or rejects it.
 pub record IsFed (old new : DcsSession) (chunk : List ℕ)

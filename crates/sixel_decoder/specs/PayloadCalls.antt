@@ -5,7 +5,7 @@ use Rattle.std.specs.Prelude.{nat_lt, Option, Some, None, is_none, Result, Ok, E
 use Rattle.std.specs.Prelude.{OnOk, OnErr, IfOk, IfErr, MatchBool}
 use Rattle.sixel_base.specs.declared.error.SixelError.{SixelError}
 use Rattle.sixel_base.specs.declared.status.SixelFeedResult.{SixelFeedResult}
-use Rattle.sixel_base.specs.declared.status.SixelFeedStatus.TheVariants.{Terminated}
+use Rattle.sixel_base.specs.declared.status.SixelFeedStatus.TheVariants.{NeedMoreData, Terminated}
 use Rattle.sixel_base.specs.Bytes.{count, first_terminator}
 use Rattle.sixel_base.specs.DrawnHeight.{payload_drawn_height}
 use Rattle.sixel_base.specs.Fault.{Faults, IsFault, StreamFailed}
@@ -31,6 +31,10 @@ begun origin = record {
   keeps_partial = false;
   has_partial = false;
 }
+
+-- the result of a feed of one byte that belongs to the payload
+abbrev pub byte_read : Result SixelFeedResult SixelError
+byte_read = Ok (record { consumed = 1; status = NeedMoreData })
 
 -- The session reads the chunk up to the first terminator of all bytes, or rejects it.
 pub record IsFed (old new : Session) (chunk : List ℕ)

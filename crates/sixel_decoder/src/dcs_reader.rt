@@ -2,12 +2,12 @@
 //!
 //! The contracts of its calls are the records of `DcsCalls`.
 
-ghost use Rattle.std.specs.Prelude.{◌≡◌, true, false, IfOk};
+ghost use Rattle.std.specs.Prelude.{◌≡◌, ◌∷◌, [], true, false, IsTrue, IfOk};
 ghost use Rattle.sixel_base.specs.Dcs.{dcs_in_payload, has_come};
 ghost use Rattle.sixel_base.specs.DrawnHeight.{found_drawn_height};
 ghost use Rattle.sixel_base.specs.OneShot.{found};
-ghost use Rattle.sixel_decoder.specs.DcsCalls.{begun, IsFed, IsFinished, IsSizeSoFar};
-ghost use Rattle.sixel_decoder.specs.DcsCalls.{IsDrawnHeight};
+ghost use Rattle.sixel_decoder.specs.DcsCalls.{begun, byte_read, IsFed, IsFinished};
+ghost use Rattle.sixel_decoder.specs.DcsCalls.{IsSizeSoFar, IsDrawnHeight};
 ghost use Rattle.sixel_decoder.specs.DcsCalls.{IsWriteCount, IsPaintCount, IsBandPaintCount};
 ghost use Rattle.sixel_decoder.specs.DcsCalls.{IsBandWriteCount};
 ghost use Rattle.sixel_decoder.specs.DcsPartialCalls.{KeepsPartial};
@@ -71,6 +71,26 @@ impl<C: Canvas + Drop> DcsReader<C> {
                 Err(error)
             }
         }
+    }
+
+    /// Reads a byte of the payload that cannot fail, and returns whether it is one.
+    ///
+    /// Any other byte changes nothing. Before the payload, after its terminator and after an error
+    /// no byte is read.
+    #[inline(always)]
+    pub fn try_byte(&mut self, byte: u8) -> bool
+        ensures fed { IsTrue result → IsFed self.old self.new (byte ∷ []) byte_read }
+        ensures partial { IsTrue result → KeepsPartial self.old self.new byte_read }
+        ensures left { result ≡ false → self.new ≡ self.old }
+    {
+        let DcsState::Payload(reader) = &mut self.parser.state else {
+            return false;
+        };
+        if !reader.try_byte(byte) {
+            return false;
+        }
+        self.log.push(byte);
+        true
     }
 
     /// Whether the payload has begun and no feed has failed.

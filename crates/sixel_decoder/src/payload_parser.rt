@@ -109,7 +109,7 @@ impl<C: Canvas + Drop> PayloadParser<C> {
     /// It continues the open command, opens one, or is a sixel in a column for which the canvas has
     /// memory.
     #[inline(always)]
-    fn try_byte(&mut self, byte: u8) -> bool
+    pub fn try_byte(&mut self, byte: u8) -> bool
         ensures printable { IsTrue result → IsPrintable byte }
         ensures stands { IsTrue result → (o : Origin) (h : History) → Stands o self.old h
             → Stands o self.new (read h byte) }

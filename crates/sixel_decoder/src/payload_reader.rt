@@ -2,13 +2,13 @@
 //!
 //! The contracts of its calls are the records of `PayloadCalls`.
 
-ghost use Rattle.std.specs.Prelude.{◌≡◌, None, Some, ◌&&◌, IfOk};
+ghost use Rattle.std.specs.Prelude.{◌≡◌, ◌∷◌, [], None, Some, ◌&&◌, false, IsTrue, IfOk};
 ghost use Rattle.sixel_base.specs.Decoder.{origin_of};
 ghost use Rattle.sixel_base.specs.DrawnHeight.{found_drawn_height};
 ghost use Rattle.sixel_base.specs.OneShot.{Payload};
 ghost use Rattle.sixel_decoder.specs.CopiedImage.{decoder_of};
-ghost use Rattle.sixel_decoder.specs.PayloadCalls.{begun, IsFed, IsFinished, IsSizeSoFar};
-ghost use Rattle.sixel_decoder.specs.PayloadCalls.{IsDrawnHeight};
+ghost use Rattle.sixel_decoder.specs.PayloadCalls.{begun, byte_read, IsFed, IsFinished};
+ghost use Rattle.sixel_decoder.specs.PayloadCalls.{IsSizeSoFar, IsDrawnHeight};
 ghost use Rattle.sixel_decoder.specs.PayloadCalls.{IsWriteCount, IsPaintCount, IsBandPaintCount};
 ghost use Rattle.sixel_decoder.specs.PayloadCalls.{IsBandWriteCount};
 ghost use Rattle.sixel_base.specs.Fault.{is_fault};
@@ -149,6 +149,25 @@ impl<C: Canvas + Drop> PayloadReader<C> {
                 }
             },
         }
+    }
+
+    /// Reads a byte of the payload that cannot fail, and returns whether it is one.
+    ///
+    /// Any other byte changes nothing. After a terminator and after an error no byte is read.
+    #[inline(always)]
+    pub fn try_byte(&mut self, byte: u8) -> bool
+        ensures fed { IsTrue result → IsFed self.old self.new (byte ∷ []) byte_read }
+        ensures partial { IsTrue result → KeepsPartial self.old self.new byte_read }
+        ensures left { result ≡ false → self.new ≡ self.old }
+    {
+        let PayloadState::Reading(parser) = &mut self.state else {
+            return false;
+        };
+        if self.terminator.is_some() || !parser.try_byte(byte) {
+            return false;
+        }
+        self.log.push(byte);
+        true
     }
 
     /// Returns the width and the height of the image so far, unless a feed has failed.

@@ -1,12 +1,13 @@
-use Rattle.std.proofs.Common.{◌≡◌, ◌+◌, ◌++◌, List, ℕ, Some, None, Err, refl, sym, ap, ◌∙◌}
+use Rattle.std.proofs.Common.{◌≡◌, ◌+◌, ◌++◌, List, ℕ, Some, Err, refl, sym, ap, ◌∙◌}
 use Rattle.std.specs.Prelude.{nat_lt}
 use Rattle.std.proofs.lemmas.Result.{err_from_is_err_and}
 use Rattle.sixel_base.specs.Bytes.{count, first_terminator}
 use Rattle.sixel_base.specs.Fault.{Faults}
 use Rattle.sixel_base.specs.Payload.{fed_fault, settled, growths}
-use Rattle.sixel_decoder.proofs.DcsEnds.{goes_open, ended_at, terminated_by, waiting_by}
+use Rattle.sixel_decoder.proofs.DcsEnds.{ended_at, terminated_by}
 use Rattle.sixel_decoder.proofs.DcsChunks.{payload_follows, payload_refuses}
 use Rattle.sixel_decoder.proofs.DcsRejections.{payload_stopped}
+use Rattle.sixel_decoder.proofs.Feeds.{open_follows}
 use Rattle.sixel_decoder.proofs.dcs_parser.read_payload.Goals as goal
 
 pub returns-in_err-fed-clause-follows : goal.returns-in_err-fed-clause-follows
@@ -24,20 +25,8 @@ returns-in_err-fed-clause-follows g c = λ decoder before is.
 
 pub returns-in-NeedMoreData-clause-follows : goal.returns-in-NeedMoreData-clause-follows
 returns-in-NeedMoreData-clause-follows g c = λ decoder before is.
-    let payload : List ℕ = c.args.reader.now.bytes in
-    let piece : List ℕ = c.args.chunk.now in
-    let now = c.in_ok-fed.ensures.fed in
-    let consumed = c.in_ok-fed.fed.consumed in
-    let none : first_terminator (payload ++ piece) ≡ None =
-    ap first_terminator (sym now.bytes)
-    ∙ waiting_by (first_terminator c.feed.new.self.bytes) (sym c.in-NeedMoreData.is ∙ now.status) in
-    let counted : count payload + consumed ≡ count (payload ++ piece) =
-    now.consumed ∙ ap count now.bytes in
-    let goes = goes_open payload piece consumed c.args.ended.now is.ending none counted in
-    payload_follows g.row.C.Denot c.args.reader.now c.feed.new.self decoder c.args.ended.now
-    c.args.ended.now
-    before piece consumed _ is
-    now.origin now.bytes now.ok.1 now.faultless goes.0 goes.1
+    open_follows g.row.C.Denot c.args.reader.now c.feed.new.self decoder c.args.ended.now before
+    c.args.chunk.now c.in_ok-fed.fed is c.in_ok-fed.ensures.fed c.in-NeedMoreData.is
 
 pub returns-in-Terminated-clause-follows : goal.returns-in-Terminated-clause-follows
 returns-in-Terminated-clause-follows g c = λ decoder before is.

@@ -1,4 +1,4 @@
-use Rattle.std.proofs.Common.{◌≡◌, ℕ, List, ◌++◌, Result, Ok, Err, true, false, refl, rules}
+use Rattle.std.proofs.Common.{◌≡◌, ℕ, List, ◌++◌, Result, Err, true, false, refl, rules}
 use Rattle.std.proofs.Common.{subst, sym}
 use Rattle.std.specs.Prelude.{Bool, ◌&&◌, nat_lt, None}
 use Rattle.std.proofs.lemmas.Bool.{false_from_ne_true}
@@ -10,12 +10,14 @@ use Rattle.sixel_base.specs.Limits.{Limit}
 use Rattle.sixel_base.specs.declared.state.DecoderState.{DecoderState}
 use Rattle.sixel_decoder.specs.declared.dcs_parser.DcsState.{DcsState}
 use Rattle.sixel_decoder.specs.inside.DcsParser.{HasFollowed, is_failed}
+use Rattle.sixel_decoder.specs.inside.DcsReader.{session_of}
 use Rattle.sixel_decoder.specs.inside.DcsRejection.{partial_of, rejected_state}
 use Rattle.sixel_decoder.proofs.DcsRejections.{failed_follows, failed_partial, rejected_failed}
 use Rattle.sixel_decoder.proofs.DcsRejections.{rejected_keeping, stopped_follows}
 use Rattle.sixel_decoder.proofs.DcsRejections.{stopped_partial}
+use Rattle.sixel_decoder.proofs.Feeds.{string_fed}
 use Rattle.sixel_decoder.proofs.Sessions.{MatchBool-from_each, followed_sound, string_over}
-use Rattle.sixel_decoder.proofs.Sessions.{string_refused_with, string_same, string_within}
+use Rattle.sixel_decoder.proofs.Sessions.{string_refused_with}
 use Rattle.sixel_decoder.proofs.dcs_reader.DcsReader.feed.Goals as goal
 
 pub invariant_of-self : goal.invariant_of-self
@@ -31,35 +33,18 @@ invariant_of-self g c =
 pub returns-in-Ok-clause-fed : goal.returns-in-Ok-clause-fed
 returns-in-Ok-clause-fed g c =
     let inside = c.self.inside in
-    let limit : Limit = inside.parser.decoder.pixel_limit in
+    let state = inside.parser.state in
     let bytes : List ℕ = inside.log.bytes in
-    let piece : List ℕ = c.args.chunk.now in
-    let now : List ℕ = bytes ++ piece in
-    let result : Result SixelDcsFeedResult SixelError = Ok c.in-Ok.fed in
-    let accepted : is_failed inside.parser.state ≡ false =
-    false_from_ne_true (is_failed inside.parser.state) c.in-Ok.ensures.failed in
+    let accepted : is_failed state ≡ false =
+    false_from_ne_true (is_failed state) c.in-Ok.ensures.failed in
     let goes = c.in-Ok.ensures.follows bytes accepted c.self.invariant.0 in
-    let sound : is_failed inside.parser.state ≡ false → dcs_fault limit bytes ≡ None =
-    followed_sound inside.parser.state inside.parser.decoder inside.parser.ended bytes
-    c.self.invariant.0 in
-    record {
-      start = rw (← c.self.view_is) c.in-Ok.ensures.decoder;
-      released = rw (← c.self.view_is) c.in-Ok.ensures.released;
-      bytes = rw (← c.self.view_is) c.extend.ensures;
-      ok = rw (← c.self.view_is) (accepted, goes.2);
-      err = search rules;
-      faultless = rw (← c.self.view_is, c.extend.ensures) goes.4;
-      sound = rw (← c.self.view_is) sound;
-      over = rw (← c.self.view_is) (λ was ended.
-          string_over limit result bytes piece now ended refl (sound was) goes.0 goes.1 tt);
-      over_for_good = rw (← c.self.view_is, c.extend.ensures) (λ more.
-          string_same limit result now more goes.1);
-      consumed = rw (← c.self.view_is, c.extend.ensures) goes.0;
-      within = string_within result bytes piece now refl goes.0;
-      status = rw c.extend.ensures goes.1;
-      error = search rules;
-      refused_for_good = λ e more is. absurd cc;
-    }
+    let sound : dcs_fault inside.parser.decoder.pixel_limit bytes ≡ None =
+    followed_sound state inside.parser.decoder inside.parser.ended bytes c.self.invariant.0
+    accepted in
+    rw (← c.self.view_is)
+    (string_fed (session_of inside) _ c.feed.new.self.state c.feed.new.self.ended c.args.chunk.now
+    c.in-Ok.fed accepted sound goes c.in-Ok.ensures.decoder c.extend.ensures goes.2
+    c.in-Ok.ensures.released)
 
 pub returns-in-Err-clause-fed : goal.returns-in-Err-clause-fed
 returns-in-Err-clause-fed g c =

@@ -1,53 +1,21 @@
-use Rattle.std.proofs.Common.{◌≡◌, ℕ, List, [], ◌+◌, ◌++◌, Option, Some, None, Ok, Err, false}
-use Rattle.std.proofs.Common.{refl, sym, ◌∙◌, append-nil, arith, rules, subst}
+use Rattle.std.proofs.Common.{◌≡◌, ℕ, List, [], ◌++◌, Option, Some, None, Ok, Err, false}
+use Rattle.std.proofs.Common.{refl, sym, ◌∙◌, append-nil, rules, subst}
 use Rattle.std.specs.Prelude.{Bool, Result, nat_lt, is_none, ◌&&◌}
 use Rattle.sixel_base.specs.declared.error.SixelError.{SixelError}
 use Rattle.sixel_base.specs.declared.status.SixelFeedResult.{SixelFeedResult}
-use Rattle.sixel_base.specs.Bytes.{count, first_terminator}
 use Rattle.sixel_base.specs.Fault.{Faults, is_fault}
 use Rattle.sixel_base.specs.Limits.{Limit}
 use Rattle.sixel_base.specs.Payload.{fed_fault, settled, growths}
 use Rattle.sixel_base.specs.Status.{status_of}
 use Rattle.sixel_base.specs.Stroke.{Origin}
-use Rattle.sixel_decoder.specs.PayloadCalls.{IsFed}
-use Rattle.sixel_decoder.specs.Session.{Session}
 use Rattle.sixel_decoder.specs.declared.payload_reader.PayloadState.{PayloadState}
 use Rattle.sixel_decoder.specs.inside.PayloadReader.{session_of, parser_of, rejected_of, HasKept, HasRead}
 use Rattle.sixel_decoder.proofs.Chunks.{ended_goes_on, ended_reads, open_goes_on}
+use Rattle.sixel_decoder.proofs.Feeds.{payload_fed}
 use Rattle.sixel_decoder.proofs.KeptPictures.{has_drawn, kept_drawn, kept_stays, open_rests}
 use Rattle.sixel_decoder.proofs.Sessions.{read_sound, frame_over, frame_refused_with}
-use Rattle.sixel_decoder.proofs.DcsEnds.{count-most, terminator_same}
+use Rattle.sixel_decoder.proofs.DcsEnds.{terminator_same}
 use Rattle.sixel_decoder.proofs.payload_reader.PayloadReader.feed.Goals as goal
-
--- what a reader that went on was fed
-fed_by : (old new : Session) (chunk : List ℕ) (fed : SixelFeedResult) → old.is_refused ≡ false
-    → fed_fault old.origin.pixel_limit old.bytes ≡ None
-    → (count old.bytes + fed.consumed ≡ count (old.bytes ++ chunk))
-    × (fed.status ≡ status_of (first_terminator (old.bytes ++ chunk)))
-    → fed_fault old.origin.pixel_limit (old.bytes ++ chunk) ≡ None
-    → new.origin ≡ old.origin → new.bytes ≡ old.bytes ++ chunk → new.is_refused ≡ false
-    → new.released ≡ old.released → IsFed old new chunk (Ok fed)
-fed_by old new chunk fed was sound goes faultless origin bytes now released =
-    let limit : Limit = old.origin.pixel_limit in
-    let result : Result SixelFeedResult SixelError = Ok fed in
-    record {
-      origin = origin;
-      released = released;
-      bytes = bytes;
-      ok = (was, now);
-      err = tt;
-      faultless = rw bytes faultless;
-      sound = λ accepted. sound;
-      over = λ t accepted some.
-          frame_over limit result old.bytes chunk (old.bytes ++ chunk) t some refl sound goes.0
-          goes.1 tt;
-      consumed = rw bytes goes.0;
-      within = omega (arith, goes.0, count-most old.bytes chunk);
-      status = rw bytes goes.1;
-      error = tt;
-      refused = λ e is. absurd cc;
-      refused_for_good = λ e more is. absurd cc;
-    }
 
 pub invariant_of-self : goal.invariant_of-self
 invariant_of-self g c =
@@ -91,7 +59,7 @@ returns-in-Some-clause-fed g c =
     let sound = read_sound (parser_of inside.state) origin inside.terminator bytes c.self.invariant.0 in
     let was : is_none (parser_of inside.state) ≡ false = rw c.in-Reading.is refl in
     rw (← c.self.view_is)
-    (fed_by (session_of inside) _ chunk fed was (sound was) (goes.0, goes.1) goes.3 refl
+    (payload_fed (session_of inside) _ chunk fed was (sound was) (goes.0, goes.1) goes.3 refl
     c.extend.ensures refl (rw c.in-Reading.is refl))
 
 pub invariant_of-self-in-Ok : goal.invariant_of-self-in-Ok
@@ -125,7 +93,7 @@ returns-in-Ok-clause-fed g c =
     let sound = read_sound (parser_of inside.state) origin inside.terminator bytes c.self.invariant.0 in
     let was : is_none (parser_of inside.state) ≡ false = rw c.in-Reading.is refl in
     rw (← c.self.view_is)
-    (fed_by (session_of inside) _ c.args.chunk.now c.in-Ok.fed was (sound was) (goes.0, goes.1)
+    (payload_fed (session_of inside) _ c.args.chunk.now c.in-Ok.fed was (sound was) (goes.0, goes.1)
     goes.3
     refl c.extend.ensures refl (rw c.in-Reading.is c.in-Ok.ensures.released))
 
