@@ -1,7 +1,7 @@
 -- The final rows of an open image, in the words that Receiver has for both forms, and what the
 -- calls of a receiver do with rows. Which rows are final is in FinalRows of sixel_decoder.
 use Rattle.std.specs.Prelude.{ℕ, ◌≡◌, ◌+◌, ◌-◌, ◌*◌, ◌≤◌, ◌==◌, max, min, nat_lt}
-use Rattle.std.specs.Prelude.{if◌then◌else◌, List, [], ◌∷◌, length}
+use Rattle.std.specs.Prelude.{if◌then◌else◌, List, length}
 use Rattle.std.specs.Prelude.{Option, Some, None, Result, IfOk, OnOk, IfErr, OnErr, IsSomeAnd}
 use Rattle.std.specs.Prelude.{◌&&◌, MatchOption}
 use Rattle.sixel_base.specs.CallFault.{CallFault, Exactly, RowsNotFinal, RowsReleased, ShortStride}
