@@ -169,19 +169,23 @@ none_between : (between set : Bool) → set ≡ false → (between && set) ≡ f
 none_between true set is = is
 none_between false set is = refl
 
--- the rows so far and the first one, with the row of the next bit
-next_row : (bits bit first row column at k : ℕ) (set : Bool) → is_set bits bit ≡ set →
-    (is_set bits bit ≡ true → row ≡ bit) → (is_set bits bit ≡ false → row ≡ first) →
-    (((nat_lt k bit || k == first) || k == row) && covers at (at + 1) 0 bits column k)
+-- the rows so far and the first one, with the row of the next bit, which is set
+next_set : (bits bit first column at k : ℕ) →
+    (((nat_lt k bit || k == first) || k == bit) && covers at (at + 1) 0 bits column k)
     ≡ ((nat_lt k (bit + 1) || k == first) && covers at (at + 1) 0 bits column k)
-next_row bits bit first row column at k true is here other =
-    rw (here is, rows_up k bit)
+next_set bits bit first column at k =
+    rw (rows_up k bit)
     (or_swap (nat_lt k bit) (k == first) (k == bit) (covers at (at + 1) 0 bits column k))
-next_row bits bit first row column at k false is here other =
-    rw (other is, rows_up k bit)
+
+-- and with the first row again, where the next bit is not set
+next_unset : (bits bit first column at k : ℕ) → is_set bits bit ≡ false →
+    (((nat_lt k bit || k == first) || k == first) && covers at (at + 1) 0 bits column k)
+    ≡ ((nat_lt k (bit + 1) || k == first) && covers at (at + 1) 0 bits column k)
+next_unset bits bit first column at k miss =
+    rw (rows_up k bit)
     (or_same (nat_lt k bit) (k == first) (k == bit) (covers at (at + 1) 0 bits column k)
     (λ same. none_between (nat_le at column && nat_lt column (at + 1)) (is_struck 0 bits k)
-    (struck_not bits bit k is same)))
+    (struck_not bits bit k miss same)))
 
 -- a set pixel of a column, drawn in this row
 set_row :
@@ -203,35 +207,71 @@ set_row px mid wide at bits row color d column k above fits inside six within lo
     (struck_here bits row k six hit))
     before refl
 
--- the first of them
+-- the first row comes first
+first_below : (bits first column at k : ℕ) → ((j : ℕ) → j < first → is_set bits j ≡ false) →
+    ((false || k == first) && covers at (at + 1) 0 bits column k)
+    ≡ ((nat_lt k 1 || k == first) && covers at (at + 1) 0 bits column k)
+first_below bits first column at (suc k) none = rw (le-ltb (suc k) 1 (omega arith)) refl
+first_below bits zero column at zero none = refl
+first_below bits (suc first) column at zero none =
+    rw (ne_eqb 0 (suc first) (λ e. omega (arith, e)))
+    (sym (none_between (nat_le at column && nat_lt column (at + 1)) (is_struck 0 bits 0)
+    (struck_not bits 0 0 (none 0 (omega arith)) refl)))
+
+-- the first of them, above which no row has a set pixel
 pub set_first :
     (px : List (List ℕ)) (wide at bits first : ℕ) (color d : List ℕ) (column k : ℕ) →
     length px ≡ 6 * wide → column < wide → k < 6 → at < wide → first < 6 →
-    is_set bits first ≡ true →
+    is_set bits first ≡ true → ((j : ℕ) → j < first → is_set bits j ≡ false) →
     stored (set px (first * wide + at) color) wide d column k
-    ≡ (if (nat_lt k 0 || k == first) && covers at (at + 1) 0 bits column k then color
+    ≡ (if (nat_lt k 1 || k == first) && covers at (at + 1) 0 bits column k then color
     else stored px wide d column k)
-set_first px wide at bits first color d column k fits inside six within low hit =
-    set_row px px wide at bits first color d column k (nat_lt k 0) fits inside six within low hit
-    (rw (le-ltb k 0 (omega arith)) refl)
+set_first px wide at bits first color d column k fits inside six within low hit none =
+    set_row px px wide at bits first color d column k false fits inside six within low hit refl
+    ∙ ap (λ drawn. if drawn then color else stored px wide d column k)
+    (first_below bits first column at k none)
 
--- and one of the next row
-pub set_more :
-    (px mid : List (List ℕ)) (wide at bits bit first row : ℕ) (color d : List ℕ) (column k : ℕ) →
-    length mid ≡ 6 * wide → column < wide → k < 6 → at < wide → row < 6 → is_set bits row ≡ true →
-    (is_set bits bit ≡ true → row ≡ bit) → (is_set bits bit ≡ false → row ≡ first) →
+more_in :
+    (px mid : List (List ℕ)) (wide at bits bit first place : ℕ) (color d : List ℕ) (column k : ℕ)
+    (set_bit : Bool) → is_set bits bit ≡ set_bit →
+    length mid ≡ 6 * wide → column < wide → k < 6 → at < wide → bit < 6 → first < 6 →
+    is_set bits first ≡ true → (is_set bits bit ≡ true → place ≡ bit * wide + at) →
+    (is_set bits bit ≡ false → place ≡ first * wide + at) →
     stored mid wide d column k
     ≡ (if (nat_lt k bit || k == first) && covers at (at + 1) 0 bits column k then color
     else stored px wide d column k) →
-    stored (set mid (row * wide + at) color) wide d column k
+    stored (set mid place color) wide d column k
     ≡ (if (nat_lt k (bit + 1) || k == first) && covers at (at + 1) 0 bits column k then color
     else stored px wide d column k)
-set_more px mid wide at bits bit first row color d column k fits inside six within low hit here
-    other before =
-    set_row px mid wide at bits row color d column k (nat_lt k bit || k == first) fits inside six
+more_in px mid wide at bits bit first place color d column k true is fits inside six within low_bit
+    low hit here other before =
+    rw (here is)
+    (set_row px mid wide at bits bit color d column k (nat_lt k bit || k == first) fits inside six
+    within low_bit is before
+    ∙ ap (λ drawn. if drawn then color else stored px wide d column k)
+    (next_set bits bit first column at k))
+more_in px mid wide at bits bit first place color d column k false is fits inside six within low_bit
+    low hit here other before =
+    rw (other is)
+    (set_row px mid wide at bits first color d column k (nat_lt k bit || k == first) fits inside six
     within low hit before
     ∙ ap (λ drawn. if drawn then color else stored px wide d column k)
-    (next_row bits bit first row column at k (is_set bits bit) refl here other)
+    (next_unset bits bit first column at k is))
+
+-- and one of the next row, or the first one again
+pub set_more :
+    (px mid : List (List ℕ)) (wide at bits bit first place : ℕ) (color d : List ℕ) (column k : ℕ) →
+    length mid ≡ 6 * wide → column < wide → k < 6 → at < wide → bit < 6 → first < 6 →
+    is_set bits first ≡ true → (is_set bits bit ≡ true → place ≡ bit * wide + at) →
+    (is_set bits bit ≡ false → place ≡ first * wide + at) →
+    stored mid wide d column k
+    ≡ (if (nat_lt k bit || k == first) && covers at (at + 1) 0 bits column k then color
+    else stored px wide d column k) →
+    stored (set mid place color) wide d column k
+    ≡ (if (nat_lt k (bit + 1) || k == first) && covers at (at + 1) 0 bits column k then color
+    else stored px wide d column k)
+set_more px mid wide at bits bit first place color d column k =
+    more_in px mid wide at bits bit first place color d column k (is_set bits bit) refl
 
 sixel_here : (sixels : List ℕ) (wide from bit column k : ℕ) → k < 6 → from ≤ column →
     (k == bit) ≡ true →

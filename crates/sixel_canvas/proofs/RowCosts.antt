@@ -148,6 +148,16 @@ least-each f (suc n) k inside =
           omega (arith, ap f same)
     ]
 
+-- it grows with them
+pub least-grown : (f g : ℕ → ℕ) (n : ℕ) → ((k : ℕ) → k < n → f k ≤ g k) → least f n ≤ least g n
+least-grown f g zero more = omega arith
+least-grown f g (suc n) more =
+    omega (
+      arith,
+      least-grown f g n (λ k inside. more k (omega (arith, inside))),
+      more n (omega arith),
+    )
+
 empty_thrifty : (background : List ℕ) → IsThrifty (empty_row background)
 empty_thrifty background = record {
   held = omega arith;

@@ -229,10 +229,11 @@ fn draw_one(pixels: &mut [[u8; 4]], cap: usize, at: usize, bits: u8, color: [u8;
 {
     let first = first_row(bits);
     if first < 6 {
-        pixels[first * cap + at] = color;
-        'drawn: for bit in 0..6 {
-            let row = row_or(bits, bit, first);
-            pixels[row * cap + at] = color;
+        let start = first * cap + at;
+        pixels[start] = color;
+        'drawn: for bit in 1..6 {
+            let place = place_or(bits, bit, cap, at, start);
+            pixels[place] = color;
         }
     }
 }
@@ -241,23 +242,27 @@ fn draw_one(pixels: &mut [[u8; 4]], cap: usize, at: usize, bits: u8, color: [u8;
 #[inline(always)]
 fn first_row(bits: u8) -> usize
     ensures set { result < 6 → is_set bits result ≡ true }
-    ensures none { 6 ≤ result → (k : ℕ) → k < 6 → is_set bits k ≡ false }
+    ensures above { (k : ℕ) → k < result → is_set bits k ≡ false }
 {
     bits.trailing_zeros() as usize
 }
 
-/// Returns the row of a bit if it is set, or else this other row.
+/// Returns where the pixel of a bit is if the bit is set, or else this other place.
 #[inline(always)]
-fn row_or(bits: u8, bit: usize, other: usize) -> usize
+fn place_or(bits: u8, bit: usize, cap: usize, at: usize, other: usize) -> usize
     requires bit { bit < 6 }
-    requires six { other < 6 }
-    requires set { is_set bits other ≡ true }
-    ensures six { result < 6 }
-    ensures set { is_set bits result ≡ true }
-    ensures same { is_set bits bit ≡ true → result ≡ bit }
+    requires within { at < cap }
+    requires few { cap ≤ 1000008 }
+    requires other { other < 6 * cap }
+    ensures within { result < 6 * cap }
+    ensures set { is_set bits bit ≡ true → result ≡ bit * cap + at }
     ensures other { is_set bits bit ≡ false → result ≡ other }
 {
-    if (bits >> bit) % 2 == 1 { bit } else { other }
+    if (bits >> bit) % 2 == 1 {
+        bit * cap + at
+    } else {
+        other
+    }
 }
 
 /// Draws a run eight columns at once.

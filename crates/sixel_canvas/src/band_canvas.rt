@@ -3,7 +3,8 @@ ghost use Rattle.std.specs.Prelude.{◌≡◌, ℕ, ◌+◌, ◌*◌, ◌^◌, �
 ghost use Rattle.std.specs.Prelude.{◌-◌, length, nat_lt, if◌then◌else◌};
 ghost use Rattle.sixel_canvas.specs.Layout.{AreCopied, AreRowsIn};
 ghost use Rattle.sixel_canvas.specs.inside.Band.{cell};
-ghost use Rattle.sixel_canvas.specs.inside.BandCanvas.{above_band, band_canvas_shown};
+ghost use Rattle.sixel_canvas.specs.inside.BandCanvas.{above_band, band_canvas_held};
+ghost use Rattle.sixel_canvas.specs.inside.BandCanvas.{band_canvas_shown};
 ghost use Rattle.sixel_canvas.specs.inside.BandCanvas.{AreMoved, IsLaidOut, IsPaid};
 ghost use Rattle.sixel_canvas.specs.inside.Drawn.{Run};
 ghost use Rattle.sixel_canvas.specs.inside.FinalRows.{final, stored_area};
@@ -53,7 +54,7 @@ impl Canvas for BandCanvas {
 
     ghost top = { λ canvas. canvas.top };
 
-    ghost held = { λ canvas. canvas.held };
+    ghost held = { band_canvas_held };
 
     ghost released = { λ canvas. canvas.released };
 
@@ -85,7 +86,7 @@ impl Canvas for BandCanvas {
 
     #[inline(always)]
     fn held(&self) -> usize {
-        self.held
+        if self.band.is_tagged() { 0 } else { self.held }
     }
 
     fn expect_width(&mut self, width: usize) {
@@ -107,7 +108,7 @@ impl Canvas for BandCanvas {
         if bits == 0 {
             return;
         }
-        self.band.draw(at, at + 1, bits, color);
+        self.band.draw_column(at, bits, color);
     }
 
     #[inline(always)]

@@ -86,6 +86,7 @@ pub trait Canvas {
             ≡ (if covers at (at + 1) (top self.old) bits column row then color
             else shown self.old column row) }
         ensures top { top self.new ≡ top self.old }
+        ensures held { held self.old ≤ held self.new }
         ensures released { released self.new ≡ released self.old }
         ensures paid { (named : ℕ) (runs : List Run) → paid self.old named runs
             → paid self.new named (run at (at + 1) (top self.old) bits ∷ runs) };

@@ -139,6 +139,32 @@ impl TaggedBand {
         self.draw_wide(from, to, bits, color);
     }
 
+    /// Whether a block may have a tag.
+    #[inline(always)]
+    pub fn is_tagged(&self) -> bool
+        ensures { result ≡ nat_lt 0 self.now.tags.reach }
+    {
+        self.tags.reach() > 0
+    }
+
+    /// Draws a sixel of one column on a band without tags, for which there is memory.
+    #[inline(always)]
+    pub fn draw_column(&mut self, at: usize, bits: u8, color: [u8; 4])
+        requires untagged { self.old.tags.reach ≡ 0 }
+        requires held { at < self.old.pixels.cap }
+        ensures drawn { (column k : ℕ) → tagged_cell self.new column k
+            ≡ (if covers at (at + 1) 0 bits column k then color
+            else tagged_cell self.old column k) }
+        ensures background { self.new.pixels.background ≡ self.old.pixels.background }
+        ensures cap { self.new.pixels.cap ≡ self.old.pixels.cap }
+        ensures tags { self.new.tags ≡ self.old.tags }
+        ensures reach { self.new.pixels.reach ≡ max self.old.pixels.reach (at + 1) }
+        ensures painted { self.new.painted ≤ self.old.painted + 1 }
+    {
+        self.pixels.draw(at, at + 1, bits, color);
+        self.painted = self.painted.saturating_add(1);
+    }
+
     /// Draws a wide sixel over columns some of which were drawn on.
     #[inline(never)]
     fn draw_wide(&mut self, from: usize, to: usize, bits: u8, color: [u8; 4])

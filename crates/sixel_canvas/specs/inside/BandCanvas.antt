@@ -53,6 +53,11 @@ pub record IsHeld (canvas : BandCanvasState) : Type 0 where
   pub room : 4 * ((canvas.top - canvas.released + 6) * canvas.rows.width) ≤ canvas.rows.room
   pub bottom : canvas.top + 6 ≤ 1000000
 
+-- how many columns a sixel of one column is drawn on at once: none while a block may have a tag,
+-- because the block is painted in its tag first
+abbrev pub band_canvas_held : BandCanvasState → ℕ
+band_canvas_held canvas = if nat_lt 0 canvas.band.tags.reach then 0 else canvas.held
+
 -- what is true of every canvas of one band
 pub record IsBandCanvas (canvas : BandCanvasState) : Type 0 where
   pub logged : length canvas.gone ≡ canvas.released

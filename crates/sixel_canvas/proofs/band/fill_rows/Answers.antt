@@ -45,7 +45,7 @@ fill_row-requires-clause-colored c = λ above i low high.
     rw same (c.first_row.ensures.set some))
     (λ (none : 6 ≤ c.first_row.result).
     absurd (true≢false (sym (eq-eqb _ _ c.if-bits-bit-eq1.true)
-    ∙ c.first_row.ensures.none none c.drawn.bit c.drawn-test.true)))
+    ∙ c.first_row.ensures.above c.drawn.bit (omega (arith, none, c.drawn-test.true)))))
     (cases_lt c.first_row.result 6) in
     row_colored c.args.pixels.now c.drawn.pixels c.args.cap c.args.from c.args.to c.args.bits
     c.drawn.bit first c.args.color i c.requires.within lower six set

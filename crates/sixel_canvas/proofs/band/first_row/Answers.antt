@@ -1,4 +1,4 @@
-use Rattle.std.proofs.Common.{◌≡◌, ℕ, zero, suc, ◌<◌, ◌≤◌, true, false, refl, eq-eqb, arith, w8}
+use Rattle.std.proofs.Common.{◌≡◌, ℕ, zero, suc, ◌<◌, true, false, refl, eq-eqb, arith, w8}
 use Rattle.std.proofs.lemmas.Nat.Bits.{bit_at-trailing_zeros, bit_at-zero}
 use Rattle.std.specs.Int.{trailing_zeros}
 use Rattle.std.specs.Int.Count.{count_trailing_zeros}
@@ -12,14 +12,14 @@ first_set zero low less = let never : 8 < 6 = less in absurd (omega (arith, neve
 first_set (suc n) low less =
     eq-eqb _ _ (bit_at-trailing_zeros w8 (suc n) (omega arith) low).1
 
-none_set : (bits : ℕ) → bits < 256 → 6 ≤ trailing_zeros w8 bits → (k : ℕ) → k < 6 →
+none_above : (bits : ℕ) → bits < 256 → (k : ℕ) → k < trailing_zeros w8 bits →
     is_set bits k ≡ false
-none_set zero low more k six = rw (bit_at-zero k) refl
-none_set (suc n) low more k six =
-    rw ((bit_at-trailing_zeros w8 (suc n) (omega arith) low).2 k (omega (arith, more, six))) refl
+none_above zero low k above = rw (bit_at-zero k) refl
+none_above (suc n) low k above =
+    rw ((bit_at-trailing_zeros w8 (suc n) (omega arith) low).2 k above) refl
 
 pub returns-clause-set : goal.returns-clause-set
 returns-clause-set c = first_set c.args.bits (omega arith)
 
-pub returns-clause-none : goal.returns-clause-none
-returns-clause-none c = none_set c.args.bits (omega arith)
+pub returns-clause-above : goal.returns-clause-above
+returns-clause-above c = none_above c.args.bits (omega arith)

@@ -20,8 +20,8 @@ returns-clause-drawn c = λ column row.
     let top = ap (λ (s : BandCanvasState). s.top) c.self.view_is in
     canvas_over (nat_le at column) (nat_lt column (at + 1)) bits all.top row
     (above_band state column row) (tagged_cell all.band column (row - all.top))
-    (tagged_cell c.draw.new.self column (row - all.top)) color
-    (c.draw.ensures.drawn column (row - all.top))
+    (tagged_cell c.draw_column.new.self column (row - all.top)) color
+    (c.draw_column.ensures.drawn column (row - all.top))
     ∙ ap (λ pixel. if covers at (at + 1) all.top bits column row then color else pixel) shown
     ∙ ap
     (λ row_of.

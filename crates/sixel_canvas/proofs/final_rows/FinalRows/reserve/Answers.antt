@@ -1,4 +1,4 @@
-use Rattle.std.proofs.Common.{◌*◌, ◌≤◌, ap, arith}
+use Rattle.std.proofs.Common.{ap, arith}
 use Rattle.std.proofs.lemmas.Result.{on_ok_weaker}
 use Rattle.sixel_canvas.specs.inside.FinalRows.{RowsState}
 use Rattle.sixel_canvas.proofs.final_rows.FinalRows.reserve.Goals as goal

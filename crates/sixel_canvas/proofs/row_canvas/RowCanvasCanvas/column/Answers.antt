@@ -1,9 +1,9 @@
-use Rattle.std.proofs.Common.{◌≡◌, ◌+◌, ◌-◌, max, refl, ap, ◌∙◌, arith}
+use Rattle.std.proofs.Common.{◌≡◌, ℕ, ◌+◌, ◌-◌, ◌≤◌, Bool, true, false, max, refl, ap, ◌∙◌, arith}
 use Rattle.std.specs.Prelude.{IsOk, if◌then◌else◌}
 use Rattle.sixel_base.specs.Picture.{covers, is_struck}
 use Rattle.sixel_canvas.specs.inside.RowCanvas.{RowCanvasState, row_canvas_shown, row_len}
 use Rattle.sixel_canvas.proofs.RowBytes.{when_ok}
-use Rattle.sixel_canvas.proofs.RowCosts.{drawn_run, least-each}
+use Rattle.sixel_canvas.proofs.RowCosts.{drawn_run, least-each, least-grown}
 use Rattle.sixel_canvas.proofs.row_canvas.RowCanvasCanvas.column.Goals as goal
 
 -- each of the six rows has the column, so that drawing does not fail
@@ -44,3 +44,27 @@ returns-clause-paid c = λ named runs is.
       c.run_paints.ensures.least,
       ap (λ (s : RowCanvasState). s.paints) c.self.view_is,
     )))
+
+-- a row that was drawn on is no shorter
+no_shorter : (hit : Bool) (old to new : ℕ) → new ≡ (if hit then max old to else old) → old ≤ new
+no_shorter true old to new is = omega (arith, is)
+no_shorter false old to new is = omega (arith, is)
+
+pub returns-clause-held : goal.returns-clause-held
+returns-clause-held c =
+    let old = c.args.self.now in
+    let drawn = c.draw_rows-drawn in
+    let new = drawn.new.self in
+    let top : new.top ≡ old.top =
+    drawn.ensures.top ∙ ap (λ (s : RowCanvasState). s.top) c.self.view_is in
+    least-grown (λ k. row_len old (old.top + k)) (λ k. row_len new (new.top + k)) 6
+    (λ k six.
+    let row = old.top + k in
+    rw top
+    (no_shorter (is_struck old.top c.args.bits row) (row_len old row) (c.args.at + 1)
+    (row_len new row)
+    (when_ok drawn.result (is_ok c) drawn.ensures.grown row
+    ∙ ap
+    (λ (s : RowCanvasState). if is_struck s.top c.args.bits row
+    then max (row_len s row) (c.args.at + 1) else row_len s row)
+    c.self.view_is)))
