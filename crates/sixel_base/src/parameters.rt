@@ -129,6 +129,7 @@ impl Parameters {
     }
 
     /// Goes on with the text by a digit or a semicolon.
+    #[inline(always)]
     pub fn push(&mut self, byte: u8)
         requires { IsParameterByte byte }
         ensures { (text : List ℕ) → Keeps self.old text → Keeps self.new (text ++ byte ∷ []) }
@@ -140,6 +141,7 @@ impl Parameters {
     }
 
     /// Goes on with the text by a digit, from `b'0'` to `b'9'`.
+    #[inline(always)]
     pub fn push_digit(&mut self, byte: u8)
         requires { IsDigit byte }
         ensures { (text : List ℕ) → Keeps self.old text → Keeps self.new (text ++ byte ∷ []) }

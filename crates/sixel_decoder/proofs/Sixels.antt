@@ -1,6 +1,6 @@
 -- What a sixel does to what was drawn, and when it is rejected.
 use Rattle.std.proofs.Common.{◌≡◌, ℕ, ◌+◌, ◌*◌, ◌<◌, ◌≤◌, ◌⊎◌, true, ◌∷◌, max}
-use Rattle.std.proofs.Common.{Some, refl}
+use Rattle.std.proofs.Common.{None, Some, refl}
 use Rattle.std.proofs.Common.{inl, inr, arith}
 use Rattle.std.specs.Prelude.{nat_lt}
 use Rattle.std.proofs.lemmas.Bool.{lt-ltb, le-ltb}
@@ -9,11 +9,12 @@ use Rattle.sixel_base.specs.Fault.{Malformed, TooLarge, Faults}
 use Rattle.sixel_base.specs.History.{Sixel, History}
 use Rattle.sixel_base.specs.Limits.{Limit, side_limit}
 use Rattle.sixel_base.specs.Payload.{extent_fault, first_fault}
+use Rattle.sixel_base.specs.Place.{across, down, span}
 use Rattle.sixel_base.specs.Stroke.{Origin}
 use Rattle.sixel_base.specs.declared.error.SixelError.{SixelError}
 use Rattle.sixel_canvas.specs.declared.drawing.Canvas.{Ghosts}
 use Rattle.sixel_decoder.specs.declared.painter.Painter.{Painter}
-use Rattle.sixel_decoder.specs.inside.Painter.{Shows}
+use Rattle.sixel_decoder.specs.inside.Painter.{Shows, IsExtended}
 use Rattle.sixel_decoder.specs.inside.Sizes.{IsTooLarge}
 use Rattle.sixel_decoder.proofs.ChunkReads.{or_right}
 use Rattle.sixel_decoder.proofs.FoundPayloads.{Faults-named}
@@ -69,3 +70,32 @@ refused_sixel {C} {canvas} e o painter h bits lower shows low deep (inr large) =
     (rw (same, shows.width, shows.height, shows.column, shows.repeat, shows.top, shows.limit) at
     large.2) in
     rw (shows.faultless, found) (Faults-named e true TooLarge large.3)
+
+-- a sixel that extends the image within its limits has no fault
+pub sound_sixel : {C : Type 0} {canvas : Ghosts C} (o : Origin) (old new : Painter C canvas)
+    (h : History) (bits right bottom : ℕ)
+    → Shows o old h → IsExtended old new right bottom
+    → right ≡ across h + span h → bottom ≡ down h + 6
+    → new.clipped_width * new.clipped_height ≤ new.pixel_limit.pixels
+    → first_fault o.pixel_limit (Sixel bits ∷ h) ≡ None
+sound_sixel o old new h bits right bottom shows is right' bottom' area =
+    rw (
+      shows.faultless,
+      le-ltb 1000000 (across h + span h) (rw (← right') is.right),
+      le-ltb 1000000 (down h + 6) (rw (← bottom') is.lower),
+      le-ltb o.pixel_limit.pixels
+          (clipped_width o.pixel_limit (Sixel bits ∷ h)
+          * clipped_height o.pixel_limit (Sixel bits ∷ h))
+          (rw (
+            new.clipped_width_is,
+            new.clipped_height_is,
+            is.width,
+            is.height,
+            is.limit,
+            shows.width,
+            shows.height,
+            shows.limit,
+            right',
+            bottom',
+          ) at area),
+    ) refl

@@ -11,5 +11,6 @@ pub mod Header
 pub mod DcsParser
 pub mod DcsReader
 pub mod DcsRejection
+pub mod Ready
 pub mod Runs
 pub mod Sizes

@@ -15,6 +15,7 @@ ghost use Rattle.sixel_base.specs.inside.Parameters.{Keeps};
 ghost use Rattle.sixel_canvas.specs.inside.Drawn.{no_work};
 ghost use Rattle.sixel_canvas.specs.inside.Tags.{is_tag};
 ghost use Rattle.sixel_decoder.specs.inside.Runs.{IsSixelByte};
+ghost use Rattle.sixel_decoder.specs.inside.Ready.{IsReady};
 ghost use Rattle.sixel_decoder.specs.inside.Sizes.{IsTooLarge};
 
 mod copied_image;
@@ -56,6 +57,8 @@ pub struct Painter<C: Canvas + Drop> {
     pub raster_height: usize,
     /// The rows down to the last one with a set pixel.
     pub drawn: DrawnRows,
+    /// Left of this column, drawing the next sixel cannot fail. It is 0 until it is found.
+    pub ready: usize,
     ghost visible: { is_tag color ≡ true },
     ghost repeat_some: { 0 < repeat },
     ghost repeat_fits: { repeat ≤ repeat_limit },
@@ -67,6 +70,7 @@ pub struct Painter<C: Canvas + Drop> {
     ghost clipped_height_is: { clipped_height ≡ min height pixel_limit.rows },
     ghost area_fits: { clipped_width * clipped_height ≤ pixel_limit.pixels },
     ghost limit_fits: { pixel_limit.pixels ≤ area_limit },
+    ghost ready_is: { IsReady C.Canvas canvas repeat clipped_width clipped_height ready },
 }
 
 impl<C: Canvas + Drop> Painter<C> {
@@ -96,6 +100,7 @@ impl<C: Canvas + Drop> Painter<C> {
             clipped_height: 1,
             raster_height: 0,
             drawn: DrawnRows::new(),
+            ready: 0,
         }
     }
 
@@ -121,6 +126,7 @@ impl<C: Canvas + Drop> Painter<C> {
             let front = FrontSixels::of(bytes);
             let len = front.len;
             if len > 0 && self.column + len <= self.clipped_width {
+                self.ready = 0;
                 self.canvas.block(self.column, len, front.bits, self.color)?;
                 self.drawn.add_eight(front.bits);
                 self.column += len;
@@ -128,7 +134,10 @@ impl<C: Canvas + Drop> Painter<C> {
             }
         }
         match self.draw(bytes[0] - 0x3f) {
-            Ok(()) => Ok(1),
+            Ok(()) => {
+                self.find_ready(bytes.len());
+                Ok(1)
+            }
             Err(error) => Err(error),
         }
     }
@@ -183,6 +192,7 @@ impl<C: Canvas + Drop> Painter<C> {
         let rows = self.pixel_limit.rows();
         if from < columns && top < rows {
             let bits = clipped_bits(bits, top, rows);
+            self.ready = 0;
             self.canvas
                 .draw(from, right.min(columns), bits, self.color)?;
             self.drawn.add(bits);
@@ -205,6 +215,7 @@ impl<C: Canvas + Drop> Painter<C> {
         let height = self.height.max(high);
         match check_size(width, height, self.pixel_limit) {
             Ok(()) => {
+                self.ready = 0;
                 self.width = width;
                 self.height = height;
                 self.clipped_width = width.min(self.pixel_limit.columns());
@@ -215,6 +226,21 @@ impl<C: Canvas + Drop> Painter<C> {
         }
     }
 
+    /// Finds the columns in which drawing a sixel cannot fail, near the end of a chunk.
+    ///
+    /// If eight bytes or more are left, it finds none, because sixels are drawn eight at once.
+    #[inline(always)]
+    fn find_ready(&mut self, left: usize)
+        ensures shows { (o : Origin) (h : History) → Shows o self.old h → Shows o self.new h }
+        ensures released { C.released self.new.canvas ≡ C.released self.old.canvas }
+    {
+        self.ready = if left < 8 && self.is_single_above_bottom() {
+            self.clipped_width.min(self.canvas.held())
+        } else {
+            0
+        };
+    }
+
     /// Whether the next sixel fits in one column for which the canvas has memory.
     ///
     /// That column lies inside the clipped image, so drawing the sixel cannot fail.
@@ -222,10 +248,7 @@ impl<C: Canvas + Drop> Painter<C> {
     pub fn fits_column(&self) -> bool
         ensures { IsTrue result → FitsColumn self.now }
     {
-        if !self.is_single_above_bottom() {
-            return false;
-        }
-        self.column < self.clipped_width && self.column < self.canvas.held()
+        self.column < self.ready
     }
 
     /// Draws a sixel that fits in such a column.
@@ -257,6 +280,7 @@ impl<C: Canvas + Drop> Painter<C> {
         if count > MAX_REPEAT {
             return Err(SixelError::malformed());
         }
+        self.ready = 0;
         self.repeat = count.max(1) as usize;
         Ok(())
     }
@@ -298,6 +322,19 @@ impl<C: Canvas + Drop> Painter<C> {
         self.color = opaque(self.registers.get(register));
     }
 
+    /// Selects a register by fewer than five parameters, which define none.
+    #[inline(always)]
+    pub fn select_only(&mut self, parameters: &Parameters)
+        requires few { parameters.now.count < 5 }
+        ensures shows { (o : Origin) (h : History) (text : List ℕ) → Keeps parameters.now text
+            → Shows o self.old h → Shows o self.new (Color text ∷ h) }
+        ensures fits { FitsColumn self.old → FitsColumn self.new }
+        ensures released { C.released self.new.canvas ≡ C.released self.old.canvas }
+    {
+        let register = parameters.get(0).min(255) as u8;
+        self.color = opaque(self.registers.get(register));
+    }
+
     /// Moves to the first column.
     pub fn carriage_return(&mut self)
         ensures shows { (o : Origin) (h : History) → Shows o self.old h
@@ -319,6 +356,7 @@ impl<C: Canvas + Drop> Painter<C> {
         if top.checked_add(6).is_none() {
             return Err(SixelError::IntegerOverflow);
         }
+        self.ready = 0;
         self.drawn.end_band(top);
         self.canvas.new_line();
         self.column = 0;
@@ -340,6 +378,7 @@ impl<C: Canvas + Drop> Painter<C> {
     {
         let height = self.image_height();
         let drawn_height = self.drawn_height().min(height);
+        self.ready = 0;
         let pixels = self.canvas.take_picture(self.clipped_width, height)?;
         Ok(DecodedPayload {
             pixels,

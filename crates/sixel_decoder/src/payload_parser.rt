@@ -25,7 +25,7 @@ use crate::decoded_payload::DecodedPayload;
 use crate::painter::Painter;
 use crate::partial_payload::PartialPayload;
 use sixel_base::Result;
-use sixel_base::parameters::{Digits, Parameters};
+use sixel_base::parameters::{Digits, KEPT_FIELDS, Parameters};
 use sixel_base::settings::DcsSettings;
 use sixel_base::state::DecoderState;
 use sixel_base::status::{SixelFeedResult, SixelFeedStatus};
@@ -65,7 +65,7 @@ pub struct PayloadParser<C: Canvas + Drop> {
 }
 
 impl<C: Canvas + Drop> PayloadParser<C> {
-    ghost use Rattle.sixel_decoder.specs.inside.Painter.{Shows, Draws, Ends};
+    ghost use Rattle.sixel_decoder.specs.inside.Painter.{Shows, Draws, Ends, FitsColumn};
     ghost use Rattle.sixel_decoder.specs.inside.PayloadParser.{Stands, Reads, Feeds, StandsAfter};
     ghost use Rattle.sixel_decoder.specs.inside.PayloadParser.{Rests, settled_after};
     ghost use Rattle.sixel_decoder.specs.inside.Partial.{EndsPartly};
@@ -106,8 +106,8 @@ impl<C: Canvas + Drop> PayloadParser<C> {
     ///
     /// Any other byte changes nothing.
     ///
-    /// It continues the open command, opens one, or is a sixel in a column for which the canvas has
-    /// memory.
+    /// It is a digit of the open command, opens one, or is a sixel in a column for which the canvas
+    /// has memory. An open color command that defines no register is closed first.
     #[inline(always)]
     pub fn try_byte(&mut self, byte: u8) -> bool
         ensures printable { IsTrue result → IsPrintable byte }
@@ -120,11 +120,11 @@ impl<C: Canvas + Drop> PayloadParser<C> {
         if is_sixel(byte) {
             return self.try_sixel(byte);
         }
-        if self.takes(byte) {
-            self.parameters.push(byte);
+        if byte.is_ascii_digit() && self.takes(byte) {
+            self.parameters.push_digit(byte);
             return true;
         }
-        if self.command != OpenCommand::Ground || !is_numbered(byte) {
+        if !is_numbered(byte) || !self.try_close() {
             return false;
         }
         self.command = OpenCommand::numbered(byte);
@@ -135,8 +135,6 @@ impl<C: Canvas + Drop> PayloadParser<C> {
     /// Draws a sixel that cannot fail, and returns whether it is one.
     ///
     /// Any other byte changes nothing.
-    ///
-    /// An open color command is closed first.
     #[inline(always)]
     fn try_sixel(&mut self, byte: u8) -> bool
         requires { IsSixelByte byte }
@@ -146,18 +144,34 @@ impl<C: Canvas + Drop> PayloadParser<C> {
         ensures released { C.released self.new.painter.canvas
             ≡ C.released self.old.painter.canvas }
     {
-        if !self.painter.fits_column() {
+        if !self.painter.fits_column() || !self.try_close() {
             return false;
         }
-        match self.command {
-            OpenCommand::Ground => {}
-            OpenCommand::InColor => {
-                self.command = OpenCommand::Ground;
-                self.painter.select(&self.parameters);
-            }
-            OpenCommand::InRepeat | OpenCommand::InRaster => return false,
-        }
         self.painter.draw_column(byte - 0x3f);
+        true
+    }
+
+    /// Closes a command that only selects a color, and returns whether none is open.
+    ///
+    /// Any other command stays open.
+    #[inline(always)]
+    fn try_close(&mut self) -> bool
+        ensures ground { IsTrue result → self.new.command ≡ Ground }
+        ensures shows { IsTrue result → (o : Origin) (h : History) → Stands o self.old h
+            → Shows o self.new.painter h }
+        ensures fits { FitsColumn self.old.painter → FitsColumn self.new.painter }
+        ensures left { result ≡ false → self.new ≡ self.old }
+        ensures released { C.released self.new.painter.canvas
+            ≡ C.released self.old.painter.canvas }
+    {
+        if self.command == OpenCommand::Ground {
+            return true;
+        }
+        if self.command != OpenCommand::InColor || self.parameters.len() >= KEPT_FIELDS {
+            return false;
+        }
+        self.command = OpenCommand::Ground;
+        self.painter.select_only(&self.parameters);
         true
     }
 

@@ -62,6 +62,7 @@ impl Painter<BandCanvas> {
         ensures band { self.new.canvas.band ≡ self.old.canvas.band }
         ensures writes { self.new.canvas.rows.moved ≡ self.old.canvas.rows.moved }
     {
+        self.ready = 0;
         self.canvas.release_rows(rows);
     }
 
@@ -82,6 +83,7 @@ impl Painter<BandCanvas> {
     {
         let height = self.image_height();
         let drawn_height = self.drawn_height().min(height);
+        self.ready = 0;
         self.canvas.copy_picture(first, rows, layout, out);
         CopiedPayload {
             shape: ImageShape {

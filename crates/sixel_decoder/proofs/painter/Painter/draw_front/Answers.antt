@@ -38,5 +38,6 @@ returns-then-self-len-clause-draws g c = λ o h shows.
 
 pub returns-in-Ok-clause-draws : goal.returns-in-Ok-clause-draws
 returns-in-Ok-clause-draws g c = λ o h shows.
-    subst (λ (w : History). Shows o c.draw.new.self w)
-    (sym (fold_one h c.args.bytes.now c.requires.some c.requires.sixel)) (c.in-Ok.ensures.draws o h shows)
+    subst (λ (w : History). Shows o c.find_ready.new.self w)
+    (sym (fold_one h c.args.bytes.now c.requires.some c.requires.sixel))
+    (c.find_ready.ensures.shows o _ (c.in-Ok.ensures.draws o h shows))
