@@ -156,24 +156,25 @@ impl SixelReceiver {
     ///
     /// [`SixelStreamDecoder::feed`]: crate::SixelStreamDecoder::feed
     /// [`SixelDcsStreamDecoder::feed`]: crate::SixelDcsStreamDecoder::feed
-    #[inline(always)]
     pub fn feed(&mut self, piece: &[u8]) -> Result<Received>
         ensures fed { IsFed self.old self.new piece.now result }
         ensures partial { KeepsPartial self.old.image self.new.image result }
     {
-        if piece.len() == 1
-            && let Some(received) = self.try_byte(piece[0])
-        {
-            return Ok(received);
+        match &mut self.open {
+            Open::Nothing => Err(SixelError::stream_failed()),
+            Open::Payload(reader) => Ok(of_payload(reader.feed(piece)?)),
+            Open::ControlString(reader) => Ok(of_string(reader.feed(piece)?)),
         }
-        self.read_chunk(piece)
     }
 
     /// Reads a byte of the payload that cannot fail, and returns the result of its feed.
     ///
-    /// Any other byte changes nothing and returns `None`.
+    /// For any other byte it returns `None` and changes nothing. The caller passes such a byte to
+    /// [`feed`](Self::feed). A host that reads byte by byte saves time, because most bytes of a
+    /// payload cannot fail. The call does not allocate.
     #[inline(always)]
-    fn try_byte(&mut self, byte: u8) -> Option<Received>
+    pub fn try_byte(&mut self, byte: u8) -> Option<Received>
+        ensures open { IfSome result (λ _. is_open self.old.image.form ≡ true) }
         ensures fed { IfSome result (λ received.
             IsFed self.old self.new (byte ∷ []) (Ok received)) }
         ensures partial { IfSome result (λ received.
@@ -195,21 +196,6 @@ impl SixelReceiver {
             consumed: 1,
             status,
         })
-    }
-
-    /// Reads a chunk of any bytes.
-    ///
-    /// Out of line: inlined, single bytes take a tenth more instructions.
-    #[inline(never)]
-    fn read_chunk(&mut self, piece: &[u8]) -> Result<Received>
-        ensures fed { IsFed self.old self.new piece.now result }
-        ensures partial { KeepsPartial self.old.image self.new.image result }
-    {
-        match &mut self.open {
-            Open::Nothing => Err(SixelError::stream_failed()),
-            Open::Payload(reader) => Ok(of_payload(reader.feed(piece)?)),
-            Open::ControlString(reader) => Ok(of_string(reader.feed(piece)?)),
-        }
     }
 
     /// Closes the image, returns it, and stores its registers in the decoder.

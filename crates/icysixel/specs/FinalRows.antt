@@ -1,7 +1,7 @@
 -- Rows of the open image in the caller's memory, as C sees them: the layout that C passes, and what
 -- the calls do. The numbers are this library's own, and include/icysixel.h names them. The words
 -- for final rows are those of the receiver.
-use Rattle.std.specs.Prelude.{ℕ, ◌≡◌, ◌≢◌, ◌≤◌, ◌*◌, ◌==◌, min, max, if◌then◌else◌, List, length}
+use Rattle.std.specs.Prelude.{ℕ, ◌≡◌, ◌≢◌, ◌≤◌, ◌*◌, ◌==◌, min, if◌then◌else◌, List, length}
 use Rattle.std.specs.Prelude.{true, false, Option, Some, None}
 use Rattle.sixel_base.specs.CallFault.{CallFault, Exactly, RowsNotFinal, RowsReleased}
 use Rattle.sixel_base.specs.Decoder.{IsSetAs}

@@ -181,6 +181,23 @@ fn feed(state: &mut State, piece: &[u8], fed: &mut Fed) -> u32
     ensures fed { IsFed state.old state.new piece.now fed.new result }
     ensures told { result ≢ 0 → fed.new ≡ fed.old }
 {
+    if piece.len() == 1
+        && let Some(received) = state.receiver.try_byte(piece[0])
+    {
+        *fed = Fed::of(received);
+        return Code::Success as u32;
+    }
+    feed_chunk(state, piece, fed)
+}
+
+/// Reads a chunk of any bytes.
+///
+/// Out of line: inlined, a single byte saves and restores registers.
+#[inline(never)]
+fn feed_chunk(state: &mut State, piece: &[u8], fed: &mut Fed) -> u32
+    ensures fed { IsFed state.old state.new piece.now fed.new result }
+    ensures told { result ≢ 0 → fed.new ≡ fed.old }
+{
     if !state.receiver.is_receiving() {
         return Code::NoSession as u32;
     }

@@ -4,6 +4,8 @@
 //! library's contracts alone.
 #![tactic(auto)]
 
+#[cfg(test)]
+mod byte_tests;
 pub mod chunks;
 #[cfg(test)]
 mod drawn_tests;

@@ -138,7 +138,7 @@ impl<'a> Session<'a> {
                 let fed = session.feed(chunk)?;
                 (fed.consumed, Status::Dcs(fed.status))
             }
-            Self::Receiver(receiver) => return receiver.feed(chunk),
+            Self::Receiver(receiver) => return receive(receiver, chunk),
         };
         Ok(Received { consumed, status })
     }
@@ -174,4 +174,14 @@ impl<'a> Session<'a> {
             Self::Receiver(receiver) => receiver.abort(),
         }
     }
+}
+
+/// Feeds a chunk to a receiver: a byte that cannot fail by the call for it.
+fn receive(receiver: &mut SixelReceiver, chunk: &[u8]) -> icy_sixel::Result<Received> {
+    if chunk.len() == 1
+        && let Some(received) = receiver.try_byte(chunk[0])
+    {
+        return Ok(received);
+    }
+    receiver.feed(chunk)
 }

@@ -1,11 +1,11 @@
-use Rattle.std.proofs.Common.{◌≡◌, ℕ, Option, None, Some, true, false, arith, length, subst, refl}
+use Rattle.std.proofs.Common.{◌≡◌, true, false, arith, length, subst, refl}
 use Rattle.std.proofs.Common.{sym, ◌∙◌}
 use Rattle.std.specs.Prelude.{IsSomeAnd}
-use Rattle.sixel_base.specs.CallFault.{CallFault, IsCallFault}
-use Rattle.sixel_base.specs.Fault.{Fault, IsFault}
+use Rattle.sixel_base.specs.CallFault.{IsCallFault}
+use Rattle.sixel_base.specs.Fault.{IsFault}
 use Rattle.icy_sixel.specs.FinalRows.{image_fault, into_fault}
 use Rattle.icy_sixel.specs.Receiver.{is_open}
-use Rattle.icysixel.proofs.EndedImages.{Fails, at_none, at_some, code_closed, fault_closed}
+use Rattle.icysixel.proofs.EndedImages.{at_none, at_some, code_closed, fault_closed}
 use Rattle.icysixel.proofs.EndedImages.{known_closed, none_open}
 use Rattle.icysixel.proofs.RowsCodes.{AreCodes, into_code, needed_len}
 use Rattle.icysixel.proofs.final_rows.finish_into.Goals as goal

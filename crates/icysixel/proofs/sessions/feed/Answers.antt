@@ -1,42 +1,41 @@
-use Rattle.std.proofs.Common.{arith}
-use Rattle.icysixel.proofs.Known.{received_known}
+use Rattle.std.proofs.Common.{rules, refl, subst, ◌≡◌, ◌∙◌, ◌*◌, length}
+use Rattle.std.proofs.Math.Nat.{ℕ_set}
+use Rattle.std.specs.Prelude.{Option}
+use Rattle.std.specs.Option.{ForSome}
+use Rattle.icy_sixel.specs.Receiver.{Receiver}
+use Rattle.icy_sixel.specs.declared.sixel_image.SixelImage.{SixelImage}
+use Rattle.icysixel.specs.Feed.{IsFed}
+use Rattle.icysixel.specs.declared.state.State.{State}
 use Rattle.icysixel.proofs.sessions.feed.Goals as goal
+use Rattle.icysixel.proofs.sessions.feed.Goals.{else-piece-eq1-via-else-piece-eq1}
+use Rattle.icysixel.proofs.sessions.feed.Goals.{else-piece-eq1-via-then-piece-eq1+in-None-1}
 
-pub returns-then-not-is_receiving : goal.returns-then-not-is_receiving
-returns-then-not-is_receiving c = grind arith
+-- the stored image has all its pixels
+abbrev IsWhole : Option SixelImage → Type 0
+IsWhole image = ForSome image (λ i. length i.pixels.items ≡ 4 * (i.width * i.height))
 
-pub returns-in-Ok : goal.returns-in-Ok
-returns-in-Ok c = grind arith
+one_proof : (image : Option SixelImage) → (p q : IsWhole image) → p ≡ q
+one_proof image p q = hlevel ℕ_set
 
-pub code_of-requires : goal.code_of-requires
-code_of-requires c = received_known c.in-Err.error _ _ _ _ c.in-Err.ensures.fed.error
+-- the state with the receiver that it has
+same_state : (state : State) (receiver : Receiver) (whole : IsWhole state.image) →
+    receiver ≡ state.receiver →
+    (record {
+      receiver = receiver;
+      image = state.image;
+      text = state.text;
+      whole = whole;
+    }) ≡ state
+same_state state receiver whole is = rw (is, one_proof state.image whole state.whole) refl
 
-pub returns-in-Err-clause-fed : goal.returns-in-Err-clause-fed
-returns-in-Err-clause-fed c =
-    let told = c.code_of.ensures.told in
-    let read = c.feed.ensures.fed in
-    record {
-      closed = grind arith;
-      unchanged = grind arith;
-      decoder = grind arith;
-      kept = grind arith;
-      form = grind arith;
-      start = grind arith;
-      bytes = grind arith;
-      accepted = grind arith;
-      faultless = grind arith;
-      consumed = grind arith;
-      within = grind arith;
-      status = grind arith;
-      byte = grind arith;
-      over = grind arith;
-      over_for_good = grind arith;
-      sound = grind arith;
-      failed = grind arith;
-      refused = grind arith;
-      refused_for_good = λ settings more form accepted error.
-          told _ _ (read.refused_for_good settings c.in-Err.error more form c.in-Err.is accepted);
-      string_refused_for_good = λ more form accepted error.
-          told _ _ (read.string_refused_for_good c.in-Err.error more form c.in-Err.is accepted);
-      again = grind arith;
-    }
+pub returns-2-clause-fed : goal.returns-2-clause-fed
+returns-2-clause-fed c =
+    let old = c.args.state.now in
+    let same : c.else-piece-eq1.state ≡ old = elim c.else-piece-eq1.branch [
+      | else-piece-eq1-via-else-piece-eq1 w ↦ w.state-is
+      | else-piece-eq1-via-then-piece-eq1+in-None-1 w ↦
+          w.state-is
+          ∙ same_state old w.try_byte.new.self _ (w.try_byte.ensures.left (search rules))
+    ] in
+    subst (λ (s : State). IsFed s c.feed_chunk.new.state c.args.piece.now c.feed_chunk.new.fed
+    c.feed_chunk.result) same c.feed_chunk.ensures.fed

@@ -7,7 +7,7 @@ use Rattle.sixel_decoder.proofs.Sessions.{same_string}
 use Rattle.icy_sixel.specs.Receiver.{Form, OfString}
 use Rattle.icy_sixel.specs.declared.receiver.Received.{Received}
 use Rattle.icy_sixel.specs.inside.Receiving.{reception_of}
-use Rattle.icy_sixel.proofs.receiver.SixelReceiver.read_chunk.Goals as goal
+use Rattle.icy_sixel.proofs.receiver.SixelReceiver.feed.Goals as goal
 
 -- no bytes that follow the end change what a DCS sequence means
 same_for_good : (result : Result Received SixelError) (form : Form) (limit : Limit)

@@ -1,0 +1,42 @@
+use Rattle.std.proofs.Common.{arith}
+use Rattle.icysixel.proofs.Known.{received_known}
+use Rattle.icysixel.proofs.sessions.feed_chunk.Goals as goal
+
+pub returns-then-not-is_receiving : goal.returns-then-not-is_receiving
+returns-then-not-is_receiving c = grind arith
+
+pub returns-in-Ok : goal.returns-in-Ok
+returns-in-Ok c = grind arith
+
+pub code_of-requires : goal.code_of-requires
+code_of-requires c = received_known c.in-Err.error _ _ _ _ c.in-Err.ensures.fed.error
+
+pub returns-in-Err-clause-fed : goal.returns-in-Err-clause-fed
+returns-in-Err-clause-fed c =
+    let told = c.code_of.ensures.told in
+    let read = c.feed.ensures.fed in
+    record {
+      closed = grind arith;
+      unchanged = grind arith;
+      decoder = grind arith;
+      kept = grind arith;
+      form = grind arith;
+      start = grind arith;
+      bytes = grind arith;
+      accepted = grind arith;
+      faultless = grind arith;
+      consumed = grind arith;
+      within = grind arith;
+      status = grind arith;
+      byte = grind arith;
+      over = grind arith;
+      over_for_good = grind arith;
+      sound = grind arith;
+      failed = grind arith;
+      refused = grind arith;
+      refused_for_good = λ settings more form accepted error.
+          told _ _ (read.refused_for_good settings c.in-Err.error more form c.in-Err.is accepted);
+      string_refused_for_good = λ more form accepted error.
+          told _ _ (read.string_refused_for_good c.in-Err.error more form c.in-Err.is accepted);
+      again = grind arith;
+    }
