@@ -44,9 +44,25 @@ pub fn write_strings<O: Write>(
         (O.contents output.old) (O.contents output.new) }
 {
     let mut receiver = SixelReceiver::new();
+    write_each(alloc, &mut receiver, piece_len, bytes, output)
+}
+
+/// Writes the image of each DCS sequence that a new receiver reads.
+fn write_each<O: Write>(
+    alloc: Global,
+    receiver: &mut SixelReceiver,
+    piece_len: usize,
+    bytes: &[u8],
+    output: &mut O,
+) -> Result<(), Fault>
+    requires pieces { 0 < piece_len }
+    requires fresh { receiver.old.decoder ≡ new_decoder }
+    ensures { Serves result (AreAnswered new_decoder bytes.now)
+        (O.contents output.old) (O.contents output.new) }
+{
     let mut rest = bytes;
     'strings: while !rest.is_empty() {
-        rest = write_string(alloc, &mut receiver, piece_len, rest, output)?;
+        rest = write_string(alloc, receiver, piece_len, rest, output)?;
     }
     Ok(())
 }

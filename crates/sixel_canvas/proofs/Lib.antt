@@ -20,3 +20,5 @@ pub mod Spans
 pub mod StruckRows
 pub mod TaggedRows
 pub mod Totals
+
+mod RelaidRows

@@ -1,7 +1,7 @@
 //! The rows of sixels of one band, for all palette entries or for a part of them.
 
 ghost use Rattle.std.specs.Prelude.{◌≡◌, ◌≢◌, ℕ, ◌+◌, ◌*◌, ◌^◌, ◌<◌, ◌≤◌, ◌++◌, IfOk, OnOk};
-ghost use Rattle.std.specs.Prelude.{string_bytes, true, false, length, slice_index};
+ghost use Rattle.std.specs.Prelude.{string_bytes, true, false, length, slice_index, All};
 ghost use Rattle.sixel_base.specs.Limits.{side_limit};
 ghost use Rattle.sixel_base.specs.Picture.{joined};
 ghost use Rattle.sixel_encoder.specs.Text.{sixel_of, row_text, band_text};
@@ -148,16 +148,25 @@ impl BandRows {
             → cell self.new.rows.items self.old.width e x
             ≡ cell self.old.rows.items self.old.width e x) }
     {
-        let entry = self.first + row;
         let start = row * self.width;
-        let sixels = &mut self.rows[start..start + self.width];
-        text.push('#')?;
-        push_number(text, entry)?;
-        push_row(text, sixels)?;
-        text.push('$')?;
-        sixels.fill(0);
+        let end = start + self.width;
+        push_sixels(text, self.first + row, &self.rows[start..end])?;
+        self.rows[start..end].fill(0);
         Ok(())
     }
+}
+
+/// Appends an entry and the sixels of its row.
+fn push_sixels(text: &mut String, entry: usize, sixels: &[u8]) -> Result<(), AllocError>
+    requires number { entry < 512 }
+    requires below { All (λ bits. bits < 64) sixels.now }
+    ensures { OnOk result (string_bytes text.new ≡ string_bytes text.old
+        ++ row_text entry sixels.now) }
+{
+    text.push('#')?;
+    push_number(text, entry)?;
+    push_row(text, sixels)?;
+    text.push('$')
 }
 
 /// A line of a band: its first pixel, and the weight of its bit in a sixel.

@@ -1,6 +1,7 @@
-use Rattle.std.proofs.Common.{◌≡◌, ◌+◌, ◌-◌, ◌*◌, ◌≤◌, ◌<◌, min, take, drop, ap, ◌∙◌, arith}
+use Rattle.std.proofs.Common.{refl, ◌≡◌, ◌+◌, ◌-◌, ◌*◌, ◌≤◌, ◌<◌, min, take, drop, ap, ◌∙◌, arith}
 use Rattle.sixel_canvas.specs.inside.FinalRows.{RowsState}
 use Rattle.sixel_canvas.proofs.MovedRows.{moved_within}
+use Rattle.sixel_canvas.proofs.RelaidRows.{relaid, relaid_all}
 use Rattle.sixel_canvas.proofs.RowBytes.{part_len_is, row_copied, row_len}
 use Rattle.sixel_canvas.proofs.final_rows.FinalRows.lay_out.Goals as goal
 
@@ -36,3 +37,31 @@ returns-clause-moved_within c = λ doubled.
     let width = ap (λ (r : RowsState). r.width) c.self.view_is in
     rw (← c.self.view_is, c.saturating_add-self-inside.ensures)
     (moved_within all.moved all.rows all.width c.args.width (omega (arith, width, doubled)))
+
+pub returns-clause-shown : goal.returns-clause-shown
+returns-clause-shown c = λ column row inside.
+    let old = c.self.inside in
+    rw (← c.self.view_is)
+    (relaid c.copied.bytes.items old.bytes.items old.background c.args.width old.width old.rows
+    c.copied.row (omega arith) c.copied.invariant.2 column row inside)
+
+pub returns-clause-all : goal.returns-clause-all
+returns-clause-all c = λ wider column row.
+    let old = c.self.inside in
+    let held : old.width ≤ c.args.width =
+    omega (arith, wider, ap (λ (r : RowsState). r.width) c.self.view_is) in
+    rw (← c.self.view_is)
+    (relaid_all c.copied.bytes.items old.bytes.items old.background c.args.width old.width old.rows
+    c.copied.row held (omega arith) c.copied.invariant.2 column row)
+
+pub returns-clause-width : goal.returns-clause-width
+returns-clause-width c = refl
+
+pub returns-clause-rows : goal.returns-clause-rows
+returns-clause-rows c = ap (λ (r : RowsState). r.rows) c.self.view_is
+
+pub returns-clause-background : goal.returns-clause-background
+returns-clause-background c = ap (λ (r : RowsState). r.background) c.self.view_is
+
+pub returns-clause-moved : goal.returns-clause-moved
+returns-clause-moved c = rw (← c.self.view_is) c.saturating_add-self-inside.ensures

@@ -1,22 +1,33 @@
-use Rattle.std.proofs.Common.{◌≡◌, ◌≤◌, ◌+◌, ◌-◌, ◌*◌, length, refl, ap, ◌∙◌, take, drop, arith}
+use Rattle.std.proofs.Common.{◌≡◌, ◌≤◌, ◌<◌, ◌+◌, ◌-◌, ◌*◌, length, refl, ap, ◌∙◌, take, drop, arith}
 use borrow.Rule.Slice.PartMut.{put_mid}
-use Rattle.std.proofs.lemmas.Grind.{common_steps}
 use Rattle.std.proofs.lemmas.List.{with_items_is}
 use Rattle.sixel_encoder.specs.inside.Grid.{cell, grid_row}
-use Rattle.sixel_encoder.proofs.RowParts.{part-row, length-part, length-put, cell-put_own}
+use Rattle.sixel_encoder.proofs.RowParts.{part-row, All-grid_row, length-part, length-put, cell-put_own}
 use Rattle.sixel_encoder.proofs.RowParts.{cell-put_other}
 use Rattle.sixel_encoder.proofs.band.BandRows.push_entry.Goals as goal
+
+pub push_sixels-requires-clause-below : goal.push_sixels-requires-clause-below
+push_sixels-requires-clause-below c =
+    let rows = c.args.self.now in
+    let start = c.args.row * rows.width in
+    let size = start + rows.width - start in
+    let row : take size (drop start c.deref.result.now)
+    ≡ grid_row rows.rows.items rows.width c.args.row =
+    ap (λ xs. take size (drop start xs)) c.deref.ensures.value
+    ∙ part-row rows.rows.items rows.width c.args.row size (omega arith) c.requires.within in
+    rw row
+    (All-grid_row (λ bits. bits < 64) rows.rows.items rows.width c.args.row c.requires.below)
 
 pub returns-clause-text : goal.returns-clause-text
 returns-clause-text c =
     let rows = c.args.self.now in
     let start = c.args.row * rows.width in
     let size = start + rows.width - start in
-    let row : take size (drop start c.deref_mut.result.now)
+    let row : take size (drop start c.deref.result.now)
     ≡ grid_row rows.rows.items rows.width c.args.row =
-    ap (λ xs. take size (drop start xs)) c.deref_mut.ensures.value
+    ap (λ xs. take size (drop start xs)) c.deref.ensures.value
     ∙ part-row rows.rows.items rows.width c.args.row size (omega arith) c.requires.within in
-    rw (← row) (grind (arith, common_steps))
+    rw (← row) c.in_ok-push_sixels.ensures
 
 pub returns-clause-blank : goal.returns-clause-blank
 returns-clause-blank c = λ x lx.
