@@ -20,5 +20,4 @@ pub mod Spans
 pub mod StruckRows
 pub mod TaggedRows
 pub mod Totals
-
 mod RelaidRows
