@@ -1,9 +1,11 @@
 # Builds, tests and installs the programs `sixel` and `sixel_filter` and the library for C.
-# `rt` proves and compiles each crate.
+# `rt` proves each crate once, and compiles it over that proof.
 #
 #   make              builds both programs, and in out/ the library for C
 #   make check        proves and tests everything
 #   make test         runs the test suite over what is built
+#   make mutants      tries all mutants, before a release
+#   make verdict      proves everything anew by `rt ci`, before a release
 #   make bench        times the program and the library
 #   make install      copies all to DESTDIR/PREFIX; PREFIX is /usr/local by default
 #   make uninstall    removes what `make install` has copied
@@ -19,9 +21,10 @@ crate = crates/icysixel
 header = $(crate)/include/icysixel.h
 hooks = $(crate)/memory/icysixel_memory.c
 program = crates/sixel/out/sixel crates/sixel_filter/out/sixel_filter
-# The programs that tests run; `rt ci` alone runs sixel_vectors.
-programs = $(foreach name,$(filter-out sixel_vectors,$(patsubst crates/%/src/main.rt,%,\
-	$(wildcard crates/*/src/main.rt))),crates/$(name)/out/$(name))
+programs = $(foreach path,$(wildcard crates/*/src/main.rt),$(path:%/src/main.rt=%/out/)$(word 2,\
+	$(subst /, ,$(path))))
+vectors = crates/sixel_vectors/out/sixel_vectors
+vectors_by_rattle = $(vectors).by-rattle
 archive = $(crate)/out/libicysixel.a
 archive_by_rattle = $(crate)/out/libicysixel.by-rattle.a
 # The shared library has a folder of its own, so that `-L out -licysixel` links the archive.
@@ -49,10 +52,19 @@ lib: out/libicysixel.a $(shared) out/icysixel.h out/icysixel.pc
 check:
 	./check
 
-built: $(programs) lib
+built: out/proved $(programs) lib
+
+# Runs the tests inside the crates.
+unit: $(foreach path,$(shell grep -lr '^ *\#\[test\]' crates/*/src),out/unit.$(word 2,$(subst /, ,$(path))))
 
 test: built
 	python3 tests
+
+mutants: built
+	scripts/mutants
+
+verdict:
+	rt ci
 
 bench: all
 	python3 bench
@@ -76,7 +88,8 @@ uninstall:
 clean:
 	rm -rf out crates/*/out
 
-.PHONY: all program lib check built test bench install install-program install-lib uninstall clean
+.PHONY: all program lib check built unit test mutants verdict bench install install-program install-lib \
+	uninstall clean
 
 # A part of the description of a file.
 part = $(word $1,$(subst :, ,$(file)))
@@ -92,12 +105,15 @@ copy = $(foreach file,$1,$(copied))
 describe = sed 's|@prefix@|$1|; s|@lib@|$2|; s|@include@|$3|; s|@version@|$(version)|' \
 	$(crate)/icysixel.pc.in
 
-# The crates below a crate and the crate itself, as crates.txt lists them, and the sources of all.
-below = $(foreach name,$(shell sed -n 's/^$1\( [^:]*\)*://p' crates.txt),\
-	$(if $(wildcard crates/$(name)),$(call below,$(name)))) $1
-unique = $(if $1,$(firstword $1) $(call unique,$(filter-out $(firstword $1),$1)))
-sources = crates.txt $(wildcard out/cpu) $(shell find $(wildcard $(foreach name,\
-	$(call unique,$(call below,$1)),$(foreach folder,src specs proofs,crates/$(name)/$(folder)))))
+# The crates of crates.txt, lowest first, and those that a crate uses.
+crates := $(shell sed -n 's/^\([a-z_]*\).*:.*/\1/p' crates.txt)
+used = $(filter $(crates),$(shell sed -n 's/^$1\( [^:]*\)*://p' crates.txt))
+libraries := $(filter $(foreach name,$(crates),$(call used,$(name))),$(crates))
+
+# The proofs that a crate builds on, and the files of a crate.
+proofs = $(foreach name,$(call used,$1),crates/$(name)/out/proved)
+sources = crates.txt $(wildcard out/cpu) $(shell find $(wildcard $(foreach folder,src specs proofs,\
+	crates/$1/$(folder))))
 
 # The processor that was chosen last, if one was. out/cpu counts as a source of each build. A run
 # with -n does not write it.
@@ -109,20 +125,25 @@ endif
 cpu = $(addprefix --cpu ,$(or $(CPU),$(chosen)))
 
 # What is built is as old as its start, because a source may change meanwhile.
-start = mkdir -p out && touch out/start.$(@F)
-end = touch -r out/start.$(@F) $@
+begun = out/begun.$(subst /,.,$@)
+start = @mkdir -p out $(@D) && touch $(begun)
+end = @touch -r $(begun) $@
 
 # Reports in one line what to do.
 stop = { echo '$1' >&2; exit 3; }
 has = command -v $1 >/dev/null || $(call stop,$1 is missing: $2)
 
-# Runs `rt` in the folder of a crate. A terminal sees which crate is being proved.
-is_terminal := $(shell test -t 2 && echo yes)
+# Reports which crate is proved, of how many: all, or those up to the program that is asked for.
+place = $(shell grep -v '^\#' crates.txt | grep -n '^$1[ :]' | cut -d: -f1)
+goal = $(filter $(crates),$(notdir $(MAKECMDGOALS)))
+report = @echo '$1 $2, crate $(call place,$2) of $(or $(call place,$(goal)),$(words $(crates)))'
+
+# Runs `rt` in a folder, with its output in a file of out/. An error shows the end of that file.
+jobs := $(or $(filter 1 2 3,$(shell nproc)),4)
 define rt
-$(call has,rt,put the bin folder of the Rattle kit in PATH)
-$(if $(is_terminal),{ (cd $1 && PYTHONUNBUFFERED=1 rt $2 2>&1) || echo 'rt: failed'; } \
-	| awk -v names='$(call unique,$(call below,$(notdir $1)))' -f scripts/progress.awk >&2, \
-	(cd $1 && rt $2 $3)) || { test $$(df -Pk . | awk 'NR == 2 {print $$4}') -gt 1000000 && exit 3; \
+@$(call has,rt,put the bin folder of the Rattle kit in PATH)
+@(cd $1 && rt $2) >$(begun).log 2>&1 </dev/null || { tail -n 40 $(begun).log >&2; \
+	test $$(df -Pk . | awk 'NR == 2 {print $$4}') -gt 1000000 && exit 3; \
 	$(call stop,less than 1 GB of disk is free: free 3 GB and run make again); }
 endef
 
@@ -134,22 +155,55 @@ cc = $(call has,$(firstword $(CC)),install a C compiler or set CC); \
 
 .SECONDEXPANSION:
 
-# `rt run` proves, compiles and runs a program.
-$(programs): $$(call sources,$$(@F))
+# Proves and builds a library.
+$(libraries:%=crates/%/out/proved): crates/%/out/proved: $$(call sources,$$*) $$(call proofs,$$*)
+	$(call report,proving,$*)
 	$(start)
-	$(call rt,crates/$(@F),run $(cpu) -- $$(cat args 2>&-) </dev/null,>/dev/null)
+	$(call rt,crates/$*,lib --jobs $(jobs))
+	$(end)
+
+# Proves the other crates, side by side.
+out/proved: $$(foreach name,$$(crates),$$(call sources,$$(name))) $(libraries:%=crates/%/out/proved)
+	@echo 'proving $(filter-out $(libraries),$(crates)), side by side'
+	$(start)
+	$(call rt,.,all check --jobs $(jobs))
+	$(end)
+
+# `rt run` proves, compiles and runs a program. Its arguments are its data, or those in the file args.
+run = run --jobs $(jobs) $(cpu) $1 -- $$(ls -d data 2>/dev/null || cat args 2>/dev/null)
+$(programs): $$(call sources,$$(@F)) $$(call proofs,$$(@F))
+	$(call report,building,$(@F))
+	$(start)
+	$(call rt,crates/$(@F),$(run))
+	$(end)
+
+# Rattle's own compiler writes the program to the same file as LLVM.
+$(vectors_by_rattle): $$(call sources,sixel_vectors) $$(call proofs,sixel_vectors)
+	$(start)
+	$(call rt,crates/sixel_vectors,$(call run,--backend rattle))
+	@mv $(vectors) $@
+	$(end)
+
+$(vectors): $(vectors_by_rattle)
+
+# Runs the tests inside a crate.
+out/unit.%: $$(call sources,$$*) $$(call proofs,$$*)
+	$(call report,testing,$*)
+	$(start)
+	$(call rt,crates/$*,test --jobs $(jobs))
 	$(end)
 
 # `rt lib` writes either archive to the same file.
-$(archive_by_rattle): $$(call sources,icysixel)
+$(archive_by_rattle): $$(call sources,icysixel) $$(call proofs,icysixel)
+	$(call report,building,icysixel)
 	$(start)
-	$(call rt,$(crate),lib $(cpu) --backend rattle,>&2)
-	mv $(archive) $@
+	$(call rt,$(crate),lib --jobs $(jobs) $(cpu) --backend rattle)
+	@mv $(archive) $@
 	$(end)
 
 $(archive): $(archive_by_rattle)
 	$(start)
-	$(call rt,$(crate),lib $(cpu),>&2)
+	$(call rt,$(crate),lib --jobs $(jobs) $(cpu))
 	$(end)
 
 out/icysixel_memory.o: $(hooks)
