@@ -20,8 +20,9 @@
  * signal handler.
  *
  * Memory. The library allocates by rattle_alloc, rattle_realloc and rattle_dealloc. The archive
- * defines these as weak symbols that call malloc, realloc and free. A program can define its own.
- * If an allocation fails, the call returns ICYSIXEL_OUT_OF_MEMORY. No function aborts the process.
+ * defines these as weak symbols that call malloc, realloc and free. A program can define its own:
+ * icysixel(3) shows them. If an allocation fails, the call returns ICYSIXEL_OUT_OF_MEMORY. No
+ * function aborts the process.
  *
  * Sizes are in bytes unless a comment names another unit. A pixel is four bytes: red, green, blue
  * and alpha. Pixels are stored row by row from the top, and each row from the left. A stride is the
@@ -289,7 +290,8 @@ uint32_t icysixel_finish_into(icysixel *handle, size_t first, const icysixel_lay
  * The decoder takes over the image's registers. The errors are those of icysixel_feed, and
  * ICYSIXEL_INCOMPLETE for a DCS sequence without terminator. A payload can end anywhere. An error
  * closes the image too. Then no image is stored and no register changes. ICYSIXEL_ROWS_RELEASED
- * stores no image either, but leaves the image open: end it by icysixel_finish_into. */
+ * stores no image either, but leaves the image open: end it by icysixel_finish_into. It is reported
+ * before ICYSIXEL_INCOMPLETE. */
 uint32_t icysixel_finish(icysixel *handle, icysixel_shape *shape);
 
 /* Opens a payload as icysixel_begin_payload does, but a fault leaves the picture before it. After
@@ -483,8 +485,8 @@ uint32_t icysixel_copy_text(icysixel *handle, uint8_t *buf, size_t size, size_t 
  * The capacities are in colors, and in bytes for the indices. The errors are
  * ICYSIXEL_BUFFER_MISMATCH if `length` is no multiple of four, ICYSIXEL_OUT_OF_MEMORY, and
  * ICYSIXEL_BUFFER_TOO_SMALL. A buffer is too small if `colors` has fewer than max_colors,
- * `witnesses` fewer than max_colors + 1, or `indices` fewer than one byte for each pixel. What the
- * palette does not fill is unchanged. */
+ * `witnesses` fewer than max_colors + 1, or `indices` fewer than one byte for each pixel. Here a
+ * max_colors of 0 or 1 counts as 2. What the palette does not fill is unchanged. */
 uint32_t icysixel_choose_palette(const uint8_t *pixels, size_t length, uint16_t max_colors,
                                  icysixel_color *colors, size_t color_capacity,
                                  icysixel_color *witnesses, size_t witness_capacity,
