@@ -11,7 +11,7 @@ use Rattle.sixel_base.specs.Fields.{field}
 use Rattle.sixel_base.specs.History.{Color, History, Newline, Raster, Repeat, Return, Sixel, Skip}
 use Rattle.sixel_base.specs.History.{Token}
 use Rattle.sixel_base.specs.Clip.{clipped_height, clipped_width}
-use Rattle.sixel_base.specs.Limits.{Limit}
+use Rattle.sixel_base.specs.Limits.{repeat_limit, Limit}
 use Rattle.sixel_base.specs.Payload.{extent_fault, fault_of, first_fault}
 use Rattle.sixel_base.specs.Place.{across, down, height, span, width}
 use Rattle.sixel_encoder.specs.RunTokens.{Many, One, RunToken, sixels}
@@ -81,14 +81,14 @@ Fits-sixel limit w h bits history small right lower fits =
     }
 
 -- a repeat that can be written is no fault
-repeat-sound : (limit : Limit) (count : ℕ) (history : History) → count ≤ 65535
+repeat-sound : (limit : Limit) (count : ℕ) (history : History) → count ≤ repeat_limit
     → fault_of limit (Repeat (decimal count)) history ≡ None
 repeat-sound limit count history high =
     let named = field-decimal count high in
     grind (arith, nat_tests)
 
 -- a repeat changes no size
-Fits-repeat : (limit : Limit) (w h count : ℕ) (history : History) → count ≤ 65535
+Fits-repeat : (limit : Limit) (w h count : ℕ) (history : History) → count ≤ repeat_limit
     → Fits limit w h history
     → Fits limit w h (Repeat (decimal count) ∷ history)
 Fits-repeat limit w h count history high fits = record {

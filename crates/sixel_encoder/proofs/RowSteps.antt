@@ -4,6 +4,7 @@ use Rattle.std.proofs.Common.{List, [], ap, arith, cond, get_or, length, length-
 use Rattle.std.proofs.Common.{replicate, subst, sym, ℕ, ◌++◌, ◌+◌, ◌<◌, ◌∙◌, ◌∷◌, ◌≡◌, ◌≤◌}
 use Rattle.std.proofs.lemmas.Bool.{cond-false}
 use Rattle.std.proofs.lemmas.List.{length-replicate}
+use Rattle.sixel_base.specs.Limits.{repeat_limit}
 use Rattle.sixel_base.specs.Fields.{field}
 use Rattle.sixel_base.specs.History.{History, Repeat, Sixel}
 use Rattle.sixel_base.specs.Picture.{covers}
@@ -47,7 +48,7 @@ Moved-none h one = record {
 }
 
 -- the field of a repeat
-pub field-decimal : (n : ℕ) → n ≤ 65535 → field (decimal n) 0 ≡ n
+pub field-decimal : (n : ℕ) → n ≤ repeat_limit → field (decimal n) 0 ≡ n
 field-decimal n h = ap (λ ns. get_or ns 0 0) (fields-numbers n [] (omega arith) tt)
 
 -- one sixel
@@ -66,7 +67,7 @@ Moved-one bits h one = record {
 }
 
 -- a sixel that is repeated
-Moved-many : (count bits : ℕ) (h : History) → 1 ≤ count → count ≤ 65535
+Moved-many : (count bits : ℕ) (h : History) → 1 ≤ count → count ≤ repeat_limit
     → Moved (replicate count bits) h (Sixel bits ∷ Repeat (decimal count) ∷ h)
 Moved-many count bits h low high =
     let wide : span (Repeat (decimal count) ∷ h) ≡ count =

@@ -8,7 +8,8 @@ use Rattle.std.proofs.lemmas.Bool.Decides.{nat_tests}
 use Rattle.std.proofs.lemmas.Fmt.{decimal_digit, decimal_step}
 use Rattle.std.proofs.lemmas.List.{append-nil}
 use Rattle.std.proofs.lemmas.List.Concat.{flat_map-append}
-use Rattle.sixel_encoder.specs.RunTokens.{RunToken, One, Many, longest, spelling, written, cost}
+use Rattle.sixel_base.specs.Limits.{repeat_limit}
+use Rattle.sixel_encoder.specs.RunTokens.{RunToken, One, Many, spelling, written, cost}
 use Rattle.sixel_encoder.specs.RunTokens.{rest_tokens, run_tokens}
 
 -- a number from ten on has one digit more than its tenth
@@ -55,7 +56,7 @@ rest_cost n = if nat_lt 3 n then 2 + length (decimal n) else n
 
 -- the bytes of a run of equal sixels
 abbrev pub run_cost : ℕ → ℕ
-run_cost n = 7 * (n / longest) + rest_cost (n % longest)
+run_cost n = 7 * (n / repeat_limit) + rest_cost (n % repeat_limit)
 
 -- the sizes between which the bytes of a rest are constant
 data Tier (n : ℕ) : Type 0 where
@@ -172,7 +173,7 @@ rest_cost-mono k n le h =
 rest_cost-positive : (n : ℕ) → 0 < n → 0 < rest_cost n
 rest_cost-positive n h = grind (arith, nat_tests)
 
-add-positive : (m n : ℕ) → 0 < n → n ≤ m → m + n < 65535
+add-positive : (m n : ℕ) → 0 < n → n ≤ m → m + n < repeat_limit
     → rest_cost (m + n) ≤ rest_cost m + rest_cost n
 add-positive m n h le small =
     let p : 0 < rest_cost n = rest_cost-positive n h in
@@ -186,7 +187,7 @@ add-positive m n h le small =
       | tier5 l u e ↦ omega (arith, b.most5)
     ]
 
-add-below : (m n : ℕ) → n ≤ m → m + n < 65535 → rest_cost (m + n) ≤ rest_cost m + rest_cost n
+add-below : (m n : ℕ) → n ≤ m → m + n < repeat_limit → rest_cost (m + n) ≤ rest_cost m + rest_cost n
 add-below m n le small =
     elim (cases_lt 0 n) [
       | inl h ↦ add-positive m n h le small
@@ -197,7 +198,7 @@ add-below m n le small =
     ]
 
 -- two rests that make no whole run cost at least the rest that they make
-rest_cost-add : (m n : ℕ) → m + n < 65535 → rest_cost (m + n) ≤ rest_cost m + rest_cost n
+rest_cost-add : (m n : ℕ) → m + n < repeat_limit → rest_cost (m + n) ≤ rest_cost m + rest_cost n
 rest_cost-add m n small =
     elim (cases_lt m n) [
       | inl lt ↦
@@ -206,7 +207,7 @@ rest_cost-add m n small =
       | inr le ↦ add-below m n le small
     ]
 
-over-below : (m n k : ℕ) → n ≤ m → m < 65535 → m + n ≡ 65535 + k
+over-below : (m n k : ℕ) → n ≤ m → m < repeat_limit → m + n ≡ repeat_limit + k
     → 7 + rest_cost k ≤ rest_cost m + rest_cost n
 over-below m n k le small e =
     let s : rest_cost k ≤ rest_cost n = rest_cost-mono k n (omega arith) (omega arith) in
@@ -215,7 +216,7 @@ over-below m n k le small e =
     omega arith
 
 -- two rests that make a whole run cost at least that run and what is left
-rest_cost-over : (m n k : ℕ) → m < 65535 → n < 65535 → m + n ≡ 65535 + k
+rest_cost-over : (m n k : ℕ) → m < repeat_limit → n < repeat_limit → m + n ≡ repeat_limit + k
     → 7 + rest_cost k ≤ rest_cost m + rest_cost n
 rest_cost-over m n k hm hn e =
     elim (cases_lt m n) [
@@ -223,64 +224,64 @@ rest_cost-over m n k hm hn e =
       | inr le ↦ over-below m n k le hm e
     ]
 
-run_cost-is : (q r : ℕ) → r < 65535 → run_cost (65535 * q + r) ≡ 7 * q + rest_cost r
+run_cost-is : (q r : ℕ) → r < repeat_limit → run_cost (repeat_limit * q + r) ≡ 7 * q + rest_cost r
 run_cost-is q r h =
-    let d : (65535 * q + r) / 65535 ≡ q = omega arith in
-    let m : (65535 * q + r) % 65535 ≡ r = omega arith in
-    ap (λ x. 7 * x + rest_cost ((65535 * q + r) % 65535)) d ∙ ap (λ x. 7 * q + rest_cost x) m
+    let d : (repeat_limit * q + r) / repeat_limit ≡ q = omega arith in
+    let m : (repeat_limit * q + r) % repeat_limit ≡ r = omega arith in
+    ap (λ x. 7 * x + rest_cost ((repeat_limit * q + r) % repeat_limit)) d ∙ ap (λ x. 7 * q + rest_cost x) m
 
-cut-at : (p q r s : ℕ) → r < 65535 → s < 65535
-    → run_cost (65535 * p + r + (65535 * q + s)) ≤ (7 * p + rest_cost r) + (7 * q + rest_cost s)
+cut-at : (p q r s : ℕ) → r < repeat_limit → s < repeat_limit
+    → run_cost (repeat_limit * p + r + (repeat_limit * q + s)) ≤ (7 * p + rest_cost r) + (7 * q + rest_cost s)
 cut-at p q r s hr hs =
-    elim (cases_lt (r + s) 65535) [
+    elim (cases_lt (r + s) repeat_limit) [
       | inl lt ↦
-          let e : 65535 * p + r + (65535 * q + s) ≡ 65535 * (p + q) + (r + s) = omega arith in
+          let e : repeat_limit * p + r + (repeat_limit * q + s) ≡ repeat_limit * (p + q) + (r + s) = omega arith in
           omega (arith, ap run_cost e, run_cost-is (p + q) (r + s) lt, rest_cost-add r s lt)
       | inr ge ↦
-          let k : r + s ≡ 65535 + (r + s - 65535) = omega arith in
-          let e : 65535 * p + r + (65535 * q + s) ≡ 65535 * (p + q + 1) + (r + s - 65535) =
+          let k : r + s ≡ repeat_limit + (r + s - repeat_limit) = omega arith in
+          let e : repeat_limit * p + r + (repeat_limit * q + s) ≡ repeat_limit * (p + q + 1) + (r + s - repeat_limit) =
           omega arith in
           omega (
             arith,
             ap run_cost e,
-            run_cost-is (p + q + 1) (r + s - 65535) (omega arith),
-            rest_cost-over r s (r + s - 65535) hr hs k,
+            run_cost-is (p + q + 1) (r + s - repeat_limit) (omega arith),
+            rest_cost-over r s (r + s - repeat_limit) hr hs k,
           )
     ]
 
 -- cutting a run in two saves no byte
 pub run_cut : (m n : ℕ) → run_cost (m + n) ≤ run_cost m + run_cost n
 run_cut m n =
-    let em : m ≡ 65535 * (m / 65535) + m % 65535 = omega arith in
-    let en : n ≡ 65535 * (n / 65535) + n % 65535 = omega arith in
+    let em : m ≡ repeat_limit * (m / repeat_limit) + m % repeat_limit = omega arith in
+    let en : n ≡ repeat_limit * (n / repeat_limit) + n % repeat_limit = omega arith in
     let e : run_cost (m + n)
-    ≡ run_cost (65535 * (m / 65535) + m % 65535 + (65535 * (n / 65535) + n % 65535)) =
+    ≡ run_cost (repeat_limit * (m / repeat_limit) + m % repeat_limit + (repeat_limit * (n / repeat_limit) + n % repeat_limit)) =
     ap run_cost (omega arith) in
     omega
-    (arith, e, cut-at (m / 65535) (n / 65535) (m % 65535) (n % 65535) (omega arith) (omega arith))
+    (arith, e, cut-at (m / repeat_limit) (n / repeat_limit) (m % repeat_limit) (n % repeat_limit) (omega arith) (omega arith))
 
 -- a run costs at most what one token for it would
-pub run_least : (n : ℕ) → 1 ≤ n → n ≤ 65535 → run_cost n ≤ 2 + length (decimal n)
+pub run_least : (n : ℕ) → 1 ≤ n → n ≤ repeat_limit → run_cost n ≤ 2 + length (decimal n)
 run_least n low high =
-    elim (cases_lt n 65535) [
+    elim (cases_lt n repeat_limit) [
       | inl lt ↦
-          let same : n ≡ 65535 * 0 + n = omega arith in
+          let same : n ≡ repeat_limit * 0 + n = omega arith in
           let e : run_cost n ≡ rest_cost n = omega (arith, ap run_cost same, run_cost-is 0 n lt) in
           elim (cases_lt 3 n) [
             | inl many ↦ omega (arith, rest_cost-many n (omega arith))
             | inr few ↦ omega (arith, rest_cost-few n few, length-decimal1 n (omega arith))
           ]
       | inr ge ↦
-          let same : n ≡ 65535 = omega arith in
+          let same : n ≡ repeat_limit = omega arith in
           omega (arith, ap run_cost same, length-decimal5 n (omega arith) (omega arith))
     ]
 
 -- a run takes at least a byte for each of its first three sixels
 pub run_low : (n m : ℕ) → m ≤ n → m ≤ 3 → m ≤ run_cost n
 run_low n m few three =
-    elim (cases_lt n 65535) [
+    elim (cases_lt n repeat_limit) [
       | inl lt ↦
-          let same : n ≡ 65535 * 0 + n = omega arith in
+          let same : n ≡ repeat_limit * 0 + n = omega arith in
           let e : run_cost n ≡ rest_cost n = omega (arith, ap run_cost same, run_cost-is 0 n lt) in
           elim (tier n (omega arith)) [
             | tier0 u c ↦ omega arith
@@ -290,7 +291,7 @@ run_low n m few three =
             | tier4 l u c ↦ omega arith
             | tier5 l u c ↦ omega arith
           ]
-      | inr ge ↦ let one : 1 ≤ n / 65535 = omega arith in omega arith
+      | inr ge ↦ let one : 1 ≤ n / repeat_limit = omega arith in omega arith
     ]
 
 pub run_cost0 : run_cost 0 ≡ 0
@@ -328,13 +329,13 @@ cost-rest n bits =
 -- the tokens of a run have its bytes
 pub cost-run : (n bits : ℕ) → cost (run_tokens n bits) ≡ run_cost n
 cost-run n bits =
-    let seven : length (spelling (Many longest bits)) ≡ 7 =
-    omega (arith, length-many longest bits, length-decimal5 longest (omega arith) (omega arith)) in
-    let runs : cost (replicate (n / longest) (Many longest bits)) ≡ (n / longest) * 7 =
-    cost-replicate (n / longest) (Many longest bits) ∙ ap (λ x. (n / longest) * x) seven in
+    let seven : length (spelling (Many repeat_limit bits)) ≡ 7 =
+    omega (arith, length-many repeat_limit bits, length-decimal5 repeat_limit (omega arith) (omega arith)) in
+    let runs : cost (replicate (n / repeat_limit) (Many repeat_limit bits)) ≡ (n / repeat_limit) * 7 =
+    cost-replicate (n / repeat_limit) (Many repeat_limit bits) ∙ ap (λ x. (n / repeat_limit) * x) seven in
     omega (
       arith,
-      cost-append (replicate (n / longest) (Many longest bits)) (rest_tokens (n % longest) bits),
+      cost-append (replicate (n / repeat_limit) (Many repeat_limit bits)) (rest_tokens (n % repeat_limit) bits),
       runs,
-      cost-rest (n % longest) bits,
+      cost-rest (n % repeat_limit) bits,
     )

@@ -10,7 +10,8 @@ use Rattle.std.proofs.lemmas.List.{append-nil, replicate-append-replicate, repli
 use Rattle.std.proofs.lemmas.List.Concat.{flat_map-append}
 use Rattle.std.proofs.lemmas.List.Elements.{All-head, All-tail, All-cons, All-nil, All-append}
 use Rattle.std.proofs.lemmas.List.Elements.{All-replicate, All-same}
-use Rattle.sixel_encoder.specs.RunTokens.{RunToken, One, Many, longest, sixels, spelling, written}
+use Rattle.sixel_base.specs.Limits.{repeat_limit}
+use Rattle.sixel_encoder.specs.RunTokens.{RunToken, One, Many, sixels, spelling, written}
 use Rattle.sixel_encoder.specs.RunTokens.{cost, IsRunToken, Spells, IsShortest, rest_tokens}
 use Rattle.sixel_encoder.specs.RunTokens.{run_tokens, tokens_after, row_tokens}
 use Rattle.sixel_encoder.proofs.RunCost.{run_cost, run_cut, run_least, run_cost0, run_cost1}
@@ -153,7 +154,7 @@ sixels-cut n k b h =
     ∙ (replicate-append-replicate ((n / k) * k) (n % k) b ∙ ap (λ x. replicate x b) whole)))
 
 sixels-run : (n b : ℕ) → flat_map sixels (run_tokens n b) ≡ replicate n b
-sixels-run n b = sixels-cut n longest b (omega arith)
+sixels-run n b = sixels-cut n repeat_limit b (omega arith)
 
 sixels-after : (n b : ℕ) (row : List ℕ)
     → flat_map sixels (tokens_after n b row) ≡ replicate n b ++ row
@@ -173,7 +174,7 @@ sixels-after n b (c ∷ row) =
           ∙ ap (λ r. replicate n b ++ r) (sixels-after 1 c row)))
     ]
 
-All-rest_tokens : (n b : ℕ) → n < longest → All IsRunToken (rest_tokens n b)
+All-rest_tokens : (n b : ℕ) → n < repeat_limit → All IsRunToken (rest_tokens n b)
 All-rest_tokens n b h =
     (elim (nat_lt 3 n) as
     (λ t. nat_lt 3 n ≡ t → All IsRunToken (cond t (Many n b ∷ []) (replicate n (One b)))) [
@@ -185,9 +186,9 @@ All-rest_tokens n b h =
 
 All-run : (n b : ℕ) → All IsRunToken (run_tokens n b)
 All-run n b =
-    All-append IsRunToken (replicate (n / longest) (Many longest b)) (rest_tokens (n % longest) b)
-    (All-replicate IsRunToken (n / longest) (Many longest b) (omega arith, omega arith))
-    (All-rest_tokens (n % longest) b (omega arith))
+    All-append IsRunToken (replicate (n / repeat_limit) (Many repeat_limit b)) (rest_tokens (n % repeat_limit) b)
+    (All-replicate IsRunToken (n / repeat_limit) (Many repeat_limit b) (omega arith, omega arith))
+    (All-rest_tokens (n % repeat_limit) b (omega arith))
 
 All-after : (n b : ℕ) (row : List ℕ) → All IsRunToken (tokens_after n b row)
 All-after n b [] = All-run n b

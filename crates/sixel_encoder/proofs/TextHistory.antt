@@ -7,6 +7,7 @@ use Rattle.std.proofs.lemmas.Bool.Decides.{nat_tests}
 use Rattle.std.proofs.lemmas.Grind.{common_steps}
 use Rattle.std.proofs.lemmas.List.{get_or-append-add}
 use Rattle.std.proofs.lemmas.List.Elements.{All-head, All-same, All-tail}
+use Rattle.sixel_base.specs.Limits.{repeat_limit}
 use Rattle.sixel_base.specs.Bytes.{before_terminator, carrying, count, first_terminator, front}
 use Rattle.sixel_base.specs.Bytes.{is_digit, is_ignored, is_parameter, is_terminator}
 use Rattle.sixel_base.specs.Dcs.{after_terminator}
@@ -35,7 +36,7 @@ use Rattle.sixel_encoder.proofs.Tokens.{with_run_token, with_run_tokens}
 -- a run-length token of six bits whose count can be written
 abbrev pub IsSound : RunToken → Type 0
 IsSound (One bits) = bits < 64
-IsSound (Many count bits) = (bits < 64) × (1 ≤ count) × (count ≤ 65535)
+IsSound (Many count bits) = (bits < 64) × (1 ≤ count) × (count ≤ repeat_limit)
 
 -- each of the run-length tokens is so
 abbrev pub AreSound : List RunToken → Type 0

@@ -1,17 +1,14 @@
 -- A row of sixels as run-length tokens: a token is one sixel, or a repeat introducer with a count
--- and a sixel, as in DEC's sixel data. Two rules are this library's own: a count is at most 65535,
--- and one of the shortest spellings is chosen.
+-- and a sixel, as in DEC's sixel data. Two rules are this library's own: a count is at most
+-- `repeat_limit`, and one of the shortest spellings is chosen.
 use Rattle.std.specs.Prelude.{◌≡◌, ℕ, ◌+◌, ◌/◌, ◌%◌, ◌≤◌, ◌==◌, nat_lt, if◌then◌else◌, List, []}
 use Rattle.std.specs.Prelude.{◌∷◌, ◌++◌, length, replicate, flat_map, All, decimal}
+use Rattle.sixel_base.specs.Limits.{repeat_limit}
 
 -- one sixel by its six bits, or a count of equal sixels
 pub data RunToken : Type 0 where
   One : ℕ → RunToken
   Many : ℕ → ℕ → RunToken
-
--- the greatest count
-abbrev pub longest : ℕ
-longest = 65535
 
 -- the sixels of a token
 unfoldable pub sixels : RunToken → List ℕ
@@ -34,7 +31,7 @@ cost tokens = length (written tokens)
 -- a count is from 1 to the greatest
 abbrev pub IsRunToken : RunToken → Type 0
 IsRunToken (One bits) = Unit {0}
-IsRunToken (Many count bits) = (1 ≤ count) × (count ≤ longest)
+IsRunToken (Many count bits) = (1 ≤ count) × (count ≤ repeat_limit)
 
 -- the tokens, written out, are the row
 pub record Spells (tokens : List RunToken) (row : List ℕ) : Type 0 where
@@ -52,7 +49,7 @@ rest_tokens count bits = if nat_lt 3 count then Many count bits ∷ [] else repl
 -- a run of equal sixels: repeats of the greatest count from the left, then the rest
 abbrev pub run_tokens : ℕ → ℕ → List RunToken
 run_tokens count bits =
-    replicate (count / longest) (Many longest bits) ++ rest_tokens (count % longest) bits
+    replicate (count / repeat_limit) (Many repeat_limit bits) ++ rest_tokens (count % repeat_limit) bits
 
 -- the tokens of a run so far and of the row after it
 abbrev pub tokens_after : ℕ → ℕ → List ℕ → List RunToken

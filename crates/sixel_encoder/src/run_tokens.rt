@@ -6,10 +6,11 @@ ghost use Rattle.sixel_encoder.specs.RunTokens.{run_tokens, rest_tokens, row_tok
 
 use crate::decimal::push_number;
 use crate::runs::run_from;
+use sixel_base::limits::MAX_REPEAT;
 use std::alloc::AllocError;
 
 /// The greatest count of a repeat introducer.
-const LONGEST: usize = 65535;
+const LONGEST: usize = MAX_REPEAT as usize;
 
 /// Appends a row of sixels, each given by its six bits, in the fewest bytes.
 #[inline(never)]
