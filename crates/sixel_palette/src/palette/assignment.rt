@@ -1,9 +1,11 @@
 //! The nearest entry of each color: the assignment step of Lloyd's algorithm.
 
-ghost use Rattle.std.specs.Prelude.{◌≡◌, ◌+◌, ◌*◌, ◌<◌, ◌≤◌, ℕ, List, map, length, All, IfOk};
+ghost use Rattle.std.specs.Prelude.{◌≡◌, ◌+◌, ◌*◌, ◌<◌, ◌≤◌, ℕ, List, map, length, All, IfOk, OnOk};
 ghost use Rattle.sixel_palette.specs.inside.PaletteCodes.{AreColorCodes, code_count};
 ghost use Rattle.sixel_palette.specs.inside.PaletteCounts.{dot, counted_error};
 ghost use Rattle.sixel_palette.specs.inside.PaletteAssignment.{IsAssignment, IsWeighed};
+ghost use Rattle.sixel_palette.specs.inside.PaletteKeys.{AreNumbered, IsSearch};
+ghost use Rattle.sixel_palette.specs.inside.PaletteNearest.{AreNearest};
 ghost use Rattle.sixel_palette.specs.inside.PaletteTraversal.{IsTraversal, HasRelaxed};
 
 use crate::palette::cubes::{CUBES, Search};
@@ -73,16 +75,37 @@ fn searched(alloc: Global, codes: &[u32], colors: &[[u8; 3]]) -> Result<Traversa
     ensures whole { IfOk result (IsTraversal codes.now) }
     ensures relaxed { IfOk result (HasRelaxed colors.now codes.now) }
 {
-    let mut search = Search::new(alloc, colors)?;
     let mut squares = Vec::with_capacity(alloc, codes.len())?;
     let mut indices = Vec::with_capacity(alloc, codes.len())?;
+    let mut search = Search::new(alloc, colors)?;
+    push_nearest(&mut search, codes, &mut squares, &mut indices)?;
+    let traversal = Traversal::of(alloc, codes, squares, indices)?;
+    Ok(traversal)
+}
+
+/// Appends the squared distance and the palette index of each color's nearest entry.
+fn push_nearest(
+    search: &mut Search,
+    codes: &[u32],
+    squares: &mut Vec<u32>,
+    indices: &mut Vec<u8>,
+) -> Result<(), AllocError>
+    requires small { AreColorCodes codes.now }
+    requires search { IsSearch search.old }
+    requires no_squares { length squares.old.items ≡ 0 }
+    requires no_indices { length indices.old.items ≡ 0 }
+    ensures squares { OnOk result (length squares.new.items ≡ length codes.now) }
+    ensures indices { OnOk result (length indices.new.items ≡ length codes.now) }
+    ensures nearest { OnOk result ((colors : List (List ℕ))
+        → AreNumbered colors search.old.entries.items
+        → AreNearest colors codes.now squares.new.items indices.new.items) }
+{
     for code in codes {
         let near = search.nearest(*code)?;
         squares.push(near.squared)?;
         indices.push(near.index)?;
     }
-    let traversal = Traversal::of(alloc, codes, squares, indices)?;
-    Ok(traversal)
+    Ok(())
 }
 
 /// The sum of the products of counts and squared distances.

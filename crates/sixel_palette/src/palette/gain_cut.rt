@@ -103,19 +103,40 @@ fn boxes_of(alloc: Global, bins: &mut [Bin], room: usize) -> Result<Vec<ColorBox
     ensures ranges { IfOk result (λ boxes. AreRanges (length bins.new) boxes.items) }
     ensures pixels { OnOk result (binned_pixels bins.new ≡ binned_pixels bins.old) }
 {
-    let mut lower = vec![in alloc; ColorSums::none(); SIDES]?;
-    let mut upper = vec![in alloc; ColorSums::none(); SIDES]?;
-    let mut boxes = Vec::new(alloc);
-    let all = bins.len();
-    boxes.push(box_of(bins, 0, all, &mut lower, &mut upper))?;
+    let mut lower = [ColorSums::none(); SIDES];
+    let mut upper = [ColorSums::none(); SIDES];
+    let mut boxes = Vec::with_capacity(alloc, room)?;
+    push_boxes(bins, &mut boxes, room, &mut lower, &mut upper)?;
+    Ok(boxes)
+}
+
+/// Appends the box of all bins, and cuts boxes until there are `room` or no cut gains.
+fn push_boxes(
+    bins: &mut [Bin],
+    boxes: &mut Vec<ColorBox>,
+    room: usize,
+    lower: &mut [ColorSums],
+    upper: &mut [ColorSums],
+) -> Result<(), AllocError>
+    requires room { 0 < room }
+    requires none { length boxes.old.items ≡ 0 }
+    requires few { binned_pixels bins.old ≤ area_limit }
+    requires lower { length lower.old ≡ 64 }
+    requires upper { length upper.old ≡ 64 }
+    ensures room { OnOk result (length boxes.new.items ≤ room) }
+    ensures some { OnOk result (0 < length boxes.new.items) }
+    ensures ranges { OnOk result (AreRanges (length bins.new) boxes.new.items) }
+    ensures pixels { OnOk result (binned_pixels bins.new ≡ binned_pixels bins.old) }
+{
+    boxes.push(box_of(bins, 0, bins.len(), lower, upper))?;
     for _count in 1..room {
-        let best = best_of(&boxes);
+        let best = best_of(boxes);
         if boxes[best].cut.gain == 0 {
             break;
         }
-        cut_in_two(bins, &mut boxes, best, &mut lower, &mut upper)?;
+        cut_in_two(bins, boxes, best, lower, upper)?;
     }
-    Ok(boxes)
+    Ok(())
 }
 
 /// Cuts a box in two, and appends the second part.
