@@ -176,8 +176,9 @@ class PaletteTest(unittest.TestCase):
                 points = [tuple(witnesses.raw[it : it + 3]) for it in range(0, 771, 3)]
                 points = points[: properties.witnesses]
                 self.assertLessEqual(set(points), seen)
-                for one, other in itertools.combinations(points, 2):
-                    self.assertGreaterEqual(distance(one, other), properties.apart)
+                pairs = itertools.combinations(points, 2)
+                apart = min((distance(one, other) for one, other in pairs), default=0)
+                self.assertEqual(properties.apart, apart)
 
     def test_limits(self):
         """Palettes of 256 colors and of one, and an image without an opaque pixel."""

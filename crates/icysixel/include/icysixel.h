@@ -103,7 +103,7 @@ typedef struct {
     size_t colors;    /* number of entries */
     size_t witnesses; /* number of witnesses, or 0 */
     uint64_t error;   /* the summed squared distances of opaque pixels to their nearest entries */
-    uint32_t apart;   /* the minimum squared distance of two witnesses */
+    uint32_t apart;   /* the minimum squared distance of two witnesses, or 0 without any */
 } icysixel_refined;
 
 /* How each pixel gets an entry of the palette. Zeros mean the nearest entry. */

@@ -8,6 +8,7 @@ use Rattle.sixel_base.specs.Payload.{Image}
 use Rattle.sixel_palette.specs.Palette.{AreIndices, HasSize, IsNearest, IsShown, color_at, nearest}
 use Rattle.sixel_palette.specs.Refined.{IsRefined, pixel_error, sum_to, summed_error}
 use Rattle.sixel_palette.specs.declared.palette.refined.RefinedPalette.{RefinedPalette}
+use Rattle.sixel_palette.proofs.PaletteTops.{tops_alike}
 use Rattle.sixel_encoder.specs.declared.dither.Dither.{Dither}
 use Rattle.sixel_encoder.specs.declared.form.TextForm.{TextForm}
 use Rattle.sixel_encoder.specs.Dithering.{AreDithered}
@@ -107,9 +108,16 @@ IsRefined-other image other max_colors palette e is =
     record {
       shown = is.shown;
       few = is.few;
-      complete = λ n size room c shown.
-          is.complete n (size-same image other n e size) room c
-          (IsShown-other other image (sym e) c shown);
+      whole = λ n size room.
+          let own = is.whole n (size-same image other n e size) room in (
+            own.0,
+            record {
+              all = λ k d l. IsShown-other image other e _ (own.1.all k d l);
+              complete = λ c shown. own.1.complete c (IsShown-other other image (sym e) c shown);
+              ascending = own.1.ascending;
+            },
+            own.2,
+          );
       indices =
           indices-same image.pixels other.pixels palette.colors.items palette.indices.items alike
           is.indices;
@@ -117,7 +125,13 @@ IsRefined-other image other max_colors palette e is =
       falls = omega (arith, is.falls, first, initial);
       initial_shown = is.initial_shown;
       initial_few = is.initial_few;
-      top = is.top;
+      base = is.base;
+      size = is.size;
+      top =
+          tops_alike (IsShown image.pixels) (IsShown other.pixels)
+          (λ c shown. IsShown-other image other e c shown)
+          (λ c shown. IsShown-other other image (sym e) c shown) max_colors is.base
+          palette.colors.items palette.witnesses.items is.top;
       witnesses = λ k d l. IsShown-other image other e _ (is.witnesses k d l);
       apart = is.apart;
       bound = λ n l others few.

@@ -25,3 +25,4 @@ pub mod PaletteRelaxation
 pub mod PaletteShown
 pub mod PaletteSize
 pub mod PaletteStores
+pub mod PaletteTops

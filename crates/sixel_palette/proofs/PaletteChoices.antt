@@ -10,7 +10,7 @@ use Rattle.std.proofs.lemmas.List.Kept.{AllPairs-from_increasing}
 use Rattle.std.proofs.lemmas.List.Elements.{All-push, All-nil}
 use Rattle.sixel_palette.specs.declared.palette.PaletteChoice.{PaletteChoice}
 use Rattle.sixel_palette.specs.Palette.{nearest, IsShown, HasSize, IsFarthest, IsFarthestFirst}
-use Rattle.sixel_palette.specs.Palette.{IsError, AreWitnesses, no_entry}
+use Rattle.sixel_palette.specs.Palette.{AreMembers, IsError, AreWitnesses, no_entry}
 use Rattle.sixel_palette.specs.PaletteBound.{AreApart, NoListIsBetter}
 use Rattle.sixel_palette.specs.inside.PaletteCodes.{color_of, IsListed}
 use Rattle.sixel_palette.specs.inside.PaletteChosen.{IsChosen}
@@ -22,31 +22,34 @@ use Rattle.sixel_palette.proofs.PaletteOrder.{bound_from_order}
 use Rattle.sixel_palette.proofs.PaletteSize.{one_size, complete_from_size}
 
 -- the colors of rising codes are the members of the set that they list
+pub members_from_codes : (M : List ℕ → Type 0) (codes : List ℕ) → IsStrictlyIncreasing codes
+    → ((c : List ℕ) → M c → IsListed codes c) → ((c : List ℕ) → IsListed codes c → M c)
+    → AreMembers M (map color_of codes)
+members_from_codes M codes up to from =
+    let color = λ (k : ℕ) (d : List ℕ) (l : k < length codes).
+    get_or-map color_of codes k 0 d l in
+    record {
+      all = λ k d l.
+          let m : k < length codes = omega (arith, length-map codes color_of) in
+          rw (color k d m) (from _ (k, m, refl));
+      complete = λ c m.
+          let h = to c m in
+          (h.0, omega (arith, length-map codes color_of, h.1), color h.0 c h.1 ∙ h.2);
+      ascending = λ i j d l m.
+          let n : j < length codes = omega (arith, length-map codes color_of) in
+          rw (
+            color i d (omega arith),
+            color j d n,
+            rank-color_of (get_or codes i 0),
+            rank-color_of (get_or codes j 0),
+          ) (AllPairs-from_increasing codes up i j 0 l n);
+    }
+
 pub size_from_codes : (M : List ℕ → Type 0) (codes : List ℕ) → IsStrictlyIncreasing codes
     → ((c : List ℕ) → M c → IsListed codes c) → ((c : List ℕ) → IsListed codes c → M c)
     → HasSize M (length codes)
 size_from_codes M codes up to from =
-    let color = λ (k : ℕ) (d : List ℕ) (l : k < length codes).
-    get_or-map color_of codes k 0 d l in (
-      map color_of codes,
-      record {
-        all = λ k d l.
-            let m : k < length codes = omega (arith, length-map codes color_of) in
-            rw (color k d m) (from _ (k, m, refl));
-        complete = λ c m.
-            let h = to c m in
-            (h.0, omega (arith, length-map codes color_of, h.1), color h.0 c h.1 ∙ h.2);
-        ascending = λ i j d l m.
-            let n : j < length codes = omega (arith, length-map codes color_of) in
-            rw (
-              color i d (omega arith),
-              color j d n,
-              rank-color_of (get_or codes i 0),
-              rank-color_of (get_or codes j 0),
-            ) (AllPairs-from_increasing codes up i j 0 l n);
-      },
-      length-map codes color_of,
-    )
+    (map color_of codes, members_from_codes M codes up to from, length-map codes color_of)
 
 -- a list that is farthest first over a set is so over the same set
 order_alike : (M N : List ℕ → Type 0) → ((c : List ℕ) → M c → N c) → ((c : List ℕ) → N c → M c)

@@ -169,13 +169,6 @@ error-small entries codes counts h =
       h.few,
     )
 
--- one more entry does not raise the error
-pub error-push : (entries : List (List ℕ)) (p : List ℕ) (codes counts : List ℕ)
-    → counted_error (entries ++ p ∷ []) codes counts ≤ counted_error entries codes counts
-error-push entries p codes counts =
-    dot-map-le counts codes (near_code (entries ++ p ∷ [])) (near_code entries)
-    (λ code. omega (arith, nearest-push entries p (color_of code)))
-
 -- squared distances of nearest entries are a map of the codes
 pub squares_mapped : (entries : List (List ℕ)) (codes squares indices : List ℕ)
     → length squares ≡ length codes → AreNearest entries codes squares indices

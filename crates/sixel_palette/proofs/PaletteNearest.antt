@@ -1,6 +1,7 @@
 -- How the distance to the nearest entry changes with the entries.
 use Rattle.std.proofs.Common.{◌≡◌, ℕ, zero, suc, ◌<◌, ◌≤◌, min, List, [], ◌∷◌, ◌++◌, length, get_or}
-use Rattle.std.proofs.Common.{take, refl, arith}
+use Rattle.std.proofs.Common.{take, refl, ⊎_elim, arith}
+use Rattle.std.proofs.lemmas.Bool.{cases_lt}
 use Rattle.sixel_palette.specs.Palette.{distance, nearest, no_entry}
 
 -- with no entry it is above every distance of byte colors
@@ -36,3 +37,21 @@ nearest-take [] zero c = omega arith
 nearest-take [] (suc i) c = omega arith
 nearest-take (p ∷ ps) zero c = omega (arith, nearest-cap ps c)
 nearest-take (p ∷ ps) (suc i) c = omega (arith, nearest-take ps i c)
+
+-- more entries are no farther
+pub nearest-append : (ps qs : List (List ℕ)) (c : List ℕ) → nearest (ps ++ qs) c ≤ nearest ps c
+unfolding nearest
+nearest-append [] qs c = nearest-cap qs c
+nearest-append (p ∷ ps) qs c = omega (arith, nearest-append ps qs c)
+
+-- some entry is at the distance of the nearest one
+pub nearest-reached : (ps : List (List ℕ)) (c d : List ℕ) → nearest ps c < no_entry
+    → (i : ℕ) × (i < length ps) × (distance (get_or ps i d) c ≡ nearest ps c)
+unfolding nearest
+nearest-reached [] c d l = absurd (omega arith)
+nearest-reached (p ∷ ps) c d l =
+    ⊎_elim (λ h.
+    let rest = nearest-reached ps c d (omega arith) in
+    (suc rest.0, omega (arith, rest.1), omega (arith, rest.2)))
+    (λ h. (0, omega arith, omega arith))
+    (cases_lt (nearest ps c) (distance p c))

@@ -1,12 +1,14 @@
 -- The refined palette of an image: colors that a register shows, and the summed squared error of a
 -- list of entries over the image's opaque pixels. A register stores percentages (DEC's color
 -- introducer), so the entries lie on their grid.
-use Rattle.std.specs.Prelude.{◌≡◌, ℕ, ◌+◌, ◌*◌, ◌/◌, ◌<◌, ◌≤◌, List, [], ◌∷◌, ◌++◌, map, length}
-use Rattle.std.specs.Prelude.{zero, suc, nat_lt, if◌then◌else◌, slice_index, All, Contains}
+use Rattle.std.specs.Prelude.{◌≡◌, ◌⊎◌, ℕ, ◌+◌, ◌*◌, ◌/◌, ◌<◌, ◌≤◌, List, [], ◌∷◌, ◌++◌, map}
+use Rattle.std.specs.Prelude.{length, take, zero, suc, nat_lt, if◌then◌else◌, slice_index}
+use Rattle.std.specs.Prelude.{slice_index_or, All}
 use Rattle.sixel_base.specs.Color.{rgb}
 use Rattle.sixel_palette.specs.declared.palette.refined.RefinedPalette.{RefinedPalette}
-use Rattle.sixel_palette.specs.Palette.{nearest, color_at, IsShown, HasSize, AreIndices}
-use Rattle.sixel_palette.specs.PaletteBound.{AreApart, NoListIsBetter}
+use Rattle.sixel_palette.specs.Palette.{nearest, color_at, IsShown, HasSize, AreMembers}
+use Rattle.sixel_palette.specs.Palette.{AreIndices, IsFarthest}
+use Rattle.sixel_palette.specs.PaletteBound.{IsLeastApart, NoListIsBetter}
 
 -- a register shows the color: it is that of three percentages
 abbrev pub IsRegisterColor : List ℕ → Type 0
@@ -36,25 +38,36 @@ pixel_error entries pixels pixel =
 abbrev pub summed_error : List (List ℕ) → List ℕ → ℕ
 summed_error entries pixels = sum_to (pixel_error entries pixels) (length pixels / 4)
 
--- the entries after the first ones are for the witnesses but the last, in order; without such
--- entries there are no witnesses
-pub record AreOnTop (first : ℕ) (entries witnesses : List (List ℕ)) : Type 0 where
-  pub base : List (List ℕ)
+-- the color is farthest from its nearest entry, and by more than percentages may move an entry
+pub record IsFarOff (Member : List ℕ → Type 0) (entries : List (List ℕ)) (c : List ℕ)
+    : Type 0 where
+  pub farthest : IsFarthest Member entries c
+  pub far : 6 < nearest entries c
+
+-- the entries are those of the base, and then entries for the witnesses but the last. Each witness
+-- is farthest from the entries before its own. Without such entries there are no witnesses. There
+-- are as many entries as there may be, or each member is near to one.
+pub record AreOnTop (Member : List ℕ → Type 0) (max_colors : ℕ)
+    (base entries witnesses : List (List ℕ)) : Type 0 where
   pub tops : List (List ℕ)
-  pub far : List ℕ
-  pub size : length base ≡ first
   pub whole : entries ≡ base ++ map register_color tops
+  pub order : (i : ℕ) (d : List ℕ) → i < length tops
+      → IsFarOff Member (base ++ map register_color (take i tops)) (slice_index_or tops i d)
+  pub full : (length entries ≡ max_colors)
+      ⊎ ((c : List ℕ) → Member c → nearest entries c ≤ 6)
   pub none : length tops ≡ 0 → witnesses ≡ []
-  pub some : 0 < length tops → witnesses ≡ tops ++ far ∷ []
+  pub some : 0 < length tops
+      → (c : List ℕ) × IsFarthest Member entries c × (witnesses ≡ tops ++ c ∷ [])
 
 -- the refined palette of an image
 pub record IsRefined (pixels : List ℕ) (max_colors : ℕ) (palette : RefinedPalette) : Type 0 where
   -- registers show the entries, of which there are not too many
   pub shown : All IsRegisterColor palette.colors.items
   pub few : length palette.colors.items ≤ max_colors
-  -- with at most as many opaque colors as entries, each has its entry
-  pub complete : (n : ℕ) → HasSize (IsShown pixels) n → n ≤ max_colors
-      → (c : List ℕ) → IsShown pixels c → Contains palette.colors.items (register_color c)
+  -- with at most as many opaque colors as entries, these are the entries, in order
+  pub whole : (n : ℕ) → HasSize (IsShown pixels) n → n ≤ max_colors
+      → (members : List (List ℕ)) × AreMembers (IsShown pixels) members
+      × (palette.colors.items ≡ map register_color members)
   pub indices : AreIndices pixels palette.colors.items palette.indices.items
   -- the error is the true sum, and at most that of the entries before the rounds
   pub error : palette.error ≡ summed_error palette.colors.items pixels
@@ -63,8 +76,10 @@ pub record IsRefined (pixels : List ℕ) (max_colors : ℕ) (palette : RefinedPa
   pub initial_shown : All IsRegisterColor palette.initial.items
   pub initial_few : length palette.initial.items ≤ max_colors
   -- the certificate of the entries on top
-  pub top : AreOnTop (length palette.initial.items) palette.colors.items palette.witnesses.items
+  pub base : List (List ℕ)
+  pub size : length base ≡ length palette.initial.items
+  pub top : AreOnTop (IsShown pixels) max_colors base palette.colors.items palette.witnesses.items
   pub witnesses : All (IsShown pixels) palette.witnesses.items
-  pub apart : AreApart palette.witnesses.items palette.apart
+  pub apart : IsLeastApart palette.witnesses.items palette.apart
   pub bound : (n : ℕ) → n < length palette.witnesses.items
       → NoListIsBetter (IsShown pixels) n palette.apart

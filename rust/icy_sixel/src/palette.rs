@@ -77,7 +77,7 @@ pub struct RefinedPalette {
     ///
     /// Every two have at least the squared distance `apart`.
     pub witnesses: Vec<[u8; 3]>,
-    /// The least squared distance of two witnesses.
+    /// The least squared distance of two witnesses, 0 without witnesses.
     pub apart: u32,
 }
 

@@ -1,5 +1,5 @@
 -- The nearest entry of each distinct color, with the summed squared error, and more entries on top.
-use Rattle.std.specs.Prelude.{◌≡◌, ℕ, ◌<◌, ◌≤◌, List, map, length, All, Contains}
+use Rattle.std.specs.Prelude.{◌≡◌, ℕ, ◌<◌, ◌≤◌, List, map, length, All}
 use Rattle.sixel_base.specs.Limits.{area_limit}
 use Rattle.sixel_palette.specs.declared.palette.assignment.Assignment.{Assignment}
 use Rattle.sixel_palette.specs.declared.palette.refined.Start.{Start}
@@ -19,7 +19,7 @@ pub record IsAssignment (codes : List ℕ) (assignment : Assignment) : Type 0 wh
   pub relaxed : HasRelaxed assignment.colors.items codes assignment.traversal
 
 -- the entries before the rounds and after them: all are register colors, and the error falls; with
--- at most as many colors as entries, each color has its entry
+-- at most as many colors as entries, these are the entries
 pub record IsStart (codes counts : List ℕ) (room : ℕ) (start : Start) : Type 0 where
   pub initial_shown : All IsRegisterColor start.initial.items
   pub initial_few : length start.initial.items ≤ room
@@ -29,5 +29,5 @@ pub record IsStart (codes counts : List ℕ) (room : ℕ) (start : Start) : Type
   pub size : length start.assignment.colors.items ≡ length start.initial.items
   pub falls : counted_error start.assignment.colors.items codes counts
       ≤ counted_error start.initial.items codes counts
-  pub complete : length codes ≤ room
-      → All (λ code. Contains start.assignment.colors.items (register_color (color_of code))) codes
+  pub whole : length codes ≤ room
+      → start.assignment.colors.items ≡ map (λ code. register_color (color_of code)) codes

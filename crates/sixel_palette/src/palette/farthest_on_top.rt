@@ -1,10 +1,9 @@
 //! Entries on top of others, farthest first, with a certificate.
 
-ghost use Rattle.std.specs.Prelude.{◌≡◌, ◌<◌, ◌≤◌, ◌++◌, ◌∷◌, [], ℕ, List, length, All, Contains};
-ghost use Rattle.std.specs.Prelude.{IfOk};
+ghost use Rattle.std.specs.Prelude.{◌≡◌, ◌<◌, ◌≤◌, ◌++◌, ◌∷◌, [], ℕ, List, length, All, IfOk, OnOk};
+ghost use Rattle.std.specs.List.Sorted.{IsStrictlyIncreasing};
 ghost use Rattle.sixel_palette.specs.Refined.{IsRegisterColor, AreOnTop};
 ghost use Rattle.sixel_palette.specs.inside.PaletteCodes.{AreColorCodes, IsListed};
-ghost use Rattle.sixel_palette.specs.inside.PaletteCounts.{counted_error};
 ghost use Rattle.sixel_palette.specs.inside.PaletteAssignment.{IsAssignment};
 ghost use Rattle.sixel_palette.specs.inside.PaletteTraversal.{IsTraversal, HasRelaxed};
 
@@ -39,6 +38,7 @@ pub fn add_farthest(
     room: usize,
 ) -> Result<Topped, AllocError>
     requires some { 0 < length codes.now }
+    requires ascending { IsStrictlyIncreasing codes.now }
     requires small { AreColorCodes codes.now }
     requires room { room ≤ 256 }
     requires assignment { IsAssignment codes.now assignment }
@@ -48,17 +48,42 @@ pub fn add_farthest(
     ensures relaxed { IfOk result (λ t. HasRelaxed t.colors.items codes.now t.traversal) }
     ensures few { IfOk result (λ t. length t.colors.items ≤ room) }
     ensures shown { IfOk result (λ t. All IsRegisterColor t.colors.items) }
-    ensures kept { IfOk result (λ t. (c : List ℕ) → Contains assignment.colors.items c
-        → Contains t.colors.items c) }
-    ensures falls { IfOk result (λ t. (counts : List ℕ)
-        → counted_error t.colors.items codes.now counts
-        ≤ counted_error assignment.colors.items codes.now counts) }
-    ensures top { IfOk result (λ t.
-        AreOnTop (length assignment.colors.items) t.colors.items t.witnesses.items) }
-    ensures witnesses { IfOk result (λ t. All (IsListed codes.now) t.witnesses.items) }
+    ensures top { IfOk result (λ t. AreOnTop (IsListed codes.now) room assignment.colors.items
+        t.colors.items t.witnesses.items) }
 {
     let mut colors = assignment.colors;
     let mut traversal = assignment.traversal;
+    let witnesses = push_farthest(alloc, codes, room, &mut colors, &mut traversal)?;
+    Ok(Topped {
+        colors,
+        witnesses,
+        traversal,
+    })
+}
+
+/// Appends entries for the farthest colors, and returns these and then the farthest color.
+fn push_farthest(
+    alloc: Global,
+    codes: &[u32],
+    room: usize,
+    colors: &mut Vec<[u8; 3]>,
+    traversal: &mut Traversal,
+) -> Result<Vec<[u8; 3]>, AllocError>
+    requires some { 0 < length codes.now }
+    requires ascending { IsStrictlyIncreasing codes.now }
+    requires small { AreColorCodes codes.now }
+    requires room { room ≤ 256 }
+    requires whole { IsTraversal codes.now traversal.old }
+    requires relaxed { HasRelaxed colors.old.items codes.now traversal.old }
+    requires few { length colors.old.items ≤ room }
+    requires shown { All IsRegisterColor colors.old.items }
+    ensures whole { OnOk result (IsTraversal codes.now traversal.new) }
+    ensures relaxed { OnOk result (HasRelaxed colors.new.items codes.now traversal.new) }
+    ensures few { OnOk result (length colors.new.items ≤ room) }
+    ensures shown { OnOk result (All IsRegisterColor colors.new.items) }
+    ensures top { IfOk result (λ witnesses. AreOnTop (IsListed codes.now) room colors.old.items
+        colors.new.items witnesses.items) }
+{
     let mut witnesses = Vec::new(alloc);
     let mut farthest = traversal.farthest(codes);
     for index in colors.len()..room {
@@ -75,11 +100,7 @@ pub fn add_farthest(
         colors.push(entry.color)?;
     }
     let all = with_farthest(witnesses, color_of(codes[farthest]))?;
-    Ok(Topped {
-        colors,
-        witnesses: all,
-        traversal,
-    })
+    Ok(all)
 }
 
 /// Adds the farthest color to the witnesses, if there are any.

@@ -1,13 +1,13 @@
 //! The refined palette of an image: register colors with a small summed error.
 
-ghost use Rattle.std.specs.Prelude.{◌≡◌, ◌≢◌, ◌⊎◌, ◌-◌, ◌%◌, ◌<◌, ◌≤◌, ◌/◌, ℕ, List, length};
-ghost use Rattle.std.specs.Prelude.{All, Contains, Some, None, OnOk, IfOk, MatchResult};
+ghost use Rattle.std.specs.Prelude.{◌≡◌, ◌≢◌, ◌-◌, ◌%◌, ◌<◌, ◌≤◌, ◌/◌, ℕ, List, map, length};
+ghost use Rattle.std.specs.Prelude.{All, Some, None, OnOk, IfOk, MatchResult};
 ghost use Rattle.std.specs.List.Sorted.{IsStrictlyIncreasing};
 ghost use Rattle.sixel_base.specs.Limits.{area_limit};
 ghost use Rattle.sixel_base.specs.CallFault.{FailsBy, ColorCount, color_count_fault};
 ghost use Rattle.sixel_base.specs.Fault.{IsFault, TooLarge};
-ghost use Rattle.sixel_palette.specs.PaletteBound.{AreApart};
-ghost use Rattle.sixel_palette.specs.Palette.{IsShown, distance};
+ghost use Rattle.sixel_palette.specs.PaletteBound.{IsLeastApart};
+ghost use Rattle.sixel_palette.specs.Palette.{IsShown};
 ghost use Rattle.sixel_palette.specs.Refined.{IsRegisterColor, register_color, IsRefined};
 ghost use Rattle.sixel_palette.specs.inside.PaletteAssignment.{IsStart, IsWeighed};
 ghost use Rattle.sixel_palette.specs.inside.PaletteCounts.{counted_error, AreCounts, ArePositions};
@@ -22,7 +22,7 @@ use crate::palette::distance::distance;
 use crate::palette::farthest_on_top::add_farthest;
 use crate::palette::gain_cut::cut_colors;
 use crate::palette::lloyd::improve;
-use crate::palette::nearest_entry::NO_ENTRY;
+use crate::palette::nearest_entry::squared_to_nearest;
 use crate::palette::positions::indices_by;
 use crate::palette::register_color::register_color;
 use sixel_base::size::validate_color_count;
@@ -44,7 +44,7 @@ pub struct RefinedPalette {
     ///
     /// Every two have at least the squared distance `apart`. There are none without such entries.
     pub witnesses: Vec<[u8; 3]>,
-    /// The least squared distance of two witnesses.
+    /// The least squared distance of two witnesses, 0 without witnesses.
     pub apart: u32,
 }
 
@@ -241,8 +241,8 @@ fn register_colors(alloc: Global, codes: &[u32]) -> std::result::Result<Vec<[u8;
     requires small { AreColorCodes codes.now }
     ensures shown { IfOk result (λ colors. All IsRegisterColor colors.items) }
     ensures size { IfOk result (λ colors. length colors.items ≡ length codes.now) }
-    ensures complete { IfOk result (λ colors.
-        All (λ code. Contains colors.items (register_color (color_of code))) codes.now) }
+    ensures same { IfOk result (λ colors.
+        colors.items ≡ map (λ code. register_color (color_of code)) codes.now) }
 {
     let mut colors = Vec::with_capacity(alloc, codes.len())?;
     for position in 0..codes.len() {
@@ -251,24 +251,16 @@ fn register_colors(alloc: Global, codes: &[u32]) -> std::result::Result<Vec<[u8;
     Ok(colors)
 }
 
-/// The least squared distance of two of the colors, above that of any two if there are not two.
+/// The least squared distance of two of the colors, 0 if there are not two.
 fn least_apart(colors: &[[u8; 3]]) -> u32
-    ensures { AreApart colors.now result }
+    ensures { IsLeastApart colors.now result }
 {
-    let mut least = NO_ENTRY;
-    for position in 0..colors.len() {
-        least = least_to(&colors[..position], colors[position]).min(least);
+    if colors.len() < 2 {
+        return 0;
     }
-    least
-}
-
-/// The least squared distance of some colors to a color.
-fn least_to(colors: &[[u8; 3]], color: [u8; 3]) -> u32
-    ensures { All (λ a. result ≤ distance a color) colors.now }
-{
-    let mut least = NO_ENTRY;
-    for position in 0..colors.len() {
-        least = distance(colors[position], color).min(least);
+    let mut least = distance(colors[0], colors[1]);
+    for position in 2..colors.len() {
+        least = squared_to_nearest(&colors[..position], colors[position]).min(least);
     }
     least
 }

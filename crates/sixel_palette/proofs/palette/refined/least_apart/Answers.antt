@@ -1,20 +1,82 @@
-use Rattle.std.proofs.Common.{ℕ, List, [], ◌≤◌, take, get_or, arith}
-use Rattle.std.proofs.lemmas.List.{take_more, take_all}
-use Rattle.std.proofs.lemmas.List.Quantifiers.{all_pairs_push}
-use Rattle.sixel_palette.specs.Palette.{distance}
+use Rattle.std.proofs.Common.{◌≡◌, ℕ, ◌<◌, ◌≤◌, List, [], length, get_or, take, sym, ⊎_elim, arith}
+use Rattle.std.proofs.lemmas.Bool.{cases_lt}
+use Rattle.std.proofs.lemmas.List.{get_or_default, get_or-take, length-take}
+use Rattle.sixel_palette.specs.Palette.{distance, nearest}
+use Rattle.sixel_palette.proofs.PaletteNearest.{nearest-le, nearest-reached}
 use Rattle.sixel_palette.proofs.palette.refined.least_apart.Goals as goal
+
+pub loop-position-init : goal.loop-position-init
+loop-position-init c =
+    let colors = c.args.colors.now in
+    let own : (d : List ℕ)
+    → distance (get_or colors 0 d) (get_or colors 1 d) ≡ c.distance-least.result =
+    λ d.
+    rw (get_or_default colors 0 d [] (omega arith), get_or_default colors 1 d [] (omega arith))
+    (sym c.distance-least.ensures.value) in
+    record {
+      small = c.distance-least.ensures.small;
+      apart = λ i j d l m.
+          let first : i ≡ 0 = omega arith in
+          let second : j ≡ 1 = omega arith in
+          rw (first, second) (omega (arith, own d));
+      reached = λ d. (0, 1, omega arith, omega arith, own d);
+    }
 
 pub loop-position-preserved : goal.loop-position-preserved
 loop-position-preserved c =
     let colors = c.args.colors.now in
     let position = c.loop-position.position in
-    let R : List ℕ → List ℕ → Type 0 = λ a b. c.min-least.result ≤ distance a b in
-    rw (take_more colors position [] (omega arith))
-    (all_pairs_push R (take position colors) (get_or colors position [])
-    (λ i j d l m. omega (arith, c.loop-position.invariant i j d l m))
-    (λ k d l. omega (arith, c.least_to.ensures k d l)))
+    let old = c.loop-position.least in
+    let near = c.squared_to_nearest.result in
+    let front = take position colors in
+    let h = c.loop-position.invariant in
+    let last = get_or colors position [] in
+    let at : (i : ℕ) (d : List ℕ) → i < position → get_or front i d ≡ get_or colors i d =
+    λ i d l. get_or-take position colors i d l in
+    let within : (i : ℕ) → i < position → i < length front = λ i l.
+    rw (length-take position colors) (omega arith) in
+    record {
+      small = omega (arith, h.small, c.min-least.ensures);
+      apart = λ i j d l m.
+          ⊎_elim (λ before. omega (arith, h.apart i j d l before, c.min-least.ensures))
+          (λ here.
+          let e : j ≡ position = omega arith in
+          let m : i < position = omega arith in
+          rw (e, get_or_default colors position d [] (omega arith), ← at i d m)
+          (omega (
+            arith,
+            nearest-le front last i d (within i m),
+            c.squared_to_nearest.ensures,
+            c.min-least.ensures,
+          )))
+          (cases_lt j position);
+      reached = λ d.
+          ⊎_elim (λ less.
+          let some =
+          nearest-reached front last d
+          (omega (arith, c.squared_to_nearest.ensures, less, h.small)) in
+          let m : some.0 < position =
+          omega (arith, some.1, length-take position colors) in (
+            some.0,
+            position,
+            m,
+            omega arith,
+            rw (get_or_default colors position d [] (omega arith), ← at some.0 d m)
+                (omega (arith, some.2, c.squared_to_nearest.ensures, c.min-least.ensures, less)),
+          ))
+          (λ more.
+          let w = h.reached d in
+          (w.0, w.1, w.2, omega (arith, w.3), omega (arith, w.4, c.min-least.ensures, more)))
+          (cases_lt near old);
+    }
 
 pub returns : goal.returns
 returns c =
-    rw (take_all c.loop-position.position c.args.colors.now (omega arith)) at
-    c.loop-position.invariant
+    let h = c.loop-position.invariant in
+    record {
+      apart = λ i j d l m. h.apart i j d l (omega arith);
+      none = λ few. absurd (omega arith);
+      reached = λ d some.
+          let w = h.reached d in
+          (w.0, w.1, w.2, omega (arith, w.3, c.loop-position.auto.position-end), w.4);
+    }

@@ -1,15 +1,18 @@
-use Rattle.std.proofs.Common.{◌≡◌, ℕ, ◌+◌, ◌<◌, ◌≤◌, length, get_or, map, ◌∙◌}
+use Rattle.std.proofs.Common.{◌≡◌, ℕ, ◌+◌, ◌<◌, ◌≤◌, length, get_or, map, ap, sym, ◌∙◌}
 use Rattle.std.proofs.Common.{arith}
 use Rattle.std.specs.List.{All}
-use Rattle.std.proofs.lemmas.List.{length-append}
+use Rattle.std.proofs.lemmas.Simd.{map-map}
 use Rattle.sixel_palette.specs.Palette.{IsShown}
 use Rattle.sixel_palette.specs.Refined.{register_color, summed_error}
+use Rattle.sixel_palette.specs.inside.PaletteCodes.{IsListed, color_of}
 use Rattle.sixel_palette.specs.inside.PaletteCounts.{counted_error}
-use Rattle.sixel_palette.proofs.PaletteChoices.{size_from_codes, three_from_shown, IsColor-shown}
+use Rattle.sixel_palette.proofs.PaletteChoices.{members_from_codes, size_from_codes, three_from_shown, IsColor-shown}
 use Rattle.sixel_palette.proofs.PaletteCounts.{weighed_from_counts, error_from_counts}
 use Rattle.sixel_palette.proofs.PaletteCounts.{error-small, squares_mapped}
 use Rattle.sixel_palette.proofs.PaletteRefined.{nearest_entry-lt, bound_of_shown}
 use Rattle.sixel_palette.proofs.PaletteSize.{one_size}
+use Rattle.sixel_palette.proofs.PaletteTops.{near_listed, tops_alike, tops_fall, tops_longer}
+use Rattle.sixel_palette.proofs.PaletteTops.{tops_none, tops_occur}
 use Rattle.sixel_palette.proofs.palette.refined.palette_of_counts.Goals as goal
 
 pub start_of-requires-clause-weighed : goal.start_of-requires-clause-weighed
@@ -50,30 +53,44 @@ returns c =
     error_from_counts colors pixels codes counts bytes c.requires.counts in
     let first : counted_error initial codes counts ≡ summed_error initial pixels =
     error_from_counts initial pixels codes counts bytes c.requires.counts in
+    let base = c.in_ok-start.start.assignment.colors.items in
     let top = c.in_ok-topped.ensures.top in
-    let long : length colors ≡ length top.base + length (map register_color top.tops) =
-    rw top.whole (length-append top.base (map register_color top.tops)) in
     let some : 0 < length colors =
-    omega (arith, long, top.size, start.size, start.initial_some c.requires.some) in
+    omega (
+      arith,
+      tops_longer (IsListed codes) c.args.room base colors topped.witnesses.items top,
+      start.size,
+      start.initial_some c.requires.some,
+    ) in
     let mapped =
     squares_mapped colors codes squares topped.traversal.indices.items
     c.in_ok-topped.ensures.whole.squares c.in_ok-topped.ensures.relaxed in
     let apart = rw c.deref-3.ensures.value at c.least_apart-apart.ensures in
+    let shown =
+    tops_alike (IsListed codes) (IsShown pixels) c.requires.listed c.requires.shown c.args.room base
+    colors topped.witnesses.items top in
     let occur : All (IsShown pixels) topped.witnesses.items =
-    λ k d l. c.requires.listed _ (c.in_ok-topped.ensures.witnesses k d l) in
+    tops_occur (IsShown pixels) c.args.room base colors topped.witnesses.items shown in
     record {
       shown = c.in_ok-topped.ensures.shown;
       few = c.in_ok-topped.ensures.few;
-      complete = λ n s l d m.
+      whole = λ n s l.
           let e : n ≡ length codes =
           one_size (IsShown pixels) (IsShown pixels) (λ x y. y) (λ x y. y)
           (three_from_shown pixels) n (length codes) s
           (size_from_codes (IsShown pixels) codes c.requires.ascending c.requires.shown
           c.requires.listed) in
-          let fits : length codes ≤ c.args.room = omega arith in
-          let listed = c.requires.shown d m in
-          let entry = start.complete fits listed.0 0 listed.1 in
-          c.in_ok-topped.ensures.kept (register_color d) (rw (← listed.2) entry);
+          let start_whole = start.whole (omega arith) in (
+            map color_of codes,
+            members_from_codes (IsShown pixels) codes c.requires.ascending c.requires.shown
+                c.requires.listed,
+            tops_none (IsShown pixels) c.args.room base colors topped.witnesses.items
+                (λ d m.
+                rw start_whole
+                (near_listed codes d (IsColor-shown pixels d bytes m) (c.requires.shown d m)))
+                shown
+                ∙ start_whole ∙ sym (map-map register_color color_of codes),
+          );
       indices =
           c.in_ok-indices.ensures colors squares
           (rw c.deref-2.ensures.value c.in_ok-topped.ensures.relaxed)
@@ -88,24 +105,19 @@ returns c =
             arith,
             own,
             first,
-            c.in_ok-topped.ensures.falls counts,
+            tops_fall (IsListed codes) c.args.room base colors topped.witnesses.items codes counts
+                top,
             rw c.deref-counts.ensures.value at start.falls,
           );
       initial_shown = start.initial_shown;
       initial_few = start.initial_few;
-      top = record {
-        base = top.base;
-        tops = top.tops;
-        far = top.far;
-        size = top.size ∙ start.size;
-        whole = top.whole;
-        none = top.none;
-        some = top.some;
-      };
+      base = base;
+      size = start.size;
+      top = shown;
       witnesses = occur;
       apart = apart;
       bound = λ n l.
-          bound_of_shown pixels topped.witnesses.items c.least_apart-apart.result n apart occur l;
+          bound_of_shown pixels topped.witnesses.items c.least_apart-apart.result n apart.apart occur l;
     }
 
 pub indices_by-requires-clause-positions : goal.indices_by-requires-clause-positions

@@ -34,11 +34,7 @@ returns-clause-size c =
     rw (take_all c.loop-position.position codes (omega arith)) at c.loop-position.invariant.same in
     rw all (length-map codes f)
 
-pub returns-clause-complete : goal.returns-clause-complete
-returns-clause-complete c =
-    let codes = c.args.codes.now in
-    let f : ℕ → List ℕ = λ code. register_color (color_of code) in
-    let all : c.loop-position.colors.items ≡ map f codes =
-    rw (take_all c.loop-position.position codes (omega arith)) at c.loop-position.invariant.same in
-    λ k d l.
-    rw all (k, omega (arith, length-map codes f), get_or-map f codes k d (f (get_or codes k d)) l)
+pub returns-clause-same : goal.returns-clause-same
+returns-clause-same c =
+    rw (take_all c.loop-position.position c.args.codes.now (omega arith)) at
+    c.loop-position.invariant.same

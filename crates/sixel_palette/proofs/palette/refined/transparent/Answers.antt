@@ -1,4 +1,4 @@
-use Rattle.std.proofs.Common.{◌/◌, [], length, refl, ap, sym, arith}
+use Rattle.std.proofs.Common.{◌/◌, [], length, inr, refl, ap, sym, arith}
 use Rattle.std.proofs.lemmas.List.Elements.{All-nil}
 use Rattle.sixel_palette.specs.Palette.{IsShown, color_at}
 use Rattle.sixel_palette.specs.Refined.{IsRegisterColor}
@@ -16,7 +16,15 @@ returns c = λ room.
     record {
       shown = rw colors (All-nil IsRegisterColor);
       few = omega (arith, ap length colors);
-      complete = λ m s l d h. absurd (c.requires d h);
+      whole = λ m s l. (
+        [],
+        record {
+          all = All-nil (IsShown pixels);
+          complete = λ d h. absurd (c.requires d h);
+          ascending = λ i j d l m. absurd (omega arith);
+        },
+        colors,
+      );
       indices = record {
         one_each = omega (arith, c.in_ok-vec.ensures.len);
         opaque = λ pixel l o. absurd (c.requires (color_at pixels pixel) (pixel, l, o, refl));
@@ -28,16 +36,21 @@ returns c = λ room.
       falls = omega (arith, error_none c.new.result.items pixels c.requires);
       initial_shown = rw initial (All-nil IsRegisterColor);
       initial_few = omega (arith, ap length initial);
+      base = [];
+      size = sym (ap length initial);
       top = record {
-        base = [];
         tops = [];
-        far = [];
-        size = sym (ap length initial);
         whole = colors;
+        order = λ i d l. absurd (omega arith);
+        full = inr (λ d h. absurd (c.requires d h));
         none = λ e. witnesses;
         some = λ l. absurd (omega (arith, l));
       };
       witnesses = rw witnesses (All-nil (IsShown pixels));
-      apart = rw witnesses (λ i j d l m. absurd (omega arith));
+      apart = rw witnesses (record {
+        apart = λ i j d l m. absurd (omega arith);
+        none = λ _. refl;
+        reached = λ d l. absurd (omega arith);
+      });
       bound = λ m l. absurd (omega (arith, l, ap length witnesses));
     }

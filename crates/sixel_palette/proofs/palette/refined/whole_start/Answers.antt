@@ -1,4 +1,4 @@
-use Rattle.std.proofs.Common.{refl, arith}
+use Rattle.std.proofs.Common.{refl, ◌∙◌, arith}
 use Rattle.sixel_palette.proofs.palette.refined.whole_start.Goals as goal
 
 pub returns : goal.returns
@@ -13,5 +13,5 @@ returns c = λ room few.
       shown = rw same initial.shown;
       size = rw same refl;
       falls = rw same (omega arith);
-      complete = λ _. rw same initial.complete;
+      whole = λ _. same ∙ initial.same;
     }
