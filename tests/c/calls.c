@@ -126,6 +126,19 @@ static void test_progress(void)
     CHECK(icysixel_abort(h) == OK && !icysixel_is_receiving(h) && icysixel_get_rows_so_far(h) == 0);
 }
 
+/* The work of painting counts a tag as one column, and its 128 columns once the band ends. */
+static void test_canvas_paints(void)
+{
+    static const struct { const char *chunk; uint64_t paints; } chunks[] = {
+        {"!300~$", 300}, {"!276~", 322}, {"-", 578}, {"!65535~$", 66113},
+        {"!65535~", 66751}, {"-", 132159}, {"-", 132159},
+    };
+    CHECK(icysixel_begin(h) == OK && FEED("\033Pq") == OK);
+    EACH(row, chunks)
+        CHECK(FEED(row->chunk) == OK && icysixel_get_canvas_paints(h) == row->paints);
+    CHECK(icysixel_abort(h) == OK);
+}
+
 /* Final rows are copied to memory with a stride, and the others when the image ends. */
 static void test_copied_rows(void)
 {
@@ -549,7 +562,7 @@ static void test_code_texts(void)
 int main(void)
 {
     static const struct { const char *name; void (*test)(void); } tests[] = {
-        TEST(empty_handle), TEST(new_on_full_handle), TEST(progress),
+        TEST(empty_handle), TEST(new_on_full_handle), TEST(progress), TEST(canvas_paints),
         TEST(copied_rows), TEST(pixels), TEST(errors), TEST(partial), TEST(drawn_height),
         TEST(take_pixels), TEST(new_on_full_handle), TEST(registers), TEST(settings), TEST(encode),
         TEST(encodings), TEST(widest), TEST(palettes), TEST(indices), TEST(code_texts),

@@ -186,13 +186,13 @@ pub record IsWriteCount (image : Reception) (writes : ℕ) : Type 0 where
   -- a rejected image has no canvas
   pub refused : image.is_refused ≡ true → writes ≡ 0
 
--- Sixels of the open image have painted at most this number of columns and tags. A tag is the color
--- of 128 columns of a row.
+-- Sixels of the open image have painted this number of columns and tags. A tag is the color of 128
+-- columns of a row, which are painted once the band moves down.
 pub record IsPaintCount (image : Reception) (paints : ℕ) : Type 0 where
   -- the number that contracts see of the image
   pub value : paints ≡ image.paints
-  -- at most the columns of all bands, and a constant for each closed sixel
-  pub at_most : paints ≤ receivers.band_columns image.start.pixel_limit image.form image.bytes
+  -- at most twice the columns of all bands, and a constant for each closed sixel
+  pub at_most : paints ≤ 2 * receivers.band_columns image.start.pixel_limit image.form image.bytes
       + receivers.most_run_paints * receivers.sixels image.form image.bytes
   -- beside the image its canvas has capacity for at most this number of pixels
   pub room : image.room ≤ receivers.band_room image.start.pixel_limit image.form image.bytes

@@ -250,15 +250,15 @@ impl SixelReceiver {
         }
     }
 
-    /// Returns an upper bound of the columns and tags that sixels have painted.
+    /// Returns how many columns and tags were painted so far.
     ///
     /// It is 0 if no image is open and after an error. The call does not allocate. A sixel paints
     /// columns of six rows. A wide sixel over columns that exist can be stored as tags, the colors
-    /// of 128 columns.
+    /// of 128 columns. Tagged columns are painted once the band ends, so the number rises then.
     ///
-    /// The number is at most the right edges of the bands of the closed sixels, together, and 1151
-    /// for each of these sixels: 511 tags, two ends, and tagged columns that it covers in part. It
-    /// saturates.
+    /// The number is at most twice the right edges of the bands of the closed sixels, together, and
+    /// 1151 for each of these sixels: 511 tags, two ends, and tagged columns that it covers in part.
+    /// It saturates.
     ///
     /// Beside the image the canvas has capacity for six rows of at most twice the width and 16
     /// columns, whatever the height.

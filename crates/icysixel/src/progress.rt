@@ -48,7 +48,7 @@ pub extern "C" fn icysixel_in_payload(slot: &mut Slot) -> u8
     u8::from(slot.state().receiver.in_payload())
 }
 
-/// Returns an upper bound of the columns and tags that were painted, or 0.
+/// Returns how many columns and tags were painted, or 0.
 #[unsafe(no_mangle)]
 pub extern "C" fn icysixel_get_canvas_paints(slot: &mut Slot) -> u64
     ensures same { slot.new.handle.state ≡ slot.old.handle.state }
@@ -56,7 +56,7 @@ pub extern "C" fn icysixel_get_canvas_paints(slot: &mut Slot) -> u64
     ensures value { (state : State) → slot.old.handle.state ≡ Some state
         → result ≡ state.receiver.image.paints }
     ensures at_most { (state : State) → slot.old.handle.state ≡ Some state
-        → result ≤ band_columns state.receiver.image.start.pixel_limit
+        → result ≤ 2 * band_columns state.receiver.image.start.pixel_limit
         state.receiver.image.form state.receiver.image.bytes
         + most_run_paints * sixels state.receiver.image.form state.receiver.image.bytes }
     ensures refused { (state : State) → slot.old.handle.state ≡ Some state

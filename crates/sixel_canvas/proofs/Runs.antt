@@ -80,30 +80,50 @@ edge-other : (from to top bits : ℕ) (runs : List Run) (row : ℕ) → top < ro
 edge-other from to top bits runs row below = rw (ne_eqb top row (λ e. omega (arith, e, below))) refl
 
 -- a run more
-pub paid-run : (cap cap' painted painted' reach reach' top from to bits : ℕ) (runs : List Run) →
-    IsPaid cap painted reach top runs → 0 < bits → cap' ≤ max cap (2 * to + 16) →
+pub paid-run : (cap cap' painted painted' reach reach' tagged tagged' top from to bits : ℕ)
+    (runs : List Run) → IsPaid cap painted reach tagged top runs → 0 < bits →
+    cap' ≤ max cap (2 * to + 16) →
     painted' ≤ painted + ((to - from) / 128 + 640) + (max reach to - reach) →
-    reach' ≡ max reach to → IsPaid cap' painted' reach' top (run from to top bits ∷ runs)
-paid-run cap cap' painted painted' reach reach' top from to bits runs is some cap_is painted_is
-    reach_is =
+    reach' ≡ max reach to → 128 * tagged' ≤ max (128 * tagged) to →
+    IsPaid cap' painted' reach' tagged' top (run from to top bits ∷ runs)
+paid-run cap cap' painted painted' reach reach' tagged tagged' top from to bits runs is some cap_is
+    painted_is reach_is tagged_is =
     let grown = edge-grown from to top bits runs some in
     record {
       narrow = omega (arith, is.narrow, cap_is);
       few = omega (arith, is.few, painted_is, is.edge, grown);
       edge = omega (arith, is.edge, reach_is, grown);
+      inside = omega (arith, is.inside, tagged_is, grown);
       below = λ row h. edge-other from to top bits runs row h ∙ is.below row h;
     }
 
 -- a run without a set pixel more, of which nothing was drawn
-pub paid-blank : (cap painted reach top from to : ℕ) (runs : List Run) →
-    IsPaid cap painted reach top runs → IsPaid cap painted reach top (run from to top 0 ∷ runs)
-paid-blank cap painted reach top from to runs is =
+pub paid-blank : (cap painted reach tagged top from to : ℕ) (runs : List Run) →
+    IsPaid cap painted reach tagged top runs →
+    IsPaid cap painted reach tagged top (run from to top 0 ∷ runs)
+paid-blank cap painted reach tagged top from to runs is =
     let same = edge-blank from to top runs top in
     record {
       narrow = omega (arith, is.narrow);
-      few = omega (arith, is.few);
+      few = omega (arith, is.few, same);
       edge = omega (arith, is.edge, same);
+      inside = omega (arith, is.inside, same);
       below = λ row h. edge-blank from to top runs row ∙ is.below row h;
+    }
+
+-- the band below, where the tags were painted
+pub paid-line : (cap cap' painted painted' reach reach' tagged tagged' top : ℕ) (runs : List Run) →
+    IsPaid cap painted reach tagged top runs → cap' ≡ cap → painted' ≤ painted + 128 * tagged →
+    reach' ≡ 0 → tagged' ≡ 0 → IsPaid cap' painted' reach' tagged' (top + 6) runs
+paid-line cap cap' painted painted' reach reach' tagged tagged' top runs is cap_is painted_is
+    reach_is tagged_is =
+    let none = is.below (top + 6) (omega arith) in
+    record {
+      narrow = omega (arith, is.narrow, cap_is);
+      few = omega (arith, is.few, is.inside, painted_is, none);
+      edge = omega (arith, none);
+      inside = omega (arith, tagged_is);
+      below = λ row h. is.below row (omega (arith, h));
     }
 
 -- sixels of one column each more
@@ -118,6 +138,24 @@ edge-all from (sixel ∷ sixels) top runs =
       edge-here from (from + 1) top sixel runs,
     )
 
+-- sixels more take nothing from the edge
+edge-more : (from to top bits : ℕ) (runs : List Run) →
+    band_edge runs top ≤ band_edge (run from to top bits ∷ runs) top
+edge-more from to top bits runs = rw (eq-eqb top top refl) (elim (cases_lt 0 bits) [
+  | inl some ↦ rw (lt-ltb 0 bits some) (omega arith)
+  | inr none ↦ rw (le-ltb 0 bits none) (omega arith)
+])
+
+edge-kept : (from : ℕ) (sixels : List ℕ) (top : ℕ) (runs : List Run) →
+    band_edge runs top ≤ band_edge (with_sixels from sixels top runs) top
+edge-kept from [] top runs = omega arith
+edge-kept from (sixel ∷ sixels) top runs =
+    omega (
+      arith,
+      edge-kept (from + 1) sixels top (run from (from + 1) top sixel ∷ runs),
+      edge-more from (from + 1) top sixel runs,
+    )
+
 other-all : (from : ℕ) (sixels : List ℕ) (top : ℕ) (runs : List Run) (row : ℕ) → top < row →
     band_edge (with_sixels from sixels top runs) row ≡ band_edge runs row
 other-all from [] top runs row below = refl
@@ -126,26 +164,32 @@ other-all from (sixel ∷ sixels) top runs row below =
     ∙ edge-other from (from + 1) top sixel runs row below
 
 spent-all : (from : ℕ) (sixels : List ℕ) (top : ℕ) (runs : List Run) →
-    drawn_columns runs + runs_paint runs + 640 * length sixels
-    ≤ drawn_columns (with_sixels from sixels top runs)
-    + runs_paint (with_sixels from sixels top runs)
+    2 * drawn_columns runs + runs_paint runs + 640 * length sixels
+    + band_edge (with_sixels from sixels top runs) top
+    ≤ 2 * drawn_columns (with_sixels from sixels top runs)
+    + runs_paint (with_sixels from sixels top runs) + band_edge runs top
 spent-all from [] top runs = omega arith
 spent-all from (sixel ∷ sixels) top runs =
-    omega (arith, spent-all (from + 1) sixels top (run from (from + 1) top sixel ∷ runs))
+    omega (
+      arith,
+      spent-all (from + 1) sixels top (run from (from + 1) top sixel ∷ runs),
+      edge-more from (from + 1) top sixel runs,
+    )
 
 pub paid-sixels :
-    (cap cap' painted painted' reach reach' top from len : ℕ) (sixels : List ℕ) (runs : List Run) →
-    IsPaid cap painted reach top runs → 0 < len → len ≤ length sixels →
-    cap' ≤ max cap (2 * (from + len) + 16) → painted' ≤ painted + 264 →
-    reach' ≡ max reach (from + len) →
-    IsPaid cap' painted' reach' top (with_sixels from (take len sixels) top runs)
-paid-sixels cap cap' painted painted' reach reach' top from len sixels runs is some few cap_is
-    painted_is reach_is =
+    (cap cap' painted painted' reach reach' tagged tagged' top from len : ℕ) (sixels : List ℕ)
+    (runs : List Run) → IsPaid cap painted reach tagged top runs → 0 < len →
+    len ≤ length sixels → cap' ≤ max cap (2 * (from + len) + 16) → painted' ≤ painted + 264 →
+    reach' ≡ max reach (from + len) → tagged' ≡ tagged →
+    IsPaid cap' painted' reach' tagged' top (with_sixels from (take len sixels) top runs)
+paid-sixels cap cap' painted painted' reach reach' tagged tagged' top from len sixels runs is some
+    few cap_is painted_is reach_is tagged_is =
     let drawn = take len sixels in
     let long : length drawn ≡ len = omega (arith, length-take len sixels, few) in
     record {
       narrow = omega (arith, is.narrow, cap_is, edges from sixels top runs len some few);
       few = omega (arith, is.few, painted_is, spent-all from drawn top runs, long, some);
       edge = omega (arith, is.edge, reach_is, edge-all from drawn top runs, long);
+      inside = omega (arith, is.inside, tagged_is, edge-kept from drawn top runs);
       below = λ row h. other-all from drawn top runs row h ∙ is.below row h;
     }

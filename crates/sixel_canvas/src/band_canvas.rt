@@ -8,6 +8,7 @@ ghost use Rattle.sixel_canvas.specs.inside.BandCanvas.{band_canvas_shown};
 ghost use Rattle.sixel_canvas.specs.inside.BandCanvas.{AreMoved, IsLaidOut, IsPaid};
 ghost use Rattle.sixel_canvas.specs.inside.Drawn.{Run};
 ghost use Rattle.sixel_canvas.specs.inside.FinalRows.{final, stored_area};
+ghost use Rattle.sixel_canvas.specs.inside.Paints.{counted};
 ghost use Rattle.sixel_canvas.specs.inside.TaggedBand.{capacity, tagged_cell};
 
 use crate::channels::RowLayout;
@@ -65,7 +66,8 @@ impl Canvas for BandCanvas {
     } };
 
     ghost paid = { λ canvas named runs. IsPaid (capacity canvas.band) canvas.band.painted
-        canvas.band.pixels.reach canvas.top runs × AreMoved canvas named runs };
+        canvas.band.pixels.reach canvas.band.tags.reach canvas.top runs
+        × AreMoved canvas named runs };
 
     fn new(alloc: Global, background: [u8; 4]) -> BandCanvas {
         BandCanvas {
@@ -147,7 +149,9 @@ impl BandCanvas {
         self.rows.moved()
     }
 
-    /// Returns how many columns and tags were painted so far, at most. The number saturates.
+    /// Returns how many columns and tags were painted so far. The number saturates.
+    ///
+    /// The tags of a band are painted once it moves down, as the columns of their blocks.
     pub fn paints(&self) -> u64
         ensures { result ≡ self.now.band.painted }
     {
@@ -245,6 +249,7 @@ impl BandCanvas {
         ensures capacity { OnOk result (capacity self.new.band
             ≤ max (capacity self.old.band) (2 * columns + 16)) }
         ensures reach { OnOk result (self.new.band.pixels.reach ≡ self.old.band.pixels.reach) }
+        ensures tagged { OnOk result (self.new.band.tags.reach ≡ self.old.band.tags.reach) }
         ensures painted { OnOk result (self.new.band.painted ≡ self.old.band.painted) }
         ensures laid { OnOk result ((width : ℕ) → columns ≤ width → IsLaidOut self.old width
             → IsLaidOut self.new width) }
@@ -270,6 +275,7 @@ impl BandCanvas {
         ensures capacity { OnOk result (capacity self.new.band
             ≤ max (capacity self.old.band) (2 * columns + 16)) }
         ensures reach { OnOk result (self.new.band.pixels.reach ≡ self.old.band.pixels.reach) }
+        ensures tagged { OnOk result (self.new.band.tags.reach ≡ self.old.band.tags.reach) }
         ensures painted { OnOk result (self.new.band.painted ≡ self.old.band.painted) }
         ensures laid { OnOk result ((width : ℕ) → columns ≤ width → IsLaidOut self.old width
             → IsLaidOut self.new width) }
@@ -296,7 +302,9 @@ impl BandCanvas {
         ensures top { self.new.top ≤ self.old.top + 6 }
         ensures released { self.new.released ≡ self.old.released }
         ensures held { self.new.held ≡ 0 }
-        ensures painted { self.new.band.painted ≡ self.old.band.painted }
+        ensures tagged { self.new.band.tags.reach ≡ 0 }
+        ensures painted { self.new.band.painted
+            ≤ self.old.band.painted + 128 * self.old.band.tags.reach }
         ensures moved { (named : ℕ) (runs : List Run) → AreMoved self.old named runs
             → AreMoved self.new named runs }
     {
@@ -328,7 +336,8 @@ fn hand_out(rows: &mut FinalRows, band: &mut TaggedBand, top: usize, expected_wi
     ensures background { band.new.pixels.background ≡ band.old.pixels.background }
     ensures reach { band.new.pixels.reach ≡ 0 }
     ensures capacity { capacity band.new ≡ capacity band.old }
-    ensures painted { band.new.painted ≡ band.old.painted }
+    ensures tagged { band.new.tags.reach ≡ 0 }
+    ensures painted { band.new.painted ≡ counted band.old.painted (128 * band.old.tags.reach) }
 {
     band.settle_all();
     let width = expected_width.min(rows.width()).max(band.reach());

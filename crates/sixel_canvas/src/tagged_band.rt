@@ -5,7 +5,9 @@ ghost use Rattle.std.specs.Prelude.{slice_index_or, OnErr, OnOk, if◌then◌els
 ghost use Rattle.sixel_base.specs.Picture.{covers};
 ghost use Rattle.sixel_canvas.specs.inside.Band.{cell, IsBand};
 ghost use Rattle.sixel_canvas.specs.inside.Drawn.{covers_block};
-ghost use Rattle.sixel_canvas.specs.inside.TaggedBand.{capacity, most_painted, tagged_cell};
+ghost use Rattle.sixel_canvas.specs.inside.Paints.{counted};
+ghost use Rattle.sixel_canvas.specs.inside.TaggedBand.{capacity, least_cost, most_painted};
+ghost use Rattle.sixel_canvas.specs.inside.TaggedBand.{tagged_cell};
 ghost use Rattle.sixel_canvas.specs.inside.Tags.{is_tag, no_tag, under};
 
 use crate::band::{Band, MAX_CAP};
@@ -51,6 +53,7 @@ impl TaggedBand {
         ensures background { result.pixels.background ≡ background }
         ensures reach { result.pixels.reach ≡ 0 }
         ensures capacity { capacity result ≡ 0 }
+        ensures tags_reach { result.tags.reach ≡ 0 }
         ensures painted { result.painted ≡ 0 }
     {
         TaggedBand {
@@ -75,6 +78,7 @@ impl TaggedBand {
     pub fn reach(&self) -> usize
         ensures value { result ≡ self.now.pixels.reach }
         ensures within { result ≤ self.now.pixels.cap }
+        ensures whole { 128 * self.now.tags.reach ≤ result }
         ensures clean { (column k : ℕ) → result ≤ column
             → tagged_cell self.now column k ≡ self.now.pixels.background }
     {
@@ -88,7 +92,9 @@ impl TaggedBand {
         self.pixels.background()
     }
 
-    /// Returns how many columns and tags were painted so far, at most.
+    /// Returns how many columns and tags were painted so far.
+    ///
+    /// A tag that is painted counts as the 128 columns of its block.
     pub fn painted(&self) -> u64
         ensures { result ≡ self.now.painted }
     {
@@ -108,6 +114,7 @@ impl TaggedBand {
             ≡ tagged_cell self.old column k }
         ensures background { self.new.pixels.background ≡ self.old.pixels.background }
         ensures reach { self.new.pixels.reach ≡ self.old.pixels.reach }
+        ensures tags_reach { self.new.tags.reach ≡ self.old.tags.reach }
         ensures refused { OnErr result (self.new ≡ self.old) }
         ensures painted { self.new.painted ≡ self.old.painted }
     {
@@ -130,6 +137,8 @@ impl TaggedBand {
         ensures cap { self.new.pixels.cap ≡ self.old.pixels.cap }
         ensures tags_cap { self.new.tags.cap ≡ self.old.tags.cap }
         ensures reach { self.new.pixels.reach ≡ max self.old.pixels.reach to }
+        ensures tags_reach { 128 * self.new.tags.reach ≤ max (128 * self.old.tags.reach) to }
+        ensures least { counted self.old.painted (least_cost (to - from)) ≤ self.new.painted }
         ensures painted { self.new.painted ≤ self.old.painted + most_painted (to - from)
             + (max self.old.pixels.reach to - self.old.pixels.reach) }
     {
@@ -159,7 +168,7 @@ impl TaggedBand {
         ensures cap { self.new.pixels.cap ≡ self.old.pixels.cap }
         ensures tags { self.new.tags ≡ self.old.tags }
         ensures reach { self.new.pixels.reach ≡ max self.old.pixels.reach (at + 1) }
-        ensures painted { self.new.painted ≤ self.old.painted + 1 }
+        ensures painted { self.new.painted ≡ counted self.old.painted 1 }
     {
         self.pixels.draw(at, at + 1, bits, color);
         self.painted = self.painted.saturating_add(1);
@@ -178,6 +187,8 @@ impl TaggedBand {
         ensures cap { self.new.pixels.cap ≡ self.old.pixels.cap }
         ensures tags_cap { self.new.tags.cap ≡ self.old.tags.cap }
         ensures reach { self.new.pixels.reach ≡ max self.old.pixels.reach to }
+        ensures tags_reach { 128 * self.new.tags.reach ≤ max (128 * self.old.tags.reach) to }
+        ensures least { counted self.old.painted (least_cost (to - from)) ≤ self.new.painted }
         ensures painted { self.new.painted ≤ self.old.painted + most_painted (to - from)
             + (max self.old.pixels.reach to - self.old.pixels.reach) }
     {
@@ -202,7 +213,7 @@ impl TaggedBand {
         ensures pixels { self.new.pixels ≡ self.old.pixels }
         ensures tags_cap { self.new.tags.cap ≡ self.old.tags.cap }
         ensures reach { self.new.tags.reach ≡ max self.old.tags.reach last }
-        ensures painted { self.new.painted ≤ self.old.painted + (last - first) }
+        ensures painted { self.new.painted ≡ counted self.old.painted (last - first) }
     {
         self.tags.draw(first, last, bits, color);
         self.painted = self.painted.saturating_add((last - first) as u64);
@@ -220,6 +231,7 @@ impl TaggedBand {
         ensures tags_cap { self.new.tags.cap ≡ self.old.tags.cap }
         ensures reach { self.new.pixels.reach ≡ max self.old.pixels.reach to }
         ensures tags_reach { self.new.tags.reach ≡ self.old.tags.reach }
+        ensures least { counted self.old.painted (to - from) ≤ self.new.painted }
         ensures painted { self.new.painted ≤ self.old.painted + (to - from)
             + 128 * (min ((to + 127) / 128) self.old.tags.reach - from / 128) }
     {
@@ -244,6 +256,8 @@ impl TaggedBand {
         ensures cap { self.new.pixels.cap ≡ self.old.pixels.cap }
         ensures tags_cap { self.new.tags.cap ≡ self.old.tags.cap }
         ensures reach { self.new.pixels.reach ≡ max self.old.pixels.reach to }
+        ensures tags_reach { self.new.tags.reach ≡ self.old.tags.reach }
+        ensures least { counted self.old.painted 8 ≤ self.new.painted }
         ensures painted { self.new.painted ≤ self.old.painted + 264 }
     {
         self.settle(from, from + 8);
@@ -251,7 +265,7 @@ impl TaggedBand {
         self.painted = self.painted.saturating_add(8);
     }
 
-    /// Paints all tags, so that no block has one. This is not counted.
+    /// Paints all tags, so that no block has one.
     #[inline(never)]
     pub fn settle_all(&mut self)
         ensures shown { (column k : ℕ) → cell self.new.pixels column k
@@ -262,11 +276,14 @@ impl TaggedBand {
         ensures cap { self.new.pixels.cap ≡ self.old.pixels.cap }
         ensures tags_cap { self.new.tags.cap ≡ self.old.tags.cap }
         ensures reach { self.new.pixels.reach ≡ self.old.pixels.reach }
-        ensures painted { self.new.painted ≡ self.old.painted }
+        ensures tags_reach { self.new.tags.reach ≡ 0 }
+        ensures painted { self.new.painted
+            ≡ counted self.old.painted (128 * self.old.tags.reach) }
     {
         let tagged = self.tags.reach();
         self.settle_blocks(0, tagged);
         self.tags.clear();
+        self.painted = self.painted.saturating_add((BLOCK * tagged) as u64);
     }
 
     /// Returns the pixels of row `k` up to `reach`, without its tags.
@@ -287,6 +304,7 @@ impl TaggedBand {
         ensures cap { self.new.pixels.cap ≡ self.old.pixels.cap }
         ensures tags_cap { self.new.tags.cap ≡ self.old.tags.cap }
         ensures reach { self.new.pixels.reach ≡ 0 }
+        ensures tags_reach { self.new.tags.reach ≡ 0 }
         ensures painted { self.new.painted ≡ self.old.painted }
     {
         self.tags.clear();
@@ -306,8 +324,8 @@ impl TaggedBand {
         ensures tags_cap { self.new.tags.cap ≡ self.old.tags.cap }
         ensures reach { self.new.pixels.reach ≡ self.old.pixels.reach }
         ensures tags_reach { self.new.tags.reach ≡ self.old.tags.reach }
-        ensures painted { self.new.painted ≤ self.old.painted
-            + 128 * (min ((to + 127) / 128) self.old.tags.reach - from / 128) }
+        ensures painted { self.new.painted ≡ counted self.old.painted
+            (128 * (min ((to + 127) / 128) self.old.tags.reach - from / 128)) }
     {
         let tagged = self.tags.reach();
         if tagged > 0 {

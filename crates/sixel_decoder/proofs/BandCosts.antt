@@ -120,12 +120,12 @@ runs_paint-history limit (Skip _ ∷ h) is =
     runs_paint-history limit h (both_none (first_fault limit h) _ is).0
 
 -- What these tokens have painted on a canvas of one band, and its capacity.
-pub band_cost : (limit : Limit) (cap painted reach top : ℕ) (h : History)
+pub band_cost : (limit : Limit) (cap painted reach tagged top : ℕ) (h : History)
     → first_fault limit h ≡ None
-    → IsPaid cap painted reach top (runs_of limit h)
-    → (painted ≤ band_columns limit h + most_run_paints * sixels h)
+    → IsPaid cap painted reach tagged top (runs_of limit h)
+    → (painted ≤ 2 * band_columns limit h + most_run_paints * sixels h)
     × (6 * cap ≤ band_room limit h)
-band_cost limit cap painted reach top h faultless paid = (
+band_cost limit cap painted reach tagged top h faultless paid = (
   omega (arith, paid.few, band_columns-history limit h, runs_paint-history limit h faultless),
   omega (arith, paid.narrow, right_edge-history limit h),
 )

@@ -149,8 +149,8 @@ pub record IsPaintCount (session : DcsSession) (paints : ℕ) : Type 0 where
 pub record IsBandPaintCount (session : DcsSession) (paints : ℕ) : Type 0 where
   -- the number that contracts see of the session
   pub value : paints ≡ session.paints
-  -- at most the columns of all bands, and a constant for each closed sixel
-  pub at_most : paints ≤ dcs_band_columns session.decoder.pixel_limit session.bytes
+  -- at most twice the columns of all bands, and a constant for each closed sixel
+  pub at_most : paints ≤ 2 * dcs_band_columns session.decoder.pixel_limit session.bytes
       + most_run_paints * dcs_sixels session.bytes
   -- the band has capacity for at most this number of pixels
   pub room : session.room ≤ dcs_band_room session.decoder.pixel_limit session.bytes

@@ -146,8 +146,8 @@ pub record IsPaintCount (session : Session) (paints : ℕ) : Type 0 where
 pub record IsBandPaintCount (session : Session) (paints : ℕ) : Type 0 where
   -- the number that contracts see of the session
   pub value : paints ≡ session.paints
-  -- at most the columns of all bands, and a constant for each closed sixel
-  pub at_most : paints ≤ band_columns session.origin.pixel_limit (settled session.bytes)
+  -- at most twice the columns of all bands, and a constant for each closed sixel
+  pub at_most : paints ≤ 2 * band_columns session.origin.pixel_limit (settled session.bytes)
       + most_run_paints * sixels (settled session.bytes)
   -- the band has capacity for at most this number of pixels
   pub room : session.room ≤ band_room session.origin.pixel_limit (settled session.bytes)

@@ -430,7 +430,7 @@ impl Handle {
         icysixel_get_rows_so_far(&mut self.0)
     }
 
-    /// An upper bound of the columns that sixels of the open image have painted so far.
+    /// How many columns of six pixels were written so far.
     pub(crate) fn canvas_paints(&mut self) -> u64 {
         icysixel_get_canvas_paints(&mut self.0)
     }

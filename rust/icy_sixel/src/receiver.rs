@@ -181,7 +181,7 @@ impl SixelReceiver {
         self.open = Open::Nothing;
     }
 
-    /// Returns an upper bound of the columns of six pixels that were painted so far.
+    /// Returns how many columns of six pixels were written so far.
     ///
     /// It is that of the sessions, and 0 if no image is open. The call does not allocate.
     #[must_use]

@@ -68,12 +68,14 @@ pub record IsBandCanvas (canvas : BandCanvasState) : Type 0 where
   pub held : 0 < canvas.held → IsHeld canvas
 
 -- What is true of a band that these runs were drawn on, and that has come down to this row: its
--- capacity is at most twice as wide as they reach, and it has painted at most the columns of their
--- bands, and so much more for each run.
-pub record IsPaid (capacity painted reach top : ℕ) (runs : List Run) : Type 0 where
+-- capacity is at most twice as wide as they reach, and it has painted at most twice the columns of
+-- their bands, and so much more for each run. The second time is that of its tags, which are
+-- painted once the band moves down: those of its present row are still to be painted.
+pub record IsPaid (capacity painted reach tagged top : ℕ) (runs : List Run) : Type 0 where
   pub narrow : capacity ≤ 2 * right_edge runs + 16
-  pub few : painted ≤ drawn_columns runs + runs_paint runs
+  pub few : painted + band_edge runs top ≤ 2 * drawn_columns runs + runs_paint runs
   pub edge : band_edge runs top ≤ reach
+  pub inside : 128 * tagged ≤ band_edge runs top
   pub below : (row : ℕ) → top < row → band_edge runs row ≡ 0
 
 -- What is true of the rows of a canvas whose picture has so many columns, or will have: rows are at

@@ -47,7 +47,7 @@ impl<'a> SixelDcsStreamDecoder<'a> {
         Ok(SixelDcsFeedResult { consumed: fed.consumed, status: string_status(fed) })
     }
 
-    /// Returns an upper bound of the columns that sixels have painted so far.
+    /// Returns how many columns of six pixels were written so far.
     ///
     /// It does what [`canvas_paints`](crate::SixelStreamDecoder::canvas_paints) of a payload
     /// session does, and returns 0 before the payload.

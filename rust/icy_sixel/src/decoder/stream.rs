@@ -38,10 +38,13 @@ impl<'a> SixelStreamDecoder<'a> {
         Ok(SixelFeedResult { consumed: fed.consumed, status: payload_status(fed) })
     }
 
-    /// Returns an upper bound of the columns of six pixels that were painted so far.
+    /// Returns how many columns of six pixels were written so far.
     ///
-    /// It is at most the right edges of all bands together, and 1151 for each sixel. It is 0 after
-    /// an error. The call does not allocate.
+    /// A wide sixel over columns that exist writes one number for each 128 of them, which counts as
+    /// one column. The 128 columns count once they are written, when the band ends.
+    ///
+    /// The number is at most twice the right edges of all bands together, and 1151 for each sixel.
+    /// It is 0 after an error. The call does not allocate.
     #[must_use]
     pub fn canvas_paints(&self) -> u64 {
         self.owner.shared().canvas_paints()

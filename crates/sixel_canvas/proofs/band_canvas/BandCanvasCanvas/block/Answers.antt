@@ -60,6 +60,9 @@ returns-clause-paid c = λ named runs before.
     omega (arith, c.block.ensures.painted, held_painted) in
     let reach : band.pixels.reach ≡ max now.band.pixels.reach right =
     omega (arith, c.block.ensures.reach, held_reach) in
+    let tagged : band.tags.reach ≡ now.band.tags.reach =
+    c.block.ensures.tags_reach ∙ ap (λ (s : BandCanvasState). s.band.tags.reach) c.self.view_is
+    ∙ c.in_ok-hold.ensures.tagged in
     let all = c.self.inside in
     let state =
     band_canvas_state all.gone.rows all.released all.rows band all.top all.held
@@ -73,8 +76,9 @@ returns-clause-paid c = λ named runs before.
     (ap (λ (s : BandCanvasState). s.rows) c.self.view_is)
     (ap (λ (s : BandCanvasState). s.released) c.self.view_is) in (
       rw same_top (paid-sixels (capacity now.band) (capacity band) now.band.painted band.painted
-          now.band.pixels.reach band.pixels.reach now.top c.args.from c.args.len c.args.sixels runs
-          before.0 c.requires.some few cap painted reach),
+          now.band.pixels.reach band.pixels.reach now.band.tags.reach band.tags.reach now.top
+          c.args.from c.args.len c.args.sixels runs before.0 c.requires.some few cap painted reach
+          tagged),
       rw (← same_top) (moved_more state named more
           (laid_wider state wide (least_width named more) laid (omega (arith, edge)))
           c.self.invariant.above

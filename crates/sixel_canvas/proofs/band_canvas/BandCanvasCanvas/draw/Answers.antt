@@ -65,14 +65,19 @@ returns-clause-paid c = λ named runs before.
     omega (arith, c.draw.ensures.painted, held_painted, held_reach) in
     let reach : band.pixels.reach ≡ max now.band.pixels.reach to =
     omega (arith, c.draw.ensures.reach, held_reach) in
+    let held_tagged =
+    ap (λ (s : BandCanvasState). s.band.tags.reach) c.self.view_is ∙ c.in_ok-hold.ensures.tagged in
+    let tagged : 128 * band.tags.reach ≤ max (128 * now.band.tags.reach) to =
+    omega (arith, c.draw.ensures.tags_reach, held_tagged) in
     let laid =
     laid_held now c.hold.new.self state named runs to before.1 c.in_ok-hold.ensures.laid
     (ap (λ (s : BandCanvasState). s.expected) c.self.view_is)
     (ap (λ (s : BandCanvasState). s.rows) c.self.view_is)
     (ap (λ (s : BandCanvasState). s.released) c.self.view_is) in (
       rw same_top (paid-run (capacity now.band) (capacity band) now.band.painted band.painted
-          now.band.pixels.reach band.pixels.reach now.top from to c.args.bits runs before.0
-          (omega (arith, c.if-bits-eq0.false)) cap painted reach),
+          now.band.pixels.reach band.pixels.reach now.band.tags.reach band.tags.reach now.top from
+          to c.args.bits runs before.0 (omega (arith, c.if-bits-eq0.false)) cap painted reach
+          tagged),
       rw (← same_top)
           (moved_run state named from to c.args.bits runs laid c.self.invariant.above),
     )

@@ -21,7 +21,7 @@ returns c =
     let shows = shown_settled origin parser inside.terminator bytes read in
     let cost =
     band_cost origin.pixel_limit (capacity canvas.band) canvas.band.painted
-    canvas.band.pixels.reach canvas.top (settled bytes) shows.faultless shows.paid.0 in
+    canvas.band.pixels.reach canvas.band.tags.reach canvas.top (settled bytes) shows.faultless shows.paid.0 in
     rw (← c.self.view_is, c.in-Reading.is, c.paints.ensures) (record {
       value = refl;
       at_most = cost.0;
