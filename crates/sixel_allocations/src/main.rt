@@ -17,7 +17,7 @@ use image::{
     TEXT_OF_TWO_COLORS, choose_colors, find_indices, grow_row, is_shown, is_text, refine_colors,
 };
 use picture::{BANDS, DCS, FILLED, OVERDRAWN, PAYLOAD, RUN, RUNS, set_colors};
-use session::{DCS_CHUNKS, PAYLOAD_CHUNKS, Session, draw_payload};
+use session::{DCS_CHUNKS, PAYLOAD_CHUNKS, Session, draw_low_sixel, draw_payload};
 use std::io;
 use steps::run_steps;
 use unallocated::make_unallocated_calls;
@@ -52,6 +52,7 @@ fn make_calls_of_decoder(rt: &HostRuntime, decoder: &mut SixelDecoder) -> io::Re
     tell(rt, "a run", FILLED.check(image, decoder))?;
     let image = decoder.decode_from_dcs(alloc, RUNS, settings);
     tell(rt, "runs over a run", OVERDRAWN.check(image, decoder))?;
+    tell(rt, "a low sixel", draw_low_sixel(alloc, decoder))?;
     let mut failed_step = None;
     let is_right = run_steps(alloc, decoder, &mut failed_step);
     tell(rt, "script::run", is_right)?;

@@ -15,6 +15,9 @@ pub const DCS_CHUNKS: &[&[u8]] = &[b"\x1bPq#42;2;100;0;0~", b"!300~", b"-!5~$~",
 /// Chunks for a session that has failed.
 const LATER_CHUNKS: &[&[u8]] = &[b"", b"~", b"\x1bPq", b"#1;2;0;0;0!9~", b"\x1b\\"];
 
+/// Graphics new lines, of which each ends a band without a set pixel.
+const NEW_LINES: &[u8] = &[b'-'; 1000];
+
 /// A session of a decoder.
 #[derive(Drop)]
 pub enum Session<'a> {
@@ -30,6 +33,16 @@ pub fn draw_payload(
 ) -> Result<SixelImage> {
     match decoder.begin_frame(alloc, DcsSettings::default()) {
         Ok(session) => Session::Payload(session).draw(chunks),
+        Err(error) => Err(error),
+    }
+}
+
+/// Draws one sixel in a session, below 166,000 bands without a set pixel.
+pub fn draw_low_sixel(alloc: Global, decoder: &mut SixelDecoder) -> Result<bool> {
+    let mut chunks = [NEW_LINES; 167];
+    chunks[166] = b"~";
+    match draw_payload(alloc, decoder, &chunks) {
+        Ok(image) => Ok(image.dimensions() == (1, 996_006)),
         Err(error) => Err(error),
     }
 }

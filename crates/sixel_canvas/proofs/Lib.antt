@@ -14,6 +14,7 @@ pub mod ReleasedRows
 pub mod Results
 pub mod RowBytes
 pub mod Runs
+pub mod RowBands
 pub mod RowCosts
 pub mod RowPixels
 pub mod Spans

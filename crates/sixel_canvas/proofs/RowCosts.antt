@@ -1,24 +1,25 @@
 -- What a canvas of rows has cost, against the runs that were drawn on it.
-use Rattle.std.proofs.Common.{◌≡◌, ℕ, zero, suc, ◌+◌, ◌-◌, ◌*◌, ◌<◌, ◌≤◌, List, []}
-use Rattle.std.proofs.Common.{◌∷◌, All, length, get_or, max, refl, sym, ap, ◌∙◌, inl, inr, arith}
+use Rattle.std.proofs.Common.{◌≡◌, ℕ, zero, suc, ◌+◌, ◌-◌, ◌*◌, ◌/◌, ◌%◌, ◌<◌, ◌≤◌, List, []}
+use Rattle.std.proofs.Common.{◌∷◌, ◌++◌, All, length, get_or, max, refl, sym, ap, ◌∙◌, inl, inr}
+use Rattle.std.proofs.Common.{length-append, arith}
 use Rattle.std.specs.List.{sum_by}
 use Rattle.std.specs.Prelude.{if◌then◌else◌}
 use Rattle.std.proofs.Math.Nat.{mul-suc}
-use Rattle.std.proofs.lemmas.List.Elements.{All-get_or, All-head, All-tail}
-use Rattle.std.proofs.lemmas.List.Sums.{sum_by-cons}
+use Rattle.std.proofs.lemmas.List.Elements.{All-append, All-get_or, All-head, All-nil, All-tail}
+use Rattle.std.proofs.lemmas.List.Sums.{sum_by-append, sum_by-cons}
 use Rattle.std.proofs.lemmas.Bool.{cases_lt, lt-ltb}
 use Rattle.sixel_base.specs.Picture.{is_struck, total}
 use Rattle.sixel_canvas.specs.inside.Drawn.{Run, run}
 use Rattle.sixel_canvas.specs.inside.Paints.{counted, ends_and_tags, least_painted}
+use Rattle.sixel_canvas.specs.inside.RowBand.{IsRowBand, least, line_in}
 use Rattle.sixel_canvas.specs.inside.RowCanvas.{RowCanvasState, AreFewTags, HasCost, IsDrawnBy}
-use Rattle.sixel_canvas.specs.inside.RowCanvas.{IsLineOf}
-use Rattle.sixel_canvas.specs.inside.RowCanvas.{IsRowCanvas, least, line_in, row_canvas_work}
+use Rattle.sixel_canvas.specs.inside.RowCanvas.{IsRowCanvas, row_canvas_work}
 use Rattle.sixel_canvas.specs.inside.RowCanvas.{row_edge, row_len, runs_most}
 use Rattle.std.proofs.lemmas.List.{get_or_past}
 use Rattle.sixel_canvas.specs.Row.{IsThrifty, empty_row}
-use Rattle.sixel_canvas.specs.inside.TaggedRow.{TaggedRowState, empty_tagged_row}
+use Rattle.sixel_canvas.specs.inside.TaggedRow.{TaggedRowState, IsTaggedRow, empty_tagged_row}
 use Rattle.sixel_canvas.specs.inside.Tags.{no_tag}
-use Rattle.sixel_canvas.proofs.Totals.{total-front, total-past, total-same, total-zero}
+use Rattle.sixel_canvas.proofs.Totals.{total-add, total-front, total-past, total-same, total-zero}
 
 -- ---- sums over the rows
 
@@ -44,43 +45,115 @@ pub record AreThrifty (rows : List TaggedRowState) : Type 0 where
   pub room : sum_by (λ line. line.row.room) rows ≤ 2 * pixels_in rows
   pub spread : sum_by (λ line. line.spread) rows ≤ pixels_in rows
 
-pub lines_thrifty : (background : List ℕ) (rows : List TaggedRowState)
-    → All (IsLineOf background) rows → AreThrifty rows
+pub lines_thrifty : (rows : List TaggedRowState)
+    → All IsTaggedRow rows → AreThrifty rows
 unfolding pixels_in
-lines_thrifty background [] sound = record {
+lines_thrifty [] sound = record {
   at_least = omega arith;
   at_most = omega arith;
   room = omega arith;
   spread = omega arith;
 }
-lines_thrifty background (line ∷ rows) sound =
-    let first = All-head (IsLineOf background) line rows sound in
-    let rest = lines_thrifty background rows (All-tail (IsLineOf background) line rows sound) in
+lines_thrifty (line ∷ rows) sound =
+    let first = All-head IsTaggedRow line rows sound in
+    let rest = lines_thrifty rows (All-tail IsTaggedRow line rows sound) in
     let held = sum_by-cons (λ (l : TaggedRowState). length l.row.pixels) line rows in
     let writes = sum_by-cons (λ (l : TaggedRowState). l.row.writes) line rows in
     let room = sum_by-cons (λ (l : TaggedRowState). l.row.room) line rows in
     let spread = sum_by-cons (λ (l : TaggedRowState). l.spread) line rows in
     record {
-      at_least = omega (arith, held, writes, rest.at_least, first.sound.row.at_least);
-      at_most = omega (arith, held, writes, rest.at_most, first.sound.row.at_most);
-      room = omega (arith, held, room, rest.room, first.sound.row.room_at_most);
-      spread = omega (arith, held, spread, rest.spread, first.sound.spread);
+      at_least = omega (arith, held, writes, rest.at_least, first.row.at_least);
+      at_most = omega (arith, held, writes, rest.at_most, first.row.at_most);
+      room = omega (arith, held, room, rest.room, first.row.room_at_most);
+      spread = omega (arith, held, spread, rest.spread, first.spread);
     }
 
 -- so many rows have at most so many pixels
-pub pixels_in-most : (background : List ℕ) (rows : List TaggedRowState)
-    → All (IsLineOf background) rows → pixels_in rows ≤ 1000000 * length rows
+pub pixels_in-most : (rows : List TaggedRowState)
+    → All IsTaggedRow rows → pixels_in rows ≤ 1000000 * length rows
 unfolding pixels_in
-pixels_in-most background [] sound = omega arith
-pixels_in-most background (line ∷ rows) sound =
-    let first = All-head (IsLineOf background) line rows sound in
+pixels_in-most [] sound = omega arith
+pixels_in-most (line ∷ rows) sound =
+    let first = All-head IsTaggedRow line rows sound in
     omega (
       arith,
       sum_by-cons (λ (l : TaggedRowState). length l.row.pixels) line rows,
-      pixels_in-most background rows (All-tail (IsLineOf background) line rows sound),
-      first.sound.row.held,
-      first.sound.row.side,
+      pixels_in-most rows (All-tail IsTaggedRow line rows sound),
+      first.row.held,
+      first.row.side,
     )
+
+-- ---- the rows of all bands
+
+-- the rows that were made, one band after another
+pub made : List (List TaggedRowState) → List TaggedRowState
+made [] = []
+made (rows ∷ bands) = rows ++ made bands
+
+pub made-sum : (f : TaggedRowState → ℕ) (bands : List (List TaggedRowState))
+    → sum_by f (made bands) ≡ sum_by (sum_by f) bands
+unfolding made
+made-sum f [] = refl
+made-sum f (rows ∷ bands) =
+    sum_by-append f rows (made bands) ∙ ap (λ n. sum_by f rows + n) (made-sum f bands)
+    ∙ sym (sum_by-cons (sum_by f) rows bands)
+
+pub made-sound : (bands : List (List TaggedRowState)) → All IsRowBand bands
+    → All IsTaggedRow (made bands)
+unfolding made
+made-sound [] sound = All-nil IsTaggedRow
+made-sound (rows ∷ bands) sound =
+    All-append IsTaggedRow rows (made bands) (All-head IsRowBand rows bands sound).rows
+    (made-sound bands (All-tail IsRowBand rows bands sound))
+
+-- a band has at most six rows
+pub six_rows : (rows : List TaggedRowState) → IsRowBand rows → length rows ≤ 6
+six_rows rows sound = elim (cases_lt 0 (length rows)) [
+  | inl some ↦ omega (arith, sound.whole some)
+  | inr none ↦ omega (arith, none)
+]
+
+pub made-len : (bands : List (List TaggedRowState)) → All IsRowBand bands
+    → length (made bands) ≤ 6 * length bands
+unfolding made
+made-len [] sound = omega arith
+made-len (rows ∷ bands) sound =
+    omega (
+      arith,
+      length-append rows (made bands),
+      six_rows rows (All-head IsRowBand rows bands sound),
+      made-len bands (All-tail IsRowBand rows bands sound),
+    )
+
+-- the total over the places is the sum over the rows that were made
+pub total-bands : (bands : List (List TaggedRowState)) (background : List ℕ) (n : ℕ)
+    → All IsRowBand bands → length bands ≤ n
+    → total (λ k. length (line_in (get_or bands (k / 6) []) background (k % 6)).row.pixels) (6 * n)
+    ≡ pixels_in (made bands)
+unfolding made pixels_in total
+total-bands [] background n sound enough = total-zero (6 * n)
+total-bands (rows ∷ bands) background zero sound enough = absurd (omega arith)
+total-bands (rows ∷ bands) background (suc n) sound enough =
+    let pixels = λ (k : ℕ).
+    length (line_in (get_or (rows ∷ bands) (k / 6) []) background (k % 6)).row.pixels in
+    let below = λ (k : ℕ).
+    length (line_in (get_or bands (k / 6) []) background (k % 6)).row.pixels in
+    let width = λ (line : TaggedRowState). length line.row.pixels in
+    let shift : (k : ℕ) → pixels (6 + k) ≡ below k =
+    λ k.
+    let next : (6 + k) / 6 ≡ suc (k / 6) = omega arith in
+    let same : (6 + k) % 6 ≡ k % 6 = omega arith in
+    ap (λ i. length (line_in (get_or (rows ∷ bands) i []) background ((6 + k) % 6)).row.pixels) next
+    ∙ ap (λ j. length (line_in (get_or bands (k / 6) []) background j).row.pixels) same in
+    let first : total pixels 6 ≡ pixels_in rows =
+    total-lines rows background 6
+    (six_rows rows (All-head IsRowBand rows bands sound)) in
+    let rest =
+    total-same (λ k. pixels (6 + k)) below (6 * n) shift
+    ∙ total-bands bands background n (All-tail IsRowBand rows bands sound) (omega (arith, enough)) in
+    ap (total pixels) (omega arith) ∙ total-add pixels 6 (6 * n)
+    ∙ ap (λ m. m + total (λ k. pixels (6 + k)) (6 * n)) first ∙ ap (λ m. pixels_in rows + m) rest
+    ∙ sym (sum_by-append width rows (made bands))
 
 -- ---- a canvas
 
@@ -88,17 +161,22 @@ pixels_in-most background (line ∷ rows) sound =
 pub drawn_cost : (canvas : RowCanvasState) (runs : List Run) (n : ℕ) → IsDrawnBy canvas runs
     → ((row : ℕ) → n ≤ row → row_edge runs row ≡ 0) → HasCost (row_canvas_work canvas) runs n
 drawn_cost canvas runs n is none =
-    let rows = max (length canvas.rows) n in
-    let same = total-same (row_len canvas) (row_edge runs) rows is.edges in
-    let past = total-past (row_edge runs) n rows none (omega arith) in
-    let held = total-lines canvas.rows canvas.background rows (omega arith) in
-    let thrifty = lines_thrifty canvas.background canvas.rows is.sound.rows in
+    let bands = max (length canvas.bands) n in
+    let rows : List TaggedRowState = made canvas.bands in
+    let same = total-same (row_len canvas) (row_edge runs) (6 * bands) is.edges in
+    let past = total-past (row_edge runs) n (6 * bands) none (omega arith) in
+    let held =
+    total-bands canvas.bands canvas.background bands is.sound.bands (omega arith) in
+    let thrifty = lines_thrifty rows (made-sound canvas.bands is.sound.bands) in
+    let writes = made-sum (λ line. line.row.writes) canvas.bands in
+    let room = made-sum (λ line. line.row.room) canvas.bands in
+    let spread = made-sum (λ line. line.spread) canvas.bands in
     record {
-      at_least = omega (arith, same, past, held, thrifty.at_least);
-      at_most = omega (arith, same, past, held, thrifty.at_most);
-      room = omega (arith, same, past, held, thrifty.room);
+      at_least = omega (arith, same, past, held, writes, thrifty.at_least);
+      at_most = omega (arith, same, past, held, writes, thrifty.at_most);
+      room = omega (arith, same, past, held, room, thrifty.room);
       least = omega (arith, is.least);
-      most = omega (arith, same, past, held, thrifty.spread, is.most);
+      most = omega (arith, same, past, held, spread, thrifty.spread, is.most);
     }
 
 -- So a canvas that nothing was drawn on has cost nothing.
@@ -123,16 +201,16 @@ pub drawn_run : (old new : RowCanvasState) (from to bits : ℕ) (runs : List Run
     → IsDrawnBy old runs → 0 < bits → IsRowCanvas new
     → ((row : ℕ)
     → row_len new row
-    ≡ (if is_struck old.top bits row then max (row_len old row) to else row_len old row))
+    ≡ (if is_struck (6 * old.band) bits row then max (row_len old row) to else row_len old row))
     → new.paints ≡ counted old.paints (least_painted (to - from))
-    → IsDrawnBy new (run from to old.top bits ∷ runs)
+    → IsDrawnBy new (run from to (6 * old.band) bits ∷ runs)
 drawn_run old new from to bits runs is some sound grown paints =
     let set = lt-ltb 0 bits some in
     record {
       sound = sound;
       edges = λ row.
           grown row
-          ∙ ap (λ n. if is_struck old.top bits row then max n to else n) (is.edges row);
+          ∙ ap (λ n. if is_struck (6 * old.band) bits row then max n to else n) (is.edges row);
       least = rw set (omega (arith, is.least, paints));
       most = omega (arith, is.most, paints);
     }
@@ -169,50 +247,74 @@ empty_thrifty background = record {
 }
 
 -- a row with no pixel is sound
-pub empty_line : (background : List ℕ) → IsLineOf background (empty_tagged_row background)
+pub empty_line : (background : List ℕ) → IsTaggedRow (empty_tagged_row background)
 empty_line background = record {
-  sound = record {
-    row = empty_thrifty background;
-    tags = empty_thrifty no_tag;
-    clear = refl;
-    whole = omega arith;
-    spread = omega arith;
-  };
-  over = refl;
+  row = empty_thrifty background;
+  tags = empty_thrifty no_tag;
+  clear = refl;
+  whole = omega arith;
+  spread = omega arith;
 }
 
--- a row of the canvas, also where none was made
+-- a row of a band, also where none was made
 line_sound : (background : List ℕ) (rows : List TaggedRowState) (row : ℕ)
-    → All (IsLineOf background) rows → IsLineOf background (line_in rows background row)
+    → All IsTaggedRow rows → IsTaggedRow (line_in rows background row)
 line_sound background rows row sound =
     elim (cases_lt row (length rows)) [
       | inl made ↦
-          All-get_or (IsLineOf background) rows row (empty_tagged_row background) made sound
+          All-get_or IsTaggedRow rows row (empty_tagged_row background) made sound
       | inr past ↦
           rw (get_or_past rows row (empty_tagged_row background) past) (empty_line background)
     ]
 
+-- a band without rows is sound
+pub empty_band : IsRowBand []
+empty_band = record { whole = λ some. absurd (omega (arith, some)); rows = All-nil IsTaggedRow }
+
+-- a band, also where none was made
+pub band_sound : (bands : List (List TaggedRowState)) (band : ℕ) → All IsRowBand bands
+    → IsRowBand (get_or bands band [])
+band_sound bands band sound =
+    elim (cases_lt band (length bands)) [
+      | inl made ↦ All-get_or IsRowBand bands band [] made sound
+      | inr past ↦ rw (get_or_past bands band [] past) empty_band
+    ]
+
 -- how many tags rows have, and for how many there is memory
-pub few_tags : (canvas : RowCanvasState) → All (IsLineOf canvas.background) canvas.rows
-    → AreFewTags canvas
+pub few_tags : (canvas : RowCanvasState) → All IsRowBand canvas.bands → AreFewTags canvas
 few_tags canvas sound = λ row.
-    let is = line_sound canvas.background canvas.rows row sound in
-    (is.sound.whole, is.sound.tags.room_at_most)
+    let is =
+    line_sound canvas.background (get_or canvas.bands (row / 6) []) (row % 6)
+    (band_sound canvas.bands (row / 6) sound).rows in
+    (is.whole, is.tags.room_at_most)
 
 -- what all rows have written, and what wide runs have painted, fit a number
-pub writes_most : (background : List ℕ) (rows : List TaggedRowState) → length rows ≤ 1000000
-    → All (IsLineOf background) rows
+pub writes_most : (rows : List TaggedRowState) → length rows ≤ 1000000
+    → All IsTaggedRow rows
     → sum_by (λ (line : TaggedRowState). line.row.writes) rows ≤ 3000000000000
-writes_most background rows few sound =
-    let thrifty = lines_thrifty background rows sound in
-    omega (arith, thrifty.at_most, pixels_in-most background rows sound, few)
+writes_most rows few sound =
+    let thrifty = lines_thrifty rows sound in
+    omega (arith, thrifty.at_most, pixels_in-most rows sound, few)
 
-pub spread_most : (background : List ℕ) (rows : List TaggedRowState) → length rows ≤ 1000000
-    → All (IsLineOf background) rows
+pub spread_most : (rows : List TaggedRowState) → length rows ≤ 1000000
+    → All IsTaggedRow rows
     → sum_by (λ (line : TaggedRowState). line.spread) rows ≤ 1000000000000
-spread_most background rows few sound =
-    let thrifty = lines_thrifty background rows sound in
-    omega (arith, thrifty.spread, pixels_in-most background rows sound, few)
+spread_most rows few sound =
+    let thrifty = lines_thrifty rows sound in
+    omega (arith, thrifty.spread, pixels_in-most rows sound, few)
+
+-- those of all bands
+pub band_writes_most : (canvas : RowCanvasState) → IsRowCanvas canvas
+    → sum_by (sum_by (λ (line : TaggedRowState). line.row.writes)) canvas.bands ≤ 3000000000000
+band_writes_most canvas is =
+    rw (← made-sum (λ line. line.row.writes) canvas.bands) (writes_most (made canvas.bands)
+    (omega (arith, made-len canvas.bands is.bands, is.few)) (made-sound canvas.bands is.bands))
+
+pub band_spread_most : (canvas : RowCanvasState) → IsRowCanvas canvas
+    → sum_by (sum_by (λ (line : TaggedRowState). line.spread)) canvas.bands ≤ 1000000000000
+band_spread_most canvas is =
+    rw (← made-sum (λ line. line.spread) canvas.bands) (spread_most (made canvas.bands)
+    (omega (arith, made-len canvas.bands is.bands, is.few)) (made-sound canvas.bands is.bands))
 
 -- a row with a column was made
 pub line_made : (rows : List TaggedRowState) (background : List ℕ) (row : ℕ)
@@ -226,6 +328,15 @@ line_made rows background row some =
         ap (λ (l : TaggedRowState). length l.row.pixels)
             (get_or_past rows row (empty_tagged_row background) past),
       ))
+    ]
+
+-- a band with rows was made
+pub band_made : (bands : List (List TaggedRowState)) (band : ℕ)
+    → 0 < length (get_or bands band []) → band < length bands
+band_made bands band some =
+    elim (cases_lt band (length bands)) [
+      | inl made ↦ made
+      | inr past ↦ absurd (omega (arith, some, ap (λ (l : List TaggedRowState). length l) (get_or_past bands band [] past)))
     ]
 
 -- an element that is there, whatever stands for others

@@ -15,6 +15,16 @@ unfolding total
 total-front f zero = omega arith
 total-front f (suc n) = omega (arith, total-front f n)
 
+-- the first numbers, and those after them
+pub total-add : (f : ℕ → ℕ) (m n : ℕ) → total f (m + n) ≡ total f m + total (λ k. f (m + k)) n
+unfolding total
+total-add f m zero =
+    let none : m + zero ≡ m = omega arith in
+    omega (arith, ap (total f) none)
+total-add f m (suc n) =
+    let more : m + suc n ≡ suc (m + n) = omega arith in
+    omega (arith, ap (total f) more, total-add f m n)
+
 -- zeros add nothing
 pub total-past : (f : ℕ → ℕ) (m n : ℕ) → ((k : ℕ) → m ≤ k → f k ≡ 0) → m ≤ n
     → total f n ≡ total f m

@@ -6,6 +6,7 @@ pub mod FinalRows
 pub mod Paints
 pub mod Pixels
 pub mod ReleasedRows
+pub mod RowBand
 pub mod RowCanvas
 pub mod TaggedBand
 pub mod TaggedRow

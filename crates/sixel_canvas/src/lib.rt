@@ -9,6 +9,7 @@ pub mod final_rows;
 mod pixel_row;
 mod released_rows;
 mod row;
+mod row_band;
 pub mod row_canvas;
 mod span;
 pub mod tagged_band;

@@ -1,7 +1,7 @@
 //! A row of the canvas, which doubles its capacity if it is too small.
 ghost use Rattle.std.specs.Prelude.{◌≡◌, ◌+◌, ◌-◌, ◌*◌, ◌^◌, ◌<◌, ◌≤◌, ◌==◌, ◌++◌, length};
 ghost use Rattle.std.specs.Prelude.{slice_index_or, vec_len, vec_capacity};
-ghost use Rattle.std.specs.Prelude.{nat_lt, if◌then◌else◌, IfErr, IsOk, OnErr, OnOk};
+ghost use Rattle.std.specs.Prelude.{max, nat_lt, if◌then◌else◌, IfErr, IsOk, OnErr, OnOk};
 ghost use Rattle.sixel_base.specs.Limits.{side_limit};
 ghost use Rattle.sixel_base.specs.Picture.{joined};
 ghost use Rattle.sixel_base.specs.declared.error.SixelError.TheVariants.{OutOfMemory};
@@ -194,6 +194,8 @@ fn reserve(bytes: &mut Vec<u8>, room: usize) -> AllocResult<()>
     ensures enough { OnOk result (4 * room ≤ vec_capacity bytes.new) }
     ensures within { 4 * room ≤ vec_capacity bytes.old → IsOk result }
     ensures items { bytes.new.items ≡ bytes.old.items }
+    ensures exact { OnOk result
+        (vec_capacity bytes.new ≡ max (vec_capacity bytes.old) (4 * room)) }
     ensures never_less { vec_capacity bytes.old ≤ vec_capacity bytes.new }
 {
     bytes.reserve_exact(4 * room - bytes.len())

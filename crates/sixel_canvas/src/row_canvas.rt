@@ -1,31 +1,37 @@
 //! A canvas of rows that grow as far as they are drawn on.
-ghost use Rattle.std.specs.Prelude.{◌≡◌, ℕ, ◌+◌, ◌*◌, ◌^◌, ◌≤◌, ◌<◌, ◌++◌, List, max, length};
-ghost use Rattle.std.specs.Prelude.{nat_le, nat_lt, ◌&&◌, true, All, vec_len, IfOk, IsOk, OnOk};
-ghost use Rattle.std.specs.Prelude.{if◌then◌else◌};
+ghost use Rattle.std.specs.Prelude.{◌≡◌, ℕ, ◌+◌, ◌*◌, ◌/◌, ◌%◌, ◌^◌, ◌≤◌, ◌<◌, ◌++◌, List, max};
+ghost use Rattle.std.specs.Prelude.{◌-◌, [], length, true, All, vec_len, vec_capacity, IfOk, IsOk, OnOk};
+ghost use Rattle.std.specs.Prelude.{slice_index_or, if◌then◌else◌};
 ghost use Rattle.sixel_base.specs.Limits.{area_limit, side_limit};
 ghost use Rattle.sixel_base.specs.Picture.{covers, is_struck, joined, picture};
-ghost use Rattle.sixel_canvas.specs.inside.Paints.{ends_and_tags, least_painted};
-ghost use Rattle.sixel_canvas.specs.inside.RowCanvas.{AreFewTags, IsDrawnBy, IsLineOf, IsRowCanvas};
-ghost use Rattle.sixel_canvas.specs.inside.RowCanvas.{least, line_in, row_canvas_held};
+ghost use Rattle.sixel_canvas.specs.inside.Paints.{counted, ends_and_tags, least_painted};
+ghost use Rattle.sixel_canvas.specs.inside.RowBand.{IsRowBand, line_in};
+ghost use Rattle.sixel_canvas.specs.inside.RowCanvas.{AreFewTags, IsDrawnBy, IsRowCanvas};
+ghost use Rattle.sixel_canvas.specs.inside.RowCanvas.{band_line, band_rows, row_canvas_held};
 ghost use Rattle.sixel_canvas.specs.inside.RowCanvas.{row_canvas_shown, row_canvas_work, row_len};
-ghost use Rattle.sixel_canvas.specs.inside.TaggedRow.{tagged_pixel};
 ghost use Rattle.sixel_canvas.specs.inside.Tags.{is_tag};
 
 use crate::drawing::Canvas;
+use crate::row_band::RowBand;
 use crate::span::{AllocResult, add_pixels};
-use crate::tagged_row::{BLOCK, TaggedRow};
+use crate::tagged_row::BLOCK;
 use sixel_base::limits::MAX_SIDE;
 use std::alloc::{AllocError, Global};
 use std::marker::Model;
 
+/// How many bands an image has at most.
+const MAX_BANDS: usize = MAX_SIDE / 6;
+
 /// A canvas that stores each row up to its last column that was drawn on.
 ///
-/// Its work and its capacity are counted: they are in proportion to the area of the right edges
-/// of its rows.
+/// A band without a set pixel has no rows. Work and capacity are counted: they are in proportion to
+/// the area of the right edges of the rows.
 #[derive(Drop)]
 pub struct RowCanvas {
-    rows: Vec<TaggedRow>,
-    top: usize,
+    /// The bands from the top, as far as one was drawn on.
+    bands: Vec<RowBand>,
+    /// How many bands are above the one that is drawn on.
+    band: usize,
     background: [u8; 4],
     paints: u64,
 }
@@ -37,16 +43,16 @@ impl Model for RowCanvas {
     ghost Value = { RowCanvasState };
 
     ghost view = { λ canvas.
-        row_canvas_state canvas.background canvas.rows.items canvas.top canvas.paints };
+        row_canvas_state canvas.background canvas.bands.items canvas.band canvas.paints };
 
     ghost invariant = { λ canvas. IsRowCanvas
-        (row_canvas_state canvas.background canvas.rows.items canvas.top canvas.paints) };
+        (row_canvas_state canvas.background canvas.bands.items canvas.band canvas.paints) };
 }
 
 impl Canvas for RowCanvas {
     ghost shown = { row_canvas_shown };
 
-    ghost top = { λ canvas. canvas.top };
+    ghost top = { λ canvas. 6 * canvas.band };
 
     ghost held = { row_canvas_held };
 
@@ -58,8 +64,8 @@ impl Canvas for RowCanvas {
 
     fn new(alloc: Global, background: [u8; 4]) -> RowCanvas {
         RowCanvas {
-            rows: Vec::new(alloc),
-            top: 0,
+            bands: Vec::new(alloc),
+            band: 0,
             background,
             paints: 0,
         }
@@ -67,12 +73,15 @@ impl Canvas for RowCanvas {
 
     #[inline(always)]
     fn top(&self) -> usize {
-        self.top
+        6 * self.band
     }
 
     #[inline(always)]
     fn held(&self) -> usize {
-        band_len(&self.rows, self.top, self.background)
+        match self.bands.get(self.band) {
+            Some(band) => band.held(),
+            None => 0,
+        }
     }
 
     fn expect_width(&mut self, _width: usize) {}
@@ -82,9 +91,8 @@ impl Canvas for RowCanvas {
         if bits == 0 {
             return Ok(());
         }
-        make_rows(&mut self.rows, self.top + 6, self.background)?;
-        self.paints = self.paints.saturating_add(run_paints(to - from));
-        self.draw_rows(from, to, bits, color)
+        make_band(&mut self.bands, self.band, self.background)?;
+        self.draw_band(from, to, bits, color)
     }
 
     #[inline(always)]
@@ -92,12 +100,11 @@ impl Canvas for RowCanvas {
         if bits == 0 {
             return;
         }
-        self.paints = self.paints.saturating_add(run_paints(1));
-        let _drawn = self.draw_rows(at, at + 1, bits, color);
+        let _drawn = self.draw_band(at, at + 1, bits, color);
     }
 
     fn new_line(&mut self) {
-        self.top += 6;
+        self.band += 1;
     }
 
     fn take_picture(&mut self, width: usize, height: usize) -> Result<Vec<u8>, AllocError> {
@@ -116,8 +123,8 @@ impl RowCanvas {
         ensures tags { AreFewTags self.now }
     {
         let mut writes = 0;
-        'counted: for line in &self.rows {
-            writes += line.writes();
+        'counted: for band in &self.bands {
+            writes += band.writes();
         }
         writes
     }
@@ -129,38 +136,33 @@ impl RowCanvas {
         ensures { result ≡ (row_canvas_work self.now).paints }
     {
         let mut spread = 0;
-        'counted: for line in &self.rows {
-            spread += line.spread();
+        'counted: for band in &self.bands {
+            spread += band.spread();
         }
         self.paints.saturating_add(spread)
     }
 
-    /// Draws a sixel on rows that were made.
-    fn draw_rows(&mut self, from: usize, to: usize, bits: u8, color: [u8; 4]) -> AllocResult<()>
+    /// Counts a sixel, and draws it on the rows of the band, which were made.
+    #[inline(always)]
+    fn draw_band(&mut self, from: usize, to: usize, bits: u8, color: [u8; 4]) -> AllocResult<()>
         requires ordered { from < to }
         requires within { to ≤ side_limit }
-        requires made { self.old.top + 6 ≤ length self.old.rows }
-        requires six { bits < 64 }
+        requires made { 0 < length (band_rows self.old) }
         requires visible { is_tag color ≡ true }
         ensures drawn { OnOk result ((column row : ℕ) → row_canvas_shown self.new column row
-            ≡ (if covers from to self.old.top bits column row then color
+            ≡ (if covers from to (6 * self.old.band) bits column row then color
             else row_canvas_shown self.old column row)) }
         ensures grown { OnOk result ((row : ℕ) → row_len self.new row
-            ≡ (if is_struck self.old.top bits row then max (row_len self.old row) to
+            ≡ (if is_struck (6 * self.old.band) bits row then max (row_len self.old row) to
             else row_len self.old row)) }
-        ensures top { self.new.top ≡ self.old.top }
-        ensures paints { self.new.paints ≡ self.old.paints }
-        ensures background { self.new.background ≡ self.old.background }
+        ensures band { self.new.band ≡ self.old.band }
+        ensures paints { self.new.paints ≡ counted self.old.paints (least_painted (to - from)) }
         ensures held { to ≡ from + 1
-            → ((k : ℕ) → k < 6 → to ≤ row_len self.old (self.old.top + k)) → IsOk result }
+            → ((k : ℕ) → k < 6 → to ≤ length (band_line self.old k).row.pixels) → IsOk result }
         ensures sound { IsRowCanvas self.new }
     {
-        'drawn: for bit in 0..6 {
-            if (bits >> bit) % 2 == 1 {
-                draw_row(&mut self.rows, self.top + bit, from, to, color)?;
-            }
-        }
-        Ok(())
+        self.paints = self.paints.saturating_add(run_paints(to - from));
+        self.bands[self.band].draw(from, to, bits, color)
     }
 
     /// Returns the bytes of the picture of this size.
@@ -170,7 +172,7 @@ impl RowCanvas {
             ≡ picture (row_canvas_shown self.now) width height) }
         ensures len { IfOk result (λ bytes. length bytes.items ≡ 4 * (width * height)) }
     {
-        let alloc = *self.rows.allocator();
+        let alloc = *self.bands.allocator();
         let mut bytes = Vec::with_capacity(alloc, 4 * (width * height))?;
         'packed: for row in 0..height {
             self.pack_row(&mut bytes, row, width)?;
@@ -185,8 +187,8 @@ impl RowCanvas {
             ++ joined (λ column. row_canvas_shown self.now column row) width) }
         ensures len { OnOk result (vec_len bytes.new ≡ vec_len bytes.old + 4 * width) }
     {
-        match self.rows.get(row) {
-            Some(line) => line.pack(bytes, width),
+        match self.bands.get(row / 6) {
+            Some(band) => band.pack_row(row % 6, bytes, width, self.background),
             None => add_pixels(bytes, width, self.background),
         }
     }
@@ -202,96 +204,42 @@ fn run_paints(columns: usize) -> u64
     painted as u64
 }
 
-/// Returns how many columns all six rows from `top` on have.
-fn band_len(rows: &Vec<TaggedRow>, top: usize, background: [u8; 4]) -> usize
-    ensures { result
-        ≡ least (λ k. length (line_in rows.now.items background (top + k)).row.pixels) 6 }
-{
-    if top >= rows.len() {
-        return 0;
-    }
-    let mut held = MAX_SIDE;
-    'rows: for bit in 0..6 {
-        held = held.min(len_of(rows, top + bit));
-    }
-    held
-}
-
-/// Returns how many columns a row has.
-fn len_of(rows: &Vec<TaggedRow>, row: usize) -> usize
-    ensures { (background : List ℕ)
-        → result ≡ length (line_in rows.now.items background row).row.pixels }
-{
-    match rows.get(row) {
-        Some(line) => line.len(),
-        None => 0,
-    }
-}
-
-/// Makes rows until there are so many.
+/// Makes the rows of a band.
 #[inline(always)]
-fn make_rows(rows: &mut Vec<TaggedRow>, count: usize, background: [u8; 4]) -> AllocResult<()>
-    requires { count ≤ side_limit }
-    ensures enough { OnOk result (count ≤ vec_len rows.new) }
-    ensures same { (row : ℕ) → line_in rows.new.items background row
-        ≡ line_in rows.old.items background row }
-    ensures few { vec_len rows.old ≤ side_limit → vec_len rows.new ≤ side_limit }
-    ensures rows { All (IsLineOf background) rows.old.items
-        → All (IsLineOf background) rows.new.items }
+fn make_band(bands: &mut Vec<RowBand>, band: usize, background: [u8; 4]) -> AllocResult<()>
+    requires { 6 * band + 6 ≤ side_limit }
+    ensures made { OnOk result (length (slice_index_or bands.new.items band []) ≡ 6) }
+    ensures same { (other k : ℕ) → line_in (slice_index_or bands.new.items other []) background k
+        ≡ line_in (slice_index_or bands.old.items other []) background k }
+    ensures others { (other : ℕ) → (other ≡ band → ⊥)
+        → slice_index_or bands.new.items other [] ≡ slice_index_or bands.old.items other [] }
+    ensures few { 6 * vec_len bands.old ≤ side_limit → 6 * vec_len bands.new ≤ side_limit }
+    ensures bands { All IsRowBand bands.old.items → All IsRowBand bands.new.items }
 {
-    if count <= rows.len() {
-        return Ok(());
+    if band >= bands.len() {
+        add_bands(bands, band + 1)?;
     }
-    add_rows(rows, count, background)
+    bands[band].make_rows(background)
 }
 
-/// Appends rows without a pixel until there are so many.
+/// Appends bands without rows until there are so many.
 #[cold]
 #[inline(never)]
-fn add_rows(rows: &mut Vec<TaggedRow>, count: usize, background: [u8; 4]) -> AllocResult<()>
-    requires fewer { vec_len rows.old ≤ count }
-    requires few { count ≤ side_limit }
-    ensures enough { OnOk result (count ≤ vec_len rows.new) }
-    ensures same { (row : ℕ) → line_in rows.new.items background row
-        ≡ line_in rows.old.items background row }
-    ensures few { vec_len rows.old ≤ side_limit → vec_len rows.new ≤ side_limit }
-    ensures rows { All (IsLineOf background) rows.old.items
-        → All (IsLineOf background) rows.new.items }
+fn add_bands(bands: &mut Vec<RowBand>, count: usize) -> AllocResult<()>
+    requires more { vec_len bands.old < count }
+    requires few { 6 * count ≤ side_limit }
+    ensures enough { OnOk result (vec_len bands.new ≡ count) }
+    ensures same { (band : ℕ) → slice_index_or bands.new.items band []
+        ≡ slice_index_or bands.old.items band [] }
+    ensures few { 6 * vec_len bands.new ≤ side_limit }
+    ensures bands { All IsRowBand bands.old.items → All IsRowBand bands.new.items }
+    ensures capacity { vec_capacity bands.new ≤ max (vec_capacity bands.old) (2 * count) }
 {
-    let alloc = *rows.allocator();
-    'made: for _made in rows.len()..count {
-        rows.push(TaggedRow::new(alloc, background))?;
+    let alloc = *bands.allocator();
+    let len = bands.len();
+    bands.reserve_exact(count.max(MAX_BANDS.min(2 * len)) - len)?;
+    'made: for _band in len..count {
+        bands.push_reserved(RowBand::new(alloc));
     }
     Ok(())
-}
-
-/// Draws a run on one row.
-#[inline(always)]
-fn draw_row(
-    rows: &mut Vec<TaggedRow>,
-    row: usize,
-    from: usize,
-    to: usize,
-    color: [u8; 4],
-) -> AllocResult<()>
-    requires made { row < vec_len rows.old }
-    requires ordered { from < to }
-    requires within { to ≤ side_limit }
-    requires visible { is_tag color ≡ true }
-    ensures drawn { OnOk result ((background : List ℕ) (column : ℕ)
-        → tagged_pixel (line_in rows.new.items background row) column
-        ≡ (if nat_le from column && nat_lt column to then color
-        else tagged_pixel (line_in rows.old.items background row) column)) }
-    ensures grown { OnOk result ((background : List ℕ)
-        → length (line_in rows.new.items background row).row.pixels
-        ≡ max (length (line_in rows.old.items background row).row.pixels) to) }
-    ensures others { (background : List ℕ) (other : ℕ) → (other ≡ row → ⊥)
-        → line_in rows.new.items background other ≡ line_in rows.old.items background other }
-    ensures len { vec_len rows.new ≡ vec_len rows.old }
-    ensures held { to ≡ from + 1 → ((background : List ℕ)
-        → to ≤ length (line_in rows.old.items background row).row.pixels) → IsOk result }
-    ensures rows { (background : List ℕ) → All (IsLineOf background) rows.old.items
-        → All (IsLineOf background) rows.new.items }
-{
-    rows[row].draw(from, to, color)
 }

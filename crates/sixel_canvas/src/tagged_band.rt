@@ -6,8 +6,8 @@ ghost use Rattle.sixel_base.specs.Picture.{covers};
 ghost use Rattle.sixel_canvas.specs.inside.Band.{cell, IsBand};
 ghost use Rattle.sixel_canvas.specs.inside.Drawn.{covers_block};
 ghost use Rattle.sixel_canvas.specs.inside.Paints.{counted};
-ghost use Rattle.sixel_canvas.specs.inside.TaggedBand.{capacity, least_cost, most_painted};
-ghost use Rattle.sixel_canvas.specs.inside.TaggedBand.{tagged_cell};
+ghost use Rattle.sixel_canvas.specs.inside.TaggedBand.{capacity, doubled, least_cost};
+ghost use Rattle.sixel_canvas.specs.inside.TaggedBand.{most_painted, tagged_cell};
 ghost use Rattle.sixel_canvas.specs.inside.Tags.{is_tag, no_tag, under};
 
 use crate::band::{Band, MAX_CAP};
@@ -109,6 +109,7 @@ impl TaggedBand {
         requires more { self.old.pixels.cap < columns }
         requires within { columns ≤ 1000008 }
         ensures held { OnOk result (columns ≤ self.new.pixels.cap) }
+        ensures doubled { OnOk result (doubled self.old.pixels.cap ≤ self.new.pixels.cap) }
         ensures capacity { OnOk result (capacity self.new ≤ 2 * columns) }
         ensures shown { (column k : ℕ) → tagged_cell self.new column k
             ≡ tagged_cell self.old column k }
@@ -385,6 +386,7 @@ fn greater_cap(cap: usize, columns: usize) -> usize
     requires more { cap < columns }
     requires within { columns ≤ 1000008 }
     ensures more { columns ≤ result }
+    ensures doubled { doubled cap ≤ result }
     ensures within { result ≤ 1000008 }
     ensures most { result + (result + 127) / 128 ≤ 2 * columns }
 {

@@ -1,34 +1,34 @@
 -- What a canvas of rows shows, and what it has cost by the runs that were drawn on it: pixels that
 -- were copied or filled to grow its rows, their capacity, and pixels that were painted. The rules
--- are this library's own: a row has pixels only up to the last column that was drawn on.
-use Rattle.std.specs.Prelude.{◌≡◌, ℕ, zero, suc, ◌+◌, ◌-◌, ◌*◌, ◌≤◌, min, max, nat_lt}
+-- are this library's own: a row has pixels only up to the last column that was drawn on, and a band
+-- without a set pixel has no rows.
+use Rattle.std.specs.Prelude.{◌≡◌, ℕ, ◌+◌, ◌-◌, ◌*◌, ◌/◌, ◌%◌, ◌^◌, ◌<◌, ◌≤◌, max, nat_lt}
 use Rattle.std.specs.Prelude.{if◌then◌else◌, List, [], ◌∷◌, All, length, slice_index_or, sum_by}
 use Rattle.sixel_base.specs.Limits.{side_limit}
 use Rattle.sixel_base.specs.Picture.{is_struck, total}
 use Rattle.sixel_canvas.specs.inside.Drawn.{Run, Work}
 use Rattle.sixel_canvas.specs.inside.Paints.{counted, ends_and_tags, least_painted}
-use Rattle.sixel_canvas.specs.inside.TaggedRow.{TaggedRowState, IsTaggedRow, empty_tagged_row}
-use Rattle.sixel_canvas.specs.inside.TaggedRow.{tagged_pixel}
+use Rattle.sixel_canvas.specs.inside.RowBand.{IsRowBand, least, line_in}
+use Rattle.sixel_canvas.specs.inside.TaggedRow.{TaggedRowState, tagged_pixel}
 
--- the background, the rows from the top, the first one of the band, and what runs have painted, at
--- most, beside what they painted past all that was drawn on
+-- the background, the rows of each band from the top, how many bands are above the one that is
+-- drawn on, and what runs have painted, at most, beside what they painted past all that was drawn
+-- on
 pub record RowCanvasState : Type 0 where
   pub background : List ℕ
-  pub rows : List TaggedRowState
-  pub top : ℕ
+  pub bands : List (List TaggedRowState)
+  pub band : ℕ
   pub paints : ℕ
 
 -- the canvas with these parts
-abbrev pub row_canvas_state : List ℕ → List TaggedRowState → ℕ → ℕ → RowCanvasState
-row_canvas_state background rows top paints =
-    record { background = background; rows = rows; top = top; paints = paints }
+abbrev pub row_canvas_state : List ℕ → List (List TaggedRowState) → ℕ → ℕ → RowCanvasState
+row_canvas_state background bands band paints =
+    record { background = background; bands = bands; band = band; paints = paints }
 
 -- the row at this place, with no pixels where none was made
-abbrev pub line_in : List TaggedRowState → List ℕ → ℕ → TaggedRowState
-line_in rows background row = slice_index_or rows row (empty_tagged_row background)
-
 abbrev pub line_of : RowCanvasState → ℕ → TaggedRowState
-line_of canvas = line_in canvas.rows canvas.background
+line_of canvas row =
+    line_in (slice_index_or canvas.bands (row / 6) []) canvas.background (row % 6)
 
 -- the pixel at this place
 abbrev pub row_canvas_shown : RowCanvasState → ℕ → ℕ → List ℕ
@@ -38,33 +38,31 @@ row_canvas_shown canvas column row = tagged_pixel (line_of canvas row) column
 abbrev pub row_len : RowCanvasState → ℕ → ℕ
 row_len canvas row = length (line_of canvas row).row.pixels
 
--- the least of f 0, f 1, .. up to before n, and of the greatest width
-abbrev pub least : (ℕ → ℕ) → ℕ → ℕ
-least f zero = side_limit
-least f (suc n) = min (least f n) (f n)
+-- the rows of the band that is drawn on
+abbrev pub band_rows : RowCanvasState → List TaggedRowState
+band_rows canvas = slice_index_or canvas.bands canvas.band []
+
+abbrev pub band_line : RowCanvasState → ℕ → TaggedRowState
+band_line canvas k = line_in (band_rows canvas) canvas.background k
 
 -- how many columns all six rows of the band have
 abbrev pub row_canvas_held : RowCanvasState → ℕ
-row_canvas_held canvas = least (λ k. row_len canvas (canvas.top + k)) 6
+row_canvas_held canvas = least (λ k. length (band_line canvas k).row.pixels) 6
 
 -- what it has cost: pixels that were copied or filled to grow the rows, their capacity, and pixels
 -- and tags that were painted, at most
 abbrev pub row_canvas_work : RowCanvasState → Work
 row_canvas_work canvas = record {
-  writes = sum_by (λ line. line.row.writes) canvas.rows;
-  room = sum_by (λ line. line.row.room) canvas.rows;
-  paints = counted canvas.paints (sum_by (λ line. line.spread) canvas.rows);
+  writes = sum_by (sum_by (λ line. line.row.writes)) canvas.bands;
+  room = sum_by (sum_by (λ line. line.row.room)) canvas.bands;
+  paints = counted canvas.paints (sum_by (sum_by (λ line. line.spread)) canvas.bands);
 }
-
--- a row that a canvas with this background may have
-pub record IsLineOf (background : List ℕ) (line : TaggedRowState) : Type 0 where
-  pub sound : IsTaggedRow line
-  pub over : line.row.background ≡ background
 
 -- what is true of every canvas of rows
 pub record IsRowCanvas (canvas : RowCanvasState) : Type 0 where
-  pub few : length canvas.rows ≤ side_limit
-  pub rows : All (IsLineOf canvas.background) canvas.rows
+  pub few : 6 * length canvas.bands ≤ side_limit
+  pub bands : All IsRowBand canvas.bands
+  pub low : 6 * canvas.band < 2 ^ 64
 
 -- the greatest right edge of these runs in this row, 0 where none sets a pixel of it
 abbrev pub row_edge : List Run → ℕ → ℕ

@@ -1,7 +1,8 @@
 -- What a band shows some of whose blocks are tagged: a tag is the color of a block of 128 columns
 -- of a row, over what is stored there. The rule is this library's own: a wide run over columns that
 -- were drawn on tags the blocks that it covers whole.
-use Rattle.std.specs.Prelude.{◌≡◌, ℕ, ◌+◌, ◌*◌, ◌/◌, ◌≤◌, List, nat_lt, if◌then◌else◌}
+use Rattle.std.specs.Prelude.{◌≡◌, ℕ, ◌+◌, ◌-◌, ◌*◌, ◌/◌, ◌≤◌, List, min, nat_lt}
+use Rattle.std.specs.Prelude.{if◌then◌else◌}
 use Rattle.sixel_canvas.specs.inside.Band.{BandState, IsBand, cell}
 use Rattle.sixel_canvas.specs.inside.Tags.{no_tag, under}
 
@@ -22,6 +23,11 @@ tagged_cell band column k = under (cell band.tags (column / 128) k) (cell band.p
 -- for how many columns and tags each of its six rows has memory
 abbrev pub capacity : TaggedState → ℕ
 capacity band = band.pixels.cap + band.tags.cap
+
+-- the columns that a band has memory for after it was too small with this memory, at least: nearly
+-- twice as many, or those of the widest image, so that columns seldom move
+abbrev pub doubled : ℕ → ℕ
+doubled cap = min 1000008 (2 * cap - cap / 32)
 
 -- what is true of every band with tags: each tagged block was drawn on whole
 pub record IsTaggedBand (band : TaggedState) : Type 0 where

@@ -1,48 +1,47 @@
-use Rattle.std.proofs.Common.{ap, arith}
+use Rattle.std.proofs.Common.{List, ap, arith}
 use Rattle.std.specs.List.{sum_by}
 use Rattle.std.proofs.lemmas.List.Sums.{sum_by-take-le, sum_by_more_le}
 use Rattle.sixel_canvas.specs.inside.RowCanvas.{row_canvas_state}
 use Rattle.sixel_canvas.specs.inside.TaggedRow.{TaggedRowState}
-use Rattle.sixel_canvas.proofs.RowCosts.{few_tags, writes_most}
+use Rattle.sixel_canvas.proofs.RowCosts.{band_writes_most, few_tags}
 use Rattle.sixel_canvas.proofs.row_canvas.RowCanvas.writes.Goals as goal
 
 pub overflow_add-writes : goal.overflow_add-writes
 overflow_add-writes c =
     let canvas = c.self.inside in
-    let rows = c.deref-line-items.result.now in
+    let state =
+    row_canvas_state canvas.background canvas.bands.items canvas.band canvas.paints in
+    let bands = c.deref-band-items.result.now in
+    let count = λ (band : List TaggedRowState). sum_by (λ line. line.row.writes) band in
     let more =
-    sum_by_more_le (λ (line : TaggedRowState). line.row.writes)
-    rows c.counted.line-index c.line-item.result c.counted-test.true in
-    let whole =
-    ap (sum_by (λ (line : TaggedRowState). line.row.writes)) c.deref-line-items.ensures.value in
+    sum_by_more_le count bands c.counted.band-index c.band-item.result c.counted-test.true in
     omega (
       arith,
       more,
-      whole,
+      ap (sum_by count) c.deref-band-items.ensures.value,
       c.counted.invariant,
-      ap (λ (line : TaggedRowState). line.row.writes) c.line-item.is,
-      writes_most canvas.background canvas.rows.items c.self.invariant.few c.self.invariant.rows,
+      ap count c.band-item.is,
+      band_writes_most state c.self.invariant,
     )
 
 pub returns-clause-at_most : goal.returns-clause-at_most
 returns-clause-at_most c =
     let canvas = c.self.inside in
-    let rows = c.deref-line-items.result.now in
-    let part =
-    sum_by-take-le (λ (line : TaggedRowState). line.row.writes) rows c.counted.line-index in
-    let whole = ap (sum_by (λ (line : TaggedRowState). line.row.writes))
-    c.deref-line-items.ensures.value in
+    let state =
+    row_canvas_state canvas.background canvas.bands.items canvas.band canvas.paints in
+    let bands = c.deref-band-items.result.now in
+    let count = λ (band : List TaggedRowState). sum_by (λ line. line.row.writes) band in
     omega (
       arith,
-      part,
-      whole,
+      sum_by-take-le count bands c.counted.band-index,
+      ap (sum_by count) c.deref-band-items.ensures.value,
       c.counted.invariant,
-      writes_most canvas.background canvas.rows.items c.self.invariant.few c.self.invariant.rows,
+      band_writes_most state c.self.invariant,
     )
 
 pub returns-clause-tags : goal.returns-clause-tags
 returns-clause-tags c =
     let canvas = c.self.inside in
     rw (← c.self.view_is) (few_tags
-    (row_canvas_state canvas.background canvas.rows.items canvas.top canvas.paints)
-    c.self.invariant.rows)
+    (row_canvas_state canvas.background canvas.bands.items canvas.band canvas.paints)
+    c.self.invariant.bands)

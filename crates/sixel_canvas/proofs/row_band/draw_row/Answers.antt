@@ -1,7 +1,7 @@
 use Rattle.std.proofs.Common.{[], length, ap, ◌∙◌, arith}
 use Rattle.sixel_canvas.specs.inside.TaggedRow.{TaggedRowState, empty_tagged_row}
 use Rattle.sixel_canvas.proofs.RowCosts.{get_or-made}
-use Rattle.sixel_canvas.proofs.row_canvas.draw_row.Goals as goal
+use Rattle.sixel_canvas.proofs.row_band.draw_row.Goals as goal
 
 pub returns-clause-held : goal.returns-clause-held
 returns-clause-held c = λ single fits.

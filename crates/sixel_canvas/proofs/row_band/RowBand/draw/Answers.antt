@@ -1,0 +1,144 @@
+use Rattle.std.proofs.lemmas.Bool.{le-ltb, true≢false}
+use Rattle.std.proofs.Common.{◌≡◌, ℕ, ◌+◌, ◌<◌, List, false, max, length, refl, sym, ap, ◌∙◌, arith}
+use Rattle.std.specs.Prelude.{nat_le, nat_lt, ◌&&◌, if◌then◌else◌}
+use Rattle.sixel_base.specs.Picture.{is_struck}
+use Rattle.sixel_canvas.specs.inside.RowBand.{line_in}
+use Rattle.sixel_canvas.specs.inside.TaggedRow.{TaggedRowState, empty_tagged_row, tagged_pixel}
+use Rattle.sixel_canvas.proofs.RowCosts.{get_or-made}
+use Rattle.sixel_canvas.proofs.StruckRows.{if_and, is_struck-above, is_struck-below, is_struck-hit}
+use Rattle.sixel_canvas.proofs.StruckRows.{is_struck-miss, struck_all, struck_more, struck_none}
+use Rattle.sixel_canvas.proofs.StruckRows.{struck_skip}
+use Rattle.sixel_canvas.proofs.row_band.RowBand.draw.Goals as goal
+use Rattle.sixel_canvas.proofs.row_band.RowBand.draw.Goals.{then-bits-bit-eq1+in_ok-draw_row}
+use Rattle.sixel_canvas.proofs.row_band.RowBand.draw.Goals.{else-bits-bit-eq1}
+
+pub drawn-init : goal.drawn-init
+drawn-init c =
+    let rows = c.self.inside.rows.items in
+    let old = c.args.self.now in
+    let same : rows ≡ old = c.self.view_is in
+    let struck = is_struck 0 c.args.bits in
+    let above : (row : ℕ) → row < 0 → struck row ≡ false =
+    λ row h. is_struck-above 0 c.args.bits row h in (
+      ap (λ (l : List TaggedRowState). length l) same ∙ c.requires.made,
+      c.self.invariant.rows,
+      λ background column.
+          struck_none
+          (λ _ p. if nat_le c.args.from column && nat_lt column c.args.to then c.args.color else p)
+          struck 0 (λ row. tagged_pixel (line_in old background row) column)
+          (λ row. tagged_pixel (line_in rows background row) column) above
+          (λ row. ap (λ (l : List TaggedRowState). tagged_pixel (line_in l background row) column) same),
+      λ background.
+          struck_none (λ _ n. max n c.args.to) struck 0
+          (λ row. length (line_in old background row).row.pixels)
+          (λ row. length (line_in rows background row).row.pixels) above
+          (λ row. ap (λ (l : List TaggedRowState). length (line_in l background row).row.pixels) same),
+    )
+
+pub drawn-preserved : goal.drawn-preserved
+drawn-preserved c =
+    let rows = c.drawn.self-inside.rows.items in
+    let old = c.args.self.now in
+    let row = c.drawn.bit in
+    let struck = is_struck 0 c.args.bits in
+    let before = c.drawn.invariant in
+    let six = c.drawn-test.true in
+    let down : row ≡ 0 + row = omega arith in
+    let paint = λ (column : ℕ) (k : ℕ) (p : List ℕ).
+    if nat_le c.args.from column && nat_lt column c.args.to then c.args.color else p in
+    let grow = λ (k n : ℕ). max n c.args.to in
+    elim c.if-bits-bit-eq1.branch [
+      | then-bits-bit-eq1+in_ok-draw_row w ↦
+          let hit =
+          ap struck down ∙ is_struck-hit 0 c.args.bits row six w.if-bits-bit-eq1.true in
+          let next = w.draw_row.new.rows.items in
+          rw w.self-inside-is (
+            omega (arith, w.draw_row.ensures.len, before.0),
+            w.draw_row.ensures.rows before.1,
+            λ background column.
+                struck_more (paint column) struck row
+                (λ k. tagged_pixel (line_in old background k) column)
+                (λ k. tagged_pixel (line_in rows background k) column)
+                (λ k. tagged_pixel (line_in next background k) column)
+                (before.2 background column) hit (w.in_ok-draw_row.ensures.drawn background column)
+                (λ k apart.
+                ap (λ (l : TaggedRowState). tagged_pixel l column)
+                (w.in_ok-draw_row.ensures.others background k apart)),
+            λ background.
+                struck_more grow struck row
+                (λ k. length (line_in old background k).row.pixels)
+                (λ k. length (line_in rows background k).row.pixels)
+                (λ k. length (line_in next background k).row.pixels)
+                (before.3 background) hit (w.in_ok-draw_row.ensures.grown background)
+                (λ k apart.
+                ap (λ (l : TaggedRowState). length l.row.pixels)
+                (w.in_ok-draw_row.ensures.others background k apart)),
+          )
+      | else-bits-bit-eq1 w ↦
+          let miss =
+          ap struck down ∙ is_struck-miss 0 c.args.bits row six w.if-bits-bit-eq1.false in
+          rw w.self-inside-is (
+            before.0,
+            before.1,
+            λ background column.
+                struck_skip (paint column) struck row
+                (λ k. tagged_pixel (line_in old background k) column)
+                (λ k. tagged_pixel (line_in rows background k) column)
+                (before.2 background column) miss,
+            λ background.
+                struck_skip grow struck row
+                (λ k. length (line_in old background k).row.pixels)
+                (λ k. length (line_in rows background k).row.pixels)
+                (before.3 background) miss,
+          )
+    ]
+
+pub returns-clause-drawn : goal.returns-clause-drawn
+returns-clause-drawn c = λ background column row.
+    let rows = c.drawn.self-inside.rows.items in
+    let old = c.args.self.now in
+    let inside = nat_le c.args.from column && nat_lt column c.args.to in
+    let struck = is_struck 0 c.args.bits in
+    struck_all (λ _ p. if inside then c.args.color else p) struck c.drawn.bit
+    (λ k. tagged_pixel (line_in old background k) column)
+    (λ k. tagged_pixel (line_in rows background k) column) (c.drawn.invariant.2 background column)
+    (λ k past. is_struck-below 0 c.args.bits k (omega (arith, past, c.drawn-test.false))) row
+    ∙ sym
+    (if_and inside (struck row) c.args.color (tagged_pixel (line_in old background row) column))
+
+pub returns-clause-grown : goal.returns-clause-grown
+returns-clause-grown c = λ background row.
+    struck_all (λ _ n. max n c.args.to) (is_struck 0 c.args.bits) c.drawn.bit
+    (λ k. length (line_in c.args.self.now background k).row.pixels)
+    (λ k. length (line_in c.drawn.self-inside.rows.items background k).row.pixels)
+    (c.drawn.invariant.3 background)
+    (λ k past. is_struck-below 0 c.args.bits k (omega (arith, past, c.drawn-test.false))) row
+
+pub returns-in_err-draw_row-clause-held : goal.returns-in_err-draw_row-clause-held
+returns-in_err-draw_row-clause-held c = λ background single held.
+    let rows = c.drawn.self-inside.rows.items in
+    let old = c.args.self.now in
+    let row = c.drawn.bit in
+    let before = c.drawn.invariant in
+    let six = c.drawn-test.true in
+    let same : length (line_in rows background row).row.pixels
+    ≡ length (line_in old background row).row.pixels =
+    rw (le-ltb row row (omega arith)) at (before.3 background row) in
+    let made : row < length rows = omega (arith, before.0, six) in
+    absurd (true≢false (sym (c.in_err-draw_row.ensures.held single (λ other.
+    omega (
+      arith,
+      held row six,
+      same,
+      ap (λ (l : TaggedRowState). length l.row.pixels)
+          (get_or-made rows row (empty_tagged_row other) (empty_tagged_row background) made),
+    )))))
+
+pub invariant_of-self-in_err-draw_row : goal.invariant_of-self-in_err-draw_row
+invariant_of-self-in_err-draw_row c = record {
+  whole = λ _. omega (arith, c.draw_row.ensures.len, c.drawn.invariant.0);
+  rows = c.draw_row.ensures.rows c.drawn.invariant.1;
+}
+
+pub returns-in_err-draw_row-clause-sound : goal.returns-in_err-draw_row-clause-sound
+returns-in_err-draw_row-clause-sound c = invariant_of-self-in_err-draw_row c

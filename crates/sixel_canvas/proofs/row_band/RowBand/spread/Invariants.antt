@@ -1,0 +1,8 @@
+use Rattle.std.proofs.Common.{◌≡◌, take}
+use Rattle.std.specs.List.{sum_by}
+use Rattle.sixel_canvas.specs.inside.TaggedRow.{TaggedRowState}
+use Rattle.sixel_canvas.proofs.row_band.RowBand.spread.Given as goal
+
+abbrev pub invariant-counted : goal.invariant-counted
+invariant-counted l =
+    l.spread ≡ sum_by (λ (line : TaggedRowState). line.spread) (take l.line-index l.line-items)
