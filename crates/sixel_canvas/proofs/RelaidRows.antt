@@ -1,6 +1,7 @@
 -- Rows of another width show what they did.
 use Rattle.std.proofs.Common.{◌≡◌, ℕ, ◌+◌, ◌*◌, ◌≤◌, ◌<◌, List, arith}
 use Rattle.std.specs.Prelude.{◌&&◌, nat_lt, if◌then◌else◌}
+use Rattle.std.proofs.Math.Nat.{mul-le-mul_left}
 use Rattle.std.proofs.lemmas.Grind.{common_steps}
 use Rattle.sixel_canvas.specs.inside.FinalRows.{pixel_at}
 
@@ -26,3 +27,8 @@ pub relaid_all : (bytes old background : List ℕ) (width held rows stop : ℕ) 
     else background)
 relaid_all bytes old background width held rows stop wider whole are column row =
     grind (arith, common_steps, are)
+
+-- the pixels of so many rows are few
+pub area_fits : (rows width : ℕ) → rows ≤ 1000006 → width ≤ 2000000
+    → rows * width ≤ 2000012000000
+area_fits rows width few narrow = omega (arith, mul-le-mul_left rows narrow, few)

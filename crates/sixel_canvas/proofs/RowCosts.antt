@@ -150,7 +150,8 @@ total-bands (rows ∷ bands) background (suc n) sound enough =
     (six_rows rows (All-head IsRowBand rows bands sound)) in
     let rest =
     total-same (λ k. pixels (6 + k)) below (6 * n) shift
-    ∙ total-bands bands background n (All-tail IsRowBand rows bands sound) (omega (arith, enough)) in
+    ∙ total-bands bands background n (All-tail IsRowBand rows bands sound)
+    (omega (arith, enough)) in
     ap (total pixels) (omega arith) ∙ total-add pixels 6 (6 * n)
     ∙ ap (λ m. m + total (λ k. pixels (6 + k)) (6 * n)) first ∙ ap (λ m. pixels_in rows + m) rest
     ∙ sym (sum_by-append width rows (made bands))
@@ -336,7 +337,11 @@ pub band_made : (bands : List (List TaggedRowState)) (band : ℕ)
 band_made bands band some =
     elim (cases_lt band (length bands)) [
       | inl made ↦ made
-      | inr past ↦ absurd (omega (arith, some, ap (λ (l : List TaggedRowState). length l) (get_or_past bands band [] past)))
+      | inr past ↦ absurd (omega (
+        arith,
+        some,
+        ap (λ (l : List TaggedRowState). length l) (get_or_past bands band [] past),
+      ))
     ]
 
 -- an element that is there, whatever stands for others

@@ -1,7 +1,7 @@
 //! A canvas of rows that grow as far as they are drawn on.
 ghost use Rattle.std.specs.Prelude.{◌≡◌, ℕ, ◌+◌, ◌*◌, ◌/◌, ◌%◌, ◌^◌, ◌≤◌, ◌<◌, ◌++◌, List, max};
-ghost use Rattle.std.specs.Prelude.{◌-◌, [], length, true, All, vec_len, vec_capacity, IfOk, IsOk, OnOk};
-ghost use Rattle.std.specs.Prelude.{slice_index_or, if◌then◌else◌};
+ghost use Rattle.std.specs.Prelude.{◌-◌, [], length, true, All, vec_len, vec_capacity};
+ghost use Rattle.std.specs.Prelude.{slice_index_or, IfOk, IsOk, OnOk, if◌then◌else◌};
 ghost use Rattle.sixel_base.specs.Limits.{area_limit, side_limit};
 ghost use Rattle.sixel_base.specs.Picture.{covers, is_struck, joined, picture};
 ghost use Rattle.sixel_canvas.specs.inside.Paints.{counted, ends_and_tags, least_painted};

@@ -1,5 +1,5 @@
--- The rows of one band of a canvas of rows: six, or none as long as no pixel of the band is set. The
--- rule is this library's own.
+-- The rows of one band of a canvas of rows: six, or none as long as no pixel of it is set. The rule
+-- is this library's own.
 use Rattle.std.specs.Prelude.{◌≡◌, ℕ, zero, suc, ◌<◌, min, List, All, length, slice_index_or}
 use Rattle.sixel_base.specs.Limits.{side_limit}
 use Rattle.sixel_canvas.specs.inside.TaggedRow.{TaggedRowState, IsTaggedRow, empty_tagged_row}

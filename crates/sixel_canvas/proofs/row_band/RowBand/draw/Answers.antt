@@ -1,5 +1,5 @@
 use Rattle.std.proofs.lemmas.Bool.{le-ltb, true≢false}
-use Rattle.std.proofs.Common.{◌≡◌, ℕ, ◌+◌, ◌<◌, List, false, max, length, refl, sym, ap, ◌∙◌, arith}
+use Rattle.std.proofs.Common.{◌≡◌, ℕ, ◌+◌, ◌<◌, List, false, max, length, sym, ap, ◌∙◌, arith}
 use Rattle.std.specs.Prelude.{nat_le, nat_lt, ◌&&◌, if◌then◌else◌}
 use Rattle.sixel_base.specs.Picture.{is_struck}
 use Rattle.sixel_canvas.specs.inside.RowBand.{line_in}
@@ -27,12 +27,14 @@ drawn-init c =
           (λ _ p. if nat_le c.args.from column && nat_lt column c.args.to then c.args.color else p)
           struck 0 (λ row. tagged_pixel (line_in old background row) column)
           (λ row. tagged_pixel (line_in rows background row) column) above
-          (λ row. ap (λ (l : List TaggedRowState). tagged_pixel (line_in l background row) column) same),
+          (λ row.
+          ap (λ (l : List TaggedRowState). tagged_pixel (line_in l background row) column) same),
       λ background.
           struck_none (λ _ n. max n c.args.to) struck 0
           (λ row. length (line_in old background row).row.pixels)
           (λ row. length (line_in rows background row).row.pixels) above
-          (λ row. ap (λ (l : List TaggedRowState). length (line_in l background row).row.pixels) same),
+          (λ row.
+          ap (λ (l : List TaggedRowState). length (line_in l background row).row.pixels) same),
     )
 
 pub drawn-preserved : goal.drawn-preserved

@@ -1,4 +1,4 @@
-use Rattle.std.proofs.Common.{◌≡◌, ◌*◌, ◌/◌, ◌%◌, ◌<◌, [], List, max, length, get_or, sym, ap, ◌∙◌}
+use Rattle.std.proofs.Common.{◌*◌, ◌/◌, ◌%◌, ◌<◌, [], List, max, length, get_or, sym, ap, ◌∙◌}
 use Rattle.std.proofs.Common.{arith}
 use Rattle.std.specs.Prelude.{nat_le, nat_lt, ◌&&◌, if◌then◌else◌}
 use Rattle.std.proofs.lemmas.Result.{on_ok_weaker}
@@ -17,7 +17,11 @@ draw-requires-clause-made c =
     let all = c.self.inside in
     let bands = all.bands.items in
     let some : 0 < length (get_or bands all.band []) =
-    omega (arith, c.requires.made, ap (λ (s : RowCanvasState). length (band_rows s)) c.self.view_is) in
+    omega (
+      arith,
+      c.requires.made,
+      ap (λ (s : RowCanvasState). length (band_rows s)) c.self.view_is,
+    ) in
     ap (λ (l : List TaggedRowState). length l)
     (band_read bands all.band c.index_mut.result.now some c.index_mut.ensures.value)
     ∙ (band_sound bands all.band c.self.invariant.bands).whole some
@@ -29,7 +33,11 @@ returns-clause-drawn c =
     let color = c.args.color in
     let bits = c.args.bits in
     let some : 0 < length (get_or bands all.band []) =
-    omega (arith, c.requires.made, ap (λ (s : RowCanvasState). length (band_rows s)) c.self.view_is) in
+    omega (
+      arith,
+      c.requires.made,
+      ap (λ (s : RowCanvasState). length (band_rows s)) c.self.view_is,
+    ) in
     let here = band_read bands all.band c.index_mut.result.now some c.index_mut.ensures.value in
     on_ok_weaker c.draw.result
     (λ drawn column row.
@@ -61,7 +69,11 @@ returns-clause-grown c =
     let bits = c.args.bits in
     let to = c.args.to in
     let some : 0 < length (get_or bands all.band []) =
-    omega (arith, c.requires.made, ap (λ (s : RowCanvasState). length (band_rows s)) c.self.view_is) in
+    omega (
+      arith,
+      c.requires.made,
+      ap (λ (s : RowCanvasState). length (band_rows s)) c.self.view_is,
+    ) in
     let here = band_read bands all.band c.index_mut.result.now some c.index_mut.ensures.value in
     on_ok_weaker c.draw.result
     (λ grown row.
@@ -85,7 +97,11 @@ returns-clause-held c = λ single fits.
     let all = c.self.inside in
     let bands = all.bands.items in
     let some : 0 < length (get_or bands all.band []) =
-    omega (arith, c.requires.made, ap (λ (s : RowCanvasState). length (band_rows s)) c.self.view_is) in
+    omega (
+      arith,
+      c.requires.made,
+      ap (λ (s : RowCanvasState). length (band_rows s)) c.self.view_is,
+    ) in
     let here = band_read bands all.band c.index_mut.result.now some c.index_mut.ensures.value in
     c.draw.ensures.held all.background single
     (λ k six.

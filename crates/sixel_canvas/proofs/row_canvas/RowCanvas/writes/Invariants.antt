@@ -5,4 +5,5 @@ use Rattle.sixel_canvas.proofs.row_canvas.RowCanvas.writes.Given as goal
 
 abbrev pub invariant-counted : goal.invariant-counted
 invariant-counted l =
-    l.writes ≡ sum_by (sum_by (λ (line : TaggedRowState). line.row.writes)) (take l.band-index l.band-items)
+    l.writes
+    ≡ sum_by (sum_by (λ (line : TaggedRowState). line.row.writes)) (take l.band-index l.band-items)

@@ -1,4 +1,4 @@
-use Rattle.std.proofs.Common.{◌≡◌, ℕ, ◌+◌, ◌*◌, ◌<◌, ◌≤◌, Bool, true, false, max, length, refl, ap}
+use Rattle.std.proofs.Common.{◌≡◌, ℕ, ◌+◌, ◌*◌, ◌≤◌, Bool, true, false, max, length, refl, ap}
 use Rattle.std.proofs.Common.{arith}
 use Rattle.std.specs.Prelude.{IsOk, if◌then◌else◌}
 use Rattle.sixel_base.specs.Picture.{is_struck}

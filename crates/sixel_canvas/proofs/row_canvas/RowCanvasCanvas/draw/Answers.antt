@@ -26,5 +26,7 @@ returns-clause-paid c =
     (λ (s : RowCanvasState). if is_struck (6 * s.band) bits row then max (row_len s row) to
     else row_len s row)
     c.self.view_is)
-    (c.draw_band.ensures.paints ∙ ap (λ (s : RowCanvasState). counted s.paints (least_painted (to - c.args.from))) c.self.view_is))
+    (c.draw_band.ensures.paints
+    ∙ ap (λ (s : RowCanvasState). counted s.paints (least_painted (to - c.args.from)))
+    c.self.view_is))
     c.draw_band.ensures.grown
