@@ -1,18 +1,32 @@
 -- The rows of a band: one dot more, one line more.
 use Rattle.std.proofs.Common.{◌≡◌, ◌≢◌, ℕ, ◌+◌, ◌*◌, ◌<◌, Bool, true, false, List, length, get_or}
-use Rattle.std.proofs.Common.{set, ap, subst, sym, ◌∙◌, arith, inl, inr}
+use Rattle.std.proofs.Common.{◌≤◌, set, ap, subst, sym, ◌∙◌, arith, inl, inr}
+use Rattle.std.specs.Prelude.{slice_index}
 use Rattle.std.proofs.lemmas.Bool.{cases_eq, false≢true}
 use Rattle.std.proofs.lemmas.Bool.Decides.{nat_tests}
 use Rattle.std.proofs.Math.Nat.{mul_comm}
 use Rattle.std.proofs.lemmas.Nat.{mul-add-lt, same_from_place}
 use Rattle.std.proofs.lemmas.List.{get_or-set_same, get_or-set_other, length-set}
+use Rattle.sixel_encoder.specs.declared.text.IndexedImage.{IndexedImage}
 use Rattle.sixel_encoder.specs.inside.Grid.{cell, dot_at, AreRows, AreMarks, AreClear}
+use Rattle.sixel_encoder.specs.inside.Indexed.{IsIndexed}
 
 -- a sixel's place is within the rows
 pub place_inside : (rows : List ℕ) (used : List Bool) (width e x : ℕ) → AreRows rows used width
     → e < length used → x < width → e * width + x < length rows
 place_inside rows used width e x are le lx =
     omega (arith, mul-add-lt e width x (length used) le lx, mul_comm width (length used))
+
+-- an opaque pixel has a row of its entry
+pub sixel_inside : (image : IndexedImage) (rows : List ℕ) (used : List Bool)
+    (pixel row column : ℕ) → IsIndexed image → length used ≡ length image.colors.now
+    → AreRows rows used image.width → pixel < image.width * image.height
+    → 128 ≤ slice_index image.pixels.now (4 * pixel + 3)
+    → row ≡ slice_index image.indices.now pixel → column < image.width
+    → (row < length used) × (row * image.width + column < length rows)
+sixel_inside image rows used pixel row column is entries are within opaque entry inside =
+    let one : row < length used = omega (arith, is.opaque pixel within opaque, entry, entries) in
+    (one, place_inside rows used image.width row column are one inside)
 
 dot_at-entry : (weight entry column e x : ℕ) → e ≢ entry → dot_at weight entry column e x ≡ 0
 dot_at-entry weight entry column e x h = grind (arith, nat_tests)

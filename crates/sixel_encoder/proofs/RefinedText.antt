@@ -13,7 +13,7 @@ use Rattle.sixel_encoder.specs.declared.dither.Dither.{Dither}
 use Rattle.sixel_encoder.specs.declared.dither.Dither.TheVariants.{Off}
 use Rattle.sixel_encoder.specs.declared.form.TextForm.{TextForm}
 use Rattle.sixel_encoder.specs.Dithering.{AreDithered}
-use Rattle.sixel_encoder.specs.IndexedDrawing.{IsTextOf, indexed_drawing}
+use Rattle.sixel_encoder.specs.IndexedDrawing.{IsPaletteText, IsTextOf, indexed_drawing}
 use Rattle.sixel_encoder.specs.RefinedText.{IsRefinedText, ShowsEntries}
 use Rattle.sixel_encoder.specs.Trip.{rounded}
 use Rattle.sixel_encoder.proofs.DitheredIndices.{AreNearestTo-colors}
@@ -62,7 +62,21 @@ ShowsEntries-register image colors indices all = λ entry l.
 
 -- ---- the text
 
--- what is returned for the palette and such indices
+-- what is returned for the palette
+pub IsRefinedText-dithered : {S : Type 0} (bytes : S → List ℕ) (result : Result S SixelError)
+    (image : Image) (max_colors : ℕ) (dither : Dither) (form : TextForm) (palette : RefinedPalette)
+    → IsRefined image.pixels max_colors palette
+    → IfOk result (λ text. IsPaletteText image palette.colors.items dither form (bytes text))
+    → IfOk result (λ text. IsRefinedText image max_colors dither form (bytes text))
+IsRefinedText-dithered bytes (Ok text) image max_colors dither form palette is of = record {
+  palette = palette;
+  refined = is;
+  text = of;
+  exact = ShowsEntries-register image palette.colors.items of.indices is.shown;
+}
+IsRefinedText-dithered bytes (Err e) image max_colors dither form palette is of = tt
+
+-- and for the palette and such indices
 pub IsRefinedText-returned : {S : Type 0} (bytes : S → List ℕ) (result : Result S SixelError)
     (image : Image) (max_colors : ℕ) (dither : Dither) (form : TextForm) (palette : RefinedPalette)
     (indices : List ℕ) → IsRefined image.pixels max_colors palette
@@ -71,10 +85,6 @@ pub IsRefinedText-returned : {S : Type 0} (bytes : S → List ℕ) (result : Res
     (λ text. IsTextOf form (indexed_drawing image palette.colors.items indices) (bytes text))
     → IfOk result (λ text. IsRefinedText image max_colors dither form (bytes text))
 IsRefinedText-returned bytes (Ok text) image max_colors dither form palette indices is are of =
-    record {
-      palette = palette;
-      refined = is;
-      text = record { indices = indices; dithered = are; text = of };
-      exact = ShowsEntries-register image palette.colors.items indices is.shown;
-    }
+    IsRefinedText-dithered bytes (Ok text) image max_colors dither form palette is
+    (record { indices = indices; dithered = are; text = of })
 IsRefinedText-returned bytes (Err e) image max_colors dither form palette indices is are of = tt

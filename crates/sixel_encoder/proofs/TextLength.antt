@@ -1,6 +1,6 @@
 -- A text up to some band is no longer than the whole text.
 use Rattle.std.proofs.Common.{List, ap, arith, length, length-append, ℕ, ◌++◌, ◌+◌}
-use Rattle.std.proofs.Common.{refl, ◌-◌, ◌∷◌, ◌≡◌, ◌≤◌}
+use Rattle.std.proofs.Common.{refl, ◌-◌, ◌∙◌, ◌∷◌, ◌≡◌, ◌≤◌}
 use Rattle.std.specs.Prelude.{codes}
 use Rattle.sixel_base.specs.Picture.{joined}
 use Rattle.sixel_encoder.specs.Text.{Drawing, band_text, bands, bands_text, palette_text}
@@ -41,6 +41,17 @@ length-stopped drawing band limit begun text is more low long =
     (joined (band_text drawing) band) (bands_text drawing) (27 ∷ codes "\\") limit
     (length-joined (band_text drawing) band (bands drawing.height) low)
     (rw is at (rw more at long))
+
+-- all bands and the end make the whole text
+pub text-joined : (drawing : Drawing) (band : ℕ) (begun text whole : List ℕ)
+    → begun ≡ parameters_text drawing ++ raster_text drawing ++ palette_text drawing
+    → text ≡ begun ++ joined (band_text drawing) band → band ≡ bands drawing.height
+    → whole ≡ text ++ 27 ∷ codes "\\" → whole ≡ text_of drawing
+text-joined drawing band begun text whole is more all end =
+    end
+    ∙ ap (λ t. t ++ 27 ∷ codes "\\")
+    (more
+    ∙ (ap (λ n. begun ++ joined (band_text drawing) n) all ∙ ap (λ b. b ++ bands_text drawing) is))
 
 -- the bands up to some band are no longer than the whole text
 pub length-bands : (drawing : Drawing) (band : ℕ) → band ≤ bands drawing.height

@@ -1,16 +1,18 @@
 //! The compact SIXEL output of an image whose colors are chosen.
 
 ghost use Rattle.std.specs.Prelude.{◌≡◌, ℕ, List, ◌*◌, ◌<◌, ◌≤◌, ◌++◌, ◌∷◌, [], IfOk, OnOk};
-ghost use Rattle.std.specs.Prelude.{length, string_bytes};
+ghost use Rattle.std.specs.Prelude.{codes, length, string_bytes};
 ghost use Rattle.sixel_encoder.specs.declared.segments.Segment.{Segment};
-ghost use Rattle.sixel_encoder.specs.Compact.{compact_text, marked_text, marks_after};
-ghost use Rattle.sixel_encoder.specs.Compact.{segments_marks};
-ghost use Rattle.sixel_encoder.specs.Marks.{Pen as MarkPen, first_pen, marks_text, moved_by};
-ghost use Rattle.sixel_encoder.specs.Numbers.{number_of};
+ghost use Rattle.sixel_encoder.specs.Compact.{compact_marks, compact_text, marked_text};
+ghost use Rattle.sixel_encoder.specs.Compact.{marks_after, segments_marks};
+ghost use Rattle.sixel_encoder.specs.Marks.{Pen as MarkPen, definitions_text, first_pen};
+ghost use Rattle.sixel_encoder.specs.Marks.{marks_text, moved_by};
+ghost use Rattle.sixel_encoder.specs.Numbers.{number_of, numbered_definitions};
 ghost use Rattle.sixel_encoder.specs.Segments.{drawn_segments};
-ghost use Rattle.sixel_encoder.specs.Text.{text_of};
-ghost use Rattle.sixel_encoder.specs.inside.Compact.{AreBlocked, AreLanes, AreNumbersOf, IsAtPen};
-ghost use Rattle.sixel_encoder.specs.inside.Compact.{IsWithin, IsWriter};
+ghost use Rattle.sixel_encoder.specs.Text.{parameters_text, raster_text, text_of};
+ghost use Rattle.sixel_encoder.specs.inside.Compact.{AreBlocked, AreLanes, AreNumbersOf};
+ghost use Rattle.sixel_encoder.specs.inside.Compact.{AreRanks, AreRuns, IsAtPen, IsWithin};
+ghost use Rattle.sixel_encoder.specs.inside.Compact.{IsWriter};
 ghost use Rattle.sixel_encoder.specs.inside.Indexed.{IsIndexed, drawing_of};
 
 use crate::band_entries::BandEntries;
@@ -56,18 +58,30 @@ fn encode_marked(alloc: Global, image: &IndexedImage<'_>) -> Result<MarkedText, 
 {
     let runs = count_runs(alloc, image)?;
     let numbers = number_entries(alloc, &runs)?;
+    let mut text = begin_text(alloc, image, &runs, &numbers)?;
+    let mut writer = BandWriter::new(alloc, image, &numbers)?;
+    let plain_bytes = writer.push_bands(alloc, &mut text)?;
+    Ok(MarkedText { text, plain_bytes })
+}
+
+/// Returns the output before the first band.
+fn begin_text(
+    alloc: Global,
+    image: &IndexedImage<'_>,
+    runs: &[usize],
+    numbers: &[usize],
+) -> Result<String, AllocError>
+    requires runs { AreRuns (drawing_of image.now) runs.now }
+    requires numbers { AreRanks runs.now numbers.now }
+    ensures { IfOk result (λ text. string_bytes text ≡ parameters_text (drawing_of image.now)
+        ++ raster_text (drawing_of image.now)
+        ++ definitions_text (drawing_of image.now) (numbered_definitions (drawing_of image.now))) }
+{
     let mut text = String::new(alloc);
     push_parameters(&mut text, image)?;
     push_raster(&mut text, image)?;
-    push_numbered(&mut text, image, &runs, &numbers)?;
-    let mut writer = BandWriter::new(alloc, image, &numbers)?;
-    let mut plain_bytes: usize = 0;
-    for band in 0..used_bands(image) {
-        writer.push_band(alloc, &mut text, band)?;
-        plain_bytes = plain_bytes.saturating_add(least_bytes(&writer.entries));
-    }
-    text.push_str("\x1b\\")?;
-    Ok(MarkedText { text, plain_bytes })
+    push_numbered(&mut text, image, runs, numbers)?;
+    Ok(text)
 }
 
 /// Writes the bands of a compact output.
@@ -108,6 +122,27 @@ impl<'a> BandWriter<'a> {
             pen,
             rows,
         })
+    }
+
+    /// Appends all bands and the end of the sequence.
+    ///
+    /// Returns how many bytes the plain output takes at least.
+    fn push_bands(&mut self, alloc: Global, text: &mut String) -> Result<usize, AllocError>
+        requires writer { IsWriter self.old }
+        requires pen { IsAtPen self.old.pen first_pen }
+        ensures text { OnOk result (string_bytes text.new ≡ string_bytes text.old
+            ++ marks_text (compact_marks (drawing_of self.old.entries.image.now))
+            ++ 27 ∷ codes "\\") }
+        ensures plain { IfOk result (λ bytes.
+            bytes ≤ length (text_of (drawing_of self.old.entries.image.now))) }
+    {
+        let mut plain_bytes: usize = 0;
+        for band in 0..used_bands(self.entries.image) {
+            self.push_band(alloc, text, band)?;
+            plain_bytes = plain_bytes.saturating_add(least_bytes(&self.entries));
+        }
+        text.push_str("\x1b\\")?;
+        Ok(plain_bytes)
     }
 
     /// Appends a band.

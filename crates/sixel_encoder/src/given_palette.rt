@@ -40,8 +40,7 @@ pub fn encode_in_palette(
 {
     validate_source(source)?;
     validate_color_count(colors.len())?;
-    let indices = dithered_indices(alloc, source.pixels, source.width, colors, dither)?;
-    encode_drawing(alloc, source, colors, &indices, form)
+    encode_dithered(alloc, source, colors, dither, form)
 }
 
 /// Returns the SIXEL output of an image by given palette indices.
@@ -105,6 +104,25 @@ fn validate_indices(pixels: &[u8], indices: &[u8], colors: usize) -> Result<()>
         }
     }
     Ok(())
+}
+
+/// Returns the SIXEL output of an image of valid sizes in 1 to 256 colors.
+pub fn encode_dithered(
+    alloc: Global,
+    source: &Source<'_>,
+    colors: &[[u8; 3]],
+    dither: Dither,
+    form: TextForm,
+) -> Result<String>
+    requires sound { image_fault (source_value source.now) ≡ None }
+    requires some { 0 < length colors.now }
+    requires few { length colors.now ≤ 256 }
+    ensures memory { IfErr result (λ e. e ≡ SixelError.OutOfMemory) }
+    ensures text { IfOk result (λ text.
+        IsPaletteText (source_value source.now) colors.now dither form (string_bytes text)) }
+{
+    let indices = dithered_indices(alloc, source.pixels, source.width, colors, dither)?;
+    encode_drawing(alloc, source, colors, &indices, form)
 }
 
 /// Returns the SIXEL output of the drawing of an image by valid indices.

@@ -8,8 +8,7 @@ ghost use Rattle.sixel_encoder.specs.RefinedText.{IsRefinedText};
 
 use crate::dither::Dither;
 use crate::form::TextForm;
-use crate::given_palette::{encode_drawing, validate_source};
-use crate::indices::dithered_indices;
+use crate::given_palette::{encode_dithered, encode_drawing, validate_source};
 use crate::source::Source;
 use sixel_base::Result;
 use sixel_palette::palette::{RefinedPalette, refine_palette};
@@ -37,8 +36,8 @@ pub fn encode_refined(
     validate_source(source)?;
     let palette = refine_palette(alloc, source.pixels, max_colors)?;
     if dither == Dither::Off || palette.colors.is_empty() {
-        return encode_drawing(alloc, source, &palette.colors, &palette.indices, form);
+        encode_drawing(alloc, source, &palette.colors, &palette.indices, form)
+    } else {
+        encode_dithered(alloc, source, &palette.colors, dither, form)
     }
-    let indices = dithered_indices(alloc, source.pixels, source.width, &palette.colors, dither)?;
-    encode_drawing(alloc, source, &palette.colors, &indices, form)
 }

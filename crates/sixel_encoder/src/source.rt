@@ -5,9 +5,9 @@ ghost use Rattle.sixel_encoder.specs.Encoding.{image_fault, source_value};
 ghost use Rattle.sixel_encoder.specs.Form.{IsFormText};
 
 use crate::form::{TextForm, encode_in_form};
+use crate::given_palette::validate_source;
 use crate::text::IndexedImage;
 use sixel_base::settings::{BackgroundMode, PixelAspectRatio};
-use sixel_base::size::{validate_buffer, validate_encode_dimensions};
 use sixel_base::{Result, SixelError};
 use sixel_palette::palette::choose_palette;
 use std::alloc::Global;
@@ -44,8 +44,7 @@ pub fn encode_source(
         (λ text. IsFormText form (source_value source.now) max_colors (string_bytes text)) }
     ensures bytes { OnOk result (All (λ byte. byte < 256) source.now.pixels.now) }
 {
-    validate_encode_dimensions(source.width, source.height)?;
-    validate_buffer(source.width, source.height, source.pixels.len())?;
+    validate_source(source)?;
     let choice = choose_palette(alloc, source.pixels, max_colors)?;
     let image = IndexedImage {
         width: source.width,

@@ -1,7 +1,7 @@
 use Rattle.std.proofs.Common.{ℕ, ◌+◌, ◌<◌, length, refl, ap, arith}
 use Rattle.sixel_encoder.specs.inside.Indexed.{entry_of}
 use Rattle.sixel_encoder.specs.inside.Grid.{cell, pixel_bit, dot_at}
-use Rattle.sixel_encoder.proofs.Cells.{AreMarks-dot, place_inside, cell-dot}
+use Rattle.sixel_encoder.proofs.Cells.{AreMarks-dot, cell-dot, sixel_inside}
 use Rattle.sixel_encoder.proofs.Lines.{pixel_bit-transparent, pixel_bit-row, dot_at-other}
 use Rattle.sixel_encoder.proofs.LineRuns.{column-one}
 use Rattle.sixel_encoder.proofs.band.add_pixel.Goals as goal
@@ -33,12 +33,12 @@ returns-clause-cells c = λ e x le lx.
     let bit : ℕ → ℕ = λ k. pixel_bit weight e (entry_of pixels indices (start + k)) in
     let row = c.from-row.result in
     let opaque = c.is_opaque.ensures.opaque c.if-not-is_opaque.false in
-    let known = c.requires.image.opaque pixel (omega (arith, c.requires.line)) opaque in
-    let one : row < length c.args.used.now =
-    omega (arith, known, c.from-row.ensures, c.requires.entries) in
     let inside =
-    place_inside rows c.args.used.now width row column c.requires.rows one c.requires.column in
-    let dot = cell-dot rows width row column weight e x inside c.requires.column lx in
+    sixel_inside c.args.image.now rows c.args.used.now pixel c.from-row.result
+    c.args.column c.requires.image c.requires.entries c.requires.rows
+    (omega (arith, c.requires.line))
+    opaque c.from-row.ensures c.requires.column in
+    let dot = cell-dot rows width row column weight e x inside.1 c.requires.column lx in
     let here =
     pixel_bit-row pixels indices weight row column pixel e opaque c.from-row.ensures in
     column-one bit (cell rows width e x) _ column x
@@ -55,9 +55,41 @@ returns-clause-marks c =
     let pixel = c.args.line.start + column in
     let row = c.from-row.result in
     let opaque = c.is_opaque.ensures.opaque c.if-not-is_opaque.false in
-    let known = c.requires.image.opaque pixel (omega (arith, c.requires.line)) opaque in
-    let one : row < length used = omega (arith, known, c.from-row.ensures, c.requires.entries) in
     let inside =
-    place_inside rows used width row column c.requires.rows one c.requires.column in
-    AreMarks-dot rows used width row column weight c.requires.marks inside one c.requires.column
+    sixel_inside c.args.image.now rows c.args.used.now pixel c.from-row.result
+    c.args.column c.requires.image c.requires.entries c.requires.rows
+    (omega (arith, c.requires.line))
+    opaque c.from-row.ensures c.requires.column in
+    AreMarks-dot rows used width row column weight c.requires.marks inside.1 inside.0
+    c.requires.column
     c.requires.weight
+
+pub bounds-rows-row : goal.bounds-rows-row
+bounds-rows-row c =
+    let inside =
+    sixel_inside c.args.image.now c.args.rows.now c.args.used.now (c.args.line.start + c.args.column) c.from-row.result
+    c.args.column c.requires.image c.requires.entries c.requires.rows
+    (omega (arith, c.requires.line))
+    (c.is_opaque.ensures.opaque c.if-not-is_opaque.false) c.from-row.ensures c.requires.column in
+    inside.1
+
+pub bounds-rows-row-2 : goal.bounds-rows-row-2
+bounds-rows-row-2 c =
+    let inside =
+    sixel_inside c.args.image.now c.args.rows.now c.args.used.now (c.args.line.start + c.args.column) c.from-row.result
+    c.args.column c.requires.image c.requires.entries c.requires.rows
+    (omega (arith, c.requires.line))
+    (c.is_opaque.ensures.opaque c.if-not-is_opaque.false) c.from-row.ensures c.requires.column in
+    inside.1
+
+pub bounds-used-row : goal.bounds-used-row
+bounds-used-row c =
+    let inside =
+    sixel_inside c.args.image.now c.args.rows.now c.args.used.now (c.args.line.start + c.args.column) c.from-row.result
+    c.args.column c.requires.image c.requires.entries c.requires.rows
+    (omega (arith, c.requires.line))
+    (c.is_opaque.ensures.opaque c.if-not-is_opaque.false) c.from-row.ensures c.requires.column in
+    inside.0
+
+pub returns-then-not-is_opaque-clause-marks : goal.returns-then-not-is_opaque-clause-marks
+returns-then-not-is_opaque-clause-marks c = c.requires.marks

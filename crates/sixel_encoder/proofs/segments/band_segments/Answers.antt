@@ -166,3 +166,26 @@ returns c =
     omega (arith, c.columns-test.false, c.columns.invariant.within) in
     c.columns.invariant.segments
     ∙ ap (λ n. segments_up_to drawing c.args.entries.now.band (6 * n)) whole
+
+pub push_run-requires-clause-last : goal.push_run-requires-clause-last
+push_run-requires-clause-last c = rw c.run_of-run.ensures.first c.columns.invariant.last
+
+pub push_run-requires-then-is_new-clause-last : goal.push_run-requires-then-is_new-clause-last
+push_run-requires-then-is_new-clause-last c =
+    rw c.run_of-run-then-is_new.ensures.first c.loop-bit.invariant.last
+
+pub columns-preserved : goal.columns-preserved
+columns-preserved c =
+    let entries = c.args.entries.now in
+    let column = c.columns.column in
+    let is = c.loop-bit.invariant in
+    let next : 6 * column + c.loop-bit.bit ≡ 6 * (column + 1) =
+    omega (arith, c.loop-bit.auto.bit-end, c.loop-bit-test.false) in
+    record {
+      segments = is.segments
+          ∙ ap (segments_up_to (drawing_of entries.image.now) entries.band) next;
+      last = AreLast-later c.loop-bit.segments.items c.loop-bit.last c.gap_of-gap.result column
+          (column + 1) (omega arith) is.last;
+      size = is.size;
+      within = omega (arith, c.columns-test.true);
+    }

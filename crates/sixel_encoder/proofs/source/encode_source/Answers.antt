@@ -1,24 +1,17 @@
-use Rattle.std.proofs.Common.{◌∙◌, length, ap, arith}
-use Rattle.sixel_base.specs.Size.{buffer_fault}
-use Rattle.std.specs.Option.{option_or}
+use Rattle.std.proofs.Common.{arith}
+use Rattle.std.specs.Prelude.{Ok}
 use Rattle.sixel_palette.specs.Palette.{IsPalette, AreIndices}
 use Rattle.sixel_encoder.specs.declared.text.IndexedImage.{IndexedImage}
 use Rattle.sixel_encoder.specs.inside.Indexed.{drawing_of}
 use Rattle.sixel_encoder.proofs.IndexedDrawing.{IsDrawing-chosen, IsIndexed-chosen}
-use Rattle.sixel_encoder.proofs.Verdicts.{none-found}
+use Rattle.sixel_encoder.proofs.Verdicts.{fails-by_memory, none-found}
 use Rattle.sixel_encoder.proofs.source.encode_source.Goals as goal
 
 pub encode_in_form-requires : goal.encode_in_form-requires
 encode_in_form-requires c =
     let source = c.args.source.now in
     let told = c.in_ok-choice.ensures in
-    let sizes = none-found _ _ _ c.validate_encode_dimensions.ensures
-    c.in_ok-validate_encode_dimensions.was in
-    let bytes = none-found _ _ _ c.validate_buffer.ensures c.in_ok-validate_buffer.was in
-    IsIndexed-chosen _
-    (ap
-    (λ fault. option_or fault (buffer_fault source.width source.height (length source.pixels.now)))
-    sizes ∙ bytes)
+    IsIndexed-chosen _ (none-found _ _ _ c.validate_source.ensures c.in_ok-validate_source.was)
     (rw c.deref.ensures.value (omega (arith, told.palette.size.2)))
     (rw (c.deref.ensures.value, c.deref-2.ensures.value) told.indices)
 
@@ -43,3 +36,11 @@ returns-clause-text c =
       IsDrawing-chosen image c.args.max_colors palette indices,
       c.in_ok-encode_in_form.ensures,
     )
+
+pub returns-clause-refused : goal.returns-clause-refused
+returns-clause-refused c =
+    fails-by_memory _ (Ok c.in_ok-encode_in_form.field-0)
+    (none-found _ _ _ c.validate_source.ensures c.in_ok-validate_source.was) (tt {0})
+
+pub returns-clause-bytes : goal.returns-clause-bytes
+returns-clause-bytes c = c.in_ok-choice.ensures.bytes

@@ -1,9 +1,9 @@
-use Rattle.std.proofs.Common.{arith, refl}
+use Rattle.std.proofs.Common.{length, ap, arith, refl}
 use Rattle.std.specs.Prelude.{string_bytes}
 use Rattle.sixel_encoder.specs.Text.{band_text}
 use Rattle.sixel_encoder.specs.inside.Indexed.{drawing_of}
 use Rattle.sixel_encoder.proofs.Dots.{appended-start, appended-more}
-use Rattle.sixel_encoder.proofs.TextLength.{length-stopped}
+use Rattle.sixel_encoder.proofs.TextLength.{length-stopped, text-joined}
 use Rattle.sixel_encoder.proofs.text.encode_below.Goals as goal
 
 pub loop-band-init : goal.loop-band-init
@@ -36,3 +36,34 @@ returns-then-len-limit-clause-shorter c =
       c.div_ceil-band-end.ensures,
     ))
     (omega (arith, c.if-len-limit.true, c.len.ensures))
+
+pub returns-then-len-limit-2-clause-shorter : goal.returns-then-len-limit-2-clause-shorter
+returns-then-len-limit-2-clause-shorter c =
+    let whole =
+    text-joined (drawing_of c.args.image.now) c.loop-band.band
+    (string_bytes c.in_ok-text.text) (string_bytes c.loop-band.text)
+    (string_bytes c.push_str.new.self) c.in_ok-text.ensures c.loop-band.invariant.text
+    (omega (
+      arith,
+      c.loop-band-test.false,
+      c.loop-band.auto.band-end,
+      c.div_ceil-band-end.ensures,
+    ))
+    c.in_ok-push_str.ensures.bytes in
+    omega (arith, ap length whole, c.if-len-limit-2.true, c.len-2.ensures)
+
+pub returns-clause-text : goal.returns-clause-text
+returns-clause-text c =
+    text-joined (drawing_of c.args.image.now) c.loop-band.band
+    (string_bytes c.in_ok-text.text) (string_bytes c.loop-band.text)
+    (string_bytes c.push_str.new.self) c.in_ok-text.ensures c.loop-band.invariant.text
+    (omega (
+      arith,
+      c.loop-band-test.false,
+      c.loop-band.auto.band-end,
+      c.div_ceil-band-end.ensures,
+    ))
+    c.in_ok-push_str.ensures.bytes
+
+pub returns-clause-shorter : goal.returns-clause-shorter
+returns-clause-shorter c = omega (arith, c.if-len-limit-2.false, c.len-2.ensures)

@@ -4,7 +4,7 @@ use Rattle.std.proofs.lemmas.Nat.{mod-mul-add}
 use Rattle.sixel_encoder.specs.declared.indices.diffusion.Neighbors.{Neighbors}
 use Rattle.sixel_encoder.specs.Dithering.{column_of_step, error_above, error_beyond, errors_of}
 use Rattle.sixel_encoder.specs.Dithering.{serpentine}
-use Rattle.sixel_encoder.specs.inside.Diffusion.{IsLine, diffused_of}
+use Rattle.sixel_encoder.specs.inside.Diffusion.{AreVisited, IsLine, diffused_of}
 use Rattle.sixel_encoder.proofs.DiffusionErrors.{AreVisited-more, IsLine-more, IsLine-next_row}
 use Rattle.sixel_encoder.proofs.DiffusionErrors.{errors_of-more}
 use Rattle.sixel_encoder.proofs.DiffusionVisit.{AreReceived-neighbors, above-line, before-more}
@@ -84,3 +84,39 @@ returns-clause-line c =
     (subst (λ (step : ℕ).
     IsLine d (errors_of d c.loop-step.indices (row * width + step)) row step c.loop-step.line)
     last c.loop-step.invariant.line)
+
+pub returns-clause-indices : goal.returns-clause-indices
+returns-clause-indices c = c.loop-step.invariant.size
+
+pub returns-clause-visited : goal.returns-clause-visited
+returns-clause-visited c =
+    let d = diffused_of c.args.self.now in
+    let width = c.args.self.now.width in
+    subst (λ (step : ℕ). AreVisited d c.loop-step.indices (c.args.row * width + step))
+    (omega (arith, c.loop-step.auto.step-end, c.loop-step-test.false))
+    c.loop-step.invariant.visited
+
+pub returns-clause-candidates : goal.returns-clause-candidates
+returns-clause-candidates c = c.loop-step.invariant.candidates
+
+pub error_beyond-requires-clause-image : goal.error_beyond-requires-clause-image
+error_beyond-requires-clause-image c = c.requires.image
+
+pub error_beyond-requires-clause-line : goal.error_beyond-requires-clause-line
+error_beyond-requires-clause-line c = c.loop-step.invariant.line.whole
+
+pub visit-requires-clause-image : goal.visit-requires-clause-image
+visit-requires-clause-image c = c.requires.image
+
+pub visit-requires-clause-indices : goal.visit-requires-clause-indices
+visit-requires-clause-indices c = c.loop-step.invariant.size
+
+pub visit-requires-clause-pixel : goal.visit-requires-clause-pixel
+visit-requires-clause-pixel c =
+    omega (arith, c.column_of_step-column.ensures.within, c.requires.row)
+
+pub visit-requires-clause-small : goal.visit-requires-clause-small
+visit-requires-clause-small c = c.received.ensures.small
+
+pub visit-requires-clause-candidates : goal.visit-requires-clause-candidates
+visit-requires-clause-candidates c = c.loop-step.invariant.candidates

@@ -1,9 +1,8 @@
 use Rattle.sixel_encoder.specs.Encoding.{source_value}
 use Rattle.sixel_encoder.proofs.DitheredIndices.{rows-image}
-use Rattle.sixel_encoder.proofs.Verdicts.{none-found}
-use Rattle.sixel_encoder.proofs.given_palette.encode_in_palette.Goals as goal
+use Rattle.sixel_encoder.proofs.given_palette.encode_dithered.Goals as goal
 
 pub dithered_indices-requires-clause-rows : goal.dithered_indices-requires-clause-rows
 dithered_indices-requires-clause-rows c =
     rows-image (source_value c.args.source.now)
-    (none-found _ _ _ c.validate_source.ensures c.in_ok-validate_source.was)
+    c.requires.sound
