@@ -74,11 +74,3 @@ pub none_there :
 none_there words word a b c None p none = λ asked by.
     none asked (there_asks words word a b c asked p by)
 none_there words word a b c (Some asked) p none = tt
-
--- what was written for work that was asked for
-pub asked-for : (IsAsked : Word → Type 0) (IsWritten : Word → List ℕ → Type 0)
-    (remaining : Option (List ℕ)) (word : Word) → IsAsked word
-    → IfSome remaining (IsWritten word)
-    → IfSome remaining (λ bytes. (asked : Word) × IsAsked asked × IsWritten asked bytes)
-asked-for IsAsked IsWritten None word is written = tt
-asked-for IsAsked IsWritten (Some bytes) word is written = (word, is, written)

@@ -17,7 +17,7 @@ use Rattle.sixel_base.specs.declared.status.SixelDcsFeedStatus.TheVariants.{Need
 use Rattle.sixel_base.specs.declared.status.SixelDcsFeedStatus.TheVariants.{Cancelled, Interrupted}
 use Rattle.sixel_base.specs.Dcs.{dcs_status, dcs_fault, has_ended, end_fault}
 use Rattle.sixel_base.specs.Limits.{Limit}
-use Rattle.sixel.specs.Strings.{string_fault}
+use Rattle.sixel.specs.Sequences.{sequence_fault}
 
 -- a list whose length is 0 is empty
 pub no_bytes : (bytes : List ℕ) → true ≡ (length bytes == 0) → bytes ≡ []
@@ -38,10 +38,10 @@ pub record Begins (fed bytes : List ℕ) : Type 0 where
 pub begins_fits : (fed bytes : List ℕ) → Begins fed bytes → length fed ≤ length bytes
 begins_fits fed bytes b = omega (arith, length-append fed b.rest, ap length b.joined)
 
-string_fault-some : (limit : Limit) (bytes : List ℕ) → 0 < length bytes
-    → string_fault limit bytes ≡ option_or (dcs_fault limit bytes) (end_fault (dcs_status bytes))
-string_fault-some limit [] some = absurd (omega arith)
-string_fault-some limit (byte ∷ bytes) some = refl
+sequence_fault-some : (limit : Limit) (bytes : List ℕ) → 0 < length bytes
+    → sequence_fault limit bytes ≡ option_or (dcs_fault limit bytes) (end_fault (dcs_status bytes))
+sequence_fault-some limit [] some = absurd (omega arith)
+sequence_fault-some limit (byte ∷ bytes) some = refl
 
 named_along : (e : SixelError) (found found' : Option Fault)
     → ((f : Fault) → found ≡ Some f → found' ≡ Some f)
@@ -68,11 +68,12 @@ Faults-weaker OutOfMemory may found found' stays is = refl
 -- what is wrong with the bytes is the sequence's fault
 pub refused_early : (e : SixelError) (may : Bool) (limit : Limit) (bytes : List ℕ)
     → 0 < length bytes
-    → Faults e may (dcs_fault limit bytes) → Faults e true (string_fault limit bytes)
+    → Faults e may (dcs_fault limit bytes) → Faults e true (sequence_fault limit bytes)
 refused_early e may limit bytes some is =
-    Faults-weaker e may (dcs_fault limit bytes) (string_fault limit bytes)
+    Faults-weaker e may (dcs_fault limit bytes) (sequence_fault limit bytes)
     (λ f found.
-    string_fault-some limit bytes some ∙ ap (λ o. option_or o (end_fault (dcs_status bytes))) found)
+    sequence_fault-some limit bytes some
+    ∙ ap (λ o. option_or o (end_fault (dcs_status bytes))) found)
     is
 
 -- a sequence that has not ended waits for more
@@ -91,38 +92,38 @@ no_end_fault (Interrupted byte) ended = refl
 -- a sequence that has ended without a fault has none
 pub ended_faultless : (limit : Limit) (bytes : List ℕ) → 0 < length bytes
     → has_ended (dcs_status bytes) ≡ true → dcs_fault limit bytes ≡ None
-    → string_fault limit bytes ≡ None
+    → sequence_fault limit bytes ≡ None
 ended_faultless limit bytes some ended faultless =
-    string_fault-some limit bytes some
+    sequence_fault-some limit bytes some
     ∙ ap (λ o. option_or o (end_fault (dcs_status bytes))) faultless
     ∙ no_end_fault (dcs_status bytes) ended
 
 at_end : (e : SixelError) (limit : Limit) (fed bytes : List ℕ) (status : SixelDcsFeedStatus)
     → dcs_status fed ≡ status → 0 < length bytes → dcs_fault limit fed ≡ None
     → (status ≡ NeedMoreData → fed ≡ bytes)
-    → Faults e (has_ended status) (end_fault status) → Faults e true (string_fault limit bytes)
+    → Faults e (has_ended status) (end_fault status) → Faults e true (sequence_fault limit bytes)
 at_end e limit fed bytes NeedMoreData is some none enough wrong =
     let whole = enough refl in
-    let fault : string_fault limit bytes ≡ end_fault NeedMoreData =
-    string_fault-some limit bytes some
+    let fault : sequence_fault limit bytes ≡ end_fault NeedMoreData =
+    sequence_fault-some limit bytes some
     ∙ (ap (λ b. option_or (dcs_fault limit b) (end_fault (dcs_status b))) (sym whole)
     ∙ (ap (λ o. option_or o (end_fault (dcs_status fed))) none ∙ ap end_fault is)) in
-    Faults-weaker e false _ (string_fault limit bytes) (λ f found. fault ∙ found) wrong
+    Faults-weaker e false _ (sequence_fault limit bytes) (λ f found. fault ∙ found) wrong
 at_end e limit fed bytes Complete is some none enough wrong =
-    Faults-weaker e true None (string_fault limit bytes) (λ f found. absurd (none-some f found))
+    Faults-weaker e true None (sequence_fault limit bytes) (λ f found. absurd (none-some f found))
     wrong
 at_end e limit fed bytes (Cancelled byte) is some none enough wrong =
-    Faults-weaker e true None (string_fault limit bytes) (λ f found. absurd (none-some f found))
+    Faults-weaker e true None (sequence_fault limit bytes) (λ f found. absurd (none-some f found))
     wrong
 at_end e limit fed bytes (Interrupted byte) is some none enough wrong =
-    Faults-weaker e true None (string_fault limit bytes) (λ f found. absurd (none-some f found))
+    Faults-weaker e true None (sequence_fault limit bytes) (λ f found. absurd (none-some f found))
     wrong
 
 -- an error at the end of what was fed is the sequence's fault, or an allocation failed
 pub refused_at_end : (e : SixelError) (limit : Limit) (fed bytes : List ℕ) → 0 < length bytes
     → dcs_fault limit fed ≡ None → (dcs_status fed ≡ NeedMoreData → fed ≡ bytes)
     → Faults e (has_ended (dcs_status fed)) (end_fault (dcs_status fed))
-    → Faults e true (string_fault limit bytes)
+    → Faults e true (sequence_fault limit bytes)
 refused_at_end e limit fed bytes = at_end e limit fed bytes (dcs_status fed) refl
 
 -- a status without a fault at the end has ended

@@ -1,13 +1,19 @@
--- What a call on the image of a file reports.
+-- What is drawn of the image of a file, and what a call on it reports.
 use Rattle.std.proofs.Common.{◌≡◌, ◌⊎◌, Option, None, Some, Ok, Err, inl, inr, refl}
-use Rattle.std.proofs.Common.{MatchOption, List, ℕ, Result, String, ap, ◌∙◌}
+use Rattle.std.proofs.Common.{MatchOption, List, [], ℕ, Result, String, ap, sym, subst, ◌∙◌}
+use Rattle.std.specs.Result.{IsErrAnd}
 use Rattle.std.specs.declared.alloc.Global.{Global}
 use Rattle.netpbm.specs.Image.{Rgba}
 use Rattle.netpbm.specs.declared.error.NetpbmError.{NetpbmError}
 use Rattle.sixel_base.specs.CallFault.{CallFault, FailsBy, IsCallFault}
 use Rattle.sixel_base.specs.declared.error.SixelError.{SixelError}
 use Rattle.sixel_base.specs.declared.error.SixelError.TheVariants.{OutOfMemory}
+use Rattle.sixel_io.specs.declared.fault.Fault.TheVariants.{Sixel}
+use Rattle.sixel.specs.declared.picture_fault.PictureFault.{PictureFault}
+use Rattle.sixel.specs.declared.picture_fault.PictureFault.TheVariants.{Shared}
+use Rattle.sixel.specs.WorkOutput.{Draws}
 use Rattle.sixel.specs.Drawing.{Painting, painting_fault, painting_read}
+use Rattle.sixel.specs.Ending.{Ending, Refused}
 
 -- a call that returned a value has no fault
 pub no_call_fault : {X : Type 0} (fault : Option CallFault) (x : X) → FailsBy fault (Ok x)
@@ -39,3 +45,12 @@ painting_error painting read error is fails =
       | inl memory ↦ inl memory
       | inr fault ↦ inr (painting, is, fault)
     ]
+
+-- an output that is not made because of an error
+pub Draws-refused : (result : Result (String Global) PictureFault)
+    (IsText : List ℕ → Ending → Type 0) (error : SixelError)
+    → IsErrAnd result (λ f. f ≡ Shared (Sixel error)) → IsText [] (Refused error)
+    → Draws result IsText
+Draws-refused (Ok _) IsText error failed is = absurd failed
+Draws-refused (Err f) IsText error failed is =
+    subst (λ e. Draws (Err e) IsText) (sym failed) is

@@ -18,13 +18,13 @@ use Rattle.sixel_base.specs.declared.status.SixelDcsFeedStatus.TheVariants.{Canc
 use Rattle.sixel_base.specs.Dcs.{dcs_status, dcs_count, has_ended}
 use Rattle.sixel_base.specs.OneShot.{found, IsFoundImage, AreFoundRegisters}
 use Rattle.sixel_io.specs.declared.fault.Fault.{Fault}
-use Rattle.sixel_io.specs.declared.fault.Fault.TheVariants.{Sixel, Netpbm, Input, Output}
+use Rattle.sixel_io.specs.declared.fault.Fault.TheVariants.{Sixel, Input, Output}
 use Rattle.sixel.specs.Form.{image_form}
 use Rattle.sixel.specs.Ending.{Ending, Done, Refused, Unreadable}
-use Rattle.sixel.specs.Strings.{string_fault, is_cut_short, AreAnswered, Over, Broken, CutShort}
-use Rattle.sixel.specs.Strings.{Followed}
+use Rattle.sixel.specs.Sequences.{sequence_fault, is_cut_short, IsSequencesOutput, Over, Broken}
+use Rattle.sixel.specs.Sequences.{CutShort, Followed}
 use Rattle.sixel_io.specs.Output.{Writes}
-use Rattle.sixel.specs.Answer.{IsImageAnswer, Begins, Serves}
+use Rattle.sixel.specs.WorkOutput.{IsImageOutput, Begins, Serves}
 use Rattle.sixel.proofs.ByteCounts.{complete_counts}
 
 -- The images before the rest were written, and an output for the rest completes that for all.
@@ -32,14 +32,14 @@ pub record Leads (start : DecoderState) (bytes : List ℕ) (now : DecoderState) 
     (a b : Option (List ℕ)) : Type 0 where
   pub text : List ℕ
   pub written : Appends a b text
-  pub completes : (more : List ℕ) (ending : Ending) → AreAnswered now rest more ending
-      → AreAnswered start bytes (text ++ more) ending
+  pub completes : (more : List ℕ) (ending : Ending) → IsSequencesOutput now rest more ending
+      → IsSequencesOutput start bytes (text ++ more) ending
 
 -- an output for the rest is the end of that for all
 pub Serves-led : {A : Type 0} (result : Result A Fault) (start : DecoderState) (bytes : List ℕ)
     (now : DecoderState) (rest : List ℕ) (a b c : Option (List ℕ))
-    → Leads start bytes now rest a b → Serves result (AreAnswered now rest) b c
-    → Serves result (AreAnswered start bytes) a c
+    → Leads start bytes now rest a b → Serves result (IsSequencesOutput now rest) b c
+    → Serves result (IsSequencesOutput start bytes) a c
 Serves-led (Ok _) start bytes now rest a b c l (more, is, grown) = (
   l.text ++ more,
   l.completes more Done is,
@@ -50,24 +50,19 @@ Serves-led (Err (Sixel e)) start bytes now rest a b c l (more, is, grown) = (
   l.completes more (Refused e) is,
   Appends-trans a b c _ _ l.written grown,
 )
-Serves-led (Err (Netpbm e)) start bytes now rest a b c l (more, is, grown) = (
-  l.text ++ more,
-  l.completes more (Unreadable e) is,
-  Appends-trans a b c _ _ l.written grown,
-)
 Serves-led (Err Input) start bytes now rest a b c l served = served
 Serves-led (Err Output) start bytes now rest a b c l (more, (left, ending, is), grown) =
     let whole =
-    subst (λ (t : List ℕ). AreAnswered start bytes t ending)
+    subst (λ (t : List ℕ). IsSequencesOutput start bytes t ending)
     (sym (append_assoc l.text more left)) (l.completes (more ++ left) ending is) in
     (l.text ++ more, (left, ending, whole), Appends-trans a b c _ _ l.written grown)
 
 -- no sequence is left
 pub writes_none : (now : DecoderState) (rest : List ℕ) (a : Option (List ℕ)) → rest ≡ []
-    → Writes (λ text. AreAnswered now rest text Done) a a
+    → Writes (λ text. IsSequencesOutput now rest text Done) a a
 writes_none now rest a none = (
   [],
-  subst (λ (r : List ℕ). AreAnswered now r [] Done) (sym none) (Over now),
+  subst (λ (r : List ℕ). IsSequencesOutput now r [] Done) (sym none) (Over now),
   Appends-nil a,
 )
 
@@ -77,7 +72,7 @@ writes_none now rest a none = (
 pub record HasEnded (now : DecoderState) (bytes : List ℕ) (image : Image) (after : DecoderState)
     : Type 0 where
   pub ended : has_ended (dcs_status bytes) ≡ true
-  pub faultless : string_fault now.pixel_limit bytes ≡ None
+  pub faultless : sequence_fault now.pixel_limit bytes ≡ None
   pub shows : IsFoundImage now (found bytes) image
   pub leaves : AreFoundRegisters now (found bytes) after.registers
   pub set : IsSetAs now after
@@ -85,81 +80,81 @@ pub record HasEnded (now : DecoderState) (bytes : List ℕ) (image : Image) (aft
 -- an output that begins with an image
 abbrev BeginsWith : DecoderState → List ℕ → Image → Type 0
 BeginsWith now bytes image =
-    (more : List ℕ) × (ending : Ending) × AreAnswered now bytes (image_form image ++ more) ending
+    (more : List ℕ) × (ending : Ending)
+    × IsSequencesOutput now bytes (image_form image ++ more) ending
 
 begins_last : (now after : DecoderState) (bytes : List ℕ) (image : Image)
     → HasEnded now bytes image after → is_cut_short (dcs_status bytes) ≡ true
     → BeginsWith now bytes image
-begins_last now after bytes image string short = (
+begins_last now after bytes image sequence short = (
   [],
   Done,
-  subst (λ (t : List ℕ). AreAnswered now bytes t Done)
+  subst (λ (t : List ℕ). IsSequencesOutput now bytes t Done)
       (sym (append-nil (image_form image)))
-      (CutShort now bytes image string.faultless short string.shows),
+      (CutShort now bytes image sequence.faultless short sequence.shows),
 )
 
 begins_by :
     (now after : DecoderState) (bytes : List ℕ) (image : Image) (status : SixelDcsFeedStatus)
     → dcs_status bytes ≡ status → HasEnded now bytes image after
     → BeginsWith now bytes image
-begins_by now after bytes image Complete is string =
+begins_by now after bytes image Complete is sequence =
     let wanting = Broken after (drop (dcs_count bytes) bytes) OutOfMemory refl in (
       [],
       Refused OutOfMemory,
-      Followed now after bytes [] image (Refused OutOfMemory) string.faultless is string.shows
-          string.leaves string.set wanting,
+      Followed now after bytes [] image (Refused OutOfMemory) sequence.faultless is sequence.shows
+          sequence.leaves sequence.set wanting,
     )
-begins_by now after bytes image NeedMoreData is string =
-    absurd (false≢true (ap has_ended (sym is) ∙ string.ended))
-begins_by now after bytes image (Cancelled byte) is string =
-    begins_last now after bytes image string (ap is_cut_short is)
-begins_by now after bytes image (Interrupted byte) is string =
-    begins_last now after bytes image string (ap is_cut_short is)
+begins_by now after bytes image NeedMoreData is sequence =
+    absurd (false≢true (ap has_ended (sym is) ∙ sequence.ended))
+begins_by now after bytes image (Cancelled byte) is sequence =
+    begins_last now after bytes image sequence (ap is_cut_short is)
+begins_by now after bytes image (Interrupted byte) is sequence =
+    begins_last now after bytes image sequence (ap is_cut_short is)
 
 -- nothing is written if an allocation fails
 refused_image : (now after : DecoderState) (bytes text : List ℕ) (image : Image) (e : SixelError)
     → HasEnded now bytes image after
-    → IsImageAnswer image_form None (λ i. i ≡ image) text (Refused e)
-    → AreAnswered now bytes text (Refused e)
-refused_image now after bytes text image e string (nothing, why) =
-    let here : data_fault.Faults e true (string_fault now.pixel_limit bytes) =
-    subst (λ f. data_fault.Faults e true f) (sym string.faultless) why in
-    subst (λ (t : List ℕ). AreAnswered now bytes t (Refused e))
+    → IsImageOutput image_form None (λ i. i ≡ image) text (Refused e)
+    → IsSequencesOutput now bytes text (Refused e)
+refused_image now after bytes text image e sequence (nothing, why) =
+    let here : data_fault.Faults e true (sequence_fault now.pixel_limit bytes) =
+    subst (λ f. data_fault.Faults e true f) (sym sequence.faultless) why in
+    subst (λ (t : List ℕ). IsSequencesOutput now bytes t (Refused e))
     (sym nothing) (Broken now bytes e here)
 
 -- what is written before a writer fails is a beginning of the output
 begun_image :
     (now after : DecoderState) (bytes text left : List ℕ) (image : Image) (ending : Ending)
     → HasEnded now bytes image after
-    → IsImageAnswer image_form None (λ i. i ≡ image) (text ++ left) ending
-    → Begins (AreAnswered now bytes) text
-begun_image now after bytes text left image Done string (_, (i, same, form)) =
-    let b = begins_by now after bytes image (dcs_status bytes) refl string in
+    → IsImageOutput image_form None (λ i. i ≡ image) (text ++ left) ending
+    → Begins (IsSequencesOutput now bytes) text
+begun_image now after bytes text left image Done sequence (_, (i, same, form)) =
+    let b = begins_by now after bytes image (dcs_status bytes) refl sequence in
     let whole : image_form image ++ b.0 ≡ text ++ (left ++ b.0) =
     ap (λ t. t ++ b.0) (sym (form ∙ ap image_form same)) ∙ append_assoc text left b.0 in
-    (left ++ b.0, b.1, subst (λ (t : List ℕ). AreAnswered now bytes t b.1) whole b.2)
-begun_image now after bytes text left image (Refused e) string is = (
+    (left ++ b.0, b.1, subst (λ (t : List ℕ). IsSequencesOutput now bytes t b.1) whole b.2)
+begun_image now after bytes text left image (Refused e) sequence is = (
   left,
   Refused e,
-  refused_image now after bytes (text ++ left) image e string is,
+  refused_image now after bytes (text ++ left) image e sequence is,
 )
-begun_image now after bytes text left image (Unreadable e) string is = absurd is
+begun_image now after bytes text left image (Unreadable e) sequence is = absurd is
 
 -- an image that could not be written whole ends the output
 pub Serves-broken : (A B : Type 0) (fault : Fault) (now after : DecoderState) (bytes : List ℕ)
     (image : Image) (a b : Option (List ℕ)) → HasEnded now bytes image after
-    → Serves {A = A} (Err fault) (IsImageAnswer image_form None (λ i. i ≡ image)) a b
-    → Serves {A = B} (Err fault) (AreAnswered now bytes) a b
-Serves-broken A B (Sixel e) now after bytes image a b string (text, is, grown) = (
+    → Serves {A = A} (Err fault) (IsImageOutput image_form None (λ i. i ≡ image)) a b
+    → Serves {A = B} (Err fault) (IsSequencesOutput now bytes) a b
+Serves-broken A B (Sixel e) now after bytes image a b sequence (text, is, grown) = (
   text,
-  refused_image now after bytes text image e string is,
+  refused_image now after bytes text image e sequence is,
   grown,
 )
-Serves-broken A B (Netpbm e) now after bytes image a b string (text, is, grown) = absurd is
-Serves-broken A B Input now after bytes image a b string served = served
-Serves-broken A B Output now after bytes image a b string (text, (left, ending, is), grown) = (
+Serves-broken A B Input now after bytes image a b sequence served = served
+Serves-broken A B Output now after bytes image a b sequence (text, (left, ending, is), grown) = (
   text,
-  begun_image now after bytes text left image ending string is,
+  begun_image now after bytes text left image ending sequence is,
   grown,
 )
 
@@ -169,22 +164,22 @@ leads_more : (start : DecoderState) (bytes : List ℕ) (now after : DecoderState
     → HasEnded now rest image after → dcs_status rest ≡ Complete → tail ≡ drop (dcs_count rest) rest
     → Leads start bytes now rest a b → Appends b c (image_form image)
     → Leads start bytes after tail a c
-leads_more start bytes now after rest tail image a b c string whole follows l grown = record {
+leads_more start bytes now after rest tail image a b c sequence whole follows l grown = record {
   text = l.text ++ image_form image;
   written = Appends-trans a b c _ _ l.written grown;
   completes = λ more ending is.
-      let tail_is = subst (λ (t : List ℕ). AreAnswered after t more ending) follows is in
+      let tail_is = subst (λ (t : List ℕ). IsSequencesOutput after t more ending) follows is in
       let here =
-      Followed now after rest more image ending string.faultless whole string.shows string.leaves
-      string.set tail_is in
-      subst (λ (t : List ℕ). AreAnswered start bytes t ending)
+      Followed now after rest more image ending sequence.faultless whole sequence.shows
+      sequence.leaves sequence.set tail_is in
+      subst (λ (t : List ℕ). IsSequencesOutput start bytes t ending)
       (sym (append_assoc l.text (image_form image) more))
       (l.completes (image_form image ++ more) ending here);
 }
 
 -- the image of a sequence was written
 pub writes_image : (IsImage : Image → Type 0) (image : Image) (a b : Option (List ℕ))
-    → IsImage image → Writes (λ text. IsImageAnswer image_form None (λ i. i ≡ image) text Done) a b
+    → IsImage image → Writes (λ text. IsImageOutput image_form None (λ i. i ≡ image) text Done) a b
     → (shown : Image) × IsImage shown × Appends a b (image_form shown)
 writes_image IsImage image a b is (text, (_, (i, same, form)), grown) = (
   image,
@@ -198,14 +193,13 @@ pub Serves-stopped :
     → Serves {A = A} (Err fault) IsText a b
     → Serves {A = B} (Err fault) IsText a b
 Serves-stopped A B (Sixel e) IsText a b served = served
-Serves-stopped A B (Netpbm e) IsText a b served = served
 Serves-stopped A B Input IsText a b served = served
 Serves-stopped A B Output IsText a b served = served
 
 -- an image is written if nothing fails
 pub OnOk-image : {A : Type 0} (IsImage : Image → Type 0) (image : Image) (result : Result A Fault)
     (a b : Option (List ℕ)) → IsImage image
-    → Serves result (IsImageAnswer image_form None (λ i. i ≡ image)) a b
+    → Serves result (IsImageOutput image_form None (λ i. i ≡ image)) a b
     → OnOk result ((shown : Image) × IsImage shown × Appends a b (image_form shown))
 OnOk-image IsImage image (Ok _) a b is served = writes_image IsImage image a b is served
 OnOk-image IsImage image (Err _) a b is served = tt
@@ -213,11 +207,11 @@ OnOk-image IsImage image (Err _) a b is served = tt
 -- and ends the output otherwise
 pub OnErr-broken : {A : Type 0} (result : Result A Fault) (now after : DecoderState)
     (bytes : List ℕ) (image : Image) (a b : Option (List ℕ)) → HasEnded now bytes image after
-    → Serves result (IsImageAnswer image_form None (λ i. i ≡ image)) a b
-    → OnErr result (Serves result (AreAnswered now bytes) a b)
-OnErr-broken (Ok _) now after bytes image a b string served = tt
-OnErr-broken {A} (Err fault) now after bytes image a b string served =
-    Serves-broken A A fault now after bytes image a b string served
+    → Serves result (IsImageOutput image_form None (λ i. i ≡ image)) a b
+    → OnErr result (Serves result (IsSequencesOutput now bytes) a b)
+OnErr-broken (Ok _) now after bytes image a b sequence served = tt
+OnErr-broken {A} (Err fault) now after bytes image a b sequence served =
+    Serves-broken A A fault now after bytes image a b sequence served
 
 -- ---- sequences one after another
 
@@ -225,7 +219,7 @@ OnErr-broken {A} (Err fault) now after bytes image a b string served =
 pub data Stands (start : DecoderState) (bytes : List ℕ) (now : DecoderState) (rest : List ℕ)
     (a b : Option (List ℕ)) : Type 0 where
   Leading : Leads start bytes now rest a b → Stands start bytes now rest a b
-  Answered : rest ≡ [] → Writes (λ text. AreAnswered start bytes text Done) a b
+  Whole : rest ≡ [] → Writes (λ text. IsSequencesOutput start bytes text Done) a b
       → Stands start bytes now rest a b
 
 -- at first no image is written
@@ -236,7 +230,7 @@ stands_first start now bytes a same =
       text = [];
       written = Appends-nil a;
       completes = λ more ending is.
-          subst (λ (d : DecoderState). AreAnswered d bytes more ending) same is;
+          subst (λ (d : DecoderState). IsSequencesOutput d bytes more ending) same is;
     }
 
 -- as long as bytes are left, more is to be written
@@ -244,16 +238,16 @@ pub still_leads : (start : DecoderState) (bytes : List ℕ) (now : DecoderState)
     (a b : Option (List ℕ)) → 0 < length rest → Stands start bytes now rest a b
     → Leads start bytes now rest a b
 still_leads start bytes now rest a b some (Leading l) = l
-still_leads start bytes now rest a b some (Answered none written) =
+still_leads start bytes now rest a b some (Whole none written) =
     absurd (omega (arith, some, ap length none))
 
 -- and once none is left, the output is whole
 pub stands_last : (start : DecoderState) (bytes : List ℕ) (now : DecoderState) (rest : List ℕ)
     (a b : Option (List ℕ)) → rest ≡ [] → Stands start bytes now rest a b
-    → Writes (λ text. AreAnswered start bytes text Done) a b
+    → Writes (λ text. IsSequencesOutput start bytes text Done) a b
 stands_last start bytes now rest a b none (Leading l) =
     Serves-led {A = Unit {0}} (Ok tt) start bytes now rest a b b l (writes_none now rest b none)
-stands_last start bytes now rest a b none (Answered _ written) = written
+stands_last start bytes now rest a b none (Whole _ written) = written
 
 -- a sequence that has ended is complete or ended early
 abbrev EndsBy : SixelDcsFeedStatus → Type 0
@@ -292,18 +286,19 @@ stands_by : (start : DecoderState) (bytes : List ℕ) (now next : DecoderState) 
     (image : Image) (a b c : Option (List ℕ)) → EndsBy (dcs_status rest)
     → HasEnded now rest image next → Follows rest after → Appends b c (image_form image)
     → Leads start bytes now rest a b → Stands start bytes next after a c
-stands_by start bytes now next rest after image a b c (inl whole) string f grown l =
+stands_by start bytes now next rest after image a b c (inl whole) sequence f grown l =
     Leading
-    (leads_more start bytes now next rest after image a b c string whole (f.complete whole) l grown)
-stands_by start bytes now next rest after image a b c (inr cut) string f grown l =
-    Answered (f.cut_short cut) (Serves-led {A = Unit {0}} (Ok tt) start bytes now rest a b c l
-    (image_form image, CutShort now rest image string.faultless cut string.shows, grown))
+    (leads_more start bytes now next rest after image a b c sequence whole (f.complete whole) l
+    grown)
+stands_by start bytes now next rest after image a b c (inr cut) sequence f grown l =
+    Whole (f.cut_short cut) (Serves-led {A = Unit {0}} (Ok tt) start bytes now rest a b c l
+    (image_form image, CutShort now rest image sequence.faultless cut sequence.shows, grown))
 
 -- a sequence more, whose image is written
 pub stands_more : (start : DecoderState) (bytes : List ℕ) (now next : DecoderState)
     (rest after : List ℕ) (image : Image) (a b c : Option (List ℕ))
     → HasEnded now rest image next → Follows rest after → Appends b c (image_form image)
     → Leads start bytes now rest a b → Stands start bytes next after a c
-stands_more start bytes now next rest after image a b c string f grown l =
-    stands_by start bytes now next rest after image a b c (ends_by (dcs_status rest) string.ended)
-    string f grown l
+stands_more start bytes now next rest after image a b c sequence f grown l =
+    stands_by start bytes now next rest after image a b c (ends_by (dcs_status rest) sequence.ended)
+    sequence f grown l

@@ -1,5 +1,4 @@
 pub mod ArgumentPlaces
-pub mod AskedWords
 pub mod ByteCounts
 mod Chunks
 pub mod DcsSequences
@@ -7,3 +6,4 @@ pub mod Drawings
 pub mod ImageSequences
 pub mod OptionSteps
 pub mod Outputs
+pub mod Responses

@@ -1,13 +1,16 @@
 -- What pairs of a name and a value change, one after another.
-use Rattle.std.proofs.Common.{◌≡◌, ◌↔◌, ◌≤◌, ◌-◌, List, [], ◌∷◌, ℕ, Some, None, refl, sym, ap, ◌∙◌}
+use Rattle.std.proofs.Common.{◌≡◌, ◌↔◌, ◌≤◌, ◌<◌, ◌-◌, List, [], ◌∷◌, ℕ, Some, None, refl, sym, ap}
+use Rattle.std.proofs.Common.{◌∙◌}
 use Rattle.std.proofs.Common.{subst, arith, length, get_or, take, drop, string_bytes, String}
-use Rattle.std.proofs.Common.{Bor, IfSome, Option, codes, option_map}
+use Rattle.std.proofs.Common.{Bor, IfNone, IfSome, Option, codes, option_map, inl, inr}
 use Rattle.std.specs.declared.alloc.Global.{Global}
 use Rattle.std.proofs.lemmas.List.{take_all}
 use Rattle.std.proofs.lemmas.Option.{none-some, same_Some}
 use Rattle.sixel.specs.Options.{AreOptions, IsLastPath, IsOption, default_options}
-use Rattle.sixel.specs.Words.{IsPalettePath, words_of}
+use Rattle.sixel.specs.Words.{BeginsWithDraw, IsPalettePath, IsPictureAskedBy, words_of}
 use Rattle.sixel.specs.declared.draw_options.DrawOptions.{DrawOptions}
+use Rattle.sixel.specs.declared.picture_words.PictureWord.{PictureWord}
+use Rattle.sixel.specs.declared.picture_words.PictureWord.TheVariants.{Pam, Draw}
 
 -- an option that is known leads to the options that the rest changes
 pub step_on : (options changed : DrawOptions) (name value : List ℕ) (rest : List (List ℕ))
@@ -115,3 +118,56 @@ path_known words rest options None begins are last = tt
 path_known words rest options (Some path) begins are last =
     subst (λ (w : List (List ℕ)). IsPalettePath w path.now) (sym begins)
     (refl, (options, are), last)
+
+-- only one path is the last
+one_path : (path : Option (List ℕ)) (words : List (List ℕ)) (last other : Option (List ℕ))
+    → IsLastPath path words last → IsLastPath path words other → last ≡ other
+one_path path [] last other is also = sym is ∙ also
+one_path path (name ∷ []) last other is also = sym is ∙ also
+one_path path (name ∷ value ∷ rest) last other (inl is) (inl also) =
+    one_path (Some value) rest last other is.1 also.1
+one_path path (name ∷ value ∷ rest) last other (inl is) (inr also) = absurd (also.0 is.0)
+one_path path (name ∷ value ∷ rest) last other (inr is) (inl also) = absurd (is.0 also.0)
+one_path path (name ∷ value ∷ rest) last other (inr is) (inr also) =
+    one_path path rest last other is.1 also.1
+
+-- other arguments name no path
+pub no_draw : (words : List (List ℕ)) → ¬ BeginsWithDraw words
+    → (path : List ℕ) → ¬ IsPalettePath words path
+no_draw [] begins path is = is
+no_draw (word ∷ rest) begins path is = begins is.0
+
+-- nor do wrong options
+pub no_options : (words rest : List (List ℕ)) → words ≡ codes "draw" ∷ rest
+    → ((options : DrawOptions) → AreOptions default_options rest options ↔ (None ≡ Some options))
+    → (path : List ℕ) → ¬ IsPalettePath words path
+no_options words rest begins stated path is =
+    let (_, (options, are), _) = subst (λ (w : List (List ℕ)). IsPalettePath w path) begins is in
+    none-some options ((stated options).0 are)
+
+-- nor do options without a path
+pub no_path : (words rest : List (List ℕ)) (last : Option (Bor (List ℕ)))
+    → words ≡ codes "draw" ∷ rest → IsLastPath None rest (option_map (λ p. p.now) last)
+    → IfNone last ((path : List ℕ) → ¬ IsPalettePath words path)
+no_path words rest (Some last) begins is = tt
+no_path words rest None begins is = λ path known.
+    let (_, _, also) = subst (λ (w : List (List ℕ)). IsPalettePath w path) begins known in
+    none-some path (one_path None rest None (Some path) is also)
+
+-- the only argument
+pub only_word : (words : List (String Global)) (word : String Global) (read : List ℕ)
+    → 1 ≤ length words → length words < 2 → word ≡ get_or words 0 word
+    → read ≡ string_bytes word → words_of words ≡ read ∷ []
+only_word [] word read some few is_word is_read = absurd (omega (arith, some))
+only_word (w ∷ []) word read some few is_word is_read =
+    ap (λ x. string_bytes x ∷ []) (sym is_word) ∙ ap (λ x. x ∷ []) (sym is_read)
+only_word (w ∷ x ∷ rest) word read some few is_word is_read = absurd (omega (arith, few))
+
+-- wrong options of `draw` ask for nothing
+pub no_picture : (words rest : List (List ℕ)) → words ≡ codes "draw" ∷ rest
+    → ((options : DrawOptions) → AreOptions default_options rest options ↔ (None ≡ Some options))
+    → (word : PictureWord) → ¬ IsPictureAskedBy words word
+no_picture words rest begins stated Pam asked = absurd cc
+no_picture words rest begins stated (Draw options) asked =
+    let here = subst (λ (w : List (List ℕ)). IsPictureAskedBy w (Draw options)) begins asked in
+    none-some options ((stated options).0 here.1)

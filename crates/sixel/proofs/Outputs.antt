@@ -12,22 +12,26 @@ use Rattle.sixel_base.specs.Decoder.{new_decoder}
 use Rattle.sixel_base.specs.Payload.{Image}
 use Rattle.sixel_base.specs.Fault as data_fault
 use Rattle.sixel_io.specs.declared.fault.Fault.{Fault}
-use Rattle.sixel_io.specs.declared.fault.Fault.TheVariants.{Sixel, Netpbm, Input, Output}
+use Rattle.sixel_io.specs.declared.fault.Fault.TheVariants.{Sixel, Input, Output}
 use Rattle.sixel.specs.declared.words.Word.{Word}
-use Rattle.sixel.specs.declared.words.Word.TheVariants.{Payload, Decode, Pam, Frames, Encode}
-use Rattle.sixel.specs.declared.words.Word.TheVariants.{Draw}
+use Rattle.sixel.specs.declared.words.Word.TheVariants.{Payload, Decode, Frames, Encode}
+use Rattle.sixel.specs.declared.picture_fault.PictureFault.{PictureFault}
+use Rattle.sixel.specs.declared.picture_fault.PictureFault.TheVariants.{Shared}
+use Rattle.sixel.specs.declared.picture_words.PictureWord.{PictureWord}
+use Rattle.sixel.specs.declared.picture_words.PictureWord.TheVariants.{Pam, Draw}
 use Rattle.sixel_encoder.specs.declared.dither.Dither.{Dither}
 use Rattle.netpbm.specs.Image.{Rgba, image_of}
 use Rattle.netpbm.specs.declared.error.NetpbmError.{NetpbmError}
 use Rattle.sixel.specs.declared.draw_options.DrawPalette.{DrawPalette}
 use Rattle.sixel.specs.declared.draw_options.DrawPalette.TheVariants.{Standard, Refined, File}
-use Rattle.sixel.specs.Drawing.{IsDrawAnswer}
+use Rattle.sixel.specs.Drawing.{IsDrawOutput}
 use Rattle.sixel.specs.Form.{line_end, image_line, image_form, pam_header}
 use Rattle.sixel.specs.Form.{pam_form}
 use Rattle.sixel.specs.Ending.{Ending, Done, Refused, Unreadable}
-use Rattle.sixel.specs.Strings.{Broken}
+use Rattle.sixel.specs.Sequences.{Broken}
 use Rattle.sixel_io.specs.Output.{Writes}
-use Rattle.sixel.specs.Answer.{IsAnswer, IsImageAnswer, Begins, Serves}
+use Rattle.sixel.specs.WorkOutput.{IsOutput, IsImageOutput, IsPictureOutput, Begins}
+use Rattle.sixel.specs.WorkOutput.{Serves, ServesPicture}
 
 -- ---- an output that is written in parts
 
@@ -82,48 +86,58 @@ Serves-last {A} (Err f) IsText a b c front bytes whole before all part is_output
 -- out of memory is an ending of any drawing
 drawn_wanting : (source : DrawPalette) (dither : Dither) (palette : List ℕ)
     (read : Result Rgba NetpbmError)
-    → IsDrawAnswer source dither palette read [] (Refused OutOfMemory)
+    → IsDrawOutput source dither palette read [] (Refused OutOfMemory)
 drawn_wanting Standard dither palette read = (refl, inl refl)
 drawn_wanting (Refined max_colors) dither palette read = (refl, inl refl)
 drawn_wanting File dither palette read = (refl, inl refl)
 
 -- out of memory is an ending of any work
-wanting : (word : Word) (palette bytes : List ℕ)
-    → IsAnswer word palette bytes [] (Refused OutOfMemory)
-wanting Payload palette bytes = (refl, refl)
-wanting Decode palette bytes = (refl, refl)
-wanting Pam palette bytes = (refl, refl)
-wanting (Frames length) palette bytes = Broken new_decoder bytes OutOfMemory refl
-wanting (Encode width height colors) palette bytes = (refl, inl refl)
-wanting (Draw options) palette bytes =
+pub wanting : (word : Word) (bytes : List ℕ) → IsOutput word bytes [] (Refused OutOfMemory)
+wanting Payload bytes = (refl, refl)
+wanting Decode bytes = (refl, refl)
+wanting (Frames length) bytes = Broken new_decoder bytes OutOfMemory refl
+wanting (Encode width height colors) bytes = (refl, inl refl)
+
+pub wanting_picture : (word : PictureWord) (palette bytes : List ℕ)
+    → IsPictureOutput word palette bytes [] (Refused OutOfMemory)
+wanting_picture Pam palette bytes = (refl, refl)
+wanting_picture (Draw options) palette bytes =
     drawn_wanting options.palette options.dither palette (image_of bytes)
 
 -- an allocation can fail before anything is written
-pub Writes-wanting : (word : Word) (palette : List ℕ) (remaining held : Option (List ℕ))
-    (error : SixelError) → (Sixel error ≡ Input) ⊎ (Sixel error ≡ Sixel OutOfMemory)
-    → IfSome remaining
-    (λ bytes. Writes (λ text. IsAnswer word palette bytes text (Refused error)) held held)
-Writes-wanting word palette remaining held error (inl unread) = absurd cc
-Writes-wanting word palette None held error (inr is) = tt
-Writes-wanting word palette (Some bytes) held error (inr is) =
-    let same : OutOfMemory ≡ error = cc in (
-      [],
-      subst (λ e. IsAnswer word palette bytes [] (Refused e)) same (wanting word palette bytes),
-      Appends-nil held,
-    )
+pub Writes-wanting : (IsText : List ℕ → List ℕ → Ending → Type 0)
+    (remaining held : Option (List ℕ)) (error : SixelError)
+    → (Sixel error ≡ Input) ⊎ (Sixel error ≡ Sixel OutOfMemory)
+    → ((bytes : List ℕ) → IsText bytes [] (Refused OutOfMemory))
+    → IfSome remaining (λ bytes. Writes (λ text. IsText bytes text (Refused error)) held held)
+Writes-wanting IsText remaining held error (inl unread) wants = absurd cc
+Writes-wanting IsText None held error (inr is) wants = tt
+Writes-wanting IsText (Some bytes) held error (inr is) wants =
+    let same : OutOfMemory ≡ error = cc in
+    ([], subst (λ e. IsText bytes [] (Refused e)) same (wants bytes), Appends-nil held)
 
 -- bytes that nothing was written to
 pub Keeps-same : (held : Option (List ℕ)) → Keeps held held
 Keeps-same None = tt
 Keeps-same (Some bytes) = refl
 
--- an error with nothing written
-pub Serves-refused : {A : Type 0} (result : Result A Fault) (IsText : List ℕ → Ending → Type 0)
-    (held : Option (List ℕ)) (error : SixelError) → IsErrAnd result (λ f. f ≡ Sixel error)
-    → IsText [] (Refused error) → Serves result IsText held held
-Serves-refused (Ok _) IsText held error failed is = absurd failed
-Serves-refused {A} (Err f) IsText held error failed is =
-    subst (λ e. Serves {A = A} (Err e) IsText held held) (sym failed) ([], is, Appends-nil held)
+-- an output on an image in netpbm's formats that could not be written whole
+pub ServesPicture-part : {A : Type 0} (result : Result A PictureFault) (fault : Fault)
+    (IsText : List ℕ → Ending → Type 0) (a b : Option (List ℕ)) (text : List ℕ)
+    → IsText text Done → IsErrAnd result (λ f. f ≡ Shared fault) → fault ≡ Output
+    → (count : ℕ) × Appends a b (take count text) → ServesPicture result IsText a b
+ServesPicture-part (Ok _) fault IsText a b text whole failed is_output part = absurd failed
+ServesPicture-part {A} (Err f) fault IsText a b text whole failed is_output part =
+    let all = subst (λ t. IsText t Done) (sym (append-nil text)) whole in
+    subst (λ e. ServesPicture {A = A} (Err e) IsText a b) (sym failed)
+    (Serves-part {A = A} (Err fault) fault IsText a a b [] text [] all refl is_output
+    (Appends-nil a) part)
+
+-- what holds for the bytes that were read
+pub if_read : (remaining : Option (List ℕ)) (bytes : List ℕ) (P : List ℕ → Type 0)
+    → IfSome remaining (λ all. bytes ≡ all) → P bytes → IfSome remaining P
+if_read None bytes P same holds = tt
+if_read (Some all) bytes P same holds = subst P same holds
 
 -- ---- images
 
@@ -151,11 +165,6 @@ Serves-weaker (Err (Sixel error)) P Q a b also (text, is, grown) = (
   also text (Refused error) is,
   grown,
 )
-Serves-weaker (Err (Netpbm error)) P Q a b also (text, is, grown) = (
-  text,
-  also text (Unreadable error) is,
-  grown,
-)
 Serves-weaker (Err Input) P Q a b also served = served
 Serves-weaker (Err Output) P Q a b also (text, (rest, ending, is), grown) = (
   text,
@@ -164,26 +173,26 @@ Serves-weaker (Err Output) P Q a b also (text, (rest, ending, is), grown) = (
 )
 
 -- an image is an output if nothing is wrong
-IsImageAnswer-of : (form : Image → List ℕ) (fault : Option data_fault.Fault)
+IsImageOutput-of : (form : Image → List ℕ) (fault : Option data_fault.Fault)
     (IsImage : Image → Type 0) (image : Image) → fault ≡ None → IsImage image
-    → (text : List ℕ) (ending : Ending) → IsImageAnswer form None (λ i. i ≡ image) text ending
-    → IsImageAnswer form fault IsImage text ending
-IsImageAnswer-of form fault IsImage image none is text Done (_, (i, same, written)) = (
+    → (text : List ℕ) (ending : Ending) → IsImageOutput form None (λ i. i ≡ image) text ending
+    → IsImageOutput form fault IsImage text ending
+IsImageOutput-of form fault IsImage image none is text Done (_, (i, same, written)) = (
   none,
   (image, is, written ∙ ap form same),
 )
-IsImageAnswer-of form fault IsImage image none is text (Refused error) (nothing, why) =
+IsImageOutput-of form fault IsImage image none is text (Refused error) (nothing, why) =
     (nothing, subst (λ f. data_fault.Faults error true f) (sym none) why)
-IsImageAnswer-of form fault IsImage image none is text (Unreadable error) never = absurd never
+IsImageOutput-of form fault IsImage image none is text (Unreadable error) never = absurd never
 
 -- the image that was decoded is written
 pub Serves-image : {A : Type 0} (result : Result A Fault) (form : Image → List ℕ)
     (fault : Option data_fault.Fault) (IsImage : Image → Type 0) (image : Image)
     (a b : Option (List ℕ)) → fault ≡ None → IsImage image
-    → Serves result (IsImageAnswer form None (λ i. i ≡ image)) a b
-    → Serves result (IsImageAnswer form fault IsImage) a b
+    → Serves result (IsImageOutput form None (λ i. i ≡ image)) a b
+    → Serves result (IsImageOutput form fault IsImage) a b
 Serves-image result form fault IsImage image a b none is =
-    Serves-weaker result _ _ a b (IsImageAnswer-of form fault IsImage image none is)
+    Serves-weaker result _ _ a b (IsImageOutput-of form fault IsImage image none is)
 
 -- ---- texts
 

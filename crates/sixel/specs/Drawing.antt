@@ -42,8 +42,8 @@ abbrev pub refined_fault : ℕ → Rgba → Option CallFault
 refined_fault max_colors image = palette_fault (drawn_image image) max_colors
 
 -- the output in a refined palette of at most so many colors
-abbrev pub IsRefinedAnswer : ℕ → Dither → Result Rgba NetpbmError → List ℕ → Ending → Type 0
-IsRefinedAnswer max_colors dither =
+abbrev pub IsRefinedOutput : ℕ → Dither → Result Rgba NetpbmError → List ℕ → Ending → Type 0
+IsRefinedOutput max_colors dither =
     IsDrawn (refined_fault max_colors)
     (λ image. IsRefinedText (drawn_image image) max_colors dither Compact)
 
@@ -79,8 +79,8 @@ abbrev pub painting_fault : Painting → Option CallFault
 painting_fault it = palette_fault (drawn_image it.image) (length it.colors)
 
 -- the output in the colors of a palette file
-abbrev pub IsPaletteAnswer : Dither → List ℕ → Result Rgba NetpbmError → List ℕ → Ending → Type 0
-IsPaletteAnswer dither file image =
+abbrev pub IsPaletteOutput : Dither → List ℕ → Result Rgba NetpbmError → List ℕ → Ending → Type 0
+IsPaletteOutput dither file image =
     IsDrawn painting_fault
     (λ it. IsPaletteText (drawn_image it.image) it.colors dither Compact)
     (painting_read (palette_of file) image)
@@ -88,8 +88,8 @@ IsPaletteAnswer dither file image =
 -- ---- any palette
 
 -- the output for what was read by this option, with the bytes of the palette file
-abbrev pub IsDrawAnswer : DrawPalette → Dither → List ℕ → Result Rgba NetpbmError → List ℕ → Ending
+abbrev pub IsDrawOutput : DrawPalette → Dither → List ℕ → Result Rgba NetpbmError → List ℕ → Ending
     → Type 0
-IsDrawAnswer Standard dither file = IsRefinedAnswer 256 dither
-IsDrawAnswer (Refined max_colors) dither file = IsRefinedAnswer max_colors dither
-IsDrawAnswer File dither file = IsPaletteAnswer dither file
+IsDrawOutput Standard dither file = IsRefinedOutput 256 dither
+IsDrawOutput (Refined max_colors) dither file = IsRefinedOutput max_colors dither
+IsDrawOutput File dither file = IsPaletteOutput dither file

@@ -3,6 +3,6 @@ pub mod Number
 pub mod Options
 pub mod Words
 pub mod Ending
-pub mod Strings
+pub mod Sequences
 pub mod Drawing
-pub mod Answer
+pub mod WorkOutput

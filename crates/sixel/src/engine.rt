@@ -3,18 +3,15 @@
 ghost use Rattle.std.specs.Prelude.{◌≡◌, [], OnOk, IfSome};
 ghost use Rattle.std.specs.Io.KnownBytes.{Keeps, IsAtEnd};
 ghost use Rattle.sixel_base.specs.declared.error.SixelError.{SixelError};
-ghost use Rattle.netpbm.specs.declared.error.NetpbmError.{NetpbmError};
-ghost use Rattle.sixel_io.specs.declared.fault.Fault.TheVariants.{Sixel, Netpbm, Input, Output};
-ghost use Rattle.sixel.specs.declared.words.Word.TheVariants.{Payload, Decode, Pam, Encode};
+ghost use Rattle.sixel_io.specs.declared.fault.Fault.TheVariants.{Sixel, Input, Output};
+ghost use Rattle.sixel.specs.declared.words.Word.TheVariants.{Payload, Decode, Encode};
 ghost use Rattle.sixel.specs.Words.{IsServable};
-ghost use Rattle.sixel.specs.Ending.{Done, Refused, Unreadable};
-ghost use Rattle.sixel.specs.Answer.{IsAnswer, Begins, Serves};
+ghost use Rattle.sixel.specs.Ending.{Done, Refused};
+ghost use Rattle.sixel.specs.WorkOutput.{IsOutput, Begins, Serves};
 ghost use Rattle.sixel_io.specs.Output.{Writes};
 
-use crate::drawing::draw;
 use crate::images::write_image;
-use crate::pam::write_pam;
-use crate::strings::write_strings;
+use crate::sequences::write_sequences;
 use crate::words::Word;
 use icy_sixel::{DcsSettings, EncodeOptions, SixelImage, sixel_encode};
 use sixel_io::{Fault, read_to_end, write_all};
@@ -23,38 +20,31 @@ use std::io::{Read, Write};
 
 /// Reads the input to its end, does the work and writes the output.
 ///
-/// The chunks of [`Word::Frames`] have at least one byte, as those of `read_word` have. The palette
-/// is the content of the palette file, if an option names one.
-///
-/// The clauses on bytes hold if the reader reports the bytes that it has left, and the writer those
-/// that it contains.
+/// The chunks of [`Word::Frames`] have at least one byte, as those of `read_word` have. The clauses
+/// on bytes hold if the reader reports the bytes that it has left, and the writer those that it
+/// contains.
 pub fn serve<R: Read, O: Write>(
     alloc: Global,
     word: Word,
-    palette: &[u8],
     input: &mut R,
     output: &mut O,
 ) -> Result<(), Fault>
     requires { IsServable word }
     ensures done { OnOk result (IfSome (R.remaining input.old) (λ bytes.
-        Writes (λ text. IsAnswer word palette.now bytes text Done)
+        Writes (λ text. IsOutput word bytes text Done)
         (O.contents output.old) (O.contents output.new))) }
     ensures refused { (error : SixelError) → result ≡ Err (Sixel error) →
         IfSome (R.remaining input.old) (λ bytes.
-        Writes (λ text. IsAnswer word palette.now bytes text (Refused error))
-        (O.contents output.old) (O.contents output.new)) }
-    ensures unreadable { (error : NetpbmError) → result ≡ Err (Netpbm error) →
-        IfSome (R.remaining input.old) (λ bytes.
-        Writes (λ text. IsAnswer word palette.now bytes text (Unreadable error))
+        Writes (λ text. IsOutput word bytes text (Refused error))
         (O.contents output.old) (O.contents output.new)) }
     ensures unread { result ≡ Err Input → Keeps (O.contents output.old) (O.contents output.new) }
     ensures unwritten { result ≡ Err Output → IfSome (R.remaining input.old) (λ bytes.
-        Writes (Begins (IsAnswer word palette.now bytes))
+        Writes (Begins (IsOutput word bytes))
         (O.contents output.old) (O.contents output.new)) }
     ensures at_end { OnOk result (IsAtEnd (R.remaining input.new)) }
 {
     let bytes = read_to_end(alloc, input, input_len(word))?;
-    answer(alloc, word, palette, &bytes, output)
+    run(alloc, word, &bytes, output)
 }
 
 /// The number of bytes that the input is to have, or 0 if it can have any.
@@ -63,27 +53,20 @@ pub fn serve<R: Read, O: Write>(
 fn input_len(word: Word) -> usize {
     match word {
         Word::Encode(width, height, _) => width.saturating_mul(height).saturating_mul(4),
-        Word::Payload | Word::Decode | Word::Pam | Word::Frames(_) | Word::Draw(_) => 0,
+        Word::Payload | Word::Decode | Word::Frames(_) => 0,
     }
 }
 
 /// Does the work on these bytes.
-fn answer<O: Write>(
-    alloc: Global,
-    word: Word,
-    palette: &[u8],
-    bytes: &[u8],
-    output: &mut O,
-) -> Result<(), Fault>
+fn run<O: Write>(alloc: Global, word: Word, bytes: &[u8], output: &mut O) -> Result<(), Fault>
     requires { IsServable word }
-    ensures { Serves result (IsAnswer word palette.now bytes.now) (O.contents output.old)
+    ensures { Serves result (IsOutput word bytes.now) (O.contents output.old)
         (O.contents output.new) }
 {
     match word {
         Word::Payload => payload(alloc, bytes, output),
         Word::Decode => decode(alloc, bytes, output),
-        Word::Pam => pam(alloc, bytes, output),
-        Word::Frames(length) => write_strings(alloc, length, bytes, output),
+        Word::Frames(length) => write_sequences(alloc, length, bytes, output),
         Word::Encode(width, height, colors) => encode(
             alloc,
             bytes,
@@ -91,13 +74,12 @@ fn answer<O: Write>(
             colors,
             output,
         ),
-        Word::Draw(options) => draw(alloc, options, palette, bytes, output),
     }
 }
 
 /// Writes the image of one payload.
 fn payload<O: Write>(alloc: Global, bytes: &[u8], output: &mut O) -> Result<(), Fault>
-    ensures { Serves result (IsAnswer Payload [] bytes.now) (O.contents output.old)
+    ensures { Serves result (IsOutput Payload bytes.now) (O.contents output.old)
         (O.contents output.new) }
 {
     let settings = DcsSettings::new(None, None, None);
@@ -107,20 +89,11 @@ fn payload<O: Write>(alloc: Global, bytes: &[u8], output: &mut O) -> Result<(), 
 
 /// Writes the image of the first DCS sequence, or of all bytes as one payload.
 fn decode<O: Write>(alloc: Global, bytes: &[u8], output: &mut O) -> Result<(), Fault>
-    ensures { Serves result (IsAnswer Decode [] bytes.now) (O.contents output.old)
+    ensures { Serves result (IsOutput Decode bytes.now) (O.contents output.old)
         (O.contents output.new) }
 {
     let image = SixelImage::decode(alloc, bytes)?;
     write_image(alloc, &image, output)
-}
-
-/// Writes the same image as a PAM file.
-fn pam<O: Write>(alloc: Global, bytes: &[u8], output: &mut O) -> Result<(), Fault>
-    ensures { Serves result (IsAnswer Pam [] bytes.now) (O.contents output.old)
-        (O.contents output.new) }
-{
-    let image = SixelImage::decode(alloc, bytes)?;
-    write_pam(alloc, &image, output)
 }
 
 /// Writes the SIXEL output of raw pixels in at most so many colors.
@@ -131,7 +104,7 @@ fn encode<O: Write>(
     max_colors: u16,
     output: &mut O,
 ) -> Result<(), Fault>
-    ensures { Serves result (IsAnswer (Encode size.0 size.1 max_colors) [] pixels.now)
+    ensures { Serves result (IsOutput (Encode size.0 size.1 max_colors) pixels.now)
         (O.contents output.old) (O.contents output.new) }
 {
     let options = EncodeOptions { max_colors };

@@ -5,7 +5,7 @@ ghost use Rattle.sixel_base.specs.declared.error.SixelError.TheVariants.{OutOfMe
 ghost use Rattle.icy_sixel.specs.ImageView.{image_value};
 ghost use Rattle.sixel_io.specs.declared.fault.Fault.TheVariants.{Sixel};
 ghost use Rattle.sixel.specs.Form.{image_line, image_form};
-ghost use Rattle.sixel.specs.Answer.{IsImageAnswer, Serves};
+ghost use Rattle.sixel.specs.WorkOutput.{IsImageOutput, Serves};
 
 use icy_sixel::SixelImage;
 use sixel_io::{Fault, write_all};
@@ -27,7 +27,7 @@ fn first_line(alloc: Global, image: &SixelImage) -> Result<String, Fault>
 ///
 /// The line is formatted before anything is written.
 pub fn write_image<O: Write>(alloc: Global, image: &SixelImage, output: &mut O) -> Result<(), Fault>
-    ensures { Serves result (IsImageAnswer image_form None (λ i. i ≡ image_value image.now))
+    ensures { Serves result (IsImageOutput image_form None (λ i. i ≡ image_value image.now))
         (O.contents output.old) (O.contents output.new) }
 {
     let line = first_line(alloc, image)?;

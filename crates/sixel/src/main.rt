@@ -8,14 +8,19 @@ mod images;
 mod notice;
 mod palette_file;
 mod pam;
+mod picture;
+mod picture_fault;
+mod picture_words;
 mod response;
-mod strings;
+mod sequences;
 #[cfg(test)]
 mod tests;
 mod words;
+mod work;
 
 use notice::Notice;
 use palette_file::palette_path;
+use picture_fault::PictureFault;
 use response::{Response, respond, response_of};
 use sixel_io::{Fault, write_all};
 use std::process::ExitCode;
@@ -24,16 +29,17 @@ use std::{env, fs, io};
 fn main(rt: HostRuntime) -> io::Result<ExitCode> {
     let response = match arguments(&rt) {
         Ok(words) => response_to(&rt, &words),
-        Err(fault) => Response::Failed(fault),
+        Err(fault) => Response::Failed(PictureFault::Shared(fault)),
     };
-    tell(&rt, &response)?;
+    report(&rt, &response)?;
     Ok(ExitCode::from(response.status()))
 }
 
 /// Writes the notice that the arguments ask for, or does their work.
 fn response_to(rt: &HostRuntime, words: &[String]) -> Response {
-    if let Some(notice) = Notice::asked(words) {
-        return response_of(write_all(&mut rt.stdout(), notice.text().as_bytes()));
+    if let Some(notice) = Notice::read(words) {
+        let written = write_all(&mut rt.stdout(), notice.text().as_bytes());
+        return response_of(written.map_err(PictureFault::Shared));
     }
     match palette_bytes(rt, words) {
         Ok(palette) => respond(
@@ -43,7 +49,7 @@ fn response_to(rt: &HostRuntime, words: &[String]) -> Response {
             &mut rt.stdin(),
             &mut rt.stdout(),
         ),
-        Err(_) => Response::NoPalette,
+        Err(_) => Response::Failed(PictureFault::Palette),
     }
 }
 
@@ -71,11 +77,10 @@ fn arguments(rt: &HostRuntime) -> Result<Vec<String>, Fault> {
 }
 
 /// Writes a line to standard error if something is wrong.
-fn tell(rt: &impl Eprint, response: &Response) -> io::Result<()> {
+fn report(rt: &impl Eprint, response: &Response) -> io::Result<()> {
     match response {
         Response::Done => Ok(()),
         Response::Usage => rt.eprintln("usage"),
-        Response::NoPalette => rt.eprintln("palette fault"),
         Response::Failed(fault) => rt.eprintln(fault),
     }
 }

@@ -1,6 +1,8 @@
 //! Texts about the program itself, which need no input.
 
-ghost use Rattle.std.specs.Prelude.{IfSome, IfNone, ◌∷◌, []};
+ghost use Rattle.std.specs.Prelude.{◌≡◌, IfSome, IfNone, ◌∷◌, []};
+ghost use Rattle.sixel.specs.declared.notice.Notice.TheVariants.{Help, Version};
+ghost use Rattle.sixel.specs.declared.notice.TheConstants.{HELP, VERSION};
 ghost use Rattle.sixel.specs.Words.{IsNoticeFor, words_of};
 
 /// A text about the program.
@@ -14,7 +16,7 @@ pub enum Notice {
 
 impl Notice {
     /// The notice that the arguments after the program's own name ask for, if they do.
-    pub fn asked(arguments: &[String]) -> Option<Self>
+    pub fn read(arguments: &[String]) -> Option<Self>
         ensures asked { IfSome result (IsNoticeFor (words_of arguments.now)) }
         ensures other { IfNone result ((notice : Notice)
             → ¬ IsNoticeFor (words_of arguments.now) notice) }
@@ -39,13 +41,19 @@ impl Notice {
     }
 
     /// The text, which ends with a line end.
-    pub fn text(self) -> &'static str {
+    pub fn text(self) -> &'static str
+        ensures help { self ≡ Help → result.now ≡ HELP.now }
+        ensures version { self ≡ Version → result.now ≡ VERSION.now }
+    {
         match self {
             Self::Help => HELP,
-            Self::Version => "sixel 0.7.0\n",
+            Self::Version => VERSION,
         }
     }
 }
+
+/// The text of [`Notice::Version`].
+const VERSION: &str = "sixel 0.7.0\n";
 
 /// The text of [`Notice::Help`].
 const HELP: &str = "\

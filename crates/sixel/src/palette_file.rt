@@ -1,7 +1,7 @@
 //! The file that `draw` reads a palette from: an image whose pixels are the colors.
 
-ghost use Rattle.std.specs.Prelude.{◌≡◌, ◌↔◌, ◌⊎◌, Err, IfOk, IfSome, MatchResult, Ok, option_map};
-ghost use Rattle.std.specs.Prelude.{None};
+ghost use Rattle.std.specs.Prelude.{◌≡◌, ◌⊎◌, Err, IfOk, IfSome, IfNone, MatchResult, Ok};
+ghost use Rattle.std.specs.Prelude.{List, None, option_map, ℕ};
 ghost use Rattle.netpbm.specs.declared.error.NetpbmError.TheVariants.{OutOfMemory};
 ghost use Rattle.netpbm.specs.Image.{image_of};
 ghost use Rattle.sixel.specs.Drawing.{colors_of, palette_of};
@@ -9,7 +9,7 @@ ghost use Rattle.sixel.specs.Options.{IsLastPath};
 ghost use Rattle.sixel.specs.Words.{words_of, IsPalettePath};
 
 use crate::draw_options::read_options;
-use crate::words::after_draw;
+use crate::picture_words::after_draw;
 use netpbm::{NetpbmError, read_image};
 use std::alloc::{AllocError, Global};
 
@@ -17,7 +17,8 @@ use std::alloc::{AllocError, Global};
 ///
 /// Wrong arguments state none.
 pub fn palette_path(words: &[String]) -> Option<&str>
-    ensures { IfSome result (λ path. IsPalettePath (words_of words.now) path.now) }
+    ensures path { IfSome result (λ path. IsPalettePath (words_of words.now) path.now) }
+    ensures none { IfNone result ((path : List ℕ) → ¬ IsPalettePath (words_of words.now) path) }
 {
     let options = after_draw(words)?;
     read_options(options)?;

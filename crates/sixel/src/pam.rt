@@ -5,7 +5,7 @@ ghost use Rattle.sixel_base.specs.declared.error.SixelError.TheVariants.{OutOfMe
 ghost use Rattle.icy_sixel.specs.ImageView.{image_value};
 ghost use Rattle.sixel_io.specs.declared.fault.Fault.TheVariants.{Sixel};
 ghost use Rattle.sixel.specs.Form.{pam_form, pam_header};
-ghost use Rattle.sixel.specs.Answer.{IsImageAnswer, Serves};
+ghost use Rattle.sixel.specs.WorkOutput.{IsImageOutput, Serves};
 
 use icy_sixel::SixelImage;
 use sixel_io::{Fault, write_all};
@@ -17,7 +17,7 @@ use std::io::Write;
 /// PAM has no pixel aspect ratio: a pixel is written once, even if it is shown higher than wide.
 /// The header is formatted before anything is written.
 pub fn write_pam<O: Write>(alloc: Global, image: &SixelImage, output: &mut O) -> Result<(), Fault>
-    ensures { Serves result (IsImageAnswer pam_form None (λ i. i ≡ image_value image.now))
+    ensures { Serves result (IsImageOutput pam_form None (λ i. i ≡ image_value image.now))
         (O.contents output.old) (O.contents output.new) }
 {
     let header = header(alloc, image)?;

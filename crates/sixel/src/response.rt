@@ -1,21 +1,24 @@
 //! How the program ends for its arguments and its input, with which exit status.
 
-ghost use Rattle.std.specs.Prelude.{◌≡◌, ◌≢◌, true, Err, IfSome, is_ok};
+ghost use Rattle.std.specs.Prelude.{◌≡◌, ◌≢◌, Err, IfSome, MatchResult};
 ghost use Rattle.std.specs.Io.KnownBytes.{Keeps};
 ghost use Rattle.sixel_base.specs.declared.error.SixelError.{SixelError};
 ghost use Rattle.netpbm.specs.declared.error.NetpbmError.{NetpbmError};
-ghost use Rattle.sixel_io.specs.declared.fault.Fault.TheVariants.{Sixel, Netpbm, Input, Output};
-ghost use Rattle.sixel.specs.declared.response.Response.TheVariants.{Done, Usage};
-ghost use Rattle.sixel.specs.declared.response.Response.TheVariants.{NoPalette, Failed};
-ghost use Rattle.sixel.specs.declared.words.Word.{Word};
+ghost use Rattle.sixel_io.specs.declared.fault.Fault.TheVariants.{Sixel, Input, Output};
+ghost use Rattle.sixel.specs.declared.picture_fault.PictureFault.{PictureFault};
+ghost use Rattle.sixel.specs.declared.picture_fault.PictureFault.TheVariants.{Netpbm, Palette};
+ghost use Rattle.sixel.specs.declared.picture_fault.PictureFault.TheVariants.{Shared};
+ghost use Rattle.sixel.specs.declared.response.Response.TheVariants.{Done, Usage, Failed};
+ghost use Rattle.sixel.specs.declared.work.Work.{Work};
 ghost use Rattle.sixel.specs.Ending.{Done as Whole, Refused, Unreadable};
 ghost use Rattle.sixel.specs.Words.{IsAskedBy, words_of};
-ghost use Rattle.sixel.specs.Answer.{IsAnswer, Begins};
+ghost use Rattle.sixel.specs.WorkOutput.{IsWorkOutput, Begins};
 ghost use Rattle.sixel_io.specs.Output.{Writes};
 
 use crate::engine::serve;
-use crate::words::asked;
-use sixel_io::Fault;
+use crate::picture::serve_picture;
+use crate::picture_fault::PictureFault;
+use crate::work::{Work, read_work};
 use std::alloc::Global;
 use std::io::{Read, Write};
 
@@ -26,10 +29,8 @@ pub enum Response {
     Done,
     /// The arguments are wrong.
     Usage,
-    /// The palette file can't be read.
-    NoPalette,
     /// The program stops with an error.
-    Failed(Fault),
+    Failed(PictureFault),
 }
 
 impl Response {
@@ -37,13 +38,11 @@ impl Response {
     pub fn status(&self) -> u8
         ensures done { self.now ≡ Done → result ≡ 0 }
         ensures usage { self.now ≡ Usage → result ≡ 2 }
-        ensures unread { self.now ≡ NoPalette → result ≡ 1 }
-        ensures failed { (fault : Fault) → self.now ≡ Failed fault → result ≡ 1 }
+        ensures failed { (fault : PictureFault) → self.now ≡ Failed fault → result ≡ 1 }
     {
         match self {
             Self::Done => 0,
             Self::Usage => 2,
-            Self::NoPalette => 1,
             Self::Failed(_) => 1,
         }
     }
@@ -61,40 +60,45 @@ pub fn respond<R: Read, O: Write>(
     input: &mut R,
     output: &mut O,
 ) -> Response
-    ensures usage { result ≡ Usage → (asked : Word) → ¬ IsAskedBy (words_of words.now) asked }
+    ensures usage { result ≡ Usage → (work : Work) → ¬ IsAskedBy (words_of words.now) work }
     ensures untouched { result ≡ Usage
         → (output.new ≡ output.old) × (input.new ≡ input.old) }
     ensures done { result ≡ Done → IfSome (R.remaining input.old) (λ bytes.
-        (asked : Word) × IsAskedBy (words_of words.now) asked
-        × Writes (λ text. IsAnswer asked palette.now bytes text Whole)
+        (work : Work) × IsAskedBy (words_of words.now) work
+        × Writes (λ text. IsWorkOutput work palette.now bytes text Whole)
         (O.contents output.old) (O.contents output.new)) }
-    ensures refused { (error : SixelError) → result ≡ Failed (Sixel error)
+    ensures refused { (error : SixelError) → result ≡ Failed (Shared (Sixel error))
         → IfSome (R.remaining input.old) (λ bytes.
-        (asked : Word) × IsAskedBy (words_of words.now) asked
-        × Writes (λ text. IsAnswer asked palette.now bytes text (Refused error))
+        (work : Work) × IsAskedBy (words_of words.now) work
+        × Writes (λ text. IsWorkOutput work palette.now bytes text (Refused error))
         (O.contents output.old) (O.contents output.new)) }
     ensures unreadable { (error : NetpbmError) → result ≡ Failed (Netpbm error)
         → IfSome (R.remaining input.old) (λ bytes.
-        (asked : Word) × IsAskedBy (words_of words.now) asked
-        × Writes (λ text. IsAnswer asked palette.now bytes text (Unreadable error))
+        (work : Work) × IsAskedBy (words_of words.now) work
+        × Writes (λ text. IsWorkOutput work palette.now bytes text (Unreadable error))
         (O.contents output.old) (O.contents output.new)) }
-    ensures unread { result ≡ Failed Input → Keeps (O.contents output.old) (O.contents output.new) }
-    ensures unwritten { result ≡ Failed Output → IfSome (R.remaining input.old) (λ bytes.
-        (asked : Word) × IsAskedBy (words_of words.now) asked
-        × Writes (Begins (IsAnswer asked palette.now bytes))
+    ensures unread { result ≡ Failed (Shared Input)
+        → Keeps (O.contents output.old) (O.contents output.new) }
+    ensures unwritten { result ≡ Failed (Shared Output) → IfSome (R.remaining input.old) (λ bytes.
+        (work : Work) × IsAskedBy (words_of words.now) work
+        × Writes (Begins (IsWorkOutput work palette.now bytes))
         (O.contents output.old) (O.contents output.new)) }
+    ensures palette { result ≢ Failed Palette }
 {
-    let Some(word) = asked(words) else {
-        return Response::Usage;
-    };
-    response_of(serve(alloc, word, palette, input, output))
+    match read_work(words) {
+        Some(Work::Data(word)) => {
+            response_of(serve(alloc, word, input, output).map_err(PictureFault::Shared))
+        }
+        Some(Work::Picture(word)) => {
+            response_of(serve_picture(alloc, word, palette, input, output))
+        }
+        None => Response::Usage,
+    }
 }
 
 /// How the program ends after work with this result.
-pub fn response_of(outcome: Result<(), Fault>) -> Response
-    ensures asked { result ≢ Usage }
-    ensures done { result ≡ Done → is_ok outcome ≡ true }
-    ensures failed { (fault : Fault) → result ≡ Failed fault → outcome ≡ Err fault }
+pub fn response_of(outcome: Result<(), PictureFault>) -> Response
+    ensures { MatchResult outcome (λ _. result ≡ Done) (λ fault. result ≡ Failed fault) }
 {
     match outcome {
         Ok(()) => Response::Done,

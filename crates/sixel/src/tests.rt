@@ -1,18 +1,12 @@
 //! Test vectors, and inputs and outputs that fail.
 
 ghost use Rattle.std.specs.Prelude.{◌≤◌, IfOk};
-ghost use Rattle.sixel.specs.Words.{IsServable};
 
-use crate::draw_options::{DrawOptions, DrawPalette};
 use crate::engine::serve;
-use crate::palette_file::palette_path;
-use crate::words::{Word, asked, read_word};
-use icy_sixel::Dither;
+use crate::words::{Word, read_word};
 use sixel_io::Fault;
-use std::alloc::Global;
 use std::io;
 use std::io::{Read, Write};
-use std::process::Abort;
 use std::test::Fail;
 
 /// How calls of a reader or a writer fail.
@@ -92,158 +86,62 @@ const IMAGES: &[u8] = b"image 1 6 9 0\n\
     image 1 6 9 0\n\
     \xff\0\0\xff\0\0\0\xff\0\0\0\xff\0\0\0\xff\0\0\0\xff\0\0\0\xff\n";
 
-/// A palette file: green and white.
-const PALETTE: &[u8] = b"P6 2 1 255\n\0\xff\0\xff\xff\xff";
-
-/// The output of some work, and the text of its error, which is empty if there is none.
-fn outcome(alloc: Global, word: Word, mut input: &[u8]) -> Result<(Vec<u8>, String), Fail>
-    requires { IsServable word }
-{
-    let mut output = Vec::new(alloc);
-    let error = match serve(alloc, word, PALETTE, &mut input, &mut output) {
-        Ok(()) => String::new(alloc),
-        Err(fault) => format!(in alloc; "{fault}")?,
-    };
-    Ok((output, error))
-}
-
-/// Checks an output and the text of an error.
-fn check(rt: &impl Abort, outcome: (Vec<u8>, String), output: &[u8], error: &str) {
-    assert_eq!(rt; outcome.0.as_slice(), output);
-    assert_eq!(rt; outcome.1.as_str(), error);
-}
-
 #[test]
 fn runs(rt: HostRuntime) -> Result<(), Fail> {
-    let alloc = rt.alloc();
     let blue = b"image 1 6 9 0\n33\xcc\xff33\xcc\xff33\xcc\xff33\xcc\xff33\xcc\xff33\xcc\xff\n";
-    check(&rt, outcome(alloc, Word::Payload, b"#1~")?, blue, "");
-    check(
-        &rt,
-        outcome(alloc, Word::Decode, b"\x1bPq#1~\x1b\\")?,
-        blue,
-        "",
-    );
-    let pam = b"P7\nWIDTH 1\nHEIGHT 6\nDEPTH 4\nMAXVAL 255\nTUPLTYPE RGB_ALPHA\nENDHDR\n\
-        33\xcc\xff33\xcc\xff33\xcc\xff33\xcc\xff33\xcc\xff33\xcc\xff";
-    check(&rt, outcome(alloc, Word::Pam, b"\x1bPq#1~\x1b\\")?, pam, "");
-    let header = "invalid SIXEL data: invalid SIXEL DCS header";
-    check(&rt, outcome(alloc, Word::Decode, b"\x1bPbad")?, b"", header);
-    check(&rt, outcome(alloc, Word::Frames(1), b"")?, b"", "");
-    check(&rt, outcome(alloc, Word::Frames(1), SEQUENCES)?, IMAGES, "");
     let black = b"image 1 6 9 0\n\0\0\0\xff\0\0\0\xff\0\0\0\xff\0\0\0\xff\0\0\0\xff\0\0\0\xff\n";
-    let none = "no SIXEL data found (missing DCS introducer)";
-    check(
-        &rt,
-        outcome(alloc, Word::Frames(1), b"\x1bPq@\x1b\\\n")?,
-        black,
-        none,
-    );
-    let red = b"\x1bP9;1;0q\"1;1;1;1#0;2;100;0;0#0@$-\x1b\\";
-    check(
-        &rt,
-        outcome(alloc, Word::Encode(1, 1, 256), b"\xff\0\0\xff")?,
-        red,
-        "",
-    );
-    Ok(())
-}
-
-/// These arguments.
-fn words(alloc: Global, texts: &[&str]) -> Result<Vec<String>, Fail> {
-    let mut words = Vec::new(alloc);
-    for text in texts {
-        words.push(String::from_str(alloc, text)?)?;
-    }
-    Ok(words)
-}
-
-#[test]
-fn draws(rt: HostRuntime) -> Result<(), Fail> {
-    let alloc = rt.alloc();
-    let arguments = words(alloc, &["draw", "-c", "16", "-d", "none", "-c", "2"])?;
-    let Some(Word::Draw(options)) = asked(&arguments) else {
-        panic!(rt; "{arguments:?}");
-    };
-    assert!(rt; matches!(options.palette, DrawPalette::Refined(2)));
-    assert_eq!(rt; options.dither, Dither::Off);
-    let red = b"\x1bP9;1;0q\"1;1;1;1#0;2;100;0;0#0@\x1b\\";
-    let file = b"P6 1 1 255\n\xff\0\0";
-    check(&rt, outcome(alloc, Word::Draw(options), file)?, red, "");
-    let short = "incomplete netpbm image";
-    check(
-        &rt,
-        outcome(alloc, Word::Draw(options), &file[..13])?,
-        b"",
-        short,
-    );
-    let none = DrawOptions {
-        palette: DrawPalette::Refined(0),
-        ..options
-    };
-    let count = "invalid SIXEL data: number of colors is not 1 to 256";
-    check(&rt, outcome(alloc, Word::Draw(none), file)?, b"", count);
-    for (first, second) in [("draw", "-c"), ("draw", "1"), ("-d", "none")] {
-        assert!(rt; asked(&words(alloc, &[first, second])?).is_none());
-    }
-    assert!(rt; asked(&words(alloc, &["draw", "-d", "off"])?).is_none());
-    Ok(())
-}
-
-#[test]
-fn draws_in_palette(rt: HostRuntime) -> Result<(), Fail> {
-    let alloc = rt.alloc();
-    let arguments = words(alloc, &["draw", "-p", "other", "-d", "none", "-p", "path"])?;
-    assert_eq!(rt; palette_path(&arguments), Some("path"));
-    let Some(Word::Draw(options)) = asked(&arguments) else {
-        panic!(rt; "{arguments:?}");
-    };
-    assert!(rt; matches!(options.palette, DrawPalette::File));
-    // A light pixel is nearer to the white of the palette than to its green.
-    let white = b"\x1bP9;1;0q\"1;1;1;1#0;2;100;100;100#0@\x1b\\";
-    let file = b"P6 1 1 255\n\xf0\xff\xf0";
-    check(&rt, outcome(alloc, Word::Draw(options), file)?, white, "");
-    let standard = DrawOptions {
-        palette: DrawPalette::Standard,
-        ..options
-    };
-    let own = b"\x1bP9;1;0q\"1;1;1;1#0;2;94;100;94#0@\x1b\\";
-    check(&rt, outcome(alloc, Word::Draw(standard), file)?, own, "");
-    for (first, second) in [("-c", "-p"), ("-p", "-c")] {
-        let both = words(alloc, &["draw", first, "2", second, "2"])?;
-        assert!(rt; asked(&both).is_none());
-        assert!(rt; palette_path(&both).is_none());
-    }
-    assert!(rt; palette_path(&words(alloc, &["draw", "-c", "2"])?).is_none());
-    assert!(rt; palette_path(&words(alloc, &["pam", "-p", "path"])?).is_none());
-    Ok(())
-}
-
-#[test]
-fn unreadable_palettes(rt: HostRuntime) -> Result<(), Fail> {
-    let alloc = rt.alloc();
-    let image = b"P6 1 1 255\n\xf0\xff\xf0";
-    let mut large = String::from_str(alloc, "P5 257 1 255\n")?;
-    for _ in 0..257 {
-        large.push('x')?;
-    }
-    let count = "invalid SIXEL data: number of colors is not 1 to 256";
-    for (palette, error) in [
-        (large.as_bytes(), count),
-        (b"P6 2 1 255\n\0\xff\0\xff\xff", "incomplete netpbm image"),
-        (b"", "no PAM, PPM or PGM data found"),
-    ] {
-        let mut output = Vec::new(alloc);
-        let options = DrawOptions {
-            palette: DrawPalette::File,
-            dither: Dither::Off,
+    let pixels = b"\0\0\0\xff\x0a\0\0\xff\xff\xff\xff\xff";
+    let two_colors = b"\x1bP9;1;0q\"1;1;3;1#0;2;0;0;0#1;2;100;100;100#0@@?$#1??@$-\x1b\\";
+    let header = "invalid SIXEL data: invalid SIXEL DCS header";
+    let introducer = "no SIXEL data found (missing DCS introducer)";
+    let length = "buffer size mismatch: expected 16 bytes, got 15";
+    let sides = "invalid dimensions: 0x4";
+    let rows: [(&str, [Option<&str>; 3], &[u8], &[u8], &str); 9] = [
+        ("payload", [None; 3], b"#1~", blue, ""),
+        ("decode", [None; 3], b"\x1bPq#1~\x1b\\", blue, ""),
+        ("decode", [None; 3], b"\x1bPbad", b"", header),
+        ("frames", [Some("1"), None, None], b"", b"", ""),
+        ("frames", [Some("1"), None, None], SEQUENCES, IMAGES, ""),
+        (
+            "frames",
+            [Some("1"), None, None],
+            b"\x1bPq@\x1b\\\n",
+            black,
+            introducer,
+        ),
+        (
+            "encode",
+            [Some("3"), Some("1"), Some("2")],
+            pixels,
+            two_colors,
+            "",
+        ),
+        (
+            "encode",
+            [Some("0"), Some("4"), Some("16")],
+            b"",
+            b"",
+            sides,
+        ),
+        (
+            "encode",
+            [Some("2"), Some("2"), Some("256")],
+            &[0; 15],
+            b"",
+            length,
+        ),
+    ];
+    for (word, [a, b, c], input, output, error) in rows {
+        let Some(word) = read_word(word, a, b, c) else {
+            panic!(rt; "{word}");
         };
-        let word = Word::Draw(options);
-        match serve(alloc, word, palette, &mut image.as_slice(), &mut output) {
-            Ok(()) => panic!(rt; "{error}"),
-            Err(fault) => assert_eq!(rt; format!(in alloc; "{fault}")?.as_str(), error),
-        }
-        assert!(rt; output.is_empty());
+        let (mut input, mut written) = (input, Vec::new(rt.alloc()));
+        let failed = match serve(rt.alloc(), word, &mut input, &mut written) {
+            Ok(()) => String::new(rt.alloc()),
+            Err(fault) => format!(in rt.alloc(); "{fault}")?,
+        };
+        assert_eq!(rt; written.as_slice(), output);
+        assert_eq!(rt; failed.as_str(), error);
     }
     Ok(())
 }
@@ -278,13 +176,7 @@ fn failing_reads(rt: HostRuntime) {
                 failure,
             };
             let mut written = Vec::new(rt.alloc());
-            let result = serve(
-                rt.alloc(),
-                Word::Frames(1),
-                PALETTE,
-                &mut source,
-                &mut written,
-            );
+            let result = serve(rt.alloc(), Word::Frames(1), &mut source, &mut written);
             assert!(rt; matches!(result, Err(Fault::Input)), "read {failing}");
             assert_eq!(rt; source.calls, failing);
             assert!(rt; written.is_empty());
@@ -311,7 +203,7 @@ fn failing_writes(rt: HostRuntime) {
                 failing,
                 failure,
             };
-            let result = serve(rt.alloc(), Word::Frames(1), PALETTE, &mut source, &mut sink);
+            let result = serve(rt.alloc(), Word::Frames(1), &mut source, &mut sink);
             if failing <= WRITES {
                 assert!(rt; matches!(result, Err(Fault::Output)), "write {failing}");
                 assert_eq!(rt; sink.calls, failing);

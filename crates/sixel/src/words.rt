@@ -1,12 +1,9 @@
-//! The arguments that ask for work on the input.
+//! The arguments that ask for SIXEL data to be decoded or pixels to be encoded.
 
-ghost use Rattle.std.specs.Prelude.{◌≡◌, ◌<◌, ◌^◌, ℕ, IfSome, IfNone, option_map, slice_get};
-ghost use Rattle.std.specs.Prelude.{Some, None, MatchOption, codes, ◌∷◌};
+ghost use Rattle.std.specs.Prelude.{◌≡◌, ◌<◌, ◌^◌, ℕ, IfSome, IfNone, option_map};
+ghost use Rattle.std.specs.Prelude.{Some, None, codes};
 ghost use Rattle.sixel.specs.Number.{IsNumber};
-ghost use Rattle.sixel.specs.Words.{Asks, BeginsWithDraw, IsAskedBy, IsAskedInFour};
-ghost use Rattle.sixel.specs.Words.{IsServable, words_of};
-
-use crate::draw_options::{DrawOptions, read_options};
+ghost use Rattle.sixel.specs.Words.{Asks, IsServable};
 
 /// Work on the input.
 #[derive(Clone, Copy)]
@@ -15,70 +12,12 @@ pub enum Word {
     Payload,
     /// Decode the first DCS sequence, or all bytes as a payload, and write the image.
     Decode,
-    /// Decode the same, and write the image as a PAM file.
-    Pam,
     /// Decode DCS sequences that follow one another, and write their images.
     ///
     /// One decoder decodes all. Each is fed in chunks of so many bytes from its first on.
     Frames(usize),
     /// Encode raw pixels of this width and height in at most so many colors.
     Encode(usize, usize, u16),
-    /// Encode the image of a PAM, PPM or PGM file, in a refined palette or a given one.
-    Draw(DrawOptions),
-}
-
-/// The work that the arguments after the program's own name ask for.
-///
-/// `None` means that they are wrong.
-pub fn asked(words: &[String]) -> Option<Word>
-    ensures asked { IfSome result (IsAskedBy (words_of words.now)) }
-    ensures usage { IfNone result ((asked : Word) → ¬ IsAskedBy (words_of words.now) asked) }
-    ensures servable { IfSome result IsServable }
-{
-    match after_draw(words) {
-        Some(rest) => Some(Word::Draw(read_options(rest)?)),
-        None => asked_in_four(words),
-    }
-}
-
-/// The arguments after `draw`, if it is the first one.
-pub fn after_draw(words: &[String]) -> Option<&[String]>
-    ensures { MatchOption result (¬ BeginsWithDraw (words_of words.now))
-        (λ rest. words_of words.now ≡ codes "draw" ∷ words_of rest.now) }
-{
-    match words {
-        [first, rest @ ..] if first.as_str() == "draw" => Some(rest),
-        _ => None,
-    }
-}
-
-/// The work that at most four arguments ask for.
-///
-/// `None` means that they are wrong.
-fn asked_in_four(words: &[String]) -> Option<Word>
-    ensures asked { IfSome result (IsAskedInFour (words_of words.now)) }
-    ensures usage { IfNone result ((asked : Word) → ¬ IsAskedInFour (words_of words.now) asked) }
-    ensures servable { IfSome result IsServable }
-{
-    match words.len() {
-        1..=4 => read_word(
-            &words[0],
-            word_at(words, 1),
-            word_at(words, 2),
-            word_at(words, 3),
-        ),
-        _ => None,
-    }
-}
-
-/// The argument at a place, if there are so many.
-fn word_at(words: &[String], place: usize) -> Option<&str>
-    ensures { option_map (λ t. t.now) result ≡ slice_get (words_of words.now) place }
-{
-    match words.get(place) {
-        Some(word) => Some(word),
-        None => None,
-    }
 }
 
 /// Reads the first argument, and up to three that follow it.
@@ -96,7 +35,6 @@ pub fn read_word(word: &str, a: Option<&str>, b: Option<&str>, c: Option<&str>) 
     match word {
         "payload" => alone(Word::Payload, a, b, c),
         "decode" => alone(Word::Decode, a, b, c),
-        "pam" => alone(Word::Pam, a, b, c),
         "frames" => frames_with(a, b, c),
         "encode" => encode_with(a, b, c),
         _ => None,

@@ -2,9 +2,8 @@
 
 ghost use Rattle.std.specs.Prelude.{◌≡◌};
 ghost use Rattle.sixel_base.specs.declared.error.SixelError.TheVariants.{OutOfMemory};
-ghost use Rattle.sixel_io.specs.declared.fault.Fault.TheVariants.{Netpbm, Sixel};
+ghost use Rattle.sixel_io.specs.declared.fault.Fault.TheVariants.{Sixel};
 
-use netpbm::NetpbmError;
 use sixel_base::SixelError;
 use std::alloc::AllocError;
 use thiserror::Error;
@@ -15,9 +14,6 @@ pub enum Fault {
     /// The data are rejected, or an allocation fails.
     #[error("{0}")]
     Sixel(SixelError),
-    /// The input is not an image in netpbm's formats.
-    #[error("{0}")]
-    Netpbm(NetpbmError),
     /// The input or the arguments can't be read.
     #[error("input fault")]
     Input,
@@ -31,14 +27,6 @@ impl From<SixelError> for Fault {
 
     fn from(error: SixelError) -> Fault {
         Fault::Sixel(error)
-    }
-}
-
-impl From<NetpbmError> for Fault {
-    ghost from_gives = { λ error fault. fault ≡ Netpbm error };
-
-    fn from(error: NetpbmError) -> Fault {
-        Fault::Netpbm(error)
     }
 }
 

@@ -1,7 +1,6 @@
-use Rattle.std.proofs.Common.{[], ◌≡◌, sym, subst, ap, refl, Ok, Err, string_bytes}
+use Rattle.std.proofs.Common.{◌≡◌, sym, subst, ap, refl, Ok, Err, string_bytes}
 use Rattle.std.proofs.Common.{String, length, ◌∙◌}
 use Rattle.std.specs.declared.alloc.Global.{Global}
-use Rattle.std.proofs.KnownBytes.{Appends-nil}
 use Rattle.icy_sixel.specs.ImageView.{image_value}
 use Rattle.netpbm.specs.Image as files
 use Rattle.sixel_base.specs.CallFault.{FailsBy}
@@ -9,17 +8,15 @@ use Rattle.sixel_base.specs.Payload.{Image}
 use Rattle.sixel_encoder.specs.IndexedDrawing.{IsPaletteText, palette_fault}
 use Rattle.sixel_encoder.specs.declared.form.TextForm.TheVariants.{Compact}
 use Rattle.sixel.specs.Drawing.{Painting, drawn_image, painting_fault}
-use Rattle.sixel.proofs.Drawings.{both_read, no_call_fault, painting_error}
-use Rattle.sixel.proofs.Outputs.{Serves-last, Serves-refused}
+use Rattle.sixel.proofs.Drawings.{Draws-refused, both_read, no_call_fault, painting_error}
 use Rattle.sixel.proofs.drawing.draw_in_palette.Goals as goal
 
 pub returns : goal.returns
-returns g c =
+returns c =
     let file = files.image_value c.in_ok-file.file in
     let colors = c.deref.result.now in
     let painting : Painting = record { colors = colors; image = file } in
     let encoded = c.in_ok-text.ensures in
-    let last = c.write_all.ensures in
     let read = both_read _ _ colors file
     (c.in_ok-colors.ensures ∙ ap Ok (sym c.deref.ensures.value)) c.in_ok-file.ensures in
     let same : image_value c.from_rgba-image.result ≡ drawn_image file =
@@ -28,18 +25,14 @@ returns g c =
     no_call_fault (painting_fault painting) _
     (subst (λ (i : Image). FailsBy (palette_fault i (length colors)) (Ok c.in_ok-text.text)) same
     encoded.fault) in
-    let text : IsPaletteText (drawn_image file) colors c.args.dither Compact
-    c.as_bytes.result.now =
-    subst (IsPaletteText (drawn_image file) colors c.args.dither Compact)
-    (sym c.as_bytes.ensures.value)
-    (subst
+    let text =
+    subst
     (λ (i : Image). IsPaletteText i colors c.args.dither Compact
-    (string_bytes c.in_ok-text.text)) same encoded.text) in
-    Serves-last _ _ _ _ _ [] c.as_bytes.result.now (painting, read, fault, text)
-    (Appends-nil _) last.whole last.part last.error
+    (string_bytes c.in_ok-text.text)) same encoded.text in
+    (painting, read, fault, text)
 
 pub returns-in_err-text : goal.returns-in_err-text
-returns-in_err-text g c =
+returns-in_err-text c =
     let file = files.image_value c.in_ok-file.file in
     let colors = c.deref.result.now in
     let painting : Painting = record { colors = colors; image = file } in
@@ -51,5 +44,5 @@ returns-in_err-text g c =
     let fails : FailsBy {X = String Global} (painting_fault painting) (Err error) =
     subst (λ (i : Image). FailsBy {X = String Global} (palette_fault i (length colors)) (Err error))
     same c.in_err-text.ensures.fault in
-    Serves-refused _ _ _ error c.from_residual-in_err-text.ensures.1
+    Draws-refused _ _ error c.from_residual-in_err-text.ensures.1
     (refl, painting_error painting _ error read fails)

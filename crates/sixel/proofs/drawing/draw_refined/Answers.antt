@@ -1,5 +1,4 @@
-use Rattle.std.proofs.Common.{[], ◌≡◌, sym, subst, ap, Ok, string_bytes}
-use Rattle.std.proofs.KnownBytes.{Appends-nil}
+use Rattle.std.proofs.Common.{◌≡◌, subst, ap, Ok, string_bytes}
 use Rattle.icy_sixel.specs.ImageView.{image_value}
 use Rattle.netpbm.specs.Image as files
 use Rattle.sixel_base.specs.CallFault.{FailsBy}
@@ -9,27 +8,21 @@ use Rattle.sixel_encoder.specs.RefinedText.{IsRefinedText}
 use Rattle.sixel_encoder.specs.declared.form.TextForm.TheVariants.{Compact}
 use Rattle.sixel.specs.Drawing.{drawn_image, refined_fault}
 use Rattle.sixel.proofs.Drawings.{no_call_fault}
-use Rattle.sixel.proofs.Outputs.{Serves-last}
 use Rattle.sixel.proofs.drawing.draw_refined.Goals as goal
 
 pub returns : goal.returns
-returns g c =
+returns c =
     let file = files.image_value c.in_ok-file.file in
     let max_colors = c.args.max_colors in
     let encoded = c.in_ok-text.ensures in
-    let last = c.write_all.ensures in
     let same : image_value c.from_rgba-image.result ≡ drawn_image file =
     ap image_value c.from_rgba-image.ensures in
     let fault =
     no_call_fault (refined_fault max_colors file) _
     (subst (λ (i : Image). FailsBy (palette_fault i max_colors) (Ok c.in_ok-text.text)) same
     encoded.fault) in
-    let text : IsRefinedText (drawn_image file) max_colors c.args.dither Compact
-    c.as_bytes.result.now =
-    subst (IsRefinedText (drawn_image file) max_colors c.args.dither Compact)
-    (sym c.as_bytes.ensures.value)
-    (subst
+    let text =
+    subst
     (λ (i : Image). IsRefinedText i max_colors c.args.dither Compact
-    (string_bytes c.in_ok-text.text)) same encoded.text) in
-    Serves-last _ _ _ _ _ [] c.as_bytes.result.now (file, c.in_ok-file.ensures, fault, text)
-    (Appends-nil _) last.whole last.part last.error
+    (string_bytes c.in_ok-text.text)) same encoded.text in
+    (file, c.in_ok-file.ensures, fault, text)

@@ -3,7 +3,8 @@ use Rattle.std.proofs.lemmas.Result.{err_from_is_err_and}
 use Rattle.sixel_base.specs.declared.error.SixelError.TheVariants.{OutOfMemory}
 use Rattle.sixel_io.specs.declared.fault.Fault.{Fault}
 use Rattle.sixel_io.specs.declared.fault.Fault.TheVariants.{Sixel, Input}
-use Rattle.sixel.proofs.Outputs.{Writes-wanting, Keeps-same}
+use Rattle.sixel.proofs.Outputs.{Writes-wanting, Keeps-same, wanting}
+use Rattle.sixel.specs.WorkOutput.{IsOutput}
 use Rattle.sixel.proofs.engine.serve.Goals as goal
 
 pub returns-in_err-bytes-clause-done : goal.returns-in_err-bytes-clause-done
@@ -13,9 +14,10 @@ pub returns-in_err-bytes-clause-refused : goal.returns-in_err-bytes-clause-refus
 returns-in_err-bytes-clause-refused g c = λ error is.
     let p = err_from_is_err_and c.from_residual.result c.from_residual.ensures.1 in
     let same : c.in_err-bytes.field-0.0 ≡ Sixel error = cc in
-    Writes-wanting c.args.word c.args.palette.now (g.R.Read.remaining c.args.input.now)
+    Writes-wanting (IsOutput c.args.word) (g.R.Read.remaining c.args.input.now)
     (g.O.Write.contents c.args.output.now) error
     (subst (λ (f : Fault). (f ≡ Input) ⊎ (f ≡ Sixel OutOfMemory)) same c.in_err-bytes.ensures.error)
+    (wanting c.args.word)
 
 pub returns-in_err-bytes-clause-unread : goal.returns-in_err-bytes-clause-unread
 returns-in_err-bytes-clause-unread g c = λ _. Keeps-same (g.O.Write.contents c.args.output.now)

@@ -1,46 +1,42 @@
-use Rattle.std.proofs.Common.{arith}
-use Rattle.sixel_io.specs.declared.fault.Fault.TheVariants.{Sixel, Netpbm, Output}
+use Rattle.std.proofs.Common.{subst}
+use Rattle.sixel_io.specs.Output.{Writes}
 use Rattle.sixel.specs.Ending.{Refused, Unreadable}
 use Rattle.sixel.specs.Words.{IsAskedBy, words_of}
-use Rattle.sixel_io.specs.Output.{Writes}
-use Rattle.sixel.specs.Answer.{IsAnswer, Begins}
-use Rattle.sixel.proofs.ArgumentPlaces.{asked-for}
+use Rattle.sixel.specs.WorkOutput.{IsWorkOutput}
+use Rattle.sixel.specs.declared.work.Work.TheVariants.{Data, Picture}
+use Rattle.sixel.proofs.Responses.{asked-for, failed_by, shared_by}
 use Rattle.sixel.proofs.response.respond.Goals as goal
 
-pub returns-in_default : goal.returns-in_default
-returns-in_default g c = grind arith
-
-pub returns-clause-usage : goal.returns-clause-usage
-returns-clause-usage g c = grind arith
-
-pub returns-clause-untouched : goal.returns-clause-untouched
-returns-clause-untouched g c = grind arith
-
-pub returns-clause-done : goal.returns-clause-done
-returns-clause-done g c = grind arith
-
-pub returns-clause-refused : goal.returns-clause-refused
-returns-clause-refused g c = λ error is.
+pub returns-in-Some-Data-clause-refused : goal.returns-in-Some-Data-clause-refused
+returns-in-Some-Data-clause-refused g c = λ error is.
+    let served =
+    shared_by _ _ _ c.map_err.ensures.cases (failed_by _ _ _ c.response_of.ensures is) in
     asked-for (IsAskedBy (words_of c.args.words.now))
-    (λ asked bytes.
-    Writes (λ text. IsAnswer asked c.args.palette.now bytes text (Refused error)) _ _)
-    _ c.in-Some.word c.in-Some.ensures.asked
-    (c.serve.ensures.refused error (c.response_of.ensures.failed (Sixel error) is))
+    (λ work bytes.
+    Writes (λ text. IsWorkOutput work c.args.palette.now bytes text (Refused error)) _ _)
+    _ (Data c.in-Some-Data.word)
+    (subst (IsAskedBy (words_of c.args.words.now)) c.in-Some-Data.field-0-is
+    c.in-Some-Data.ensures.asked)
+    (c.serve.ensures.refused error served)
 
-pub returns-clause-unreadable : goal.returns-clause-unreadable
-returns-clause-unreadable g c = λ error is.
+pub returns-in-Some-Picture-clause-refused : goal.returns-in-Some-Picture-clause-refused
+returns-in-Some-Picture-clause-refused g c = λ error is.
     asked-for (IsAskedBy (words_of c.args.words.now))
-    (λ asked bytes.
-    Writes (λ text. IsAnswer asked c.args.palette.now bytes text (Unreadable error)) _ _)
-    _ c.in-Some.word c.in-Some.ensures.asked
-    (c.serve.ensures.unreadable error (c.response_of.ensures.failed (Netpbm error) is))
+    (λ work bytes.
+    Writes (λ text. IsWorkOutput work c.args.palette.now bytes text (Refused error)) _ _)
+    _ (Picture c.in-Some-Picture.word)
+    (subst (IsAskedBy (words_of c.args.words.now)) c.in-Some-Picture.field-0-is
+    c.in-Some-Picture.ensures.asked)
+    (c.serve_picture.ensures.refused error
+    (failed_by _ _ _ c.response_of-in-Some-Picture.ensures is))
 
-pub returns-clause-unread : goal.returns-clause-unread
-returns-clause-unread g c = grind arith
-
-pub returns-clause-unwritten : goal.returns-clause-unwritten
-returns-clause-unwritten g c = λ is.
+pub returns-in-Some-Picture-clause-unreadable : goal.returns-in-Some-Picture-clause-unreadable
+returns-in-Some-Picture-clause-unreadable g c = λ error is.
     asked-for (IsAskedBy (words_of c.args.words.now))
-    (λ asked bytes. Writes (Begins (IsAnswer asked c.args.palette.now bytes)) _ _)
-    _ c.in-Some.word c.in-Some.ensures.asked
-    (c.serve.ensures.unwritten (c.response_of.ensures.failed Output is))
+    (λ work bytes.
+    Writes (λ text. IsWorkOutput work c.args.palette.now bytes text (Unreadable error)) _ _)
+    _ (Picture c.in-Some-Picture.word)
+    (subst (IsAskedBy (words_of c.args.words.now)) c.in-Some-Picture.field-0-is
+    c.in-Some-Picture.ensures.asked)
+    (c.serve_picture.ensures.unreadable error
+    (failed_by _ _ _ c.response_of-in-Some-Picture.ensures is))

@@ -9,6 +9,3 @@ returns-in-Usage c = grind arith
 
 pub returns-in-Failed : goal.returns-in-Failed
 returns-in-Failed c = grind arith
-
-pub returns-in-NoPalette : goal.returns-in-NoPalette
-returns-in-NoPalette c = grind arith

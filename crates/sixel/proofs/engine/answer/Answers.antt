@@ -1,5 +1,0 @@
-use Rattle.std.proofs.Common.{arith}
-use Rattle.sixel.proofs.engine.answer.Goals as goal
-
-pub returns-in-Frames : goal.returns-in-Frames
-returns-in-Frames c = grind arith

@@ -1,0 +1,231 @@
+//! DCS sequences that follow one another, on one decoder.
+
+ghost use Rattle.std.specs.Prelude.{◌≡◌, ◌<◌, ◌≤◌, ◌+◌, ◌^◌, [], length, take, drop, true, false};
+ghost use Rattle.std.specs.Prelude.{None, IfOk, OnOk, IfErr, OnErr};
+ghost use Rattle.std.specs.Io.KnownBytes.{Appends};
+ghost use Rattle.sixel_base.specs.Decoder.{new_decoder, IsSetAs};
+ghost use Rattle.sixel_base.specs.Fault.{Faults};
+ghost use Rattle.sixel_base.specs.Dcs.{dcs_status, dcs_count, dcs_fault, has_ended, IsSameString};
+ghost use Rattle.sixel_base.specs.Payload.{Image};
+ghost use Rattle.sixel_base.specs.declared.status.SixelDcsFeedStatus.TheVariants.{Complete};
+ghost use Rattle.icy_sixel.specs.ImageView.{image_value};
+ghost use Rattle.icy_sixel.specs.Receiver.{OfString};
+ghost use Rattle.icy_sixel.specs.declared.script.Status.TheVariants.{Dcs};
+ghost use Rattle.sixel_base.specs.OneShot.{found, IsFoundImage, AreFoundRegisters};
+ghost use Rattle.sixel.specs.Sequences.{IsFedInChunks, IsSequencesOutput};
+ghost use Rattle.sixel.specs.Sequences.{is_cut_short, sequence_fault};
+ghost use Rattle.sixel.specs.Form.{image_form};
+ghost use Rattle.sixel.specs.WorkOutput.{IsImageOutput, Serves};
+
+use crate::images::write_image;
+use icy_sixel::{Received, SixelDcsFeedStatus, SixelError, SixelImage, SixelReceiver, Status};
+use sixel_io::Fault;
+use std::alloc::Global;
+use std::io::Write;
+
+/// A DCS sequence that has ended: its image, its length, and how it ended.
+#[derive(Drop)]
+struct Sequence {
+    image: SixelImage,
+    len: usize,
+    status: Status,
+}
+
+/// Writes the image of each DCS sequence, until one ends early or no byte is left.
+///
+/// Each is fed in chunks of `chunk_len` bytes, from its own first byte on.
+pub fn write_sequences<O: Write>(
+    alloc: Global,
+    chunk_len: usize,
+    bytes: &[u8],
+    output: &mut O,
+) -> Result<(), Fault>
+    requires { 0 < chunk_len }
+    ensures { Serves result (IsSequencesOutput new_decoder bytes.now)
+        (O.contents output.old) (O.contents output.new) }
+{
+    let mut receiver = SixelReceiver::new();
+    write_each(alloc, &mut receiver, chunk_len, bytes, output)
+}
+
+/// Writes the image of each DCS sequence that a new receiver reads.
+fn write_each<O: Write>(
+    alloc: Global,
+    receiver: &mut SixelReceiver,
+    chunk_len: usize,
+    bytes: &[u8],
+    output: &mut O,
+) -> Result<(), Fault>
+    requires chunks { 0 < chunk_len }
+    requires fresh { receiver.old.decoder ≡ new_decoder }
+    ensures { Serves result (IsSequencesOutput new_decoder bytes.now)
+        (O.contents output.old) (O.contents output.new) }
+{
+    let mut rest = bytes;
+    'sequences: while !rest.is_empty() {
+        rest = write_sequence(alloc, receiver, chunk_len, rest, output)?;
+    }
+    Ok(())
+}
+
+/// Writes the image of the first DCS sequence, and returns the bytes after it.
+fn write_sequence<'a, O: Write>(
+    alloc: Global,
+    receiver: &mut SixelReceiver,
+    chunk_len: usize,
+    bytes: &'a [u8],
+    output: &mut O,
+) -> Result<&'a [u8], Fault>
+    requires chunks { 0 < chunk_len }
+    requires some { 0 < length bytes.now }
+    ensures image { OnOk result ((image : Image)
+        × IsFoundImage receiver.old.decoder (found bytes.now) image
+        × Appends (O.contents output.old) (O.contents output.new) (image_form image)) }
+    ensures registers { OnOk result
+        (AreFoundRegisters receiver.old.decoder (found bytes.now) receiver.new.decoder.registers) }
+    ensures set { OnOk result (IsSetAs receiver.old.decoder receiver.new.decoder) }
+    ensures ended { OnOk result (has_ended (dcs_status bytes.now) ≡ true) }
+    ensures faultless { OnOk result
+        (sequence_fault receiver.old.decoder.pixel_limit bytes.now ≡ None) }
+    ensures complete { IfOk result (λ after. dcs_status bytes.now ≡ Complete
+        → after.now ≡ drop (dcs_count bytes.now) bytes.now) }
+    ensures cut_short { IfOk result (λ after. is_cut_short (dcs_status bytes.now) ≡ true
+        → after.now ≡ []) }
+    ensures stopped { OnErr result (Serves result (IsSequencesOutput receiver.old.decoder bytes.now)
+        (O.contents output.old) (O.contents output.new)) }
+{
+    let sequence = read_sequence(alloc, receiver, chunk_len, bytes)?;
+    write_read(alloc, sequence, bytes, output)
+}
+
+/// Writes the image of the DCS sequence, and returns the bytes to read next.
+fn write_read<'a, O: Write>(
+    alloc: Global,
+    sequence: Sequence,
+    bytes: &'a [u8],
+    output: &mut O,
+) -> Result<&'a [u8], Fault>
+    requires { sequence.len ≤ length bytes.now }
+    ensures image { Serves result
+        (IsImageOutput image_form None (λ i. i ≡ image_value sequence.image))
+        (O.contents output.old) (O.contents output.new) }
+    ensures complete { IfOk result (λ after. sequence.status ≡ Dcs Complete
+        → after.now ≡ drop sequence.len bytes.now) }
+    ensures cut_short { IfOk result (λ after. (status : SixelDcsFeedStatus)
+        → sequence.status ≡ Dcs status → is_cut_short status ≡ true → after.now ≡ []) }
+{
+    match write_image(alloc, &sequence.image, output) {
+        Ok(()) => Ok(bytes_after(sequence.status, sequence.len, bytes)),
+        Err(fault) => Err(fault),
+    }
+}
+
+/// The bytes to read after a DCS sequence of `len` bytes: none if it ended early.
+fn bytes_after(status: Status, len: usize, bytes: &[u8]) -> &[u8]
+    requires { len ≤ length bytes.now }
+    ensures complete { status ≡ Dcs Complete → result.now ≡ drop len bytes.now }
+    ensures cut_short { (found : SixelDcsFeedStatus) → status ≡ Dcs found
+        → is_cut_short found ≡ true → result.now ≡ [] }
+{
+    match status {
+        Status::Dcs(SixelDcsFeedStatus::Complete) => &bytes[len..],
+        _ => &[],
+    }
+}
+
+/// Decodes the DCS sequence at the start of the bytes. Those after it are not read.
+fn read_sequence(
+    alloc: Global,
+    receiver: &mut SixelReceiver,
+    chunk_len: usize,
+    bytes: &[u8],
+) -> Result<Sequence, SixelError>
+    requires chunks { 0 < chunk_len }
+    requires some { 0 < length bytes.now }
+    ensures image { IfOk result (λ sequence.
+        IsFoundImage receiver.old.decoder (found bytes.now) (image_value sequence.image)) }
+    ensures registers { OnOk result
+        (AreFoundRegisters receiver.old.decoder (found bytes.now) receiver.new.decoder.registers) }
+    ensures set { OnOk result (IsSetAs receiver.old.decoder receiver.new.decoder) }
+    ensures len { IfOk result (λ sequence. sequence.len ≡ dcs_count bytes.now) }
+    ensures within { IfOk result (λ sequence. sequence.len ≤ length bytes.now) }
+    ensures status { IfOk result (λ sequence. sequence.status ≡ Dcs (dcs_status bytes.now)) }
+    ensures ended { OnOk result (has_ended (dcs_status bytes.now) ≡ true) }
+    ensures faultless { OnOk result
+        (sequence_fault receiver.old.decoder.pixel_limit bytes.now ≡ None) }
+    ensures refused { IfErr result (λ error. Faults error true
+        (sequence_fault receiver.old.decoder.pixel_limit bytes.now)) }
+{
+    receiver.begin_dcs(alloc);
+    let fed = feed_chunks(receiver, chunk_len, bytes)?;
+    let image = receiver.finish()?;
+    Ok(Sequence {
+        image,
+        len: fed.consumed,
+        status: fed.status,
+    })
+}
+
+/// Feeds a new DCS sequence chunks of `chunk_len` bytes, until it ends.
+///
+/// It also stops if no byte is left.
+fn feed_chunks(
+    receiver: &mut SixelReceiver,
+    chunk_len: usize,
+    bytes: &[u8],
+) -> Result<Received, SixelError>
+    requires chunks { 0 < chunk_len }
+    requires some { 0 < length bytes.now }
+    requires form { receiver.old.image.form ≡ OfString }
+    requires fresh { receiver.old.image.bytes ≡ [] }
+    requires accepted { receiver.old.image.is_refused ≡ false }
+    ensures decoder { receiver.new.decoder ≡ receiver.old.decoder }
+    ensures form { receiver.new.image.form ≡ OfString }
+    ensures start { receiver.new.image.start ≡ receiver.old.image.start }
+    ensures released { OnOk result
+        (receiver.new.image.released ≡ receiver.old.image.released) }
+    ensures accepts { OnOk result (receiver.new.image.is_refused ≡ false) }
+    ensures chunks { OnOk result
+        (IsFedInChunks chunk_len bytes.now receiver.new.image.bytes) }
+    ensures consumed { IfOk result (λ fed. fed.consumed ≡ dcs_count receiver.new.image.bytes) }
+    ensures status { IfOk result (λ fed. fed.status ≡ Dcs (dcs_status receiver.new.image.bytes)) }
+    ensures within { IfOk result (λ fed. fed.consumed ≤ length receiver.new.image.bytes) }
+    ensures over { IfOk result (λ fed. has_ended (dcs_status receiver.new.image.bytes) ≡ true
+        → IsSameString receiver.old.image.start.pixel_limit receiver.new.image.bytes bytes.now) }
+    ensures faultless { OnOk result
+        (dcs_fault receiver.old.image.start.pixel_limit receiver.new.image.bytes ≡ None) }
+    ensures refused { IfErr result (λ error. Faults error true
+        (sequence_fault receiver.old.image.start.pixel_limit bytes.now)) }
+{
+    let mut rest = bytes;
+    let mut fed = Received {
+        consumed: 0,
+        status: Status::Dcs(SixelDcsFeedStatus::NeedMoreData),
+    };
+    'chunks: while !rest.is_empty() && !fed.status.has_ended() {
+        let (chunk, after) = split_chunk(chunk_len, rest);
+        fed = total(fed, receiver.feed(chunk)?);
+        rest = after;
+    }
+    Ok(fed)
+}
+
+/// Splits off the next chunk: `chunk_len` bytes, or all that are left.
+fn split_chunk(chunk_len: usize, rest: &[u8]) -> (&[u8], &[u8])
+    ensures chunk { result.0.now ≡ take chunk_len rest.now }
+    ensures after { result.1.now ≡ drop chunk_len rest.now }
+{
+    rest.split_at(chunk_len.min(rest.len()))
+}
+
+/// The sum of the chunks before and of the last one.
+fn total(earlier: Received, last: Received) -> Received
+    requires { earlier.consumed + last.consumed < 2 ^ 64 }
+    ensures consumed { result.consumed ≡ earlier.consumed + last.consumed }
+    ensures status { result.status ≡ last.status }
+{
+    Received {
+        consumed: earlier.consumed + last.consumed,
+        status: last.status,
+    }
+}
