@@ -6,3 +6,4 @@ pub mod PartialPayloads
 pub mod Outcomes
 pub mod RegisterRange
 pub mod Steps
+pub mod WholeImages

@@ -1,16 +1,23 @@
 //! Laws of decoded images, stated by functions with empty bodies.
 
 ghost use Rattle.std.specs.Prelude.{◌≡◌, ℕ, List, None};
+ghost use Rattle.sixel_base.specs.Clip.{clipped_height, clipped_width};
 ghost use Rattle.sixel_base.specs.Decoder.{with_clip};
+ghost use Rattle.sixel_base.specs.History.{History};
 ghost use Rattle.sixel_base.specs.OneShot.{Found, AreFoundRegisters, IsFoundImage, found_fault};
-ghost use Rattle.sixel_base.specs.Payload.{Image};
+ghost use Rattle.sixel_base.specs.Payload.{Image, first_fault};
+ghost use Rattle.sixel_base.specs.Place.{height, width};
+ghost use Rattle.sixel_base.specs.Reach.{reached_area};
 ghost use Rattle.sixel_base.specs.declared.state.DecoderState.{DecoderState};
 ghost use Rattle.icy_sixel.specs.ClippedImages.{HasNoClip, IsInsideClip, IsPartInside};
-ghost use Rattle.icy_sixel.specs.ClippedImages.{IsWholeImage, whole_pixel};
+ghost use Rattle.icy_sixel.specs.ClippedImages.{IsWholeImage, whole_first_fault, whole_pixel};
+ghost use Rattle.icy_sixel.specs.ClippedImages.{whole_reached_area};
 
 /// States that an image under a clip is the part of the image inside the clip.
 ///
 /// - `whole`: without a clip, as in a new decoder, the image of a payload is its whole picture.
+/// - `whole_fault`, `whole_size`, `whole_area`: then the error is that of the whole picture, and so
+///   are the size and the painted area, by which the work of a canvas is counted.
 /// - `part`: a clip leaves the columns and rows inside it, pixel by pixel. The image that it is
 ///   compared with has no clip or a larger one.
 /// - `faultless`: a payload without an error has none with a clip.
@@ -21,6 +28,16 @@ pub fn clipped_images()
     ensures whole { (decoder : DecoderState) (payload : Found) (image : Image)
         → HasNoClip decoder → found_fault decoder.pixel_limit payload ≡ None
         → IsFoundImage decoder payload image → IsWholeImage decoder payload image }
+    ensures whole_fault { (decoder : DecoderState) (tokens : History) → HasNoClip decoder
+        → first_fault decoder.pixel_limit tokens
+        ≡ whole_first_fault decoder.pixel_limit.pixels tokens }
+    ensures whole_size { (decoder : DecoderState) (tokens : History) → HasNoClip decoder
+        → first_fault decoder.pixel_limit tokens ≡ None
+        → (clipped_width decoder.pixel_limit tokens ≡ width tokens)
+        × (clipped_height decoder.pixel_limit tokens ≡ height tokens) }
+    ensures whole_area { (decoder : DecoderState) (tokens : History) → HasNoClip decoder
+        → first_fault decoder.pixel_limit tokens ≡ None
+        → reached_area decoder.pixel_limit tokens ≡ whole_reached_area tokens }
     ensures part { (decoder : DecoderState) (columns rows : ℕ) (payload : Found)
         (image part : Image) → IsInsideClip decoder columns rows
         → IsFoundImage decoder payload image
