@@ -83,9 +83,26 @@ static size_t peak_of(int way, struct bytes pixels, icysixel_size size, struct b
     return memory.peak;
 }
 
+/* An image whose last band is wider than all above it, so that their rows move. */
+static void check_late_width(void)
+{
+    enum { LATE = 2430000 };
+    struct bytes text = {0};
+    append(&text, "\033Pq", 3);
+    for (int band = 0; band < 1000; band++) append(&text, "~-", 2);
+    append(&text, "!100~\033\\", 7);
+    for (int way = DECODE; way < WAYS; way++) {
+        size_t peak = peak_of(way, (struct bytes){0}, (icysixel_size){100, 6006}, &text);
+        printf("late width, %s: %zu bytes\n", ways[way], peak);
+        CHECK(5 * peak <= 6 * (size_t)LATE);
+    }
+    free(text.at);
+}
+
 int main(int argc, char **argv)
 {
     CHECK(argc == 2);
+    check_late_width();
     for (size_t i = 0; i < COUNT_OF(images); i++) {
         icysixel_size size = images[i].size;
         struct bytes pixels = make_pixels(size.width, size.height, images[i].color), text = {0};

@@ -24,6 +24,8 @@ SIXEL = [
     ("draw", PPM, DRAWN, [b""]),
 ]
 RUN, RUNS = "a run: out of memory", "runs over a run: out of memory"
+# Kilobytes of address space: 2560 of the program, 3891 of the image of a low sixel, 8192 beside it.
+CALLS_MEMORY = 14_600
 # The lines of sixel_allocations that differ, in the order of the allocations of one pass.
 CALLS = Path(__file__).with_name("allocations.txt").read_text().splitlines()
 
@@ -64,6 +66,13 @@ class Memory(unittest.TestCase):
                 self.assertEqual(distinct(outputs), beginnings)
                 # The first allocations are for the arguments.
                 self.assertEqual(distinct(errors), [b"input fault\n", b"out of memory\n"])
+
+    def test_session(self):
+        """A session has no rows for bands without a set pixel above its only one."""
+        usual = (ROOT / "crates/sixel_allocations/stdout").read_bytes()
+        for program in builds_of("sixel_allocations"):
+            with self.subTest(program.name):
+                self.assertEqual(run(program, memory=CALLS_MEMORY), (0, usual, b""))
 
     def test_calls(self):
         usual = (ROOT / "crates/sixel_allocations/stdout").read_text().splitlines()
