@@ -2,9 +2,9 @@
 -- an encoding leaves in the handle.
 use Rattle.std.proofs.Common.{◌≡◌, ◌≢◌, ℕ, ◌*◌, Bool, true, false, cond, length, refl, ap, sym}
 use Rattle.std.proofs.Common.{subst, ◌∙◌, inl, inr}
-use Rattle.std.proofs.lemmas.Bool.{cases_lt}
+use Rattle.std.proofs.lemmas.Bool.{cases_lt, false≢true}
 use Rattle.std.specs.Prelude.{◌==◌, ◌||◌, ◌<◌, ◌≤◌, nat_lt, List, Option, Some, None, Result, Ok}
-use Rattle.std.specs.Prelude.{Err, OnOk, OnErr, IfOk, IfErr, IsErrAnd}
+use Rattle.std.specs.Prelude.{Err, OnOk, OnErr, IfOk, IfErr, IsErrAnd, IsTrue}
 use Rattle.std.specs.List.{list_any, range_with_len}
 use Rattle.std.specs.Option.{option_map, option_or}
 use Rattle.sixel_base.specs.CallFault.{CallFault, ColorCount, Exactly, FailsBy, IndexRange}
@@ -127,14 +127,22 @@ refined_known error pixels most false e count area memory =
 pub failed_by_code : (X Y : Type 0) (error : SixelError) (code : ℕ) (fault : Option CallFault)
     → FailsBy {X = X} fault (Err error) → (error ≡ OutOfMemory → code ≡ 8)
     → ((found : CallFault) → IsCallFault error found → IsCallCode code found)
-    → FailsByCode {X = Y} fault (Err code)
+    → FailsByCode {X = Y} false fault (Err code)
 failed_by_code X Y error code None is memory call = memory is
 failed_by_code X Y error code (Some fault) is memory call = inl (call fault is)
 
--- or of out of memory before
-pub out_of_memory : (Y : Type 0) (fault : Option CallFault) → FailsByCode {X = Y} fault (Err 8)
-out_of_memory Y None = refl
-out_of_memory Y (Some fault) = inr refl
+-- or of out of memory before, where rows are copied
+pub out_of_memory : (Y : Type 0) (copies : Bool) (fault : Option CallFault) → IsTrue copies
+    → FailsByCode {X = Y} copies fault (Err 8)
+out_of_memory Y copies None are = refl
+out_of_memory Y copies (Some fault) are = inr (refl, are)
+
+pub after_copy : (Y : Type 0) (copies : Bool) (fault : Option CallFault) (result : Result Y ℕ)
+    → FailsByCode false fault result → FailsByCode copies fault result
+after_copy Y copies None result is = is
+after_copy Y copies (Some fault) (Ok text) is = absurd is
+after_copy Y copies (Some fault) (Err code) is =
+    elim is [ inl own ↦ inl own | inr before ↦ absurd (false≢true before.1) ]
 
 -- ---- what is stored
 
@@ -145,14 +153,15 @@ pub code_stored : {T : Type 0} (encoded : Result T ℕ) (result : ℕ) (fault : 
 code_stored (Ok text) result fault wrong same = absurd wrong
 code_stored (Err code) result fault wrong same = subst (λ n. IsCodeOf n fault) (sym same) wrong
 
-pub call_stored : {T : Type 0} (encoded : Result T ℕ) (result : ℕ) (fault : Option CallFault)
-    → OnOk encoded (result ≡ 0) → IfErr encoded (λ code. result ≡ code)
-    → FailsByCode fault encoded → ReturnsBy fault result
-call_stored (Ok text) result None done same fails = λ failed. absurd (failed done)
-call_stored (Err code) result None done same fails = λ _. same ∙ fails
-call_stored (Ok text) result (Some fault) done same fails = absurd fails
-call_stored (Err code) result (Some fault) done same fails =
-    subst (λ n. ReturnsBy (Some fault) n) (sym same) fails
+pub call_stored : {T : Type 0} (encoded : Result T ℕ) (result : ℕ) (copies : Bool)
+    (fault : Option CallFault) → OnOk encoded (result ≡ 0)
+    → IfErr encoded (λ code. result ≡ code) → FailsByCode copies fault encoded
+    → ReturnsBy copies fault result
+call_stored (Ok text) result copies None done same fails = λ failed. absurd (failed done)
+call_stored (Err code) result copies None done same fails = λ _. same ∙ fails
+call_stored (Ok text) result copies (Some fault) done same fails = absurd fails
+call_stored (Err code) result copies (Some fault) done same fails =
+    subst (λ n. ReturnsBy copies (Some fault) n) (sym same) fails
 
 -- what an error leaves
 pub same_stored : {T : Type 0} (encoded : Result T ℕ) (result before after : ℕ)

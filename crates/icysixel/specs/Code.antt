@@ -2,7 +2,8 @@
 -- are this library's own, and include/icysixel.h names them. 8 is out of memory, 9 an overflow, and
 -- the codes from 10 on are errors of sizes and data.
 use Rattle.std.specs.Prelude.{◌≡◌, ◌≢◌, ℕ, nat_le, ℤ, pos, negsuc, Bool, IsTrue, if◌then◌else◌}
-use Rattle.std.specs.Prelude.{◌⊎◌, List, Option, Some, None, IsSomeAnd, codes}
+use Rattle.std.specs.Prelude.{◌⊎◌, ◌==◌, ◌||◌, true, false, List, Option, Some, None, IsSomeAnd}
+use Rattle.std.specs.Prelude.{codes}
 use Rattle.sixel_base.specs.CallFault.{CallFault, Exactly, ColorCount, IndexRange, RowsNotFinal}
 use Rattle.sixel_base.specs.CallFault.{RowsReleased, ShortStride}
 use Rattle.sixel_base.specs.Fault.{Fault, text_of, Malformed, TooLarge, MissingCommand, BadHeader}
@@ -28,6 +29,10 @@ fault_code Incomplete = 17
 fault_code StreamFailed = 18
 fault_code DcsStreamFailed = 19
 
+-- whether a code is that of a fault: neither success nor out of memory
+abbrev pub is_fault_code : ℕ → Bool
+is_fault_code code = if code == 0 || code == 8 then false else true
+
 -- a code that can be returned for a fault: its own, or out of memory if the call may allocate
 abbrev pub IsTold : ℕ → Bool → Option Fault → Type 0
 IsTold code may_want found =
@@ -52,11 +57,11 @@ IsCallCode code RowsNotFinal = ⊥
 IsCallCode code RowsReleased = ⊥
 IsCallCode code ShortStride = ⊥
 
--- A call with this fault returns its code, or out of memory if an allocation fails before. A call
--- with none fails only by out of memory.
-abbrev pub ReturnsBy : Option CallFault → ℕ → Type 0
-ReturnsBy None code = code ≢ 0 → code ≡ 8
-ReturnsBy (Some fault) code = IsCallCode code fault ⊎ (code ≡ 8)
+-- A call with this fault returns its code, or out of memory if it first copies rows. A call with
+-- none fails only by out of memory.
+abbrev pub ReturnsBy : Bool → Option CallFault → ℕ → Type 0
+ReturnsBy copies None code = code ≢ 0 → code ≡ 8
+ReturnsBy copies (Some fault) code = IsCallCode code fault ⊎ ((code ≡ 8) × IsTrue copies)
 
 -- a text of an error of invalid data: that of a fault, of a wrong palette or of a wrong index
 abbrev pub IsFaultText : List ℕ → Type 0

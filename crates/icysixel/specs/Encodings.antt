@@ -1,6 +1,6 @@
 -- How C says that an image is encoded, and what a call does that encodes one and stores its text.
 -- The numbers are this library's own, and include/icysixel.h names them.
-use Rattle.std.specs.Prelude.{◌≡◌, ◌≢◌, ◌<◌, ◌≤◌, ◌==◌, if◌then◌else◌, ℕ, List, length}
+use Rattle.std.specs.Prelude.{◌≡◌, ◌≢◌, ◌*◌, ◌<◌, ◌≤◌, ◌==◌, if◌then◌else◌, ℕ, List, length}
 use Rattle.std.specs.Prelude.{Option, Some, None, is_some, true}
 use Rattle.sixel_base.specs.CallFault.{CallFault}
 use Rattle.sixel_base.specs.Payload.{Image}
@@ -13,7 +13,7 @@ use Rattle.sixel_encoder.specs.declared.form.TextForm.TheVariants.{Plain, Compac
 use Rattle.icysixel.specs.Code.{IsCodeOf, ReturnsBy}
 use Rattle.icysixel.specs.Drawn.{image_of}
 use Rattle.icysixel.specs.Kept.{kept_text}
-use Rattle.icysixel.specs.Rows.{bytes_of}
+use Rattle.icysixel.specs.Rows.{bytes_of, has_gaps, stride_of}
 use Rattle.icysixel.specs.declared.encoding.Dithering.{Dithering}
 use Rattle.icysixel.specs.declared.encoding.Encoding.{Encoding}
 use Rattle.icysixel.specs.declared.state.State.{State}
@@ -52,7 +52,8 @@ pub record IsEncodeCall (before after : Option State) (stride : ℕ) (image : Im
       → bytes_of stride image ≡ Some size → bytes < size → code ≡ 11
   pub call : (state : State) (size : ℕ) → before ≡ Some state
       → encode_fault image.width image.height ≡ None
-      → bytes_of stride image ≡ Some size → size ≤ bytes → ReturnsBy fault code
+      → bytes_of stride image ≡ Some size → size ≤ bytes
+      → ReturnsBy (has_gaps (stride_of stride (4 * image.width)) (4 * image.width)) fault code
   pub stored : (state : State) → after ≡ Some state → code ≡ 0 → is_some state.text ≡ true
   pub text : (state : State) (text : List ℕ) → after ≡ Some state → kept_text state ≡ Some text
       → Property text

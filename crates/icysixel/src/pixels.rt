@@ -1,14 +1,15 @@
 //! Pixels in the caller's memory, and their encoding.
 
 ghost use Rattle.std.specs.Prelude.{◌≡◌, ◌≢◌, ◌*◌, ◌<◌, ◌≤◌, ℕ, Some, None};
-ghost use Rattle.std.specs.Prelude.{Ok, OnOk, IfOk, IfErr, IsErrAnd, length, string_bytes};
+ghost use Rattle.std.specs.Prelude.{Ok, OnOk, IfOk, IfErr, IsErrAnd, false, length, string_bytes};
 ghost use Rattle.sixel_base.specs.Size.{encode_fault};
 ghost use Rattle.sixel_base.specs.declared.error.SixelError.{SixelError};
 ghost use Rattle.sixel_base.specs.CallFault.{FailsBy};
 ghost use Rattle.sixel_encoder.specs.Encoding.{image_fault, source_value};
 ghost use Rattle.icysixel.specs.Code.{IsCodeOf};
 ghost use Rattle.icysixel.specs.Drawn.{drawn, drawn_rows};
-ghost use Rattle.icysixel.specs.Rows.{bytes_of, extent, rows_of, stride_of, wanted};
+ghost use Rattle.icysixel.specs.Rows.{bytes_of, extent, has_gaps, rows_of, stride_of};
+ghost use Rattle.icysixel.specs.Rows.{wanted};
 ghost use Rattle.icysixel.specs.inside.Encoded.{FailsByCode, IsOutputOf, output_fault};
 
 use crate::code::{Code, code_of};
@@ -77,7 +78,9 @@ impl<'a> Pixels<'a> {
         ensures call { (size : ℕ) → encode_fault self.now.width self.now.height ≡ None
             → bytes_of self.now.stride (drawn_rows self.now.stride self.now.width self.now.height
             self.now.settings self.now.bytes.now) ≡ Some size
-            → size ≤ length self.now.bytes.now → FailsByCode (output_fault output.entry
+            → size ≤ length self.now.bytes.now → FailsByCode
+            (has_gaps (stride_of self.now.stride (4 * self.now.width)) (4 * self.now.width))
+            (output_fault output.entry
             (drawn_rows self.now.stride self.now.width self.now.height
             self.now.settings self.now.bytes.now)) result }
         ensures refused { IfErr result (λ code. code ≢ 0) }
@@ -137,7 +140,8 @@ impl<'a> Pixels<'a> {
         requires stride { 4 * self.now.width ≤ stride }
         requires within { extent stride (4 * self.now.width) self.now.height
             ≤ length self.now.bytes.now }
-        ensures call { FailsByCode (output_fault output.entry (drawn self.now.width self.now.height
+        ensures call { FailsByCode (has_gaps stride (4 * self.now.width))
+            (output_fault output.entry (drawn self.now.width self.now.height
             self.now.settings (rows_of stride (4 * self.now.width) self.now.height
             self.now.bytes.now))) result }
         ensures refused { IfErr result (λ code. code ≢ 0) }
@@ -165,8 +169,8 @@ impl<'a> Pixels<'a> {
     fn text_of(&self, alloc: Global, rows: &[u8], output: Output<'_>) -> Result<String, u32>
         requires sizes { encode_fault self.now.width self.now.height ≡ None }
         requires rows { length rows.now ≡ 4 * self.now.width * self.now.height }
-        ensures call { FailsByCode (output_fault output.entry (drawn self.now.width self.now.height
-            self.now.settings rows.now)) result }
+        ensures call { FailsByCode false (output_fault output.entry
+            (drawn self.now.width self.now.height self.now.settings rows.now)) result }
         ensures refused { IfErr result (λ code. code ≢ 0) }
         ensures text { IfOk result (λ text. IsOutputOf output.entry
             (drawn self.now.width self.now.height self.now.settings rows.now)

@@ -1,7 +1,7 @@
 -- What is wrong with the colors of an output of an image whose sizes are valid, and what the output
 -- is.
 use Rattle.std.specs.Prelude.{◌≡◌, ◌⊎◌, ℕ, List, length, Option, Some, None, Result, IfErr}
-use Rattle.std.specs.Prelude.{IsErrAnd}
+use Rattle.std.specs.Prelude.{IsErrAnd, IsTrue, Bool}
 use Rattle.std.specs.Option.{option_or}
 use Rattle.sixel_base.specs.CallFault.{CallFault, color_count_fault}
 use Rattle.sixel_base.specs.Payload.{Image}
@@ -33,6 +33,7 @@ IsOutputOf (Indexed colors indices form) image text =
     IsTextOf form (indexed_drawing image colors.now indices.now) text
 
 -- as `ReturnsBy`, for the code of an error
-abbrev pub FailsByCode : {X : Type 0} → Option CallFault → Result X ℕ → Type 0
-FailsByCode None result = IfErr result (λ code. code ≡ 8)
-FailsByCode (Some fault) result = IsErrAnd result (λ code. IsCallCode code fault ⊎ (code ≡ 8))
+abbrev pub FailsByCode : {X : Type 0} → Bool → Option CallFault → Result X ℕ → Type 0
+FailsByCode copies None result = IfErr result (λ code. code ≡ 8)
+FailsByCode copies (Some fault) result =
+    IsErrAnd result (λ code. IsCallCode code fault ⊎ ((code ≡ 8) × IsTrue copies))

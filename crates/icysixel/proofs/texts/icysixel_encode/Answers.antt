@@ -1,5 +1,6 @@
-use Rattle.std.proofs.Common.{arith}
+use Rattle.std.proofs.Common.{◌*◌, arith}
 use Rattle.std.specs.Prelude.{None}
+use Rattle.icysixel.specs.Rows.{has_gaps, stride_of}
 use Rattle.icysixel.proofs.Calls.{call_stored, code_stored, same_stored}
 use Rattle.icysixel.proofs.texts.icysixel_encode.Goals as goal
 
@@ -30,8 +31,10 @@ returns-clause-buffer c = λ before size is sized wanted short.
 
 pub returns-clause-memory : goal.returns-clause-memory
 returns-clause-memory c = λ before size is sized wanted room.
-    call_stored c.encoded-text.result c.store_encoded.result None c.store_encoded.ensures.done
-    c.store_encoded.ensures.refused (c.encoded-text.ensures.call size sized wanted room)
+    call_stored c.encoded-text.result c.store_encoded.result
+    (has_gaps (stride_of c.args.stride (4 * c.args.width)) (4 * c.args.width)) None
+    c.store_encoded.ensures.done c.store_encoded.ensures.refused
+    (c.encoded-text.ensures.call size sized wanted room)
 
 pub returns-clause-found : goal.returns-clause-found
 returns-clause-found c = grind arith

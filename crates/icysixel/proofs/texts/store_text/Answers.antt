@@ -51,7 +51,7 @@ returns c =
       buffer = λ before size is sized wanted short.
           rw (c.encoded-text.ensures.buffer size sized wanted short) at c.store_encoded.ensures.refused;
       call = λ before size is sized wanted room.
-          call_stored c.encoded-text.result c.store_encoded.result _ c.store_encoded.ensures.done
+          call_stored c.encoded-text.result c.store_encoded.result _ _ c.store_encoded.ensures.done
           c.store_encoded.ensures.refused
           (rw settings at (c.encoded-text.ensures.call size sized wanted room));
       stored = grind arith;
