@@ -1,13 +1,18 @@
 -- A refined text of an image is one of each image that shows the same.
 use Rattle.std.proofs.Common.{◌≡◌, ℕ, zero, suc, ◌+◌, ◌*◌, ◌<◌, nat_lt, true, false, cond, List}
 use Rattle.std.proofs.Common.{length, refl, ap, sym, subst, ◌∙◌, arith, inl, inr}
-use Rattle.std.specs.Prelude.{◌/◌, None, slice_index}
+use Rattle.std.specs.Prelude.{◌/◌, All, Err, IfOk, None, Ok, OnOk, Option, Result, slice_index}
+use Rattle.std.specs.Option.{option_or}
 use Rattle.std.proofs.lemmas.Bool.{cases_lt}
 use Rattle.std.proofs.lemmas.Bool.Decides.{nat_tests}
+use Rattle.sixel_base.specs.CallFault.{CallFault, FailsBy, size_call_fault}
 use Rattle.sixel_base.specs.Payload.{Image}
-use Rattle.sixel_palette.specs.Palette.{AreIndices, HasSize, IsNearest, IsShown, color_at, nearest}
-use Rattle.sixel_palette.specs.Refined.{IsRefined, pixel_error, sum_to, summed_error}
+use Rattle.sixel_base.specs.declared.error.SixelError.{SixelError}
+use Rattle.sixel_palette.specs.Palette.{AreIndices, IsNearest, IsShown, color_at, nearest}
+use Rattle.sixel_palette.specs.Refined.{IsRefined, base_entries, cut_entries, opaque_number}
+use Rattle.sixel_palette.specs.Refined.{opaque_pixels, sum_to}
 use Rattle.sixel_palette.specs.declared.palette.refined.RefinedPalette.{RefinedPalette}
+use Rattle.sixel_palette.proofs.PaletteOne.{refined_same}
 use Rattle.sixel_palette.proofs.PaletteTops.{tops_alike}
 use Rattle.sixel_encoder.specs.declared.dither.Dither.{Dither}
 use Rattle.sixel_encoder.specs.declared.form.TextForm.{TextForm}
@@ -16,7 +21,7 @@ use Rattle.sixel_encoder.specs.Encoding.{image_fault, shown_image}
 use Rattle.sixel_encoder.specs.IndexedDrawing.{IsPaletteText, IsTextOf, indexed_drawing}
 use Rattle.sixel_encoder.specs.RefinedText.{IsRefinedText, ShowsEntries}
 use Rattle.sixel_encoder.specs.Text.{Drawing}
-use Rattle.sixel_encoder.proofs.PaletteText.{rows-sound}
+use Rattle.sixel_encoder.proofs.PaletteText.{hidden-returned, rows-sound}
 use Rattle.sixel_encoder.proofs.SameDithering.{AreAlike, AreAlike-images, AreDithered-alike}
 use Rattle.sixel_encoder.proofs.SameDithering.{drawing-alike}
 use Rattle.sixel_encoder.proofs.SameDrawing.{IsShown-other}
@@ -31,10 +36,10 @@ sum_to-same f g (suc n) same =
     let before = sum_to-same f g n (λ k l. same k (omega arith)) in
     ap (λ m. m + f n) before ∙ ap (λ m. sum_to g n + m) (same n (omega arith))
 
--- the error of a pixel is the same
-error-same : (entries : List (List ℕ)) (p q : List ℕ) (pixel : ℕ) → AreAlike p q
-    → pixel < length p / 4 → pixel_error entries p pixel ≡ pixel_error entries q pixel
-error-same entries p q pixel alike l =
+-- a number of a pixel's color is the same
+number-same : (number : List ℕ → ℕ) (p q : List ℕ) (pixel : ℕ) → AreAlike p q
+    → pixel < length p / 4 → opaque_number number p pixel ≡ opaque_number number q pixel
+number-same number p q pixel alike l =
     elim (cases_lt (slice_index p (4 * pixel + 3)) 128) [
       | inl dark ↦
           let there = alike.dark pixel l dark in
@@ -42,8 +47,8 @@ error-same entries p q pixel alike l =
           grind (arith, nat_tests) in
           let there_test : nat_lt (slice_index q (4 * pixel + 3)) 128 ≡ true =
           grind (arith, nat_tests) in
-          ap (λ test. cond test 0 (nearest entries (color_at p pixel))) here_test
-          ∙ sym (ap (λ test. cond test 0 (nearest entries (color_at q pixel))) there_test)
+          ap (λ test. cond test 0 (number (color_at p pixel))) here_test
+          ∙ sym (ap (λ test. cond test 0 (number (color_at q pixel))) there_test)
       | inr light ↦
           let there = alike.opaque pixel l light in
           let lit = there.0 in
@@ -51,17 +56,18 @@ error-same entries p q pixel alike l =
           grind (arith, nat_tests) in
           let there_test : nat_lt (slice_index q (4 * pixel + 3)) 128 ≡ false =
           grind (arith, nat_tests) in
-          ap (λ test. cond test 0 (nearest entries (color_at p pixel))) here_test
-          ∙ (ap (nearest entries) (sym there.1)
-          ∙ sym (ap (λ test. cond test 0 (nearest entries (color_at q pixel))) there_test))
+          ap (λ test. cond test 0 (number (color_at p pixel))) here_test
+          ∙ (ap number (sym there.1)
+          ∙ sym (ap (λ test. cond test 0 (number (color_at q pixel))) there_test))
     ]
 
-summed-same : (entries : List (List ℕ)) (p q : List ℕ) → AreAlike p q
-    → summed_error entries p ≡ summed_error entries q
-summed-same entries p q alike =
-    sum_to-same (pixel_error entries p) (pixel_error entries q) (length p / 4)
-    (λ pixel l. error-same entries p q pixel alike l)
-    ∙ ap (sum_to (pixel_error entries q)) alike.count
+-- so is its sum over the opaque pixels
+pub pixels-same : (p q : List ℕ) → AreAlike p q → (number : List ℕ → ℕ)
+    → opaque_pixels p number ≡ opaque_pixels q number
+pixels-same p q alike number =
+    sum_to-same (opaque_number number p) (opaque_number number q) (length p / 4)
+    (λ pixel l. number-same number p q pixel alike l)
+    ∙ ap (sum_to (opaque_number number q)) alike.count
 
 -- the indices of nearest entries are the same
 indices-same : (p q : List ℕ) (entries : List (List ℕ)) (indices : List ℕ) → AreAlike p q
@@ -84,39 +90,31 @@ indices-same p q entries indices alike are = record {
       ];
 }
 
--- a set of colors of as many members
-size-same : (image other : Image) (n : ℕ) → shown_image image ≡ shown_image other
-    → HasSize (IsShown other.pixels) n → HasSize (IsShown image.pixels) n
-size-same image other n e size = (
-  size.0,
-  record {
-    all = λ k d l. IsShown-other other image (sym e) _ (size.1.all k d l);
-    complete = λ c shown. size.1.complete c (IsShown-other image other e c shown);
-    ascending = size.1.ascending;
-  },
-  size.2,
-)
-
 -- so a palette is refined for both
 pub IsRefined-other : (image other : Image) (max_colors : ℕ) (palette : RefinedPalette)
     → shown_image image ≡ shown_image other → IsRefined image.pixels max_colors palette
     → IsRefined other.pixels max_colors palette
 IsRefined-other image other max_colors palette e is =
     let alike = AreAlike-images image other e in
-    let first = summed-same palette.colors.items image.pixels other.pixels alike in
-    let initial = summed-same palette.initial.items image.pixels other.pixels alike in
+    let same : opaque_pixels image.pixels ≡ opaque_pixels other.pixels = λ i number.
+    pixels-same image.pixels other.pixels alike number i in
+    let first = pixels-same image.pixels other.pixels alike (nearest palette.colors.items) in
+    let initial = pixels-same image.pixels other.pixels alike (nearest palette.initial.items) in
     record {
       shown = is.shown;
       few = is.few;
-      whole = λ n size room.
-          let own = is.whole n (size-same image other n e size) room in (
-            own.0,
-            record {
-              all = λ k d l. IsShown-other image other e _ (own.1.all k d l);
-              complete = λ c shown. own.1.complete c (IsShown-other other image (sym e) c shown);
-              ascending = own.1.ascending;
-            },
-            own.2,
+      members = is.members;
+      are = record {
+        all = λ k d l. IsShown-other image other e _ (is.are.all k d l);
+        complete = λ c shown. is.are.complete c (IsShown-other other image (sym e) c shown);
+        ascending = is.are.ascending;
+      };
+      whole = is.whole;
+      base = is.base;
+      cut = λ l.
+          let w = is.cut l in (
+            w.0 ∙ ap (λ p. cut_entries p max_colors) same,
+            w.1 ∙ ap (λ p. base_entries p max_colors) same,
           );
       indices =
           indices-same image.pixels other.pixels palette.colors.items palette.indices.items alike
@@ -125,8 +123,6 @@ IsRefined-other image other max_colors palette e is =
       falls = omega (arith, is.falls, first, initial);
       initial_shown = is.initial_shown;
       initial_few = is.initial_few;
-      base = is.base;
-      size = is.size;
       top =
           tops_alike (IsShown image.pixels) (IsShown other.pixels)
           (λ c shown. IsShown-other image other e c shown)
@@ -168,3 +164,26 @@ IsRefinedText-other image other max_colors dither form text sound e is =
       text = own;
       exact = subst ShowsEntries drawing is.exact;
     }
+
+-- images that show the same have one refined text
+pub hidden-refined : {S : Type 0} (bytes : S → List ℕ) (result : Result S SixelError)
+    (image other : Image) (max_colors : ℕ) (dither : Dither) (form : TextForm) (others : List ℕ)
+    (rest : Option CallFault)
+    → FailsBy (option_or (size_call_fault (image_fault image)) rest) result
+    → OnOk result (All (λ byte. byte < 256) image.pixels)
+    → IfOk result (λ text. IsRefinedText image max_colors dither form (bytes text))
+    → shown_image image ≡ shown_image other → IsRefinedText other max_colors dither form others
+    → IfOk result (λ text. bytes text ≡ others)
+hidden-refined bytes (Ok text) image other max_colors dither form others rest fails small is e also =
+    let colors =
+    (refined_same image.pixels other.pixels max_colors is.palette also.palette small
+    (λ c shown. IsShown-other image other e c shown)
+    (λ c shown. IsShown-other other image (sym e) c shown)
+    (pixels-same image.pixels other.pixels (AreAlike-images image other e)) is.refined
+    also.refined).1 in
+    hidden-returned bytes (Ok text) image other is.palette.colors.items dither form others rest
+    fails is.text e
+    (subst (λ (c : List (List ℕ)). IsPaletteText other c dither form others) (sym colors)
+    also.text)
+hidden-refined bytes (Err f) image other max_colors dither form others rest fails small is e also =
+    tt

@@ -1,6 +1,6 @@
 //! The SIXEL output of an image in a refined palette.
 
-ghost use Rattle.std.specs.Prelude.{◌≡◌, ℕ, ◌*◌, ◌≤◌, IfOk, None, string_bytes};
+ghost use Rattle.std.specs.Prelude.{◌≡◌, ℕ, ◌*◌, ◌<◌, ◌≤◌, All, IfOk, OnOk, None, string_bytes};
 ghost use Rattle.sixel_base.specs.CallFault.{FailsBy};
 ghost use Rattle.sixel_encoder.specs.Encoding.{source_value};
 ghost use Rattle.sixel_encoder.specs.IndexedDrawing.{palette_fault};
@@ -30,6 +30,7 @@ pub fn encode_refined(
     form: TextForm,
 ) -> Result<String>
     ensures fault { FailsBy (palette_fault (source_value source.now) max_colors) result }
+    ensures bytes { OnOk result (All (λ byte. byte < 256) (source_value source.now).pixels) }
     ensures text { IfOk result (λ text.
         IsRefinedText (source_value source.now) max_colors dither form (string_bytes text)) }
 {

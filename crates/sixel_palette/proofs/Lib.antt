@@ -1,4 +1,5 @@
 pub mod PaletteApart
+pub mod PaletteBins
 pub mod PaletteBits
 pub mod PaletteBoxes
 pub mod PaletteCandidates
@@ -7,14 +8,19 @@ pub mod PaletteChoices
 pub mod PaletteColors
 pub mod PaletteCounts
 pub mod PaletteDistance
+pub mod PaletteCutBoxes
+pub mod PaletteCuts
+pub mod PaletteDivide
 pub mod PaletteFarthest
 pub mod PaletteFlags
 pub mod PaletteKeys
 pub mod PaletteLaw
 pub mod PaletteLevels
 pub mod PaletteLists
+pub mod PaletteLloyd
 pub mod PaletteNearest
 pub mod PaletteNearestEntry
+pub mod PaletteOne
 pub mod PaletteOrder
 pub mod PalettePages
 pub mod PalettePositions
@@ -25,4 +31,5 @@ pub mod PaletteRelaxation
 pub mod PaletteShown
 pub mod PaletteSize
 pub mod PaletteStores
+pub mod PaletteSums
 pub mod PaletteTops

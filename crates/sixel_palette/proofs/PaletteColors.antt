@@ -33,7 +33,7 @@ unfolding rank color_of
 rank-color_of code = omega arith
 
 -- a code has a color
-IsColor-color_of : (code : ℕ) → code < code_count → IsColor (color_of code)
+pub IsColor-color_of : (code : ℕ) → code < code_count → IsColor (color_of code)
 unfolding color_of
 IsColor-color_of code l = record {
   three = refl;

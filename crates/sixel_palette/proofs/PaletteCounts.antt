@@ -11,8 +11,9 @@ use Rattle.std.proofs.lemmas.List.{get_or_default}
 use Rattle.std.specs.List.{Contains}
 use Rattle.sixel_base.specs.Limits.{area_limit}
 use Rattle.sixel_palette.specs.Palette.{nearest, rank, color_at, no_entry, IsShown}
-use Rattle.sixel_palette.specs.Refined.{sum_to, pixel_error, summed_error}
+use Rattle.sixel_palette.specs.Refined.{sum_to, pixel_error, opaque_number, opaque_pixels, summed_error}
 use Rattle.sixel_palette.specs.inside.PaletteCodes.{color_of, IsListed}
+use Rattle.sixel_palette.specs.inside.PaletteSums.{counted_pixels}
 use Rattle.sixel_palette.specs.inside.PaletteCounts.{dot, pixel_number, AreCounts, near_code}
 use Rattle.sixel_palette.specs.inside.PaletteCounts.{counted_error}
 use Rattle.sixel_palette.specs.inside.PaletteAssignment.{IsWeighed}
@@ -123,14 +124,14 @@ number-one pixels pixel =
     (λ l. omega (arith, number_opaque (λ _. 1) pixels pixel l))
     (cases_lt (get_or pixels (4 * pixel + 3) 0) 128)
 
--- a pixel's error is that of its color's code
-number-error : (entries : List (List ℕ)) (pixels : List ℕ) → ((k : ℕ) → get_or pixels k 0 < 256)
-    → (pixel : ℕ)
-    → pixel_number (near_code entries) pixels pixel ≡ pixel_error entries pixels pixel
-number-error entries pixels bytes pixel =
+-- a number of a pixel's color is that of its color's code
+number-color : (number : List ℕ → ℕ) (pixels : List ℕ) → ((k : ℕ) → get_or pixels k 0 < 256)
+    → (pixel : ℕ) → pixel_number (λ code. number (color_of code)) pixels pixel
+    ≡ opaque_number number pixels pixel
+number-color number pixels bytes pixel =
     let color = color_at pixels pixel in
     let same = color_of-rank color (IsColor-color_at pixels pixel bytes) in
-    ap (λ c. if nat_lt (get_or pixels (4 * pixel + 3) 0) 128 then 0 else nearest entries c) same
+    ap (λ c. if nat_lt (get_or pixels (4 * pixel + 3) 0) 128 then 0 else number c) same
 
 -- there are no more pixels than there are
 pub weighed_from_counts : (pixels codes counts : List ℕ)
@@ -148,14 +149,21 @@ weighed_from_counts pixels codes counts h area = record {
       );
 }
 
--- the error over the codes is that over the pixels
+-- sums over the codes are those over the pixels
+sums_from_counts : (number : List ℕ → ℕ) (pixels codes counts : List ℕ)
+    → ((k : ℕ) → get_or pixels k 0 < 256) → AreCounts pixels codes counts (length pixels / 4)
+    → dot counts (map (λ code. number (color_of code)) codes) ≡ opaque_pixels pixels number
+sums_from_counts number pixels codes counts bytes h =
+    h.sums (λ code. number (color_of code))
+    ∙ sum_to-same (pixel_number (λ code. number (color_of code)) pixels)
+    (opaque_number number pixels) (length pixels / 4) (number-color number pixels bytes)
+
+-- so is the error
 pub error_from_counts : (entries : List (List ℕ)) (pixels codes counts : List ℕ)
     → ((k : ℕ) → get_or pixels k 0 < 256) → AreCounts pixels codes counts (length pixels / 4)
     → counted_error entries codes counts ≡ summed_error entries pixels
 error_from_counts entries pixels codes counts bytes h =
-    h.sums (near_code entries)
-    ∙ sum_to-same (pixel_number (near_code entries) pixels) (pixel_error entries pixels)
-    (length pixels / 4) (number-error entries pixels bytes)
+    sums_from_counts (nearest entries) pixels codes counts bytes h
 
 -- the error is at most that of the greatest image with no entry
 pub error-small : (entries : List (List ℕ)) (codes counts : List ℕ) → IsWeighed codes counts
@@ -281,3 +289,38 @@ error_none entries pixels none =
 pub dot-nil : (ys : List ℕ) → 0 ≡ dot [] ys
 unfolding dot
 dot-nil ys = refl
+
+-- ---- sums over the pixels of codes
+
+sum_to-front : (f : ℕ → ℕ) (n : ℕ) → sum_to f (suc n) ≡ f 0 + sum_to (λ k. f (suc k)) n
+unfolding sum_to
+sum_to-front f zero = omega arith
+sum_to-front f (suc n) = omega (arith, sum_to-front f n)
+
+dot-sum : (f : ℕ → ℕ) (codes counts : List ℕ) → length counts ≡ length codes
+    → dot counts (map f codes)
+    ≡ sum_to (λ k. get_or counts k 0 * f (get_or codes k 0)) (length codes)
+unfolding dot sum_to
+dot-sum f [] [] e = refl
+dot-sum f [] (x ∷ counts) e = absurd (omega arith)
+dot-sum f (code ∷ codes) [] e = absurd (omega arith)
+dot-sum f (code ∷ codes) (x ∷ counts) e =
+    let g : ℕ → ℕ = λ k. get_or (x ∷ counts) k 0 * f (get_or (code ∷ codes) k 0) in
+    omega (
+      arith,
+      dot-sum f codes counts (omega arith),
+      sum_to-front g (length codes),
+    )
+
+-- the sum of the products is one over the pixels of the codes
+pub dot-counted : (number : List ℕ → ℕ) (codes counts : List ℕ) → length counts ≡ length codes
+    → dot counts (map (λ code. number (color_of code)) codes) ≡ counted_pixels codes counts number
+dot-counted number codes counts e = dot-sum (λ code. number (color_of code)) codes counts e
+
+-- the pixels of the codes are the opaque pixels
+pub pixels_from_counts : (pixels codes counts : List ℕ) → ((k : ℕ) → get_or pixels k 0 < 256)
+    → AreCounts pixels codes counts (length pixels / 4)
+    → counted_pixels codes counts ≡ opaque_pixels pixels
+pixels_from_counts pixels codes counts bytes h = λ i number.
+    (sym (dot-counted number codes counts h.same)
+    ∙ sums_from_counts number pixels codes counts bytes h) i

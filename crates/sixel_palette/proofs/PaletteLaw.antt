@@ -9,7 +9,7 @@ use Rattle.sixel_palette.proofs.PaletteOrder.{order-take}
 use Rattle.sixel_palette.proofs.PaletteSize.{one_size}
 
 -- bytes are bytes also past the end
-byte-get_or : (p : List ℕ) → All (λ b. b < 256) p → (k : ℕ) → get_or p k 0 < 256
+pub byte-get_or : (p : List ℕ) → All (λ b. b < 256) p → (k : ℕ) → get_or p k 0 < 256
 byte-get_or p bytes k =
     ⊎_elim (λ l. bytes k 0 l) (λ l. rw (get_or_past p k 0 l) (omega arith)) (cases_lt k (length p))
 

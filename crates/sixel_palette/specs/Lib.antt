@@ -1,3 +1,6 @@
+pub mod ColorSums
+pub mod GainCut
+pub mod Lloyd
 pub mod Palette
 pub mod PaletteBound
 pub mod Refined

@@ -1,13 +1,16 @@
 -- The refined palette of an image: colors that a register shows, and the summed squared error of a
 -- list of entries over the image's opaque pixels. A register stores percentages (DEC's color
 -- introducer), so the entries lie on their grid.
-use Rattle.std.specs.Prelude.{◌≡◌, ◌⊎◌, ℕ, ◌+◌, ◌*◌, ◌/◌, ◌<◌, ◌≤◌, List, [], ◌∷◌, ◌++◌, map}
+use Rattle.std.specs.Prelude.{◌≡◌, ◌⊎◌, ℕ, ◌+◌, ◌-◌, ◌*◌, ◌/◌, ◌<◌, ◌≤◌, List, [], ◌∷◌, ◌++◌, map}
 use Rattle.std.specs.Prelude.{length, take, zero, suc, nat_lt, if◌then◌else◌, slice_index}
 use Rattle.std.specs.Prelude.{slice_index_or, All}
 use Rattle.sixel_base.specs.Color.{rgb}
 use Rattle.sixel_palette.specs.declared.palette.refined.RefinedPalette.{RefinedPalette}
-use Rattle.sixel_palette.specs.Palette.{nearest, color_at, IsShown, HasSize, AreMembers}
+use Rattle.sixel_palette.specs.Palette.{nearest, color_at, IsShown, AreMembers}
 use Rattle.sixel_palette.specs.Palette.{AreIndices, IsFarthest}
+use Rattle.sixel_palette.specs.ColorSums.{Pixels}
+use Rattle.sixel_palette.specs.GainCut.{Box, box_colors, boxes_after, is_final}
+use Rattle.sixel_palette.specs.Lloyd.{improved_entries}
 use Rattle.sixel_palette.specs.PaletteBound.{IsLeastApart, NoListIsBetter}
 
 -- a register shows the color: it is that of three percentages
@@ -28,15 +31,36 @@ unfoldable pub sum_to : (ℕ → ℕ) → ℕ → ℕ
 sum_to number zero = 0
 sum_to number (suc n) = sum_to number n + number n
 
+-- a number of a pixel's color, 0 for a transparent pixel
+abbrev pub opaque_number : (List ℕ → ℕ) → List ℕ → ℕ → ℕ
+opaque_number number pixels pixel =
+    if nat_lt (slice_index pixels (4 * pixel + 3)) 128 then 0 else number (color_at pixels pixel)
+
+-- the opaque pixels of an image, by the sum over them of any number of a pixel's color
+abbrev pub opaque_pixels : List ℕ → Pixels
+opaque_pixels pixels number = sum_to (opaque_number number pixels) (length pixels / 4)
+
 -- the squared distance of a pixel's color to its nearest entry, 0 for a transparent pixel
 abbrev pub pixel_error : List (List ℕ) → List ℕ → ℕ → ℕ
-pixel_error entries pixels pixel =
-    if nat_lt (slice_index pixels (4 * pixel + 3)) 128 then 0
-    else nearest entries (color_at pixels pixel)
+pixel_error entries pixels = opaque_number (nearest entries) pixels
 
 -- the summed squared error of the entries, over all pixels
 abbrev pub summed_error : List (List ℕ) → List ℕ → ℕ
 summed_error entries pixels = sum_to (pixel_error entries pixels) (length pixels / 4)
+
+-- the boxes that the colors are cut into: a sixteenth of the entries is left for the farthest colors
+abbrev pub cut_boxes : Pixels → ℕ → List Box
+cut_boxes pixels max_colors = boxes_after pixels (max_colors - max_colors / 16 - 1)
+
+-- the entries before the rounds: the means of the boxes
+abbrev pub cut_entries : Pixels → ℕ → List (List ℕ)
+cut_entries pixels max_colors = box_colors pixels (cut_boxes pixels max_colors)
+
+-- the entries after the rounds, which are left out if no box can be cut
+abbrev pub base_entries : Pixels → ℕ → List (List ℕ)
+base_entries pixels max_colors =
+    if is_final pixels (cut_boxes pixels max_colors) then cut_entries pixels max_colors
+    else improved_entries pixels (cut_entries pixels max_colors)
 
 -- the color is farthest from its nearest entry, and by more than percentages may move an entry
 pub record IsFarOff (Member : List ℕ → Type 0) (entries : List (List ℕ)) (c : List ℕ)
@@ -65,9 +89,17 @@ pub record IsRefined (pixels : List ℕ) (max_colors : ℕ) (palette : RefinedPa
   pub shown : All IsRegisterColor palette.colors.items
   pub few : length palette.colors.items ≤ max_colors
   -- with at most as many opaque colors as entries, these are the entries, in order
-  pub whole : (n : ℕ) → HasSize (IsShown pixels) n → n ≤ max_colors
-      → (members : List (List ℕ)) × AreMembers (IsShown pixels) members
+  pub members : List (List ℕ)
+  pub are : AreMembers (IsShown pixels) members
+  pub whole : length members ≤ max_colors
+      → (palette.initial.items ≡ map register_color members)
       × (palette.colors.items ≡ map register_color members)
+  -- otherwise they are those of the boxes after the rounds, and then those on top
+  pub base : List (List ℕ)
+  pub cut : max_colors < length members
+      → (palette.initial.items ≡ cut_entries (opaque_pixels pixels) max_colors)
+      × (base ≡ base_entries (opaque_pixels pixels) max_colors)
+  pub top : AreOnTop (IsShown pixels) max_colors base palette.colors.items palette.witnesses.items
   pub indices : AreIndices pixels palette.colors.items palette.indices.items
   -- the error is the true sum, and at most that of the entries before the rounds
   pub error : palette.error ≡ summed_error palette.colors.items pixels
@@ -76,9 +108,6 @@ pub record IsRefined (pixels : List ℕ) (max_colors : ℕ) (palette : RefinedPa
   pub initial_shown : All IsRegisterColor palette.initial.items
   pub initial_few : length palette.initial.items ≤ max_colors
   -- the certificate of the entries on top
-  pub base : List (List ℕ)
-  pub size : length base ≡ length palette.initial.items
-  pub top : AreOnTop (IsShown pixels) max_colors base palette.colors.items palette.witnesses.items
   pub witnesses : All (IsShown pixels) palette.witnesses.items
   pub apart : IsLeastApart palette.witnesses.items palette.apart
   pub bound : (n : ℕ) → n < length palette.witnesses.items

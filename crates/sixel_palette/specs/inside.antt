@@ -11,3 +11,5 @@ pub mod PaletteKeys
 pub mod PaletteAssignment
 pub mod PaletteCandidates
 pub mod PaletteBoxes
+pub mod PaletteSums
+pub mod PaletteBins

@@ -8,6 +8,8 @@ ghost use Rattle.std.specs.List.Sorted.{IsStrictlyIncreasing};
 ghost use Rattle.sixel_palette.specs.Palette.{IsShown, HasSize, IsPalette, palette_room};
 ghost use Rattle.sixel_palette.specs.Palette.{IsNearest, AreIndices, IsError, AreWitnesses};
 ghost use Rattle.sixel_palette.specs.PaletteBound.{AreApart, NoListIsBetter};
+ghost use Rattle.sixel_palette.specs.Refined.{IsRefined, opaque_pixels};
+ghost use Rattle.sixel_palette.specs.declared.palette.refined.RefinedPalette.{RefinedPalette};
 ghost use Rattle.sixel_palette.specs.inside.PaletteCodes.{IsListed, AreColorCodes};
 ghost use Rattle.sixel_palette.specs.inside.PaletteChosen.{IsChosen};
 
@@ -194,4 +196,20 @@ pub fn one_palette()
     ensures index { (entries : List (List ℕ)) (c : List ℕ) (i j : ℕ)
         → IsNearest entries c i → IsNearest entries c j → i ≡ j }
     ensures size { (p : List ℕ) (m n : ℕ) → HasSize (IsShown p) m → HasSize (IsShown p) n → m ≡ n }
+{}
+
+/// A law, without work: images of the same opaque pixels have the same refined palette.
+///
+/// Their order is no part of it, nor are transparent pixels.
+pub fn one_refined_palette()
+    ensures initial { (p q : List ℕ) (max_colors : ℕ) (x y : RefinedPalette)
+        → All (λ b. b < 256) p → ((c : List ℕ) → IsShown p c → IsShown q c)
+        → ((c : List ℕ) → IsShown q c → IsShown p c)
+        → ((number : List ℕ → ℕ) → opaque_pixels p number ≡ opaque_pixels q number)
+        → IsRefined p max_colors x → IsRefined q max_colors y → x.initial.items ≡ y.initial.items }
+    ensures colors { (p q : List ℕ) (max_colors : ℕ) (x y : RefinedPalette)
+        → All (λ b. b < 256) p → ((c : List ℕ) → IsShown p c → IsShown q c)
+        → ((c : List ℕ) → IsShown q c → IsShown p c)
+        → ((number : List ℕ → ℕ) → opaque_pixels p number ≡ opaque_pixels q number)
+        → IsRefined p max_colors x → IsRefined q max_colors y → x.colors.items ≡ y.colors.items }
 {}

@@ -3,9 +3,10 @@ use Rattle.std.specs.Prelude.{◌≡◌, ℕ, ◌<◌, ◌≤◌, List, map, len
 use Rattle.sixel_base.specs.Limits.{area_limit}
 use Rattle.sixel_palette.specs.declared.palette.assignment.Assignment.{Assignment}
 use Rattle.sixel_palette.specs.declared.palette.refined.Start.{Start}
-use Rattle.sixel_palette.specs.Refined.{IsRegisterColor, register_color}
+use Rattle.sixel_palette.specs.Refined.{IsRegisterColor, base_entries, cut_entries, register_color}
 use Rattle.sixel_palette.specs.inside.PaletteCodes.{color_of}
 use Rattle.sixel_palette.specs.inside.PaletteCounts.{dot, counted_error}
+use Rattle.sixel_palette.specs.inside.PaletteSums.{counted_pixels}
 use Rattle.sixel_palette.specs.inside.PaletteTraversal.{IsTraversal, HasRelaxed}
 
 -- each code has a count, and there are no more pixels than the greatest image has
@@ -30,4 +31,8 @@ pub record IsStart (codes counts : List ℕ) (room : ℕ) (start : Start) : Type
   pub falls : counted_error start.assignment.colors.items codes counts
       ≤ counted_error start.initial.items codes counts
   pub whole : length codes ≤ room
-      → start.assignment.colors.items ≡ map (λ code. register_color (color_of code)) codes
+      → (start.initial.items ≡ map (λ code. register_color (color_of code)) codes)
+      × (start.assignment.colors.items ≡ map (λ code. register_color (color_of code)) codes)
+  pub cut : room < length codes
+      → (start.initial.items ≡ cut_entries (counted_pixels codes counts) room)
+      × (start.assignment.colors.items ≡ base_entries (counted_pixels codes counts) room)

@@ -1,11 +1,17 @@
 //! A histogram of colors by the six highest bits of each channel.
 
 ghost use Rattle.std.specs.Prelude.{◌≡◌, ◌+◌, ◌*◌, ◌/◌, ◌<◌, ◌≤◌, ℕ, List, length, All, IfOk};
-ghost use Rattle.std.specs.Prelude.{OnOk};
+ghost use Rattle.std.specs.Prelude.{OnOk, Bool, true, slice_index, if◌then◌else◌};
+ghost use Rattle.std.specs.List.Sorted.{IsStrictlyIncreasing};
 ghost use Rattle.sixel_base.specs.Limits.{area_limit};
 ghost use Rattle.sixel_palette.specs.inside.PaletteAssignment.{IsWeighed};
 ghost use Rattle.sixel_palette.specs.inside.PaletteBoxes.{binned_pixels};
+ghost use Rattle.sixel_palette.specs.GainCut.{corner};
+ghost use Rattle.sixel_palette.specs.Lloyd.{is_corner};
+ghost use Rattle.sixel_palette.specs.inside.PaletteBins.{IsTable, corners_of};
 ghost use Rattle.sixel_palette.specs.inside.PaletteCodes.{AreColorCodes};
+ghost use Rattle.sixel_palette.specs.inside.PaletteSums.{AreBinsOf, IsWholeBin, binned_sums};
+ghost use Rattle.sixel_palette.specs.inside.PaletteSums.{counted_pixels, total};
 
 use crate::palette::color_sums::ColorSums;
 use crate::palette::colors::color_of;
@@ -22,21 +28,49 @@ pub struct Bin {
 }
 
 /// The bins of the colors, those without a pixel left out.
-#[inline(never)]
 pub fn bins_of(alloc: Global, codes: &[u32], counts: &[u32]) -> Result<Vec<Bin>, AllocError>
     requires small { AreColorCodes codes.now }
+    requires ascending { IsStrictlyIncreasing codes.now }
     requires weighed { IsWeighed codes.now counts.now }
-    ensures { IfOk result (λ bins. binned_pixels bins.items ≤ area_limit) }
+    ensures few { IfOk result (λ bins. binned_pixels bins.items ≤ area_limit) }
+    ensures bins { IfOk result (λ bins.
+        AreBinsOf (counted_pixels codes.now counts.now) (λ _. true) bins.items) }
+    ensures whole { IfOk result (λ bins.
+        All (IsWholeBin (counted_pixels codes.now counts.now)) bins.items) }
 {
-    // The codes rise, so the bins of one red come one after the other.
     let mut positions = vec![in alloc; 0; SLAB]?;
     let mut bins = Vec::new(alloc);
+    push_bins(&mut bins, &mut positions, codes, counts)?;
+    Ok(bins)
+}
+
+/// Appends the bins of the colors.
+///
+/// The codes rise, so the bins of one red come one after the other.
+#[inline(never)]
+fn push_bins(
+    bins: &mut Vec<Bin>,
+    positions: &mut [usize],
+    codes: &[u32],
+    counts: &[u32],
+) -> Result<(), AllocError>
+    requires none { length bins.old.items ≡ 0 }
+    requires positions { length positions.old ≡ 4096 }
+    requires small { AreColorCodes codes.now }
+    requires ascending { IsStrictlyIncreasing codes.now }
+    requires weighed { IsWeighed codes.now counts.now }
+    ensures few { OnOk result (binned_pixels bins.new.items ≤ area_limit) }
+    ensures bins { OnOk result
+        (AreBinsOf (counted_pixels codes.now counts.now) (λ _. true) bins.new.items) }
+    ensures whole { OnOk result
+        (All (IsWholeBin (counted_pixels codes.now counts.now)) bins.new.items) }
+{
     for index in 0..codes.len() {
         let color = color_of(codes[index]);
         let sums = ColorSums::of(color, counts[index]);
-        add_color(&mut bins, &mut positions, color, sums)?;
+        add_color(bins, positions, color, sums)?;
     }
-    Ok(bins)
+    Ok(())
 }
 
 /// Adds the pixels of a color to its bin.
@@ -49,8 +83,16 @@ fn add_color(
 ) -> Result<(), AllocError>
     requires positions { length positions.old ≡ 4096 }
     requires few { binned_pixels bins.old.items + sums.count ≤ area_limit }
-    ensures { OnOk result
+    requires table { IsTable (corners_of bins.old.items) positions.old (slice_index (corner color) 0) }
+    ensures pixels { OnOk result
         (binned_pixels bins.new.items ≡ binned_pixels bins.old.items + sums.count) }
+    ensures sums { OnOk result ((contains : List ℕ → Bool) (k : ℕ)
+        → binned_sums contains bins.new.items k ≡ binned_sums contains bins.old.items k
+        + (if contains (corner color) then total sums k else 0)) }
+    ensures table { OnOk result ((red : ℕ) → slice_index (corner color) 0 ≤ red
+        → IsTable (corners_of bins.old.items) positions.old red
+        → IsTable (corners_of bins.new.items) positions.new red) }
+    ensures positions { OnOk result (length positions.new ≡ length positions.old) }
 {
     let corner = [color[0] / 4, color[1] / 4, color[2] / 4];
     let cell = usize::from(corner[1]) * 64 + usize::from(corner[2]);
@@ -66,6 +108,8 @@ fn add_color(
 
 /// Returns whether two corners are the same.
 #[inline(always)]
-fn is_corner(a: [u8; 3], b: [u8; 3]) -> bool {
+fn is_corner(a: [u8; 3], b: [u8; 3]) -> bool
+    ensures { result ≡ is_corner a b }
+{
     a[0] == b[0] && a[1] == b[1] && a[2] == b[2]
 }

@@ -2,8 +2,11 @@
 
 ghost use Rattle.std.specs.Prelude.{◌≡◌, ◌+◌, ◌*◌, ◌/◌, ◌<◌, ◌≤◌, ℕ};
 ghost use Rattle.sixel_base.specs.Limits.{area_limit};
+ghost use Rattle.sixel_palette.specs.ColorSums.{share, mean_or, mean_percent};
+ghost use Rattle.sixel_palette.specs.GainCut.{fine_mean, gain, mean_gap};
+ghost use Rattle.sixel_palette.specs.Lloyd.{mean_bytes};
 ghost use Rattle.sixel_palette.specs.Refined.{IsRegisterColor};
-ghost use Rattle.sixel_palette.specs.inside.PaletteCodes.{code_count};
+ghost use Rattle.sixel_palette.specs.inside.PaletteCodes.{code_count, color_of};
 
 use crate::palette::register_color::percent_color;
 
@@ -24,9 +27,12 @@ pub struct ColorSums {
 }
 
 impl ColorSums {
+    ghost use Rattle.sixel_palette.specs.inside.PaletteSums.{total};
+
     /// The sums of no pixel.
     pub fn none() -> ColorSums
-        ensures { result.count ≡ 0 }
+        ensures count { result.count ≡ 0 }
+        ensures sums { (k : ℕ) → total result k ≡ 0 }
     {
         ColorSums {
             count: 0,
@@ -39,7 +45,8 @@ impl ColorSums {
     /// The sums of so many pixels of one color.
     pub fn of(color: [u8; 3], count: u32) -> ColorSums
         requires { count ≤ area_limit }
-        ensures { result.count ≡ count }
+        ensures count { result.count ≡ count }
+        ensures sums { (k : ℕ) → total result k ≡ count * share k color }
     {
         let count = u64::from(count);
         ColorSums {
@@ -54,7 +61,8 @@ impl ColorSums {
     #[inline(always)]
     pub fn plus(self, more: ColorSums) -> ColorSums
         requires { self.count + more.count ≤ area_limit }
-        ensures { result.count ≡ self.count + more.count }
+        ensures count { result.count ≡ self.count + more.count }
+        ensures sums { (k : ℕ) → total result k ≡ total self k + total more k }
     {
         ColorSums {
             count: self.count + more.count,
@@ -66,7 +74,8 @@ impl ColorSums {
 
     /// The code of the mean color, rounded down, or 0 if there is no pixel.
     pub fn mean_code(self) -> u32
-        ensures { result < code_count }
+        ensures small { result < code_count }
+        ensures mean { color_of result ≡ mean_bytes (total self) }
     {
         if self.count == 0 {
             return 0;
@@ -80,7 +89,8 @@ impl ColorSums {
     /// The register color next to the mean, or `color` if there is no pixel.
     pub fn mean_or(self, color: [u8; 3]) -> [u8; 3]
         requires { IsRegisterColor color }
-        ensures { IsRegisterColor result }
+        ensures shown { IsRegisterColor result }
+        ensures mean { result ≡ mean_or (total self) color }
     {
         if self.count == 0 {
             return color;
@@ -95,7 +105,9 @@ impl ColorSums {
     /// How much the summed squared error falls if `other` gets an entry of its own.
     ///
     /// It is in units of 1/16, and rounded down: a guide.
-    pub fn gain(self, other: ColorSums) -> u64 {
+    pub fn gain(self, other: ColorSums) -> u64
+        ensures { result ≡ gain (total self) (total other) }
+    {
         if self.count == 0 || other.count == 0 {
             return 0;
         }
@@ -111,7 +123,8 @@ impl ColorSums {
 fn mean_byte(sum: u64, count: u64) -> u32
     requires some { 0 < count }
     requires mean { sum ≤ 255 * count }
-    ensures { result ≤ 255 }
+    ensures value { result ≡ sum / count }
+    ensures small { result ≤ 255 }
 {
     (sum / count) as u32
 }
@@ -121,7 +134,8 @@ fn mean_percent(sum: u64, count: u64) -> u64
     requires some { 0 < count }
     requires small { count ≤ area_limit }
     requires mean { sum ≤ 255 * count }
-    ensures { result ≤ 100 }
+    ensures value { result ≡ mean_percent sum count }
+    ensures small { result ≤ 100 }
 {
     (200 * sum + 255 * count) / (510 * count)
 }
@@ -134,7 +148,8 @@ fn mean_gap(sum: u64, count: u64, other_sum: u64, other_count: u64) -> u64
     requires other_some { 0 < other_count }
     requires other_small { other_count ≤ area_limit }
     requires other_mean { other_sum ≤ 255 * other_count }
-    ensures { result ≤ 4261478400 }
+    ensures value { result ≡ mean_gap sum count other_sum other_count }
+    ensures small { result ≤ 4261478400 }
 {
     let gap = fine_mean(sum, count).abs_diff(fine_mean(other_sum, other_count));
     gap * gap
@@ -145,7 +160,8 @@ fn fine_mean(sum: u64, count: u64) -> u64
     requires some { 0 < count }
     requires small { count ≤ area_limit }
     requires mean { sum ≤ 255 * count }
-    ensures { result ≤ 65280 }
+    ensures value { result ≡ fine_mean sum count }
+    ensures small { result ≤ 65280 }
 {
     256 * sum / count
 }
@@ -154,6 +170,7 @@ fn fine_mean(sum: u64, count: u64) -> u64
 fn scaled(distance: u64, weight: u64) -> u64
     requires distance { distance ≤ 12784435200 }
     requires weight { weight ≤ 1073741824 }
+    ensures { result ≡ distance * weight / 65536 }
 {
     distance * weight / 65536
 }

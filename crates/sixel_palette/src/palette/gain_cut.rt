@@ -3,12 +3,26 @@
 //! X. Wu, "Color quantization by dynamic programming and principal analysis", ACM Transactions on
 //! Graphics 11 (1992), 348-372, cuts boxes in this way.
 
-ghost use Rattle.std.specs.Prelude.{◌≡◌, ◌+◌, ◌-◌, ◌*◌, ◌/◌, ◌%◌, ◌<◌, ◌≤◌, ℕ, length, All};
-ghost use Rattle.std.specs.Prelude.{IfOk, OnOk, slice_index};
+ghost use Rattle.std.specs.Prelude.{◌≡◌, ◌+◌, ◌-◌, ◌*◌, ◌/◌, ◌%◌, ◌<◌, ◌≤◌, ℕ, List, true, length, All};
+ghost use Rattle.std.specs.Prelude.{IfOk, OnOk, slice_index, slice_index_or, take, drop};
+ghost use Rattle.std.specs.List.{sum_by};
+ghost use Rattle.std.specs.List.Sorted.{IsPermutation};
 ghost use Rattle.sixel_base.specs.Limits.{area_limit};
+ghost use Rattle.sixel_palette.specs.declared.palette.bins.Bin.{Bin};
 ghost use Rattle.sixel_palette.specs.Refined.{IsRegisterColor};
 ghost use Rattle.sixel_palette.specs.inside.PaletteBoxes.{AreRanges, AreWithin, binned_pixels};
-ghost use Rattle.sixel_palette.specs.inside.PaletteBoxes.{channel_place, side, summed_pixels};
+ghost use Rattle.sixel_palette.specs.inside.PaletteBoxes.{high_part, low_part, range_of};
+ghost use Rattle.sixel_palette.specs.inside.PaletteBoxes.{summed_pixels};
+ghost use Rattle.sixel_base.specs.Color.{rgb};
+ghost use Rattle.sixel_palette.specs.ColorSums.{Pixels, mean_or};
+ghost use Rattle.sixel_palette.specs.GainCut.{Box, best_along, best_cut, best_to, box_at};
+ghost use Rattle.sixel_palette.specs.GainCut.{box_colors, box_sums, boxes_after, channel_place};
+ghost use Rattle.sixel_palette.specs.GainCut.{cut_at, first_greatest, is_final, side};
+ghost use Rattle.sixel_palette.specs.declared.palette.gain_cut.ColorBox.{ColorBox};
+ghost use Rattle.sixel_palette.specs.declared.palette.color_sums.ColorSums.{ColorSums};
+ghost use Rattle.sixel_palette.specs.inside.PaletteBoxes.{AreBoxes, AreGains};
+ghost use Rattle.sixel_palette.specs.inside.PaletteSums.{AreBinsOf, prefix_sums, suffix_sums};
+ghost use Rattle.sixel_palette.specs.inside.PaletteSums.{total};
 
 use crate::palette::bins::Bin;
 use crate::palette::color_sums::ColorSums;
@@ -20,7 +34,7 @@ const SIDES: usize = 64;
 
 /// A box of colors: a range of bins, and its best cut.
 #[derive(Clone, Copy)]
-struct ColorBox {
+pub struct ColorBox {
     start: usize,
     end: usize,
     cut: Cut,
@@ -63,21 +77,42 @@ impl Channel {
     }
 }
 
-/// The register colors next to the means of the boxes that the bins are cut into.
-///
-/// There are at most `room`. The bins are reordered.
-pub fn cut_colors(alloc: Global, bins: &mut [Bin], room: usize) -> Result<Vec<[u8; 3]>, AllocError>
+/// The bins in boxes, at most `room`. The bins are reordered.
+pub fn boxes_of(alloc: Global, bins: &mut [Bin], room: usize) -> Result<Vec<ColorBox>, AllocError>
     requires room { 0 < room }
     requires few { binned_pixels bins.old ≤ area_limit }
-    ensures shown { IfOk result (λ colors. All IsRegisterColor colors.items) }
-    ensures room { IfOk result (λ colors. length colors.items ≤ room) }
-    ensures some { IfOk result (λ colors. 0 < length colors.items) }
-    ensures pixels { OnOk result (binned_pixels bins.new ≡ binned_pixels bins.old) }
+    ensures room { IfOk result (λ boxes. length boxes.items ≤ room) }
+    ensures some { IfOk result (λ boxes. 0 < length boxes.items) }
+    ensures ranges { IfOk result (λ boxes. AreRanges (length bins.new) boxes.items) }
+    ensures moved { OnOk result (IsPermutation bins.old bins.new) }
+    ensures boxes { IfOk result (λ boxes. (pixels : Pixels)
+        → AreBinsOf pixels (λ _. true) bins.old
+        → AreBoxes pixels bins.new boxes.items (boxes_after pixels (room - 1))) }
 {
-    let boxes = boxes_of(alloc, bins, room)?;
+    let mut lower = [ColorSums::none(); SIDES];
+    let mut upper = [ColorSums::none(); SIDES];
+    let mut boxes = Vec::with_capacity(alloc, room)?;
+    push_boxes(bins, &mut boxes, room, &mut lower, &mut upper)?;
+    Ok(boxes)
+}
+
+/// The register colors next to the means of boxes.
+pub fn box_colors(
+    alloc: Global,
+    bins: &[Bin],
+    boxes: &[ColorBox],
+) -> Result<Vec<[u8; 3]>, AllocError>
+    requires few { binned_pixels bins.now ≤ area_limit }
+    requires ranges { AreRanges (length bins.now) boxes.now }
+    ensures shown { IfOk result (λ colors. All IsRegisterColor colors.items) }
+    ensures size { IfOk result (λ colors. length colors.items ≡ length boxes.now) }
+    ensures means { IfOk result (λ colors. (pixels : Pixels) (model : List Box)
+        → AreBoxes pixels bins.now boxes.now model → colors.items ≡ box_colors pixels model) }
+{
     let mut colors = Vec::with_capacity(alloc, boxes.len())?;
-    for color_box in &boxes {
-        colors.push(mean_of(&bins[color_box.start..color_box.end]))?;
+    for position in 0..boxes.len() {
+        let part = &bins[boxes[position].start..boxes[position].end];
+        colors.push(mean_of(part))?;
     }
     Ok(colors)
 }
@@ -85,7 +120,9 @@ pub fn cut_colors(alloc: Global, bins: &mut [Bin], room: usize) -> Result<Vec<[u
 /// The register color next to the mean of some bins.
 fn mean_of(bins: &[Bin]) -> [u8; 3]
     requires { binned_pixels bins.now ≤ area_limit }
-    ensures { IsRegisterColor result }
+    ensures shown { IsRegisterColor result }
+    ensures mean { (pixels : Pixels) (box : Box) → AreBinsOf pixels box bins.now
+        → result ≡ mean_or (box_sums pixels box) (rgb 0 0 0) }
 {
     let mut sums = ColorSums::none();
     for bin in bins {
@@ -94,20 +131,13 @@ fn mean_of(bins: &[Bin]) -> [u8; 3]
     sums.mean_or(percent_color(0, 0, 0))
 }
 
-/// The bins in boxes, at most `room`.
-fn boxes_of(alloc: Global, bins: &mut [Bin], room: usize) -> Result<Vec<ColorBox>, AllocError>
-    requires room { 0 < room }
-    requires few { binned_pixels bins.old ≤ area_limit }
-    ensures room { IfOk result (λ boxes. length boxes.items ≤ room) }
-    ensures some { IfOk result (λ boxes. 0 < length boxes.items) }
-    ensures ranges { IfOk result (λ boxes. AreRanges (length bins.new) boxes.items) }
-    ensures pixels { OnOk result (binned_pixels bins.new ≡ binned_pixels bins.old) }
+/// Returns whether no cut of a box gains.
+pub fn is_final(boxes: &[ColorBox]) -> bool
+    requires { 0 < length boxes.now }
+    ensures { (pixels : Pixels) (bins : List Bin) (model : List Box)
+        → AreBoxes pixels bins boxes.now model → result ≡ is_final pixels model }
 {
-    let mut lower = [ColorSums::none(); SIDES];
-    let mut upper = [ColorSums::none(); SIDES];
-    let mut boxes = Vec::with_capacity(alloc, room)?;
-    push_boxes(bins, &mut boxes, room, &mut lower, &mut upper)?;
-    Ok(boxes)
+    boxes[best_of(boxes)].cut.gain == 0
 }
 
 /// Appends the box of all bins, and cuts boxes until there are `room` or no cut gains.
@@ -126,7 +156,9 @@ fn push_boxes(
     ensures room { OnOk result (length boxes.new.items ≤ room) }
     ensures some { OnOk result (0 < length boxes.new.items) }
     ensures ranges { OnOk result (AreRanges (length bins.new) boxes.new.items) }
-    ensures pixels { OnOk result (binned_pixels bins.new ≡ binned_pixels bins.old) }
+    ensures moved { OnOk result (IsPermutation bins.old bins.new) }
+    ensures boxes { OnOk result ((pixels : Pixels) → AreBinsOf pixels (λ _. true) bins.old
+        → AreBoxes pixels bins.new boxes.new.items (boxes_after pixels (room - 1))) }
 {
     boxes.push(box_of(bins, 0, bins.len(), lower, upper))?;
     for _count in 1..room {
@@ -152,9 +184,13 @@ fn cut_in_two(
     requires few { binned_pixels bins.old ≤ area_limit }
     requires lower { length lower.old ≡ 64 }
     requires upper { length upper.old ≡ 64 }
-    ensures pixels { OnOk result (binned_pixels bins.new ≡ binned_pixels bins.old) }
+    ensures moved { OnOk result (IsPermutation bins.old bins.new) }
     ensures one_more { OnOk result (length boxes.new.items ≡ length boxes.old.items + 1) }
     ensures ranges { OnOk result (AreRanges (length bins.old) boxes.new.items) }
+    ensures boxes { OnOk result ((pixels : Pixels) (model : List Box)
+        → AreBoxes pixels bins.old boxes.old.items model
+        → AreBoxes pixels bins.new boxes.new.items
+        (cut_at model position (best_cut pixels (box_at model position)))) }
 {
     let whole = boxes[position];
     let middle = divide(bins, whole.start, whole.end, whole.cut);
@@ -167,7 +203,9 @@ fn cut_in_two(
 /// The position of the box whose cut gains most, the first of those.
 fn best_of(boxes: &[ColorBox]) -> usize
     requires { 0 < length boxes.now }
-    ensures { result < length boxes.now }
+    ensures within { result < length boxes.now }
+    ensures first { (d : ColorBox) → result ≡ first_greatest
+        (λ k. (slice_index_or boxes.now k d).cut.gain) (length boxes.now - 1) }
 {
     let mut best = 0;
     for position in 1..boxes.len() {
@@ -184,11 +222,17 @@ fn divide(bins: &mut [Bin], start: usize, end: usize, cut: Cut) -> usize
     requires within { end ≤ length bins.old }
     ensures from { start ≤ result }
     ensures to { result ≤ end }
-    ensures pixels { binned_pixels bins.new ≡ binned_pixels bins.old }
+    ensures moved { IsPermutation bins.old bins.new }
+    ensures front { take start bins.new ≡ take start bins.old }
+    ensures back { drop end bins.new ≡ drop end bins.old }
+    ensures lower { (number : Bin → ℕ) → sum_by number (range_of bins.new start result)
+        ≡ sum_by (low_part cut.channel cut.value number) (range_of bins.old start end) }
+    ensures upper { (number : Bin → ℕ) → sum_by number (range_of bins.new result end)
+        ≡ sum_by (high_part cut.channel cut.value number) (range_of bins.old start end) }
 {
     let mut middle = start;
     for position in start..end {
-        if cut.channel.of(&bins[position]) <= cut.value {
+        if side_of(&bins[position], cut.channel) <= usize::from(cut.value) {
             bins.swap(middle, position);
             middle += 1;
         }
@@ -211,6 +255,8 @@ fn box_of(
     requires upper { length upper.old ≡ 64 }
     ensures start { result.start ≡ start }
     ensures end { result.end ≡ end }
+    ensures cut { (pixels : Pixels) (box : Box)
+        → AreBinsOf pixels box (range_of bins.now start end) → result.cut ≡ best_cut pixels box }
 {
     let part = &bins[start..end];
     let none = Cut {
@@ -242,6 +288,8 @@ fn cut_along(
     requires few { binned_pixels bins.now ≤ area_limit }
     requires lower { length lower.old ≡ 64 }
     requires upper { length upper.old ≡ 64 }
+    ensures { (pixels : Pixels) (box : Box) → AreBinsOf pixels box bins.now
+        → result ≡ best_along pixels box channel cut }
 {
     let sides = sides_of(bins, channel);
     let lower = &mut lower[sides.low..sides.high + 1];
@@ -279,7 +327,7 @@ fn sides_of(bins: &[Bin], channel: Channel) -> Sides
 /// The value of a channel of a bin's corner.
 #[inline(always)]
 fn side_of(bin: &Bin, channel: Channel) -> usize
-    ensures value { result ≡ side channel bin.now }
+    ensures value { result ≡ side channel bin.now.corner }
     ensures small { result < 64 }
 {
     usize::from(channel.of(bin)) % SIDES
@@ -291,7 +339,10 @@ fn gather(bins: &[Bin], channel: Channel, sides: Sides, sums: &mut [ColorSums])
     requires few { binned_pixels bins.now ≤ area_limit }
     requires within { AreWithin channel sides bins.now }
     requires sums { length sums.old ≡ sides.high + 1 - sides.low }
-    ensures { summed_pixels sums.new ≡ binned_pixels bins.now }
+    ensures pixels { summed_pixels sums.new ≡ binned_pixels bins.now }
+    ensures size { length sums.new ≡ length sums.old }
+    ensures sums { (n k : ℕ) → prefix_sums sums.new (n + 1) k
+        ≡ sum_by (low_part channel (sides.low + n) (λ bin. total bin.sums k)) bins.now }
 {
     sums.fill(ColorSums::none());
     for bin in bins {
@@ -305,6 +356,9 @@ fn gather(bins: &[Bin], channel: Channel, sides: Sides, sums: &mut [ColorSums])
 fn sum_above(sums: &[ColorSums], upper: &mut [ColorSums])
     requires few { summed_pixels sums.now ≤ area_limit }
     requires upper { length upper.old ≡ length sums.now }
+    ensures size { length upper.new ≡ length upper.old }
+    ensures sums { (j k : ℕ) (d : ColorSums) → j < length sums.now
+        → total (slice_index_or upper.new j d) k ≡ suffix_sums sums.now (j + 1) k }
 {
     let mut above = ColorSums::none();
     for value in (0..sums.len()).rev() {
@@ -327,6 +381,10 @@ fn best_cut(
     requires high { sides.high < 64 }
     requires lower { length lower.now ≡ sides.high + 1 - sides.low }
     requires upper { length upper.now ≡ length lower.now }
+    requires sums { (j k : ℕ) (d : ColorSums) → j < length lower.now
+        → total (slice_index_or upper.now j d) k ≡ suffix_sums lower.now (j + 1) k }
+    ensures { (gains : ℕ → ℕ) → AreGains lower.now sides gains
+        → result ≡ best_to gains channel sides.high cut }
 {
     let mut best = cut;
     let mut left = ColorSums::none();

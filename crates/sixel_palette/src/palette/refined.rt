@@ -1,6 +1,6 @@
 //! The refined palette of an image: register colors with a small summed error.
 
-ghost use Rattle.std.specs.Prelude.{◌≡◌, ◌≢◌, ◌-◌, ◌%◌, ◌<◌, ◌≤◌, ◌/◌, ℕ, List, map, length};
+ghost use Rattle.std.specs.Prelude.{◌≡◌, ◌≢◌, ◌-◌, ◌%◌, ◌<◌, ◌≤◌, ◌/◌, ℕ, List, true, map, length};
 ghost use Rattle.std.specs.Prelude.{All, Some, None, OnOk, IfOk, MatchResult};
 ghost use Rattle.std.specs.List.Sorted.{IsStrictlyIncreasing};
 ghost use Rattle.sixel_base.specs.Limits.{area_limit};
@@ -10,17 +10,19 @@ ghost use Rattle.sixel_palette.specs.PaletteBound.{IsLeastApart};
 ghost use Rattle.sixel_palette.specs.Palette.{IsShown};
 ghost use Rattle.sixel_palette.specs.Refined.{IsRegisterColor, register_color, IsRefined};
 ghost use Rattle.sixel_palette.specs.inside.PaletteAssignment.{IsStart, IsWeighed};
+ghost use Rattle.sixel_palette.specs.inside.PaletteBoxes.{binned_pixels};
+ghost use Rattle.sixel_palette.specs.inside.PaletteSums.{AreBinsOf, IsWholeBin, counted_pixels};
 ghost use Rattle.sixel_palette.specs.inside.PaletteCounts.{counted_error, AreCounts, ArePositions};
 ghost use Rattle.sixel_palette.specs.inside.PaletteCodes.{color_of, IsListed, AreColorCodes};
 
 use crate::palette::assignment::{Assignment, assign, summed};
-use crate::palette::bins::bins_of;
+use crate::palette::bins::{Bin, bins_of};
 use crate::palette::color_counts::{Counts, counts_of};
 use crate::palette::color_sums::AREA_LIMIT;
 use crate::palette::colors::{color_of, shown_codes};
 use crate::palette::distance::distance;
 use crate::palette::farthest_on_top::add_farthest;
-use crate::palette::gain_cut::cut_colors;
+use crate::palette::gain_cut::{box_colors, boxes_of, is_final};
 use crate::palette::lloyd::improve;
 use crate::palette::nearest_entry::squared_to_nearest;
 use crate::palette::positions::indices_by;
@@ -182,6 +184,7 @@ fn start_of(
 ) -> std::result::Result<Start, AllocError>
     requires some { 0 < room }
     requires room { room ≤ 256 }
+    requires ascending { IsStrictlyIncreasing codes.now }
     requires small { AreColorCodes codes.now }
     requires weighed { IsWeighed codes.now counts.now }
     ensures { IfOk result (IsStart codes.now counts.now room) }
@@ -203,13 +206,43 @@ fn cut_start(
     requires some { 0 < room }
     requires room { room ≤ 256 }
     requires many { room < length codes.now }
+    requires ascending { IsStrictlyIncreasing codes.now }
     requires small { AreColorCodes codes.now }
     requires weighed { IsWeighed codes.now counts.now }
     ensures { IfOk result (IsStart codes.now counts.now room) }
 {
     let mut bins = bins_of(alloc, codes, counts)?;
-    let initial = cut_colors(alloc, &mut bins, room - room / 16)?;
-    let assignment = improve(alloc, codes, counts, &bins, &initial)?;
+    let start = start_of_bins(alloc, codes, counts, &mut bins, room)?;
+    Ok(start)
+}
+
+/// The entries of a gain cut of bins, moved by the rounds. The bins are reordered.
+///
+/// The entries stay if no cut gains, because each bin has an entry then.
+fn start_of_bins(
+    alloc: Global,
+    codes: &[u32],
+    counts: &[u32],
+    bins: &mut [Bin],
+    room: usize,
+) -> std::result::Result<Start, AllocError>
+    requires some { 0 < room }
+    requires room { room ≤ 256 }
+    requires many { room < length codes.now }
+    requires small { AreColorCodes codes.now }
+    requires weighed { IsWeighed codes.now counts.now }
+    requires pixels { binned_pixels bins.old ≤ area_limit }
+    requires bins { AreBinsOf (counted_pixels codes.now counts.now) (λ _. true) bins.old }
+    requires whole { All (IsWholeBin (counted_pixels codes.now counts.now)) bins.old }
+    ensures { IfOk result (IsStart codes.now counts.now room) }
+{
+    let boxes = boxes_of(alloc, bins, room - room / 16)?;
+    let initial = box_colors(alloc, bins, &boxes)?;
+    let assignment = if is_final(&boxes) {
+        assign(alloc, codes, counts, &initial)?
+    } else {
+        improve(alloc, codes, counts, bins, &initial)?
+    };
     Ok(Start {
         initial,
         assignment,

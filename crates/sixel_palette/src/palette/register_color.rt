@@ -1,7 +1,7 @@
 //! Colors that a register shows: each channel is the byte of a whole percentage.
 
 ghost use Rattle.std.specs.Prelude.{◌≡◌, ◌≤◌, ℕ, List};
-ghost use Rattle.sixel_base.specs.Color.{byte_of};
+ghost use Rattle.sixel_base.specs.Color.{byte_of, rgb};
 ghost use Rattle.sixel_palette.specs.Refined.{IsRegisterColor, percentage, register_color};
 
 /// The color that a register shows for a color.
@@ -20,7 +20,8 @@ pub fn percent_color(red: u64, green: u64, blue: u64) -> [u8; 3]
     requires red { red ≤ 100 }
     requires green { green ≤ 100 }
     requires blue { blue ≤ 100 }
-    ensures { IsRegisterColor result }
+    ensures shown { IsRegisterColor result }
+    ensures value { result ≡ rgb red green blue }
 {
     [percent_byte(red), percent_byte(green), percent_byte(blue)]
 }

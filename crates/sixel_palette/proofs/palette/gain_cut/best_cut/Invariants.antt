@@ -1,6 +1,12 @@
-use Rattle.std.proofs.Common.{◌≡◌, take}
-use Rattle.sixel_palette.specs.inside.PaletteBoxes.{summed_pixels}
+use Rattle.std.proofs.Common.{◌≡◌, ℕ, ◌+◌, take}
+use Rattle.sixel_palette.specs.GainCut.{best_to}
+use Rattle.sixel_palette.specs.inside.PaletteBoxes.{AreGains}
+use Rattle.sixel_palette.specs.inside.PaletteSums.{prefix_sums, total}
 use Rattle.sixel_palette.proofs.palette.gain_cut.best_cut.Given as goal
 
 abbrev pub invariant-loop-position : goal.invariant-loop-position
-invariant-loop-position l = l.left.count ≡ summed_pixels (take l.position l.lower)
+invariant-loop-position l = record {
+  left : (k : ℕ) → total l.left k ≡ prefix_sums l.lower l.position k;
+  best : (gains : ℕ → ℕ) → AreGains l.lower l.sides gains
+      → l.best ≡ best_to gains l.channel (l.sides.low + l.position) l.fn.cut;
+}

@@ -1,6 +1,14 @@
-use Rattle.std.proofs.Common.{◌≡◌, take}
-use Rattle.sixel_palette.specs.inside.PaletteBoxes.{binned_pixels, summed_pixels}
+use Rattle.std.proofs.Common.{◌≡◌, ℕ, ◌+◌, length, take}
+use Rattle.std.specs.List.{sum_by}
+use Rattle.sixel_palette.specs.inside.PaletteBoxes.{binned_pixels, low_part, summed_pixels}
+use Rattle.sixel_palette.specs.inside.PaletteSums.{prefix_sums, total}
 use Rattle.sixel_palette.proofs.palette.gain_cut.gather.Given as goal
 
 abbrev pub invariant-loop-bin : goal.invariant-loop-bin
-invariant-loop-bin l = summed_pixels l.sums ≡ binned_pixels (take l.bin-index l.bins)
+invariant-loop-bin l = record {
+  size : length l.sums ≡ length l.fn.sums;
+  pixels : summed_pixels l.sums ≡ binned_pixels (take l.bin-index l.bins);
+  sums : (n k : ℕ) → prefix_sums l.sums (n + 1) k
+      ≡ sum_by (low_part l.channel (l.sides.low + n) (λ bin. total bin.sums k))
+      (take l.bin-index l.bins);
+}

@@ -1,6 +1,8 @@
-use Rattle.std.proofs.Common.{◌≡◌, take}
-use Rattle.sixel_palette.specs.inside.PaletteBoxes.{binned_pixels}
+use Rattle.std.proofs.Common.{◌≡◌, ℕ, take}
+use Rattle.std.specs.List.{sum_by}
+use Rattle.sixel_palette.specs.inside.PaletteSums.{total}
 use Rattle.sixel_palette.proofs.palette.gain_cut.mean_of.Given as goal
 
 abbrev pub invariant-loop-bin : goal.invariant-loop-bin
-invariant-loop-bin l = l.sums.count ≡ binned_pixels (take l.bin-index l.bins)
+invariant-loop-bin l =
+    (k : ℕ) → total l.sums k ≡ sum_by (λ bin. total bin.sums k) (take l.bin-index l.bins)

@@ -1,5 +1,9 @@
-use Rattle.std.proofs.Common.{◌≡◌, length}
-use Rattle.sixel_palette.specs.inside.PaletteBoxes.{AreRanges, binned_pixels}
+use Rattle.std.proofs.Common.{◌≡◌, ◌-◌, true, length}
+use Rattle.std.specs.List.Sorted.{IsPermutation}
+use Rattle.sixel_palette.specs.ColorSums.{Pixels}
+use Rattle.sixel_palette.specs.GainCut.{boxes_after}
+use Rattle.sixel_palette.specs.inside.PaletteBoxes.{AreBoxes, AreRanges}
+use Rattle.sixel_palette.specs.inside.PaletteSums.{AreBinsOf}
 use Rattle.sixel_palette.proofs.palette.gain_cut.push_boxes.Given as goal
 
 abbrev pub invariant-loop-count : goal.invariant-loop-count
@@ -8,5 +12,7 @@ invariant-loop-count l = record {
   ranges : AreRanges (length l.bins) l.boxes.items;
   lower : length l.lower ≡ 64;
   upper : length l.upper ≡ 64;
-  pixels : binned_pixels l.bins ≡ binned_pixels l.fn.bins;
+  moved : IsPermutation l.fn.bins l.bins;
+  model : (pixels : Pixels) → AreBinsOf pixels (λ _. true) l.fn.bins
+      → AreBoxes pixels l.bins l.boxes.items (boxes_after pixels (l._count - 1));
 }

@@ -1,12 +1,12 @@
 use Rattle.std.proofs.Common.{ℕ, ◌<◌, ◌≤◌, get_or}
 use Rattle.sixel_palette.specs.declared.palette.bins.Bin.{Bin}
-use Rattle.sixel_palette.specs.inside.PaletteBoxes.{side}
+use Rattle.sixel_palette.specs.GainCut.{side}
 use Rattle.sixel_palette.proofs.palette.gain_cut.sides_of.Given as goal
 
 abbrev pub invariant-loop-bin : goal.invariant-loop-bin
 invariant-loop-bin l = record {
   low : l.low < 64;
   high : l.high < 64;
-  above : (k : ℕ) (d : Bin) → k < l.bin-index → l.low ≤ side l.channel (get_or l.bins k d);
-  below : (k : ℕ) (d : Bin) → k < l.bin-index → side l.channel (get_or l.bins k d) ≤ l.high;
+  above : (k : ℕ) (d : Bin) → k < l.bin-index → l.low ≤ side l.channel (get_or l.bins k d).corner;
+  below : (k : ℕ) (d : Bin) → k < l.bin-index → side l.channel (get_or l.bins k d).corner ≤ l.high;
 }

@@ -1,4 +1,7 @@
-use Rattle.std.proofs.Common.{refl, arith}
+use Rattle.std.proofs.Common.{◌≡◌, refl, arith}
+use Rattle.sixel_palette.specs.Lloyd.{moved_entries}
+use Rattle.sixel_palette.specs.inside.PaletteSums.{counted_pixels}
+use Rattle.sixel_palette.proofs.PaletteLloyd.{improved_kept, improved_taken}
 use Rattle.sixel_palette.proofs.palette.lloyd.improve.Goals as goal
 
 pub returns-clause-assignment : goal.returns-clause-assignment
@@ -22,26 +25,48 @@ returns-clause-falls c =
       c.if-before-after.false,
     ))
 
-pub returns-then-bins-colors-clause-assignment : goal.returns-then-bins-colors-clause-assignment
-returns-then-bins-colors-clause-assignment c = c.in_ok-assign.ensures.assignment
+pub returns-clause-improved : goal.returns-clause-improved
+returns-clause-improved c =
+    let colors = c.args.colors.now in
+    let codes = c.args.codes.now in
+    let counts = c.args.counts.now in
+    let pixels = counted_pixels codes counts in
+    let moved : c.in_ok-moved.moved.items ≡ moved_entries pixels (moved_entries pixels colors) =
+    c.in_ok-moved.ensures.moved pixels c.requires.bins c.requires.whole in
+    rw (c.in_ok-after.ensures.colors, c.deref.ensures.value)
+    (improved_taken codes counts colors c.in_ok-moved.moved.items c.requires.weighed.same moved
+    (omega (
+      arith,
+      c.in_ok-before.ensures.error,
+      rw c.deref.ensures.value at c.in_ok-after.ensures.error,
+      c.if-before-after.false,
+    )))
 
-pub returns-then-bins-colors-clause-shown : goal.returns-then-bins-colors-clause-shown
-returns-then-bins-colors-clause-shown c = rw c.in_ok-assign.ensures.colors c.requires.shown
-
-pub returns-then-bins-colors-clause-size : goal.returns-then-bins-colors-clause-size
-returns-then-bins-colors-clause-size c = rw c.in_ok-assign.ensures.colors refl
-
-pub returns-then-bins-colors-clause-falls : goal.returns-then-bins-colors-clause-falls
-returns-then-bins-colors-clause-falls c = rw c.in_ok-assign.ensures.colors (omega arith)
+pub returns-then-before-after-clause-improved : goal.returns-then-before-after-clause-improved
+returns-then-before-after-clause-improved c =
+    let colors = c.args.colors.now in
+    let codes = c.args.codes.now in
+    let counts = c.args.counts.now in
+    let pixels = counted_pixels codes counts in
+    let moved : c.in_ok-moved.moved.items ≡ moved_entries pixels (moved_entries pixels colors) =
+    c.in_ok-moved.ensures.moved pixels c.requires.bins c.requires.whole in
+    rw c.in_ok-assign.ensures.colors
+    (improved_kept codes counts colors c.in_ok-moved.moved.items c.requires.weighed.same moved
+    (omega (
+      arith,
+      c.in_ok-before.ensures.error,
+      rw c.deref.ensures.value at c.in_ok-after.ensures.error,
+      c.if-before-after.true,
+    )))
 
 pub returns-then-before-after-clause-assignment : goal.returns-then-before-after-clause-assignment
-returns-then-before-after-clause-assignment c = c.in_ok-assign-2.ensures.assignment
+returns-then-before-after-clause-assignment c = c.in_ok-assign.ensures.assignment
 
 pub returns-then-before-after-clause-shown : goal.returns-then-before-after-clause-shown
-returns-then-before-after-clause-shown c = rw c.in_ok-assign-2.ensures.colors c.requires.shown
+returns-then-before-after-clause-shown c = rw c.in_ok-assign.ensures.colors c.requires.shown
 
 pub returns-then-before-after-clause-size : goal.returns-then-before-after-clause-size
-returns-then-before-after-clause-size c = rw c.in_ok-assign-2.ensures.colors refl
+returns-then-before-after-clause-size c = rw c.in_ok-assign.ensures.colors refl
 
 pub returns-then-before-after-clause-falls : goal.returns-then-before-after-clause-falls
-returns-then-before-after-clause-falls c = rw c.in_ok-assign-2.ensures.colors (omega arith)
+returns-then-before-after-clause-falls c = rw c.in_ok-assign.ensures.colors (omega arith)

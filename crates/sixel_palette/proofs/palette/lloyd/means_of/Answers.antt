@@ -1,7 +1,12 @@
-use Rattle.std.proofs.Common.{[], arith}
-use Rattle.std.proofs.lemmas.List.{length_push}
+use Rattle.std.proofs.Common.{◌≡◌, ℕ, ◌<◌, ◌≤◌, [], ◌∷◌, get_or, length, ap, ⊎_elim, ◌∙◌, arith}
+use Rattle.std.proofs.lemmas.Bool.{cases_lt}
+use Rattle.std.proofs.lemmas.List.{get_or_append_left, get_or_at, get_or_default, length_push}
 use Rattle.std.proofs.lemmas.List.Elements.{All-push}
+use Rattle.sixel_palette.specs.declared.palette.color_sums.ColorSums.{ColorSums}
+use Rattle.sixel_palette.specs.ColorSums.{mean_or}
 use Rattle.sixel_palette.specs.Refined.{IsRegisterColor}
+use Rattle.sixel_palette.specs.inside.PaletteSums.{entry_sums, total}
+use Rattle.sixel_palette.proofs.PaletteSums.{mean_or-same}
 use Rattle.sixel_palette.proofs.palette.lloyd.means_of.Goals as goal
 
 pub mean_or-requires : goal.mean_or-requires
@@ -10,10 +15,35 @@ mean_or-requires c = c.requires.shown c.loop-position.position [] (omega arith)
 pub loop-position-preserved : goal.loop-position-preserved
 loop-position-preserved c =
     let means = c.loop-position.means.items in
+    let colors = c.args.colors.now in
+    let sums = c.add_bins.new.sums in
+    let position = c.loop-position.position in
+    let mean = c.mean_or.result in
+    let h = c.loop-position.invariant in
+    let inside : position < length sums =
+    omega (arith, c.add_bins.ensures.size, c.requires.few, c.loop-position-test.true) in
     rw c.in_ok-push.ensures.items (record {
-      shown =
-          All-push IsRegisterColor means c.mean_or.result c.loop-position.invariant.shown
-          c.mean_or.ensures;
-      size = omega (arith, length_push means c.mean_or.result);
-      sums = c.loop-position.invariant.sums;
+      shown = All-push IsRegisterColor means mean h.shown c.mean_or.ensures.shown;
+      size = omega (arith, length_push means mean, h.size);
+      means = λ k d l.
+          ⊎_elim (λ (less : k < position).
+          get_or_append_left means (mean ∷ []) [] k (omega (arith, less, h.size))
+          ∙ h.means k d less)
+          (λ (more : position ≤ k).
+          let e : position ≡ k = omega arith in
+          get_or_at means mean [] [] k (omega (arith, e, h.size))
+          ∙ rw (← e)
+          (c.mean_or.ensures.mean
+          ∙ ap (λ (s : ColorSums). mean_or (total s) (get_or colors position []))
+          (get_or_default sums position c.index-sums-position.result d inside)))
+          (cases_lt k position);
     })
+
+pub returns-clause-means : goal.returns-clause-means
+returns-clause-means c = λ entry are k l.
+    let sums = c.add_bins.new.sums in
+    let d = c.none-sums.result in
+    c.loop-position.invariant.means k d (omega arith)
+    ∙ mean_or-same (total (get_or sums k d)) (entry_sums entry c.args.bins.now k)
+    (get_or c.args.colors.now k [])
+    (λ j. c.add_bins.ensures.sums entry are k j d (omega (arith, l, c.requires.few)))

@@ -1,16 +1,16 @@
 use Rattle.std.proofs.Common.{◌≡◌, ℕ, ◌+◌, ◌<◌, ◌≤◌, length, get_or, map, ap, sym, ◌∙◌}
 use Rattle.std.proofs.Common.{arith}
 use Rattle.std.specs.List.{All}
+use Rattle.std.proofs.lemmas.List.{length-map}
 use Rattle.std.proofs.lemmas.Simd.{map-map}
 use Rattle.sixel_palette.specs.Palette.{IsShown}
-use Rattle.sixel_palette.specs.Refined.{register_color, summed_error}
+use Rattle.sixel_palette.specs.Refined.{base_entries, cut_entries, register_color, summed_error}
 use Rattle.sixel_palette.specs.inside.PaletteCodes.{IsListed, color_of}
 use Rattle.sixel_palette.specs.inside.PaletteCounts.{counted_error}
-use Rattle.sixel_palette.proofs.PaletteChoices.{members_from_codes, size_from_codes, three_from_shown, IsColor-shown}
+use Rattle.sixel_palette.proofs.PaletteChoices.{members_from_codes, IsColor-shown}
 use Rattle.sixel_palette.proofs.PaletteCounts.{weighed_from_counts, error_from_counts}
-use Rattle.sixel_palette.proofs.PaletteCounts.{error-small, squares_mapped}
+use Rattle.sixel_palette.proofs.PaletteCounts.{error-small, pixels_from_counts, squares_mapped}
 use Rattle.sixel_palette.proofs.PaletteRefined.{nearest_entry-lt, bound_of_shown}
-use Rattle.sixel_palette.proofs.PaletteSize.{one_size}
 use Rattle.sixel_palette.proofs.PaletteTops.{near_listed, tops_alike, tops_fall, tops_longer}
 use Rattle.sixel_palette.proofs.PaletteTops.{tops_none, tops_occur}
 use Rattle.sixel_palette.proofs.palette.refined.palette_of_counts.Goals as goal
@@ -54,6 +54,7 @@ returns c =
     let first : counted_error initial codes counts ≡ summed_error initial pixels =
     error_from_counts initial pixels codes counts bytes c.requires.counts in
     let base = c.in_ok-start.start.assignment.colors.items in
+    let same_pixels = pixels_from_counts pixels codes counts bytes c.requires.counts in
     let top = c.in_ok-topped.ensures.top in
     let some : 0 < length colors =
     omega (
@@ -74,22 +75,29 @@ returns c =
     record {
       shown = c.in_ok-topped.ensures.shown;
       few = c.in_ok-topped.ensures.few;
-      whole = λ n s l.
-          let e : n ≡ length codes =
-          one_size (IsShown pixels) (IsShown pixels) (λ x y. y) (λ x y. y)
-          (three_from_shown pixels) n (length codes) s
-          (size_from_codes (IsShown pixels) codes c.requires.ascending c.requires.shown
-          c.requires.listed) in
-          let start_whole = start.whole (omega arith) in (
-            map color_of codes,
-            members_from_codes (IsShown pixels) codes c.requires.ascending c.requires.shown
-                c.requires.listed,
+      members = map color_of codes;
+      are =
+          members_from_codes (IsShown pixels) codes c.requires.ascending c.requires.shown
+          c.requires.listed;
+      whole = λ l.
+          let w = start.whole (omega (arith, l, length-map codes color_of)) in
+          let members : map (λ code. register_color (color_of code)) codes
+          ≡ map register_color (map color_of codes) = sym (map-map register_color color_of codes) in (
+            w.0 ∙ members,
             tops_none (IsShown pixels) c.args.room base colors topped.witnesses.items
                 (λ d m.
-                rw start_whole
+                rw w.1
                 (near_listed codes d (IsColor-shown pixels d bytes m) (c.requires.shown d m)))
                 shown
-                ∙ start_whole ∙ sym (map-map register_color color_of codes),
+                ∙ w.1 ∙ members,
+          );
+      base = base;
+      cut = λ l.
+          let w =
+          rw c.deref-counts.ensures.value at
+          (start.cut (omega (arith, l, length-map codes color_of))) in (
+            w.0 ∙ ap (λ p. cut_entries p c.args.room) same_pixels,
+            w.1 ∙ ap (λ p. base_entries p c.args.room) same_pixels,
           );
       indices =
           c.in_ok-indices.ensures colors squares
@@ -111,8 +119,6 @@ returns c =
           );
       initial_shown = start.initial_shown;
       initial_few = start.initial_few;
-      base = base;
-      size = start.size;
       top = shown;
       witnesses = occur;
       apart = apart;

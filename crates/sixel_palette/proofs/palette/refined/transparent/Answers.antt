@@ -16,15 +16,15 @@ returns c = λ room.
     record {
       shown = rw colors (All-nil IsRegisterColor);
       few = omega (arith, ap length colors);
-      whole = λ m s l. (
-        [],
-        record {
-          all = All-nil (IsShown pixels);
-          complete = λ d h. absurd (c.requires d h);
-          ascending = λ i j d l m. absurd (omega arith);
-        },
-        colors,
-      );
+      members = [];
+      are = record {
+        all = All-nil (IsShown pixels);
+        complete = λ d h. absurd (c.requires d h);
+        ascending = λ i j d l m. absurd (omega arith);
+      };
+      whole = λ l. (initial, colors);
+      base = [];
+      cut = λ l. absurd (omega arith);
       indices = record {
         one_each = omega (arith, c.in_ok-vec.ensures.len);
         opaque = λ pixel l o. absurd (c.requires (color_at pixels pixel) (pixel, l, o, refl));
@@ -36,8 +36,6 @@ returns c = λ room.
       falls = omega (arith, error_none c.new.result.items pixels c.requires);
       initial_shown = rw initial (All-nil IsRegisterColor);
       initial_few = omega (arith, ap length initial);
-      base = [];
-      size = sym (ap length initial);
       top = record {
         tops = [];
         whole = colors;

@@ -13,5 +13,6 @@ returns c = λ room few.
       shown = rw same initial.shown;
       size = rw same refl;
       falls = rw same (omega arith);
-      whole = λ _. same ∙ initial.same;
+      whole = λ _. (initial.same, same ∙ initial.same);
+      cut = λ more. absurd (omega (arith, few, more));
     }

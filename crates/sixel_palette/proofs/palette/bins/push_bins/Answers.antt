@@ -1,0 +1,100 @@
+use Rattle.std.proofs.Common.{◌≡◌, refl, get_or, length, sym, ◌∙◌, arith}
+use Rattle.std.proofs.lemmas.List.{nil_from_length}
+use Rattle.std.proofs.lemmas.List.Sums.{sum_by_more, sum_by_more_le, sum_by-take-le, get_or-le-sum_by}
+use Rattle.sixel_palette.specs.GainCut.{corner}
+use Rattle.sixel_palette.specs.inside.PaletteCodes.{color_of}
+use Rattle.sixel_palette.specs.inside.PaletteSums.{counted_pixels}
+use Rattle.sixel_palette.proofs.PaletteBins.{counted_more, counted_none, red-le, table_none, whole_bins}
+use Rattle.sixel_palette.proofs.PaletteBoxes.{weighed-sum}
+use Rattle.sixel_palette.proofs.PaletteLists.{increasing-le}
+use Rattle.sixel_palette.proofs.palette.bins.push_bins.Goals as goal
+
+pub of-sums-requires : goal.of-sums-requires
+of-sums-requires c =
+    let counts = c.args.counts.now in
+    omega (
+      arith,
+      get_or-le-sum_by (λ n. n) counts c.loop-index.index 0
+          (omega (arith, c.requires.weighed.same)),
+      weighed-sum c.args.codes.now counts c.requires.weighed,
+    )
+
+pub add_color-requires-clause-few : goal.add_color-requires-clause-few
+add_color-requires-clause-few c =
+    let counts = c.args.counts.now in
+    omega (
+      arith,
+      sum_by_more_le (λ n. n) counts c.loop-index.index 0 (omega (arith, c.requires.weighed.same)),
+      weighed-sum c.args.codes.now counts c.requires.weighed,
+      c.loop-index.invariant.pixels,
+      c.of-sums.ensures.count,
+    )
+
+pub returns-clause-few : goal.returns-clause-few
+returns-clause-few c =
+    let counts = c.args.counts.now in
+    omega (
+      arith,
+      sum_by-take-le (λ n. n) counts c.loop-index.index,
+      weighed-sum c.args.codes.now counts c.requires.weighed,
+      c.loop-index.invariant.pixels,
+    )
+
+pub add_color-requires-clause-table : goal.add_color-requires-clause-table
+add_color-requires-clause-table c =
+    rw c.color_of-color.ensures
+    (c.loop-index.invariant.table c.loop-index.index (omega arith) (omega arith))
+
+pub loop-index-init : goal.loop-index-init
+loop-index-init c =
+    let none = nil_from_length c.args.bins.now.items c.requires.none in
+    rw none (record {
+      positions = c.requires.positions;
+      pixels = refl;
+      sums = λ contains k. sym (counted_none c.args.codes.now c.args.counts.now contains k);
+      table = λ k l m. table_none c.args.positions.now _;
+      distinct = λ i j l m. absurd (omega arith);
+    })
+
+pub loop-index-preserved : goal.loop-index-preserved
+loop-index-preserved c =
+    let codes = c.args.codes.now in
+    let counts = c.args.counts.now in
+    let index = c.loop-index.index in
+    let h = c.loop-index.invariant in
+    let color = color_of (get_or codes index 0) in
+    let added = c.in_ok-add_color.ensures in
+    record {
+      positions = omega (arith, added.positions, h.positions);
+      pixels =
+          omega (
+            arith,
+            added.pixels,
+            h.pixels,
+            c.of-sums.ensures.count,
+            sum_by_more (λ n. n) counts index 0 (omega (arith, c.requires.weighed.same)),
+          );
+      sums = λ contains k.
+          added.sums contains k
+          ∙ rw (h.sums contains k, c.of-sums.ensures.sums k, c.color_of-color.ensures)
+          (sym (counted_more codes counts index contains k));
+      table = λ k l m.
+          added.table (get_or (corner (color_of (get_or codes k 0))) 0 0)
+          (rw c.color_of-color.ensures
+          (red-le (get_or codes index 0) (get_or codes k 0)
+          (increasing-le codes c.requires.ascending index k (omega arith) m)))
+          (h.table k (omega arith) m);
+      distinct =
+          (added.table (get_or (corner color) 0 0) (rw c.color_of-color.ensures (omega arith))
+          (h.table index (omega arith) (omega arith))).distinct;
+    }
+
+pub returns-clause-bins : goal.returns-clause-bins
+returns-clause-bins c = λ contains k.
+    let all : c.loop-index.index ≡ length c.args.codes.now = omega arith in
+    rw all at (c.loop-index.invariant.sums contains k)
+
+pub returns-clause-whole : goal.returns-clause-whole
+returns-clause-whole c =
+    whole_bins (counted_pixels c.args.codes.now c.args.counts.now) c.loop-index.bins.items
+    (returns-clause-bins c) c.loop-index.invariant.distinct

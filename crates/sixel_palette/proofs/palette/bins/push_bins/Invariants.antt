@@ -1,0 +1,24 @@
+use Rattle.std.proofs.Common.{◌≡◌, ℕ, Bool, List, [], ◌<◌, ◌≤◌, false, get_or, length, take}
+use Rattle.std.specs.List.{sum}
+use Rattle.sixel_palette.specs.ColorSums.{sums_of}
+use Rattle.sixel_palette.specs.GainCut.{corner}
+use Rattle.sixel_palette.specs.Lloyd.{is_corner}
+use Rattle.sixel_palette.specs.inside.PaletteBins.{IsTable, corners_of}
+use Rattle.sixel_palette.specs.inside.PaletteBoxes.{binned_pixels}
+use Rattle.sixel_palette.specs.inside.PaletteCodes.{color_of}
+use Rattle.sixel_palette.specs.inside.PaletteSums.{binned_sums, first_counted}
+use Rattle.sixel_palette.proofs.palette.bins.push_bins.Given as goal
+
+abbrev pub invariant-loop-index : goal.invariant-loop-index
+invariant-loop-index l = record {
+  positions : length l.positions ≡ 4096;
+  pixels : binned_pixels l.bins.items ≡ sum (take l.index l.counts);
+  sums : (contains : List ℕ → Bool) (k : ℕ) → binned_sums contains l.bins.items k
+      ≡ sums_of (first_counted l.codes l.counts l.index) (λ c. contains (corner c)) k;
+  table : (k : ℕ) → l.index ≤ k → k < length l.codes
+      → IsTable (corners_of l.bins.items) l.positions
+      (get_or (corner (color_of (get_or l.codes k 0))) 0 0);
+  distinct : (i j : ℕ) → i < j → j < length (corners_of l.bins.items)
+      → is_corner (get_or (corners_of l.bins.items) i []) (get_or (corners_of l.bins.items) j [])
+      ≡ false;
+}

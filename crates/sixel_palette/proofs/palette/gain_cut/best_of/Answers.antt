@@ -1,0 +1,53 @@
+use Rattle.std.proofs.Common.{◌≡◌, ℕ, ◌+◌, ◌-◌, ◌<◌, inl, inr, get_or, length, refl, ap, arith}
+use Rattle.std.proofs.lemmas.List.{get_or_default}
+use Rattle.sixel_palette.specs.declared.palette.gain_cut.Channel.TheVariants.{Red}
+use Rattle.sixel_palette.specs.declared.palette.gain_cut.ColorBox.{ColorBox}
+use Rattle.sixel_palette.proofs.PaletteCutBoxes.{first_greatest-next}
+use Rattle.sixel_palette.proofs.palette.gain_cut.best_of.Goals as goal
+use Rattle.sixel_palette.proofs.palette.gain_cut.best_of.Goals.{then-boxes-best, else-boxes-best}
+use Rattle.sixel_palette.specs.GainCut.{first_greatest}
+
+pub loop-position-init : goal.loop-position-init
+unfolding first_greatest
+loop-position-init c = record { within = omega (arith, c.requires); first = λ d. refl }
+
+pub loop-position-preserved : goal.loop-position-preserved
+loop-position-preserved c =
+    let boxes = c.args.boxes.now in
+    let best = c.loop-position.best in
+    let position = c.loop-position.position in
+    let h = c.loop-position.invariant in
+    let none : ColorBox = record {
+      start = 0;
+      end = 0;
+      cut = record { channel = Red; value = 0; gain = 0 };
+    } in
+    let same : (k : ℕ) (d : ColorBox) → k < length boxes
+    → (get_or boxes k d).cut.gain ≡ (get_or boxes k none).cut.gain =
+    λ k d l. ap (λ (b : ColorBox). b.cut.gain) (get_or_default boxes k d none l) in
+    let f : ColorBox → ℕ → ℕ = λ d k. (get_or boxes k d).cut.gain in
+    let here : position < length boxes = c.loop-position-test.true in
+    elim c.if-boxes-best.branch [
+      | then-boxes-best w ↦
+          rw w.best-is (record {
+            within = here;
+            first = λ d.
+                first_greatest-next (f d) position best position (omega arith) (h.first d)
+                (inl
+                (omega (arith, same best d h.within, same position d here, w.if-boxes-best.true), refl));
+          })
+      | else-boxes-best w ↦
+          rw w.best-is (record {
+            within = h.within;
+            first = λ d.
+                first_greatest-next (f d) position best best (omega arith) (h.first d)
+                (inr
+                (omega (arith, same best d h.within, same position d here, w.if-boxes-best.false), refl));
+          })
+    ]
+
+pub returns-clause-first : goal.returns-clause-first
+returns-clause-first c = λ d.
+    let all : c.loop-position.position ≡ length c.args.boxes.now =
+    omega (arith, c.requires, c.loop-position-test.false, c.loop-position.auto.position-end) in
+    rw all at (c.loop-position.invariant.first d)

@@ -1,0 +1,56 @@
+use Rattle.std.proofs.Common.{◌≡◌, ℕ, ◌<◌, ◌≤◌, [], ◌∷◌, ◌++◌, true, List, length, get_or, map, sym, ⊎_elim}
+use Rattle.std.proofs.Common.{◌∙◌, arith}
+use Rattle.std.proofs.lemmas.Bool.{cases_lt}
+use Rattle.std.proofs.lemmas.List.{get_or-map, get_or_append_left, get_or_at, get_or_default}
+use Rattle.std.proofs.lemmas.List.{length-map, length_push, same_lists}
+use Rattle.std.proofs.lemmas.List.Elements.{All-push}
+use Rattle.sixel_base.specs.Color.{rgb}
+use Rattle.sixel_palette.specs.declared.palette.gain_cut.Channel.TheVariants.{Red}
+use Rattle.sixel_palette.specs.declared.palette.gain_cut.ColorBox.{ColorBox}
+use Rattle.sixel_palette.specs.ColorSums.{mean_or}
+use Rattle.sixel_palette.specs.GainCut.{Box, box_at, box_sums}
+use Rattle.sixel_palette.specs.Refined.{IsRegisterColor}
+use Rattle.sixel_palette.proofs.PaletteBoxes.{binned-part}
+use Rattle.sixel_palette.proofs.palette.gain_cut.box_colors.Goals as goal
+
+pub mean_of-requires : goal.mean_of-requires
+mean_of-requires c = binned-part c.args.bins.now _ _ c.requires.few
+
+pub loop-position-preserved : goal.loop-position-preserved
+loop-position-preserved c =
+    let colors = c.loop-position.colors.items in
+    let position = c.loop-position.position in
+    let mean = c.mean_of.result in
+    let h = c.loop-position.invariant in
+    let none : ColorBox = record {
+      start = 0;
+      end = 0;
+      cut = record { channel = Red; value = 0; gain = 0 };
+    } in
+    rw c.in_ok-push.ensures.items (record {
+      shown = All-push IsRegisterColor colors mean h.shown c.mean_of.ensures.shown;
+      size = omega (arith, length_push colors mean, h.size);
+      means = λ pixels model are k l.
+          ⊎_elim (λ (less : k < position).
+          get_or_append_left colors (mean ∷ []) [] k (omega (arith, less, h.size))
+          ∙ h.means pixels model are k less)
+          (λ (more : position ≤ k).
+          let e : position ≡ k = omega arith in
+          get_or_at colors mean [] [] k (omega (arith, e, h.size))
+          ∙ rw (← e)
+          (c.mean_of.ensures.mean pixels (box_at model position)
+          (are.bins_of position none (omega arith))))
+          (cases_lt k position);
+    })
+
+pub returns-clause-means : goal.returns-clause-means
+returns-clause-means c = λ pixels model are.
+    let colors = c.loop-position.colors.items in
+    let h = c.loop-position.invariant in
+    let f : Box → List ℕ = λ box. mean_or (box_sums pixels box) (rgb 0 0 0) in
+    same_lists colors (map f model) (omega (arith, h.size, are.size, length-map model f))
+    (λ k d l.
+    let inside : k < length model = omega (arith, l, h.size, are.size) in
+    get_or_default colors k d [] l
+    ∙ (h.means pixels model are k (omega (arith, l, h.size))
+    ∙ sym (get_or-map f model k (λ _. true) d inside)))

@@ -1,0 +1,29 @@
+use Rattle.std.proofs.Common.{◌≡◌, length, refl, arith}
+use Rattle.sixel_palette.proofs.PaletteCutBoxes.{boxes_cut}
+use Rattle.sixel_palette.proofs.palette.gain_cut.cut_in_two.Goals as goal
+
+pub returns-clause-boxes : goal.returns-clause-boxes
+returns-clause-boxes c = λ pixels model h.
+    let old = c.args.bins.now in
+    let new = c.divide-middle.new.bins in
+    let boxes = c.args.boxes.now.items in
+    let whole = c.index-whole.result.now in
+    let divided = c.divide-middle.ensures in
+    let first = c.box_of.ensures in
+    let rest = c.box_of-rest.ensures in
+    rw c.in_ok-push.ensures.items
+    (boxes_cut pixels old new boxes model c.args.position whole c.box_of.result c.box_of-rest.result
+    h c.requires.position c.index-whole.ensures (record {
+      size = omega (arith, c.divide-middle.auto.bins);
+      start = first.start;
+      middle = omega (arith, first.end, rest.start);
+      end = rest.end;
+      from = omega (arith, first.end, divided.from);
+      to = omega (arith, first.end, divided.to);
+      front = divided.front;
+      back = divided.back;
+      lower = rw first.end divided.lower;
+      upper = rw first.end divided.upper;
+      first_cut = λ p b are. first.cut p b (rw first.end at are);
+      second_cut = λ p b are. rest.cut p b (rw first.end at are);
+    }))

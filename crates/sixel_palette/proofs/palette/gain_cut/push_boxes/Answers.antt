@@ -1,0 +1,93 @@
+use Rattle.std.proofs.Common.{◌≡◌, ℕ, ◌+◌, ◌-◌, ◌<◌, ◌≤◌, [], ◌∷◌, ◌++◌, true, false, List, length, ap, refl}
+use Rattle.std.proofs.Common.{subst, sym, ◌∙◌, arith}
+use Rattle.std.specs.Prelude.{◌==◌, ◌≢◌}
+use Rattle.std.proofs.lemmas.Bool.Decides.{nat_tests}
+use Rattle.std.proofs.lemmas.List.{nil_from_length}
+use Rattle.std.proofs.lemmas.List.Sorted.{IsPermutation-refl, IsPermutation-trans}
+use Rattle.std.proofs.lemmas.List.Sorted.{sum_by-IsPermutation}
+use Rattle.sixel_palette.specs.declared.palette.gain_cut.ColorBox.{ColorBox}
+use Rattle.sixel_palette.specs.GainCut.{best_box, best_cut, box_at, boxes_after, cut_at, gain_at}
+use Rattle.sixel_palette.specs.GainCut.{is_final}
+use Rattle.sixel_palette.specs.inside.PaletteBoxes.{AreBoxes}
+use Rattle.sixel_palette.proofs.PaletteCutBoxes.{best_gain, best_of_boxes, boxes_final, boxes_more}
+use Rattle.sixel_palette.proofs.PaletteCutBoxes.{boxes_start}
+use Rattle.sixel_palette.proofs.palette.gain_cut.push_boxes.Goals as goal
+
+pub loop-count-init : goal.loop-count-init
+loop-count-init c =
+    let bins = c.args.bins.now in
+    let box = c.box_of.result in
+    let one : c.push.new.self.items ≡ box ∷ [] =
+    c.in_ok-push.ensures.items
+    ∙ ap (λ (xs : List ColorBox). xs ++ box ∷ []) (nil_from_length c.args.boxes.now.items c.requires.none) in
+    rw one (record {
+      boxes = refl;
+      ranges = λ k d l.
+          let e : k ≡ 0 = omega arith in
+          rw e
+          (record {
+            order = omega (arith, c.box_of.ensures.start);
+            within = omega (arith, c.box_of.ensures.end);
+          });
+      lower = omega (arith, c.box_of.auto.lower, c.requires.lower);
+      upper = omega (arith, c.box_of.auto.upper, c.requires.upper);
+      moved = IsPermutation-refl bins;
+      model = λ pixels are.
+          boxes_start pixels bins box c.box_of.ensures.start c.box_of.ensures.end
+          (c.box_of.ensures.cut pixels (λ _. true)) are;
+    })
+
+pub loop-count-preserved : goal.loop-count-preserved
+loop-count-preserved c =
+    let bins = c.loop-count.bins in
+    let boxes = c.loop-count.boxes.items in
+    let n = c.loop-count._count - 1 in
+    let h = c.loop-count.invariant in
+    let best = c.best_of-best.result in
+    let item = c.index.result.now in
+    let cut = c.in_ok-cut_in_two.ensures in
+    let some : 0 < length boxes = omega (arith, h.boxes) in
+    let next : c.loop-count._count + 1 - 1 ≡ n + 1 = omega arith in
+    let first = rw c.deref.ensures.value at (c.best_of-best.ensures.first item) in
+    record {
+      boxes = omega (arith, cut.one_more, h.boxes);
+      ranges = rw c.cut_in_two.auto.bins cut.ranges;
+      lower = omega (arith, c.cut_in_two.auto.lower, h.lower);
+      upper = omega (arith, c.cut_in_two.auto.upper, h.upper);
+      moved = IsPermutation-trans c.args.bins.now bins c.cut_in_two.new.bins h.moved cut.moved;
+      model = λ pixels are.
+          let model = boxes_after pixels n in
+          let old = h.model pixels are in
+          let gained : gain_at pixels model (best_box pixels model) ≡ item.cut.gain =
+          best_gain pixels bins boxes model best item old some first
+          (omega (arith, c.best_of-best.ensures.within, c.deref.ensures.len)) c.index.ensures in
+          let more : is_final pixels model ≡ false =
+          let positive : item.cut.gain ≢ 0 = c.if-index-eq0.false in
+          grind (arith, nat_tests, gained, positive) in
+          let place : best ≡ best_box pixels model =
+          first ∙ best_of_boxes pixels bins boxes model item old some in
+          rw (next, boxes_more pixels n more, ← place) (cut.boxes pixels model old);
+    }
+
+pub returns-after-loop-count-clause-boxes : goal.returns-after-loop-count-clause-boxes
+returns-after-loop-count-clause-boxes c = λ pixels are.
+    let all : c.loop-count._count ≡ c.args.room = omega arith in
+    rw (← all) (c.loop-count.invariant.model pixels are)
+
+pub returns-then-index-eq0-clause-boxes : goal.returns-then-index-eq0-clause-boxes
+returns-then-index-eq0-clause-boxes c = λ pixels are.
+    let bins = c.loop-count.bins in
+    let boxes = c.loop-count.boxes.items in
+    let n = c.loop-count._count - 1 in
+    let h = c.loop-count.invariant in
+    let model = boxes_after pixels n in
+    let old = h.model pixels are in
+    let item = c.index.result.now in
+    let first = rw c.deref.ensures.value at (c.best_of-best.ensures.first item) in
+    let gained : gain_at pixels model (best_box pixels model) ≡ item.cut.gain =
+    best_gain pixels bins boxes model c.best_of-best.result item old (omega (arith, h.boxes)) first
+    (omega (arith, c.best_of-best.ensures.within, c.deref.ensures.len)) c.index.ensures in
+    let final : is_final pixels model ≡ true =
+    let none : item.cut.gain ≡ 0 = c.if-index-eq0.true in
+    grind (arith, nat_tests, gained, none) in
+    rw (boxes_final pixels n (c.args.room - 1) (omega arith) final) old

@@ -1,0 +1,25 @@
+use Rattle.std.proofs.Common.{◌≡◌, ℕ, ◌<◌, get_or, length, ap, ◌∙◌, arith}
+use Rattle.sixel_palette.specs.Lloyd.{mean_bytes, nearest_index}
+use Rattle.sixel_palette.specs.inside.PaletteCodes.{color_of}
+use Rattle.sixel_palette.specs.inside.PaletteSums.{AreIndicesBy, total}
+use Rattle.sixel_palette.proofs.PaletteColors.{IsColor-color_of}
+use Rattle.sixel_palette.proofs.PaletteLloyd.{entry_of, moved_is, nearest_index-is}
+use Rattle.sixel_palette.proofs.PaletteRefined.{nearest_entry-lt}
+use Rattle.sixel_palette.proofs.palette.lloyd.moved_once.Goals as goal
+
+pub returns-clause-moved : goal.returns-clause-moved
+returns-clause-moved c = λ pixels are whole.
+    let colors = c.args.colors.now in
+    let codes = c.args.codes.now in
+    let bins = c.args.bins.now in
+    let indices = c.in_ok-traversal.traversal.indices.items in
+    let by : AreIndicesBy (entry_of colors) bins indices = λ k d l.
+    let color = color_of (get_or codes k 0) in
+    let inside : k < length codes = omega (arith, l, c.requires.size) in
+    nearest_index-is colors color _
+    (nearest_entry-lt colors color c.requires.some c.requires.shown
+    (IsColor-color_of (get_or codes k 0) (c.requires.small k 0 inside)))
+    (c.in_ok-traversal.ensures.relaxed k inside)
+    ∙ ap (nearest_index colors) (c.requires.means k d l) in
+    moved_is pixels colors c.in_ok-moved.moved.items bins are whole c.in_ok-moved.ensures.size
+    (c.in_ok-moved.ensures.means (entry_of colors) (rw c.deref.ensures.value by))
