@@ -67,12 +67,12 @@ class TestPrograms(ProgramTest):
             self.fails(words, b"#1~", error)
 
     def test_palette_file(self):
-        """Its pixels are the entries, of which the nearest one is drawn."""
+        """Its pixels are the entries, of which the nearest one is drawn. The last file counts."""
         with tempfile.NamedTemporaryFile() as file:
             for place, (palette, result) in vectors(HERE / "palettes.tsv"):
                 with self.subTest(place=place):
                     Path(file.name).write_bytes(bytes_of(palette))
-                    arguments = ["draw", "-d", "none", "-p", file.name]
+                    arguments = ["draw", "-p", "/missing", "-d", "none", "-p", file.name]
                     self.ends(arguments, b"P5 3 1 255\n\x10\xf0\x90", outcome(result))
 
     def test_memory(self):

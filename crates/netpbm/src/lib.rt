@@ -8,8 +8,6 @@ mod header;
 mod image;
 mod pam;
 mod raster;
-#[cfg(test)]
-mod tests;
 mod words;
 
 pub use error::NetpbmError;

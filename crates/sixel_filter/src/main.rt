@@ -8,8 +8,6 @@
 mod engine;
 mod filter;
 mod making;
-#[cfg(test)]
-mod tests;
 mod words;
 
 use engine::serve;

@@ -3,8 +3,6 @@
 
 mod fault;
 mod read;
-#[cfg(test)]
-mod tests;
 mod write;
 
 pub use fault::Fault;
