@@ -30,6 +30,9 @@ MEMORY = [
     ("encode 8190 8190 16", bytes(4), (1, b"", TOO_FEW)),
 ]
 
+# Kilobytes of address space: 2560 of the program, 3891 of the image of a low sixel, 8192 beside it.
+CALLS_MEMORY = 14_600
+
 # A folder of files of other programs, with expected.tsv, whose first line has the titles.
 SAMPLES = os.environ.get("SAMPLES")
 # The command that decodes a vector of these settings.
@@ -78,6 +81,13 @@ class TestPrograms(ProgramTest):
     def test_memory(self):
         for arguments, stdin, expected in MEMORY:
             self.ends(arguments.split(), stdin, expected, memory=200_000)
+
+    def test_session_memory(self):
+        """A session has no rows for bands without a set pixel above its only one."""
+        usual = (ROOT / "crates/sixel_allocations/stdout").read_bytes()
+        for program in builds_of("sixel_allocations"):
+            with self.subTest(program.name):
+                self.assertEqual(run(program, memory=CALLS_MEMORY), (0, usual, b""))
 
     @unittest.skipUnless(SAMPLES, "SAMPLES does not name a folder of samples")
     def test_samples(self):
