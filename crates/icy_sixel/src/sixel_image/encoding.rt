@@ -159,7 +159,8 @@ impl SixelImage {
     ///
     /// The palette is that of [`refine_palette`](crate::palette::refine_palette), of 1 to 256
     /// colors. Its colors are colors of registers, so a decoder shows the very palette. Without
-    /// dithering each opaque pixel has its nearest entry.
+    /// dithering each opaque pixel has its nearest entry. Colors of transparent pixels never affect
+    /// the output.
     ///
     /// ```rust
     /// let dither = Dither::Diffusion { strength: 6 };
@@ -180,6 +181,10 @@ impl SixelImage {
         ensures fault { FailsBy (palette_fault (image_value self.now) max_colors) result }
         ensures text { IfOk result (λ text.
             IsRefinedText (image_value self.now) max_colors dither form (string_bytes text)) }
+        ensures hidden { (other : Image) (bytes : List ℕ)
+            → shown_image other ≡ shown_image (image_value self.now)
+            → IsRefinedText other max_colors dither form bytes
+            → IfOk result (λ text. string_bytes text ≡ bytes) }
         ensures readable { OnOk result (CanRead new_decoder self.now.width self.now.height) }
     {
         encode_refined(alloc, &self.source(), max_colors, dither, form)
