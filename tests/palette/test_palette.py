@@ -22,6 +22,13 @@ LIBSIXEL = "sixel2png -i {file} -o - | convert png:- -depth 8 rgb:-"
 # ImageMagick 6 applies the palette of a SIXEL file only as it writes a format with a palette.
 IMAGEMAGICK = "convert six:{file} miff:- | convert miff:- -depth 8 rgb:-"
 
+# The summed errors of refined palettes of the pictures below, by the number of colors. They were
+# measured with this test on the library of November 2026, before the palette had a definition.
+ERRORS = {
+    "sky": {256: 136412, 64: 537342, 16: 2155383},
+    "rings": {256: 239394, 64: 1582324, 16: 6976510},
+    "grain": {256: 588373, 64: 1585122, 16: 3839259},
+}
 SMALLEST = "convert ppm:{file} png24:- | img2sixel -E size -d none -p {few}"
 
 
@@ -95,6 +102,18 @@ def image(rng):
         color = (rng.randrange(0, 256, step) for _ in range(3))
         pixels.append((*color, 127 if rng.random() < clear else 128))
     return width, pixels
+
+
+def pictures():
+    """Pictures of 96 x 64 pixels by name: a gradient, rings of color, and a grainy gradient."""
+    rng = random.Random(7)
+    places = list(itertools.product(range(64), range(96)))
+    sky = [(2 * row, 40 + 2 * column, 255 - row - column, 255) for row, column in places]
+    far = [(row - 30) ** 2 + (column - 50) ** 2 for row, column in places]
+    rings = [(it * 7 % 256, it // 9 % 256, 255 - it // 13 % 256, 255) for it in far]
+    grain = [(*(max(min(it + rng.randint(-24, 24), 255), 0) for it in color), 255)
+             for *color, _ in sky]
+    return {"sky": sky, "rings": rings, "grain": grain}
 
 
 def shown(colors, pixels, indices):
@@ -179,6 +198,18 @@ class PaletteTest(unittest.TestCase):
                 pairs = itertools.combinations(points, 2)
                 apart = min((distance(one, other) for one, other in pairs), default=0)
                 self.assertEqual(properties.apart, apart)
+
+    def test_error(self):
+        """The summed error of a refined palette is at most 1 % above the one measured."""
+        for (name, pixels), most in itertools.product(pictures().items(), (256, 64, 16)):
+            colors, witnesses = (ctypes.create_string_buffer(3 * 257) for _ in range(2))
+            found, properties = ctypes.create_string_buffer(len(pixels)), Refined()
+            with self.subTest(name, most=most):
+                call(
+                    "icysixel_refine_palette", pixels, 4 * len(pixels), most, colors, 257,
+                    witnesses, 257, found, len(pixels), ctypes.byref(properties),
+                )
+                self.assertLessEqual(100 * properties.error, 101 * ERRORS[name][most])
 
     def test_limits(self):
         """Palettes of 256 colors and of one, and an image without an opaque pixel."""

@@ -1,6 +1,6 @@
 -- The table of bins: a bin with more pixels, and one bin more.
 use Rattle.std.proofs.Common.{◌≡◌, ℕ, zero, suc, ◌+◌, ◌*◌, ◌<◌, ◌≤◌, Bool, true, false, List, [], ◌∷◌, ◌++◌}
-use Rattle.std.proofs.Common.{length, get_or, set, map, cond, inl, inr, refl, ap, ⊎_elim}
+use Rattle.std.proofs.Common.{length, get_or, set, cond, inl, inr, refl, ap, ⊎_elim}
 use Rattle.std.proofs.Common.{sym, ◌∙◌, arith}
 use Rattle.std.specs.List.{All, sum_by}
 use Rattle.std.specs.Prelude.{◌/◌, ◌⊎◌, ◌≢◌}

@@ -1,6 +1,6 @@
 -- Sums over codes and over pixels.
 use Rattle.std.proofs.Common.{◌≡◌, ℕ, zero, suc, ◌+◌, ◌*◌, ◌/◌, ◌<◌, ◌≤◌, List, []}
-use Rattle.std.proofs.Common.{◌∷◌, ◌++◌, length, get_or, take, set, map, replicate, refl, ap, sym}
+use Rattle.std.proofs.Common.{◌∷◌, length, get_or, take, set, map, replicate, refl, ap, sym}
 use Rattle.std.proofs.Common.{◌∙◌, ⊎_elim, arith}
 use Rattle.std.specs.Prelude.{nat_lt, if◌then◌else◌}
 use Rattle.std.proofs.Math.Nat.{mul-le-mul_left}
@@ -20,7 +20,7 @@ use Rattle.sixel_palette.specs.inside.PaletteAssignment.{IsWeighed}
 use Rattle.sixel_palette.specs.inside.PaletteNearest.{AreNearest}
 use Rattle.sixel_palette.proofs.PaletteColors.{color_of-rank}
 use Rattle.sixel_palette.proofs.PaletteFarthest.{code_from_listed}
-use Rattle.sixel_palette.proofs.PaletteNearest.{nearest-cap, nearest-push}
+use Rattle.sixel_palette.proofs.PaletteNearest.{nearest-cap}
 use Rattle.sixel_palette.proofs.PaletteShown.{IsColor-color_at}
 
 -- no numbers have the sum 0

@@ -2,7 +2,7 @@
 use Rattle.std.proofs.Common.{◌≡◌, ℕ, zero, suc, ◌+◌, ◌-◌, ◌<◌, ◌≤◌, Bool, true, false, cond, List}
 use Rattle.std.proofs.Common.{[], ◌∷◌, ◌++◌, length, get_or, set, take, drop, inl, inr, refl, ap, sym}
 use Rattle.std.proofs.Common.{⊎_elim, subst, ◌∙◌, arith}
-use Rattle.std.specs.Prelude.{◌≢◌, ◌⊎◌, ◌&&◌, nat_le, nat_lt, ◌==◌}
+use Rattle.std.specs.Prelude.{◌≢◌, ◌⊎◌, ◌&&◌, nat_le, nat_lt}
 use Rattle.std.specs.List.{sum_by}
 use Rattle.std.proofs.lemmas.Bool.{cases_eq, cases_lt}
 use Rattle.std.proofs.lemmas.Bool.Decides.{nat_tests}
@@ -17,7 +17,7 @@ use Rattle.sixel_palette.specs.ColorSums.{Pixels, sums_of}
 use Rattle.sixel_palette.specs.GainCut.{Box, above, below, best_box, best_cut, box_at, boxes_after}
 use Rattle.sixel_palette.specs.GainCut.{corner, cut_at, first_greatest, gain_at, is_final, side}
 use Rattle.sixel_palette.specs.inside.PaletteBoxes.{AreBoxes, IsRange, high_part, low_part, range_of}
-use Rattle.sixel_palette.specs.inside.PaletteSums.{AreBinsOf, binned_sums, channels, total}
+use Rattle.sixel_palette.specs.inside.PaletteSums.{AreBinsOf, channels, total}
 use Rattle.sixel_palette.proofs.PaletteCuts.{side-channels}
 
 -- ---- a list with one element replaced and one more

@@ -1,6 +1,6 @@
 -- The best cut of some bins along a channel, by the sums at each value.
-use Rattle.std.proofs.Common.{◌≡◌, ℕ, zero, suc, ◌+◌, ◌-◌, ◌*◌, ◌<◌, ◌≤◌, true, false, cond, List}
-use Rattle.std.proofs.Common.{[], ◌∷◌, ◌++◌, length, get_or, set, take, drop, inl, inr, refl, ap, sym}
+use Rattle.std.proofs.Common.{◌≡◌, ℕ, zero, suc, ◌+◌, ◌-◌, ◌<◌, ◌≤◌, true, false, cond, List}
+use Rattle.std.proofs.Common.{[], ◌∷◌, length, get_or, set, take, inl, inr, refl, ap, sym}
 use Rattle.std.proofs.Common.{replicate, ⊎_elim, ◌∙◌, arith}
 use Rattle.std.specs.Prelude.{nat_le, nat_lt}
 use Rattle.std.specs.List.{sum_by}
@@ -18,7 +18,7 @@ use Rattle.sixel_palette.specs.declared.palette.gain_cut.Channel.TheVariants.{Re
 use Rattle.sixel_palette.specs.declared.palette.gain_cut.Cut.{Cut}
 use Rattle.sixel_palette.specs.declared.palette.gain_cut.Sides.{Sides}
 use Rattle.sixel_palette.specs.ColorSums.{Pixels}
-use Rattle.sixel_palette.specs.GainCut.{Box, above, below, best_along, best_to, better, box_sums}
+use Rattle.sixel_palette.specs.GainCut.{Box, above, below, best_to, better, box_sums}
 use Rattle.sixel_palette.specs.GainCut.{cut_gain, gain, side}
 use Rattle.sixel_palette.specs.inside.PaletteBoxes.{AreGains, AreWithin, high_part, low_part}
 use Rattle.sixel_palette.specs.inside.PaletteSums.{AreBinsOf, channels, prefix_sums, suffix_sums}

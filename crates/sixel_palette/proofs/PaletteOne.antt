@@ -4,14 +4,14 @@ use Rattle.std.proofs.Common.{map, take, refl, ap, sym, subst, ⊎_elim, add-one
 use Rattle.std.specs.List.{All, AllPairs, Contains}
 use Rattle.std.proofs.lemmas.Bool.{cases_lt}
 use Rattle.std.proofs.lemmas.List.{length-append, length-map, take_all, take_more_same}
-use Rattle.sixel_palette.specs.Palette.{AreMembers, IsFarthest, IsShown, nearest, rank}
+use Rattle.sixel_palette.specs.Palette.{AreMembers, IsShown, rank}
 use Rattle.sixel_palette.specs.Refined.{AreOnTop, IsFarOff, IsRefined, base_entries, cut_entries}
 use Rattle.sixel_palette.specs.Refined.{opaque_pixels, register_color}
 use Rattle.sixel_palette.specs.declared.palette.refined.RefinedPalette.{RefinedPalette}
 use Rattle.sixel_palette.proofs.PaletteChoices.{IsColor-shown}
 use Rattle.sixel_palette.proofs.PaletteColors.{IsColor, same_from_rank}
 use Rattle.sixel_palette.proofs.PaletteLaw.{byte-get_or}
-use Rattle.sixel_palette.proofs.PaletteOrder.{farthest_alike, rank-farthest}
+use Rattle.sixel_palette.proofs.PaletteOrder.{rank-farthest}
 
 -- ---- the members of a set, in order
 

@@ -1,6 +1,6 @@
 -- Entries on top of others, each for a color that is far off.
 use Rattle.std.proofs.Common.{◌≡◌, ℕ, ◌*◌, ◌<◌, ◌≤◌, List, [], ◌∷◌, ◌++◌, length, get_or, map, take}
-use Rattle.std.proofs.Common.{◌-◌, inl, inr, append-nil, refl, ap, ◌∙◌, ⊎_elim, arith}
+use Rattle.std.proofs.Common.{◌-◌, inl, inr, append-nil, ap, ◌∙◌, ⊎_elim, arith}
 use Rattle.std.specs.Int.{abs_diff}
 use Rattle.std.specs.List.{All}
 use Rattle.std.proofs.lemmas.Bool.{cases_lt}
@@ -8,7 +8,7 @@ use Rattle.std.proofs.lemmas.List.{take-append-le, take_at, get_or_append_left, 
 use Rattle.std.proofs.lemmas.List.{length_push, length-append, get_or-map, length-map}
 use Rattle.std.proofs.lemmas.List.Elements.{All-push, All-nil}
 use Rattle.sixel_base.specs.Color.{byte_of}
-use Rattle.sixel_palette.specs.Palette.{IsFarthest, distance, nearest, square_gap}
+use Rattle.sixel_palette.specs.Palette.{distance, nearest, square_gap}
 use Rattle.sixel_palette.specs.Refined.{AreOnTop, IsFarOff, percentage, register_color}
 use Rattle.sixel_palette.specs.inside.PaletteCodes.{color_of, IsListed}
 use Rattle.sixel_palette.specs.inside.PaletteCounts.{counted_error, near_code}

@@ -1,4 +1,3 @@
-use Rattle.std.proofs.Common.{arith}
 use Rattle.sixel_palette.proofs.palette.assignment.searched.Goals as goal
 
 pub returns-clause-relaxed : goal.returns-clause-relaxed

@@ -1,11 +1,11 @@
-use Rattle.std.proofs.Common.{◌≡◌, ℕ, ◌<◌, ◌+◌, ◌*◌, List, [], ◌∷◌, ◌++◌, true, false, length, get_or, set, map, ap, refl}
+use Rattle.std.proofs.Common.{◌≡◌, ℕ, ◌<◌, ◌+◌, ◌*◌, [], true, false, length, get_or, set, ap, refl}
 use Rattle.std.proofs.Common.{sym, subst, ◌∙◌, arith}
 use Rattle.std.proofs.lemmas.List.{get_or-map, length-map, map_push, get_or_default}
 use Rattle.std.proofs.Math.Seq.{map-set_same}
 use Rattle.sixel_palette.specs.declared.palette.bins.Bin.{Bin}
 use Rattle.sixel_palette.specs.GainCut.{corner}
 use Rattle.sixel_palette.specs.Lloyd.{is_corner}
-use Rattle.sixel_palette.specs.inside.PaletteBins.{IsTable, cell, corners_of}
+use Rattle.sixel_palette.specs.inside.PaletteBins.{cell, corners_of}
 use Rattle.sixel_palette.specs.inside.PaletteSums.{total}
 use Rattle.sixel_palette.proofs.PaletteBins.{not_found, sums_more, table_more}
 use Rattle.sixel_palette.proofs.palette.bins.add_color.Goals as goal

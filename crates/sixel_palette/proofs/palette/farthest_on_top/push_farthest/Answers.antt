@@ -1,9 +1,7 @@
-use Rattle.std.proofs.Common.{ℕ, ◌≡◌, ◌<◌, ◌≤◌, [], ◌∷◌, ◌++◌, List, length, get_or, map, ap, sym, ◌∙◌}
-use Rattle.std.proofs.Common.{append_assoc, append-nil, ⊎_elim, inl, inr, arith}
-use Rattle.std.proofs.lemmas.Bool.{cases_lt}
+use Rattle.std.proofs.Common.{◌<◌, [], ◌∷◌, ◌++◌, length, get_or, map, ap, sym, ◌∙◌}
+use Rattle.std.proofs.Common.{append_assoc, append-nil, inl, inr, arith}
 use Rattle.std.proofs.lemmas.List.{get_or_read, length_push, map_push}
 use Rattle.std.proofs.lemmas.List.Elements.{All-push}
-use Rattle.sixel_palette.specs.Palette.{IsFarthest, nearest}
 use Rattle.sixel_palette.specs.Refined.{IsFarOff, IsRegisterColor, register_color}
 use Rattle.sixel_palette.specs.inside.PaletteCodes.{IsListed, color_of}
 use Rattle.sixel_palette.proofs.PaletteFarthest.{farthest_from_position}

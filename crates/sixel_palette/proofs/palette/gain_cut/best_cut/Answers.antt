@@ -1,8 +1,8 @@
-use Rattle.std.proofs.Common.{◌≡◌, ℕ, ◌+◌, ◌-◌, ◌<◌, get_or, length, ap, sym, ◌∙◌, refl, arith}
+use Rattle.std.proofs.Common.{◌≡◌, ℕ, ◌+◌, ◌<◌, length, ap, sym, ◌∙◌, arith}
 use Rattle.std.proofs.lemmas.List.Sums.{sum_by_more_le}
 use Rattle.sixel_palette.specs.declared.palette.gain_cut.Cut.{Cut}
 use Rattle.sixel_palette.specs.declared.palette.color_sums.ColorSums.{ColorSums}
-use Rattle.sixel_palette.specs.GainCut.{best_to, better, gain}
+use Rattle.sixel_palette.specs.GainCut.{best_to}
 use Rattle.sixel_palette.specs.inside.PaletteSums.{prefix_sums, suffix_sums, total}
 use Rattle.sixel_palette.proofs.PaletteCuts.{best_to-more, best_to-same, better-kept, better-taken}
 use Rattle.sixel_palette.proofs.PaletteCuts.{gain-same, no_totals, prefix-more, skipped}

@@ -1,4 +1,4 @@
-use Rattle.std.proofs.Common.{◌≡◌, ℕ, ◌+◌, take}
+use Rattle.std.proofs.Common.{◌≡◌, ℕ, ◌+◌}
 use Rattle.sixel_palette.specs.GainCut.{best_to}
 use Rattle.sixel_palette.specs.inside.PaletteBoxes.{AreGains}
 use Rattle.sixel_palette.specs.inside.PaletteSums.{prefix_sums, total}

@@ -1,4 +1,4 @@
-use Rattle.std.proofs.Common.{◌≡◌, length, refl, arith}
+use Rattle.std.proofs.Common.{arith}
 use Rattle.sixel_palette.proofs.PaletteCutBoxes.{boxes_cut}
 use Rattle.sixel_palette.proofs.palette.gain_cut.cut_in_two.Goals as goal
 

@@ -1,8 +1,6 @@
-use Rattle.std.proofs.Common.{◌≡◌, ℕ, ap, sym, ◌∙◌, arith}
-use Rattle.std.specs.List.{sum_by}
+use Rattle.std.proofs.Common.{◌≡◌, ℕ, ap, ◌∙◌, arith}
 use Rattle.std.proofs.lemmas.List.{take_all}
 use Rattle.std.proofs.lemmas.List.Sums.{sum_by_more, sum_by_more_le}
-use Rattle.sixel_base.specs.Color.{rgb}
 use Rattle.sixel_palette.specs.declared.palette.bins.Bin.{Bin}
 use Rattle.sixel_palette.specs.ColorSums.{mean_or}
 use Rattle.sixel_palette.specs.GainCut.{box_sums}

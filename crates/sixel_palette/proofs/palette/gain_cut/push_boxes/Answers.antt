@@ -1,14 +1,12 @@
-use Rattle.std.proofs.Common.{◌≡◌, ℕ, ◌+◌, ◌-◌, ◌<◌, ◌≤◌, [], ◌∷◌, ◌++◌, true, false, List, length, ap, refl}
-use Rattle.std.proofs.Common.{subst, sym, ◌∙◌, arith}
-use Rattle.std.specs.Prelude.{◌==◌, ◌≢◌}
+use Rattle.std.proofs.Common.{◌≡◌, ◌+◌, ◌-◌, ◌<◌, [], ◌∷◌, ◌++◌, true, false, List, length, ap, refl}
+use Rattle.std.proofs.Common.{◌∙◌, arith}
+use Rattle.std.specs.Prelude.{◌≢◌}
 use Rattle.std.proofs.lemmas.Bool.Decides.{nat_tests}
 use Rattle.std.proofs.lemmas.List.{nil_from_length}
 use Rattle.std.proofs.lemmas.List.Sorted.{IsPermutation-refl, IsPermutation-trans}
-use Rattle.std.proofs.lemmas.List.Sorted.{sum_by-IsPermutation}
 use Rattle.sixel_palette.specs.declared.palette.gain_cut.ColorBox.{ColorBox}
-use Rattle.sixel_palette.specs.GainCut.{best_box, best_cut, box_at, boxes_after, cut_at, gain_at}
+use Rattle.sixel_palette.specs.GainCut.{best_box, boxes_after, gain_at}
 use Rattle.sixel_palette.specs.GainCut.{is_final}
-use Rattle.sixel_palette.specs.inside.PaletteBoxes.{AreBoxes}
 use Rattle.sixel_palette.proofs.PaletteCutBoxes.{best_gain, best_of_boxes, boxes_final, boxes_more}
 use Rattle.sixel_palette.proofs.PaletteCutBoxes.{boxes_start}
 use Rattle.sixel_palette.proofs.palette.gain_cut.push_boxes.Goals as goal

@@ -1,10 +1,10 @@
-use Rattle.std.proofs.Common.{◌≡◌, ℕ, ◌<◌, ◌≤◌, [], ◌∷◌, ◌++◌, get_or, sym, ap, ⊎_elim, ◌∙◌, arith}
+use Rattle.std.proofs.Common.{◌≡◌, ◌<◌, ◌≤◌, [], ◌∷◌, ap, ⊎_elim, ◌∙◌, arith}
 use Rattle.std.proofs.lemmas.Bool.{cases_lt}
 use Rattle.std.proofs.lemmas.List.{get_or_append_left, get_or_at, get_or_default, length_push}
 use Rattle.std.proofs.lemmas.List.Elements.{All-push}
 use Rattle.sixel_palette.specs.declared.palette.bins.Bin.{Bin}
 use Rattle.sixel_palette.specs.Lloyd.{mean_bytes}
-use Rattle.sixel_palette.specs.inside.PaletteCodes.{code_count, color_of}
+use Rattle.sixel_palette.specs.inside.PaletteCodes.{code_count}
 use Rattle.sixel_palette.specs.inside.PaletteSums.{total}
 use Rattle.sixel_palette.proofs.palette.lloyd.mean_codes.Goals as goal
 

@@ -1,7 +1,7 @@
-use Rattle.std.proofs.Common.{◌≡◌, ℕ, ◌<◌, get_or, length, ap, ◌∙◌, arith}
-use Rattle.sixel_palette.specs.Lloyd.{mean_bytes, nearest_index}
+use Rattle.std.proofs.Common.{◌<◌, get_or, length, ap, ◌∙◌, arith}
+use Rattle.sixel_palette.specs.Lloyd.{nearest_index}
 use Rattle.sixel_palette.specs.inside.PaletteCodes.{color_of}
-use Rattle.sixel_palette.specs.inside.PaletteSums.{AreIndicesBy, total}
+use Rattle.sixel_palette.specs.inside.PaletteSums.{AreIndicesBy}
 use Rattle.sixel_palette.proofs.PaletteColors.{IsColor-color_of}
 use Rattle.sixel_palette.proofs.PaletteLloyd.{entry_of, moved_is, nearest_index-is}
 use Rattle.sixel_palette.proofs.PaletteRefined.{nearest_entry-lt}

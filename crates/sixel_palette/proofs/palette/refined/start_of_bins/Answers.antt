@@ -1,13 +1,10 @@
-use Rattle.std.proofs.Common.{◌≡◌, ℕ, ◌<◌, ◌≤◌, Bool, true, false, cond, List, length, ap, sym, ◌∙◌, arith}
-use Rattle.std.specs.List.{All}
+use Rattle.std.proofs.Common.{◌≡◌, ◌<◌, ◌≤◌, Bool, true, false, cond, length, ap, sym, ◌∙◌, arith}
 use Rattle.std.proofs.lemmas.List.Sorted.{All-permutation, sum_by-IsPermutation}
-use Rattle.sixel_base.specs.Limits.{area_limit}
 use Rattle.sixel_palette.specs.declared.palette.bins.Bin.{Bin}
 use Rattle.sixel_palette.specs.Lloyd.{improved_entries}
 use Rattle.sixel_palette.specs.Refined.{base_entries, cut_boxes, cut_entries}
 use Rattle.sixel_palette.specs.GainCut.{is_final}
-use Rattle.sixel_palette.specs.inside.PaletteBoxes.{binned_pixels}
-use Rattle.sixel_palette.specs.inside.PaletteSums.{AreBinsOf, IsWholeBin, counted_pixels}
+use Rattle.sixel_palette.specs.inside.PaletteSums.{IsWholeBin, counted_pixels}
 use Rattle.sixel_palette.proofs.PaletteSums.{bins_moved}
 use Rattle.sixel_palette.proofs.palette.refined.start_of_bins.Goals as goal
 use Rattle.sixel_palette.proofs.palette.refined.start_of_bins.Goals.{then-is_final+in_ok-assignment}

@@ -2,7 +2,6 @@ use Rattle.std.proofs.Common.{◌≡◌, ◌+◌, ◌*◌, ◌∷◌, [], refl, 
 use Rattle.std.specs.Prelude.{◌/◌, ◌%◌}
 use Rattle.sixel_palette.specs.Lloyd.{mean_bytes}
 use Rattle.sixel_palette.specs.inside.PaletteCodes.{color_of}
-use Rattle.sixel_palette.specs.inside.PaletteSums.{total}
 use Rattle.sixel_palette.proofs.palette.color_sums.ColorSums.mean_code.Goals as goal
 
 pub returns-then-self-eq0-clause-mean : goal.returns-then-self-eq0-clause-mean
