@@ -1,19 +1,21 @@
 //! Vectors of `sessions.tsv` and `receivers.tsv`: calls and their results.
 
+use crate::error::{Result, VectorError, ensure, ensure_found};
 use crate::notation::{bytes, color, push_error, push_fed, push_hexadecimal, push_outcome};
 use crate::session::{Owner, Session, begin, check_decoder, clip, settings};
-use anyhow::{Context, Result, bail, ensure};
 use icy_sixel::receiver::{Received, SixelReceiver};
 use icy_sixel::{SixelDecoder, SixelError};
 use std::alloc::Global;
 
 /// Checks a vector of `sessions.tsv`, by a session that borrows its decoder and by a receiver.
 pub fn write_session(alloc: Global, found: &mut String, columns: &[&str]) -> Result<()> {
-    let (start, calls) = columns.split_first().context("no settings")?;
+    let (start, calls) = columns
+        .split_first()
+        .ok_or(VectorError::Check("no settings"))?;
     let mut received = String::new(alloc);
     let decoder = run_owner(alloc, found, false, start, calls)?;
     let other = run_owner(alloc, &mut received, true, start, calls)?;
-    ensure!(received == *found, "receiver: {received}");
+    ensure_found(alloc, received == *found, &received)?;
     check_decoder(&other, &decoder)
 }
 
@@ -42,9 +44,9 @@ fn run(
     mut session: Session<'_>,
     calls: &[&str],
 ) -> Result<bool> {
-    let (end, feeds) = calls.split_last().context("no end")?;
+    let (end, feeds) = calls.split_last().ok_or(VectorError::Check("no end"))?;
     for feed in feeds.chunks(2) {
-        let chunk = feed.first().context("no chunk")?;
+        let chunk = feed.first().ok_or(VectorError::Check("no chunk"))?;
         write!(found, "\t{chunk}")?;
         push_received(found, session.feed(&bytes(alloc, chunk)?))?;
     }
@@ -80,7 +82,7 @@ fn make_all(
     columns: &[&str],
 ) -> Result<()> {
     for pair in columns.chunks(2) {
-        let call = pair.first().context("no call")?;
+        let call = pair.first().ok_or(VectorError::Check("no call"))?;
         write!(found, "\t{call}")?;
         make(alloc, found, receiver, call)?;
     }
@@ -113,10 +115,12 @@ fn set(receiver: &mut SixelReceiver, word: &str, argument: &str) -> Result<()> {
             receiver.set_clip(width, height);
         }
         "set" => {
-            let (register, value) = argument.split_once(' ').context("no color")?;
+            let (register, value) = argument
+                .split_once(' ')
+                .ok_or(VectorError::Check("no color"))?;
             receiver.set_register(register.parse::<u8>()?, color(value)?);
         }
-        _ => bail!("no call"),
+        _ => return Err(VectorError::Check("no call")),
     }
     Ok(())
 }
@@ -125,7 +129,7 @@ fn set(receiver: &mut SixelReceiver, word: &str, argument: &str) -> Result<()> {
 fn push_register(found: &mut String, receiver: &SixelReceiver, register: &str) -> Result<()> {
     let register = register.parse::<u8>()?;
     let color = receiver.register(register);
-    ensure!(receiver.decoder().register(register) == color, "decoder");
+    ensure(receiver.decoder().register(register) == color, "decoder")?;
     found.push('\t')?;
     push_hexadecimal(found, &color)
 }
@@ -133,16 +137,16 @@ fn push_register(found: &mut String, receiver: &SixelReceiver, register: &str) -
 /// Writes whether an image is open, and its size so far.
 fn push_state(found: &mut String, receiver: &mut SixelReceiver) -> Result<()> {
     let size = receiver.size_so_far();
-    ensure!(receiver.in_payload() == size.is_some(), "payload");
+    ensure(receiver.in_payload() == size.is_some(), "payload")?;
     match (receiver.is_receiving(), size) {
         (true, Some((width, height))) => write!(found, "\t{width}x{height}")?,
         (true, None) => found.push_str("\theader")?,
         (false, _) => {
             let failed = Some(SixelError::InvalidData("stream decoder has failed"));
             let paints = receiver.canvas_paints();
-            ensure!(size.is_none() && paints == 0, "size or work");
-            ensure!(receiver.feed(b"~").err() == failed, "feed");
-            ensure!(receiver.finish().err() == failed, "finish");
+            ensure(size.is_none() && paints == 0, "size or work")?;
+            ensure(receiver.feed(b"~").err() == failed, "feed")?;
+            ensure(receiver.finish().err() == failed, "finish")?;
             found.push_str("\tidle")?;
         }
     }

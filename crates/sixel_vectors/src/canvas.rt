@@ -2,9 +2,9 @@
 
 ghost use Rattle.std.specs.Prelude.{◌<◌};
 
+use crate::error::{Result, VectorError, ensure};
 use crate::notation::{bytes, numbers, rgba, size};
 use crate::session::{Form, Owner, Session, settings};
-use anyhow::{Context, Result, bail, ensure};
 use icy_sixel::canvas::{Row, fill_rgba_span};
 use icy_sixel::{SixelDecoder, SixelStreamDecoder};
 use std::alloc::Global;
@@ -13,7 +13,9 @@ use std::alloc::Global;
 pub fn write_row(alloc: Global, found: &mut String, columns: &[&str]) -> Result<()> {
     let mut row = Row::new(alloc, [0, 0, 0, 255]);
     for column in columns {
-        let (reached, _) = column.split_once(' ').context("no counts")?;
+        let (reached, _) = column
+            .split_once(' ')
+            .ok_or(VectorError::Check("no counts"))?;
         row.reach(reached.parse::<usize>()?.min(1_000_000))?;
         row.paint(0, row.len(), [255, 0, 0, 255]);
         let (pixels, capacity, writes) = (row.len(), row.room(), row.writes());
@@ -26,7 +28,7 @@ pub fn write_row(alloc: Global, found: &mut String, columns: &[&str]) -> Result<
 pub fn check_spans(alloc: Global, [lengths, offsets, color]: [&str; 3]) -> Result<()> {
     let (lengths, offsets) = (numbers(alloc, lengths)?, numbers(alloc, offsets)?);
     let ([first, last], [low, high]) = (lengths.as_slice(), offsets.as_slice()) else {
-        bail!("no lengths and offsets");
+        return Err(VectorError::Check("no lengths and offsets"));
     };
     for length in *first..=*last {
         for offset in *low..=*high {
@@ -48,7 +50,7 @@ fn check_span(alloc: Global, length: usize, offset: usize, color: [u8; 4]) -> Re
         } else {
             9
         };
-        ensure!(*byte == expected, "byte {index} of {length}");
+        ensure(*byte == expected, "byte of a span")?;
     }
     Ok(())
 }
@@ -108,7 +110,7 @@ impl Work {
         requires { 0 < length }
     {
         session.feed(&self.before)?;
-        ensure!(session.is_idle(), "work before the payload");
+        ensure(session.is_idle(), "work before the payload")?;
         let (mut fed, mut sixels) = (0_usize, 0_u64);
         for chunk in self.payload.chunks(length) {
             session.feed(chunk)?;
@@ -121,12 +123,12 @@ impl Work {
             let least = if is_bounded { most / 3 } else { 0 };
             let (writes, paints) = session.work();
             let writes = writes.unwrap_or(least);
-            ensure!((least..=most).contains(&writes), "{writes} writes");
+            ensure((least..=most).contains(&writes), "writes")?;
             let most_paints = most.saturating_add(sixels.saturating_mul(4602));
-            ensure!(paints <= most_paints, "{paints} paints");
+            ensure(paints <= most_paints, "paints")?;
         }
         session.feed(b"\x9c")?;
-        ensure!(session.finish()?.dimensions() == self.size, "size");
+        ensure(session.finish()?.dimensions() == self.size, "size")?;
         Ok(())
     }
 
@@ -136,7 +138,7 @@ impl Work {
         let writes = session.canvas_writes();
         let (image, counted) = session.finish_counted()?;
         let packed = (image.pixels.len() / 4) as u64;
-        ensure!(counted.checked_sub(writes) == Some(packed), "counted");
+        ensure(counted.checked_sub(writes) == Some(packed), "counted")?;
         Ok(())
     }
 }

@@ -1,9 +1,9 @@
 //! Bytes that are decoded at once and in chunks, which never change what comes of them.
 
+use crate::error::{Result, ensure, ensure_found};
 use crate::notation::{bytes, push_error, push_fed, push_outcome, word};
 use crate::random::Random;
 use crate::session::{Form, Owner, Session, check_decoder, settings};
-use anyhow::{Result, ensure};
 use icy_sixel::receiver::Received;
 use icy_sixel::script::Status;
 use icy_sixel::{SixelDcsFeedStatus, SixelDecoder, SixelError};
@@ -66,8 +66,8 @@ impl Input {
             (_, None) => format!(in alloc; "\t{len} more")?,
         };
         let is_end = output.text.starts_with(end.as_str()) || output.is_rejected();
-        ensure!(is_end, "{}", output.text);
-        ensure!(output.text.ends_with(found.as_str()), "{}", output.text);
+        let is_same = output.text.ends_with(found.as_str());
+        ensure_found(alloc, is_end && is_same, &output.text)?;
         check_decoder(&decoder, &output.after)?;
         Ok((output, area))
     }
@@ -104,7 +104,7 @@ impl Input {
         for is_receiver in [false, true] {
             let owner = Owner::new(&self.start, is_receiver)?;
             let other = self.play(alloc, owner, lengths, output.count)?;
-            ensure!(output.text == other.text, "{}", other.text);
+            ensure_found(alloc, output.text == other.text, &other.text)?;
             check_decoder(&other.after, &output.after)?;
         }
         Ok(())
@@ -139,7 +139,7 @@ impl Input {
             let (chunk, after) = rest.split_at((*length).min(rest.len()));
             match session.feed(chunk) {
                 Ok(fed) => {
-                    ensure!(follows(status, chunk, fed), "{fed:?} after byte {count}");
+                    ensure(follows(status, chunk, fed), "status of a feed")?;
                     (count, status) = (count.saturating_add(fed.consumed), fed.status);
                 }
                 Err(error) => {
@@ -164,10 +164,10 @@ impl Input {
             Form::Payload(_) => "stream decoder has failed",
             Form::Dcs => "DCS stream decoder has failed",
         }));
-        ensure!(session.feed(b"").err() == failed, "an empty feed");
-        ensure!(session.feed(&self.bytes).err() == failed, "a feed");
-        ensure!(session.is_idle(), "work");
-        ensure!(session.finish().err() == failed, "finish");
+        ensure(session.feed(b"").err() == failed, "an empty feed")?;
+        ensure(session.feed(&self.bytes).err() == failed, "a feed")?;
+        ensure(session.is_idle(), "work")?;
+        ensure(session.finish().err() == failed, "finish")?;
         Ok(())
     }
 }
@@ -194,11 +194,11 @@ fn follows(before: Status, chunk: &[u8], fed: Received) -> bool {
     }
 }
 
-/// Random lengths of 1 to 97 bytes, an empty chunk after each.
+/// Lengths of 1 to 97 bytes by a seed, an empty chunk after each.
 fn uneven(alloc: Global, seed: u32, len: usize) -> Result<Vec<usize>> {
     let (mut lengths, mut random) = (Vec::new(alloc), Random::new(seed));
     for _ in 0..=len / 8 {
-        lengths.extend_from_slice(&[random.below(97).saturating_add(1), 0])?;
+        lengths.extend_from_slice(&[1 + (random.next() % 97) as usize, 0])?;
     }
     Ok(lengths)
 }

@@ -2,10 +2,10 @@
 //! `aborts.tsv`.
 
 use crate::chunks::Input;
+use crate::error::{Result, ensure, ensure_found};
 use crate::notation::{Outcome, bytes, push_outcome};
 use crate::random::Random;
 use crate::session::{Form, Owner, Session, check_decoder};
-use anyhow::{Context, Result, ensure};
 use icy_sixel::{SixelDecoder, SixelImage, sixel_decode, sixel_decode_from_dcs};
 use std::alloc::Global;
 
@@ -56,8 +56,7 @@ pub fn check_outcome(alloc: Global, expected: &str, outcome: &Outcome) -> Result
         Ok(image) => push_outcome(&mut found, &image.clone(alloc))?,
         Err(_) => push_outcome(&mut found, outcome)?,
     }
-    ensure!(found.as_str() == expected, "{found}");
-    Ok(())
+    ensure_found(alloc, found.as_str() == expected, &found)
 }
 
 /// Checks a vector of `strings.tsv`.
@@ -66,7 +65,7 @@ pub fn write_string(alloc: Global, found: &mut String, text: &str) -> Result<()>
     let (output, mut decoded) = (input.feed(alloc)?, String::new(alloc));
     let (decoder, area) = input.decode(alloc, &mut decoded)?;
     if !output.is_rejected() && !output.text.contains(" more\t") {
-        ensure!(output.text.ends_with(decoded.as_str()), "at once{decoded}");
+        ensure_found(alloc, output.text.ends_with(decoded.as_str()), &decoded)?;
         check_decoder(&decoder, &output.after)?;
     }
     input.check_chunks(alloc, area, &output)?;
@@ -87,7 +86,7 @@ pub fn check_controls(alloc: Global, columns: [&str; 5]) -> Result<()> {
                 input.bytes = [&before, left, &[control], right, &after].concat(alloc)?;
                 let mut found = String::new(alloc);
                 input.check_whole(alloc, &mut found)?;
-                ensure!(found.trim_start() == image, "{control}:{found}");
+                ensure_found(alloc, found.trim_start() == image, &found)?;
             }
         }
     }
@@ -113,15 +112,13 @@ pub fn check_tokens(alloc: Global, [settings, count, text]: [&str; 3]) -> Result
     let tokens: Vec<&str> = text.split(' ').collect(alloc)?;
     let mut input = Input::parse(alloc, settings, "")?;
     let mut random = Random::new(1);
-    for number in 0..count.parse::<usize>()? {
+    for _ in 0..count.parse::<usize>()? {
         input.bytes = Vec::new(alloc);
         for _ in 0..random.below(61) {
             let token = tokens.get(random.below(tokens.len())).unwrap_or(&"");
             input.bytes.extend_from_slice(token.as_bytes())?;
         }
-        input
-            .check_whole(alloc, &mut String::new(alloc))
-            .with_context(|| number)?;
+        input.check_whole(alloc, &mut String::new(alloc))?;
     }
     Ok(())
 }
@@ -136,7 +133,7 @@ pub fn check_aborts(alloc: Global, [settings, count, text]: [&str; 3]) -> Result
     let (after, _) = input.decode(alloc, &mut String::new(alloc))?;
     for register in 0..=255 {
         let is_defined = after.register(register) != input.start.register(register);
-        ensure!(is_defined, "register {register} is not defined");
+        ensure(is_defined, "register that is not defined")?;
     }
     Ok(())
 }

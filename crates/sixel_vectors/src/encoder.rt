@@ -2,9 +2,9 @@
 
 use crate::chunks::Input;
 use crate::decoder::{check_outcome, write_whole};
+use crate::error::{Result, VectorError, ensure, ensure_found};
 use crate::notation::{bytes, colors, image, numbers, pixels, push_error, push_image, ratio, size};
 use crate::session::Form;
-use anyhow::{Context, Result, bail, ensure};
 use icy_sixel::{
     DcsSettings, EncodeOptions, SixelDecoder, SixelError, SixelImage, choose_palette, sixel_encode,
     sixel_encode_default, validate_encode_dimensions, witnesses_hold,
@@ -40,16 +40,14 @@ fn check_encoded(alloc: Global, encoded: icy_sixel::Result<String>, expected: &s
         Err(error) => format!(in alloc; "error: {error}")?,
     };
     let expected = bytes(alloc, expected)?;
-    ensure!(text.as_bytes() == expected.as_slice(), "{text}");
-    Ok(())
+    ensure_found(alloc, text.as_bytes() == expected.as_slice(), &text)
 }
 
 /// Checks the text that shows an image, or the error that it has in place of one.
 fn check_shown(alloc: Global, shown: String, expected: &str) -> Result<()> {
     if let Some(error) = expected.strip_prefix("error: ") {
         let failed = format!(in alloc; "[SIXEL encoding failed: {error}]")?;
-        ensure!(shown == failed, "{shown}");
-        return Ok(());
+        return ensure_found(alloc, shown == failed, &shown);
     }
     check_encoded(alloc, Ok(shown), expected)
 }
@@ -63,10 +61,12 @@ pub fn write_trip(alloc: Global, found: &mut String, colors: &str, source: &str)
     let settings = DcsSettings::default()
         .with_pixel_aspect_ratio(source.aspect_ratio)
         .with_background_mode(source.background_mode);
-    let (_, payload) = text.split_once('q').context("no payload")?;
+    let (_, payload) = text
+        .split_once('q')
+        .ok_or(VectorError::Check("no payload"))?;
     let mut decoded = String::new(alloc);
     write_decoded(alloc, &mut decoded, Form::Payload(settings), payload)?;
-    ensure!(decoded == *found, "payload: {decoded}");
+    ensure_found(alloc, decoded == *found, &decoded)?;
     let image = SixelImage::decode(alloc, text.as_bytes())?;
     if image.background_mode.is_transparent() {
         let again = image.encode_with(alloc, &options)?;
@@ -104,7 +104,9 @@ pub fn write_size(alloc: Global, found: &mut String, columns: [&str; 4]) -> Resu
     let (buffer, (width, height)) = (bytes(alloc, buffer)?, size(dimensions)?);
     match call.split_once(' ').unwrap_or((call, "")) {
         ("corrected_dimensions", shape) => {
-            ensure!(height <= 1_000_000, "no height: {height}");
+            if height > 1_000_000 {
+                return Err(VectorError::Check("no height"));
+            }
             let image = SixelImage::from_rgba(buffer, width, height);
             let (width, height) = image
                 .with_aspect_ratio(ratio(shape)?)
@@ -136,7 +138,7 @@ fn size_error(
         "validate_encode_dimensions" => validate_encode_dimensions(width, height).err(),
         "sixel_encode" => sixel_encode(alloc, &buffer, width, height, &options).err(),
         "try_from_rgba" => SixelImage::try_from_rgba(buffer, width, height).err(),
-        _ => bail!("no call: {call}"),
+        _ => return Err(VectorError::Check("no call")),
     })
 }
 
@@ -147,17 +149,16 @@ pub fn check_palette(alloc: Global, columns: [&str; 6]) -> Result<()> {
     let choice = choose_palette(alloc, &pixels, max_colors)?;
     let places = choice.indices.iter().map(|index| usize::from(*index));
     let places: Vec<usize> = places.collect(alloc)?;
-    ensure!(places == numbers(alloc, indices)?, "indices {places:?}");
-    ensure!(choice.colors == colors(alloc, entries)?, "colors");
-    ensure!(choice.error == error.parse::<u32>()?, "error");
+    ensure(places == numbers(alloc, indices)?, "indices")?;
+    ensure(choice.colors == colors(alloc, entries)?, "colors")?;
+    ensure(choice.error == error.parse::<u32>()?, "error")?;
     let witnesses = colors(alloc, witnesses)?;
-    ensure!(choice.witnesses == witnesses, "witnesses");
+    ensure(choice.witnesses == witnesses, "witnesses")?;
     Ok(())
 }
 
 /// Checks a vector of `witnesses.tsv`.
 pub fn check_witnesses(alloc: Global, [list, distance, answer]: [&str; 3]) -> Result<()> {
     let holds = witnesses_hold(&colors(alloc, list)?, distance.parse::<u32>()?);
-    ensure!(answer == if holds { "yes" } else { "no" }, "{holds}");
-    Ok(())
+    ensure(answer == if holds { "yes" } else { "no" }, "witnesses")
 }

@@ -1,7 +1,8 @@
 //! The test vectors of the library: a program that checks every line of the files in `data`.
 //!
-//! It runs in a copy of `data`, which `data/README.md` defines. It prints one line a file and one
-//! line a vector that fails, and then ends with status 1.
+//! Its argument is the folder of the files, or it runs in that folder. `data/README.md` defines the
+//! files. The program prints one line a file and one line a vector that fails, and then ends with
+//! status 1.
 #![tactic(auto)]
 
 mod calls;
@@ -9,25 +10,30 @@ mod canvas;
 mod chunks;
 mod decoder;
 mod encoder;
+mod error;
 mod notation;
 mod random;
 mod session;
 mod settings;
 mod steps;
 
-use anyhow::{Result, bail, ensure};
+use error::{Result, VectorError, ensure_found};
 use std::alloc::Global;
-use std::fs;
 use std::process::ExitCode;
+use std::{env, fs};
 
 /// The names of the files, in the order in which they are checked.
 const FILES: &str = "images strings sessions steps receivers controls beginnings tokens aborts \
     writes texts trips palettes witnesses sizes settings registers rows spans";
 
 fn main(rt: HostRuntime) -> Result<ExitCode> {
+    let folder = match env::args(&rt)?.nth(1) {
+        Some(folder) => folder,
+        None => String::from_str(rt.alloc(), ".")?,
+    };
     let mut status = ExitCode::SUCCESS;
     for name in FILES.split(' ') {
-        if !check_file(&rt, name)? {
+        if !check_file(&rt, &folder, name)? {
             status = ExitCode::FAILURE;
         }
     }
@@ -35,8 +41,8 @@ fn main(rt: HostRuntime) -> Result<ExitCode> {
 }
 
 /// Checks the vectors of a file, prints the results and returns whether all passed.
-fn check_file(rt: &HostRuntime, name: &str) -> Result<bool> {
-    let text = fs::read_to_string(rt, format!(in rt.alloc(); "{name}.tsv")?)?;
+fn check_file(rt: &HostRuntime, folder: &str, name: &str) -> Result<bool> {
+    let text = fs::read_to_string(rt, format!(in rt.alloc(); "{folder}/{name}.tsv")?)?;
     let (mut passed, mut have_passed) = (0_u64, true);
     for (index, line) in text.lines().enumerate() {
         if line.is_empty() || line.starts_with('#') {
@@ -61,8 +67,7 @@ fn check_line(alloc: Global, name: &str, line: &str) -> Result<()> {
     let mut found = String::new(alloc);
     write_results(alloc, &mut found, name, &columns)?;
     let line = format!(in alloc; "\t{line}")?;
-    ensure!(line.ends_with(found.as_str()), "{found}");
-    Ok(())
+    ensure_found(alloc, line.ends_with(found.as_str()), &found)
 }
 
 /// Makes the calls of a vector, and writes the last columns or checks them.
@@ -87,6 +92,6 @@ fn write_results(alloc: Global, found: &mut String, name: &str, line: &[&str]) -
         ("registers", [register, _]) => settings::write_register(found, register),
         ("rows", columns) => canvas::write_row(alloc, found, columns),
         ("spans", columns) => canvas::check_spans(alloc, columns.try_into()?),
-        _ => bail!("no such vector"),
+        _ => return Err(VectorError::Check("no such vector")),
     }
 }

@@ -1,6 +1,6 @@
 //! The notation that `data/README.md` defines: parsers, and results as columns after their tabs.
 
-use anyhow::{Context, Result, bail};
+use crate::error::{Result, VectorError};
 use icy_sixel::script::Status;
 use icy_sixel::{
     BackgroundMode, PixelAspectRatio, SixelDcsFeedStatus, SixelError, SixelFeedStatus, SixelImage,
@@ -27,7 +27,9 @@ pub fn bytes(alloc: Global, text: &str) -> Result<Vec<u8>> {
     for (index, part) in text.split('<').enumerate() {
         let (token, plain) = match index {
             0 => ("", part),
-            _ => part.split_once('>').context("a token without an end")?,
+            _ => part
+                .split_once('>')
+                .ok_or(VectorError::Check("a token without an end"))?,
         };
         push_token(&mut bytes, token)?;
         bytes.extend_from_slice(plain.as_bytes())?;
@@ -66,7 +68,7 @@ pub fn colors(alloc: Global, text: &str) -> Result<Vec<[u8; 3]>> {
 pub fn pixels(alloc: Global, text: &str) -> Result<Vec<u8>> {
     let mut pixels = Vec::new(alloc);
     for run in text.split(' ').filter(|run| *run != "none") {
-        let (count, color) = run.split_once('*').context("no run")?;
+        let (count, color) = run.split_once('*').ok_or(VectorError::Check("no run"))?;
         let color = rgba(color)?;
         for _ in 0..count.parse::<usize>()? {
             pixels.extend_from_slice(&color)?;
@@ -77,8 +79,8 @@ pub fn pixels(alloc: Global, text: &str) -> Result<Vec<u8>> {
 
 /// An image, whose count of pixels may differ from its size.
 pub fn image(alloc: Global, text: &str) -> Result<SixelImage> {
-    let (dimensions, rest) = text.split_once(' ').context("no ratio")?;
-    let (shape, rest) = rest.split_once(' ').context("no mode")?;
+    let (dimensions, rest) = text.split_once(' ').ok_or(VectorError::Check("no ratio"))?;
+    let (shape, rest) = rest.split_once(' ').ok_or(VectorError::Check("no mode"))?;
     let (background, runs) = rest.split_once(' ').unwrap_or((rest, "none"));
     let ((width, height), ratio) = (size(dimensions)?, ratio(shape)?);
     let mode = BackgroundMode::from_p2(u16::from(background == "transparent"));
@@ -99,7 +101,7 @@ pub fn ratio(text: &str) -> Result<PixelAspectRatio> {
         "2:1" => Ok(PixelAspectRatio::Ratio2To1),
         "3:1" => Ok(PixelAspectRatio::Ratio3To1),
         "5:1" => Ok(PixelAspectRatio::Ratio5To1),
-        _ => bail!("no ratio: {text}"),
+        _ => return Err(VectorError::Check("no ratio")),
     }
 }
 

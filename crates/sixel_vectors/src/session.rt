@@ -1,6 +1,6 @@
 //! Decoders and receivers, and sessions with the same calls for both.
 
-use anyhow::{Context, Result, bail, ensure};
+use crate::error::{Result, VectorError, ensure};
 use icy_sixel::receiver::{Received, SixelReceiver};
 use icy_sixel::script::Status;
 use icy_sixel::{DcsSettings, SixelDcsStreamDecoder, SixelDecoder, SixelImage, SixelStreamDecoder};
@@ -31,7 +31,7 @@ pub fn settings(text: &str) -> Result<(Form, SixelDecoder)> {
                 decoder.set_clip(width, height);
             }
             ("crop", "") => decoder.set_raster_crop(true),
-            _ => bail!("no setting: {word}"),
+            _ => return Err(VectorError::Check("no setting")),
         }
     }
     let payload = Form::Payload(DcsSettings::new(p1, p2, p3));
@@ -40,16 +40,16 @@ pub fn settings(text: &str) -> Result<(Form, SixelDecoder)> {
 
 /// The columns and rows of a clip, written as `5x4`.
 pub fn clip(sides: &str) -> Result<(usize, usize)> {
-    let (width, height) = sides.split_once('x').context("no clip")?;
+    let (width, height) = sides.split_once('x').ok_or(VectorError::Check("no clip"))?;
     Ok((width.parse::<usize>()?, height.parse::<usize>()?))
 }
 
 /// Fails if two decoders differ in a register, the crop, the pixel limit or the clip.
 pub fn check_decoder(decoder: &SixelDecoder, expected: &SixelDecoder) -> Result<()> {
-    ensure!(decoder.raster_crop() == expected.raster_crop(), "crop");
-    ensure!(decoder.pixel_limit() == expected.pixel_limit(), "limit");
-    ensure!(decoder.clip() == expected.clip(), "clip");
-    ensure!(decoder.registers() == expected.registers(), "registers");
+    ensure(decoder.raster_crop() == expected.raster_crop(), "crop")?;
+    ensure(decoder.pixel_limit() == expected.pixel_limit(), "limit")?;
+    ensure(decoder.clip() == expected.clip(), "clip")?;
+    ensure(decoder.registers() == expected.registers(), "registers")?;
     Ok(())
 }
 

@@ -1,8 +1,8 @@
 //! Vectors of `steps.tsv`: lists of steps on one decoder.
 
+use crate::error::{Result, VectorError, ensure, ensure_found};
 use crate::notation::{bytes, color, numbers, push_error, push_fed, push_image};
 use crate::session::{Form, check_decoder, clip, settings};
-use anyhow::{Context, Result, ensure};
 use icy_sixel::SixelDecoder;
 use icy_sixel::script::{End, Outcome, Step, run};
 use std::alloc::Global;
@@ -19,7 +19,9 @@ struct Line<'a> {
 
 /// Checks a vector with its own chunks, and with others.
 pub fn write(alloc: Global, found: &mut String, columns: &[&str]) -> Result<()> {
-    let (registers, steps) = columns.split_last().context("no registers")?;
+    let (registers, steps) = columns
+        .split_last()
+        .ok_or(VectorError::Check("no registers"))?;
     let mut lines = Vec::new(alloc);
     for step in steps.chunks(5) {
         lines.push(Line::parse(alloc, step.try_into()?)?)?;
@@ -28,13 +30,15 @@ pub fn write(alloc: Global, found: &mut String, columns: &[&str]) -> Result<()> 
     for lengths in [[].as_slice(), &[0], &[usize::MAX], &[1; 64]] {
         let mut other = String::new(alloc);
         let again = write_run(alloc, &mut other, &lines, Some(lengths))?;
-        ensure!(other == *found, "{other}");
+        ensure_found(alloc, other == *found, &other)?;
         check_decoder(&again, &decoder)?;
     }
     for word in registers.split(' ') {
-        let (register, value) = word.split_once('=').context("no register")?;
+        let (register, value) = word
+            .split_once('=')
+            .ok_or(VectorError::Check("no register"))?;
         let is_same = decoder.register(register.parse::<u8>()?) == color(value)?;
-        ensure!(is_same, "register {register}");
+        ensure(is_same, "register")?;
     }
     Ok(write!(found, "\t{registers}")?)
 }
