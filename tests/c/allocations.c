@@ -29,18 +29,21 @@ struct call {
 };
 
 enum {
-    DECODE, CLIPPED, DECODE_PAYLOAD, DECODE_TAGS, OF_DCS, OF_PAYLOAD, PARTIAL, IN_BANDS, ENCODE_16,
-    ENCODE_64, COMPACT, REFINED, IN_PALETTE, INDEXED, CHOOSE, REFINE, INDICES, NEW,
+    DECODE, CLIPPED, DECODE_PAYLOAD, DECODE_TAGS, OF_DCS, OF_PAYLOAD, OF_TAGS, PARTIAL, IN_BANDS,
+    ENCODE_16, ENCODE_64, COMPACT, REFINED, REFINED_PLAIN, REFINED_ORDERED, IN_PALETTE, INDEXED,
+    CHOOSE, REFINE, NEAREST, ORDERED, DIFFUSED, NEW,
 };
 
-/* Wide runs over drawn pixels, which set tags; and a payload with a fault at its end. */
+/* Wide runs over drawn pixels, which set tags, also in chunks; and a payload with a fault at its
+ * end. */
 #define WIDE "$#1!65535N$#2!65535~"
 static const uint8_t tags[] = WIDE WIDE WIDE WIDE WIDE WIDE, faulty[] = PAYLOAD "!65536~";
+static const uint8_t run[] = "#1!300N$#2!300~";
 
 #define INPUT(bytes) {bytes, sizeof bytes - 1}
 static const struct { const uint8_t *at; size_t length; } inputs[] = {
     INPUT(string), INPUT(string), INPUT(payload), INPUT(tags),
-    INPUT(string), INPUT(payload), INPUT(faulty),
+    INPUT(string), INPUT(payload), INPUT(run), INPUT(faulty),
 };
 
 /* Feeds chunks of seven bytes, and ends the image. Only a fault leaves a picture. */
@@ -60,6 +63,12 @@ static uint32_t make_session(icysixel *h, int kind, icysixel_shape *shape)
     return code;
 }
 
+/* The width of the image of each input. */
+static size_t width_of(int kind)
+{
+    return kind == CLIPPED ? 50 : kind == DECODE_TAGS ? 65535 : kind == OF_TAGS ? 300 : 130;
+}
+
 /* Copies the stored image. After an error there is none. */
 static uint32_t make_image(icysixel *h, int kind, struct bytes *made)
 {
@@ -72,7 +81,7 @@ static uint32_t make_image(icysixel *h, int kind, struct bytes *made)
         : make_session(h, kind, &shape);
     CHECK(icysixel_is_receiving(h) == 0);
     if (code == ICYSIXEL_OK) {
-        CHECK(shape.width == (kind == CLIPPED ? 50 : kind == DECODE_TAGS ? 65535 : 130));
+        CHECK(shape.width == width_of(kind));
         *made = (struct bytes){outcome_of(h, code, shape).pixels, shape.bytes};
     } else {
         CHECK(icysixel_copy_pixels(h, NULL, 0, 0, &wanted) == ICYSIXEL_NO_IMAGE);
@@ -103,9 +112,13 @@ static uint32_t make_rows(icysixel *h, int kind, struct bytes *made)
 }
 
 /* How 31 of 32 columns are encoded, so that the rows are copied. */
-static const icysixel_encoding compact = {
-    .stride = 128, .width = 31, .height = 40, .p1 = 9, .p2 = 1,
-    .dithering = {ICYSIXEL_DITHER_DIFFUSION, 6}, .form = ICYSIXEL_FORM_COMPACT,
+#define COLUMNS .stride = 128, .width = 31, .height = 40, .p1 = 9, .p2 = 1
+static const icysixel_encoding plain = {
+    COLUMNS, .dithering = {ICYSIXEL_DITHER_OFF, 0}, .form = ICYSIXEL_FORM_PLAIN,
+}, ordered = {
+    COLUMNS, .dithering = {ICYSIXEL_DITHER_ORDERED, 8}, .form = ICYSIXEL_FORM_COMPACT,
+}, compact = {
+    COLUMNS, .dithering = {ICYSIXEL_DITHER_DIFFUSION, 6}, .form = ICYSIXEL_FORM_COMPACT,
 };
 static const icysixel_color two[] = {{0, 0, 9}, {200, 200, 9}};
 
@@ -113,11 +126,13 @@ static const icysixel_color two[] = {{0, 0, 9}, {200, 200, 9}};
 static uint32_t make_text(icysixel *h, int kind, struct bytes *made)
 {
     static const uint8_t indices[31 * 40] = {1};
-    const icysixel_encoding *e = &compact;
+    const icysixel_encoding *e
+        = kind == REFINED_PLAIN ? &plain : kind == REFINED_ORDERED ? &ordered : &compact;
     size_t size = sizeof pixels, length = 0, wanted;
     uint32_t code
         = kind == COMPACT ? icysixel_encode_compact(h, pixels, size, e, 16, &length)
-        : kind == REFINED ? icysixel_encode_refined(h, pixels, size, e, 16, &length)
+        : kind >= REFINED && kind <= REFINED_ORDERED
+        ? icysixel_encode_refined(h, pixels, size, e, 16, &length)
         : kind == IN_PALETTE ? icysixel_encode_with_palette(h, pixels, size, e, two, 2, &length)
         : kind == INDEXED ? icysixel_encode_indexed(h, pixels, size, e, two, 2, indices,
                                                     sizeof indices, &length)
@@ -136,13 +151,15 @@ static uint32_t make_palette(icysixel *h, int kind, struct bytes *made)
     icysixel_refined refined = {0};
     uint8_t indices[sizeof pixels / 4] = {0};
     size_t size = sizeof pixels, count = sizeof indices;
+    const icysixel_dithering *dithering = kind == NEAREST ? &plain.dithering
+        : kind == ORDERED ? &ordered.dithering : &compact.dithering;
     uint32_t code
         = kind == CHOOSE ? icysixel_choose_palette(pixels, size, 16, colors, 16, witnesses, 17,
                                                    indices, count, &chosen)
         : kind == REFINE ? icysixel_refine_palette(pixels, size, 16, colors, 16, witnesses, 17,
                                                    indices, count, &refined)
-        : icysixel_palette_indices(pixels, size, 32, two, 2, &compact.dithering, indices, count);
-    CHECK(chosen.colors + refined.colors == (code == ICYSIXEL_OK && kind != INDICES ? 16 : 0));
+        : icysixel_palette_indices(pixels, size, 32, two, 2, dithering, indices, count);
+    CHECK(chosen.colors + refined.colors == (code == ICYSIXEL_OK && kind < NEAREST ? 16 : 0));
     append(made, indices, code == ICYSIXEL_OK ? count : 0);
     return (void)h, code;
 }
@@ -159,11 +176,12 @@ static uint32_t make_new(icysixel *h, int kind, struct bytes *made)
 
 #define CALL(make, kind) {#kind, make_##make, kind}
 static const struct call calls[] = {
-    CALL(image, OF_DCS), CALL(image, OF_PAYLOAD), CALL(image, PARTIAL), CALL(rows, IN_BANDS),
-    CALL(image, DECODE), CALL(image, CLIPPED), CALL(image, DECODE_PAYLOAD),
+    CALL(image, OF_DCS), CALL(image, OF_PAYLOAD), CALL(image, OF_TAGS), CALL(image, PARTIAL),
+    CALL(rows, IN_BANDS), CALL(image, DECODE), CALL(image, CLIPPED), CALL(image, DECODE_PAYLOAD),
     CALL(image, DECODE_TAGS), CALL(text, ENCODE_16), CALL(text, ENCODE_64), CALL(text, COMPACT),
-    CALL(text, REFINED), CALL(text, IN_PALETTE), CALL(text, INDEXED), CALL(palette, CHOOSE),
-    CALL(palette, INDICES), CALL(palette, REFINE), CALL(new, NEW),
+    CALL(text, REFINED), CALL(text, REFINED_PLAIN), CALL(text, REFINED_ORDERED),
+    CALL(text, IN_PALETTE), CALL(text, INDEXED), CALL(palette, CHOOSE), CALL(palette, REFINE),
+    CALL(palette, NEAREST), CALL(palette, ORDERED), CALL(palette, DIFFUSED), CALL(new, NEW),
 };
 
 /* A decoder with a register that no new one has, an image and a text. */
@@ -212,6 +230,24 @@ static void test_each_allocation(const struct call *call)
     free(expected.at);
 }
 
+/* Sizes and buffers are rejected before anything is allocated. */
+static void test_rejected(icysixel *h)
+{
+    icysixel_color colors[3];
+    icysixel_palette chosen;
+    icysixel_refined refined;
+    size_t length;
+    CHECK(icysixel_encode(h, pixels, 0, 0, 0, 4, 9, 1, 256, &length) == ICYSIXEL_BAD_DIMENSIONS);
+    CHECK(icysixel_encode(h, pixels, 9, 0, 2, 2, 9, 1, 256, &length) == ICYSIXEL_BUFFER_MISMATCH);
+    CHECK(icysixel_encode(h, pixels, 0, 0, SIZE_MAX, 2, 9, 1, 256, &length) == ICYSIXEL_OVERFLOW);
+    CHECK(icysixel_choose_palette(pixels, 3, 2, colors, 2, colors, 3, NULL, 0, &chosen)
+          == ICYSIXEL_BUFFER_MISMATCH);
+    CHECK(icysixel_refine_palette(pixels, 3, 2, colors, 2, colors, 3, NULL, 0, &refined)
+          == ICYSIXEL_BUFFER_MISMATCH);
+    CHECK(icysixel_refine_palette(pixels, 0, 0, colors, 2, colors, 3, NULL, 0, &refined)
+          == ICYSIXEL_COLOR_COUNT);
+}
+
 /* Makes the calls on a decoder with an image and a text, while every allocation fails. */
 static void test_no_allocation(void)
 {
@@ -240,6 +276,7 @@ static void test_no_allocation(void)
     OK(icysixel_feed(&h, (const uint8_t *)"!65536", 6, &fed));
     CHECK(icysixel_feed(&h, (const uint8_t *)"~", 1, &fed) == ICYSIXEL_MALFORMED);
     CHECK(icysixel_strerror(ICYSIXEL_MALFORMED, (char *)buffer, sizeof buffer) == 20);
+    test_rejected(&h);
     OK(icysixel_discard_image(&h)), CHECK(memory.requests == 0);
     memory.all_fail = false;
     OK(icysixel_set_limit(&h, SIZE_MAX)), OK(icysixel_set_clip(&h, SIZE_MAX, SIZE_MAX));

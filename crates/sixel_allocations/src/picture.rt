@@ -2,18 +2,6 @@
 
 use icy_sixel::{Result, SixelDecoder, SixelError, SixelImage};
 
-/// A payload of two bands, which defines register 42.
-pub const PAYLOAD: &[u8] = b"#42;2;100;0;0~!300~-!5~$~";
-
-/// The payload in a DCS sequence.
-pub const DCS: &[u8] = b"text\x1bPq#42;2;100;0;0~!300~-!5~$~\x1b\\text";
-
-/// A payload of one wide run.
-pub const RUN: &[u8] = b"#42;2;100;0;0!999~";
-
-/// A payload whose runs draw one band five times. The canvas allocates tags for the last one.
-pub const RUNS: &[u8] = b"#1!999~$#2!999~$#3!999~$#4!999~$#42;2;100;0;0!300~";
-
 /// A picture that is red on the left, and has the color of a register on the right.
 pub struct Picture {
     width: usize,
@@ -22,24 +10,24 @@ pub struct Picture {
     register: u8,
 }
 
-/// The picture of the payload.
+/// The picture of the chunks of two bands.
 pub static BANDS: Picture = Picture {
     width: 301,
     red: &[301, 301, 301, 301, 301, 301, 5, 5, 5, 5, 5, 5],
     register: 0,
 };
 
-/// The picture of the run.
-pub static FILLED: Picture = Picture {
-    width: 999,
-    red: &[999; 6],
-    register: 0,
+/// The picture of [`RUN_CHUNKS`](crate::session::RUN_CHUNKS).
+pub static RUN: Picture = Picture {
+    width: 300,
+    red: &[255; 6],
+    register: 4,
 };
 
-/// The picture of the runs.
-pub static OVERDRAWN: Picture = Picture {
-    width: 999,
-    red: &[300; 6],
+/// The picture of [`TAGGED_CHUNKS`](crate::session::TAGGED_CHUNKS).
+pub static TAGGED: Picture = Picture {
+    width: 300,
+    red: &[256; 6],
     register: 4,
 };
 

@@ -6,11 +6,20 @@ use icy_sixel::{
 };
 use std::alloc::Global;
 
-/// A payload in chunks, each of which makes the canvas grow.
+/// A payload of two bands in chunks, each of which makes the canvas grow.
 pub const PAYLOAD_CHUNKS: &[&[u8]] = &[b"#42;2;100;0;0~", b"!300~", b"-!5~$~"];
 
 /// A DCS sequence in such chunks.
 pub const DCS_CHUNKS: &[&[u8]] = &[b"\x1bPq#42;2;100;0;0~", b"!300~", b"-!5~$~", b"\x1b\\"];
+
+/// A payload with a run over columns that are there. It is too short for tags.
+pub const RUN_CHUNKS: &[&[u8]] = &[b"#4!300~", b"$#42;2;100;0;0!255~"];
+
+/// The same with a longer run, for which each of the six rows allocates tags.
+pub const TAGGED_CHUNKS: &[&[u8]] = &[b"#4!300~", b"$#42;2;100;0;0!256~"];
+
+/// A DCS sequence in such chunks.
+pub const TAGGED_DCS_CHUNKS: &[&[u8]] = &[b"\x1bPq#4!300~", b"$#42;2;100;0;0!256~", b"\x1b\\"];
 
 /// Chunks for a session that has failed.
 const LATER_CHUNKS: &[&[u8]] = &[b"", b"~", b"\x1bPq", b"#1;2;0;0;0!9~", b"\x1b\\"];

@@ -2,10 +2,7 @@
 
 use crate::picture::{color_of, has_colors};
 use crate::session::{Session, draw_payload, is_error};
-use icy_sixel::{
-    DcsSettings, EncodeOptions, Result, SixelDecoder, SixelError, SixelImage, choose_palette,
-    refine_palette, sixel_encode,
-};
+use icy_sixel::{DcsSettings, Result, SixelDecoder, SixelError, SixelImage};
 use std::alloc::Global;
 
 /// Makes the calls. Returns whether none is out of memory, and all are right.
@@ -36,16 +33,8 @@ fn run_sessions(alloc: Global, decoder: &mut SixelDecoder) -> bool {
 
 /// Whether wrong sizes are rejected.
 fn are_sizes_rejected(alloc: Global) -> bool {
-    let options = EncodeOptions::default();
     is_rejected(SixelImage::try_from_rgba(Vec::new(alloc), 0, 4))
         & is_rejected(SixelImage::try_from_rgba(Vec::new(alloc), 2, 2))
-        & is_rejected(sixel_encode(alloc, &[], 0, 4, &options))
-        & is_rejected(sixel_encode(alloc, &[], 2, 2, &options))
-        & is_rejected(sixel_encode(alloc, &[], usize::MAX, 2, &options))
-        & is_rejected(choose_palette(alloc, &[0; 3], 2))
-        & is_rejected(refine_palette(alloc, &[0; 3], 2))
-        & is_rejected(refine_palette(alloc, &[0; 4], 0))
-        & is_rejected(refine_palette(alloc, &[0; 4], 257))
 }
 
 /// Whether a call returned an error other than `OutOfMemory`.
