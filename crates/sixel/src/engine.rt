@@ -1,6 +1,6 @@
 //! The work of the program on its input, from the first byte to the output.
 
-ghost use Rattle.std.specs.Prelude.{◌≡◌, [], OnOk, IfSome};
+ghost use Rattle.std.specs.Prelude.{◌≡◌, OnOk, IfSome};
 ghost use Rattle.std.specs.Io.KnownBytes.{Keeps, IsAtEnd};
 ghost use Rattle.sixel_base.specs.declared.error.SixelError.{SixelError};
 ghost use Rattle.sixel_io.specs.declared.fault.Fault.TheVariants.{Sixel, Input, Output};

@@ -3,7 +3,6 @@
 ghost use Rattle.std.specs.Prelude.{◌≡◌, ◌⊎◌, Err, IfOk, IfSome, IfNone, MatchResult, Ok};
 ghost use Rattle.std.specs.Prelude.{List, None, option_map, ℕ};
 ghost use Rattle.netpbm.specs.declared.error.NetpbmError.TheVariants.{OutOfMemory};
-ghost use Rattle.netpbm.specs.Image.{image_of};
 ghost use Rattle.sixel.specs.Drawing.{colors_of, palette_of};
 ghost use Rattle.sixel.specs.Options.{IsLastPath};
 ghost use Rattle.sixel.specs.Words.{words_of, IsPalettePath};

@@ -4,6 +4,7 @@
 //! reader is the fault `Input`, and is not retried.
 
 ghost use Rattle.std.specs.Prelude.{◌≡◌, ◌<◌, ◌≤◌, ◌⊎◌, ◌++◌, length, take};
+ghost use Rattle.std.specs.Prelude.{◌+◌, ◌*◌, max, vec_capacity, vec_len};
 ghost use Rattle.std.specs.Prelude.{OnOk, OnErr, IfOk, IfErr, IfSome};
 ghost use Rattle.std.specs.Io.KnownBytes.{Consumes, IsAtEnd, Keeps};
 ghost use Rattle.sixel_base.specs.declared.error.SixelError.TheVariants.{OutOfMemory};
@@ -57,14 +58,26 @@ pub fn read_chunk<R: Read>(input: &mut R, buffer: &mut [u8]) -> Result<usize, Fa
 }
 
 /// Appends a chunk to bytes that are expected to become this many.
-///
-/// A full buffer is doubled, or grows to the expected size where that is less.
 fn append(bytes: &mut Vec<u8>, chunk: &[u8], expected: usize) -> Result<(), AllocError>
     ensures { OnOk result (bytes.new.items ≡ bytes.old.items ++ chunk.now) }
 {
-    let left = expected.saturating_sub(bytes.len());
-    if bytes.capacity() - bytes.len() < chunk.len() && chunk.len() <= left {
-        bytes.reserve_exact(left.min(bytes.len().saturating_add(chunk.len())))?;
-    }
+    reserve(bytes, chunk.len(), expected)?;
     bytes.extend_from_slice(chunk)
+}
+
+/// Reserves capacity for a chunk of bytes that are expected to become this many.
+///
+/// A full buffer is doubled, or grows to the expected size where that is less. If that is too small
+/// for the chunk, the capacity stays.
+fn reserve(bytes: &mut Vec<u8>, chunk_len: usize, expected: usize) -> Result<(), AllocError>
+    ensures items { bytes.new.items ≡ bytes.old.items }
+    ensures capacity { vec_capacity bytes.new
+        ≤ max (vec_capacity bytes.old) (2 * vec_len bytes.old + chunk_len) }
+    ensures expected { vec_capacity bytes.new ≤ max (vec_capacity bytes.old) expected }
+{
+    let left = expected.saturating_sub(bytes.len());
+    if bytes.capacity() - bytes.len() < chunk_len && chunk_len <= left {
+        bytes.reserve_exact(left.min(bytes.len().saturating_add(chunk_len)))?;
+    }
+    Ok(())
 }

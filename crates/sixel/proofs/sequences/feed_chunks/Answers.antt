@@ -1,4 +1,4 @@
-use Rattle.std.proofs.Common.{ℕ, ◌+◌, List, refl, ap, sym, ◌∙◌, arith, length, length-append, subst}
+use Rattle.std.proofs.Common.{ℕ, ◌+◌, List, refl, ap, ◌∙◌, arith, length, length-append, subst}
 use Rattle.std.proofs.lemmas.Result.{err_from_is_err_and}
 use Rattle.sixel_base.specs.Dcs.{IsSameString, dcs_status}
 use Rattle.icy_sixel.specs.Receiver.{has_ended}
