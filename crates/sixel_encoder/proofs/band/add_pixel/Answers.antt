@@ -1,4 +1,4 @@
-use Rattle.std.proofs.Common.{ℕ, ◌+◌, ◌<◌, length, refl, ap, arith}
+use Rattle.std.proofs.Common.{ℕ, ◌+◌, refl, ap, arith}
 use Rattle.sixel_encoder.specs.inside.Indexed.{entry_of}
 use Rattle.sixel_encoder.specs.inside.Grid.{cell, pixel_bit, dot_at}
 use Rattle.sixel_encoder.proofs.Cells.{AreMarks-dot, cell-dot, sixel_inside}
