@@ -36,6 +36,17 @@ class TestForms(unittest.TestCase):
         self.has_function("sixel/src/engine.rt", SERVE)
         self.has_function("sixel/src/words.rt", READ_WORD)
 
+    def test_errors(self):
+        """thiserror derives the texts of errors, and is the only crate of the kit beside std."""
+        text = (ROOT / "crates/sixel_base/src/error.rt").read_text()
+        self.assertIn("use thiserror::Error;", text)
+        self.assertRegex(text, r"#\[derive\(.*\bError\)\]\npub enum SixelError ")
+        lines = (ROOT / "crates.txt").read_text().splitlines()
+        rows = [it.split(":") for it in lines if not it.startswith("#")]
+        crates = {name.split()[0] for name, _ in rows}
+        used = {it for _, names in rows for it in names.split()}
+        self.assertEqual(used - crates, {"thiserror", "std_alloc", "std_heap"})
+
     def test_types(self):
         self.has_variants("sixel/src/words.rt", "Word", WORD)
         self.has_variants("sixel_io/src/fault.rt", "Fault", FAULT)
