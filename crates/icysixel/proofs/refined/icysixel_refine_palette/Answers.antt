@@ -1,8 +1,52 @@
-use Rattle.std.proofs.Common.{◌/◌, length, refl, sym, ap, ◌∙◌, take}
-use Rattle.std.specs.Prelude.{◌==◌, ◌||◌, nat_lt}
-use Rattle.sixel_base.specs.CallFault.{ColorCount}
+use Rattle.std.proofs.Common.{◌≡◌, ℕ, ◌+◌, ◌/◌, ◌<◌, ◌≤◌, ◌++◌, List, length, map, refl, sym, ap, ◌∙◌}
+use Rattle.std.proofs.Common.{take, ⊎_elim, arith}
+use Rattle.std.specs.Prelude.{◌==◌, ◌||◌, Some, nat_lt}
+use Rattle.std.proofs.lemmas.Bool.{cases_lt}
+use Rattle.std.proofs.lemmas.Bool.Decides.{nat_tests}
+use Rattle.std.proofs.lemmas.List.{length-append, length-map, length_push}
+use Rattle.sixel_base.specs.CallFault.{ColorCount, color_count_fault}
+use Rattle.sixel_palette.specs.Refined.{AreOnTop, register_color}
 use Rattle.icysixel.proofs.Calls.{refined_known}
 use Rattle.icysixel.proofs.refined.icysixel_refine_palette.Goals as goal
+
+-- there is at most one witness more than there are entries
+witnesses-le : (Member : List ℕ → Type 0) (max_colors : ℕ)
+    (base entries witnesses : List (List ℕ))
+    → AreOnTop Member max_colors base entries witnesses
+    → length witnesses ≤ length entries + 1
+witnesses-le Member max_colors base entries witnesses h =
+    let size : length entries ≡ length base + length h.tops =
+    rw h.whole
+    (omega (
+      arith,
+      length-append base (map register_color h.tops),
+      length-map h.tops register_color,
+    )) in
+    ⊎_elim (λ (some : 0 < length h.tops).
+    let last = h.some some in omega (arith, ap length last.2, length_push h.tops last.0, size))
+    (λ (none : length h.tops ≤ 0). omega (arith, ap length (h.none (omega arith))))
+    (cases_lt 0 (length h.tops))
+
+pub write_refined-requires-clause-witnesses : goal.write_refined-requires-clause-witnesses
+write_refined-requires-clause-witnesses c =
+    let most = c.args.max_colors in
+    let palette = c.in-Ok.palette in
+    let refined = c.in-Ok.ensures.refined in
+    let whole = c.buffers_code-code.ensures.whole c.if-code.false in
+    let small : most ≤ 256 =
+    ⊎_elim (λ (more : 256 < most).
+    let e : color_count_fault most ≡ Some ColorCount = grind (arith, nat_tests, more) in
+    absurd (c.in-Ok.ensures.colors whole e))
+    (λ (l : most ≤ 256). l) (cases_lt 256 most) in
+    omega (
+      arith,
+      witnesses-le _ most refined.base palette.colors.items palette.witnesses.items refined.top,
+      refined.few,
+      small,
+      c.buffers_code-code.ensures.witnesses c.if-code.false,
+      c.min.ensures,
+      c.from.ensures,
+    )
 
 pub code_of-requires : goal.code_of-requires
 code_of-requires c =
