@@ -111,21 +111,6 @@ paid-blank cap painted reach tagged top from to runs is =
       below = λ row h. edge-blank from to top runs row ∙ is.below row h;
     }
 
--- the band below, where the tags were painted
-pub paid-line : (cap cap' painted painted' reach reach' tagged tagged' top : ℕ) (runs : List Run) →
-    IsPaid cap painted reach tagged top runs → cap' ≡ cap → painted' ≤ painted + 128 * tagged →
-    reach' ≡ 0 → tagged' ≡ 0 → IsPaid cap' painted' reach' tagged' (top + 6) runs
-paid-line cap cap' painted painted' reach reach' tagged tagged' top runs is cap_is painted_is
-    reach_is tagged_is =
-    let none = is.below (top + 6) (omega arith) in
-    record {
-      narrow = omega (arith, is.narrow, cap_is);
-      few = omega (arith, is.few, is.inside, painted_is, none);
-      edge = omega (arith, none);
-      inside = omega (arith, tagged_is);
-      below = λ row h. is.below row (omega (arith, h));
-    }
-
 -- sixels of one column each more
 edge-all : (from : ℕ) (sixels : List ℕ) (top : ℕ) (runs : List Run) →
     band_edge (with_sixels from sixels top runs) top
