@@ -1,6 +1,6 @@
 -- Without a clip the error, the size and the painted area are those of the whole picture.
-use Rattle.std.proofs.Common.{◌≡◌, ℕ, suc, zero, ◌+◌, ◌*◌, ◌≤◌, ◌<◌, Bool, true, false, cond, [], ◌∷◌}
-use Rattle.std.proofs.Common.{ap, refl, subst, ◌∙◌, Option, Some, None, min, max, arith}
+use Rattle.std.proofs.Common.{◌≡◌, ℕ, suc, zero, ◌+◌, ◌*◌, ◌≤◌, ◌<◌, Bool, true, false, cond, []}
+use Rattle.std.proofs.Common.{◌∷◌, ap, refl, subst, ◌∙◌, Option, Some, None, min, max, arith}
 use Rattle.std.specs.Prelude.{nat_le, nat_lt, ◌&&◌, ◌||◌}
 use Rattle.std.specs.Option.{option_or}
 use Rattle.std.proofs.lemmas.Bool.Decides.{nat_tests}
@@ -53,7 +53,8 @@ extent_whole limit right lower h columns rows within =
     let fit = within (grind (arith, nat_tests)) (grind (arith, nat_tests)) in
     let wide : clipped_width limit h ≡ width h = omega (arith, fit.0, columns) in
     let high : clipped_height limit h ≡ height h = omega (arith, fit.1, rows) in
-    ap (λ (n : ℕ). cond (nat_lt limit.pixels (n * clipped_height limit h)) (Some TooLarge) None) wide
+    ap (λ (n : ℕ). cond (nat_lt limit.pixels (n * clipped_height limit h)) (Some TooLarge) None)
+    wide
     ∙ ap (λ (n : ℕ). cond (nat_lt limit.pixels (width h * n)) (Some TooLarge) None) high)
 
 -- a token whose fault does not depend on the limit

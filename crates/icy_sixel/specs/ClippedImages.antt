@@ -1,8 +1,8 @@
 -- The image of a payload without a clip, its fault and its painted area, and the part of an image
 -- inside a clip. A clip is this library's own. Which pixel a picture has at a place, by DEC's
 -- manual, is in Stroke of sixel_base.
-use Rattle.std.specs.Prelude.{ℕ, ◌≡◌, ◌≤◌, ◌+◌, ◌*◌, min, max, nat_lt, ◌||◌, if◌then◌else◌, List, []}
-use Rattle.std.specs.Prelude.{◌∷◌, Option, Some, None}
+use Rattle.std.specs.Prelude.{ℕ, ◌≡◌, ◌≤◌, ◌+◌, ◌*◌, min, max, nat_lt, ◌||◌, if◌then◌else◌, List}
+use Rattle.std.specs.Prelude.{[], ◌∷◌, Option, Some, None}
 use Rattle.std.specs.Option.{option_or}
 use Rattle.sixel_base.specs.Bytes.{front}
 use Rattle.sixel_base.specs.Decoder.{clip_side_of, origin_of}
@@ -42,8 +42,8 @@ whole_pixel decoder (Payload settings payload) =
     pixel (origin_of decoder settings) (history_of (front payload))
 whole_pixel decoder (NoPayload fault) = λ column row. []
 
--- the fault of a sixel or of raster attributes by the whole picture: a side above the limit, then an
--- area of more than so many pixels
+-- the fault of a sixel or of raster attributes by the whole picture: a side above the limit, then
+-- an area of more than so many pixels
 abbrev pub whole_extent_fault : ℕ → ℕ → ℕ → History → Option Fault
 whole_extent_fault most right lower history =
     if nat_lt side_limit right || nat_lt side_limit lower then Some Malformed

@@ -35,8 +35,8 @@ returns-clause-cells c = λ e x le lx.
     let opaque = c.is_opaque.ensures.opaque c.if-not-is_opaque.false in
     let inside =
     sixel_inside c.args.image.now rows c.args.used.now pixel c.from-row.result
-    c.args.column c.requires.image c.requires.entries c.requires.rows
-    (omega (arith, c.requires.line))
+    c.args.column c.requires.image
+    c.requires.entries c.requires.rows (omega (arith, c.requires.line))
     opaque c.from-row.ensures c.requires.column in
     let dot = cell-dot rows width row column weight e x inside.1 c.requires.column lx in
     let here =
@@ -57,8 +57,8 @@ returns-clause-marks c =
     let opaque = c.is_opaque.ensures.opaque c.if-not-is_opaque.false in
     let inside =
     sixel_inside c.args.image.now rows c.args.used.now pixel c.from-row.result
-    c.args.column c.requires.image c.requires.entries c.requires.rows
-    (omega (arith, c.requires.line))
+    c.args.column c.requires.image
+    c.requires.entries c.requires.rows (omega (arith, c.requires.line))
     opaque c.from-row.ensures c.requires.column in
     AreMarks-dot rows used width row column weight c.requires.marks inside.1 inside.0
     c.requires.column
@@ -67,27 +67,27 @@ returns-clause-marks c =
 pub bounds-rows-row : goal.bounds-rows-row
 bounds-rows-row c =
     let inside =
-    sixel_inside c.args.image.now c.args.rows.now c.args.used.now (c.args.line.start + c.args.column) c.from-row.result
-    c.args.column c.requires.image c.requires.entries c.requires.rows
-    (omega (arith, c.requires.line))
+    sixel_inside c.args.image.now c.args.rows.now c.args.used.now
+    (c.args.line.start + c.args.column) c.from-row.result c.args.column c.requires.image
+    c.requires.entries c.requires.rows (omega (arith, c.requires.line))
     (c.is_opaque.ensures.opaque c.if-not-is_opaque.false) c.from-row.ensures c.requires.column in
     inside.1
 
 pub bounds-rows-row-2 : goal.bounds-rows-row-2
 bounds-rows-row-2 c =
     let inside =
-    sixel_inside c.args.image.now c.args.rows.now c.args.used.now (c.args.line.start + c.args.column) c.from-row.result
-    c.args.column c.requires.image c.requires.entries c.requires.rows
-    (omega (arith, c.requires.line))
+    sixel_inside c.args.image.now c.args.rows.now c.args.used.now
+    (c.args.line.start + c.args.column) c.from-row.result c.args.column c.requires.image
+    c.requires.entries c.requires.rows (omega (arith, c.requires.line))
     (c.is_opaque.ensures.opaque c.if-not-is_opaque.false) c.from-row.ensures c.requires.column in
     inside.1
 
 pub bounds-used-row : goal.bounds-used-row
 bounds-used-row c =
     let inside =
-    sixel_inside c.args.image.now c.args.rows.now c.args.used.now (c.args.line.start + c.args.column) c.from-row.result
-    c.args.column c.requires.image c.requires.entries c.requires.rows
-    (omega (arith, c.requires.line))
+    sixel_inside c.args.image.now c.args.rows.now c.args.used.now
+    (c.args.line.start + c.args.column) c.from-row.result c.args.column c.requires.image
+    c.requires.entries c.requires.rows (omega (arith, c.requires.line))
     (c.is_opaque.ensures.opaque c.if-not-is_opaque.false) c.from-row.ensures c.requires.column in
     inside.0
 

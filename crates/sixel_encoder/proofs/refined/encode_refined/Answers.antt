@@ -92,7 +92,8 @@ returns-then-is_empty-clause-text c =
     IsRefinedText-returned string_bytes c.encode_drawing.result (source_value source)
     c.args.max_colors c.args.dither c.args.form palette palette.indices.items
     c.in_ok-palette.ensures.refined dithered
-    (rw (c.deref.ensures.value, c.deref-then-is_empty.ensures.value) at c.encode_drawing.ensures.text)
+    (rw (c.deref.ensures.value, c.deref-then-is_empty.ensures.value) at
+    c.encode_drawing.ensures.text)
 
 pub returns-clause-text : goal.returns-clause-text
 returns-clause-text c =
