@@ -30,6 +30,11 @@
  *
  * Results. A function that returns uint32_t returns an enum icysixel_code. With ICYSIXEL_OK it has
  * written to each output argument. With an error it leaves them unchanged, except for `wanted`.
+ *
+ * Stored image and text. An image is stored by icysixel_finish, icysixel_finish_partial,
+ * icysixel_decode and icysixel_decode_payload. Each error of these calls drops an image that was
+ * stored before, and each error of an encoding call drops a text. icysixel_new drops both. No error
+ * of another call drops either.
  */
 #ifndef ICYSIXEL_H
 #define ICYSIXEL_H
