@@ -21,7 +21,7 @@
  *
  * Memory. The library allocates by rattle_alloc, rattle_realloc and rattle_dealloc. The archive
  * defines these as weak symbols that call malloc, realloc and free. A program can define its own:
- * icysixel(3) shows them. If an allocation fails, the call returns ICYSIXEL_OUT_OF_MEMORY. No
+ * the man page shows them. If an allocation fails, the call returns ICYSIXEL_OUT_OF_MEMORY. No
  * function aborts the process.
  *
  * Sizes are in bytes unless a comment names another unit. A pixel is four bytes: red, green, blue
