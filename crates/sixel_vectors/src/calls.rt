@@ -1,6 +1,6 @@
 //! Vectors of `sessions.tsv` and `receivers.tsv`: calls and their results.
 
-use crate::error::{Result, VectorError, ensure, ensure_found};
+use crate::error::{Result, VectorError, ensure};
 use crate::notation::{bytes, color, push_error, push_fed, push_hexadecimal, push_outcome};
 use crate::session::{Owner, Session, begin, check_decoder, clip, settings};
 use icy_sixel::receiver::{Received, SixelReceiver};
@@ -15,7 +15,7 @@ pub fn write_session(alloc: Global, found: &mut String, columns: &[&str]) -> Res
     let mut received = String::new(alloc);
     let decoder = run_owner(alloc, found, false, start, calls)?;
     let other = run_owner(alloc, &mut received, true, start, calls)?;
-    ensure_found(alloc, received == *found, &received)?;
+    ensure(received == *found, "receiver")?;
     check_decoder(&other, &decoder)
 }
 

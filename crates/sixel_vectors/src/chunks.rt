@@ -1,6 +1,6 @@
 //! Bytes that are decoded at once and in chunks, which never change what comes of them.
 
-use crate::error::{Result, ensure, ensure_found};
+use crate::error::{Result, ensure};
 use crate::notation::{bytes, push_error, push_fed, push_outcome, word};
 use crate::random::Random;
 use crate::session::{Form, Owner, Session, check_decoder, settings};
@@ -67,7 +67,7 @@ impl Input {
         };
         let is_end = output.text.starts_with(end.as_str()) || output.is_rejected();
         let is_same = output.text.ends_with(found.as_str());
-        ensure_found(alloc, is_end && is_same, &output.text)?;
+        ensure(is_end && is_same, "single bytes")?;
         check_decoder(&decoder, &output.after)?;
         Ok((output, area))
     }
@@ -104,7 +104,7 @@ impl Input {
         for is_receiver in [false, true] {
             let owner = Owner::new(&self.start, is_receiver)?;
             let other = self.play(alloc, owner, lengths, output.count)?;
-            ensure_found(alloc, output.text == other.text, &other.text)?;
+            ensure(output.text == other.text, "chunks")?;
             check_decoder(&other.after, &output.after)?;
         }
         Ok(())

@@ -2,7 +2,7 @@
 //! `aborts.tsv`.
 
 use crate::chunks::Input;
-use crate::error::{Result, ensure, ensure_found};
+use crate::error::{Result, ensure};
 use crate::notation::{Outcome, bytes, push_outcome};
 use crate::random::Random;
 use crate::session::{Form, Owner, Session, check_decoder};
@@ -56,7 +56,7 @@ pub fn check_outcome(alloc: Global, expected: &str, outcome: &Outcome) -> Result
         Ok(image) => push_outcome(&mut found, &image.clone(alloc))?,
         Err(_) => push_outcome(&mut found, outcome)?,
     }
-    ensure_found(alloc, found.as_str() == expected, &found)
+    ensure(found.as_str() == expected, "another call")
 }
 
 /// Checks a vector of `strings.tsv`.
@@ -65,7 +65,7 @@ pub fn write_string(alloc: Global, found: &mut String, text: &str) -> Result<()>
     let (output, mut decoded) = (input.feed(alloc)?, String::new(alloc));
     let (decoder, area) = input.decode(alloc, &mut decoded)?;
     if !output.is_rejected() && !output.text.contains(" more\t") {
-        ensure_found(alloc, output.text.ends_with(decoded.as_str()), &decoded)?;
+        ensure(output.text.ends_with(decoded.as_str()), "decode")?;
         check_decoder(&decoder, &output.after)?;
     }
     input.check_chunks(alloc, area, &output)?;
@@ -86,7 +86,7 @@ pub fn check_controls(alloc: Global, columns: [&str; 5]) -> Result<()> {
                 input.bytes = [&before, left, &[control], right, &after].concat(alloc)?;
                 let mut found = String::new(alloc);
                 input.check_whole(alloc, &mut found)?;
-                ensure_found(alloc, found.trim_start() == image, &found)?;
+                ensure(found.trim_start() == image, "control")?;
             }
         }
     }

@@ -2,7 +2,7 @@
 
 use crate::chunks::Input;
 use crate::decoder::{check_outcome, write_whole};
-use crate::error::{Result, VectorError, ensure, ensure_found};
+use crate::error::{Result, VectorError, ensure};
 use crate::notation::{bytes, colors, image, numbers, pixels, push_error, push_image, ratio, size};
 use crate::session::Form;
 use icy_sixel::{
@@ -40,14 +40,14 @@ fn check_encoded(alloc: Global, encoded: icy_sixel::Result<String>, expected: &s
         Err(error) => format!(in alloc; "error: {error}")?,
     };
     let expected = bytes(alloc, expected)?;
-    ensure_found(alloc, text.as_bytes() == expected.as_slice(), &text)
+    ensure(text.as_bytes() == expected.as_slice(), "text")
 }
 
 /// Checks the text that shows an image, or the error that it has in place of one.
 fn check_shown(alloc: Global, shown: String, expected: &str) -> Result<()> {
     if let Some(error) = expected.strip_prefix("error: ") {
         let failed = format!(in alloc; "[SIXEL encoding failed: {error}]")?;
-        return ensure_found(alloc, shown == failed, &shown);
+        return ensure(shown == failed, "text of an error");
     }
     check_encoded(alloc, Ok(shown), expected)
 }
@@ -66,7 +66,7 @@ pub fn write_trip(alloc: Global, found: &mut String, colors: &str, source: &str)
         .ok_or(VectorError::Check("no payload"))?;
     let mut decoded = String::new(alloc);
     write_decoded(alloc, &mut decoded, Form::Payload(settings), payload)?;
-    ensure_found(alloc, decoded == *found, &decoded)?;
+    ensure(decoded == *found, "payload")?;
     let image = SixelImage::decode(alloc, text.as_bytes())?;
     if image.background_mode.is_transparent() {
         let again = image.encode_with(alloc, &options)?;

@@ -1,9 +1,8 @@
 //! The errors of vectors.
 
 use icy_sixel::SixelError;
-use std::alloc::{AllocError, Global};
+use std::alloc::AllocError;
 use std::array::TryFromSliceError;
-use std::io;
 use std::num::ParseIntError;
 use thiserror::Error;
 
@@ -16,9 +15,6 @@ pub enum VectorError {
     /// A check fails, or the line is not written as `data/README.md` says.
     #[error("{0}")]
     Check(&'static str),
-    /// The calls return this, which the line does not say.
-    #[error("{0}")]
-    Found(String),
     /// A call fails.
     #[error("{0}")]
     Sixel(#[from] SixelError),
@@ -28,9 +24,6 @@ pub enum VectorError {
     /// There are more or fewer columns.
     #[error("{0}")]
     Columns(#[from] TryFromSliceError),
-    /// A file cannot be read, or a line cannot be written.
-    #[error("{0}")]
-    Io(#[from] io::Error),
     /// An allocation fails.
     #[error("{0}")]
     Memory(#[from(alloc)] AllocError),
@@ -42,14 +35,5 @@ pub fn ensure(holds: bool, failure: &'static str) -> Result<()> {
         Ok(())
     } else {
         Err(VectorError::Check(failure))
-    }
-}
-
-/// Fails with what was found unless the condition holds.
-pub fn ensure_found(alloc: Global, holds: bool, found: &str) -> Result<()> {
-    if holds {
-        Ok(())
-    } else {
-        Err(VectorError::Found(String::from_str(alloc, found)?))
     }
 }

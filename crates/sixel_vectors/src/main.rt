@@ -17,16 +17,16 @@ mod session;
 mod settings;
 mod steps;
 
-use error::{Result, VectorError, ensure_found};
+use error::{Result, VectorError, ensure};
 use std::alloc::Global;
 use std::process::ExitCode;
-use std::{env, fs};
+use std::{env, fs, io};
 
 /// The names of the files, in the order in which they are checked.
 const FILES: &str = "images strings sessions steps receivers controls beginnings tokens aborts \
     writes texts trips palettes witnesses sizes settings registers rows spans";
 
-fn main(rt: HostRuntime) -> Result<ExitCode> {
+fn main(rt: HostRuntime) -> io::Result<ExitCode> {
     let folder = match env::args(&rt)?.nth(1) {
         Some(folder) => folder,
         None => String::from_str(rt.alloc(), ".")?,
@@ -41,18 +41,29 @@ fn main(rt: HostRuntime) -> Result<ExitCode> {
 }
 
 /// Checks the vectors of a file, prints the results and returns whether all passed.
-fn check_file(rt: &HostRuntime, folder: &str, name: &str) -> Result<bool> {
+fn check_file(rt: &HostRuntime, folder: &str, name: &str) -> io::Result<bool> {
     let text = fs::read_to_string(rt, format!(in rt.alloc(); "{folder}/{name}.tsv")?)?;
+    check_lines(rt, &mut String::new(rt.alloc()), name, &text)
+}
+
+/// Checks the vectors of these lines, with a buffer for the columns that their calls write.
+fn check_lines(
+    rt: &HostRuntime,
+    found: &mut String,
+    name: &str,
+    text: &str,
+) -> io::Result<bool> {
     let (mut passed, mut have_passed) = (0_u64, true);
     for (index, line) in text.lines().enumerate() {
         if line.is_empty() || line.starts_with('#') {
             continue;
         }
-        match check_line(rt.alloc(), name, line) {
+        found.clear();
+        match check_line(rt.alloc(), found, name, line) {
             Ok(()) => passed = passed.saturating_add(1),
             Err(error) => {
                 let number = index.saturating_add(1);
-                println!(rt; "{name}.tsv:{number}: failed: {error}")?;
+                println!(rt; "{name}.tsv:{number}: failed: {error}, found{found}")?;
                 have_passed = false;
             }
         }
@@ -61,13 +72,12 @@ fn check_file(rt: &HostRuntime, folder: &str, name: &str) -> Result<bool> {
     Ok(have_passed)
 }
 
-/// Checks one vector: its calls return what its last columns say.
-fn check_line(alloc: Global, name: &str, line: &str) -> Result<()> {
+/// Checks one vector: its calls write its last columns.
+fn check_line(alloc: Global, found: &mut String, name: &str, line: &str) -> Result<()> {
     let columns: Vec<&str> = line.split('\t').collect(alloc)?;
-    let mut found = String::new(alloc);
-    write_results(alloc, &mut found, name, &columns)?;
+    write_results(alloc, found, name, &columns)?;
     let line = format!(in alloc; "\t{line}")?;
-    ensure_found(alloc, line.ends_with(found.as_str()), &found)
+    ensure(line.ends_with(found.as_str()), "last columns")
 }
 
 /// Makes the calls of a vector, and writes the last columns or checks them.

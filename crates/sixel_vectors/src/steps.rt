@@ -1,6 +1,6 @@
 //! Vectors of `steps.tsv`: lists of steps on one decoder.
 
-use crate::error::{Result, VectorError, ensure, ensure_found};
+use crate::error::{Result, VectorError, ensure};
 use crate::notation::{bytes, color, numbers, push_error, push_fed, push_image};
 use crate::session::{Form, check_decoder, clip, settings};
 use icy_sixel::SixelDecoder;
@@ -30,7 +30,7 @@ pub fn write(alloc: Global, found: &mut String, columns: &[&str]) -> Result<()> 
     for lengths in [[].as_slice(), &[0], &[usize::MAX], &[1; 64]] {
         let mut other = String::new(alloc);
         let again = write_run(alloc, &mut other, &lines, Some(lengths))?;
-        ensure_found(alloc, other == *found, &other)?;
+        ensure(other == *found, "chunks")?;
         check_decoder(&again, &decoder)?;
     }
     for word in registers.split(' ') {
