@@ -1,4 +1,5 @@
 """What the tests share: the paths of what is built, and a run of a program."""
+import re
 import resource
 import shutil
 import subprocess
@@ -32,6 +33,14 @@ def run(*command, stdin=b"", memory=None, **options):
     options = {"stdout": subprocess.PIPE, "stderr": subprocess.PIPE, "timeout": 60, **options}
     ended = subprocess.run(command, check=False, **options)
     return ended.returncode, ended.stdout, ended.stderr
+
+
+def instructions(*command, stdin=b""):
+    """The instructions of a command that succeeds, by valgrind."""
+    valgrind = ["valgrind", "--tool=callgrind", "--callgrind-out-file=/dev/null"]
+    status, _, told = run(*valgrind, *command, stdin=stdin, timeout=600)
+    assert status == 0, told
+    return int(re.search(rb"Collected : (\d+)", told)[1])
 
 
 class ProgramTest(unittest.TestCase):

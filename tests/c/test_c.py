@@ -11,7 +11,7 @@ import tempfile
 import unittest
 from pathlib import Path
 
-from build import ARCHIVES, HEADERS, MEMORY, ROOT, needs, run
+from build import ARCHIVES, HEADERS, MEMORY, ROOT, instructions, needs, run
 from vectors import bytes_of, packed_vectors, vectors
 
 HERE = ROOT / "tests/c"
@@ -29,6 +29,15 @@ NEEDED = {*"memcpy memmove memset rattle_alloc rattle_dealloc rattle_realloc".sp
 # The limit is a fifth more.
 FILTER_MEMORY = {"photograph": 3329, "chart": 4918, "icon": 2602}
 FILTER_MEMORY |= {"wide": 3881, "tall": 4960, "raster": 7496}
+# Payloads that are fed in chunks of a length, and the most instructions, a tenth more than they took:
+# sixels over what is drawn, and short runs, in single bytes; runs over a whole row; and bands, each
+# twice as wide as the one before.
+FEEDS = [
+    (1, b"!200~$" + 200 * (20 * b"?@A~]^Zo" + b"$"), 3_520_000),
+    (1, 500 * b"#1!9~$", 710_000),
+    (4096, 500 * b"!65535~$", 6_810_000),
+    (4096, 500 * b"~-" + b"".join(b"!%d~-" % (2**it) for it in range(1, 12)), 27_300_000),
+]
 
 
 class TestC(unittest.TestCase):
@@ -101,6 +110,14 @@ class TestC(unittest.TestCase):
         llvm, *others = [self.succeeds(self.program("random", it), *arguments) for it in BUILDS]
         self.assertEqual(llvm.count(b"\n"), int(arguments[0]))
         self.assertEqual(others, [llvm, llvm])
+
+    @needs("valgrind")
+    def test_instructions(self):
+        """Feeds do not go a longer way than they must, which no proof shows."""
+        for length, payload, most in FEEDS:
+            with self.subTest(length=length, payload=payload[:20]):
+                text = b"\x1bPq" + payload + b"\x1b\\"
+                self.assertLess(instructions(self.program("feed"), str(length), stdin=text), most)
 
     @unittest.skipUnless(FILTER.exists(), "sixel_filter is not built")
     def test_filter_memory(self):

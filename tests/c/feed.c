@@ -1,0 +1,20 @@
+/* Feeds its input, a DCS sequence of at most a megabyte, in chunks of LENGTH bytes: feed LENGTH */
+#include "checks.h"
+
+int main(int argc, char **argv)
+{
+    static uint8_t input[1 << 20];
+    struct bytes text = {input, fread(input, 1, sizeof input, stdin)};
+    CHECK(argc == 2);
+    size_t length = strtoul(argv[1], NULL, 10);
+    icysixel h = new_handle();
+    icysixel_fed fed;
+    icysixel_shape shape;
+    CHECK(icysixel_begin(&h) == ICYSIXEL_OK);
+    for (size_t at = 0; at < text.length; at += length) {
+        struct bytes chunk = part(text, at, length);
+        CHECK(icysixel_feed(&h, chunk.at, chunk.length, &fed) == ICYSIXEL_OK);
+    }
+    CHECK(icysixel_finish(&h, &shape) == ICYSIXEL_OK);
+    icysixel_free(&h);
+}
