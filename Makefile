@@ -1,7 +1,7 @@
-# Builds, tests and installs the programs `sixel` and `sixel_filter` and the library for C.
+# Builds, tests and installs the program `sixel` and the library for C.
 # `rt` proves each crate once, and compiles it over that proof.
 #
-#   make              builds both programs, and in out/ the library for C
+#   make              builds the program, and in out/ the library for C
 #   make check        proves and tests everything
 #   make test         runs the test suite over what is built
 #   make mutants      tries all mutants, before a release
@@ -20,7 +20,7 @@ MAKEFLAGS += --no-builtin-rules
 crate = crates/icysixel
 header = $(crate)/include/icysixel.h
 hooks = $(crate)/memory/icysixel_memory.c
-program = crates/sixel/out/sixel crates/sixel_filter/out/sixel_filter
+program = crates/sixel/out/sixel
 programs = $(foreach path,$(wildcard crates/*/src/main.rt),$(path:%/src/main.rt=%/out/)$(word 2,\
 	$(subst /, ,$(path))))
 vectors = crates/sixel_vectors/out/sixel_vectors
@@ -35,8 +35,7 @@ soname = libicysixel.so.$(firstword $(subst ., ,$(version)))
 # What is installed below PREFIX: mode, source and place of each file, and links to the library.
 prefix = $(or $(PREFIX),/usr/local)
 installed = $(DESTDIR)$(prefix)
-program_files = $(foreach name,sixel sixel_filter,755:crates/$(name)/out/$(name):bin/$(name) \
-	644:man/$(name).1:share/man/man1/$(name).1)
+program_files = 755:$(program):bin/sixel 644:man/sixel.1:share/man/man1/sixel.1
 library_files = 644:out/libicysixel.a:lib/libicysixel.a 644:out/icysixel.h:include/icysixel.h \
 	755:$(shared):lib/libicysixel.so.$(version) 644:man/icysixel.3:share/man/man3/icysixel.3 \
 	$(foreach path,$(wildcard examples/*.c examples/python/*),644:$(path):share/doc/icysixel/$(path))

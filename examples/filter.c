@@ -1,94 +1,195 @@
-/* A filter for terminals: copies standard input to standard output, with the size of each SIXEL
- * image in its place. DCS sequences that are not SIXEL or are rejected are copied whole. */
+/* A filter for a terminal's stream: clips each SIXEL image and encodes it again in fewer bytes.
+ *
+ *     filter [-w COLUMNS] [-h ROWS] <input >output
+ *
+ * -w and -h are the greatest size of an image in pixels. An image is written with at most 256
+ * colors, with its pixel shape and with a transparent background. All other bytes are copied: text,
+ * OSC, APC, other DCS sequences, and the content that tmux passes on (ESC P tmux; .. ESC \).
+ *
+ * An image that cannot be decoded is copied too, and not clipped, and so is one without an end. So
+ * the filter loses no byte, and the terminal decides what it shows.
+ *
+ * The output of each chunk is written before the next one is read. A chunk can end anywhere.
+ * Exit status 1: a read or a write fails, or memory to store an image. Exit status 2: the arguments
+ * are wrong. */
+#define _POSIX_C_SOURCE 200809L
 #include "icysixel.h"
 #include <stdio.h>
 #include <stdlib.h>
 #include <string.h>
+#include <unistd.h>
 
-/* The bytes of the open DCS sequence, in case they have to be copied. */
-typedef struct {
-    uint8_t *bytes;
-    size_t length, capacity;
-} kept;
+/* Controls. ESC and a byte from 0x40 to 0x5f are one of the 8-bit ones, 0x40 above that byte. */
+enum { BEL = 0x07, CAN = 0x18, SUB = 0x1a, ESC = 0x1b };
+enum { DCS = 0x90, SOS = 0x98, OSC = 0x9d, PM = 0x9e, APC = 0x9f, C1_END = 0xa0 };
 
-static int keep(kept *string, uint8_t byte)
+struct filter {
+    icysixel decoder; /* all images share its color registers, as in a terminal */
+    enum { TEXT, ESCAPE, IMAGE, STRING, TITLE, PASSED_ON } state;
+    uint8_t previous;        /* the byte before the next one, outside of images */
+    uint8_t *stored;         /* the open DCS sequence, in case it is copied */
+    size_t length, capacity; /* bytes at `stored` */
+};
+
+static void stop(int status, const char *reason)
 {
-    if (string->length == string->capacity) {
-        size_t capacity = string->capacity ? 2 * string->capacity : 4096;
-        uint8_t *bytes = realloc(string->bytes, capacity);
-        if (bytes == NULL) return 0;
-        string->bytes = bytes;
-        string->capacity = capacity;
+    fprintf(stderr, "%s\n", reason);
+    exit(status);
+}
+
+static void store(struct filter *filter, const void *bytes, size_t count)
+{
+    if (filter->capacity - filter->length < count) {
+        filter->capacity = 2 * (filter->length + count);
+        filter->stored = realloc(filter->stored, filter->capacity);
+        if (filter->stored == NULL) stop(1, "out of memory");
     }
-    string->bytes[string->length++] = byte;
+    memcpy(filter->stored + filter->length, bytes, count);
+    filter->length += count;
+}
+
+/* Copies the DCS sequence that is stored. */
+static void copy_stored(struct filter *filter)
+{
+    if (filter->length > 0) fwrite(filter->stored, 1, filter->length, stdout);
+    filter->length = 0;
+}
+
+/* Writes an image of this shape, which was finished; returns whether it succeeds. */
+static int write_image(icysixel *decoder, const icysixel_shape *shape)
+{
+    icysixel_encoding encoding = {
+        .width = shape->width, .height = shape->height, .p1 = shape->p1, .p2 = 1};
+    icysixel_bytes pixels = {0};
+    uint8_t *text = NULL;
+    size_t length;
+    if (icysixel_take_pixels(decoder, &pixels) == ICYSIXEL_OK &&
+        icysixel_encode_compact(decoder, pixels.data, pixels.length, &encoding, 256, &length) ==
+            ICYSIXEL_OK)
+        text = malloc(length);
+    icysixel_free_bytes(&pixels);
+    if (text == NULL) return 0;
+    icysixel_copy_text(decoder, text, length, &length);
+    fwrite(text, 1, length, stdout);
+    free(text);
     return 1;
 }
 
-static void pass_on(kept *string)
+/* Opens a DCS sequence at `P` after ESC, or at the 8-bit control. */
+static void begin_image(struct filter *filter, uint8_t byte)
 {
-    fwrite(string->bytes, 1, string->length, stdout);
-    string->length = 0;
+    icysixel_fed fed;
+    const char *introducer = byte == 'P' ? "\x1bP" : "\x90";
+    store(filter, introducer, strlen(introducer));
+    if (icysixel_begin(&filter->decoder) != ICYSIXEL_OK) stop(1, "out of memory");
+    icysixel_feed(&filter->decoder, filter->stored, filter->length, &fed);
+    filter->state = IMAGE;
+    filter->previous = 0;
 }
 
-/* Ends the DCS sequence: writes the size of its image, or copies its bytes. */
-static void finish(icysixel *decoder, kept *string)
+/* Reads bytes of the open DCS sequence; returns how many belong to an image. */
+static size_t read_image(struct filter *filter, const uint8_t *bytes, size_t length)
 {
+    icysixel_fed fed;
     icysixel_shape shape;
-    if (icysixel_finish(decoder, &shape) == ICYSIXEL_OK) {
-        size_t height = shape.height * shape.pixel_height / shape.pixel_width;
-        printf("[image of %zu x %zu pixels]", shape.width, height);
-        string->length = 0;
-    } else {
-        pass_on(string);
-    }
-    icysixel_discard_image(decoder);
-}
-
-/* Reads a byte outside of DCS sequences, which 0x1b and `P` begin. */
-static void outside(icysixel *decoder, kept *string, uint8_t byte)
-{
-    if (byte == 0x1b) pass_on(string);
-    if (!keep(string, byte)) exit(3);
-    if (byte == 0x1b) return;
-    if (string->length == 2 && byte == 'P' && icysixel_begin(decoder) == ICYSIXEL_OK) {
-        icysixel_fed fed;
-        icysixel_feed(decoder, string->bytes, string->length, &fed);
-        return;
-    }
-    pass_on(string);
-}
-
-/* Reads a byte of the open DCS sequence; returns whether the sequence contains it. */
-static int inside(icysixel *decoder, kept *string, uint8_t byte)
-{
-    icysixel_fed fed = {0};
-    if (icysixel_feed(decoder, &byte, 1, &fed) != ICYSIXEL_OK) {
-        icysixel_abort(decoder);
-        pass_on(string);
+    if (icysixel_feed(&filter->decoder, bytes, length, &fed) != ICYSIXEL_OK) {
+        /* tmux has the only DCS sequences whose first byte after ESC P is `t`. */
+        int is_tmux = filter->stored[0] == ESC && filter->length == 2 && bytes[0] == 't';
+        filter->state = is_tmux ? PASSED_ON : STRING;
+        icysixel_abort(&filter->decoder);
+        copy_stored(filter);
         return 0;
     }
-    if (fed.consumed == 1 && !keep(string, byte)) exit(3);
-    if (fed.status != ICYSIXEL_MORE) {
-        /* An ESC that interrupts the sequence was consumed, and begins what follows. */
-        int is_cut = fed.status == ICYSIXEL_INTERRUPTED && fed.byte == 0x1b;
-        string->length -= (size_t)is_cut;
-        finish(decoder, string);
-        if (is_cut) outside(decoder, string, 0x1b);
-    }
-    return fed.consumed == 1;
+    store(filter, bytes, fed.consumed);
+    if (fed.status == ICYSIXEL_MORE) return length;
+    /* An ESC that interrupts the image was consumed, and begins what follows. */
+    int is_cut = fed.status == ICYSIXEL_INTERRUPTED && fed.byte == ESC;
+    filter->length -= (size_t)is_cut;
+    filter->state = is_cut ? ESCAPE : TEXT;
+    if (icysixel_finish(&filter->decoder, &shape) != ICYSIXEL_OK ||
+        !write_image(&filter->decoder, &shape))
+        copy_stored(filter);
+    filter->length = 0;
+    return fed.consumed;
 }
 
-int main(void)
+/* Reads a byte of the content that tmux passes on, which ESC \ ends. ESC ESC is an ESC of it. */
+static void read_passed_on(struct filter *filter, uint8_t byte)
 {
-    icysixel decoder = {0};
-    kept string = {0};
-    int byte;
-    if (icysixel_new(&decoder) != ICYSIXEL_OK) return 3;
-    while ((byte = getchar()) != EOF)
-        if (!icysixel_is_receiving(&decoder) || !inside(&decoder, &string, (uint8_t)byte))
-            outside(&decoder, &string, (uint8_t)byte);
-    pass_on(&string);
-    icysixel_free(&decoder);
-    free(string.bytes);
+    int is_escaped = filter->previous == ESC;
+    putchar(byte);
+    if (is_escaped && byte == '\\') filter->state = TEXT;
+    filter->previous = is_escaped ? 0 : byte;
+}
+
+/* Reads a byte outside of images. An ESC is written once the byte after it is known. */
+static void read_byte(struct filter *filter, uint8_t byte)
+{
+    int is_escaped = filter->state == ESCAPE;
+    /* After a byte of a UTF-8 character another one is no control. */
+    uint8_t control = byte < 0x80 || filter->previous < 0x80 ? byte : 0;
+    if (is_escaped && byte >= 0x40 && byte < 0x60) control = byte + 0x40;
+    if (is_escaped && byte != 'P') putchar(ESC);
+    if (control == DCS) {
+        begin_image(filter, byte);
+        return;
+    }
+    if (byte == ESC)
+        filter->state = ESCAPE;
+    else if (control == OSC)
+        filter->state = TITLE;
+    else if (control == SOS || control == PM || control == APC)
+        filter->state = STRING;
+    else if (is_escaped || control == CAN || control == SUB ||
+             (control >= 0x80 && control < C1_END) || (control == BEL && filter->state == TITLE))
+        filter->state = TEXT;
+    if (byte != ESC) putchar(byte);
+    filter->previous = byte;
+}
+
+static void read_chunk(struct filter *filter, const uint8_t *bytes, size_t length)
+{
+    for (size_t at = 0; at < length;)
+        if (filter->state == IMAGE)
+            at += read_image(filter, bytes + at, length - at);
+        else if (filter->state == PASSED_ON)
+            read_passed_on(filter, bytes[at++]);
+        else
+            read_byte(filter, bytes[at++]);
+}
+
+/* The clip that the arguments ask for. */
+static icysixel_size read_arguments(int count, char **words)
+{
+    static const char *usage = "usage: filter [-w COLUMNS] [-h ROWS]";
+    icysixel_size clip = {SIZE_MAX, SIZE_MAX};
+    for (int option; (option = getopt(count, words, "w:h:")) != -1;) {
+        char *end = NULL;
+        size_t pixels = option == '?' ? 0 : strtoul(optarg, &end, 10);
+        if (pixels == 0 || *end != '\0') stop(2, usage);
+        *(option == 'w' ? &clip.width : &clip.height) = pixels;
+    }
+    if (optind < count) stop(2, usage);
+    return clip;
+}
+
+int main(int count, char **words)
+{
+    struct filter filter = {0};
+    icysixel_size clip = read_arguments(count, words);
+    uint8_t chunk[65536];
+    ssize_t length;
+    if (icysixel_new(&filter.decoder) != ICYSIXEL_OK) stop(1, "out of memory");
+    icysixel_set_clip(&filter.decoder, clip.width, clip.height);
+    do {
+        length = read(STDIN_FILENO, chunk, sizeof chunk);
+        if (length < 0) stop(1, "input fault");
+        read_chunk(&filter, chunk, (size_t)length);
+        if (length == 0) copy_stored(&filter);
+        if (length == 0 && filter.state == ESCAPE) putchar(ESC);
+        if (fflush(stdout) != 0) stop(1, "output fault");
+    } while (length > 0);
+    icysixel_free(&filter.decoder);
+    free(filter.stored);
     return 0;
 }

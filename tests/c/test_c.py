@@ -16,7 +16,6 @@ from vectors import bytes_of, packed_vectors, vectors
 
 HERE = ROOT / "tests/c"
 EXAMPLES = ROOT / "examples"
-FILTER = ROOT / "crates/sixel_filter/out/sixel_filter"
 
 C11 = ["gcc", "-std=c11", "-pedantic", "-Wall", "-Wextra", "-Werror", f"-I{HEADERS}"]
 SANITIZERS = ["-fsanitize=address,undefined", "-fno-sanitize-recover=all"]
@@ -25,10 +24,6 @@ MEMCHECK = ["valgrind", "-q", "--leak-check=full", "--show-leak-kinds=all", "--e
 HELGRIND = ["valgrind", "-q", "--tool=helgrind", "--error-exitcode=9"]
 
 NEEDED = {*"memcpy memmove memset rattle_alloc rattle_dealloc rattle_realloc".split()}
-# Kilobytes of address space in which sixel_filter reads an image of the program `peak` three times.
-# The limit is a fifth more.
-FILTER_MEMORY = {"photograph": 3329, "chart": 4918, "icon": 2602}
-FILTER_MEMORY |= {"wide": 3881, "tall": 4960, "raster": 7496}
 # Payloads that are fed in chunks of a length, and the most instructions, a tenth more than they took:
 # sixels over what is drawn, and short runs, in single bytes; runs over a whole row; and bands, each
 # twice as wide as the one before.
@@ -119,24 +114,14 @@ class TestC(unittest.TestCase):
                 text = b"\x1bPq" + payload + b"\x1b\\"
                 self.assertLess(instructions(self.program("feed"), str(length), stdin=text), most)
 
-    @unittest.skipUnless(FILTER.exists(), "sixel_filter is not built")
-    def test_filter_memory(self):
-        """The program sixel_filter needs little more memory than an image of its stream."""
-        self.succeeds(self.program("peak"), self.folder)
-        for name, memory in FILTER_MEMORY.items():
-            with self.subTest(image=name):
-                stream = 3 * (self.folder / f"{name}.six").read_bytes()
-                limit = memory * 6 // 5
-                written = self.succeeds(FILTER, "4096", "size", stdin=stream, memory=limit)
-                self.assertRegex(written, rb"\A(\[image \d+x\d+\]){3}\Z")
-
     def test_examples(self):
         """Each example decodes images of its input, or reports why it rejects them."""
-        for place, (name, text, status, output, error) in vectors(HERE / "examples.tsv"):
+        for place, (command, text, status, output, error) in vectors(HERE / "examples.tsv"):
             with self.subTest(place=place):
+                name, *words = command.split()
                 program = self.program(name, "sanitizers", EXAMPLES)
                 ended = int(status), bytes_of(output), bytes_of(error)
-                self.assertEqual(run(program, stdin=bytes_of(text)), ended)
+                self.assertEqual(run(program, *words, stdin=bytes_of(text)), ended)
 
     def test_host_pages(self):
         """The code of each page for a host compiles."""

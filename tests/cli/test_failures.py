@@ -5,7 +5,8 @@ import tempfile
 import unittest
 from pathlib import Path
 
-from build import ROOT, builds_of, needs, run
+from build import ARCHIVES, HEADERS, MEMORY, ROOT, builds_of, needs, run
+from vectors import bytes_of, vectors
 
 PAYLOAD = b"#1~$!300~"
 DCS = b"\x1bPq" + PAYLOAD + b"\x1b\\"
@@ -23,8 +24,10 @@ SIXEL = [
     ("encode 3 1 2", PIXELS, TEXT, [b""]),
     ("draw", PPM, DRAWN, [b""]),
 ]
-# Text around an image, and what sixel_filter writes for each beginning of it and for all.
-STREAM, NOTES = b"a\x1bPq#1~~\x1b\\b", [b"", b"a", b"a[image 2x6]", b"a[image 2x6]b"]
+# The example filter.c, text around an image, and what the filter writes of each beginning of it.
+FILTER = ROOT / "examples/filter.c"
+STREAM, FILTERED = b"a\x1bPq#0~~\x1b\\b", b'a\x1bP9;1;0q"1;1;2;6#0;2;0;0;0#0~~\x1b\\b'
+BEGINNINGS = [b"", FILTERED[:1], FILTERED[:-1], FILTERED]
 RUNS = [f"{it}: out of memory" for it in (
     "run in a payload session", "tagged run in a payload session", "tagged run in a DCS session")]
 # The lines of sixel_allocations that differ, in the order of the allocations of one pass.
@@ -85,19 +88,25 @@ class Failures(unittest.TestCase):
                 self.assertTrue(lengths[0] == 0 < len(output) - lengths[-1] <= 97)
 
     def test_filter(self):
-        """The same of sixel_filter, which writes what it can before it reads on."""
-        for program, length in itertools.product(builds_of("sixel_filter"), range(1, 13)):
-            with self.subTest(program.name, length=length):
-                command = [program, str(length), "size"]
-                statuses, outputs, errors = zip(*self.failures("READ", *command, stdin=STREAM))
-                self.assertEqual((set(statuses), set(errors)), ({1}, {b"input fault\n"}))
-                self.assertLessEqual(set(outputs), set(NOTES))
-                self.assertEqual([*outputs], sorted(outputs))
-                if length == 1:
-                    self.assertEqual(distinct(outputs), NOTES)
-                ended = [*self.failures("WRITE", *command, stdin=STREAM, moved=1)]
-                begun = [(1, NOTES[-1][:it], b"output fault\n") for it in range(len(NOTES[-1]))]
-                self.assertEqual(ended, begun)
+        """The example filter.c reads chunks of any length, and writes each before it reads on."""
+        program = self.shim.with_name("filter")
+        sources = [FILTER, MEMORY, ARCHIVES[0], f"-I{HEADERS}"]
+        subprocess.run(["cc", "-std=c11", *sources, "-o", program], check=True)
+        for place, (command, text, *ended) in vectors(ROOT / "tests/c/examples.tsv"):
+            name, *words = command.split()
+            for moved in range(1, 4) if name == "filter" else ():
+                with self.subTest(place=place, moved=moved):
+                    environment = {"LD_PRELOAD": self.shim, "MOVED": str(moved)}
+                    found = run(program, *words, stdin=bytes_of(text), env=environment)
+                    self.assertEqual(found, (int(ended[0]), *map(bytes_of, ended[1:])))
+        failures = self.failures("READ", program, stdin=STREAM, moved=1)
+        statuses, outputs, errors = zip(*failures)
+        self.assertEqual((set(statuses), set(errors)), ({1}, {b"input fault\n"}))
+        self.assertEqual(distinct(outputs), BEGINNINGS)
+        failures = self.failures("ALLOC", program, stdin=STREAM)
+        self.assertEqual({it[::2] for it in failures} - {(0, b"")}, {(1, b"out of memory\n")})
+        ended = run("sh", "-c", f"{program} >/dev/full", stdin=STREAM)
+        self.assertEqual(ended, (1, b"", b"output fault\n"))
 
     def test_allocations(self):
         for sixel, row in itertools.product(builds_of("sixel"), SIXEL):

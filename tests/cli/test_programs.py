@@ -1,4 +1,4 @@
-"""Tests the programs `sixel` and `sixel_filter`: arguments, output, errors, statuses and memory.
+"""Tests the program `sixel`: arguments, output, errors, statuses and memory.
 
 The expected bytes are computed by hand from docs/FORMAT.md.
 """
@@ -59,11 +59,9 @@ class TestPrograms(ProgramTest):
     def test_runs(self):
         for place, (command, text, result) in vectors(HERE / "runs.tsv"):
             self.name, *words = shlex.split(command)
-            kind, _, path = text.partition(":")
-            stdin = (ROOT / path).read_bytes() if kind == "file" else bytes_of(text)
             for arguments in itertools.product(*(VALUES.get(it, [it]) for it in words)):
                 with self.subTest(place=place):
-                    self.ends(arguments, stdin, outcome(result))
+                    self.ends(arguments, bytes_of(text), outcome(result))
 
     def test_failing_descriptors_and_arguments(self):
         for _, (self.name, words, error) in vectors(HERE / "failing.tsv"):

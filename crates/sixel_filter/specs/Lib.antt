@@ -1,5 +1,0 @@
-pub mod Making
-pub mod Stream
-pub mod Stop
-pub mod Words
-pub mod inside
