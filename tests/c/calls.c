@@ -139,6 +139,26 @@ static void test_canvas_paints(void)
     CHECK(icysixel_abort(h) == OK);
 }
 
+/* A feed up to a new line reports rows if they became final: those of blank bands do so later. */
+static void test_bands(void)
+{
+    static const struct { const char *rest; uint32_t consumed, status, rows; } bands[] = {
+        {"#1~-~-~", 4, ICYSIXEL_ROWS, 6}, {"~-~", 2, ICYSIXEL_ROWS, 12},
+        {"~", 1, ICYSIXEL_MORE, 12}, {"--~", 1, ICYSIXEL_ROWS, 18}, {"-~", 1, ICYSIXEL_MORE, 18},
+        {"~", 1, ICYSIXEL_ROWS, 24}, {"~\033-~-", 1, ICYSIXEL_COMPLETE, 24},
+    };
+    RETURNS(OK, icysixel_begin_payload(h, 9, 1, -1));
+    EACH(row, bands) {
+        RETURNS(OK, icysixel_feed_band(h, BYTES(row->rest), &fed));
+        CHECK(fed.consumed == row->consumed && fed.status == row->status);
+        CHECK(icysixel_get_rows_so_far(h) == row->rows);
+    }
+    RETURNS(OK, icysixel_begin_payload(h, 9, 1, -1));
+    CHECK(FEED("---") == OK && icysixel_get_rows_so_far(h) == 1);
+    CHECK(FEED("\"1;1;2;20-") == OK && icysixel_get_rows_so_far(h) == 20);
+    CHECK(icysixel_abort(h) == OK);
+}
+
 /* Final rows are copied to memory with a stride, and the others when the image ends. */
 static void test_copied_rows(void)
 {
@@ -166,8 +186,10 @@ static void test_copied_rows(void)
     CHECK(are_rows(rows, 2, "\0\0\377\377\0\0\0\0\7\7\7\7", 12));
     RETURNS(OK, icysixel_copy_rows(h, 0, 6, &(icysixel_layout){.columns = 1}, dense, 24));
     CHECK(IS_RED(dense, 6));
+    CHECK(FEED("!3~$") == OK && icysixel_copy_rows(h, 0, 6, &rgba, rows, 68) == OK);
+    CHECK(are_rows(rows, 2, "\377\0\0\377\0\0\0\0\7\7\7\7", 12));
     RETURNS(ROWS_NOT_FINAL, icysixel_release_rows(h, 7));
-    RETURNS(OK, icysixel_release_rows(h, 6));
+    CHECK((icysixel_release_rows(h, 6) | icysixel_release_rows(h, 2)) == OK);
     RETURNS(ROWS_RELEASED, icysixel_copy_rows(h, 5, 1, &rgba, rows, 72));
     RETURNS(OK, icysixel_feed_band(h, BYTES("!3~"), &fed));
     CHECK(fed.consumed == 3 && fed.status == ICYSIXEL_MORE);
@@ -190,7 +212,37 @@ static void test_copied_rows(void)
     CHECK(icysixel_is_receiving(h) == 0);
     CHECK(icysixel_begin_partial(h, 9, 1, -1) == OK && FEED("~-~") == OK);
     CHECK(icysixel_release_rows(h, 6) == OK && FEED("!65536~") == BAD);
+    RETURNS(ROWS_NOT_FINAL, icysixel_copy_rows(h, 6, 1, &rgba, rows, 72));
     RETURNS(STREAM_FAILED, icysixel_finish_partial(h, &shape, &(uint32_t){0}));
+}
+
+/* An image ends in memory. Too small memory leaves it open, its command too. A fault closes it. */
+static void test_finish_into(void)
+{
+    static const icysixel_layout rgba = {12, 2, ICYSIXEL_ORDER_RGBA};
+    uint8_t rows[144];
+    memset(rows, 7, sizeof rows);
+    RETURNS(OK, icysixel_begin_payload(h, 9, 1, -1));
+    RETURNS(OK, FEED("#1;2;100;0;0~~#1;2;0;100;0-!3~"));
+    RETURNS(OK, icysixel_finish_into(h, 0, &rgba, rows, 144, &shape, &wanted));
+    CHECK(are_rows(rows, 6, RED RED "\7\7\7\7", 12) && shape.width == 3 && shape.height == 12);
+    CHECK(are_rows(rows + 72, 6, "\0\377\0\377\0\377\0\377\7\7\7\7", 12));
+    CHECK(icysixel_is_receiving(h) == 0 && red_of_1() == 0);
+    memset(rows, 7, sizeof rows);
+    CHECK(icysixel_set_crop(h, 1) == OK && icysixel_begin_payload(h, 9, 1, -1) == OK);
+    CHECK(FEED("\"1;1;1;3~-~") == OK && icysixel_set_crop(h, 0) == OK);
+    RETURNS(OK, icysixel_finish_into(h, 6, &rgba, rows, 12, &shape, &wanted));
+    CHECK(shape.width == 1 && shape.height == 3 && rows[0] == 7);
+    CHECK(icysixel_begin_payload(h, 9, 1, -1) == OK && FEED("~\"1;1;1;9") == OK);
+    RETURNS(BUFFER_TOO_SMALL, icysixel_finish_into(h, 0, &rgba, rows, 72, &shape, &wanted));
+    CHECK(wanted == 104 && FEED("0") == OK);
+    RETURNS(BUFFER_TOO_SMALL, icysixel_finish_into(h, 0, &rgba, rows, 72, &shape, &wanted));
+    CHECK(wanted == 1076 && are_rows(rows, 12, "\7\7\7\7\7\7\7\7\7\7\7\7", 12));
+    RETURNS(OK, icysixel_finish_into(h, 84, &rgba, rows, 72, &shape, &wanted));
+    CHECK(are_rows(rows, 6, "\0\0\0\0\0\0\0\0\7\7\7\7", 12) && shape.height == 90);
+    CHECK(icysixel_begin_payload(h, 9, 1, -1) == OK && FEED("~!65536") == OK);
+    RETURNS(MALFORMED, icysixel_finish_into(h, 0, &rgba, rows, 72, &shape, &wanted));
+    CHECK(icysixel_is_receiving(h) == 0);
 }
 
 /* Pixels are copied row by row with a stride, only into a buffer that is large enough, and once. */
@@ -300,25 +352,33 @@ static void test_partial(void)
     RETURNS(NO_SESSION, icysixel_finish_partial(h, &shape, &fault));
 }
 
-/* The shape of each finished image has the drawn height, at most the height. */
+/* The last row with a set pixel, plus one: of an open image, and in the shape of a finished one,
+ * where it is at most the height. */
 static void test_drawn_height(void)
 {
     static const struct { const char *data; uint8_t crop; size_t rows, height, drawn; } images[] = {
         {"", 0, 99, 1, 0}, {"?", 0, 99, 6, 0}, {"~-@", 0, 99, 12, 7}, {"~-B", 0, 2, 2, 2},
         {"~-B", 0, 8, 8, 8}, {"~-B", 0, 11, 11, 8}, {"\"1;1;1;3~", 0, 99, 6, 6},
         {"\"1;1;1;3~", 1, 99, 3, 3}, {"\"1;1;1;9~", 1, 99, 9, 6}, {"\"1;1;1;2@-@", 1, 99, 2, 2},
+        {"\"1;1;1;9~-~", 1, 4, 4, 4}, {"~\"1;1;1;3", 1, 99, 3, 3}, {"@!3", 0, 99, 6, 1},
+        {"A@", 0, 99, 6, 2}, {"@A", 0, 99, 6, 2}, {"_?", 0, 99, 6, 6}, {"~-~-~-B", 0, 99, 24, 20},
+        {"-@", 0, 99, 12, 7}, {"-----", 0, 99, 1, 0}, {"~-?-???", 0, 99, 18, 6},
+        {"B-!9?$#1A", 0, 99, 12, 8}, {"!300A-!300@", 0, 99, 12, 7}, {"\"1;1;5;20B", 0, 99, 20, 2},
+        {"\"1;1;20;12@@@@@@@@@@A@@@@", 0, 99, 12, 2}, {"@-B!5", 0, 99, 12, 8},
+        {"\"1;1;20;12AAAAAAAAAA-@@@@@@@@@@", 0, 99, 12, 7}, {"@", 0, 99, 6, 1},
     };
     static const icysixel_layout layout = {.columns = 1};
-    uint8_t pixels[48];
+    uint8_t pixels[96];
     EACH(row, images) {
-        CHECK(icysixel_set_crop(h, row->crop) == OK && icysixel_set_clip(h, 9, row->rows) == OK);
+        CHECK(icysixel_set_crop(h, row->crop) == OK && icysixel_set_clip(h, 999, row->rows) == OK);
         for (int call = 0; call < 5; call++) {
             CHECK(icysixel_begin_payload(h, 9, 1, -1) == OK && FEED(row->data) == OK);
+            CHECK(row->crop == 1 || icysixel_get_drawn_height(h) == row->drawn);
             const uint32_t code = call == 0 ? DECODE(row->data)
                 : call == 1 ? icysixel_decode_payload(h, BYTES(row->data), 9, 1, -1, &shape)
                 : call == 2 ? icysixel_finish(h, &shape)
                 : call == 3 ? icysixel_finish_partial(h, &shape, &(uint32_t){0})
-                : icysixel_finish_into(h, 0, &layout, pixels, 48, &shape, &wanted);
+                : icysixel_finish_into(h, 0, &layout, pixels, 96, &shape, &wanted);
             CHECK(code == OK && shape.height == row->height && shape.drawn_height == row->drawn);
             shape = (icysixel_shape){0};
         }
@@ -563,9 +623,10 @@ int main(void)
 {
     static const struct { const char *name; void (*test)(void); } tests[] = {
         TEST(empty_handle), TEST(new_on_full_handle), TEST(progress), TEST(canvas_paints),
-        TEST(copied_rows), TEST(pixels), TEST(errors), TEST(partial), TEST(drawn_height),
-        TEST(take_pixels), TEST(new_on_full_handle), TEST(registers), TEST(settings), TEST(encode),
-        TEST(encodings), TEST(widest), TEST(palettes), TEST(indices), TEST(code_texts),
+        TEST(bands), TEST(copied_rows), TEST(finish_into), TEST(pixels), TEST(errors),
+        TEST(partial), TEST(drawn_height), TEST(take_pixels), TEST(new_on_full_handle),
+        TEST(registers), TEST(settings), TEST(encode), TEST(encodings), TEST(widest),
+        TEST(palettes), TEST(indices), TEST(code_texts),
     };
     for (size_t i = 0; i < COUNT_OF(tests); i++) subject = tests[i].name, tests[i].test();
     icysixel_free(h);

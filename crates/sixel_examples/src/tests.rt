@@ -3,6 +3,8 @@
 use crate::in_one_call::{decode, decode_payload, encode, palette};
 use crate::lists::replay;
 use crate::multiplexer::{Came, read};
+use crate::palettes::{encode_by_indices, encode_diffused, encode_photograph};
+use crate::rows::{draw_rest, draw_rows};
 use crate::streaming::{decode_chunks, decode_payload_chunks};
 use crate::terminal::{Images, Read};
 use crate::viewer::open;
@@ -10,6 +12,7 @@ use icy_sixel::receiver::SixelReceiver;
 use icy_sixel::script::Outcome;
 use icy_sixel::{Result, SixelDecoder, SixelImage};
 use std::alloc::Global;
+use std::test::Fail;
 
 const RED: [u8; 4] = [255, 0, 0, 255];
 
@@ -66,20 +69,6 @@ fn decoders(rt: HostRuntime) {
     assert!(rt; are_drawn & is_replayed & (decoder.register(1) == [51, 51, 204]));
 }
 
-#[test]
-fn register_ranges(rt: HostRuntime) {
-    let mut decoder = SixelDecoder::new();
-    decoder.set_registers(1, &[[1, 2, 3], [4, 5, 6]]);
-    decoder.set_registers(255, &[[7, 8, 9], [9, 9, 9]]);
-    let colors = decoder.registers();
-    let are_set = (colors[1] == [1, 2, 3]) & (colors[2] == [4, 5, 6]) & (colors[255] == [7, 8, 9]);
-    let are_kept = (colors[0] == [0, 0, 0]) & (colors[3] == [51, 204, 51]);
-    let mut receiver = SixelReceiver::with_decoder(decoder);
-    receiver.set_registers(2, &[[0, 0, 1]]);
-    let colors = receiver.registers();
-    assert!(rt; are_set & are_kept & (colors[1] == [1, 2, 3]) & (colors[2] == [0, 0, 1]));
-}
-
 /// Whether one color has a certified palette of itself.
 fn is_certified(alloc: Global) -> bool {
     match palette(alloc, &NAVY) {
@@ -90,13 +79,21 @@ fn is_certified(alloc: Global) -> bool {
     }
 }
 
+/// Whether a call returned this text.
+fn is_text(text: Result<String>, expected: &str) -> bool {
+    match text {
+        Ok(text) => text.as_str() == expected,
+        Err(_) => false,
+    }
+}
+
 /// Whether a red pixel is encoded.
 fn is_encoded(alloc: Global) -> bool {
-    let Ok(pixels) = Vec::from_slice(alloc, &RED) else {
-        return false;
-    };
-    match encode(alloc, pixels, 1, 1) {
-        Ok(text) => text.as_str() == "\x1bP9;1;0q\"1;1;1;1#0;2;100;0;0#0@$-\x1b\\",
+    match Vec::from_slice(alloc, &RED) {
+        Ok(pixels) => is_text(
+            encode(alloc, pixels, 1, 1),
+            "\x1bP9;1;0q\"1;1;1;1#0;2;100;0;0#0@$-\x1b\\",
+        ),
         Err(_) => false,
     }
 }
@@ -164,4 +161,53 @@ fn multiplexer(rt: HostRuntime) {
     let whole = kind_of(read(&mut receiver, b"\x90q~\x9ctext"));
     let are_kinds = (part == Some((0, 0))) & (cut_short == Some((2, 2))) & (whole == Some((1, 4)));
     assert!(rt; are_kinds & (receiver.into_decoder().register(1) == [51, 51, 204]));
+}
+
+/// A row of three pixels of gray, 100 of 255.
+const GRAYS: &[u8] = &[100, 100, 100, 255, 100, 100, 100, 255, 100, 100, 100, 255];
+
+/// Black and white.
+const COLORS: &[[u8; 3]] = &[[0, 0, 0], [255, 255, 255]];
+
+/// The row diffused: white in the middle, drawn over black.
+const DIFFUSED: &str = "\x1bP9;1;0q\"1;1;3;1#0;2;0;0;0#1;2;100;100;100#0@@@$#1?@\x1b\\";
+
+/// The row in black, which is nearest.
+const BLACK: &str = "\x1bP9;1;0q\"1;1;3;1#0;2;0;0;0#1;2;100;100;100#0@@@$-\x1b\\";
+
+/// The row in its refined palette: 100 of 255 is 39 percent.
+const REFINED: &str = "\x1bP9;1;0q\"1;1;3;1#0;2;39;39;39#0@@@\x1b\\";
+
+#[test]
+fn palettes(rt: HostRuntime) -> std::result::Result<(), Fail> {
+    let pixels = Vec::from_slice(rt.alloc(), GRAYS)?;
+    let image = SixelImage::from_rgba(pixels, 3, 1);
+    let is_diffused = is_text(encode_diffused(rt.alloc(), &image, COLORS), DIFFUSED);
+    let is_black = is_text(encode_by_indices(rt.alloc(), &image, COLORS), BLACK);
+    let is_refined = is_text(encode_photograph(rt.alloc(), &image), REFINED);
+    assert!(rt; is_diffused & is_black & is_refined);
+    Ok(())
+}
+
+/// Draws a DCS sequence of two bands in chunks, and returns whether each row is drawn in time.
+fn draw_window(receiver: &mut SixelReceiver, window: &mut [u8]) -> Result<bool> {
+    let first = draw_rows(receiver, b"\x1bPq#1;2;100;0;0!640~", 0, window)?;
+    let second = draw_rows(receiver, b"-!640", first, window)?;
+    let last = draw_rows(receiver, b"~\x1b\\", second, window)?;
+    let shape = draw_rest(receiver, last, window)?;
+    let are_drawn = (first == 0) & (second == 6) & (last == 6);
+    Ok(are_drawn & (shape.width == 640) & (shape.height == 12))
+}
+
+#[test]
+fn window(rt: HostRuntime) -> std::result::Result<(), Fail> {
+    let mut window = vec![in rt.alloc(); 9; 30_720]?;
+    let mut receiver = SixelReceiver::new();
+    receiver.begin_dcs(rt.alloc());
+    let mut is_red = matches!(draw_window(&mut receiver, &mut window), Ok(true));
+    for pixel in window.chunks(4) {
+        is_red &= pixel == [0, 0, 255, 255].as_slice();
+    }
+    assert!(rt; is_red);
+    Ok(())
 }

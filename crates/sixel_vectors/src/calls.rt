@@ -94,11 +94,14 @@ fn make(alloc: Global, found: &mut String, receiver: &mut SixelReceiver, call: &
     let (word, argument) = call.split_once(' ').unwrap_or((call, ""));
     match word {
         "feed" => return push_received(found, receiver.feed(&bytes(alloc, argument)?)),
+        "try" => return push_tried(found, receiver, &bytes(alloc, argument)?),
+        "writes" => return Ok(write!(found, "\t{}", receiver.canvas_writes())?),
         "finish" => return push_outcome(found, &receiver.finish()),
         "state" => return push_state(found, receiver),
         "register" => return push_register(found, receiver, argument),
         "begin" => begin(alloc, receiver, settings(argument)?.0),
         "abort" => receiver.abort(),
+        "release" => receiver.release_rows(argument.parse::<usize>()?)?,
         _ => set(receiver, word, argument)?,
     }
     Ok(found.push('\t')?)
@@ -123,6 +126,15 @@ fn set(receiver: &mut SixelReceiver, word: &str, argument: &str) -> Result<()> {
         _ => return Err(VectorError::Check("no call")),
     }
     Ok(())
+}
+
+/// Writes whether the call for a byte that cannot fail reads this byte.
+fn push_tried(found: &mut String, receiver: &mut SixelReceiver, bytes: &[u8]) -> Result<()> {
+    let byte = bytes.first().ok_or(VectorError::Check("no byte"))?;
+    match receiver.try_byte(*byte) {
+        Some(received) => push_fed(found, received.consumed, received.status),
+        None => Ok(found.push_str("\tnone")?),
+    }
 }
 
 /// Writes the color of a register.

@@ -22,6 +22,8 @@ pub struct Input {
 pub struct Output {
     /// The bytes before a failed feed, or those that all feeds consume.
     count: usize,
+    /// The drawn height after all feeds.
+    drawn_height: usize,
     /// The column of a feed, for all of them together, and that of the image or error.
     pub text: String,
     pub after: SixelDecoder,
@@ -105,6 +107,8 @@ impl Input {
             let owner = Owner::new(&self.start, is_receiver)?;
             let other = self.play(alloc, owner, lengths, output.count)?;
             ensure(output.text == other.text, "chunks")?;
+            let (height, expected) = (other.drawn_height, output.drawn_height);
+            ensure(height == expected, "drawn height")?;
             check_decoder(&other.after, &output.after)?;
         }
         Ok(())
@@ -120,19 +124,24 @@ impl Input {
     ) -> Result<Output> {
         let mut text = String::new(alloc);
         let session = owner.begin(alloc, self.form)?;
-        let count = self.feed_all(&mut text, session, lengths, failing)?;
+        let (count, drawn_height) = self.feed_all(&mut text, session, lengths, failing)?;
         let after = owner.into_decoder();
-        Ok(Output { count, text, after })
+        Ok(Output {
+            count,
+            drawn_height,
+            text,
+            after,
+        })
     }
 
-    /// Feeds chunks, checks each call, writes the columns and returns the count.
+    /// Feeds chunks, checks each call, writes the columns and returns the count and drawn height.
     fn feed_all(
         &self,
         found: &mut String,
         mut session: Session<'_>,
         lengths: &[usize],
         failing: usize,
-    ) -> Result<usize> {
+    ) -> Result<(usize, usize)> {
         let (mut count, mut status) = (0_usize, Status::Dcs(SixelDcsFeedStatus::NeedMoreData));
         let mut rest = self.bytes.as_slice();
         for length in lengths.iter().chain(&[usize::MAX]) {
@@ -148,14 +157,15 @@ impl Input {
                     write!(found, "\t{count} rejected")?;
                     push_error(found, &error)?;
                     self.check_failed(session)?;
-                    return Ok(count);
+                    return Ok((count, 0));
                 }
             }
             rest = after;
         }
+        let drawn_height = session.drawn_height();
         push_fed(found, count, status)?;
         push_outcome(found, &session.finish())?;
-        Ok(count)
+        Ok((count, drawn_height))
     }
 
     /// Checks that a session fails for good.
@@ -166,7 +176,8 @@ impl Input {
         }));
         ensure(session.feed(b"").err() == failed, "an empty feed")?;
         ensure(session.feed(&self.bytes).err() == failed, "a feed")?;
-        ensure(session.is_idle(), "work")?;
+        let is_idle = session.is_idle() && session.drawn_height() == 0;
+        ensure(is_idle, "work or drawn height")?;
         ensure(session.finish().err() == failed, "finish")?;
         Ok(())
     }

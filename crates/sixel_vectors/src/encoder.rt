@@ -67,6 +67,8 @@ pub fn write_trip(alloc: Global, found: &mut String, colors: &str, source: &str)
     let mut decoded = String::new(alloc);
     write_decoded(alloc, &mut decoded, Form::Payload(settings), payload)?;
     ensure(decoded == *found, "payload")?;
+    let compact = source.encode_compact(alloc, &options)?;
+    check_outcome(alloc, found, &SixelImage::decode(alloc, compact.as_bytes()))?;
     let image = SixelImage::decode(alloc, text.as_bytes())?;
     if image.background_mode.is_transparent() {
         let again = image.encode_with(alloc, &options)?;

@@ -47,12 +47,7 @@ fn check_file(rt: &HostRuntime, folder: &str, name: &str) -> io::Result<bool> {
 }
 
 /// Checks the vectors of these lines, with a buffer for the columns that their calls write.
-fn check_lines(
-    rt: &HostRuntime,
-    found: &mut String,
-    name: &str,
-    text: &str,
-) -> io::Result<bool> {
+fn check_lines(rt: &HostRuntime, found: &mut String, name: &str, text: &str) -> io::Result<bool> {
     let (mut passed, mut have_passed) = (0_u64, true);
     for (index, line) in text.lines().enumerate() {
         if line.is_empty() || line.starts_with('#') {

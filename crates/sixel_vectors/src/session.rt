@@ -152,6 +152,15 @@ impl<'a> Session<'a> {
         }
     }
 
+    /// The last row with a set pixel, plus one, or 0.
+    pub fn drawn_height(&self) -> usize {
+        match self {
+            Self::Payload(session) => session.drawn_height(),
+            Self::Dcs(session) => session.drawn_height(),
+            Self::Receiver(receiver) => receiver.drawn_height(),
+        }
+    }
+
     /// Whether the canvas has no work to report.
     pub fn is_idle(&self) -> bool {
         matches!(self.work(), (None | Some(0), 0))
