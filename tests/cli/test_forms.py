@@ -49,4 +49,4 @@ class TestForms(unittest.TestCase):
 
     def test_types(self):
         self.has_variants("sixel/src/words.rt", "Word", WORD)
-        self.has_variants("sixel_io/src/fault.rt", "Fault", FAULT)
+        self.has_variants("sixel/src/fault.rt", "Fault", FAULT)

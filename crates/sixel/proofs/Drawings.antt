@@ -3,12 +3,12 @@ use Rattle.std.proofs.Common.{◌≡◌, ◌⊎◌, Option, None, Some, Ok, Err,
 use Rattle.std.proofs.Common.{MatchOption, List, [], ℕ, Result, String, ap, sym, subst, ◌∙◌}
 use Rattle.std.specs.Result.{IsErrAnd}
 use Rattle.std.specs.declared.alloc.Global.{Global}
-use Rattle.netpbm.specs.Image.{Rgba}
-use Rattle.netpbm.specs.declared.error.NetpbmError.{NetpbmError}
+use Rattle.sixel.specs.netpbm.Image.{Rgba}
+use Rattle.sixel.specs.declared.netpbm.error.NetpbmError.{NetpbmError}
 use Rattle.sixel_base.specs.CallFault.{CallFault, FailsBy, IsCallFault}
 use Rattle.sixel_base.specs.declared.error.SixelError.{SixelError}
 use Rattle.sixel_base.specs.declared.error.SixelError.TheVariants.{OutOfMemory}
-use Rattle.sixel_io.specs.declared.fault.Fault.TheVariants.{Sixel}
+use Rattle.sixel.specs.declared.fault.Fault.TheVariants.{Sixel}
 use Rattle.sixel.specs.declared.picture_fault.PictureFault.{PictureFault}
 use Rattle.sixel.specs.declared.picture_fault.PictureFault.TheVariants.{Shared}
 use Rattle.sixel.specs.WorkOutput.{Draws}

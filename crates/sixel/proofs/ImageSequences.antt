@@ -17,13 +17,13 @@ use Rattle.sixel_base.specs.declared.status.SixelDcsFeedStatus.TheVariants.{Need
 use Rattle.sixel_base.specs.declared.status.SixelDcsFeedStatus.TheVariants.{Cancelled, Interrupted}
 use Rattle.sixel_base.specs.Dcs.{dcs_status, dcs_count, has_ended}
 use Rattle.sixel_base.specs.OneShot.{found, IsFoundImage, AreFoundRegisters}
-use Rattle.sixel_io.specs.declared.fault.Fault.{Fault}
-use Rattle.sixel_io.specs.declared.fault.Fault.TheVariants.{Sixel, Input, Output}
+use Rattle.sixel.specs.declared.fault.Fault.{Fault}
+use Rattle.sixel.specs.declared.fault.Fault.TheVariants.{Sixel, Input, Output}
 use Rattle.sixel.specs.Form.{image_form}
 use Rattle.sixel.specs.Ending.{Ending, Done, Refused, Unreadable}
 use Rattle.sixel.specs.Sequences.{sequence_fault, is_cut_short, IsSequencesOutput, Over, Broken}
 use Rattle.sixel.specs.Sequences.{CutShort, Followed}
-use Rattle.sixel_io.specs.Output.{Writes}
+use Rattle.sixel.specs.Output.{Writes}
 use Rattle.sixel.specs.WorkOutput.{IsImageOutput, Begins, Serves}
 use Rattle.sixel.proofs.ByteCounts.{complete_counts}
 

@@ -4,6 +4,9 @@ mod Chunks
 pub mod DcsSequences
 pub mod Drawings
 pub mod ImageSequences
+pub mod NetpbmLines
+pub mod NetpbmPixels
 pub mod OptionSteps
 pub mod Outputs
 pub mod Responses
+mod WrittenBytes

@@ -11,8 +11,8 @@ use Rattle.sixel_base.specs.declared.error.SixelError.TheVariants.{OutOfMemory}
 use Rattle.sixel_base.specs.Decoder.{new_decoder}
 use Rattle.sixel_base.specs.Payload.{Image}
 use Rattle.sixel_base.specs.Fault as data_fault
-use Rattle.sixel_io.specs.declared.fault.Fault.{Fault}
-use Rattle.sixel_io.specs.declared.fault.Fault.TheVariants.{Sixel, Input, Output}
+use Rattle.sixel.specs.declared.fault.Fault.{Fault}
+use Rattle.sixel.specs.declared.fault.Fault.TheVariants.{Sixel, Input, Output}
 use Rattle.sixel.specs.declared.words.Word.{Word}
 use Rattle.sixel.specs.declared.words.Word.TheVariants.{Payload, Decode, Frames, Encode}
 use Rattle.sixel.specs.declared.picture_fault.PictureFault.{PictureFault}
@@ -20,8 +20,8 @@ use Rattle.sixel.specs.declared.picture_fault.PictureFault.TheVariants.{Shared}
 use Rattle.sixel.specs.declared.picture_words.PictureWord.{PictureWord}
 use Rattle.sixel.specs.declared.picture_words.PictureWord.TheVariants.{Pam, Draw}
 use Rattle.sixel_encoder.specs.declared.dither.Dither.{Dither}
-use Rattle.netpbm.specs.Image.{Rgba, image_of}
-use Rattle.netpbm.specs.declared.error.NetpbmError.{NetpbmError}
+use Rattle.sixel.specs.netpbm.Image.{Rgba, image_of}
+use Rattle.sixel.specs.declared.netpbm.error.NetpbmError.{NetpbmError}
 use Rattle.sixel.specs.declared.draw_options.DrawPalette.{DrawPalette}
 use Rattle.sixel.specs.declared.draw_options.DrawPalette.TheVariants.{Standard, Refined, File}
 use Rattle.sixel.specs.Drawing.{IsDrawOutput}
@@ -29,7 +29,7 @@ use Rattle.sixel.specs.Form.{line_end, image_line, image_form, pam_header}
 use Rattle.sixel.specs.Form.{pam_form}
 use Rattle.sixel.specs.Ending.{Ending, Done, Refused, Unreadable}
 use Rattle.sixel.specs.Sequences.{Broken}
-use Rattle.sixel_io.specs.Output.{Writes}
+use Rattle.sixel.specs.Output.{Writes}
 use Rattle.sixel.specs.WorkOutput.{IsOutput, IsImageOutput, IsPictureOutput, Begins}
 use Rattle.sixel.specs.WorkOutput.{Serves, ServesPicture}
 

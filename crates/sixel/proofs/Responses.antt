@@ -2,7 +2,7 @@
 use Rattle.std.proofs.Common.{◌≡◌, ℕ, List, Option, None, Some, IfSome, Result, Ok, Err, ap}
 use Rattle.std.proofs.Common.{MatchResult}
 use Rattle.std.specs.Result.{IsErrAnd}
-use Rattle.sixel_io.specs.declared.fault.Fault.{Fault}
+use Rattle.sixel.specs.declared.fault.Fault.{Fault}
 use Rattle.sixel.specs.declared.picture_fault.PictureFault.{PictureFault}
 use Rattle.sixel.specs.declared.picture_fault.PictureFault.TheVariants.{Shared}
 use Rattle.sixel.specs.declared.response.Response.{Response}

@@ -3,9 +3,9 @@
 use Rattle.std.specs.Prelude.{◌≡◌, ◌⊎◌, ◌/◌, ℕ, List, [], length, map, Option, None, Result, Ok}
 use Rattle.std.specs.Prelude.{Err, MatchOption}
 use Rattle.std.specs.List.{range_with_len}
-use Rattle.netpbm.specs.Image.{Rgba, image_of}
-use Rattle.netpbm.specs.declared.error.NetpbmError.{NetpbmError}
-use Rattle.netpbm.specs.declared.error.NetpbmError.TheVariants.{OutOfMemory as NoMemory}
+use Rattle.sixel.specs.netpbm.Image.{Rgba, image_of}
+use Rattle.sixel.specs.declared.netpbm.error.NetpbmError.{NetpbmError}
+use Rattle.sixel.specs.declared.netpbm.error.NetpbmError.TheVariants.{OutOfMemory as NoMemory}
 use Rattle.sixel_base.specs.CallFault.{CallFault, IsCallFault}
 use Rattle.sixel_base.specs.declared.error.SixelError.TheVariants.{OutOfMemory}
 use Rattle.sixel_base.specs.Payload.{Image}

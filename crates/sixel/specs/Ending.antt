@@ -1,6 +1,6 @@
 -- How the program ends: its work is done, or it fails with this error after what was written.
 -- This program's own.
-use Rattle.netpbm.specs.declared.error.NetpbmError.{NetpbmError}
+use Rattle.sixel.specs.declared.netpbm.error.NetpbmError.{NetpbmError}
 use Rattle.sixel_base.specs.declared.error.SixelError.{SixelError}
 
 pub data Ending : Type 0 where

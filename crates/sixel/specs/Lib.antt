@@ -1,6 +1,8 @@
 pub mod Form
+pub mod netpbm
 pub mod Number
 pub mod Options
+pub mod Output
 pub mod Words
 pub mod Ending
 pub mod Sequences

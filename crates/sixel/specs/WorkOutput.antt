@@ -11,9 +11,9 @@ use Rattle.sixel_base.specs.Fault as data_fault
 use Rattle.sixel_base.specs.Payload.{Image, payload_fault, payload_image}
 use Rattle.sixel_encoder.specs.Encoding.{image_fault, IsText, square_value}
 use Rattle.sixel_base.specs.OneShot.{no_settings, found, found_fault, IsFoundImage}
-use Rattle.sixel_io.specs.declared.fault.Fault.{Fault}
-use Rattle.sixel_io.specs.declared.fault.Fault.TheVariants.{Sixel, Input, Output}
-use Rattle.sixel_io.specs.Output.{Writes}
+use Rattle.sixel.specs.declared.fault.Fault.{Fault}
+use Rattle.sixel.specs.declared.fault.Fault.TheVariants.{Sixel, Input, Output}
+use Rattle.sixel.specs.Output.{Writes}
 use Rattle.sixel.specs.declared.words.Word.{Word}
 use Rattle.sixel.specs.declared.words.Word.TheVariants.{Payload, Decode, Frames, Encode}
 use Rattle.sixel.specs.declared.picture_fault.PictureFault.{PictureFault}
@@ -24,7 +24,7 @@ use Rattle.sixel.specs.declared.work.Work.{Work}
 use Rattle.sixel.specs.declared.work.Work.TheVariants.{Data, Picture}
 use Rattle.sixel.specs.Form.{image_form, pam_form}
 use Rattle.sixel.specs.Ending.{Ending, Done, Refused, Unreadable}
-use Rattle.netpbm.specs.Image.{image_of}
+use Rattle.sixel.specs.netpbm.Image.{image_of}
 use Rattle.sixel.specs.Drawing.{IsDrawOutput}
 use Rattle.sixel.specs.Sequences.{IsSequencesOutput}
 

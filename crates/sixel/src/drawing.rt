@@ -2,14 +2,14 @@
 
 ghost use Rattle.sixel.specs.WorkOutput.{Draws};
 ghost use Rattle.sixel.specs.Drawing.{IsDrawOutput, IsPaletteOutput, IsRefinedOutput};
-ghost use Rattle.netpbm.specs.Image.{image_of};
+ghost use Rattle.sixel.specs.netpbm.Image.{image_of};
 
 use crate::draw_options::{DrawOptions, DrawPalette};
+use crate::netpbm::read_image;
 use crate::palette_file::read_colors;
 use crate::picture_fault::PictureFault;
 use icy_sixel::encoder::Dither;
 use icy_sixel::{SixelImage, TextForm};
-use netpbm::read_image;
 use std::alloc::Global;
 
 /// Returns the SIXEL output of the image of a file.

@@ -3,18 +3,20 @@
 ghost use Rattle.std.specs.Prelude.{◌≡◌, OnOk, IfSome};
 ghost use Rattle.std.specs.Io.KnownBytes.{Keeps, IsAtEnd};
 ghost use Rattle.sixel_base.specs.declared.error.SixelError.{SixelError};
-ghost use Rattle.sixel_io.specs.declared.fault.Fault.TheVariants.{Sixel, Input, Output};
+ghost use Rattle.sixel.specs.declared.fault.Fault.TheVariants.{Sixel, Input, Output};
 ghost use Rattle.sixel.specs.declared.words.Word.TheVariants.{Payload, Decode, Encode};
 ghost use Rattle.sixel.specs.Words.{IsServable};
 ghost use Rattle.sixel.specs.Ending.{Done, Refused};
 ghost use Rattle.sixel.specs.WorkOutput.{IsOutput, Begins, Serves};
-ghost use Rattle.sixel_io.specs.Output.{Writes};
+ghost use Rattle.sixel.specs.Output.{Writes};
 
+use crate::fault::Fault;
 use crate::images::write_image;
+use crate::read::read_to_end;
 use crate::sequences::write_sequences;
 use crate::words::Word;
+use crate::write::write_all;
 use icy_sixel::{DcsSettings, EncodeOptions, SixelImage, sixel_encode};
-use sixel_io::{Fault, read_to_end, write_all};
 use std::alloc::Global;
 use std::io::{Read, Write};
 

@@ -4,27 +4,32 @@
 mod draw_options;
 mod drawing;
 mod engine;
+mod fault;
 mod images;
+mod netpbm;
 mod notice;
 mod palette_file;
 mod pam;
 mod picture;
 mod picture_fault;
 mod picture_words;
+mod read;
 mod response;
 mod sequences;
 #[cfg(test)]
 mod tests;
 mod words;
 mod work;
+mod write;
 
+use fault::Fault;
 use notice::Notice;
 use palette_file::palette_path;
 use picture_fault::PictureFault;
 use response::{Response, respond, response_of};
-use sixel_io::{Fault, write_all};
 use std::process::ExitCode;
 use std::{env, fs, io};
+use write::write_all;
 
 fn main(rt: HostRuntime) -> io::Result<ExitCode> {
     let response = match arguments(&rt) {

@@ -2,14 +2,14 @@
 
 ghost use Rattle.std.specs.Prelude.{◌≡◌, ◌⊎◌, Err, IfOk, IfSome, IfNone, MatchResult, Ok};
 ghost use Rattle.std.specs.Prelude.{List, None, option_map, ℕ};
-ghost use Rattle.netpbm.specs.declared.error.NetpbmError.TheVariants.{OutOfMemory};
+ghost use Rattle.sixel.specs.declared.netpbm.error.NetpbmError.TheVariants.{OutOfMemory};
 ghost use Rattle.sixel.specs.Drawing.{colors_of, palette_of};
 ghost use Rattle.sixel.specs.Options.{IsLastPath};
 ghost use Rattle.sixel.specs.Words.{words_of, IsPalettePath};
 
 use crate::draw_options::read_options;
+use crate::netpbm::{NetpbmError, read_image};
 use crate::picture_words::after_draw;
-use netpbm::{NetpbmError, read_image};
 use std::alloc::{AllocError, Global};
 
 /// The path of the palette file, if the arguments state one.

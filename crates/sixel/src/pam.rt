@@ -3,12 +3,13 @@
 ghost use Rattle.std.specs.Prelude.{◌≡◌, None, IfOk, IfErr, string_bytes};
 ghost use Rattle.sixel_base.specs.declared.error.SixelError.TheVariants.{OutOfMemory};
 ghost use Rattle.icy_sixel.specs.ImageView.{image_value};
-ghost use Rattle.sixel_io.specs.declared.fault.Fault.TheVariants.{Sixel};
+ghost use Rattle.sixel.specs.declared.fault.Fault.TheVariants.{Sixel};
 ghost use Rattle.sixel.specs.Form.{pam_form, pam_header};
 ghost use Rattle.sixel.specs.WorkOutput.{IsImageOutput, Serves};
 
+use crate::fault::Fault;
+use crate::write::write_all;
 use icy_sixel::SixelImage;
-use sixel_io::{Fault, write_all};
 use std::alloc::Global;
 use std::io::Write;
 

@@ -3,21 +3,23 @@
 ghost use Rattle.std.specs.Prelude.{◌≡◌, ◌≢◌, [], Err, OnOk, IfSome};
 ghost use Rattle.std.specs.Io.KnownBytes.{Keeps, IsAtEnd};
 ghost use Rattle.sixel_base.specs.declared.error.SixelError.{SixelError};
-ghost use Rattle.netpbm.specs.declared.error.NetpbmError.{NetpbmError};
-ghost use Rattle.sixel_io.specs.declared.fault.Fault.TheVariants.{Sixel, Input, Output};
+ghost use Rattle.sixel.specs.declared.netpbm.error.NetpbmError.{NetpbmError};
+ghost use Rattle.sixel.specs.declared.fault.Fault.TheVariants.{Sixel, Input, Output};
 ghost use Rattle.sixel.specs.declared.picture_fault.PictureFault.TheVariants.{Shared, Netpbm};
 ghost use Rattle.sixel.specs.declared.picture_fault.PictureFault.TheVariants.{Palette};
 ghost use Rattle.sixel.specs.Ending.{Done, Refused, Unreadable};
 ghost use Rattle.sixel.specs.WorkOutput.{IsPictureOutput, Begins, Serves, ServesPicture};
 ghost use Rattle.sixel.specs.declared.picture_words.PictureWord.TheVariants.{Pam};
-ghost use Rattle.sixel_io.specs.Output.{Writes};
+ghost use Rattle.sixel.specs.Output.{Writes};
 
 use crate::drawing::draw;
+use crate::fault::Fault;
 use crate::pam::write_pam;
 use crate::picture_fault::PictureFault;
 use crate::picture_words::PictureWord;
+use crate::read::read_to_end;
+use crate::write::write_all;
 use icy_sixel::SixelImage;
-use sixel_io::{Fault, read_to_end, write_all};
 use std::alloc::Global;
 use std::io::{Read, Write};
 

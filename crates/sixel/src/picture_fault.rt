@@ -1,12 +1,12 @@
 //! The errors of work on images in netpbm's formats.
 
 ghost use Rattle.std.specs.Prelude.{◌≡◌};
-ghost use Rattle.sixel_io.specs.declared.fault.Fault.TheVariants.{Sixel};
+ghost use Rattle.sixel.specs.declared.fault.Fault.TheVariants.{Sixel};
 ghost use Rattle.sixel.specs.declared.picture_fault.PictureFault.TheVariants.{Netpbm, Shared};
 
+use crate::fault::Fault;
+use crate::netpbm::NetpbmError;
 use icy_sixel::SixelError;
-use netpbm::NetpbmError;
-use sixel_io::Fault;
 use thiserror::Error;
 
 /// Why work stops that writes or reads an image in netpbm's formats.

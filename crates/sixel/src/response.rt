@@ -3,8 +3,8 @@
 ghost use Rattle.std.specs.Prelude.{◌≡◌, ◌≢◌, Err, IfSome, MatchResult};
 ghost use Rattle.std.specs.Io.KnownBytes.{Keeps};
 ghost use Rattle.sixel_base.specs.declared.error.SixelError.{SixelError};
-ghost use Rattle.netpbm.specs.declared.error.NetpbmError.{NetpbmError};
-ghost use Rattle.sixel_io.specs.declared.fault.Fault.TheVariants.{Sixel, Input, Output};
+ghost use Rattle.sixel.specs.declared.netpbm.error.NetpbmError.{NetpbmError};
+ghost use Rattle.sixel.specs.declared.fault.Fault.TheVariants.{Sixel, Input, Output};
 ghost use Rattle.sixel.specs.declared.picture_fault.PictureFault.{PictureFault};
 ghost use Rattle.sixel.specs.declared.picture_fault.PictureFault.TheVariants.{Netpbm, Palette};
 ghost use Rattle.sixel.specs.declared.picture_fault.PictureFault.TheVariants.{Shared};
@@ -13,7 +13,7 @@ ghost use Rattle.sixel.specs.declared.work.Work.{Work};
 ghost use Rattle.sixel.specs.Ending.{Done as Whole, Refused, Unreadable};
 ghost use Rattle.sixel.specs.Words.{IsAskedBy, words_of};
 ghost use Rattle.sixel.specs.WorkOutput.{IsWorkOutput, Begins};
-ghost use Rattle.sixel_io.specs.Output.{Writes};
+ghost use Rattle.sixel.specs.Output.{Writes};
 
 use crate::engine::serve;
 use crate::picture::serve_picture;

@@ -17,9 +17,9 @@ ghost use Rattle.sixel.specs.Sequences.{is_cut_short, sequence_fault};
 ghost use Rattle.sixel.specs.Form.{image_form};
 ghost use Rattle.sixel.specs.WorkOutput.{IsImageOutput, Serves};
 
+use crate::fault::Fault;
 use crate::images::write_image;
 use icy_sixel::{Received, SixelDcsFeedStatus, SixelError, SixelImage, SixelReceiver, Status};
-use sixel_io::Fault;
 use std::alloc::Global;
 use std::io::Write;
 

@@ -3,8 +3,8 @@
 ghost use Rattle.std.specs.Prelude.{◌≤◌, IfOk};
 
 use crate::engine::serve;
+use crate::fault::Fault;
 use crate::words::{Word, read_word};
-use sixel_io::Fault;
 use std::io;
 use std::io::{Read, Write};
 use std::test::Fail;

@@ -2,7 +2,7 @@ use Rattle.std.proofs.Common.{◌≡◌, sym, subst, ap, refl, Ok, Err, string_b
 use Rattle.std.proofs.Common.{String, length, ◌∙◌}
 use Rattle.std.specs.declared.alloc.Global.{Global}
 use Rattle.icy_sixel.specs.ImageView.{image_value}
-use Rattle.netpbm.specs.Image as files
+use Rattle.sixel.specs.netpbm.Image as files
 use Rattle.sixel_base.specs.CallFault.{FailsBy}
 use Rattle.sixel_base.specs.Payload.{Image}
 use Rattle.sixel_encoder.specs.IndexedDrawing.{IsPaletteText, palette_fault}

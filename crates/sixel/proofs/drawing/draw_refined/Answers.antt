@@ -1,6 +1,6 @@
 use Rattle.std.proofs.Common.{◌≡◌, subst, ap, Ok, string_bytes}
 use Rattle.icy_sixel.specs.ImageView.{image_value}
-use Rattle.netpbm.specs.Image as files
+use Rattle.sixel.specs.netpbm.Image as files
 use Rattle.sixel_base.specs.CallFault.{FailsBy}
 use Rattle.sixel_base.specs.Payload.{Image}
 use Rattle.sixel_encoder.specs.IndexedDrawing.{palette_fault}

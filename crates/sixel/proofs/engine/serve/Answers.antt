@@ -1,8 +1,8 @@
 use Rattle.std.proofs.Common.{◌≡◌, ◌⊎◌, subst, arith}
 use Rattle.std.proofs.lemmas.Result.{err_from_is_err_and}
 use Rattle.sixel_base.specs.declared.error.SixelError.TheVariants.{OutOfMemory}
-use Rattle.sixel_io.specs.declared.fault.Fault.{Fault}
-use Rattle.sixel_io.specs.declared.fault.Fault.TheVariants.{Sixel, Input}
+use Rattle.sixel.specs.declared.fault.Fault.{Fault}
+use Rattle.sixel.specs.declared.fault.Fault.TheVariants.{Sixel, Input}
 use Rattle.sixel.proofs.Outputs.{Writes-wanting, Keeps-same, wanting}
 use Rattle.sixel.specs.WorkOutput.{IsOutput}
 use Rattle.sixel.proofs.engine.serve.Goals as goal

@@ -1,9 +1,9 @@
 use Rattle.std.proofs.Common.{◌≡◌, ◌⊎◌, subst, arith}
 use Rattle.std.proofs.lemmas.Result.{err_from_is_err_and}
 use Rattle.sixel_base.specs.declared.error.SixelError.TheVariants.{OutOfMemory}
-use Rattle.sixel_io.specs.declared.fault.Fault.{Fault}
-use Rattle.sixel_io.specs.declared.fault.Fault.TheVariants.{Sixel, Input}
-use Rattle.sixel_io.specs.Output.{Writes}
+use Rattle.sixel.specs.declared.fault.Fault.{Fault}
+use Rattle.sixel.specs.declared.fault.Fault.TheVariants.{Sixel, Input}
+use Rattle.sixel.specs.Output.{Writes}
 use Rattle.sixel.specs.Ending.{Refused}
 use Rattle.sixel.proofs.Outputs.{Writes-wanting, Keeps-same, if_read, wanting_picture}
 use Rattle.sixel.specs.WorkOutput.{IsPictureOutput, ServesPicture}

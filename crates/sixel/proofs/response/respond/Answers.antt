@@ -1,5 +1,5 @@
 use Rattle.std.proofs.Common.{subst}
-use Rattle.sixel_io.specs.Output.{Writes}
+use Rattle.sixel.specs.Output.{Writes}
 use Rattle.sixel.specs.Ending.{Refused, Unreadable}
 use Rattle.sixel.specs.Words.{IsAskedBy, words_of}
 use Rattle.sixel.specs.WorkOutput.{IsWorkOutput}

@@ -1,7 +1,0 @@
-use Rattle.std.proofs.Common.{◌≡◌}
-use Rattle.netpbm.specs.Raster.{first_pixels}
-use Rattle.netpbm.proofs.header.Header.pixels.Given as goal
-
--- the pixels so far
-abbrev pub invariant-pixels : goal.invariant-pixels
-invariant-pixels l = l.pixels.items ≡ first_pixels l.self l.raster l.pixel

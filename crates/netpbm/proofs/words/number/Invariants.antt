@@ -1,7 +1,0 @@
-use Rattle.std.proofs.Common.{◌≡◌, drop}
-use Rattle.netpbm.specs.Words.{number_of, with_digits}
-use Rattle.netpbm.proofs.words.number.Given as goal
-
--- the number so far, and the digits after it
-abbrev pub invariant-digits : goal.invariant-digits
-invariant-digits l = with_digits l.number (drop l.byte-index l.word) ≡ with_digits 0 l.word

@@ -1,7 +1,0 @@
-use Rattle.std.proofs.Common.{◌≡◌, drop}
-use Rattle.netpbm.specs.Words.{after_gap, after_gap_from}
-use Rattle.netpbm.proofs.words.skip_gap.Given as goal
-
--- the bytes so far are blanks and comments, of which the last one may be open
-abbrev pub invariant-gap : goal.invariant-gap
-invariant-gap l = after_gap_from l.in_comment (drop l.index l.bytes) ≡ after_gap l.bytes

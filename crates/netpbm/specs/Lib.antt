@@ -1,6 +1,0 @@
-pub mod Words
-pub mod Fields
-pub mod Pam
-pub mod Header
-pub mod Raster
-pub mod Image

@@ -1,0 +1,29 @@
+use Rattle.std.proofs.Common.{arith, length-drop, length-take, rules}
+use Rattle.sixel.proofs.WrittenBytes.{Appends-rest}
+use Rattle.sixel.proofs.write.write_all.Goals as goal
+
+pub returns-then-done-bytes-clause-error : goal.returns-then-done-bytes-clause-error
+returns-then-done-bytes-clause-error g c = grind arith
+
+pub slice_bounds-write-count : goal.slice_bounds-write-count
+slice_bounds-write-count g c = grind arith
+
+pub slice_bounds-write-start : goal.slice_bounds-write-start
+slice_bounds-write-start g c = grind arith
+
+pub overflow_add-done : goal.overflow_add-done
+overflow_add-done g c = grind arith
+
+pub returns-in-Ok-eq0 : goal.returns-in-Ok-eq0
+returns-in-Ok-eq0 g c = search rules
+
+pub writes-preserved : goal.writes-preserved
+writes-preserved g c =
+    let fits = simp (length-take, length-drop) at c.in-Ok.ensures.bound in
+    record {
+      within = omega (arith, fits);
+      written = Appends-rest _ _ _ _ _ _ c.writes.invariant.written c.in-Ok.ensures.bytes;
+    }
+
+pub returns : goal.returns
+returns g c = grind arith
