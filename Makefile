@@ -23,8 +23,8 @@ hooks = $(crate)/memory/icysixel_memory.c
 program = crates/sixel/out/sixel
 programs = $(foreach path,$(wildcard crates/*/src/main.rt),$(path:%/src/main.rt=%/out/)$(word 2,\
 	$(subst /, ,$(path))))
-vectors = crates/sixel_vectors/out/sixel_vectors
-vectors_by_rattle = $(vectors).by-rattle
+tests = crates/sixel_tests/out/sixel_tests
+tests_by_rattle = $(tests).by-rattle
 archive = $(crate)/out/libicysixel.a
 archive_by_rattle = $(crate)/out/libicysixel.by-rattle.a
 # The shared library has a folder of its own, so that `-L out -licysixel` links the archive.
@@ -168,8 +168,8 @@ out/proved: $$(foreach name,$$(crates),$$(call sources,$$(name))) $(libraries:%=
 	$(call rt,.,all check --jobs $(jobs))
 	$(end)
 
-# `rt run` proves, compiles and runs a program. Its arguments are its data, or those in the file args.
-run = run --jobs $(jobs) $(cpu) $1 -- $$(ls -d data 2>/dev/null || cat args 2>/dev/null)
+# `rt run` proves, compiles and runs a program, with the arguments in the file args and its data.
+run = run --jobs $(jobs) $(cpu) $1 -- $$(cat args) $$(ls -d data 2>/dev/null)
 $(programs): $$(call sources,$$(@F)) $$(call proofs,$$(@F))
 	$(call report,building,$(@F))
 	$(start)
@@ -177,13 +177,13 @@ $(programs): $$(call sources,$$(@F)) $$(call proofs,$$(@F))
 	$(end)
 
 # Rattle's own compiler writes the program to the same file as LLVM.
-$(vectors_by_rattle): $$(call sources,sixel_vectors) $$(call proofs,sixel_vectors)
+$(tests_by_rattle): $$(call sources,sixel_tests) $$(call proofs,sixel_tests)
 	$(start)
-	$(call rt,crates/sixel_vectors,$(call run,--backend rattle))
-	@mv $(vectors) $@
+	$(call rt,crates/sixel_tests,$(call run,--backend rattle))
+	@mv $(tests) $@
 	$(end)
 
-$(vectors): $(vectors_by_rattle)
+$(tests): $(tests_by_rattle)
 
 # Runs the tests inside a crate.
 out/unit.%: $$(call sources,$$*) $$(call proofs,$$*)

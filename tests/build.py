@@ -8,7 +8,7 @@ import unittest
 from pathlib import Path
 
 ROOT = Path(__file__).resolve().parent.parent
-DATA = ROOT / "crates/sixel_vectors/data"
+DATA = ROOT / "crates/sixel_tests/data"
 HEADERS = ROOT / "crates/icysixel/include"
 MEMORY = ROOT / "crates/icysixel/memory/icysixel_memory.c"
 # The library for C, as LLVM and as Rattle's own compiler build it.

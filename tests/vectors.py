@@ -1,4 +1,4 @@
-"""The test vectors of crates/sixel_vectors/data, whose README.md defines their format."""
+"""The test vectors of crates/sixel_tests/data, whose README.md defines their format."""
 import itertools
 import re
 import struct

@@ -30,7 +30,7 @@ STREAM, FILTERED = b"a\x1bPq#0~~\x1b\\b", b'a\x1bP9;1;0q"1;1;2;6#0;2;0;0;0#0~~\x
 BEGINNINGS = [b"", FILTERED[:1], FILTERED[:-1], FILTERED]
 RUNS = [f"{it}: out of memory" for it in (
     "run in a payload session", "tagged run in a payload session", "tagged run in a DCS session")]
-# The lines of sixel_allocations that differ, in the order of the allocations of one pass.
+# The lines of `sixel_tests allocations` that differ, in the order of the allocations of one pass.
 CALLS = Path(__file__).with_name("allocations.txt").read_text().splitlines()
 
 
@@ -121,14 +121,14 @@ class Failures(unittest.TestCase):
                 self.assertEqual(distinct(errors), [b"input fault\n", b"out of memory\n"])
 
     def test_calls(self):
-        usual = (ROOT / "crates/sixel_allocations/stdout").read_text().splitlines()
-        for program in builds_of("sixel_allocations"):
+        for program in builds_of("sixel_tests"):
             with self.subTest(program.name):
-                # The first allocation is for the image that the calls are made on.
-                first, *failures = self.failures("ALLOC", program)
-                self.assertEqual(first[:2], (1, b""))
+                usual = run(program, "allocations")[1].decode().splitlines()
+                self.assertEqual({it.split(": ")[1] for it in usual}, {"ok", "None"})
+                # The first allocations are for the arguments and the image of the calls.
+                ended = self.failures("ALLOC", program, "allocations")
                 differences = []
-                for status, output, _ in failures:
+                for status, output, _ in itertools.dropwhile(lambda it: it[0] == 1, ended):
                     lines = output.decode().splitlines()
                     self.assertEqual((status, len(lines)), (0, len(usual)))
                     changed = [line for line, other in zip(lines, usual) if line != other]
@@ -136,5 +136,5 @@ class Failures(unittest.TestCase):
                     differences.append(changed[0] if changed else None)
                 self.assertEqual(distinct(differences), 2 * CALLS)
                 # Each of the six rows has tags, in both passes.
-                run, *tagged = map(differences.count, RUNS)
-                self.assertEqual(tagged, 2 * [run + 2 * 6])
+                untagged, *tagged = map(differences.count, RUNS)
+                self.assertEqual(tagged, 2 * [untagged + 2 * 6])

@@ -5,7 +5,7 @@ from pathlib import Path
 
 from build import DATA, ROOT, instructions, needs
 
-VECTORS = ROOT / "crates/sixel_vectors/out/sixel_vectors"
+PROGRAM = ROOT / "crates/sixel_tests/out/sixel_tests"
 
 
 class TestInstructions(unittest.TestCase):
@@ -20,5 +20,5 @@ class TestInstructions(unittest.TestCase):
                 vector = ("payload p1=9 p2=1", f"#1;2;100;0;0<{columns}*~>",
                           f"{columns}x6 1:1 transparent {6 * columns}*ff0000ff")
                 (Path(folder) / "images.tsv").write_text("\t".join(vector) + "\n")
-                counts.append(instructions(VECTORS, folder))
+                counts.append(instructions(PROGRAM, "vectors", folder))
             self.assertLess(counts[1], 2.2 * counts[0])

@@ -30,8 +30,8 @@ MEMORY = [
     ("encode 8190 8190 16", bytes(4), (1, b"", TOO_FEW)),
 ]
 
-# Kilobytes of address space: 2560 of the program, 3891 of the image of a low sixel, 8192 beside it.
-CALLS_MEMORY = 14_600
+# Kilobytes of address space: 2800 of the program, 3891 of the image of a low sixel, 8192 beside it.
+CALLS_MEMORY = 14_800
 
 # A folder of files of other programs, with expected.tsv, whose first line has the titles.
 SAMPLES = os.environ.get("SAMPLES")
@@ -82,10 +82,11 @@ class TestPrograms(ProgramTest):
 
     def test_session_memory(self):
         """A session has no rows for bands without a set pixel above its only one."""
-        usual = (ROOT / "crates/sixel_allocations/stdout").read_bytes()
-        for program in builds_of("sixel_allocations"):
+        for program in builds_of("sixel_tests"):
             with self.subTest(program.name):
-                self.assertEqual(run(program, memory=CALLS_MEMORY), (0, usual, b""))
+                ended = run(program, "allocations", memory=CALLS_MEMORY)
+                self.assertEqual((ended[0], ended[2]), (0, b""))
+                self.assertEqual(ended[1].count(b"\na low sixel: ok\n"), 2)
 
     @unittest.skipUnless(SAMPLES, "SAMPLES does not name a folder of samples")
     def test_samples(self):

@@ -1,10 +1,12 @@
 //! Vectors of `texts.tsv`, `trips.tsv`, `sizes.tsv`, `palettes.tsv` and `witnesses.tsv`.
 
-use crate::chunks::Input;
-use crate::decoder::{check_outcome, write_whole};
-use crate::error::{Result, VectorError, ensure};
-use crate::notation::{bytes, colors, image, numbers, pixels, push_error, push_image, ratio, size};
-use crate::session::Form;
+use crate::vectors::chunks::Input;
+use crate::vectors::decoder::{check_outcome, write_whole};
+use crate::vectors::error::{Result, VectorError, ensure};
+use crate::vectors::notation::{
+    bytes, colors, image, numbers, pixels, push_error, push_image, ratio, size,
+};
+use crate::vectors::session::Form;
 use icy_sixel::{
     DcsSettings, EncodeOptions, SixelDecoder, SixelError, SixelImage, choose_palette, sixel_encode,
     sixel_encode_default, validate_encode_dimensions, witnesses_hold,

@@ -1,11 +1,11 @@
 //! Vectors of `images.tsv`, `strings.tsv`, `controls.tsv`, `beginnings.tsv`, `tokens.tsv` and
 //! `aborts.tsv`.
 
-use crate::chunks::Input;
-use crate::error::{Result, ensure};
-use crate::notation::{Outcome, bytes, push_outcome};
-use crate::random::Random;
-use crate::session::{Form, Owner, Session, check_decoder};
+use crate::vectors::chunks::Input;
+use crate::vectors::error::{Result, ensure};
+use crate::vectors::notation::{Outcome, bytes, push_outcome};
+use crate::vectors::random::Random;
+use crate::vectors::session::{Form, Owner, Session, check_decoder};
 use icy_sixel::{SixelDecoder, SixelImage, sixel_decode, sixel_decode_from_dcs};
 use std::alloc::Global;
 

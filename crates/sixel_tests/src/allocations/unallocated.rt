@@ -1,7 +1,7 @@
 //! The calls that return a `Result` and do not allocate.
 
-use crate::picture::{color_of, has_colors};
-use crate::session::{Session, draw_payload, is_error};
+use crate::allocations::picture::{color_of, has_colors};
+use crate::allocations::session::{Session, draw_payload, is_error};
 use icy_sixel::{DcsSettings, Result, SixelDecoder, SixelError, SixelImage};
 use std::alloc::Global;
 

@@ -1,6 +1,6 @@
 //! An image of three pixels with its texts, and a row.
 
-use crate::picture::error_if;
+use crate::allocations::picture::error_if;
 use icy_sixel::canvas::Row;
 use icy_sixel::{Result, SixelImage};
 use std::alloc::Global;

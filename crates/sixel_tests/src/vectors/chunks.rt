@@ -1,9 +1,9 @@
 //! Bytes that are decoded at once and in chunks, which never change what comes of them.
 
-use crate::error::{Result, ensure};
-use crate::notation::{bytes, push_error, push_fed, push_outcome, word};
-use crate::random::Random;
-use crate::session::{Form, Owner, Session, check_decoder, settings};
+use crate::vectors::error::{Result, ensure};
+use crate::vectors::notation::{bytes, push_error, push_fed, push_outcome, word};
+use crate::vectors::random::Random;
+use crate::vectors::session::{Form, Owner, Session, check_decoder, settings};
 use icy_sixel::receiver::Received;
 use icy_sixel::script::Status;
 use icy_sixel::{SixelDcsFeedStatus, SixelDecoder, SixelError};

@@ -1,6 +1,6 @@
 //! Decoders and receivers, and sessions with the same calls for both.
 
-use crate::error::{Result, VectorError, ensure};
+use crate::vectors::error::{Result, VectorError, ensure};
 use icy_sixel::receiver::{Received, SixelReceiver};
 use icy_sixel::script::Status;
 use icy_sixel::{DcsSettings, SixelDcsStreamDecoder, SixelDecoder, SixelImage, SixelStreamDecoder};

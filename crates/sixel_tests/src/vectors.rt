@@ -1,9 +1,4 @@
-//! The test vectors of the library: a program that checks every line of the files in `data`.
-//!
-//! Its argument is the folder of the files, or it runs in that folder. `data/README.md` defines the
-//! files. The program prints one line a file and one line a vector that fails, and then ends with
-//! status 1.
-#![tactic(auto)]
+//! The test vectors of the library: the lines of the files in `data`, whose README defines them.
 
 mod calls;
 mod canvas;
@@ -20,20 +15,17 @@ mod steps;
 use error::{Result, VectorError, ensure};
 use std::alloc::Global;
 use std::process::ExitCode;
-use std::{env, fs, io};
+use std::{fs, io};
 
 /// The names of the files, in the order in which they are checked.
 const FILES: &str = "images strings sessions steps receivers controls beginnings tokens aborts \
     writes texts trips palettes witnesses sizes settings registers rows spans";
 
-fn main(rt: HostRuntime) -> io::Result<ExitCode> {
-    let folder = match env::args(&rt)?.nth(1) {
-        Some(folder) => folder,
-        None => String::from_str(rt.alloc(), ".")?,
-    };
+/// Checks the vectors of a folder, prints a line a file, and fails if a vector does.
+pub fn check(rt: &HostRuntime, folder: &str) -> io::Result<ExitCode> {
     let mut status = ExitCode::SUCCESS;
     for name in FILES.split(' ') {
-        if !check_file(&rt, &folder, name)? {
+        if !check_file(rt, folder, name)? {
             status = ExitCode::FAILURE;
         }
     }

@@ -2,9 +2,9 @@
 
 ghost use Rattle.std.specs.Prelude.{◌<◌};
 
-use crate::error::{Result, VectorError, ensure};
-use crate::notation::{bytes, numbers, rgba, size};
-use crate::session::{Form, Owner, Session, settings};
+use crate::vectors::error::{Result, VectorError, ensure};
+use crate::vectors::notation::{bytes, numbers, rgba, size};
+use crate::vectors::session::{Form, Owner, Session, settings};
 use icy_sixel::canvas::{Row, fill_rgba_span};
 use icy_sixel::{SixelDecoder, SixelStreamDecoder};
 use std::alloc::Global;

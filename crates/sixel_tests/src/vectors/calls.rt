@@ -1,8 +1,10 @@
 //! Vectors of `sessions.tsv` and `receivers.tsv`: calls and their results.
 
-use crate::error::{Result, VectorError, ensure};
-use crate::notation::{bytes, color, push_error, push_fed, push_hexadecimal, push_outcome};
-use crate::session::{Owner, Session, begin, check_decoder, clip, settings};
+use crate::vectors::error::{Result, VectorError, ensure};
+use crate::vectors::notation::{
+    bytes, color, push_error, push_fed, push_hexadecimal, push_outcome,
+};
+use crate::vectors::session::{Owner, Session, begin, check_decoder, clip, settings};
 use icy_sixel::receiver::{Received, SixelReceiver};
 use icy_sixel::{SixelDecoder, SixelError};
 use std::alloc::Global;

@@ -17,14 +17,14 @@ pub static BANDS: Picture = Picture {
     register: 0,
 };
 
-/// The picture of [`RUN_CHUNKS`](crate::session::RUN_CHUNKS).
+/// The picture of [`RUN_CHUNKS`](crate::allocations::session::RUN_CHUNKS).
 pub static RUN: Picture = Picture {
     width: 300,
     red: &[255; 6],
     register: 4,
 };
 
-/// The picture of [`TAGGED_CHUNKS`](crate::session::TAGGED_CHUNKS).
+/// The picture of [`TAGGED_CHUNKS`](crate::allocations::session::TAGGED_CHUNKS).
 pub static TAGGED: Picture = Picture {
     width: 300,
     red: &[256; 6],

@@ -1,6 +1,6 @@
 //! A list of steps, of which one may fail while the others go on.
 
-use crate::picture::{color_of, error_if, has_colors, set_colors};
+use crate::allocations::picture::{color_of, error_if, has_colors, set_colors};
 use icy_sixel::script::{End, Outcome, Step, run};
 use icy_sixel::{DcsSettings, Result, SixelDecoder, SixelError};
 use std::alloc::Global;

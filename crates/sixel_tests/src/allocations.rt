@@ -1,9 +1,8 @@
 //! Makes the calls that allocate and that C does not have, and checks what a failed one leaves.
 //!
-//! A test runs this program once for each of its allocations, which fails then. One line of the
+//! A test runs the program once for each of its allocations, which fails then. One line of the
 //! output differs then, and names the call. All calls are made twice: a failed call succeeds later.
 //! `tests/c/allocations.c` makes the other calls.
-#![tactic(auto)]
 
 mod image;
 mod picture;
@@ -19,18 +18,20 @@ use session::{
     draw_low_sixel, draw_payload,
 };
 use std::io;
+use std::process::ExitCode;
 use steps::run_steps;
 use unallocated::make_unallocated_calls;
 
-fn main(rt: HostRuntime) -> io::Result<()> {
+/// Makes all calls, and writes a line for each.
+pub fn make_calls(rt: &HostRuntime) -> io::Result<ExitCode> {
     let image = SixelImage::from_rgba(Vec::from_slice(rt.alloc(), PIXELS)?, 3, 1);
     let mut decoder = SixelDecoder::new();
     set_colors(&mut decoder);
     for _pass in 0..2 {
-        make_calls_of_decoder(&rt, &mut decoder)?;
-        make_calls_of_image(&rt, &image)?;
+        make_calls_of_decoder(rt, &mut decoder)?;
+        make_calls_of_image(rt, &image)?;
     }
-    Ok(())
+    Ok(ExitCode::SUCCESS)
 }
 
 /// Makes the calls of a decoder.

@@ -1,6 +1,6 @@
 //! The notation that `data/README.md` defines: parsers, and results as columns after their tabs.
 
-use crate::error::{Result, VectorError};
+use crate::vectors::error::{Result, VectorError};
 use icy_sixel::script::Status;
 use icy_sixel::{
     BackgroundMode, PixelAspectRatio, SixelDcsFeedStatus, SixelError, SixelFeedStatus, SixelImage,

@@ -1,8 +1,8 @@
 //! Vectors of `settings.tsv` and `registers.tsv`.
 
-use crate::error::{Result, VectorError, ensure};
-use crate::notation::{mode_word, push_hexadecimal};
-use crate::session::clip;
+use crate::vectors::error::{Result, VectorError, ensure};
+use crate::vectors::notation::{mode_word, push_hexadecimal};
+use crate::vectors::session::clip;
 use icy_sixel::{BackgroundMode, DcsSettings, PixelAspectRatio, SixelDecoder};
 
 /// Checks a vector of `settings.tsv`.

@@ -1,8 +1,8 @@
 //! Vectors of `steps.tsv`: lists of steps on one decoder.
 
-use crate::error::{Result, VectorError, ensure};
-use crate::notation::{bytes, color, numbers, push_error, push_fed, push_image};
-use crate::session::{Form, check_decoder, clip, settings};
+use crate::vectors::error::{Result, VectorError, ensure};
+use crate::vectors::notation::{bytes, color, numbers, push_error, push_fed, push_image};
+use crate::vectors::session::{Form, check_decoder, clip, settings};
 use icy_sixel::SixelDecoder;
 use icy_sixel::script::{End, Outcome, Step, run};
 use std::alloc::Global;
