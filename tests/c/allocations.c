@@ -29,37 +29,31 @@ struct call {
 };
 
 enum {
-    DECODE, CLIPPED, DECODE_PAYLOAD, DECODE_TAGS, OF_DCS, OF_PAYLOAD, OF_TAGS, PARTIAL, IN_BANDS,
+    DECODE, CLIPPED, DECODE_PAYLOAD, DECODE_TAGS, OF_DCS, OF_PAYLOAD, OF_TAGS, IN_BANDS,
     ENCODE_16, ENCODE_64, COMPACT, REFINED, REFINED_PLAIN, REFINED_ORDERED, IN_PALETTE, INDEXED,
     CHOOSE, REFINE, NEAREST, ORDERED, DIFFUSED, NEW,
 };
 
-/* Wide runs over drawn pixels, which set tags, also in chunks; and a payload with a fault at its
- * end. */
+/* Wide runs over drawn pixels, which set tags, also in chunks. */
 #define WIDE "$#1!65535N$#2!65535~"
-static const uint8_t tags[] = WIDE WIDE WIDE WIDE WIDE WIDE, faulty[] = PAYLOAD "!65536~";
-static const uint8_t run[] = "#1!300N$#2!300~";
+static const uint8_t tags[] = WIDE WIDE WIDE WIDE WIDE WIDE, run[] = "#1!300N$#2!300~";
 
 #define INPUT(bytes) {bytes, sizeof bytes - 1}
 static const struct { const uint8_t *at; size_t length; } inputs[] = {
     INPUT(string), INPUT(string), INPUT(payload), INPUT(tags),
-    INPUT(string), INPUT(payload), INPUT(run), INPUT(faulty),
+    INPUT(string), INPUT(payload), INPUT(run),
 };
 
-/* Feeds chunks of seven bytes, and ends the image. Only a fault leaves a picture. */
+/* Feeds chunks of seven bytes, and ends the image. */
 static uint32_t make_session(icysixel *h, int kind, icysixel_shape *shape)
 {
     size_t length = inputs[kind].length;
     icysixel_fed fed;
-    uint32_t fault, failed = kind == OF_DCS ? ICYSIXEL_DCS_STREAM_FAILED : ICYSIXEL_STREAM_FAILED;
-    uint32_t code = kind == OF_DCS ? icysixel_begin(h)
-        : (kind == PARTIAL ? icysixel_begin_partial : icysixel_begin_payload)(h, 9, 1, -1);
+    uint32_t code = kind == OF_DCS ? icysixel_begin(h) : icysixel_begin_payload(h, 9, 1, -1);
     for (size_t at = 0; code == ICYSIXEL_OK && at < length; at += 7)
         code = icysixel_feed(h, inputs[kind].at + at, length - at < 7 ? length - at : 7, &fed);
     if (code == ICYSIXEL_OK) return icysixel_finish(h, shape);
-    if (code == ICYSIXEL_MALFORMED) return icysixel_finish_partial(h, shape, &fault);
-    if (kind == PARTIAL) CHECK(icysixel_finish_partial(h, shape, &fault) == failed);
-    else check_failed(h, failed);
+    check_failed(h, kind == OF_DCS ? ICYSIXEL_DCS_STREAM_FAILED : ICYSIXEL_STREAM_FAILED);
     return code;
 }
 
@@ -176,8 +170,8 @@ static uint32_t make_new(icysixel *h, int kind, struct bytes *made)
 
 #define CALL(make, kind) {#kind, make_##make, kind}
 static const struct call calls[] = {
-    CALL(image, OF_DCS), CALL(image, OF_PAYLOAD), CALL(image, OF_TAGS), CALL(image, PARTIAL),
-    CALL(rows, IN_BANDS), CALL(image, DECODE), CALL(image, CLIPPED), CALL(image, DECODE_PAYLOAD),
+    CALL(image, OF_DCS), CALL(image, OF_PAYLOAD), CALL(image, OF_TAGS), CALL(rows, IN_BANDS),
+    CALL(image, DECODE), CALL(image, CLIPPED), CALL(image, DECODE_PAYLOAD),
     CALL(image, DECODE_TAGS), CALL(text, ENCODE_16), CALL(text, ENCODE_64), CALL(text, COMPACT),
     CALL(text, REFINED), CALL(text, REFINED_PLAIN), CALL(text, REFINED_ORDERED),
     CALL(text, IN_PALETTE), CALL(text, INDEXED), CALL(palette, CHOOSE), CALL(palette, REFINE),

@@ -22,8 +22,7 @@ _Static_assert(sizeof(icysixel) == 16 && sizeof(icysixel_fed) == 16 && sizeof(ic
 #define IS_RED(pixels, count) are_rows(pixels, count, RED, 4)
 
 enum {
-    OK = ICYSIXEL_OK, BAD = ICYSIXEL_MALFORMED, CUT = ICYSIXEL_INCOMPLETE,
-    FAILED = ICYSIXEL_STREAM_FAILED, DCS_FAILED = ICYSIXEL_DCS_STREAM_FAILED,
+    OK = ICYSIXEL_OK, BAD = ICYSIXEL_MALFORMED, FAILED = ICYSIXEL_STREAM_FAILED,
     SMALL = ICYSIXEL_BUFFER_TOO_SMALL, STRIDE = ICYSIXEL_BAD_STRIDE, NO_SIZE = ICYSIXEL_NO_SIZE,
     MISMATCH = ICYSIXEL_BUFFER_MISMATCH, COLORS = ICYSIXEL_COLOR_COUNT,
 };
@@ -67,14 +66,13 @@ static void test_empty_handle(void)
     icysixel_encoding e = {.width = 1, .height = 1, .p1 = 9, .p2 = 1};
     uint8_t buffer[4] = {7, 7, 7, 7};
     size_t copied = 7;
-    uint32_t fault = 7;
     fed.consumed = shape.width = shape.bytes = size.width = wanted = length = color.red = 7;
     const uint32_t codes[] = {
-        icysixel_begin(h), icysixel_begin_payload(h, 9, 1, -1), icysixel_begin_partial(h, 9, 1, -1),
-        icysixel_begin_dcs_partial(h), FEED("~"), icysixel_feed_band(h, BYTES("~"), &fed),
+        icysixel_begin(h), icysixel_begin_payload(h, 9, 1, -1), FEED("~"),
+        icysixel_feed_band(h, BYTES("~"), &fed),
         icysixel_finish(h, &shape), icysixel_abort(h), icysixel_discard_image(h),
-        icysixel_release_rows(h, 0), icysixel_finish_partial(h, &shape, &fault),
-        icysixel_get_size_so_far(h, &size), icysixel_copy_rows(h, 0, 1, &layout, buffer, 4),
+        icysixel_release_rows(h, 0), icysixel_get_size_so_far(h, &size),
+        icysixel_copy_rows(h, 0, 1, &layout, buffer, 4),
         icysixel_finish_into(h, 0, &layout, buffer, 4, &shape, &wanted),
         DECODE(red), icysixel_decode_payload(h, BYTES("~"), 9, 1, -1, &shape),
         icysixel_copy_pixels(h, NULL, 0, 0, &copied), icysixel_take_pixels(h, &block),
@@ -91,7 +89,7 @@ static void test_empty_handle(void)
     EACH(code, codes) CHECK(*code == ICYSIXEL_NO_HANDLE);
     CHECK(fed.consumed == 7 && shape.width == 7 && shape.bytes == 7 && size.width == 7);
     CHECK(block.length == 7 && color.red == 7 && length == 7 && memcmp(buffer, "\7\7\7\7", 4) == 0);
-    CHECK(wanted == 0 && copied == 0 && fault == 7);
+    CHECK(wanted == 0 && copied == 0);
     CHECK(icysixel_copy_text(h, NULL, 0, &length) == ICYSIXEL_NO_HANDLE && length == 0);
     CHECK((icysixel_is_receiving(h) | icysixel_in_payload(h) | icysixel_get_canvas_paints(h)
            | icysixel_get_drawn_height(h) | icysixel_get_rows_so_far(h) | icysixel_get_crop(h)
@@ -195,7 +193,6 @@ static void test_copied_rows(void)
     CHECK(fed.consumed == 3 && fed.status == ICYSIXEL_MORE);
     RETURNS(ROWS_RELEASED, icysixel_finish_into(h, 5, &rgba, rows, 72, &shape, &wanted));
     RETURNS(ROWS_RELEASED, icysixel_finish(h, &shape));
-    RETURNS(ROWS_RELEASED, icysixel_finish_partial(h, &shape, &(uint32_t){0}));
     RETURNS(BUFFER_TOO_SMALL, icysixel_finish_into(h, 6, &rgba, rows, 67, &shape, &wanted));
     CHECK(wanted == 68 && icysixel_is_receiving(h) == 1 && shape.width == 7);
     RETURNS(BAD_STRIDE, icysixel_finish_into(h, 6, &wrong[2].to, rows, 72, &shape, &wanted));
@@ -210,10 +207,9 @@ static void test_copied_rows(void)
     CHECK(icysixel_begin(h) == OK && FEED("\033Pq~") == OK);
     RETURNS(INCOMPLETE, icysixel_finish_into(h, 0, &rgba, rows, 72, &shape, &wanted));
     CHECK(icysixel_is_receiving(h) == 0);
-    CHECK(icysixel_begin_partial(h, 9, 1, -1) == OK && FEED("~-~") == OK);
+    CHECK(icysixel_begin_payload(h, 9, 1, -1) == OK && FEED("~-~") == OK);
     CHECK(icysixel_release_rows(h, 6) == OK && FEED("!65536~") == BAD);
     RETURNS(ROWS_NOT_FINAL, icysixel_copy_rows(h, 6, 1, &rgba, rows, 72));
-    RETURNS(STREAM_FAILED, icysixel_finish_partial(h, &shape, &(uint32_t){0}));
 }
 
 /* An image ends in memory. Too small memory leaves it open, its command too. A fault closes it. */
@@ -309,49 +305,6 @@ static void test_errors(void)
     CHECK(DECODE(red) == OK && DECODE("!65536~") == BAD && !HAS_IMAGE);
 }
 
-/* An image with a fault leaves the picture before it, if the feed kept it. A DCS sequence that has
- * not ended leaves its picture. */
-static void test_partial(void)
-{
-    static const struct {
-        const char *data;
-        bool is_kept;
-        uint32_t fed, code, fault;
-        size_t width, height;
-    } images[] = {
-        {"#1;2;100;0;0~~!65536~", true, BAD, OK, BAD, 2, 6},
-        {"#1;2;100;0;0~~!65536~", false, BAD, FAILED, 7, 0, 0},
-        {"#1~-~~!65536~", true, BAD, OK, BAD, 2, 12}, {"!65536~", true, BAD, OK, BAD, 1, 1},
-        {"~~!65536", false, OK, OK, BAD, 2, 6}, {"#1;2;100;0;0~~~", true, OK, OK, OK, 3, 6},
-        {"#1;2;100;0;0~~~", false, OK, OK, OK, 3, 6}, {"\033Pq~~!65536~", true, BAD, OK, BAD, 2, 6},
-        {"\033Pq~~!65536~", false, BAD, DCS_FAILED, 7, 0, 0}, {"\033P1;", true, OK, CUT, 7, 0, 0},
-        {"\033P1;z", true, ICYSIXEL_BAD_HEADER, DCS_FAILED, 7, 0, 0},
-        {"\033Pq~~!65536", false, OK, OK, BAD, 2, 6}, {"\033Pq~~~", false, OK, OK, CUT, 3, 6},
-        {"\033Pq~~~\033", true, OK, OK, CUT, 3, 6},
-        {"\033Pq#1;2;100;0;0~~~\033\\", true, OK, OK, OK, 3, 6},
-    };
-    icysixel_bytes pixels = {0};
-    uint32_t fault;
-    EACH(row, images) {
-        shape = (icysixel_shape){0}, fault = 7;
-        RETURNS(OK, icysixel_reset_registers(h));
-        RETURNS(OK, row->data[0] == '\033'
-            ? (row->is_kept ? icysixel_begin_dcs_partial : icysixel_begin)(h)
-            : (row->is_kept ? icysixel_begin_partial : icysixel_begin_payload)(h, 9, 1, -1));
-        CHECK(FEED(row->data) == row->fed);
-        CHECK(icysixel_finish_partial(h, &shape, &fault) == row->code);
-        CHECK(fault == row->fault && icysixel_is_receiving(h) == 0);
-        CHECK(shape.width == row->width && shape.height == row->height);
-        CHECK(shape.drawn_height == (row->height == 1 ? 0 : row->height));
-        CHECK(red_of_1() == (fault == ICYSIXEL_OK ? 255 : 51));
-        CHECK(icysixel_take_pixels(h, &pixels) == (row->width > 0 ? OK : ICYSIXEL_NO_IMAGE));
-        CHECK(pixels.length == 4 * row->width * row->height && pixels.length == shape.bytes);
-        CHECK(line_number > 0 || IS_RED(pixels.data, 12));
-        icysixel_free_bytes(&pixels);
-    }
-    RETURNS(NO_SESSION, icysixel_finish_partial(h, &shape, &fault));
-}
-
 /* The last row with a set pixel, plus one: of an open image, and in the shape of a finished one,
  * where it is at most the height. */
 static void test_drawn_height(void)
@@ -371,13 +324,12 @@ static void test_drawn_height(void)
     uint8_t pixels[96];
     EACH(row, images) {
         CHECK(icysixel_set_crop(h, row->crop) == OK && icysixel_set_clip(h, 999, row->rows) == OK);
-        for (int call = 0; call < 5; call++) {
+        for (int call = 0; call < 4; call++) {
             CHECK(icysixel_begin_payload(h, 9, 1, -1) == OK && FEED(row->data) == OK);
             CHECK(row->crop == 1 || icysixel_get_drawn_height(h) == row->drawn);
             const uint32_t code = call == 0 ? DECODE(row->data)
                 : call == 1 ? icysixel_decode_payload(h, BYTES(row->data), 9, 1, -1, &shape)
                 : call == 2 ? icysixel_finish(h, &shape)
-                : call == 3 ? icysixel_finish_partial(h, &shape, &(uint32_t){0})
                 : icysixel_finish_into(h, 0, &layout, pixels, 96, &shape, &wanted);
             CHECK(code == OK && shape.height == row->height && shape.drawn_height == row->drawn);
             shape = (icysixel_shape){0};
@@ -624,7 +576,7 @@ int main(void)
     static const struct { const char *name; void (*test)(void); } tests[] = {
         TEST(empty_handle), TEST(new_on_full_handle), TEST(progress), TEST(canvas_paints),
         TEST(bands), TEST(copied_rows), TEST(finish_into), TEST(pixels), TEST(errors),
-        TEST(partial), TEST(drawn_height), TEST(take_pixels), TEST(new_on_full_handle),
+        TEST(drawn_height), TEST(take_pixels), TEST(new_on_full_handle),
         TEST(registers), TEST(settings), TEST(encode), TEST(encodings), TEST(widest),
         TEST(palettes), TEST(indices), TEST(code_texts),
     };

@@ -31,10 +31,10 @@
  * Results. A function that returns uint32_t returns an enum icysixel_code. With ICYSIXEL_OK it has
  * written to each output argument. With an error it leaves them unchanged, except for `wanted`.
  *
- * Stored image and text. An image is stored by icysixel_finish, icysixel_finish_partial,
- * icysixel_decode and icysixel_decode_payload. Each error of these calls drops an image that was
- * stored before, and each error of an encoding call drops a text. icysixel_new drops both. No error
- * of another call drops either.
+ * Stored image and text. An image is stored by icysixel_finish, icysixel_decode and
+ * icysixel_decode_payload. Each error of these calls drops an image that was stored before, and
+ * each error of an encoding call drops a text. icysixel_new drops both. No error of another call
+ * drops either.
  */
 #ifndef ICYSIXEL_H
 #define ICYSIXEL_H
@@ -277,8 +277,7 @@ uint32_t icysixel_copy_rows(icysixel *handle, size_t first, size_t rows,
 /* Releases the final rows above row `rows` of the open image, which were copied. So an image that
  * is shown while it comes takes the memory of one band: copy the final rows and release them after
  * each band. icysixel_finish_into copies those that are left. icysixel_finish fails with
- * ICYSIXEL_ROWS_RELEASED, because no memory has the whole image, and a later fault leaves no
- * picture. The call does not allocate. The
+ * ICYSIXEL_ROWS_RELEASED, because no memory has the whole image. The call does not allocate. The
  * errors are ICYSIXEL_NO_SESSION if no image is open, and ICYSIXEL_ROWS_NOT_FINAL if `rows` is
  * above icysixel_get_rows_so_far. */
 uint32_t icysixel_release_rows(icysixel *handle, size_t rows);
@@ -300,34 +299,6 @@ uint32_t icysixel_finish_into(icysixel *handle, size_t first, const icysixel_lay
  * stores no image either, but leaves the image open: end it by icysixel_finish_into. It is reported
  * before ICYSIXEL_INCOMPLETE. */
 uint32_t icysixel_finish(icysixel *handle, icysixel_shape *shape);
-
-/* Opens a payload as icysixel_begin_payload does, but a fault leaves the picture before it. After
- * a feed that fails icysixel_finish_partial stores this picture. It occupies its memory until
- * then, or until the image is aborted. */
-uint32_t icysixel_begin_partial(icysixel *handle, int32_t p1, int32_t p2, int32_t grid);
-
-/* Opens a DCS sequence as icysixel_begin does, but a fault of its payload leaves the picture before
- * it, as with icysixel_begin_partial. A fault of the header leaves none. */
-uint32_t icysixel_begin_dcs_partial(icysixel *handle);
-
-/* Closes the open image, stores its picture up to the first fault, and writes the properties of
- * the picture and the code of the fault. It replaces an image that is stored.
- *
- * - An image without a fault is stored whole, `fault` is ICYSIXEL_OK, and the decoder takes over
- *   its registers.
- * - An image with a fault is stored as the image of the commands before the faulty one. The
- *   decoder is unchanged. After a feed that failed there is this picture only if the image was
- *   begun by icysixel_begin_partial or icysixel_begin_dcs_partial.
- * - A DCS sequence without terminator is stored as the image of its commands so far, and `fault` is
- *   ICYSIXEL_INCOMPLETE. An open command is closed first. The decoder is unchanged.
- *
- * The errors are ICYSIXEL_NO_SESSION if no image is open, ICYSIXEL_STREAM_FAILED or
- * ICYSIXEL_DCS_STREAM_FAILED after a feed that kept no picture, ICYSIXEL_INCOMPLETE for a DCS
- * sequence whose payload has not begun, and ICYSIXEL_OUT_OF_MEMORY. They close the image too. Then
- * no image is stored, no register changes, and `shape` and `fault` are not written.
- * ICYSIXEL_ROWS_RELEASED does the same, but leaves the image open: end it by
- * icysixel_finish_into. */
-uint32_t icysixel_finish_partial(icysixel *handle, icysixel_shape *shape, uint32_t *fault);
 
 /* Aborts the open image, if there is one. The decoder is unchanged. */
 uint32_t icysixel_abort(icysixel *handle);

@@ -2,7 +2,7 @@
 -- are this library's own, and include/icysixel.h names them. 8 is out of memory, 9 an overflow, and
 -- the codes from 10 on are errors of sizes and data.
 use Rattle.std.specs.Prelude.{◌≡◌, ◌≢◌, ℕ, nat_le, ℤ, pos, negsuc, Bool, IsTrue, if◌then◌else◌}
-use Rattle.std.specs.Prelude.{◌⊎◌, ◌==◌, ◌||◌, true, false, List, Option, Some, None, IsSomeAnd}
+use Rattle.std.specs.Prelude.{◌⊎◌, List, Option, Some, None, IsSomeAnd}
 use Rattle.std.specs.Prelude.{codes}
 use Rattle.sixel_base.specs.CallFault.{CallFault, Exactly, ColorCount, IndexRange, RowsNotFinal}
 use Rattle.sixel_base.specs.CallFault.{RowsReleased, ShortStride}
@@ -28,10 +28,6 @@ fault_code MissingCommand = 16
 fault_code Incomplete = 17
 fault_code StreamFailed = 18
 fault_code DcsStreamFailed = 19
-
--- whether a code is that of a fault: neither success nor out of memory
-abbrev pub is_fault_code : ℕ → Bool
-is_fault_code code = if code == 0 || code == 8 then false else true
 
 -- a code that can be returned for a fault: its own, or out of memory if the call may allocate
 abbrev pub IsTold : ℕ → Bool → Option Fault → Type 0

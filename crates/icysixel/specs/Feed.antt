@@ -7,10 +7,10 @@ use Rattle.sixel_base.specs.Payload.{payload_fault, payload_wants}
 use Rattle.sixel_base.specs.Settings.{Settings}
 use Rattle.icy_sixel.specs.Bands.{band_of}
 use Rattle.icy_sixel.specs.FinalRows.{rows_so_far}
-use Rattle.icy_sixel.specs.Receiver.{OfPayload, OfString, in_payload, is_open, is_over, count}
+use Rattle.icy_sixel.specs.Receiver.{OfPayload, OfString, is_open, is_over, count}
 use Rattle.icy_sixel.specs.Receiver.{fault, growths}
 use Rattle.icy_sixel.specs.Receiver as receivers
-use Rattle.icysixel.specs.Code.{IsTold, fault_code, is_fault_code, status_code, status_byte}
+use Rattle.icysixel.specs.Code.{IsTold, fault_code, status_code, status_byte}
 use Rattle.icysixel.specs.Kept.{AreKept}
 use Rattle.icysixel.specs.declared.state.State.{State}
 use Rattle.icysixel.specs.declared.sessions.Fed.{Fed}
@@ -28,18 +28,6 @@ pub record IsFed (before after : State) (piece : List ℕ) (now : Fed) (code : �
       → after.receiver.image.bytes ≡ before.receiver.image.bytes ++ piece
   -- a feed releases no row
   pub released : code ≡ 0 → after.receiver.image.released ≡ before.receiver.image.released
-  -- whether a picture of an image with a fault is kept, of this one and of those to come
-  pub setting : after.receiver.keeps_partial ≡ before.receiver.keeps_partial
-  pub own_setting : after.receiver.image.keeps_partial ≡ before.receiver.image.keeps_partial
-  -- whether there is such a picture: a fault of the payload leaves it, for good
-  pub partial : is_open before.receiver.image.form ≡ true
-      → before.receiver.image.is_refused ≡ false
-      → after.receiver.image.has_partial
-      ≡ in_payload after.receiver.image.form after.receiver.image.bytes
-      && (before.receiver.image.keeps_partial && is_fault_code code)
-  pub partial_later : is_open before.receiver.image.form ≡ true
-      → before.receiver.image.is_refused ≡ true
-      → after.receiver.image.has_partial ≡ before.receiver.image.has_partial
   -- what is reported with code 0
   pub accepted : code ≡ 0 → after.receiver.image.is_refused ≡ false
   pub faultless : code ≡ 0 → fault before.receiver.image.start.pixel_limit

@@ -15,17 +15,13 @@ use Rattle.icysixel.specs.Shape.{shape_of}
 use Rattle.icysixel.specs.declared.shape.Shape.{Shape}
 use Rattle.icysixel.specs.declared.state.State.{State}
 
--- an image of which rows were released stays open as it was
-abbrev pub StaysOpen : State → State → ℕ → Type 0
-StaysOpen before after code =
-    is_open before.receiver.image.form ≡ true → 0 < before.receiver.image.released
-    → (code ≡ rows_code RowsReleased) × (after.receiver ≡ before.receiver)
-
 -- the open image was closed; code 0 stores it and reports its shape, another one is an error
 pub record IsFinished (before after : State) (now : Shape) (code : ℕ) : Type 0 where
   pub unopened : is_open before.receiver.image.form ≡ false → code ≡ 2
   pub closed : before.receiver.image.released ≡ 0 → after.receiver.image ≡ no_image
-  pub released : StaysOpen before after code
+  -- an image of which rows were released stays open as it was
+  pub released : is_open before.receiver.image.form ≡ true → 0 < before.receiver.image.released
+      → (code ≡ rows_code RowsReleased) × (after.receiver ≡ before.receiver)
   -- the image and its shape, with code 0
   pub found : code ≡ 0 → is_some after.image ≡ true
   pub image : (image : SixelImage) → after.image ≡ Some image

@@ -6,7 +6,6 @@ pub mod Feed
 pub mod FinalRows
 pub mod Finish
 pub mod Kept
-pub mod PartialImages
 pub mod RefinedOutput
 pub mod Rows
 pub mod Shape

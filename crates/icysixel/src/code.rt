@@ -1,10 +1,10 @@
 //! The numbers that C receives: result codes and statuses of a feed.
 
-ghost use Rattle.std.specs.Prelude.{◌≡◌, ◌≢◌, Bool, Option, Some, codes, true};
+ghost use Rattle.std.specs.Prelude.{◌≡◌, ◌≢◌, Bool, Option, Some, codes};
 ghost use Rattle.sixel_base.specs.CallFault.{CallFault, IsCallFault};
-ghost use Rattle.sixel_base.specs.Fault.{Fault, Faults, IsFault, is_fault, text_of};
+ghost use Rattle.sixel_base.specs.Fault.{Fault, Faults, IsFault, text_of};
 ghost use Rattle.icysixel.specs.Code.{IsCallCode, IsCodeOf, IsFaultText, IsKnown, IsTold};
-ghost use Rattle.icysixel.specs.Code.{fault_code, is_fault_code};
+ghost use Rattle.icysixel.specs.Code.{fault_code};
 ghost use Rattle.icysixel.specs.Code.{status_code, status_byte};
 
 use icy_sixel::script::Status;
@@ -88,7 +88,6 @@ pub fn code_of(error: &SixelError) -> u32
     ensures code { IsCodeOf result error.now }
     ensures call { (fault : CallFault) → IsCallFault error.now fault → IsCallCode result fault }
     ensures memory { error.now ≡ SixelError.OutOfMemory → result ≡ 8 }
-    ensures kind { is_fault_code result ≡ is_fault error.now }
     ensures refused { result ≢ 0 }
 {
     match error {
@@ -107,7 +106,6 @@ fn text_code(text: &str) -> u32
     ensures fault { (fault : Fault) → text_of fault ≡ Some text.now → result ≡ fault_code fault }
     ensures count { text.now ≡ codes "number of colors is not 1 to 256" → result ≡ 20 }
     ensures index { text.now ≡ codes "palette index out of range" → result ≡ 21 }
-    ensures kind { is_fault_code result ≡ true }
     ensures refused { result ≢ 0 }
 {
     match text {

@@ -16,7 +16,6 @@ pub mod limits;
 pub mod once;
 pub mod palette;
 pub mod parameters;
-pub mod partial;
 mod pixels;
 pub mod progress;
 pub mod refined;

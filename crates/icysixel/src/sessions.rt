@@ -86,13 +86,13 @@ pub extern "C" fn icysixel_begin(alloc: Global, slot: &mut Slot) -> u32
         → slot.new.handle.state ≡ Some after → AreKept before after }
     ensures image { (before after : State) → slot.old.handle.state ≡ Some before
         → slot.new.handle.state ≡ Some after
-        → after.receiver.image ≡ begun OfString before.receiver.decoder false }
+        → after.receiver.image ≡ begun OfString before.receiver.decoder
+        before.receiver.keeps_partial }
 {
     if !slot.is_held() {
         return Code::NoHandle as u32;
     }
     let state = slot.state();
-    state.receiver.set_keep_partial(false);
     state.receiver.begin_dcs(alloc);
     Code::Success as u32
 }
@@ -116,14 +116,14 @@ pub extern "C" fn icysixel_begin_payload(
         → slot.new.handle.state ≡ Some after → AreKept before after }
     ensures image { (before after : State) → slot.old.handle.state ≡ Some before
         → slot.new.handle.state ≡ Some after → after.receiver.image
-        ≡ begun (OfPayload (settings_of p1 p2 grid)) before.receiver.decoder false }
+        ≡ begun (OfPayload (settings_of p1 p2 grid)) before.receiver.decoder
+        before.receiver.keeps_partial }
 {
     if !slot.is_held() {
         return Code::NoHandle as u32;
     }
     let settings = settings(p1, p2, grid);
     let state = slot.state();
-    state.receiver.set_keep_partial(false);
     state.receiver.begin_frame(alloc, settings);
     Code::Success as u32
 }

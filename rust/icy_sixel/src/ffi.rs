@@ -112,8 +112,6 @@ unsafe extern "C" {
     safe fn icysixel_free(handle: &mut Raw);
     safe fn icysixel_begin(handle: &mut Raw) -> u32;
     safe fn icysixel_begin_payload(handle: &mut Raw, p1: i32, p2: i32, grid: i32) -> u32;
-    safe fn icysixel_begin_partial(handle: &mut Raw, p1: i32, p2: i32, grid: i32) -> u32;
-    safe fn icysixel_begin_dcs_partial(handle: &mut Raw) -> u32;
     safe fn icysixel_is_receiving(handle: &mut Raw) -> u8;
     safe fn icysixel_in_payload(handle: &mut Raw) -> u8;
     safe fn icysixel_get_size_so_far(handle: &mut Raw, size: &mut Size) -> u32;
@@ -122,7 +120,6 @@ unsafe extern "C" {
     safe fn icysixel_release_rows(handle: &mut Raw, rows: usize) -> u32;
     safe fn icysixel_get_canvas_paints(handle: &mut Raw) -> u64;
     safe fn icysixel_finish(handle: &mut Raw, shape: &mut Shape) -> u32;
-    safe fn icysixel_finish_partial(handle: &mut Raw, shape: &mut Shape, fault: &mut u32) -> u32;
     safe fn icysixel_discard_image(handle: &mut Raw) -> u32;
     safe fn icysixel_abort(handle: &mut Raw) -> u32;
     safe fn icysixel_get_register(handle: &mut Raw, number: u8, color: &mut Color) -> u32;
@@ -338,16 +335,6 @@ impl Handle {
         icysixel_begin_payload(&mut self.0, p1, p2, grid);
     }
 
-    /// Opens a payload of which a fault leaves the picture, in place of an open image.
-    pub(crate) fn begin_partial(&mut self, [p1, p2, grid]: Parameters) {
-        icysixel_begin_partial(&mut self.0, p1, p2, grid);
-    }
-
-    /// Opens a DCS sequence of which a fault leaves the picture, in place of an open image.
-    pub(crate) fn begin_dcs_partial(&mut self) {
-        icysixel_begin_dcs_partial(&mut self.0);
-    }
-
     /// Reads a chunk of the open image.
     pub(crate) fn feed(&mut self, chunk: &[u8]) -> Answer<Fed> {
         let mut fed = Fed::default();
@@ -438,16 +425,6 @@ impl Handle {
     /// Closes the open image, and returns its shape and its pixels.
     pub(crate) fn close(&mut self) -> Answer<(Shape, Vec<u8>)> {
         self.image(|handle, shape| icysixel_finish(handle, shape))
-    }
-
-    /// Closes the open image, and returns its picture up to the first fault.
-    ///
-    /// The code of the fault is beside it.
-    pub(crate) fn close_partial(&mut self) -> Answer<((Shape, Vec<u8>), u32)> {
-        let mut fault = OK;
-        let picture =
-            self.image(|handle, shape| icysixel_finish_partial(handle, shape, &mut fault))?;
-        Ok((picture, fault))
     }
 
     /// Aborts the open image, if there is one.

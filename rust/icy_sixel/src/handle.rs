@@ -1,10 +1,9 @@
 //! Images out of a handle.
 
-use crate::codes::{OK, error_of};
+use crate::codes::error_of;
 use crate::decoder::DrawnImage;
 use crate::error::Result;
 use crate::ffi::{Handle, Shape};
-use crate::receiver::PartialImage;
 use crate::settings::{BackgroundMode, DcsSettings, PixelAspectRatio};
 use crate::sixel_image::SixelImage;
 
@@ -26,16 +25,6 @@ impl Handle {
     /// Closes the open image, and returns it.
     pub(crate) fn finish(&mut self) -> Result<DrawnImage> {
         self.close().map(drawn_image).map_err(error_of)
-    }
-
-    /// Closes the open image, and returns its picture up to the first fault.
-    ///
-    /// That fault is beside it.
-    pub(crate) fn finish_partial(&mut self) -> Result<PartialImage> {
-        let (picture, fault) = self.close_partial().map_err(error_of)?;
-        let DrawnImage { image, drawn_height } = drawn_image(picture);
-        let error = (fault != OK).then(|| error_of(fault));
-        Ok(PartialImage { image, drawn_height, error })
     }
 
     /// A new decoder with the registers and the settings of this one.

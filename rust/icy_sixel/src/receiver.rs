@@ -1,6 +1,5 @@
 //! A decoder and its open image, for a host that stores both in one struct.
 
-mod partial;
 mod rows;
 
 use crate::codes::error_of;
@@ -10,7 +9,6 @@ use crate::error::Result;
 use crate::ffi::Fed;
 use crate::script::Status;
 use crate::sixel_image::SixelImage;
-pub use partial::PartialImage;
 pub use rows::{BandStatus, ChannelOrder, ImageShape, ReceivedBand, RowLayout};
 
 /// The result of a feed of a receiver.
@@ -57,7 +55,6 @@ enum Open {
 pub struct SixelReceiver {
     decoder: SixelDecoder,
     open: Open,
-    keeps_partial: bool,
 }
 
 impl SixelReceiver {
@@ -71,7 +68,7 @@ impl SixelReceiver {
     #[must_use]
     pub fn with_decoder(mut decoder: SixelDecoder) -> Self {
         decoder.handle().abort();
-        Self { decoder, open: Open::Nothing, keeps_partial: false }
+        Self { decoder, open: Open::Nothing }
     }
 
     /// Returns the decoder, and aborts an open image.
@@ -97,11 +94,7 @@ impl SixelReceiver {
     ///
     /// An open image is aborted. The call does not allocate.
     pub fn begin_frame(&mut self, settings: DcsSettings) {
-        if self.keeps_partial {
-            self.decoder.handle().begin_partial(settings.parameters());
-        } else {
-            self.decoder.begin_payload(settings);
-        }
+        self.decoder.begin_payload(settings);
         self.open = Open::Payload;
     }
 
@@ -109,11 +102,7 @@ impl SixelReceiver {
     ///
     /// An open image is aborted. The call does not allocate.
     pub fn begin_dcs(&mut self) {
-        if self.keeps_partial {
-            self.decoder.handle().begin_dcs_partial();
-        } else {
-            self.decoder.begin_string();
-        }
+        self.decoder.begin_string();
         self.open = Open::ControlString;
     }
 

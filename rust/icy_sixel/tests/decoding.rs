@@ -157,10 +157,5 @@ fn finished_images_have_a_drawn_height() {
         let layout = RowLayout { stride: 4, columns: 1, order: ChannelOrder::Rgba };
         let shape = receiver.finish_into(0, layout, &mut [0; 48]).unwrap();
         assert_eq!((shape.height, shape.drawn_height), expected, "{payload}");
-        receiver.set_keep_partial(true);
-        receiver.begin_frame(settings());
-        assert!(receiver.feed(bytes).is_ok() && receiver.feed(b"$!65536~").is_err());
-        let partial = receiver.finish_partial().unwrap();
-        assert_eq!((partial.image.height, partial.drawn_height), expected, "{payload}");
     }
 }

@@ -118,7 +118,6 @@ fn rows_are_copied_before_the_image_ends() {
     assert_eq!(receiver.feed_band(b"!3~").unwrap().status, goes_on);
     assert_eq!(receiver.finish_into(5, NARROW, &mut out), Err(invalid("rows were released")));
     assert_eq!(receiver.finish(), Err(invalid("rows were released")));
-    assert_eq!(receiver.finish_partial(), Err(invalid("rows were released")));
     let mismatch = SixelError::BufferSizeMismatch { expected: 68, actual: 67 };
     assert_eq!(receiver.finish_into(6, NARROW, &mut out[..67]), Err(mismatch));
     assert!(receiver.is_receiving());
@@ -155,69 +154,6 @@ fn rows_are_not_copied() {
     assert_eq!(receiver.finish_into(0, NARROW, &mut out), Err(invalid(INCOMPLETE)));
     assert!(!receiver.is_receiving());
     assert_eq!(receiver.finish_into(0, NARROW, &mut out), Err(invalid(STREAM_FAILED)));
-}
-
-#[test]
-fn a_fault_leaves_the_picture_before_it() {
-    let mut receiver = SixelReceiver::new();
-    let fault = || invalid("malformed SIXEL data");
-    for keeps in [true, false] {
-        receiver.set_keep_partial(keeps);
-        receiver.begin_frame(DcsSettings::new(Some(9), Some(1), None));
-        assert_eq!(receiver.feed(b"#1;2;100;0;0~~!65536~"), Err(fault()));
-        let answer = receiver.finish_partial();
-        assert!(!receiver.is_receiving() && receiver.register(1) == [51, 51, 204]);
-        if keeps {
-            let partial = answer.unwrap();
-            assert_eq!((partial.image.dimensions(), partial.error), ((2, 6), Some(fault())));
-            assert_eq!(partial.image.pixels, RED.repeat(12));
-        } else {
-            assert_eq!(answer, Err(invalid(STREAM_FAILED)));
-        }
-    }
-    receiver.begin_frame(DcsSettings::default());
-    assert!(receiver.feed(b"#1;2;100;0;0~~~").is_ok());
-    let whole = receiver.finish_partial().unwrap();
-    assert_eq!((whole.image.dimensions(), whole.error), ((3, 6), None));
-    assert_eq!(receiver.register(1), [255, 0, 0]);
-}
-
-#[test]
-fn a_sequence_leaves_the_picture_before_a_fault() {
-    let mut receiver = SixelReceiver::new();
-    let malformed = || invalid("malformed SIXEL data");
-    for keeps in [true, false] {
-        receiver.set_keep_partial(keeps);
-        receiver.begin_dcs();
-        assert!(receiver.feed(b"\x1bP9;1q#1;2;100;0;0~~!655").is_ok());
-        assert_eq!(receiver.feed(b"36~"), Err(malformed()));
-        assert_eq!(receiver.feed(b"~\x1b\\"), Err(invalid("DCS stream decoder has failed")));
-        let answer = receiver.finish_partial();
-        assert!(!receiver.is_receiving() && receiver.register(1) == [51, 51, 204]);
-        if keeps {
-            let partial = answer.unwrap();
-            assert_eq!((partial.image.dimensions(), partial.error), ((2, 6), Some(malformed())));
-            assert_eq!(partial.image.pixels, RED.repeat(12));
-        } else {
-            assert_eq!(answer, Err(invalid("DCS stream decoder has failed")));
-        }
-    }
-}
-
-#[test]
-fn a_cut_sequence_leaves_its_picture() {
-    let mut receiver = SixelReceiver::new();
-    for (data, error) in
-        [("~~~", INCOMPLETE), ("~~~!4", INCOMPLETE), ("~~~!65536", "malformed SIXEL data")]
-    {
-        receiver.begin_dcs();
-        assert!(receiver.feed(format!("\x1bP9;1q{data}").as_bytes()).is_ok());
-        let partial = receiver.finish_partial().unwrap();
-        assert_eq!((partial.image.dimensions(), partial.error), ((3, 6), Some(invalid(error))));
-    }
-    receiver.begin_dcs();
-    assert!(receiver.feed(b"\x1bP9;1").is_ok());
-    assert_eq!(receiver.finish_partial(), Err(invalid(INCOMPLETE)));
 }
 
 #[test]

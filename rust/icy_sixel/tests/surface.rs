@@ -152,8 +152,6 @@ fn names_of_our_own() {
     let _: fn(&mut Decoder, &[u8], Settings) -> Answer<decoder::DrawnImage> =
         Decoder::decode_from_dcs_drawn;
     let _: fn(&mut Receiver) -> Answer<Drawn> = Receiver::finish_drawn;
-    let _: fn(&mut Receiver, bool) = Receiver::set_keep_partial;
-    let _: fn(&mut Receiver) -> Answer<icy_sixel::PartialImage> = Receiver::finish_partial;
     is_value::<Layout>();
     is_value::<icy_sixel::ChannelOrder>();
     is_value::<icy_sixel::ImageShape>();

@@ -122,10 +122,8 @@ impl SixelReceiver {
     ///
     /// The caller has copied them. Then an image that is shown while it comes takes the memory of
     /// the rows between two calls, and not of the image. [`finish_into`](Self::finish_into) returns
-    /// the rows that are left. [`finish`](Self::finish) and
-    /// [`finish_partial`](Self::finish_partial) fail, because no memory has the whole image, and
-    /// leave it open. For the same reason a later fault leaves no picture. The call does not
-    /// allocate.
+    /// the rows that are left. [`finish`](Self::finish) fails, because no memory has the whole
+    /// image, and leaves it open. The call does not allocate.
     ///
     /// # Errors
     ///

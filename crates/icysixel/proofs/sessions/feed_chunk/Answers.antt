@@ -1,6 +1,4 @@
-use Rattle.std.proofs.Common.{◌∙◌, ap, sym, arith}
-use Rattle.std.specs.Prelude.{◌&&◌}
-use Rattle.icy_sixel.specs.Receiver.{in_payload}
+use Rattle.std.proofs.Common.{arith}
 use Rattle.icysixel.proofs.Known.{received_known}
 use Rattle.icysixel.proofs.sessions.feed_chunk.Goals as goal
 
@@ -42,11 +40,4 @@ returns-in-Err-clause-fed c =
           told _ _ (read.string_refused_for_good c.in-Err.error more form c.in-Err.is accepted);
       again = grind arith;
       released = grind arith;
-      setting = grind arith;
-      own_setting = grind arith;
-      partial = λ opened accepted.
-          c.in-Err.ensures.partial.first accepted
-          ∙ ap (λ fault. in_payload c.feed.new.self.image.form c.feed.new.self.image.bytes
-          && (c.args.state.now.receiver.image.keeps_partial && fault)) (sym c.code_of.ensures.kind);
-      partial_later = λ opened refused. c.feed.ensures.partial.later refused;
     }
