@@ -13,7 +13,7 @@ int main(void)
 
     uint32_t code = icysixel_new(&decoder);
     icysixel_set_crop(&decoder, 1);
-    icysixel_begin(&decoder);
+    icysixel_begin_dcs(&decoder);
     while (code == ICYSIXEL_OK && fed.status == ICYSIXEL_MORE
            && (length = fread(chunk, 1, sizeof chunk, stdin)) > 0)
         code = icysixel_feed(&decoder, chunk, length, &fed);

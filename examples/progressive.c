@@ -54,7 +54,7 @@ int main(void)
     uint8_t chunk[4096];
     size_t length, drawn = 0;
     uint32_t code = icysixel_new(&sixel);
-    icysixel_begin(&sixel);
+    icysixel_begin_dcs(&sixel);
     while (code == ICYSIXEL_OK && goes_on(&fed)
            && (length = fread(chunk, 1, sizeof chunk, stdin)) > 0)
         code = draw_bands(&sixel, chunk, length, &fed, &drawn);

@@ -13,8 +13,8 @@ STATUSES = ["more", "complete", "cancelled", "interrupted", "rejected"]
 # The end of a payload: CAN, SUB, ESC or a C1 control.
 TERMINATOR = re.compile(rb"[\x18\x1a\x1b\x80-\x9f]")
 # The struct of c/vectors.c, and its members after the shape, with what they are by default.
-STRUCT = "32s6Q4Q2H2B2x4i4?6QIB3x"
-MEMBERS = dict.fromkeys(("p1", "p2", "p3", "colors"), -1)
+STRUCT = "32s6Q4Q2H2B2x3i4?6QIB3x"
+MEMBERS = dict.fromkeys(("p1", "p2", "colors"), -1)
 MEMBERS |= {"payload": False, "crop": False, "at_once": True, "sessions": False}
 MEMBERS |= dict.fromkeys(("limit", "columns", "rows", "ends_after", "fails_at"), 2**64 - 1)
 MEMBERS |= {"consumed": 0, "status": 0, "byte": 0}
@@ -65,6 +65,7 @@ def packed_vectors():
         words = re.sub(r"clip=(\d+)x", r"columns=\1 rows=", settings).split()
         members = {it: int(value or 1) for it, _, value in (it.partition("=") for it in words)}
         members["sessions"] = not members.pop("dcs", False)
+        members.pop("p3", None)  # C has no P3, because it has no effect.
         data = bytes_of(text)
         end = TERMINATOR.search(data)
         members["consumed"] = end.start() if end else len(data)

@@ -49,7 +49,7 @@ static uint32_t make_session(icysixel *h, int kind, icysixel_shape *shape)
 {
     size_t length = inputs[kind].length;
     icysixel_fed fed;
-    uint32_t code = kind == OF_DCS ? icysixel_begin(h) : icysixel_begin_payload(h, 9, 1, -1);
+    uint32_t code = kind == OF_DCS ? icysixel_begin_dcs(h) : icysixel_begin_payload(h, 9, 1);
     for (size_t at = 0; code == ICYSIXEL_OK && at < length; at += 7)
         code = icysixel_feed(h, inputs[kind].at + at, length - at < 7 ? length - at : 7, &fed);
     if (code == ICYSIXEL_OK) return icysixel_finish(h, shape);
@@ -71,7 +71,7 @@ static uint32_t make_image(icysixel *h, int kind, struct bytes *made)
     icysixel_shape shape = {0};
     if (kind == CLIPPED) OK(icysixel_set_clip(h, 50, 9));
     uint32_t code = kind <= CLIPPED ? icysixel_decode(h, input, length, &shape)
-        : kind <= DECODE_TAGS ? icysixel_decode_payload(h, input, length, 9, 1, -1, &shape)
+        : kind <= DECODE_TAGS ? icysixel_decode_payload(h, input, length, 9, 1, &shape)
         : make_session(h, kind, &shape);
     CHECK(icysixel_is_receiving(h) == 0);
     if (code == ICYSIXEL_OK) {
@@ -91,7 +91,7 @@ static uint32_t make_rows(icysixel *h, int kind, struct bytes *made)
     icysixel_layout layout = {.columns = 130};
     icysixel_shape shape;
     icysixel_fed fed;
-    OK(icysixel_begin_payload(h, 9, 1, -1));
+    OK(icysixel_begin_payload(h, 9, 1));
     for (size_t at = 0, from = 0; at < length; at += fed.consumed, from = final) {
         uint32_t code = icysixel_feed_band(h, payload + at, length - at, &fed);
         if (code != ICYSIXEL_OK) return check_failed(h, ICYSIXEL_STREAM_FAILED), (void)kind, code;
@@ -261,12 +261,12 @@ static void test_no_allocation(void)
     OK(icysixel_reset_registers(&h)), OK(icysixel_set_registers(&h, 2, &color, 1));
     OK(icysixel_set_crop(&h, 1)), OK(icysixel_set_limit(&h, 99)), OK(icysixel_set_clip(&h, 9, 8));
     CHECK(color.green == 2 && icysixel_get_crop(&h) == 1 && icysixel_get_limit(&h) == 99);
-    OK(icysixel_get_clip(&h, &size)), OK(icysixel_begin(&h));
+    OK(icysixel_get_clip(&h, &size)), OK(icysixel_begin_dcs(&h));
     OK(icysixel_feed(&h, (const uint8_t *)"\033P9;1q#1;2;9;9;9$-!", 19, &fed));
     OK(icysixel_get_size_so_far(&h, &size));
     CHECK(icysixel_in_payload(&h) == 1 && icysixel_get_canvas_paints(&h) == 0);
     OK(icysixel_abort(&h)), CHECK(icysixel_is_receiving(&h) == 0);
-    OK(icysixel_begin_payload(&h, 9, 1, -1));
+    OK(icysixel_begin_payload(&h, 9, 1));
     OK(icysixel_feed(&h, (const uint8_t *)"!65536", 6, &fed));
     CHECK(icysixel_feed(&h, (const uint8_t *)"~", 1, &fed) == ICYSIXEL_MALFORMED);
     CHECK(icysixel_strerror(ICYSIXEL_MALFORMED, (char *)buffer, sizeof buffer) == 20);

@@ -70,8 +70,8 @@ static icysixel new_decoder(void)
 {
     icysixel decoder = new_handle();
     icysixel_set_limit(&decoder, 20000), icysixel_set_crop(&decoder, settings.crop);
-    if (settings.is_string) icysixel_begin(&decoder);
-    else icysixel_begin_payload(&decoder, settings.p1, settings.p2, -1);
+    if (settings.is_string) icysixel_begin_dcs(&decoder);
+    else icysixel_begin_payload(&decoder, settings.p1, settings.p2);
     return decoder;
 }
 
@@ -119,7 +119,7 @@ static void try_data(bool is_string)
     icysixel_fed fed = {0};
     uint32_t code = is_string
         ? icysixel_decode(&whole, data.at, data.length, &shape)
-        : icysixel_decode_payload(&whole, data.at, data.length, settings.p1, settings.p2, -1,
+        : icysixel_decode_payload(&whole, data.at, data.length, settings.p1, settings.p2,
                                   &shape);
     struct outcome at_once = add_outcome(&whole, code, shape);
     code = ICYSIXEL_OK;

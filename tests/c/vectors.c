@@ -12,7 +12,7 @@ struct vector {
     struct bytes pixels;  /* the expected image, or an image to encode */
     struct bytes error;   /* the text of the expected error, or none */
     icysixel_shape shape; /* the pixels may be fewer or more than its sizes need */
-    int32_t p1, p2, p3;
+    int32_t p1, p2;
     int32_t colors; /* of the output; -1 if the data are decoded */
     bool is_payload, is_cropped, is_decoded_at_once, has_sessions;
     size_t limit;
@@ -62,8 +62,7 @@ static struct registers decode(const struct vector *vector)
     struct bytes in = vector->data;
     icysixel_shape shape = {0};
     uint32_t code = vector->is_payload
-        ? icysixel_decode_payload(&decoder, in.at, in.length, vector->p1, vector->p2, vector->p3,
-                                  &shape)
+        ? icysixel_decode_payload(&decoder, in.at, in.length, vector->p1, vector->p2, &shape)
         : icysixel_decode(&decoder, in.at, in.length, &shape);
     check_outcome(&decoder, code, shape, vector);
     CHECK(code == ICYSIXEL_OK || has_registers(&decoder, &before));
@@ -104,8 +103,8 @@ static void try_session(const struct vector *vector, const struct registers *aft
     size_t at = others == 0 ? 0 : first;
     uint32_t failed = vector->is_payload ? ICYSIXEL_STREAM_FAILED : ICYSIXEL_DCS_STREAM_FAILED;
     CHECK((vector->is_payload
-               ? icysixel_begin_payload(&decoder, vector->p1, vector->p2, vector->p3)
-               : icysixel_begin(&decoder)) == ICYSIXEL_OK);
+               ? icysixel_begin_payload(&decoder, vector->p1, vector->p2)
+               : icysixel_begin_dcs(&decoder)) == ICYSIXEL_OK);
     uint32_t code = feed(&decoder, vector, 0, at);
     while (code == ICYSIXEL_OK && at < vector->data.length) {
         seed = seed * 1664525 + 1013904223;

@@ -210,12 +210,12 @@ void icysixel_free(icysixel *handle);
 
 /* Opens a DCS sequence, from its introducer to its terminator. It starts with the decoder's current
  * registers, crop, limit and clip. An open image is aborted. */
-uint32_t icysixel_begin(icysixel *handle);
+uint32_t icysixel_begin_dcs(icysixel *handle);
 
-/* Opens a payload: the data between the `q` and the terminator of a DCS sequence. p1, p2 and grid
- * are the parameters P1, P2 and P3 before the `q`. P3 has no effect. A number outside of 0 to
- * 65535, such as -1, means that the parameter is absent. An open image is aborted. */
-uint32_t icysixel_begin_payload(icysixel *handle, int32_t p1, int32_t p2, int32_t grid);
+/* Opens a payload: the data between the `q` and the terminator of a DCS sequence. p1 and p2 are the
+ * parameters P1 and P2 before the `q`. A number outside of 0 to 65535, such as -1, means that the
+ * parameter is absent. P3 has no effect on an image. An open image is aborted. */
+uint32_t icysixel_begin_payload(icysixel *handle, int32_t p1, int32_t p2);
 
 /* Reads a chunk of the open image. A chunk can end anywhere, and chunk boundaries have no effect on
  * the image. After the end of the image a feed consumes nothing and returns the same status again.
@@ -314,7 +314,7 @@ uint32_t icysixel_decode(icysixel *handle, const uint8_t *bytes, size_t length,
 
 /* Decodes one payload in the same way, with the parameters of icysixel_begin_payload. */
 uint32_t icysixel_decode_payload(icysixel *handle, const uint8_t *bytes, size_t length, int32_t p1,
-                                 int32_t p2, int32_t grid, icysixel_shape *shape);
+                                 int32_t p2, icysixel_shape *shape);
 
 /* -- The stored image -- */
 

@@ -80,13 +80,9 @@ abbrev pub given : ℤ → Option ℕ
 given (pos number) = if nat_le number 65535 then Some number else None
 given (negsuc below) = None
 
--- the parameters that C passes
-abbrev pub settings_of : ℤ → ℤ → ℤ → Settings
-settings_of p1 p2 grid = record {
-  aspect_ratio = given p1;
-  zero_color = given p2;
-  grid_size = given grid;
-}
+-- the parameters that C passes; P3 has no effect on an image
+abbrev pub settings_of : ℤ → ℤ → Settings
+settings_of p1 p2 = record { aspect_ratio = given p1; zero_color = given p2; grid_size = None }
 
 -- 0 if the image needs more data, 1 if it is complete, 2 if it was cancelled, 3 if interrupted
 abbrev pub status_code : Status → ℕ

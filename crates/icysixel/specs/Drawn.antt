@@ -1,6 +1,6 @@
 -- The image that C encodes: its rows in the caller's memory, and P1 and P2 for the shape of a pixel
 -- and the background.
-use Rattle.std.specs.Prelude.{ℕ, ◌*◌, ℤ, negsuc, List}
+use Rattle.std.specs.Prelude.{ℕ, ◌*◌, ℤ, List}
 use Rattle.sixel_base.specs.Payload.{Image}
 use Rattle.sixel_base.specs.Settings.{Settings, ratio_of, mode_of}
 use Rattle.icysixel.specs.Code.{settings_of}
@@ -24,4 +24,4 @@ drawn_rows stride width height settings bytes =
 -- the same with the shape and the background of P1 and P2
 abbrev pub image_of : ℕ → ℕ → ℕ → ℤ → ℤ → List ℕ → Image
 image_of stride width height p1 p2 bytes =
-    drawn_rows stride width height (settings_of p1 p2 (negsuc 0)) bytes
+    drawn_rows stride width height (settings_of p1 p2) bytes

@@ -87,7 +87,6 @@ pub extern "C" fn icysixel_decode_payload(
     bytes: &[u8],
     p1: i32,
     p2: i32,
-    grid: i32,
     shape: &mut Shape,
 ) -> u32
     ensures held { is_some slot.new.handle.state ≡ is_some slot.old.handle.state }
@@ -99,17 +98,17 @@ pub extern "C" fn icysixel_decode_payload(
     ensures image { (before after : State) (image : SixelImage)
         → slot.old.handle.state ≡ Some before → slot.new.handle.state ≡ Some after
         → after.image ≡ Some image → image_value image
-        ≡ payload_image (origin_of before.receiver.decoder (settings_of p1 p2 grid)) bytes.now }
+        ≡ payload_image (origin_of before.receiver.decoder (settings_of p1 p2)) bytes.now }
     ensures shape { (before after : State) (image : SixelImage)
         → slot.old.handle.state ≡ Some before → slot.new.handle.state ≡ Some after
         → after.image ≡ Some image → shape.new ≡ shape_of (image_value image)
-        (found_drawn_height before.receiver.decoder (Payload (settings_of p1 p2 grid) bytes.now)) }
+        (found_drawn_height before.receiver.decoder (Payload (settings_of p1 p2) bytes.now)) }
     ensures bytes { result ≡ 0 → shape.new.bytes ≡ 4 * (shape.new.width * shape.new.height) }
     ensures area { (before : State) → slot.old.handle.state ≡ Some before → result ≡ 0
         → shape.new.width * shape.new.height ≤ before.receiver.decoder.pixel_limit.pixels }
     ensures registers { (before after : State) → slot.old.handle.state ≡ Some before
         → slot.new.handle.state ≡ Some after → result ≡ 0 → after.receiver.decoder.registers
-        ≡ payload_registers (origin_of before.receiver.decoder (settings_of p1 p2 grid)) bytes.now }
+        ≡ payload_registers (origin_of before.receiver.decoder (settings_of p1 p2)) bytes.now }
     ensures faultless { (before : State) → slot.old.handle.state ≡ Some before → result ≡ 0
         → payload_fault before.receiver.decoder.pixel_limit bytes.now ≡ None }
     ensures set { (before after : State) → slot.old.handle.state ≡ Some before
@@ -132,7 +131,7 @@ pub extern "C" fn icysixel_decode_payload(
     }
     let state = slot.state();
     let mut decoder = state.replace_decoder(SixelDecoder::new());
-    let answer = decoder.decode_from_dcs_drawn(alloc, bytes, settings(p1, p2, grid));
+    let answer = decoder.decode_from_dcs_drawn(alloc, bytes, settings(p1, p2));
     state.replace_decoder(decoder);
     state.store_decoded(answer, shape)
 }

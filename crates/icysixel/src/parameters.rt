@@ -5,13 +5,13 @@ ghost use Rattle.icysixel.specs.Code.{given, settings_of};
 
 use icy_sixel::DcsSettings;
 
-/// The settings of these parameters.
+/// The settings of P1 and P2, without P3.
 ///
 /// A number outside of 0 to 65535 means an absent one.
-pub fn settings(p1: i32, p2: i32, grid: i32) -> DcsSettings
-    ensures { result ≡ settings_of p1 p2 grid }
+pub fn settings(p1: i32, p2: i32) -> DcsSettings
+    ensures { result ≡ settings_of p1 p2 }
 {
-    DcsSettings::new(given(p1), given(p2), given(grid))
+    DcsSettings::new(given(p1), given(p2), None)
 }
 
 /// The parameter of a number, or `None` for an absent one.

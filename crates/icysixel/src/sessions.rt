@@ -75,7 +75,7 @@ pub extern "C" fn icysixel_free(alloc: Global, slot: &mut Slot)
 
 /// Opens a DCS sequence. An open image is aborted.
 #[unsafe(no_mangle)]
-pub extern "C" fn icysixel_begin(alloc: Global, slot: &mut Slot) -> u32
+pub extern "C" fn icysixel_begin_dcs(alloc: Global, slot: &mut Slot) -> u32
     ensures held { is_some slot.new.handle.state ≡ is_some slot.old.handle.state }
     ensures none { slot.old.handle.state ≡ None → result ≡ 1 }
     ensures done { is_some slot.old.handle.state ≡ true → result ≡ 0 }
@@ -99,13 +99,7 @@ pub extern "C" fn icysixel_begin(alloc: Global, slot: &mut Slot) -> u32
 
 /// Opens a payload with these parameters. An open image is aborted.
 #[unsafe(no_mangle)]
-pub extern "C" fn icysixel_begin_payload(
-    alloc: Global,
-    slot: &mut Slot,
-    p1: i32,
-    p2: i32,
-    grid: i32,
-) -> u32
+pub extern "C" fn icysixel_begin_payload(alloc: Global, slot: &mut Slot, p1: i32, p2: i32) -> u32
     ensures held { is_some slot.new.handle.state ≡ is_some slot.old.handle.state }
     ensures none { slot.old.handle.state ≡ None → result ≡ 1 }
     ensures done { is_some slot.old.handle.state ≡ true → result ≡ 0 }
@@ -116,13 +110,13 @@ pub extern "C" fn icysixel_begin_payload(
         → slot.new.handle.state ≡ Some after → AreKept before after }
     ensures image { (before after : State) → slot.old.handle.state ≡ Some before
         → slot.new.handle.state ≡ Some after → after.receiver.image
-        ≡ begun (OfPayload (settings_of p1 p2 grid)) before.receiver.decoder
+        ≡ begun (OfPayload (settings_of p1 p2)) before.receiver.decoder
         before.receiver.keeps_partial }
 {
     if !slot.is_held() {
         return Code::NoHandle as u32;
     }
-    let settings = settings(p1, p2, grid);
+    let settings = settings(p1, p2);
     let state = slot.state();
     state.receiver.begin_frame(alloc, settings);
     Code::Success as u32

@@ -79,7 +79,7 @@ pub extern "C" fn icysixel_encode(
         stride,
         width,
         height,
-        settings: settings(p1, p2, -1),
+        settings: settings(p1, p2),
     };
     let output = Output::Chosen {
         max_colors,
@@ -216,7 +216,7 @@ fn store_text(
         stride: encoding.stride,
         width: encoding.width,
         height: encoding.height,
-        settings: settings(encoding.p1, encoding.p2, -1),
+        settings: settings(encoding.p1, encoding.p2),
     };
     let text = pixels.encoded(alloc, output);
     slot.state().store_encoded(text, bytes)

@@ -110,8 +110,8 @@ pub(crate) struct BufferLayout {
 unsafe extern "C" {
     safe fn icysixel_new(handle: &mut Raw) -> u32;
     safe fn icysixel_free(handle: &mut Raw);
-    safe fn icysixel_begin(handle: &mut Raw) -> u32;
-    safe fn icysixel_begin_payload(handle: &mut Raw, p1: i32, p2: i32, grid: i32) -> u32;
+    safe fn icysixel_begin_dcs(handle: &mut Raw) -> u32;
+    safe fn icysixel_begin_payload(handle: &mut Raw, p1: i32, p2: i32) -> u32;
     safe fn icysixel_is_receiving(handle: &mut Raw) -> u8;
     safe fn icysixel_in_payload(handle: &mut Raw) -> u8;
     safe fn icysixel_get_size_so_far(handle: &mut Raw, size: &mut Size) -> u32;
@@ -165,7 +165,6 @@ unsafe extern "C" {
         length: usize,
         p1: i32,
         p2: i32,
-        grid: i32,
         shape: &mut Shape,
     ) -> u32;
     fn icysixel_copy_pixels(
@@ -276,8 +275,8 @@ fn answer<T>(code: u32, value: T) -> Answer<T> {
     if code == OK { Ok(value) } else { Err(code) }
 }
 
-/// The parameters of a DCS sequence, where -1 means an absent one.
-pub(crate) type Parameters = [i32; 3];
+/// P1 and P2 of a DCS sequence, where -1 means an absent one.
+pub(crate) type Parameters = [i32; 2];
 
 /// Pixels to encode, four bytes each, with the parameters of the output.
 pub(crate) struct Source<'a> {
@@ -327,12 +326,12 @@ impl Handle {
 
     /// Opens a DCS sequence, in place of an open image.
     pub(crate) fn begin(&mut self) {
-        icysixel_begin(&mut self.0);
+        icysixel_begin_dcs(&mut self.0);
     }
 
     /// Opens a payload, in place of an open image.
-    pub(crate) fn begin_payload(&mut self, [p1, p2, grid]: Parameters) {
-        icysixel_begin_payload(&mut self.0, p1, p2, grid);
+    pub(crate) fn begin_payload(&mut self, [p1, p2]: Parameters) {
+        icysixel_begin_payload(&mut self.0, p1, p2);
     }
 
     /// Reads a chunk of the open image.
@@ -446,12 +445,12 @@ impl Handle {
     pub(crate) fn read_payload(
         &mut self,
         bytes: &[u8],
-        [p1, p2, grid]: Parameters,
+        [p1, p2]: Parameters,
     ) -> Answer<(Shape, Vec<u8>)> {
         let (start, length) = (bytes.as_ptr(), bytes.len());
         self.image(|handle, shape| {
             // SAFETY: the pointer and the length are those of a slice, which is only read.
-            unsafe { icysixel_decode_payload(handle, start, length, p1, p2, grid, shape) }
+            unsafe { icysixel_decode_payload(handle, start, length, p1, p2, shape) }
         })
     }
 

@@ -138,9 +138,9 @@ impl DcsSettings {
         Self { grid_size: Some(grid_size), ..self }
     }
 
-    /// The three parameters as the library takes them, where -1 is an absent one.
+    /// P1 and P2 as the library takes them, where -1 is an absent one.
     pub(crate) fn parameters(self) -> Parameters {
-        [self.aspect_ratio, self.zero_color, self.grid_size].map(|p| p.map_or(-1, i32::from))
+        [self.aspect_ratio, self.zero_color].map(|p| p.map_or(-1, i32::from))
     }
 
     /// Returns the background with these settings: transparent only if P2 is 1.

@@ -54,7 +54,7 @@ returns-clause-image c = λ before after image is is_now kept.
     let same : c.replace_decoder-decoder.result ≡ before.receiver.decoder =
     grind (arith, c.state-state.ensures.value) in
     let now : c.store_decoded.new.self.image ≡ Some image = grind arith in
-    let settings : c.settings.result ≡ settings_of c.args.p1 c.args.p2 c.args.grid = search rules in
+    let settings : c.settings.result ≡ settings_of c.args.p1 c.args.p2 = search rules in
     let bytes = c.args.bytes.now in
     of_stored (image_result c.decode_from_dcs_drawn-answer.result) c.store_decoded.new.self.image
     (λ image.

@@ -1,6 +1,6 @@
 use mir.Syntax.{w32}
 use mir.Val.{SFits, of_z, to_z}
-use Rattle.std.proofs.Common.{◌≡◌, ap, sym, ◌∙◌, arith, rules, negsuc}
+use Rattle.std.proofs.Common.{◌≡◌, ap, sym, ◌∙◌, arith, rules}
 use Rattle.std.proofs.lemmas.Int.{to_z-of_z}
 use Rattle.std.specs.Prelude.{string_bytes}
 use Rattle.std.specs.Option.{option_map}
@@ -35,11 +35,11 @@ returns c =
     let encoding = c.args.encoding.now in
     let first : SFits w32 encoding.p1 = search rules in
     let second : SFits w32 encoding.p2 = search rules in
-    let settings : c.settings.result ≡ settings_of encoding.p1 encoding.p2 (negsuc 0) =
+    let settings : c.settings.result ≡ settings_of encoding.p1 encoding.p2 =
     c.settings.ensures
-    ∙ (ap (λ z. settings_of z (to_z w32 (of_z w32 encoding.p2)) (negsuc 0))
+    ∙ (ap (λ z. settings_of z (to_z w32 (of_z w32 encoding.p2)))
     (to_z-of_z w32 encoding.p1 first)
-    ∙ ap (λ z. settings_of encoding.p1 z (negsuc 0)) (to_z-of_z w32 encoding.p2 second)) in
+    ∙ ap (λ z. settings_of encoding.p1 z) (to_z-of_z w32 encoding.p2 second)) in
     record {
       handle = grind arith;
       no_handle = grind arith;
