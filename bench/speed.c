@@ -14,7 +14,7 @@ static void decode(icysixel *decoder, const uint8_t *bytes, size_t length, size_
 {
     icysixel_bytes pixels = {0};
     icysixel_fed fed;
-    want(icysixel_begin_dcs(decoder));
+    icysixel_begin_dcs(decoder);
     for (size_t at = 0; at < length; at += chunk) {
         if (chunk > length - at) chunk = length - at;
         want(icysixel_feed(decoder, bytes + at, chunk, &fed));

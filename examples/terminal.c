@@ -29,7 +29,8 @@ static uint32_t begin_image(struct terminal *term)
         icysixel_set_limit(&term->sixel, SCREEN_WIDTH * SCREEN_HEIGHT);
         icysixel_set_clip(&term->sixel, SCREEN_WIDTH, SIZE_MAX);
     }
-    return icysixel_begin_payload(&term->sixel, p[0], p[1]);
+    icysixel_begin_payload(&term->sixel, p[0], p[1]);
+    return ICYSIXEL_OK;
 }
 
 /* Finishes the image and draws it. */

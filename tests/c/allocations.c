@@ -49,7 +49,9 @@ static uint32_t make_session(icysixel *h, int kind, icysixel_shape *shape)
 {
     size_t length = inputs[kind].length;
     icysixel_fed fed;
-    uint32_t code = kind == OF_DCS ? icysixel_begin_dcs(h) : icysixel_begin_payload(h, 9, 1);
+    uint32_t code = ICYSIXEL_OK;
+    if (kind == OF_DCS) icysixel_begin_dcs(h);
+    else icysixel_begin_payload(h, 9, 1);
     for (size_t at = 0; code == ICYSIXEL_OK && at < length; at += 7)
         code = icysixel_feed(h, inputs[kind].at + at, length - at < 7 ? length - at : 7, &fed);
     if (code == ICYSIXEL_OK) return icysixel_finish(h, shape);
@@ -69,7 +71,7 @@ static uint32_t make_image(icysixel *h, int kind, struct bytes *made)
     const uint8_t *input = inputs[kind].at;
     size_t length = inputs[kind].length, wanted;
     icysixel_shape shape = {0};
-    if (kind == CLIPPED) OK(icysixel_set_clip(h, 50, 9));
+    if (kind == CLIPPED) icysixel_set_clip(h, 50, 9);
     uint32_t code = kind <= CLIPPED ? icysixel_decode(h, input, length, &shape)
         : kind <= DECODE_TAGS ? icysixel_decode_payload(h, input, length, 9, 1, &shape)
         : make_session(h, kind, &shape);
@@ -91,7 +93,7 @@ static uint32_t make_rows(icysixel *h, int kind, struct bytes *made)
     icysixel_layout layout = {.columns = 130};
     icysixel_shape shape;
     icysixel_fed fed;
-    OK(icysixel_begin_payload(h, 9, 1));
+    icysixel_begin_payload(h, 9, 1);
     for (size_t at = 0, from = 0; at < length; at += fed.consumed, from = final) {
         uint32_t code = icysixel_feed_band(h, payload + at, length - at, &fed);
         if (code != ICYSIXEL_OK) return check_failed(h, ICYSIXEL_STREAM_FAILED), (void)kind, code;
@@ -163,7 +165,6 @@ static uint32_t make_new(icysixel *h, int kind, struct bytes *made)
 {
     (void)kind;
     uint32_t code = icysixel_new(h), is_ok = code == ICYSIXEL_OK;
-    CHECK(icysixel_abort(h) == (is_ok ? ICYSIXEL_OK : ICYSIXEL_NO_HANDLE));
     CHECK(icysixel_get_limit(h) == (is_ok ? 67108864 : 0));
     return append(made, "new", is_ok ? 3 : 0), code;
 }
@@ -184,7 +185,8 @@ static icysixel full_decoder(void)
     icysixel h = {0};
     icysixel_shape shape;
     size_t length;
-    OK(icysixel_new(&h)), OK(icysixel_set_register(&h, 200, 1, 2, 3));
+    OK(icysixel_new(&h));
+    icysixel_set_register(&h, 200, 1, 2, 3);
     OK(icysixel_decode(&h, (const uint8_t *)"#1;2;9;9;9!9~", 13, &shape));
     OK(icysixel_encode(&h, pixels, 4, 0, 1, 1, 9, 1, 256, &length));
     return h;
@@ -257,23 +259,27 @@ static void test_no_allocation(void)
     memory.requests = 0, memory.all_fail = true;
     OK(icysixel_copy_pixels(&h, buffer, sizeof buffer, 0, &wanted));
     OK(icysixel_copy_text(&h, buffer, sizeof buffer, &wanted));
-    OK(icysixel_set_register(&h, 1, 1, 2, 3)), OK(icysixel_get_register(&h, 1, &color));
-    OK(icysixel_reset_registers(&h)), OK(icysixel_set_registers(&h, 2, &color, 1));
-    OK(icysixel_set_crop(&h, 1)), OK(icysixel_set_limit(&h, 99)), OK(icysixel_set_clip(&h, 9, 8));
+    icysixel_set_register(&h, 1, 1, 2, 3);
+    OK(icysixel_get_register(&h, 1, &color));
+    icysixel_reset_registers(&h), icysixel_set_registers(&h, 2, &color, 1);
+    icysixel_set_crop(&h, 1), icysixel_set_limit(&h, 99), icysixel_set_clip(&h, 9, 8);
     CHECK(color.green == 2 && icysixel_get_crop(&h) == 1 && icysixel_get_limit(&h) == 99);
-    OK(icysixel_get_clip(&h, &size)), OK(icysixel_begin_dcs(&h));
+    OK(icysixel_get_clip(&h, &size));
+    icysixel_begin_dcs(&h);
     OK(icysixel_feed(&h, (const uint8_t *)"\033P9;1q#1;2;9;9;9$-!", 19, &fed));
     OK(icysixel_get_size_so_far(&h, &size));
     CHECK(icysixel_in_payload(&h) == 1 && icysixel_get_canvas_paints(&h) == 0);
-    OK(icysixel_abort(&h)), CHECK(icysixel_is_receiving(&h) == 0);
-    OK(icysixel_begin_payload(&h, 9, 1));
+    icysixel_abort(&h);
+    CHECK(icysixel_is_receiving(&h) == 0);
+    icysixel_begin_payload(&h, 9, 1);
     OK(icysixel_feed(&h, (const uint8_t *)"!65536", 6, &fed));
     CHECK(icysixel_feed(&h, (const uint8_t *)"~", 1, &fed) == ICYSIXEL_MALFORMED);
     CHECK(icysixel_strerror(ICYSIXEL_MALFORMED, (char *)buffer, sizeof buffer) == 20);
     test_rejected(&h);
-    OK(icysixel_discard_image(&h)), CHECK(memory.requests == 0);
+    icysixel_discard_image(&h);
+    CHECK(memory.requests == 0);
     memory.all_fail = false;
-    OK(icysixel_set_limit(&h, SIZE_MAX)), OK(icysixel_set_clip(&h, SIZE_MAX, SIZE_MAX));
+    icysixel_set_limit(&h, SIZE_MAX), icysixel_set_clip(&h, SIZE_MAX, SIZE_MAX);
     OK(icysixel_decode(&h, string, sizeof string - 1, &shape));
     memory.requests = 0, memory.all_fail = true;
     OK(icysixel_take_pixels(&h, &block)), CHECK(block.length == shape.bytes);

@@ -66,7 +66,7 @@ static size_t peak_of(int way, struct bytes pixels, icysixel_size size, struct b
     if (way == DECODE) {
         CHECK(icysixel_decode(&h, text->at, text->length, &shape) == ICYSIXEL_OK);
     } else if (way == SESSION) {
-        CHECK(icysixel_begin_dcs(&h) == ICYSIXEL_OK);
+        icysixel_begin_dcs(&h);
         for (size_t at = 0; fed.status == ICYSIXEL_MORE; at += fed.consumed) {
             struct bytes chunk = part(*text, at, 4096);
             CHECK(icysixel_feed(&h, chunk.at, chunk.length, &fed) == ICYSIXEL_OK);

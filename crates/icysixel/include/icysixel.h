@@ -7,8 +7,9 @@
  *
  * Handles. An `icysixel` is 16 bytes of the caller's memory, and refers to a decoder. A zeroed
  * handle is valid and empty, and so is a handle after icysixel_free. Every function can be called
- * on an empty handle. It returns ICYSIXEL_NO_HANDLE, or 0 if it returns no code. Do not copy a
- * handle and do not write to its members. A handle can be moved to another address between calls.
+ * on an empty handle. It returns ICYSIXEL_NO_HANDLE, or 0 if it returns no code. A function that
+ * returns nothing cannot fail: on an empty handle it does nothing. Do not copy a handle and do not
+ * write to its members. A handle can be moved to another address between calls.
  *
  * Ownership. icysixel_free frees all memory behind a handle. The library stores no pointer that the
  * caller passes. It copies input, and it copies pixels and text to the caller's buffers. Only
@@ -210,12 +211,12 @@ void icysixel_free(icysixel *handle);
 
 /* Opens a DCS sequence, from its introducer to its terminator. It starts with the decoder's current
  * registers, crop, limit and clip. An open image is aborted. */
-uint32_t icysixel_begin_dcs(icysixel *handle);
+void icysixel_begin_dcs(icysixel *handle);
 
 /* Opens a payload: the data between the `q` and the terminator of a DCS sequence. p1 and p2 are the
  * parameters P1 and P2 before the `q`. A number outside of 0 to 65535, such as -1, means that the
  * parameter is absent. P3 has no effect on an image. An open image is aborted. */
-uint32_t icysixel_begin_payload(icysixel *handle, int32_t p1, int32_t p2);
+void icysixel_begin_payload(icysixel *handle, int32_t p1, int32_t p2);
 
 /* Reads a chunk of the open image. A chunk can end anywhere, and chunk boundaries have no effect on
  * the image. After the end of the image a feed consumes nothing and returns the same status again.
@@ -301,7 +302,7 @@ uint32_t icysixel_finish_into(icysixel *handle, size_t first, const icysixel_lay
 uint32_t icysixel_finish(icysixel *handle, icysixel_shape *shape);
 
 /* Aborts the open image, if there is one. The decoder is unchanged. */
-uint32_t icysixel_abort(icysixel *handle);
+void icysixel_abort(icysixel *handle);
 
 /* -- Decoding in one call -- */
 
@@ -336,7 +337,7 @@ uint32_t icysixel_take_pixels(icysixel *handle, icysixel_bytes *pixels);
 void icysixel_free_bytes(icysixel_bytes *bytes);
 
 /* Frees the stored image, and a stored text too. */
-uint32_t icysixel_discard_image(icysixel *handle);
+void icysixel_discard_image(icysixel *handle);
 
 /* -- Registers and settings -- */
 
@@ -344,8 +345,8 @@ uint32_t icysixel_discard_image(icysixel *handle);
 uint32_t icysixel_get_register(icysixel *handle, uint8_t number, icysixel_color *color);
 
 /* Sets the color of a register, for images that are begun afterwards. */
-uint32_t icysixel_set_register(icysixel *handle, uint8_t number, uint8_t red, uint8_t green,
-                               uint8_t blue);
+void icysixel_set_register(icysixel *handle, uint8_t number, uint8_t red, uint8_t green,
+                           uint8_t blue);
 
 /* Writes the colors of the registers from `first` on to `colors`, which has `count` of them. It
  * stops after register 255. icysixel_get_registers(&handle, 0, colors, 256) writes all. */
@@ -355,24 +356,24 @@ uint32_t icysixel_get_registers(icysixel *handle, uint8_t first, icysixel_color 
 /* Sets the registers from `first` on to `count` colors, for images that are begun afterwards. A
  * terminal sets its palette by icysixel_set_registers(&handle, 0, palette, 16). Register 0 is the
  * background of an opaque image. Colors that are left after register 255 have no effect. */
-uint32_t icysixel_set_registers(icysixel *handle, uint8_t first, const icysixel_color *colors,
-                                size_t count);
+void icysixel_set_registers(icysixel *handle, uint8_t first, const icysixel_color *colors,
+                            size_t count);
 
 /* Resets all registers to those of a new decoder, for images that are begun afterwards. */
-uint32_t icysixel_reset_registers(icysixel *handle);
+void icysixel_reset_registers(icysixel *handle);
 
 /* Returns 1 if images are cropped to the height in their raster attributes. */
 uint8_t icysixel_get_crop(icysixel *handle);
 
 /* Sets whether images that are begun afterwards are cropped: 0 is off, any other number is on. */
-uint32_t icysixel_set_crop(icysixel *handle, uint8_t on);
+void icysixel_set_crop(icysixel *handle, uint8_t on);
 
 /* Returns how many pixels an image can have, or 0 if the handle is empty. */
 size_t icysixel_get_limit(icysixel *handle);
 
 /* Sets how many pixels an image that is begun afterwards can have. 0 is taken as 1, and a number
  * above 67,108,864 as 67,108,864. */
-uint32_t icysixel_set_limit(icysixel *handle, size_t pixels);
+void icysixel_set_limit(icysixel *handle, size_t pixels);
 
 /* Writes how many columns from the left and rows from the top an image can have: 1,000,000 each in
  * a new decoder, which clips nothing. */
@@ -381,7 +382,7 @@ uint32_t icysixel_get_clip(icysixel *handle, icysixel_size *clip);
 /* Sets the columns and rows that an image that is begun afterwards can have. The image is the
  * picture restricted to them. What lies outside is not stored, and does not count for the limit of
  * pixels. 0 is taken as 1, and a number above 1,000,000 as 1,000,000. */
-uint32_t icysixel_set_clip(icysixel *handle, size_t width, size_t height);
+void icysixel_set_clip(icysixel *handle, size_t width, size_t height);
 
 /* -- Encoding -- */
 

@@ -1,6 +1,6 @@
 //! The calls that finish an image, and copy, transfer and free its pixels.
 
-ghost use Rattle.std.specs.Prelude.{◌≡◌, ◌≢◌, ◌*◌, ◌<◌, ◌≤◌, ℕ, Some, None, is_some, true};
+ghost use Rattle.std.specs.Prelude.{◌≡◌, ◌≢◌, ◌*◌, ◌<◌, ◌≤◌, ℕ, Some, None, is_some};
 ghost use Rattle.std.specs.Prelude.{[], length, drop};
 ghost use Rattle.sixel_base.specs.Payload.{Image};
 ghost use Rattle.icy_sixel.specs.ImageView.{image_value};
@@ -236,18 +236,14 @@ pub extern "C" fn icysixel_free_bytes(alloc: Global, bytes: &mut Bytes)
 
 /// Frees the stored image and the stored text.
 #[unsafe(no_mangle)]
-pub extern "C" fn icysixel_discard_image(slot: &mut Slot) -> u32
+pub extern "C" fn icysixel_discard_image(slot: &mut Slot)
     ensures held { is_some slot.new.handle.state ≡ is_some slot.old.handle.state }
-    ensures none { slot.old.handle.state ≡ None → result ≡ 1 }
-    ensures done { is_some slot.old.handle.state ≡ true → result ≡ 0 }
     ensures image { (after : State) → slot.new.handle.state ≡ Some after → after.image ≡ None }
     ensures text { (after : State) → slot.new.handle.state ≡ Some after → after.text ≡ None }
     ensures decoder { (before after : State) → slot.old.handle.state ≡ Some before
         → slot.new.handle.state ≡ Some after → after.receiver ≡ before.receiver }
 {
-    if !slot.is_held() {
-        return Code::NoHandle as u32;
+    if slot.is_held() {
+        slot.state().discard();
     }
-    slot.state().discard();
-    Code::Success as u32
 }

@@ -25,10 +25,8 @@ pub extern "C" fn icysixel_get_crop(slot: &mut Slot) -> u8
 
 /// Sets whether images are cropped: 0 is off, any other number is on.
 #[unsafe(no_mangle)]
-pub extern "C" fn icysixel_set_crop(slot: &mut Slot, on: u8) -> u32
+pub extern "C" fn icysixel_set_crop(slot: &mut Slot, on: u8)
     ensures held { is_some slot.new.handle.state ≡ is_some slot.old.handle.state }
-    ensures none { slot.old.handle.state ≡ None → result ≡ 1 }
-    ensures done { is_some slot.old.handle.state ≡ true → result ≡ 0 }
     ensures decoder { (before after : State) → slot.old.handle.state ≡ Some before
         → slot.new.handle.state ≡ Some after → after.receiver.decoder
         ≡ record before.receiver.decoder { raster_crop = not (on == 0) } }
@@ -37,11 +35,9 @@ pub extern "C" fn icysixel_set_crop(slot: &mut Slot, on: u8) -> u32
     ensures kept { (before after : State) → slot.old.handle.state ≡ Some before
         → slot.new.handle.state ≡ Some after → AreKept before after }
 {
-    if !slot.is_held() {
-        return Code::NoHandle as u32;
+    if slot.is_held() {
+        slot.state().receiver.set_raster_crop(on != 0);
     }
-    slot.state().receiver.set_raster_crop(on != 0);
-    Code::Success as u32
 }
 
 /// Returns how many pixels an image can have, or 0 if the handle is empty.
@@ -60,10 +56,8 @@ pub extern "C" fn icysixel_get_limit(slot: &mut Slot) -> usize
 
 /// Sets how many pixels an image can have: at least 1, and at most 67,108,864.
 #[unsafe(no_mangle)]
-pub extern "C" fn icysixel_set_limit(slot: &mut Slot, pixels: usize) -> u32
+pub extern "C" fn icysixel_set_limit(slot: &mut Slot, pixels: usize)
     ensures held { is_some slot.new.handle.state ≡ is_some slot.old.handle.state }
-    ensures none { slot.old.handle.state ≡ None → result ≡ 1 }
-    ensures done { is_some slot.old.handle.state ≡ true → result ≡ 0 }
     ensures decoder { (before after : State) → slot.old.handle.state ≡ Some before
         → slot.new.handle.state ≡ Some after
         → after.receiver.decoder ≡ with_pixel_limit before.receiver.decoder pixels }
@@ -72,11 +66,9 @@ pub extern "C" fn icysixel_set_limit(slot: &mut Slot, pixels: usize) -> u32
     ensures kept { (before after : State) → slot.old.handle.state ≡ Some before
         → slot.new.handle.state ≡ Some after → AreKept before after }
 {
-    if !slot.is_held() {
-        return Code::NoHandle as u32;
+    if slot.is_held() {
+        slot.state().receiver.set_pixel_limit(pixels);
     }
-    slot.state().receiver.set_pixel_limit(pixels);
-    Code::Success as u32
 }
 
 /// Writes how many columns from the left and rows from the top an image can have.
@@ -103,10 +95,8 @@ pub extern "C" fn icysixel_get_clip(slot: &mut Slot, clip: &mut Size) -> u32
 ///
 /// Each is at least 1, and at most 1,000,000.
 #[unsafe(no_mangle)]
-pub extern "C" fn icysixel_set_clip(slot: &mut Slot, width: usize, height: usize) -> u32
+pub extern "C" fn icysixel_set_clip(slot: &mut Slot, width: usize, height: usize)
     ensures held { is_some slot.new.handle.state ≡ is_some slot.old.handle.state }
-    ensures none { slot.old.handle.state ≡ None → result ≡ 1 }
-    ensures done { is_some slot.old.handle.state ≡ true → result ≡ 0 }
     ensures decoder { (before after : State) → slot.old.handle.state ≡ Some before
         → slot.new.handle.state ≡ Some after
         → after.receiver.decoder ≡ with_clip before.receiver.decoder width height }
@@ -115,9 +105,7 @@ pub extern "C" fn icysixel_set_clip(slot: &mut Slot, width: usize, height: usize
     ensures kept { (before after : State) → slot.old.handle.state ≡ Some before
         → slot.new.handle.state ≡ Some after → AreKept before after }
 {
-    if !slot.is_held() {
-        return Code::NoHandle as u32;
+    if slot.is_held() {
+        slot.state().receiver.set_clip(width, height);
     }
-    slot.state().receiver.set_clip(width, height);
-    Code::Success as u32
 }

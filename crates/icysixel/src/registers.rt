@@ -49,16 +49,8 @@ pub extern "C" fn icysixel_get_register(slot: &mut Slot, register: u8, color: &m
 
 /// Sets the color of a register of the decoder.
 #[unsafe(no_mangle)]
-pub extern "C" fn icysixel_set_register(
-    slot: &mut Slot,
-    register: u8,
-    red: u8,
-    green: u8,
-    blue: u8,
-) -> u32
+pub extern "C" fn icysixel_set_register(slot: &mut Slot, register: u8, red: u8, green: u8, blue: u8)
     ensures held { is_some slot.new.handle.state ≡ is_some slot.old.handle.state }
-    ensures none { slot.old.handle.state ≡ None → result ≡ 1 }
-    ensures done { is_some slot.old.handle.state ≡ true → result ≡ 0 }
     ensures decoder { (before after : State) → slot.old.handle.state ≡ Some before
         → slot.new.handle.state ≡ Some after → after.receiver.decoder
         ≡ record before.receiver.decoder {
@@ -70,13 +62,11 @@ pub extern "C" fn icysixel_set_register(
     ensures kept { (before after : State) → slot.old.handle.state ≡ Some before
         → slot.new.handle.state ≡ Some after → AreKept before after }
 {
-    if !slot.is_held() {
-        return Code::NoHandle as u32;
+    if slot.is_held() {
+        slot.state()
+            .receiver
+            .set_register(register, [red, green, blue]);
     }
-    slot.state()
-        .receiver
-        .set_register(register, [red, green, blue]);
-    Code::Success as u32
 }
 
 /// Writes the colors of the decoder's registers from `first` on, as far as both go.
@@ -108,10 +98,8 @@ fn copy_colors(buf: &mut [[u8; 3]], colors: &[[u8; 3]])
 
 /// Sets the colors of the decoder's registers from `first` on.
 #[unsafe(no_mangle)]
-pub extern "C" fn icysixel_set_registers(slot: &mut Slot, first: u8, colors: &[[u8; 3]]) -> u32
+pub extern "C" fn icysixel_set_registers(slot: &mut Slot, first: u8, colors: &[[u8; 3]])
     ensures held { is_some slot.new.handle.state ≡ is_some slot.old.handle.state }
-    ensures none { slot.old.handle.state ≡ None → result ≡ 1 }
-    ensures done { is_some slot.old.handle.state ≡ true → result ≡ 0 }
     ensures decoder { (before after : State) → slot.old.handle.state ≡ Some before
         → slot.new.handle.state ≡ Some after → after.receiver.decoder
         ≡ record before.receiver.decoder {
@@ -122,19 +110,15 @@ pub extern "C" fn icysixel_set_registers(slot: &mut Slot, first: u8, colors: &[[
     ensures kept { (before after : State) → slot.old.handle.state ≡ Some before
         → slot.new.handle.state ≡ Some after → AreKept before after }
 {
-    if !slot.is_held() {
-        return Code::NoHandle as u32;
+    if slot.is_held() {
+        slot.state().receiver.set_registers(first, colors);
     }
-    slot.state().receiver.set_registers(first, colors);
-    Code::Success as u32
 }
 
 /// Resets the decoder's registers to those of a new one.
 #[unsafe(no_mangle)]
-pub extern "C" fn icysixel_reset_registers(slot: &mut Slot) -> u32
+pub extern "C" fn icysixel_reset_registers(slot: &mut Slot)
     ensures held { is_some slot.new.handle.state ≡ is_some slot.old.handle.state }
-    ensures none { slot.old.handle.state ≡ None → result ≡ 1 }
-    ensures done { is_some slot.old.handle.state ≡ true → result ≡ 0 }
     ensures decoder { (before after : State) → slot.old.handle.state ≡ Some before
         → slot.new.handle.state ≡ Some after → after.receiver.decoder
         ≡ record before.receiver.decoder { registers = default_registers } }
@@ -143,9 +127,7 @@ pub extern "C" fn icysixel_reset_registers(slot: &mut Slot) -> u32
     ensures kept { (before after : State) → slot.old.handle.state ≡ Some before
         → slot.new.handle.state ≡ Some after → AreKept before after }
 {
-    if !slot.is_held() {
-        return Code::NoHandle as u32;
+    if slot.is_held() {
+        slot.state().receiver.reset_palette();
     }
-    slot.state().receiver.reset_palette();
-    Code::Success as u32
 }

@@ -1,6 +1,6 @@
 //! The calls that create and free a decoder, and begin, feed and abort an image.
 
-ghost use Rattle.std.specs.Prelude.{◌≡◌, ◌≢◌, Some, None, is_some, false, true};
+ghost use Rattle.std.specs.Prelude.{◌≡◌, ◌≢◌, Some, None, is_some, true};
 ghost use Rattle.sixel_base.specs.Decoder.{new_decoder};
 ghost use Rattle.icy_sixel.specs.Receiver.{OfPayload, OfString, begun, idle, no_image};
 ghost use Rattle.icysixel.specs.Code.{settings_of};
@@ -75,10 +75,8 @@ pub extern "C" fn icysixel_free(alloc: Global, slot: &mut Slot)
 
 /// Opens a DCS sequence. An open image is aborted.
 #[unsafe(no_mangle)]
-pub extern "C" fn icysixel_begin_dcs(alloc: Global, slot: &mut Slot) -> u32
+pub extern "C" fn icysixel_begin_dcs(alloc: Global, slot: &mut Slot)
     ensures held { is_some slot.new.handle.state ≡ is_some slot.old.handle.state }
-    ensures none { slot.old.handle.state ≡ None → result ≡ 1 }
-    ensures done { is_some slot.old.handle.state ≡ true → result ≡ 0 }
     ensures decoder { (before after : State) → slot.old.handle.state ≡ Some before
         → slot.new.handle.state ≡ Some after
         → after.receiver.decoder ≡ before.receiver.decoder }
@@ -89,20 +87,16 @@ pub extern "C" fn icysixel_begin_dcs(alloc: Global, slot: &mut Slot) -> u32
         → after.receiver.image ≡ begun OfString before.receiver.decoder
         before.receiver.keeps_partial }
 {
-    if !slot.is_held() {
-        return Code::NoHandle as u32;
+    if slot.is_held() {
+        let state = slot.state();
+        state.receiver.begin_dcs(alloc);
     }
-    let state = slot.state();
-    state.receiver.begin_dcs(alloc);
-    Code::Success as u32
 }
 
 /// Opens a payload with these parameters. An open image is aborted.
 #[unsafe(no_mangle)]
-pub extern "C" fn icysixel_begin_payload(alloc: Global, slot: &mut Slot, p1: i32, p2: i32) -> u32
+pub extern "C" fn icysixel_begin_payload(alloc: Global, slot: &mut Slot, p1: i32, p2: i32)
     ensures held { is_some slot.new.handle.state ≡ is_some slot.old.handle.state }
-    ensures none { slot.old.handle.state ≡ None → result ≡ 1 }
-    ensures done { is_some slot.old.handle.state ≡ true → result ≡ 0 }
     ensures decoder { (before after : State) → slot.old.handle.state ≡ Some before
         → slot.new.handle.state ≡ Some after
         → after.receiver.decoder ≡ before.receiver.decoder }
@@ -113,13 +107,11 @@ pub extern "C" fn icysixel_begin_payload(alloc: Global, slot: &mut Slot, p1: i32
         ≡ begun (OfPayload (settings_of p1 p2)) before.receiver.decoder
         before.receiver.keeps_partial }
 {
-    if !slot.is_held() {
-        return Code::NoHandle as u32;
+    if slot.is_held() {
+        let settings = settings(p1, p2);
+        let state = slot.state();
+        state.receiver.begin_frame(alloc, settings);
     }
-    let settings = settings(p1, p2);
-    let state = slot.state();
-    state.receiver.begin_frame(alloc, settings);
-    Code::Success as u32
 }
 
 /// Reads a chunk of the open image and writes the result.
@@ -206,10 +198,8 @@ fn feed_chunk(state: &mut State, piece: &[u8], fed: &mut Fed) -> u32
 
 /// Aborts the open image, if there is one.
 #[unsafe(no_mangle)]
-pub extern "C" fn icysixel_abort(slot: &mut Slot) -> u32
+pub extern "C" fn icysixel_abort(slot: &mut Slot)
     ensures held { is_some slot.new.handle.state ≡ is_some slot.old.handle.state }
-    ensures none { slot.old.handle.state ≡ None → result ≡ 1 }
-    ensures done { is_some slot.old.handle.state ≡ true → result ≡ 0 }
     ensures decoder { (before after : State) → slot.old.handle.state ≡ Some before
         → slot.new.handle.state ≡ Some after
         → after.receiver.decoder ≡ before.receiver.decoder }
@@ -218,9 +208,7 @@ pub extern "C" fn icysixel_abort(slot: &mut Slot) -> u32
     ensures closed { (before after : State) → slot.old.handle.state ≡ Some before
         → slot.new.handle.state ≡ Some after → after.receiver.image ≡ no_image }
 {
-    if !slot.is_held() {
-        return Code::NoHandle as u32;
+    if slot.is_held() {
+        slot.state().receiver.abort();
     }
-    slot.state().receiver.abort();
-    Code::Success as u32
 }

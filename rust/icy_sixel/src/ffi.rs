@@ -110,8 +110,8 @@ pub(crate) struct BufferLayout {
 unsafe extern "C" {
     safe fn icysixel_new(handle: &mut Raw) -> u32;
     safe fn icysixel_free(handle: &mut Raw);
-    safe fn icysixel_begin_dcs(handle: &mut Raw) -> u32;
-    safe fn icysixel_begin_payload(handle: &mut Raw, p1: i32, p2: i32) -> u32;
+    safe fn icysixel_begin_dcs(handle: &mut Raw);
+    safe fn icysixel_begin_payload(handle: &mut Raw, p1: i32, p2: i32);
     safe fn icysixel_is_receiving(handle: &mut Raw) -> u8;
     safe fn icysixel_in_payload(handle: &mut Raw) -> u8;
     safe fn icysixel_get_size_so_far(handle: &mut Raw, size: &mut Size) -> u32;
@@ -120,23 +120,17 @@ unsafe extern "C" {
     safe fn icysixel_release_rows(handle: &mut Raw, rows: usize) -> u32;
     safe fn icysixel_get_canvas_paints(handle: &mut Raw) -> u64;
     safe fn icysixel_finish(handle: &mut Raw, shape: &mut Shape) -> u32;
-    safe fn icysixel_discard_image(handle: &mut Raw) -> u32;
-    safe fn icysixel_abort(handle: &mut Raw) -> u32;
+    safe fn icysixel_discard_image(handle: &mut Raw);
+    safe fn icysixel_abort(handle: &mut Raw);
     safe fn icysixel_get_register(handle: &mut Raw, number: u8, color: &mut Color) -> u32;
-    safe fn icysixel_set_register(
-        handle: &mut Raw,
-        number: u8,
-        red: u8,
-        green: u8,
-        blue: u8,
-    ) -> u32;
-    safe fn icysixel_reset_registers(handle: &mut Raw) -> u32;
+    safe fn icysixel_set_register(handle: &mut Raw, number: u8, red: u8, green: u8, blue: u8);
+    safe fn icysixel_reset_registers(handle: &mut Raw);
     safe fn icysixel_get_crop(handle: &mut Raw) -> u8;
-    safe fn icysixel_set_crop(handle: &mut Raw, on: u8) -> u32;
+    safe fn icysixel_set_crop(handle: &mut Raw, on: u8);
     safe fn icysixel_get_limit(handle: &mut Raw) -> usize;
-    safe fn icysixel_set_limit(handle: &mut Raw, pixels: usize) -> u32;
+    safe fn icysixel_set_limit(handle: &mut Raw, pixels: usize);
     safe fn icysixel_get_clip(handle: &mut Raw, clip: &mut Size) -> u32;
-    safe fn icysixel_set_clip(handle: &mut Raw, width: usize, height: usize) -> u32;
+    safe fn icysixel_set_clip(handle: &mut Raw, width: usize, height: usize);
 
     fn icysixel_feed(handle: &mut Raw, chunk: *const u8, length: usize, fed: &mut Fed) -> u32;
     fn icysixel_feed_band(handle: &mut Raw, chunk: *const u8, length: usize, fed: &mut Fed) -> u32;
@@ -176,12 +170,7 @@ unsafe extern "C" {
     ) -> u32;
     fn icysixel_get_registers(handle: &mut Raw, first: u8, colors: *mut Color, count: usize)
     -> u32;
-    fn icysixel_set_registers(
-        handle: &mut Raw,
-        first: u8,
-        colors: *const Color,
-        count: usize,
-    ) -> u32;
+    fn icysixel_set_registers(handle: &mut Raw, first: u8, colors: *const Color, count: usize);
     fn icysixel_encode(
         handle: &mut Raw,
         pixels: *const u8,

@@ -1,5 +1,0 @@
-use Rattle.std.proofs.Common.{arith}
-use Rattle.icysixel.proofs.sessions.icysixel_begin_payload.Goals as goal
-
-pub returns-then-not-is_held : goal.returns-then-not-is_held
-returns-then-not-is_held c = grind arith
