@@ -80,7 +80,8 @@ SIXELSTATUS sixel_encode(unsigned char *pixels, int width, int height, int depth
     uint8_t *rgba = NULL, *text = NULL;
     (void)depth;
     if (width <= 0 || height <= 0) return SIXEL_BAD_ARGUMENT;
-    uint32_t code = icysixel_get_limit(&output->encoder) == 0 ? icysixel_new(&output->encoder) : 0;
+    uint32_t code = ICYSIXEL_OK;
+    if (icysixel_is_empty(&output->encoder)) code = icysixel_new(&output->encoder);
     if (code == ICYSIXEL_OK && (rgba = malloc(4 * columns * rows)) == NULL)
         code = ICYSIXEL_OUT_OF_MEMORY;
     for (size_t i = 0; code == ICYSIXEL_OK && i < columns * rows; i++) {

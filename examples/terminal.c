@@ -21,7 +21,7 @@ static uint32_t begin_image(struct terminal *term)
 {
     const int32_t *p = term->parameters;
     term->rows = 0;
-    if (icysixel_get_limit(&term->sixel) == 0) { /* the handle is empty */
+    if (icysixel_is_empty(&term->sixel)) {
         uint32_t code = icysixel_new(&term->sixel);
         if (code != ICYSIXEL_OK) return code;
         icysixel_set_crop(&term->sixel, 1);

@@ -7,9 +7,10 @@
  *
  * Handles. An `icysixel` is 16 bytes of the caller's memory, and refers to a decoder. A zeroed
  * handle is valid and empty, and so is a handle after icysixel_free. Every function can be called
- * on an empty handle. It returns ICYSIXEL_NO_HANDLE, or 0 if it returns no code. A function that
- * returns nothing cannot fail: on an empty handle it does nothing. Do not copy a handle and do not
- * write to its members. A handle can be moved to another address between calls.
+ * on an empty handle. It returns ICYSIXEL_NO_HANDLE, or 0 if it returns no code, except for
+ * icysixel_is_empty. A function that returns nothing cannot fail: on an empty handle it does
+ * nothing. Do not copy a handle and do not write to its members. A handle can be moved to another
+ * address between calls.
  *
  * Ownership. icysixel_free frees all memory behind a handle. The library stores no pointer that the
  * caller passes. It copies input, and it copies pixels and text to the caller's buffers. Only
@@ -206,6 +207,9 @@ uint32_t icysixel_new(icysixel *handle);
 
 /* Frees the decoder and all that it stores, and empties the handle. */
 void icysixel_free(icysixel *handle);
+
+/* Returns 1 if the handle is empty, and 0 if it has a decoder. */
+uint8_t icysixel_is_empty(icysixel *handle);
 
 /* -- Streaming -- */
 

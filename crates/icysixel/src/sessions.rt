@@ -1,6 +1,6 @@
 //! The calls that create and free a decoder, and begin, feed and abort an image.
 
-ghost use Rattle.std.specs.Prelude.{◌≡◌, ◌≢◌, Some, None, is_some, true};
+ghost use Rattle.std.specs.Prelude.{◌≡◌, ◌≢◌, Some, None, is_some, true, cond};
 ghost use Rattle.sixel_base.specs.Decoder.{new_decoder};
 ghost use Rattle.icy_sixel.specs.Receiver.{OfPayload, OfString, begun, idle, no_image};
 ghost use Rattle.icysixel.specs.Code.{settings_of};
@@ -71,6 +71,15 @@ pub extern "C" fn icysixel_free(alloc: Global, slot: &mut Slot)
     ensures { slot.new.handle.state ≡ None }
 {
     let _freed = slot.take(alloc);
+}
+
+/// Returns 1 if the handle is empty, and 0 if it has a decoder.
+#[unsafe(no_mangle)]
+pub extern "C" fn icysixel_is_empty(slot: &mut Slot) -> u8
+    ensures same { slot.new.handle.state ≡ slot.old.handle.state }
+    ensures value { result ≡ cond (is_some slot.old.handle.state) 0 1 }
+{
+    u8::from(!slot.is_held())
 }
 
 /// Opens a DCS sequence. An open image is aborted.
