@@ -30,8 +30,9 @@
  * and alpha. Pixels are stored row by row from the top, and each row from the left. A stride is the
  * number of bytes from the start of a row to the start of the next. A stride of 0 means 4 * width.
  *
- * Results. A function that returns uint32_t returns an enum icysixel_code. With ICYSIXEL_OK it has
- * written to each output argument. With an error it leaves them unchanged, except for `wanted`.
+ * Results. A function that returns uint32_t returns an enum icysixel_code, except for
+ * icysixel_version. With ICYSIXEL_OK it has written to each output argument. With an error it
+ * leaves them unchanged, except for `wanted`.
  *
  * Stored image and text. An image is stored by icysixel_finish, icysixel_decode and
  * icysixel_decode_payload. Each error of these calls drops an image that was stored before, and
@@ -48,6 +49,10 @@
 #define ICYSIXEL_VERSION_MINOR 7
 #define ICYSIXEL_VERSION_PATCH 0
 #define ICYSIXEL_VERSION "0.7.0"
+
+/* The version of this header, in the form of icysixel_version. */
+#define ICYSIXEL_VERSION_NUMBER \
+    (ICYSIXEL_VERSION_MAJOR << 16 | ICYSIXEL_VERSION_MINOR << 8 | ICYSIXEL_VERSION_PATCH)
 
 #ifdef __cplusplus
 extern "C" {
@@ -526,6 +531,13 @@ uint32_t icysixel_palette_indices(const uint8_t *pixels, size_t length, size_t w
  * fit, it writes only a zero. Bytes after the zero are unchanged. Returns the length of the
  * description without the zero. Any other number is described as "unknown code". */
 size_t icysixel_strerror(uint32_t code, char *buf, size_t size);
+
+/* -- Version -- */
+
+/* Returns the version of the library as one number: the major number in bits 16 and up, the minor
+ * one in bits 8 to 15, and the patch in bits 0 to 7. It is 0x000700 for 0.7.0. A host of the shared
+ * library compares it with ICYSIXEL_VERSION_NUMBER, the version that it was compiled for. */
+uint32_t icysixel_version(void);
 
 #ifdef __cplusplus
 }

@@ -9,5 +9,6 @@ pub mod Kept
 pub mod RefinedOutput
 pub mod Rows
 pub mod Shape
+pub mod Version
 pub mod Words
 pub mod inside

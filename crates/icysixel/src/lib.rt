@@ -26,4 +26,5 @@ pub mod shape;
 mod slot;
 mod state;
 pub mod texts;
+pub mod version;
 pub mod words;
