@@ -5,6 +5,7 @@ ghost use Rattle.std.specs.Prelude.{[], length, drop};
 ghost use Rattle.sixel_base.specs.Payload.{Image};
 ghost use Rattle.icy_sixel.specs.ImageView.{image_value};
 ghost use Rattle.icy_sixel.specs.declared.sixel_image.SixelImage.{SixelImage};
+ghost use Rattle.icysixel.specs.Changes.{Acts};
 ghost use Rattle.icysixel.specs.Finish.{IsFinished};
 ghost use Rattle.icysixel.specs.Kept.{kept_image};
 ghost use Rattle.icysixel.specs.Rows.{AreGapsKept, bytes_of, rows_of, stride_of, wanted};
@@ -237,11 +238,9 @@ pub extern "C" fn icysixel_free_bytes(alloc: Global, bytes: &mut Bytes)
 /// Frees the stored image and the stored text.
 #[unsafe(no_mangle)]
 pub extern "C" fn icysixel_discard_image(slot: &mut Slot)
-    ensures held { is_some slot.new.handle.state ≡ is_some slot.old.handle.state }
-    ensures image { (after : State) → slot.new.handle.state ≡ Some after → after.image ≡ None }
-    ensures text { (after : State) → slot.new.handle.state ≡ Some after → after.text ≡ None }
-    ensures decoder { (before after : State) → slot.old.handle.state ≡ Some before
-        → slot.new.handle.state ≡ Some after → after.receiver ≡ before.receiver }
+    ensures { Acts (λ old new.
+        (new.image ≡ None) × ((new.text ≡ None) × (new.receiver ≡ old.receiver)))
+        slot.old.handle.state slot.new.handle.state }
 {
     if slot.is_held() {
         slot.state().discard();

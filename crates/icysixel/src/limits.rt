@@ -2,7 +2,7 @@
 
 ghost use Rattle.std.specs.Prelude.{◌≡◌, ◌≢◌, ◌==◌, Some, None, is_some, true, not, cond};
 ghost use Rattle.sixel_base.specs.Decoder.{with_clip, with_pixel_limit};
-ghost use Rattle.icysixel.specs.Kept.{AreKept};
+ghost use Rattle.icysixel.specs.Changes.{IsSet};
 ghost use Rattle.icysixel.specs.declared.state.State.{State};
 
 use crate::code::Code;
@@ -26,14 +26,8 @@ pub extern "C" fn icysixel_get_crop(slot: &mut Slot) -> u8
 /// Sets whether images are cropped: 0 is off, any other number is on.
 #[unsafe(no_mangle)]
 pub extern "C" fn icysixel_set_crop(slot: &mut Slot, on: u8)
-    ensures held { is_some slot.new.handle.state ≡ is_some slot.old.handle.state }
-    ensures decoder { (before after : State) → slot.old.handle.state ≡ Some before
-        → slot.new.handle.state ≡ Some after → after.receiver.decoder
-        ≡ record before.receiver.decoder { raster_crop = not (on == 0) } }
-    ensures image { (before after : State) → slot.old.handle.state ≡ Some before
-        → slot.new.handle.state ≡ Some after → after.receiver.image ≡ before.receiver.image }
-    ensures kept { (before after : State) → slot.old.handle.state ≡ Some before
-        → slot.new.handle.state ≡ Some after → AreKept before after }
+    ensures { IsSet (λ decoder. record decoder { raster_crop = not (on == 0) })
+        slot.old.handle.state slot.new.handle.state }
 {
     if slot.is_held() {
         slot.state().receiver.set_raster_crop(on != 0);
@@ -57,14 +51,8 @@ pub extern "C" fn icysixel_get_limit(slot: &mut Slot) -> usize
 /// Sets how many pixels an image can have: at least 1, and at most 67,108,864.
 #[unsafe(no_mangle)]
 pub extern "C" fn icysixel_set_limit(slot: &mut Slot, pixels: usize)
-    ensures held { is_some slot.new.handle.state ≡ is_some slot.old.handle.state }
-    ensures decoder { (before after : State) → slot.old.handle.state ≡ Some before
-        → slot.new.handle.state ≡ Some after
-        → after.receiver.decoder ≡ with_pixel_limit before.receiver.decoder pixels }
-    ensures image { (before after : State) → slot.old.handle.state ≡ Some before
-        → slot.new.handle.state ≡ Some after → after.receiver.image ≡ before.receiver.image }
-    ensures kept { (before after : State) → slot.old.handle.state ≡ Some before
-        → slot.new.handle.state ≡ Some after → AreKept before after }
+    ensures { IsSet (λ decoder. with_pixel_limit decoder pixels)
+        slot.old.handle.state slot.new.handle.state }
 {
     if slot.is_held() {
         slot.state().receiver.set_pixel_limit(pixels);
@@ -96,14 +84,8 @@ pub extern "C" fn icysixel_get_clip(slot: &mut Slot, clip: &mut Size) -> u32
 /// Each is at least 1, and at most 1,000,000.
 #[unsafe(no_mangle)]
 pub extern "C" fn icysixel_set_clip(slot: &mut Slot, width: usize, height: usize)
-    ensures held { is_some slot.new.handle.state ≡ is_some slot.old.handle.state }
-    ensures decoder { (before after : State) → slot.old.handle.state ≡ Some before
-        → slot.new.handle.state ≡ Some after
-        → after.receiver.decoder ≡ with_clip before.receiver.decoder width height }
-    ensures image { (before after : State) → slot.old.handle.state ≡ Some before
-        → slot.new.handle.state ≡ Some after → after.receiver.image ≡ before.receiver.image }
-    ensures kept { (before after : State) → slot.old.handle.state ≡ Some before
-        → slot.new.handle.state ≡ Some after → AreKept before after }
+    ensures { IsSet (λ decoder. with_clip decoder width height)
+        slot.old.handle.state slot.new.handle.state }
 {
     if slot.is_held() {
         slot.state().receiver.set_clip(width, height);

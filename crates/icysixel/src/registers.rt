@@ -4,7 +4,7 @@ ghost use Rattle.std.specs.Prelude.{◌≡◌, ◌≢◌, Some, None, is_some, t
 ghost use Rattle.std.specs.Prelude.{drop, slice_index_or, slice_set};
 ghost use Rattle.sixel_base.specs.Color.{default_registers};
 ghost use Rattle.icy_sixel.specs.Registers.{with_colors};
-ghost use Rattle.icysixel.specs.Kept.{AreKept};
+ghost use Rattle.icysixel.specs.Changes.{IsSet};
 ghost use Rattle.icysixel.specs.declared.state.State.{State};
 
 use crate::code::Code;
@@ -50,17 +50,10 @@ pub extern "C" fn icysixel_get_register(slot: &mut Slot, register: u8, color: &m
 /// Sets the color of a register of the decoder.
 #[unsafe(no_mangle)]
 pub extern "C" fn icysixel_set_register(slot: &mut Slot, register: u8, red: u8, green: u8, blue: u8)
-    ensures held { is_some slot.new.handle.state ≡ is_some slot.old.handle.state }
-    ensures decoder { (before after : State) → slot.old.handle.state ≡ Some before
-        → slot.new.handle.state ≡ Some after → after.receiver.decoder
-        ≡ record before.receiver.decoder {
-          registers =
-              slice_set before.receiver.decoder.registers register (red ∷ green ∷ blue ∷ []);
-        } }
-    ensures image { (before after : State) → slot.old.handle.state ≡ Some before
-        → slot.new.handle.state ≡ Some after → after.receiver.image ≡ before.receiver.image }
-    ensures kept { (before after : State) → slot.old.handle.state ≡ Some before
-        → slot.new.handle.state ≡ Some after → AreKept before after }
+    ensures { IsSet (λ decoder. record decoder {
+      registers = slice_set decoder.registers register (red ∷ green ∷ blue ∷ []);
+    })
+        slot.old.handle.state slot.new.handle.state }
 {
     if slot.is_held() {
         slot.state()
@@ -99,16 +92,10 @@ fn copy_colors(buf: &mut [[u8; 3]], colors: &[[u8; 3]])
 /// Sets the colors of the decoder's registers from `first` on.
 #[unsafe(no_mangle)]
 pub extern "C" fn icysixel_set_registers(slot: &mut Slot, first: u8, colors: &[[u8; 3]])
-    ensures held { is_some slot.new.handle.state ≡ is_some slot.old.handle.state }
-    ensures decoder { (before after : State) → slot.old.handle.state ≡ Some before
-        → slot.new.handle.state ≡ Some after → after.receiver.decoder
-        ≡ record before.receiver.decoder {
-          registers = with_colors before.receiver.decoder.registers first colors.now;
-        } }
-    ensures image { (before after : State) → slot.old.handle.state ≡ Some before
-        → slot.new.handle.state ≡ Some after → after.receiver.image ≡ before.receiver.image }
-    ensures kept { (before after : State) → slot.old.handle.state ≡ Some before
-        → slot.new.handle.state ≡ Some after → AreKept before after }
+    ensures { IsSet (λ decoder. record decoder {
+      registers = with_colors decoder.registers first colors.now;
+    })
+        slot.old.handle.state slot.new.handle.state }
 {
     if slot.is_held() {
         slot.state().receiver.set_registers(first, colors);
@@ -118,14 +105,8 @@ pub extern "C" fn icysixel_set_registers(slot: &mut Slot, first: u8, colors: &[[
 /// Resets the decoder's registers to those of a new one.
 #[unsafe(no_mangle)]
 pub extern "C" fn icysixel_reset_registers(slot: &mut Slot)
-    ensures held { is_some slot.new.handle.state ≡ is_some slot.old.handle.state }
-    ensures decoder { (before after : State) → slot.old.handle.state ≡ Some before
-        → slot.new.handle.state ≡ Some after → after.receiver.decoder
-        ≡ record before.receiver.decoder { registers = default_registers } }
-    ensures image { (before after : State) → slot.old.handle.state ≡ Some before
-        → slot.new.handle.state ≡ Some after → after.receiver.image ≡ before.receiver.image }
-    ensures kept { (before after : State) → slot.old.handle.state ≡ Some before
-        → slot.new.handle.state ≡ Some after → AreKept before after }
+    ensures { IsSet (λ decoder. record decoder { registers = default_registers })
+        slot.old.handle.state slot.new.handle.state }
 {
     if slot.is_held() {
         slot.state().receiver.reset_palette();

@@ -3,11 +3,11 @@
 ghost use Rattle.std.specs.Prelude.{◌≡◌, ◌≢◌, Some, None, is_some, true, cond};
 ghost use Rattle.sixel_base.specs.Decoder.{new_decoder};
 ghost use Rattle.icy_sixel.specs.Receiver.{OfPayload, OfString, begun, idle, no_image};
+ghost use Rattle.icysixel.specs.Changes.{IsOpened};
 ghost use Rattle.icysixel.specs.Code.{settings_of};
 ghost use Rattle.icysixel.specs.Code.{status_code as code_of_status};
 ghost use Rattle.icysixel.specs.Code.{status_byte as byte_of_status};
 ghost use Rattle.icysixel.specs.Feed.{IsBandFed, IsFed};
-ghost use Rattle.icysixel.specs.Kept.{AreKept};
 ghost use Rattle.icysixel.specs.declared.state.State.{State};
 
 use crate::code::{Code, FeedStatus, code_of, status_byte, status_code};
@@ -85,16 +85,8 @@ pub extern "C" fn icysixel_is_empty(slot: &mut Slot) -> u8
 /// Opens a DCS sequence. An open image is aborted.
 #[unsafe(no_mangle)]
 pub extern "C" fn icysixel_begin_dcs(alloc: Global, slot: &mut Slot)
-    ensures held { is_some slot.new.handle.state ≡ is_some slot.old.handle.state }
-    ensures decoder { (before after : State) → slot.old.handle.state ≡ Some before
-        → slot.new.handle.state ≡ Some after
-        → after.receiver.decoder ≡ before.receiver.decoder }
-    ensures kept { (before after : State) → slot.old.handle.state ≡ Some before
-        → slot.new.handle.state ≡ Some after → AreKept before after }
-    ensures image { (before after : State) → slot.old.handle.state ≡ Some before
-        → slot.new.handle.state ≡ Some after
-        → after.receiver.image ≡ begun OfString before.receiver.decoder
-        before.receiver.keeps_partial }
+    ensures { IsOpened (λ receiver. begun OfString receiver.decoder receiver.keeps_partial)
+        slot.old.handle.state slot.new.handle.state }
 {
     if slot.is_held() {
         let state = slot.state();
@@ -105,16 +97,9 @@ pub extern "C" fn icysixel_begin_dcs(alloc: Global, slot: &mut Slot)
 /// Opens a payload with these parameters. An open image is aborted.
 #[unsafe(no_mangle)]
 pub extern "C" fn icysixel_begin_payload(alloc: Global, slot: &mut Slot, p1: i32, p2: i32)
-    ensures held { is_some slot.new.handle.state ≡ is_some slot.old.handle.state }
-    ensures decoder { (before after : State) → slot.old.handle.state ≡ Some before
-        → slot.new.handle.state ≡ Some after
-        → after.receiver.decoder ≡ before.receiver.decoder }
-    ensures kept { (before after : State) → slot.old.handle.state ≡ Some before
-        → slot.new.handle.state ≡ Some after → AreKept before after }
-    ensures image { (before after : State) → slot.old.handle.state ≡ Some before
-        → slot.new.handle.state ≡ Some after → after.receiver.image
-        ≡ begun (OfPayload (settings_of p1 p2)) before.receiver.decoder
-        before.receiver.keeps_partial }
+    ensures { IsOpened (λ receiver. begun (OfPayload (settings_of p1 p2)) receiver.decoder
+        receiver.keeps_partial)
+        slot.old.handle.state slot.new.handle.state }
 {
     if slot.is_held() {
         let settings = settings(p1, p2);
@@ -208,14 +193,7 @@ fn feed_chunk(state: &mut State, piece: &[u8], fed: &mut Fed) -> u32
 /// Aborts the open image, if there is one.
 #[unsafe(no_mangle)]
 pub extern "C" fn icysixel_abort(slot: &mut Slot)
-    ensures held { is_some slot.new.handle.state ≡ is_some slot.old.handle.state }
-    ensures decoder { (before after : State) → slot.old.handle.state ≡ Some before
-        → slot.new.handle.state ≡ Some after
-        → after.receiver.decoder ≡ before.receiver.decoder }
-    ensures kept { (before after : State) → slot.old.handle.state ≡ Some before
-        → slot.new.handle.state ≡ Some after → AreKept before after }
-    ensures closed { (before after : State) → slot.old.handle.state ≡ Some before
-        → slot.new.handle.state ≡ Some after → after.receiver.image ≡ no_image }
+    ensures { IsOpened (λ _. no_image) slot.old.handle.state slot.new.handle.state }
 {
     if slot.is_held() {
         slot.state().receiver.abort();

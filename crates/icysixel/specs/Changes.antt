@@ -1,0 +1,24 @@
+-- What a call that returns nothing changes behind a handle. An empty handle stays empty.
+use Rattle.std.specs.Prelude.{◌≡◌, Option, Some, is_some}
+use Rattle.sixel_base.specs.declared.state.DecoderState.{DecoderState}
+use Rattle.icy_sixel.specs.Receiver.{Receiver, Reception}
+use Rattle.icysixel.specs.Kept.{AreKept}
+use Rattle.icysixel.specs.declared.state.State.{State}
+
+-- what it does to a state
+abbrev pub Acts : (State → State → Type 0) → Option State → Option State → Type 0
+Acts Does before after =
+    (is_some after ≡ is_some before)
+    × ((old new : State) → before ≡ Some old → after ≡ Some new → Does old new)
+
+-- it changes the decoder in this way, and nothing else
+abbrev pub IsSet : (DecoderState → DecoderState) → Option State → Option State → Type 0
+IsSet change = Acts (λ old new.
+    (new.receiver.decoder ≡ change old.receiver.decoder)
+    × ((new.receiver.image ≡ old.receiver.image) × AreKept old new))
+
+-- it replaces the open image by this one, and changes nothing else
+abbrev pub IsOpened : (Receiver → Reception) → Option State → Option State → Type 0
+IsOpened image = Acts (λ old new.
+    (new.receiver.image ≡ image old.receiver)
+    × ((new.receiver.decoder ≡ old.receiver.decoder) × AreKept old new))
