@@ -81,7 +81,7 @@ static void begin_image(struct filter *filter, uint8_t byte)
     icysixel_fed fed;
     const char *introducer = byte == 'P' ? "\x1bP" : "\x90";
     store(filter, introducer, strlen(introducer));
-    if (icysixel_begin(&filter->decoder) != ICYSIXEL_OK) stop(1, "out of memory");
+    icysixel_begin_dcs(&filter->decoder);
     icysixel_feed(&filter->decoder, filter->stored, filter->length, &fed);
     filter->state = IMAGE;
     filter->previous = 0;

@@ -58,6 +58,15 @@ static bool are_rows(const uint8_t *rows, size_t count, const void *row, size_t 
     return true;
 }
 
+/* Calls that return nothing do nothing on an empty handle. */
+static void make_silent_calls(void)
+{
+    icysixel_begin_dcs(h), icysixel_begin_payload(h, 9, 1), icysixel_abort(h);
+    icysixel_discard_image(h), icysixel_set_register(h, 1, 2, 3, 4);
+    icysixel_set_registers(h, 1, &color, 1), icysixel_reset_registers(h), icysixel_set_crop(h, 1);
+    icysixel_set_limit(h, 1), icysixel_set_clip(h, 1, 1);
+}
+
 /* On an empty handle each call reports that, and writes nothing but a `wanted` of 0. */
 static void test_empty_handle(void)
 {
@@ -67,19 +76,17 @@ static void test_empty_handle(void)
     uint8_t buffer[4] = {7, 7, 7, 7};
     size_t copied = 7;
     fed.consumed = shape.width = shape.bytes = size.width = wanted = length = color.red = 7;
+    make_silent_calls();
+    CHECK(icysixel_is_empty(h) == 1);
     const uint32_t codes[] = {
-        icysixel_begin(h), icysixel_begin_payload(h, 9, 1, -1), FEED("~"),
-        icysixel_feed_band(h, BYTES("~"), &fed),
-        icysixel_finish(h, &shape), icysixel_abort(h), icysixel_discard_image(h),
+        FEED("~"), icysixel_feed_band(h, BYTES("~"), &fed), icysixel_finish(h, &shape),
         icysixel_release_rows(h, 0), icysixel_get_size_so_far(h, &size),
         icysixel_copy_rows(h, 0, 1, &layout, buffer, 4),
         icysixel_finish_into(h, 0, &layout, buffer, 4, &shape, &wanted),
-        DECODE(red), icysixel_decode_payload(h, BYTES("~"), 9, 1, -1, &shape),
+        DECODE(red), icysixel_decode_payload(h, BYTES("~"), 9, 1, &shape),
         icysixel_copy_pixels(h, NULL, 0, 0, &copied), icysixel_take_pixels(h, &block),
-        icysixel_get_register(h, 1, &color), icysixel_set_register(h, 1, 2, 3, 4),
-        icysixel_get_registers(h, 1, &color, 1), icysixel_set_registers(h, 1, &color, 1),
-        icysixel_reset_registers(h), icysixel_set_crop(h, 1), icysixel_set_limit(h, 1),
-        icysixel_get_clip(h, &size), icysixel_set_clip(h, 1, 1),
+        icysixel_get_register(h, 1, &color), icysixel_get_registers(h, 1, &color, 1),
+        icysixel_get_clip(h, &size),
         icysixel_encode(h, BYTES("rgba"), 0, 1, 1, 9, 1, 9, &length),
         icysixel_encode_compact(h, BYTES("rgba"), &e, 9, &length),
         icysixel_encode_refined(h, BYTES("rgba"), &e, 9, &length),
@@ -109,7 +116,9 @@ static void test_progress(void)
         {"!9B", OK, 24, 26, 9, 30, 11}, {"!0", OK, 24, 26, 9, 30, 11},
         {"!65536~", BAD, 0, 0, 0, 0, 0},
     };
-    CHECK(icysixel_get_rows_so_far(h) == 0 && icysixel_begin(h) == OK && FEED("\033P") == OK);
+    CHECK(icysixel_get_rows_so_far(h) == 0);
+    icysixel_begin_dcs(h);
+    RETURNS(OK, FEED("\033P"));
     CHECK(icysixel_is_receiving(h) == 1 && icysixel_in_payload(h) == 0);
     CHECK(icysixel_get_size_so_far(h, &size) == NO_SIZE && FEED("q") == OK);
     EACH(row, chunks) {
@@ -121,7 +130,8 @@ static void test_progress(void)
         uint64_t paints = icysixel_get_canvas_paints(h);
         CHECK(row->painted <= paints && paints <= row->painted + 1151);
     }
-    CHECK(icysixel_abort(h) == OK && !icysixel_is_receiving(h) && icysixel_get_rows_so_far(h) == 0);
+    icysixel_abort(h);
+    CHECK(!icysixel_is_receiving(h) && icysixel_get_rows_so_far(h) == 0);
 }
 
 /* The work of painting counts a tag as one column, and its 128 columns once the band ends. */
@@ -131,10 +141,11 @@ static void test_canvas_paints(void)
         {"!300~$", 300}, {"!276~", 322}, {"-", 578}, {"!65535~$", 66113},
         {"!65535~", 66751}, {"-", 132159}, {"-", 132159},
     };
-    CHECK(icysixel_begin(h) == OK && FEED("\033Pq") == OK);
+    icysixel_begin_dcs(h);
+    RETURNS(OK, FEED("\033Pq"));
     EACH(row, chunks)
         CHECK(FEED(row->chunk) == OK && icysixel_get_canvas_paints(h) == row->paints);
-    CHECK(icysixel_abort(h) == OK);
+    icysixel_abort(h);
 }
 
 /* A feed up to a new line reports rows if they became final: those of blank bands do so later. */
@@ -145,16 +156,16 @@ static void test_bands(void)
         {"~", 1, ICYSIXEL_MORE, 12}, {"--~", 1, ICYSIXEL_ROWS, 18}, {"-~", 1, ICYSIXEL_MORE, 18},
         {"~", 1, ICYSIXEL_ROWS, 24}, {"~\033-~-", 1, ICYSIXEL_COMPLETE, 24},
     };
-    RETURNS(OK, icysixel_begin_payload(h, 9, 1, -1));
+    icysixel_begin_payload(h, 9, 1);
     EACH(row, bands) {
         RETURNS(OK, icysixel_feed_band(h, BYTES(row->rest), &fed));
         CHECK(fed.consumed == row->consumed && fed.status == row->status);
         CHECK(icysixel_get_rows_so_far(h) == row->rows);
     }
-    RETURNS(OK, icysixel_begin_payload(h, 9, 1, -1));
+    icysixel_begin_payload(h, 9, 1);
     CHECK(FEED("---") == OK && icysixel_get_rows_so_far(h) == 1);
     CHECK(FEED("\"1;1;2;20-") == OK && icysixel_get_rows_so_far(h) == 20);
-    CHECK(icysixel_abort(h) == OK);
+    icysixel_abort(h);
 }
 
 /* Final rows are copied to memory with a stride, and the others when the image ends. */
@@ -172,7 +183,7 @@ static void test_copied_rows(void)
     memset(rows, 7, sizeof rows), shape.width = 7;
     RETURNS(NO_SESSION, icysixel_copy_rows(h, 0, 0, &rgba, rows, 72));
     RETURNS(NO_SESSION, icysixel_release_rows(h, 0));
-    RETURNS(OK, icysixel_begin_payload(h, 3, 1, -1));
+    icysixel_begin_payload(h, 3, 1);
     RETURNS(OK, icysixel_feed_band(h, BYTES("#1;2;100;0;0~-~-"), &fed));
     CHECK(fed.consumed == 14 && fed.status == ICYSIXEL_ROWS && icysixel_get_rows_so_far(h) == 6);
     EACH(it, wrong)
@@ -204,11 +215,12 @@ static void test_copied_rows(void)
     CHECK(red_of_1() == 255);
     RETURNS(NO_SESSION, icysixel_finish_into(h, 0, &rgba, rows, 72, &shape, &wanted));
     RETURNS(NO_SESSION, icysixel_feed_band(h, BYTES("~"), &fed));
-    CHECK(icysixel_begin(h) == OK && FEED("\033Pq~") == OK);
+    icysixel_begin_dcs(h);
+    RETURNS(OK, FEED("\033Pq~"));
     RETURNS(INCOMPLETE, icysixel_finish_into(h, 0, &rgba, rows, 72, &shape, &wanted));
     CHECK(icysixel_is_receiving(h) == 0);
-    CHECK(icysixel_begin_payload(h, 9, 1, -1) == OK && FEED("~-~") == OK);
-    CHECK(icysixel_release_rows(h, 6) == OK && FEED("!65536~") == BAD);
+    icysixel_begin_payload(h, 9, 1);
+    CHECK(FEED("~-~") == OK && icysixel_release_rows(h, 6) == OK && FEED("!65536~") == BAD);
     RETURNS(ROWS_NOT_FINAL, icysixel_copy_rows(h, 6, 1, &rgba, rows, 72));
 }
 
@@ -218,25 +230,28 @@ static void test_finish_into(void)
     static const icysixel_layout rgba = {12, 2, ICYSIXEL_ORDER_RGBA};
     uint8_t rows[144];
     memset(rows, 7, sizeof rows);
-    RETURNS(OK, icysixel_begin_payload(h, 9, 1, -1));
+    icysixel_begin_payload(h, 9, 1);
     RETURNS(OK, FEED("#1;2;100;0;0~~#1;2;0;100;0-!3~"));
     RETURNS(OK, icysixel_finish_into(h, 0, &rgba, rows, 144, &shape, &wanted));
     CHECK(are_rows(rows, 6, RED RED "\7\7\7\7", 12) && shape.width == 3 && shape.height == 12);
     CHECK(are_rows(rows + 72, 6, "\0\377\0\377\0\377\0\377\7\7\7\7", 12));
     CHECK(icysixel_is_receiving(h) == 0 && red_of_1() == 0);
     memset(rows, 7, sizeof rows);
-    CHECK(icysixel_set_crop(h, 1) == OK && icysixel_begin_payload(h, 9, 1, -1) == OK);
-    CHECK(FEED("\"1;1;1;3~-~") == OK && icysixel_set_crop(h, 0) == OK);
+    icysixel_set_crop(h, 1), icysixel_begin_payload(h, 9, 1);
+    CHECK(FEED("\"1;1;1;3~-~") == OK);
+    icysixel_set_crop(h, 0);
     RETURNS(OK, icysixel_finish_into(h, 6, &rgba, rows, 12, &shape, &wanted));
     CHECK(shape.width == 1 && shape.height == 3 && rows[0] == 7);
-    CHECK(icysixel_begin_payload(h, 9, 1, -1) == OK && FEED("~\"1;1;1;9") == OK);
+    icysixel_begin_payload(h, 9, 1);
+    CHECK(FEED("~\"1;1;1;9") == OK);
     RETURNS(BUFFER_TOO_SMALL, icysixel_finish_into(h, 0, &rgba, rows, 72, &shape, &wanted));
     CHECK(wanted == 104 && FEED("0") == OK);
     RETURNS(BUFFER_TOO_SMALL, icysixel_finish_into(h, 0, &rgba, rows, 72, &shape, &wanted));
     CHECK(wanted == 1076 && are_rows(rows, 12, "\7\7\7\7\7\7\7\7\7\7\7\7", 12));
     RETURNS(OK, icysixel_finish_into(h, 84, &rgba, rows, 72, &shape, &wanted));
     CHECK(are_rows(rows, 6, "\0\0\0\0\0\0\0\0\7\7\7\7", 12) && shape.height == 90);
-    CHECK(icysixel_begin_payload(h, 9, 1, -1) == OK && FEED("~!65536") == OK);
+    icysixel_begin_payload(h, 9, 1);
+    CHECK(FEED("~!65536") == OK);
     RETURNS(MALFORMED, icysixel_finish_into(h, 0, &rgba, rows, 72, &shape, &wanted));
     CHECK(icysixel_is_receiving(h) == 0);
 }
@@ -268,7 +283,8 @@ static void test_take_pixels(void)
     RETURNS(NO_IMAGE, icysixel_take_pixels(h, &second));
     CHECK(second.data == NULL && second.length == 0 && second.capacity == 0);
     CHECK(DECODE("\033P9;1q!5~\033\\") == OK && icysixel_take_pixels(h, &second) == OK);
-    CHECK(icysixel_discard_image(h) == OK && IS_RED(first.data, 72));
+    icysixel_discard_image(h);
+    CHECK(IS_RED(first.data, 72));
     memset(first.data, 7, first.capacity);
     icysixel_free_bytes(&first), icysixel_free_bytes(&first);
     CHECK(first.data == NULL && first.length == 0 && first.capacity == 0 && second.length == 120);
@@ -281,13 +297,14 @@ static void test_take_pixels(void)
 static void test_new_on_full_handle(void)
 {
     for (line_number = 0; line_number < 3; line_number++) {
-        CHECK(icysixel_new(h) == OK && icysixel_is_receiving(h) == 0 && red_of_1() == 51);
+        CHECK(icysixel_new(h) == OK && icysixel_is_empty(h) == 0 && red_of_1() == 51);
+        CHECK(icysixel_is_receiving(h) == 0);
         RETURNS(NO_TEXT, icysixel_copy_text(h, NULL, 0, &wanted));
         CHECK(!HAS_IMAGE && icysixel_get_limit(h) == 67108864 && icysixel_get_crop(h) == 0);
         CHECK(DECODE(red) == OK && red_of_1() == 255);
         RETURNS(OK, icysixel_encode(h, BYTES("rgb\377"), 0, 1, 1, 9, 1, 256, &length));
-        CHECK(icysixel_set_limit(h, 99) == OK && icysixel_set_crop(h, 1) == OK);
-        RETURNS(OK, icysixel_begin_payload(h, 9, 1, -1));
+        icysixel_set_limit(h, 99), icysixel_set_crop(h, 1);
+        icysixel_begin_payload(h, 9, 1);
         if (line_number > 0) RETURNS(OK, FEED("!7~"));
         if (line_number > 1) RETURNS(MALFORMED, FEED("!65536~"));
     }
@@ -299,7 +316,8 @@ static void test_errors(void)
 {
     RETURNS(NO_SESSION, FEED("~"));
     RETURNS(NO_SESSION, icysixel_finish(h, &shape));
-    CHECK(DECODE(red) == OK && icysixel_begin_payload(h, -1, -1, -1) == OK);
+    RETURNS(OK, DECODE(red));
+    icysixel_begin_payload(h, -1, -1);
     CHECK(FEED("!9~!65536~") == BAD && icysixel_in_payload(h) == 0);
     CHECK(icysixel_is_receiving(h) == 1 && icysixel_finish(h, &shape) == FAILED && !HAS_IMAGE);
     CHECK(DECODE(red) == OK && DECODE("!65536~") == BAD && !HAS_IMAGE);
@@ -323,19 +341,20 @@ static void test_drawn_height(void)
     static const icysixel_layout layout = {.columns = 1};
     uint8_t pixels[96];
     EACH(row, images) {
-        CHECK(icysixel_set_crop(h, row->crop) == OK && icysixel_set_clip(h, 999, row->rows) == OK);
+        icysixel_set_crop(h, row->crop), icysixel_set_clip(h, 999, row->rows);
         for (int call = 0; call < 4; call++) {
-            CHECK(icysixel_begin_payload(h, 9, 1, -1) == OK && FEED(row->data) == OK);
+            icysixel_begin_payload(h, 9, 1);
+            RETURNS(OK, FEED(row->data));
             CHECK(row->crop == 1 || icysixel_get_drawn_height(h) == row->drawn);
             const uint32_t code = call == 0 ? DECODE(row->data)
-                : call == 1 ? icysixel_decode_payload(h, BYTES(row->data), 9, 1, -1, &shape)
+                : call == 1 ? icysixel_decode_payload(h, BYTES(row->data), 9, 1, &shape)
                 : call == 2 ? icysixel_finish(h, &shape)
                 : icysixel_finish_into(h, 0, &layout, pixels, 96, &shape, &wanted);
             CHECK(code == OK && shape.height == row->height && shape.drawn_height == row->drawn);
             shape = (icysixel_shape){0};
         }
     }
-    CHECK(icysixel_set_crop(h, 0) == OK && icysixel_set_clip(h, SIZE_MAX, SIZE_MAX) == OK);
+    icysixel_set_crop(h, 0), icysixel_set_clip(h, SIZE_MAX, SIZE_MAX);
 }
 
 /* Registers are set and read together: not past the last one, and not past the buffer. */
@@ -344,9 +363,9 @@ static void test_registers(void)
     static const icysixel_color three[] = {{1, 2, 3}, {4, 5, 6}, {7, 8, 9}};
     icysixel_color colors[257] = {[256] = {7, 7, 7}};
     uint8_t pixels[24];
-    CHECK(icysixel_reset_registers(h) == OK && icysixel_set_registers(h, 1, three, 2) == OK);
-    RETURNS(OK, icysixel_set_registers(h, 254, three, 3));
-    CHECK((icysixel_set_registers(h, 9, NULL, 0) | icysixel_get_registers(h, 0, NULL, 0)) == OK);
+    icysixel_reset_registers(h), icysixel_set_registers(h, 1, three, 2);
+    icysixel_set_registers(h, 254, three, 3), icysixel_set_registers(h, 9, NULL, 0);
+    RETURNS(OK, icysixel_get_registers(h, 0, NULL, 0));
     RETURNS(OK, icysixel_get_registers(h, 0, colors, 257));
     CHECK(memcmp(colors, "\0\0\0\1\2\3\4\5\6\x33\xcc\x33", 12) == 0);
     CHECK(memcmp(colors + 253, "\xe8\xe8\xe8\1\2\3\4\5\6\7", 10) == 0);
@@ -358,31 +377,39 @@ static void test_registers(void)
     CHECK(memcmp(colors, "\4\5\6\1\2\3", 6) == 0);
     RETURNS(OK, icysixel_get_registers(h, 255, colors, 2));
     CHECK(memcmp(colors, "\4\5\6\1\2\3", 6) == 0);
-    RETURNS(OK, icysixel_set_register(h, 1, 255, 1, 2));
+    icysixel_set_register(h, 1, 255, 1, 2);
     CHECK(red_of_1() == 255 && color.green == 1 && color.blue == 2);
     RETURNS(OK, icysixel_decode(h, BYTES("..\033P0;1q#1@\033\\"), &shape));
     RETURNS(OK, icysixel_copy_pixels(h, pixels, sizeof pixels, 0, &wanted));
     CHECK(memcmp(pixels, "\377\1\2\377\0\0\0\0", 8) == 0);
-    CHECK(icysixel_reset_registers(h) == OK && red_of_1() == 51);
+    icysixel_reset_registers(h);
+    CHECK(red_of_1() == 51);
 }
 
 /* Crop, limit and clip are set and reported. */
 static void test_settings(void)
 {
     static const size_t limits[][2] = {{71, 71}, {0, 1}, {SIZE_MAX, 67108864}};
-    CHECK(icysixel_set_crop(h, 2) == OK && icysixel_get_crop(h) == 1);
-    CHECK(icysixel_set_crop(h, 0) == OK && icysixel_get_crop(h) == 0);
-    EACH(row, limits)
-        CHECK(icysixel_set_limit(h, (*row)[0]) == 0 && icysixel_get_limit(h) == (*row)[1]);
-    CHECK(icysixel_set_clip(h, 2, 0) == OK && icysixel_get_clip(h, &size) == OK);
+    icysixel_set_crop(h, 2);
+    CHECK(icysixel_get_crop(h) == 1);
+    icysixel_set_crop(h, 0);
+    CHECK(icysixel_get_crop(h) == 0);
+    EACH(row, limits) {
+        icysixel_set_limit(h, (*row)[0]);
+        CHECK(icysixel_get_limit(h) == (*row)[1]);
+    }
+    icysixel_set_clip(h, 2, 0);
+    RETURNS(OK, icysixel_get_clip(h, &size));
     CHECK(size.width == 2 && size.height == 1);
     RETURNS(OK, DECODE("\033Pq!9~-~\033\\"));
     CHECK(shape.width == 2 && shape.height == 1 && shape.bytes == 8);
-    CHECK(icysixel_begin_payload(h, 9, 1, -1) == OK && FEED("!9~-~") == OK);
+    icysixel_begin_payload(h, 9, 1);
+    RETURNS(OK, FEED("!9~-~"));
     RETURNS(OK, icysixel_get_size_so_far(h, &size));
     CHECK(size.width == 2 && size.height == 1 && icysixel_get_drawn_height(h) == 1);
-    CHECK(icysixel_get_rows_so_far(h) == 1 && icysixel_abort(h) == OK);
-    CHECK(icysixel_set_clip(h, SIZE_MAX, SIZE_MAX) == OK && icysixel_get_clip(h, &size) == OK);
+    CHECK(icysixel_get_rows_so_far(h) == 1);
+    icysixel_abort(h), icysixel_set_clip(h, SIZE_MAX, SIZE_MAX);
+    RETURNS(OK, icysixel_get_clip(h, &size));
     CHECK(size.width == 1000000 && size.height == 1000000);
 }
 
@@ -414,7 +441,7 @@ static void test_encode(void)
     CHECK(wanted == length && has_text(OK, expected, ""));
     CHECK(icysixel_copy_text(h, text, sizeof text, &wanted) == ICYSIXEL_NO_TEXT && wanted == 0);
     RETURNS(OK, icysixel_encode(h, rgba, 4, 0, 1, 1, 2, 0, 2, &length));
-    CHECK(icysixel_discard_image(h) == OK);
+    icysixel_discard_image(h);
     RETURNS(NO_TEXT, icysixel_copy_text(h, text, sizeof text, &wanted));
 }
 
@@ -571,14 +598,20 @@ static void test_code_texts(void)
 
 #define TEST(name) {#name, test_##name}
 
+/* The library and the header are of one version. */
+static void test_version(void)
+{
+    CHECK(icysixel_version() == ICYSIXEL_VERSION_NUMBER);
+}
+
 int main(void)
 {
     static const struct { const char *name; void (*test)(void); } tests[] = {
         TEST(empty_handle), TEST(new_on_full_handle), TEST(progress), TEST(canvas_paints),
         TEST(bands), TEST(copied_rows), TEST(finish_into), TEST(pixels), TEST(errors),
-        TEST(drawn_height), TEST(take_pixels), TEST(new_on_full_handle),
-        TEST(registers), TEST(settings), TEST(encode), TEST(encodings), TEST(widest),
-        TEST(palettes), TEST(indices), TEST(code_texts),
+        TEST(drawn_height), TEST(take_pixels), TEST(new_on_full_handle), TEST(registers),
+        TEST(settings), TEST(encode), TEST(encodings), TEST(widest), TEST(palettes), TEST(indices),
+        TEST(code_texts), TEST(version),
     };
     for (size_t i = 0; i < COUNT_OF(tests); i++) subject = tests[i].name, tests[i].test();
     icysixel_free(h);

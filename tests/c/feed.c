@@ -10,7 +10,7 @@ int main(int argc, char **argv)
     icysixel h = new_handle();
     icysixel_fed fed;
     icysixel_shape shape;
-    CHECK(icysixel_begin(&h) == ICYSIXEL_OK);
+    icysixel_begin_dcs(&h);
     for (size_t at = 0; at < text.length; at += length) {
         struct bytes chunk = part(text, at, length);
         CHECK(icysixel_feed(&h, chunk.at, chunk.length, &fed) == ICYSIXEL_OK);
