@@ -37,7 +37,7 @@ prefix = $(or $(PREFIX),/usr/local)
 installed = $(DESTDIR)$(prefix)
 program_files = 755:$(program):bin/sixel 644:man/sixel.1:share/man/man1/sixel.1
 library_files = 644:out/libicysixel.a:lib/libicysixel.a 644:out/icysixel.h:include/icysixel.h \
-	755:$(shared):lib/libicysixel.so.$(version) 644:man/icysixel.3:share/man/man3/icysixel.3 \
+	755:$(shared):lib/libicysixel.so.$(version) 644:out/icysixel.3:share/man/man3/icysixel.3 \
 	$(foreach path,$(wildcard examples/*.c examples/python/*),644:$(path):share/doc/icysixel/$(path))
 links = lib/$(soname) lib/libicysixel.so
 described = lib/pkgconfig/icysixel.pc
@@ -46,7 +46,7 @@ all: program lib
 
 program: $(program)
 
-lib: out/libicysixel.a $(shared) out/icysixel.h out/icysixel.pc
+lib: out/libicysixel.a $(shared) out/icysixel.h out/icysixel.pc out/icysixel.3
 
 check:
 	./check
@@ -222,6 +222,10 @@ $(shared): out/libicysixel.a $(crate)/icysixel.map
 
 out/icysixel.h: $(header)
 	install -D -m 644 $(header) $@
+
+out/icysixel.3: $(header) scripts/manual
+	mkdir -p out
+	scripts/manual $(header) >$@
 
 # In out/, icysixel.pc names its own folder.
 out/icysixel.pc: $(header) $(crate)/icysixel.pc.in

@@ -11,9 +11,8 @@ from rust.declared import of_header
 
 HERE = ROOT / "tests/install"
 HEADER = (HEADERS / "icysixel.h").read_text()
-# The result and the parameters of each function, and how the manual has them.
+# The result and the parameters of each function.
 CALLS = {name: it for name, it in of_header(HEADER).items() if f" {name}(" in HEADER}
-MANUAL = re.compile(r"^\.Ft (\w+)\n\.Fo (\w+)\n((?:\.Fa \".+\"\n)+)\.Fc$", re.M)
 RED = b"\x1bP9;1q#1;2;100;0;0@\x1b\\"
 PIXELS, PPM = b"\xff\0\0\xff" + bytes(20), b"P6\n1 6\n255\n\xff\0\0" + bytes(15)
 FLAGS = "$(pkg-config --cflags --libs icysixel)"
@@ -95,14 +94,18 @@ class TestInstall(unittest.TestCase):
 
 
 class TestManual(unittest.TestCase):
+    PAGES = [*sorted((ROOT / "man").iterdir()), ROOT / "out/icysixel.3"]
+
     @needs("mandoc")
     def test_format(self):
         """mandoc warns of nothing in the pages."""
-        pages = sorted((ROOT / "man").iterdir())
-        self.assertEqual(run("mandoc", "-Tlint", "-Wwarning", *pages), (0, b"", b""))
+        self.assertEqual(run("mandoc", "-Tlint", "-Wwarning", *self.PAGES), (0, b"", b""))
 
-    def test_calls(self):
-        """icysixel(3) has each call of the header, with the same parameters."""
-        found = MANUAL.findall((ROOT / "man/icysixel.3").read_text())
-        called = {name: [kind, *re.findall('"(.*)"', it)] for kind, name, it in found}
-        self.assertEqual(called, CALLS)
+    @needs("groff")
+    def test_groff(self):
+        """groff warns of nothing in icysixel(3), whose synopsis and text have each call."""
+        status, text, warnings = run("groff", "-man", "-Tascii", "-ww", self.PAGES[-1])
+        self.assertEqual((status, warnings), (0, b""))
+        for name in CALLS:
+            with self.subTest(call=name):
+                self.assertGreaterEqual(text.decode().count(f" {name}("), 2)

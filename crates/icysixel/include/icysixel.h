@@ -21,10 +21,18 @@
  * has no global state. Calls on one handle must not overlap in time. No function is safe in a
  * signal handler.
  *
- * Memory. The library allocates by rattle_alloc, rattle_realloc and rattle_dealloc. The archive
- * defines these as weak symbols that call malloc, realloc and free. A program can define its own:
- * the man page shows them. If an allocation fails, the call returns ICYSIXEL_OUT_OF_MEMORY. No
- * function aborts the process.
+ * Memory. The library allocates by three functions, which the archive defines as weak symbols over
+ * malloc, realloc and free. A program that links the archive can define its own:
+ *
+ *     typedef struct { bool given; uint8_t *at; } icysixel_block;
+ *     icysixel_block rattle_alloc(size_t size, size_t align);
+ *     icysixel_block rattle_realloc(uint8_t *at, size_t held, size_t size, size_t align);
+ *     void rattle_dealloc(uint8_t *at);
+ *
+ * `given` says whether the allocation succeeded, and `at` is never null. `align` is at most 16.
+ * `held` is the size of the block so far, and `size` the new one. The shared library always uses
+ * malloc, and exports none of the three. If an allocation fails, the call returns
+ * ICYSIXEL_OUT_OF_MEMORY. No function aborts the process.
  *
  * Sizes are in bytes unless a comment names another unit. A pixel is four bytes: red, green, blue
  * and alpha. Pixels are stored row by row from the top, and each row from the left. A stride is the
