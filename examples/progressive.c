@@ -54,6 +54,7 @@ int main(void)
     uint8_t chunk[4096];
     size_t length, drawn = 0;
     uint32_t code = icysixel_new(&sixel);
+    icysixel_set_clip(&sixel, COLUMNS, ROWS);
     icysixel_begin_dcs(&sixel);
     while (code == ICYSIXEL_OK && goes_on(&fed)
            && (length = fread(chunk, 1, sizeof chunk, stdin)) > 0)

@@ -12,7 +12,7 @@ static const icysixel_color palette[] = {{40, 42, 54}, {255, 85, 85}, {80, 250, 
 struct terminal {
     icysixel sixel; /* zeroed, and created with the first image */
     enum { TEXT, ESCAPE, PARAMETERS, PAYLOAD, SKIPPED } state;
-    int32_t parameters[3], count;
+    int32_t parameters[3], count; /* the third one stands for all after it */
     size_t rows; /* rows of cells that are reserved for the open image */
 };
 
@@ -84,14 +84,16 @@ static void parse(struct terminal *term, uint8_t byte)
         term->state = PARAMETERS;
         term->count = 0;
         for (int i = 0; i < 3; i++) term->parameters[i] = -1; /* absent */
-    } else if (term->state == PARAMETERS && byte >= '0' && byte <= '9' && *last < 6553) {
-        *last = (*last < 0 ? 0 : 10 * *last) + byte - '0';
-    } else if (term->state == PARAMETERS && byte == ';' && term->count < 2) {
-        term->count++;
+    } else if (term->state == PARAMETERS && byte >= '0' && byte <= '9') {
+        if (*last < 6553) *last = (*last < 0 ? 0 : 10 * *last) + byte - '0';
+    } else if (term->state == PARAMETERS && byte == ';') {
+        term->count += term->count < 2;
     } else if (term->state == PARAMETERS && byte == 'q') {
         term->state = PAYLOAD;
         uint32_t code = begin_image(term);
         if (code != ICYSIXEL_OK) reject_image(term, code);
+    } else if (term->state == PARAMETERS) {
+        term->state = SKIPPED; /* a DCS sequence that is not SIXEL */
     } else if (term->state == TEXT) {
         putchar(byte);
     } else if (term->state != SKIPPED) {
