@@ -1,5 +1,4 @@
 pub mod Histories
-pub mod FaultlessParts
 pub mod Fields
 pub mod KeptFields
 pub mod DefaultCodes

@@ -10,7 +10,6 @@ use Rattle.sixel_base.specs.History.{Sixel, History, history_of}
 use Rattle.sixel_base.specs.Picture.{is_set}
 use Rattle.sixel_base.specs.Limits.{Limit}
 use Rattle.sixel_base.specs.OneShot.{Found, Payload, NoPayload}
-use Rattle.sixel_base.specs.Partial.{faultless_part}
 use Rattle.sixel_base.specs.Payload.{image_height}
 use Rattle.sixel_base.specs.Place.{down}
 use Rattle.sixel_base.specs.declared.state.DecoderState.{DecoderState}
@@ -62,10 +61,3 @@ abbrev pub found_drawn_height : DecoderState → Found → ℕ
 found_drawn_height decoder (Payload settings payload) =
     image_drawn_height decoder.pixel_limit decoder.raster_crop (history_of (front payload))
 found_drawn_height decoder (NoPayload fault) = 0
-
--- and of the image of the tokens before its first fault
-abbrev pub partial_drawn_height : DecoderState → Found → ℕ
-partial_drawn_height decoder (Payload settings payload) =
-    image_drawn_height decoder.pixel_limit decoder.raster_crop
-    (faultless_part decoder.pixel_limit (history_of (front payload)))
-partial_drawn_height decoder (NoPayload fault) = 0

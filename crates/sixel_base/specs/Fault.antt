@@ -1,7 +1,7 @@
 -- The faults of data, apart from any code: the texts of invalid data, a missing introducer, and a
 -- size that overflows. The causes are those of the documentation of icy_sixel.
 use Rattle.std.specs.Prelude.{◌≡◌, List, ℕ, codes, Bool, true, false, IsTrue, Option, Some, None}
-use Rattle.std.specs.Prelude.{IsSomeAnd, Result, Ok, Err}
+use Rattle.std.specs.Prelude.{IsSomeAnd}
 use Rattle.sixel_base.specs.declared.error.SixelError.{SixelError}
 use Rattle.sixel_base.specs.declared.error.SixelError.TheVariants.{InvalidDimensions}
 use Rattle.sixel_base.specs.declared.error.SixelError.TheVariants.{BufferSizeMismatch, InvalidData}
@@ -50,13 +50,3 @@ Faults error may_want found = IsSomeAnd found (IsFault error)
 abbrev pub is_fault : SixelError → Bool
 is_fault OutOfMemory = false
 is_fault error = true
-
--- whether a call failed by a fault
-abbrev pub is_faulty : {A : Type 0} → Result A SixelError → Bool
-is_faulty (Ok value) = false
-is_faulty (Err error) = is_fault error
-
--- an error that is reported beside an image names this fault, and there is none without a fault
-abbrev pub Names : Option SixelError → Option Fault → Type 0
-Names None found = found ≡ None
-Names (Some error) found = IsSomeAnd found (IsFault error)

@@ -17,7 +17,6 @@ pub mod Status
 pub mod Reach
 pub mod Header
 pub mod OneShot
-pub mod Partial
 pub mod Dcs
 pub mod DrawnHeight
 pub mod inside

@@ -115,7 +115,6 @@ heading states.Escape decoder ended bytes head is = (ap stage is.0, is.1)
 heading (states.Header header) decoder ended bytes head is =
     (ap stage_by is.0.entered ∙ ap (λ w. stage_after is.0.rest (headed_by w)) is.0.going, is.1)
 heading (states.Payload reader) decoder ended bytes head is = absurd cc
-heading (states.Rejected reader) decoder ended bytes head is = absurd cc
 heading states.Failed decoder ended bytes head is = absurd cc
 
 pub head_fine : {C : Type 0} (state : DcsState C) → is_head state ≡ true → is_failed state ≡ false
@@ -123,7 +122,6 @@ head_fine states.Start head = refl
 head_fine states.Escape head = refl
 head_fine (states.Header header) head = refl
 head_fine (states.Payload reader) head = refl
-head_fine (states.Rejected reader) head = absurd cc
 head_fine states.Failed head = absurd cc
 
 pub head_or_payload : {C : Type 0} (state : DcsState C) → is_failed state ≡ false
@@ -132,7 +130,6 @@ head_or_payload states.Start fine other = refl
 head_or_payload states.Escape fine other = refl
 head_or_payload (states.Header header) fine other = refl
 head_or_payload (states.Payload reader) fine other = absurd (other reader refl)
-head_or_payload (states.Rejected reader) fine other = absurd cc
 head_or_payload states.Failed fine other = absurd cc
 
 -- what an error names before a payload is what is wrong with the bytes
@@ -253,7 +250,7 @@ all_counted reader decoder bytes is =
       ap length (before_terminator-whole payload none),
     )
 
-pub cut_joins : (before piece : List ℕ) (start : ℕ)
+cut_joins : (before piece : List ℕ) (start : ℕ)
     → (before ++ take start piece) ++ drop start piece ≡ before ++ piece
 cut_joins before piece start =
     append_assoc before (take start piece) (drop start piece)

@@ -5,9 +5,6 @@ pub mod BandCosts
 pub mod ParserSteps
 pub mod OpenCommands
 pub mod ChunkReads
-pub mod TokenFaults
-pub mod PartialPictures
-pub mod KeptPictures
 pub mod Chunks
 pub mod HeaderReads
 pub mod Sixels
@@ -18,12 +15,10 @@ pub mod Terminators
 pub mod DcsEnds
 pub mod DcsChunks
 pub mod DcsPayloads
-pub mod DcsRejections
 pub mod Finality
 pub mod FinalRows
 pub mod Sessions
 pub mod Feeds
-pub mod DcsPartialPictures
 pub mod Lanes
 pub mod SixelRuns
 pub mod PaintedRuns

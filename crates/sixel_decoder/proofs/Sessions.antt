@@ -155,7 +155,6 @@ followed_sound {C} (states.Header header) decoder ended bytes is accepted =
     (heading {C = C} (states.Header header) decoder ended bytes refl is).0
 followed_sound {C} (states.Payload reader) decoder ended bytes is accepted =
     ap (stage_fault decoder.pixel_limit) is.reading ∙ is.faultless
-followed_sound {C} (states.Rejected reader) decoder ended bytes is accepted = absurd cc
 followed_sound {C} states.Failed decoder ended bytes is accepted = absurd cc
 
 -- at most ESC and the byte after it

@@ -30,8 +30,6 @@ begun decoder = record {
   room = 0;
   paints = 0;
   released = 0;
-  keeps_partial = false;
-  has_partial = false;
 }
 
 -- the result of a feed of one byte of the payload

@@ -1,10 +1,8 @@
 pub mod CopiedImage
 pub mod DcsCalls
-pub mod DcsPartialCalls
 pub mod FinalRows
 pub mod OneShotCalls
 pub mod Paints
-pub mod PartialCalls
 pub mod PayloadCalls
 pub mod PictureView
 pub mod Session

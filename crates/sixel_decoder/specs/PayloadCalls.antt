@@ -28,8 +28,6 @@ begun origin = record {
   room = 0;
   paints = 0;
   released = 0;
-  keeps_partial = false;
-  has_partial = false;
 }
 
 -- the result of a feed of one byte that belongs to the payload

@@ -1,9 +1,8 @@
 -- What contracts see of a session that decodes one payload in chunks: its start, the bytes fed,
 -- whether a feed was rejected, the pixels written to grow its canvas, the capacity of the rows in
 -- pixels, an upper bound of the pixels that sixels have painted, and how many rows from the top the
--- canvas has released. Then whether it keeps the picture of the tokens before a fault, and whether
--- it has one. This library's own: it does not mention chunks, because chunk boundaries have no
--- effect.
+-- canvas has released. This library's own: it does not mention chunks, because chunk boundaries
+-- have no effect.
 use Rattle.std.specs.Prelude.{Bool, List, ℕ}
 use Rattle.sixel_base.specs.Stroke.{Origin}
 use Rattle.sixel_base.specs.declared.state.DecoderState.{DecoderState}
@@ -16,12 +15,10 @@ pub record Session : Type 0 where
   pub room : ℕ
   pub paints : ℕ
   pub released : ℕ
-  pub keeps_partial : Bool
-  pub has_partial : Bool
 
 -- What contracts see of a session that decodes one DCS sequence in chunks: the decoder that it
 -- began from, the bytes fed, whether a feed was rejected, and the same numbers for the canvas of
--- its payload; whether it keeps the picture of the tokens before a fault, and whether it has one.
+-- its payload.
 pub record DcsSession : Type 0 where
   pub decoder : DecoderState
   pub bytes : List ℕ
@@ -30,5 +27,3 @@ pub record DcsSession : Type 0 where
   pub room : ℕ
   pub paints : ℕ
   pub released : ℕ
-  pub keeps_partial : Bool
-  pub has_partial : Bool

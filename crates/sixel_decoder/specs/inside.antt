@@ -5,12 +5,9 @@ pub mod DrawnRows
 pub mod Painter
 pub mod PayloadParser
 pub mod PayloadReader
-pub mod DataFaults
-pub mod Partial
 pub mod Header
 pub mod DcsParser
 pub mod DcsReader
-pub mod DcsRejection
 pub mod Ready
 pub mod Runs
 pub mod Sizes

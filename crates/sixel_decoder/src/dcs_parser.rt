@@ -1,15 +1,14 @@
 //! The parser of a DCS sequence: introducer, header, payload and end.
 
 ghost use Rattle.std.specs.Prelude.{◌≡◌, ◌≤◌, ◌++◌, ◌+◌, ◌∷◌, [], true, false, List, ℕ, length};
-ghost use Rattle.std.specs.Prelude.{None, Option, IfOk, IfErr, OnOk, OnErr, MatchResult};
+ghost use Rattle.std.specs.Prelude.{None, Option, IfOk, OnOk, MatchResult};
 ghost use Rattle.sixel_base.specs.declared.state.DecoderState.{DecoderState};
 ghost use Rattle.sixel_base.specs.Fault.{IsFault, DcsStreamFailed};
 ghost use Rattle.sixel_decoder.specs.declared.dcs_parser.DcsState.TheVariants.{Start, Payload};
+ghost use Rattle.sixel_decoder.specs.declared.dcs_parser.DcsState.TheVariants.{Failed};
 ghost use Rattle.sixel_decoder.specs.inside.DcsParser.{HasFollowed, IsInPayload};
 ghost use Rattle.sixel_decoder.specs.inside.DcsParser.{is_head, is_failed, StepsInto};
 ghost use Rattle.sixel_decoder.specs.inside.DcsParser.{Heads, Follows};
-ghost use Rattle.sixel_decoder.specs.inside.DcsRejection.{IsKeeping, IsStopped, Stops};
-ghost use Rattle.sixel_decoder.specs.inside.DcsRejection.{rejected_state, with_setting};
 ghost use Rattle.sixel_decoder.specs.inside.DcsReader.{released_of};
 
 use crate::bytes::tail;
@@ -21,16 +20,14 @@ use sixel_base::status::{SixelDcsFeedResult, SixelDcsFeedStatus, SixelFeedStatus
 use sixel_base::{Result, SixelError};
 use sixel_canvas::drawing::Canvas;
 use std::alloc::Global;
-use std::mem;
 
-/// How far a DCS sequence was read, or what is left after an error.
+/// How far a DCS sequence was read.
 #[derive(Drop)]
 pub enum DcsState<C: Canvas + Drop> {
     Start,
     Escape,
     Header(Header),
     Payload(PayloadReader<C>),
-    Rejected(PayloadReader<C>),
     Failed,
 }
 
@@ -42,28 +39,19 @@ impl<C: Canvas + Drop> DcsState<C> {
     {
         match self {
             DcsState::Start | DcsState::Escape | DcsState::Header(_) => true,
-            DcsState::Payload(_) | DcsState::Rejected(_) | DcsState::Failed => false,
+            DcsState::Payload(_) | DcsState::Failed => false,
         }
     }
 
-    /// Drops what was read. A payload that has a picture stays.
+    /// Drops what was read.
     ///
     /// Out of line: inlined, LLVM clears the moved value on every feed.
     #[cold]
     #[inline(never)]
     pub fn fail(&mut self)
-        ensures { self.new ≡ rejected_state self.old }
+        ensures { self.new ≡ Failed }
     {
-        let state = mem::replace(self, DcsState::Failed);
-        match state {
-            DcsState::Payload(reader) => {
-                if reader.has_partial() {
-                    *self = DcsState::Rejected(reader);
-                }
-            }
-            DcsState::Rejected(reader) => *self = DcsState::Rejected(reader),
-            DcsState::Start | DcsState::Escape | DcsState::Header(_) | DcsState::Failed => {}
-        }
+        *self = DcsState::Failed;
     }
 }
 
@@ -74,7 +62,6 @@ pub struct DcsParser<C: Canvas + Drop> {
     pub ended: Option<SixelDcsFeedStatus>,
     pub alloc: Global,
     pub decoder: DecoderState,
-    pub keeps_partial: bool,
 }
 
 impl<C: Canvas + Drop> DcsParser<C> {
@@ -83,27 +70,12 @@ impl<C: Canvas + Drop> DcsParser<C> {
         ensures state { result.state ≡ Start }
         ensures ended { result.ended ≡ None }
         ensures decoder { result.decoder ≡ decoder }
-        ensures setting { result.keeps_partial ≡ false }
     {
         DcsParser {
             state: DcsState::Start,
             ended: None,
             alloc,
             decoder,
-            keeps_partial: false,
-        }
-    }
-
-    /// Sets whether a fault of the payload leaves the image of the tokens before it.
-    pub fn set_keep_partial(&mut self, on: bool)
-        ensures { self.new ≡ record self.old {
-          state = with_setting self.old.state on;
-          keeps_partial = on;
-        } }
-    {
-        self.keeps_partial = on;
-        if let DcsState::Payload(reader) = &mut self.state {
-            reader.set_keep_partial(on);
         }
     }
 
@@ -118,15 +90,6 @@ impl<C: Canvas + Drop> DcsParser<C> {
             → Follows result self.new.state self.old.decoder self.new.ended before chunk.now }
         ensures released { OnOk result
             (released_of self.new.state ≡ released_of self.old.state) }
-        ensures left { is_failed self.old.state ≡ true → self.new.state ≡ self.old.state }
-        ensures setting { self.new.keeps_partial ≡ self.old.keeps_partial }
-        ensures keeps { IsKeeping self.old.state self.old.keeps_partial
-            → IsKeeping self.new.state self.old.keeps_partial }
-        ensures stops { (before : List ℕ) → is_failed self.old.state ≡ false
-            → HasFollowed self.old.state self.old.decoder self.old.ended before
-            → IsKeeping self.old.state self.old.keeps_partial
-            → Stops result self.new.state self.old.decoder self.old.keeps_partial
-            (before ++ chunk.now) }
     {
         if self.state.is_head() {
             return self.read_beginning(chunk);
@@ -145,13 +108,6 @@ impl<C: Canvas + Drop> DcsParser<C> {
             → Follows result self.new.state self.old.decoder self.new.ended before chunk.now }
         ensures released { OnOk result
             (released_of self.new.state ≡ released_of self.old.state) }
-        ensures setting { self.new.keeps_partial ≡ self.old.keeps_partial }
-        ensures keeps { is_head self.old.state ≡ true
-            → IsKeeping self.new.state self.old.keeps_partial }
-        ensures stops { (before : List ℕ) → is_head self.old.state ≡ true
-            → HasFollowed self.old.state self.old.decoder self.old.ended before
-            → Stops result self.new.state self.old.decoder self.old.keeps_partial
-            (before ++ chunk.now) }
     {
         let start = self.read_head(chunk)?;
         match &mut self.state {
@@ -179,10 +135,6 @@ impl<C: Canvas + Drop> DcsParser<C> {
             → Heads result self.new.state self.old.decoder self.new.ended before chunk.now }
         ensures released { OnOk result
             (released_of self.new.state ≡ released_of self.old.state) }
-        ensures setting { self.new.keeps_partial ≡ self.old.keeps_partial }
-        ensures keeps { IsKeeping self.old.state self.old.keeps_partial
-            → IsKeeping self.new.state self.old.keeps_partial }
-        ensures head { OnErr result (is_head self.new.state ≡ true) }
     {
         'head: for (index, byte) in chunk.iter().enumerate() {
             if !self.state.is_head() {
@@ -203,10 +155,6 @@ impl<C: Canvas + Drop> DcsParser<C> {
             (before ++ byte ∷ []) }
         ensures released { OnOk result
             (released_of self.new.state ≡ released_of self.old.state) }
-        ensures setting { self.new.keeps_partial ≡ self.old.keeps_partial }
-        ensures keeps { IsKeeping self.old.state self.old.keeps_partial
-            → IsKeeping self.new.state self.old.keeps_partial }
-        ensures head { OnErr result (is_head self.new.state ≡ true) }
     {
         match &mut self.state {
             DcsState::Start => match byte {
@@ -230,14 +178,13 @@ impl<C: Canvas + Drop> DcsParser<C> {
             DcsState::Header(header) => match header.push(byte) {
                 Ok(None) => Ok(()),
                 Ok(Some(settings)) => {
-                    let mut reader = PayloadReader::new(self.alloc, self.decoder, settings);
-                    reader.set_keep_partial(self.keeps_partial);
+                    let reader = PayloadReader::new(self.alloc, self.decoder, settings);
                     self.state = DcsState::Payload(reader);
                     Ok(())
                 }
                 Err(error) => Err(error),
             },
-            DcsState::Payload(_) | DcsState::Rejected(_) | DcsState::Failed => Ok(()),
+            DcsState::Payload(_) | DcsState::Failed => Ok(()),
         }
     }
 }
@@ -254,11 +201,6 @@ fn read_payload<C: Canvas + Drop>(
         → IsInPayload reader.old decoder ended.old before
         → Follows {C = C} result (Payload reader.new) decoder ended.new before chunk.now }
     ensures released { OnOk result (reader.new.released ≡ reader.old.released) }
-    ensures setting { reader.new.keeps_partial ≡ reader.old.keeps_partial }
-    ensures stops { (decoder : DecoderState) (before : List ℕ)
-        → IsInPayload reader.old decoder ended.old before
-        → IfErr result (λ error. IsStopped reader.new decoder reader.old.keeps_partial
-        (before ++ chunk.now) error) }
 {
     let fed = reader.feed(chunk)?;
     match fed.status {

@@ -10,11 +10,9 @@ ghost use Rattle.sixel_decoder.specs.DcsCalls.{begun, byte_read, IsFed, IsFinish
 ghost use Rattle.sixel_decoder.specs.DcsCalls.{IsSizeSoFar, IsDrawnHeight};
 ghost use Rattle.sixel_decoder.specs.DcsCalls.{IsWriteCount, IsPaintCount, IsBandPaintCount};
 ghost use Rattle.sixel_decoder.specs.DcsCalls.{IsBandWriteCount};
-ghost use Rattle.sixel_decoder.specs.DcsPartialCalls.{KeepsPartial};
 ghost use Rattle.sixel_decoder.specs.PictureView.{picture_value};
 
 mod final_rows;
-mod partial;
 
 use crate::dcs_parser::{DcsParser, DcsState};
 use crate::decoded_payload::DecodedPayload;
@@ -60,8 +58,7 @@ impl<C: Canvas + Drop> DcsReader<C> {
 
     /// Reads a chunk as far as the DCS sequence goes. After an error every feed fails.
     pub fn feed(&mut self, chunk: &[u8]) -> Result<SixelDcsFeedResult>
-        ensures fed { IsFed self.old self.new chunk.now result }
-        ensures partial { KeepsPartial self.old self.new result }
+        ensures { IsFed self.old self.new chunk.now result }
     {
         self.log.extend(chunk);
         match self.parser.feed(chunk) {
@@ -80,7 +77,6 @@ impl<C: Canvas + Drop> DcsReader<C> {
     #[inline(always)]
     pub fn try_byte(&mut self, byte: u8) -> bool
         ensures fed { IsTrue result → IsFed self.old self.new (byte ∷ []) byte_read }
-        ensures partial { IsTrue result → KeepsPartial self.old self.new byte_read }
         ensures left { result ≡ false → self.new ≡ self.old }
     {
         let DcsState::Payload(reader) = &mut self.parser.state else {
@@ -130,7 +126,7 @@ impl<C: Canvas + Drop> DcsReader<C> {
         let DcsReader { parser, .. } = self;
         let DcsParser { state, ended, .. } = parser;
         match state {
-            DcsState::Rejected(_) | DcsState::Failed => Err(SixelError::dcs_stream_failed()),
+            DcsState::Failed => Err(SixelError::dcs_stream_failed()),
             DcsState::Payload(reader) => {
                 if has_come(ended) {
                     reader.finish()

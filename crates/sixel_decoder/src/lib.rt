@@ -6,7 +6,6 @@
 mod bytes;
 mod colors;
 mod copied_payload;
-mod data_fault;
 mod dcs_end;
 mod dcs_parser;
 mod dcs_reader;
@@ -17,15 +16,12 @@ mod header;
 mod log;
 mod one_shot;
 mod painter;
-mod partial_payload;
 mod payload_parser;
 mod payload_reader;
 mod raster;
-mod rejected_image;
 
 pub use copied_payload::{CopiedPayload, ImageShape};
 pub use dcs_reader::DcsReader;
 pub use decoded_payload::DecodedPayload;
 pub use one_shot::{decode_found, decode_payload};
-pub use partial_payload::PartialPayload;
 pub use payload_reader::PayloadReader;

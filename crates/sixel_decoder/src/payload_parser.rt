@@ -3,7 +3,7 @@
 //! A command takes effect when it is closed: by the next byte that does not continue it, by the
 //! terminator, or by the end. So a chunk may end within a command.
 
-ghost use Rattle.std.specs.Prelude.{◌≡◌, ◌<◌, ◌≤◌, ◌+◌, ◌*◌, ◌∷◌, List, ℕ, true, false, []};
+ghost use Rattle.std.specs.Prelude.{◌≡◌, ◌<◌, ◌≤◌, ◌+◌, ◌∷◌, ℕ, true, false, []};
 ghost use Rattle.std.specs.Prelude.{length, slice_index, fold, take};
 ghost use Rattle.std.specs.Prelude.{IsTrue, OnOk, ◌⊎◌, Bool, if◌then◌else◌};
 ghost use Rattle.sixel_canvas.specs.inside.Drawn.{no_work};
@@ -23,7 +23,6 @@ mod copied_image;
 use crate::bytes::{is_ignored, is_numbered, is_parameter, is_sixel, is_terminator, tail};
 use crate::decoded_payload::DecodedPayload;
 use crate::painter::Painter;
-use crate::partial_payload::PartialPayload;
 use sixel_base::Result;
 use sixel_base::parameters::{Digits, KEPT_FIELDS, Parameters};
 use sixel_base::settings::DcsSettings;
@@ -67,8 +66,6 @@ pub struct PayloadParser<C: Canvas + Drop> {
 impl<C: Canvas + Drop> PayloadParser<C> {
     ghost use Rattle.sixel_decoder.specs.inside.Painter.{Shows, Draws, Ends, FitsColumn};
     ghost use Rattle.sixel_decoder.specs.inside.PayloadParser.{Stands, Reads, Feeds, StandsAfter};
-    ghost use Rattle.sixel_decoder.specs.inside.PayloadParser.{Rests, settled_after};
-    ghost use Rattle.sixel_decoder.specs.inside.Partial.{EndsPartly};
 
     /// Creates a parser that has read nothing.
     pub fn new(alloc: Global, decoder: DecoderState, settings: DcsSettings) -> PayloadParser<C>
@@ -88,8 +85,6 @@ impl<C: Canvas + Drop> PayloadParser<C> {
     pub fn feed(&mut self, chunk: &[u8]) -> Result<SixelFeedResult>
         ensures feeds { (o : Origin) (h : History) → Stands o self.old h
             → Feeds result o self.new h chunk.now }
-        ensures rests { (o : Origin) (h : History) → Stands o self.old h
-            → Rests result o self.new.painter (settled_after h chunk.now) }
         ensures released { OnOk result
             (C.released self.new.painter.canvas ≡ C.released self.old.painter.canvas) }
     {
@@ -192,8 +187,6 @@ impl<C: Canvas + Drop> PayloadParser<C> {
     fn read_chunk(&mut self, chunk: &[u8]) -> Result<SixelFeedResult>
         ensures feeds { (o : Origin) (h : History) → Stands o self.old h
             → Feeds result o self.new h chunk.now }
-        ensures rests { (o : Origin) (h : History) → Stands o self.old h
-            → Rests result o self.new.painter (settled_after h chunk.now) }
         ensures released { OnOk result
             (C.released self.new.painter.canvas ≡ C.released self.old.painter.canvas) }
     {
@@ -236,12 +229,8 @@ impl<C: Canvas + Drop> PayloadParser<C> {
             → Draws result o self.new.painter h false }
         ensures kept { (o : Origin) (h : History) → self.old.command ≡ Ground
             → Shows o self.old.painter h → Draws result o self.new.painter h false }
-        ensures rests { (o : Origin) (h : History) → Stands o self.old h
-            → Rests result o self.new.painter h }
         ensures released { OnOk result
             (C.released self.new.painter.canvas ≡ C.released self.old.painter.canvas) }
-        ensures rests_kept { (o : Origin) (h : History) → self.old.command ≡ Ground
-            → Shows o self.old.painter h → Rests result o self.new.painter h }
     {
         let command = self.command;
         self.command = OpenCommand::Ground;
@@ -281,8 +270,6 @@ impl<C: Canvas + Drop> PayloadParser<C> {
         requires numbered { (byte ≡ 33 → ⊥) × (byte ≡ 35 → ⊥) }
         ensures reads { (o : Origin) (h : History) → Stands o self.old h
             → Reads result o self.new h (read h byte) }
-        ensures rests { (o : Origin) (h : History) → Stands o self.old h
-            → Rests result o self.new.painter (closed (read h byte)) }
         ensures released { OnOk result
             (C.released self.new.painter.canvas ≡ C.released self.old.painter.canvas) }
     {
@@ -301,8 +288,6 @@ impl<C: Canvas + Drop> PayloadParser<C> {
         requires numbered { (byte ≡ 33 → ⊥) × (byte ≡ 35 → ⊥) }
         ensures reads { (o : Origin) (h : History) → Shows o self.old.painter h
             → Reads result o self.new h (begun byte ∷ h) }
-        ensures rests { (o : Origin) (h : History) → Shows o self.old.painter h
-            → Rests result o self.new.painter (closed (begun byte ∷ h)) }
         ensures released { OnOk result
             (C.released self.new.painter.canvas ≡ C.released self.old.painter.canvas) }
     {
@@ -331,15 +316,5 @@ impl<C: Canvas + Drop> PayloadParser<C> {
             Ok(()) => self.painter.take_image(),
             Err(error) => Err(error),
         }
-    }
-
-    /// Closes the open command, and returns the image of the tokens before a fault.
-    pub fn finish_partial(mut self) -> Result<PartialPayload>
-        ensures { (o : Origin) (h : History) (ended : Bool) → StandsAfter ended o self h
-            → EndsPartly result o h }
-    {
-        let error = self.close().err();
-        let picture = self.painter.take_image()?;
-        Ok(PartialPayload { picture, error })
     }
 }

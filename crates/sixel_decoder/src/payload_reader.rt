@@ -2,7 +2,7 @@
 //!
 //! The contracts of its calls are the records of `PayloadCalls`.
 
-ghost use Rattle.std.specs.Prelude.{◌≡◌, ◌∷◌, [], None, Some, ◌&&◌, false, IsTrue, IfOk};
+ghost use Rattle.std.specs.Prelude.{◌≡◌, ◌∷◌, [], false, IsTrue, IfOk};
 ghost use Rattle.sixel_base.specs.Decoder.{origin_of};
 ghost use Rattle.sixel_base.specs.DrawnHeight.{found_drawn_height};
 ghost use Rattle.sixel_base.specs.OneShot.{Payload};
@@ -11,18 +11,14 @@ ghost use Rattle.sixel_decoder.specs.PayloadCalls.{begun, byte_read, IsFed, IsFi
 ghost use Rattle.sixel_decoder.specs.PayloadCalls.{IsSizeSoFar, IsDrawnHeight};
 ghost use Rattle.sixel_decoder.specs.PayloadCalls.{IsWriteCount, IsPaintCount, IsBandPaintCount};
 ghost use Rattle.sixel_decoder.specs.PayloadCalls.{IsBandWriteCount};
-ghost use Rattle.sixel_base.specs.Fault.{is_fault};
-ghost use Rattle.sixel_decoder.specs.PartialCalls.{KeepsPartial, IsFinishedPartly};
 ghost use Rattle.sixel_decoder.specs.PictureView.{picture_value};
+ghost use Rattle.sixel_decoder.specs.declared.payload_reader.PayloadState.TheVariants.{Failed};
 
 mod final_rows;
 
-use crate::data_fault::DataFault;
 use crate::decoded_payload::DecodedPayload;
 use crate::log::Log;
-use crate::partial_payload::PartialPayload;
 use crate::payload_parser::PayloadParser;
-use crate::rejected_image::RejectedImage;
 use sixel_base::settings::DcsSettings;
 use sixel_base::state::DecoderState;
 use sixel_base::status::{SixelFeedResult, SixelFeedStatus};
@@ -32,40 +28,25 @@ use sixel_canvas::drawing::Canvas;
 use sixel_canvas::row_canvas::RowCanvas;
 use std::alloc::Global;
 use std::marker::Model;
-use std::mem;
 use std::snapshot::Snapshot;
 
-/// How a payload is read: its parser, or what is left after an error.
+/// How a payload is read: its parser, unless a feed has failed.
 #[derive(Drop)]
 pub enum PayloadState<C: Canvas + Drop> {
     Reading(PayloadParser<C>),
-    Failed(Option<RejectedImage<C>>),
+    Failed,
 }
 
 impl<C: Canvas + Drop> PayloadState<C> {
-    ghost use Rattle.sixel_decoder.specs.inside.PayloadReader.{parser_of, rejected_of, KeepsDrawn};
-
-    /// Drops the parser, and keeps the image that it has drawn if it is asked to.
+    /// Drops the parser.
     ///
     /// Out of line: inlined, LLVM clears the moved value on every feed.
     #[cold]
     #[inline(never)]
-    fn reject(&mut self, keeps_partial: bool, error: &SixelError)
-        ensures parser { parser_of self.new ≡ None }
-        ensures kept { KeepsDrawn (parser_of self.old) (rejected_of self.new) error.now
-            (keeps_partial && is_fault error.now) }
+    fn fail(&mut self)
+        ensures { self.new ≡ Failed }
     {
-        let state = mem::replace(self, PayloadState::Failed(None));
-        if keeps_partial
-            && error.is_fault()
-            && let PayloadState::Reading(parser) = state
-        {
-            let PayloadParser { painter, .. } = parser;
-            *self = PayloadState::Failed(Some(RejectedImage {
-                painter,
-                fault: DataFault::of(error),
-            }));
-        }
+        *self = PayloadState::Failed;
     }
 }
 
@@ -73,7 +54,6 @@ impl<C: Canvas + Drop> PayloadState<C> {
 #[derive(Drop)]
 pub struct PayloadReader<C: Canvas + Drop> {
     state: PayloadState<C>,
-    keeps_partial: bool,
     terminator: Option<u8>,
     settings: DcsSettings,
     start: Snapshot<DecoderState>,
@@ -99,7 +79,6 @@ impl<C: Canvas + Drop> PayloadReader<C> {
     {
         PayloadReader {
             state: PayloadState::Reading(PayloadParser::new(alloc, decoder, settings)),
-            keeps_partial: false,
             terminator: None,
             settings,
             start: Snapshot::of(&decoder),
@@ -107,27 +86,12 @@ impl<C: Canvas + Drop> PayloadReader<C> {
         }
     }
 
-    /// Sets whether a fault leaves the image of the tokens before it.
-    pub fn set_keep_partial(&mut self, on: bool)
-        ensures { self.new ≡ record self.old { keeps_partial = on } }
-    {
-        self.keeps_partial = on;
-    }
-
-    /// Whether a feed has failed and left the image of the tokens before its fault.
-    pub fn has_partial(&self) -> bool
-        ensures { result ≡ self.now.has_partial }
-    {
-        matches!(self.state, PayloadState::Failed(Some(_)))
-    }
-
     /// Reads a chunk up to the first terminator of all chunks.
     ///
     /// After an error every feed fails.
     #[inline(always)]
     pub fn feed(&mut self, chunk: &[u8]) -> Result<SixelFeedResult>
-        ensures fed { IsFed self.old self.new chunk.now result }
-        ensures partial { KeepsPartial self.old self.new result }
+        ensures { IsFed self.old self.new chunk.now result }
     {
         self.log.extend(chunk);
         let PayloadState::Reading(parser) = &mut self.state else {
@@ -144,7 +108,7 @@ impl<C: Canvas + Drop> PayloadReader<C> {
                     Ok(fed)
                 }
                 Err(error) => {
-                    self.state.reject(self.keeps_partial, &error);
+                    self.state.fail();
                     Err(error)
                 }
             },
@@ -157,7 +121,6 @@ impl<C: Canvas + Drop> PayloadReader<C> {
     #[inline(always)]
     pub fn try_byte(&mut self, byte: u8) -> bool
         ensures fed { IsTrue result → IsFed self.old self.new (byte ∷ []) byte_read }
-        ensures partial { IsTrue result → KeepsPartial self.old self.new byte_read }
         ensures left { result ≡ false → self.new ≡ self.old }
     {
         let PayloadState::Reading(parser) = &mut self.state else {
@@ -179,7 +142,7 @@ impl<C: Canvas + Drop> PayloadReader<C> {
                 parser.painter.clipped_width,
                 parser.painter.clipped_height,
             )),
-            PayloadState::Failed(_) => None,
+            PayloadState::Failed => None,
         }
     }
 
@@ -189,7 +152,7 @@ impl<C: Canvas + Drop> PayloadReader<C> {
     {
         match &self.state {
             PayloadState::Reading(parser) => parser.painter.drawn_height(),
-            PayloadState::Failed(_) => 0,
+            PayloadState::Failed => 0,
         }
     }
 
@@ -203,21 +166,7 @@ impl<C: Canvas + Drop> PayloadReader<C> {
         let PayloadReader { state, .. } = self;
         match state {
             PayloadState::Reading(parser) => parser.finish(),
-            PayloadState::Failed(_) => Err(SixelError::stream_failed()),
-        }
-    }
-
-    /// Returns the image of the tokens before the first fault, and that fault.
-    ///
-    /// After an error there is one only if it was kept.
-    pub fn finish_partial(self) -> Result<PartialPayload>
-        ensures { IsFinishedPartly self result }
-    {
-        let PayloadReader { state, .. } = self;
-        match state {
-            PayloadState::Reading(parser) => parser.finish_partial(),
-            PayloadState::Failed(Some(rejected)) => rejected.finish(),
-            PayloadState::Failed(None) => Err(SixelError::stream_failed()),
+            PayloadState::Failed => Err(SixelError::stream_failed()),
         }
     }
 }
@@ -229,7 +178,7 @@ impl PayloadReader<RowCanvas> {
     {
         match &self.state {
             PayloadState::Reading(parser) => parser.painter.canvas.writes(),
-            PayloadState::Failed(_) => 0,
+            PayloadState::Failed => 0,
         }
     }
 

@@ -15,7 +15,6 @@ use Rattle.sixel_decoder.specs.declared.dcs_parser.DcsState.TheVariants as state
 use Rattle.sixel_decoder.specs.declared.header.Header as headers
 use Rattle.sixel_base.specs.Header.{header_rest, header_text}
 use Rattle.sixel_decoder.specs.Session.{Session}
-use Rattle.sixel_decoder.specs.inside.DcsRejection.{IsRejectedString}
 use Rattle.sixel_base.specs.Dcs.{Entered, introduced, Stage, Heading, Failing, Reading, stage}
 use Rattle.sixel_base.specs.Dcs.{payload_status, payload_count, dcs_status, dcs_count, dcs_fault}
 use Rattle.sixel_base.specs.Dcs.{dcs_growths, ended_with}
@@ -42,7 +41,6 @@ HasFollowed states.Start decoder ended bytes = (bytes ≡ []) × (ended ≡ None
 HasFollowed states.Escape decoder ended bytes = (bytes ≡ 27 ∷ []) × (ended ≡ None)
 HasFollowed (states.Header header) decoder ended bytes = IsInHeader header bytes × (ended ≡ None)
 HasFollowed (states.Payload reader) decoder ended bytes = IsInPayload reader decoder ended bytes
-HasFollowed (states.Rejected reader) decoder ended bytes = IsRejectedString reader decoder bytes
 HasFollowed states.Failed decoder ended bytes = Unit {0}
 
 -- the payload has not begun
@@ -51,11 +49,9 @@ is_head states.Start = true
 is_head states.Escape = true
 is_head (states.Header header) = true
 is_head (states.Payload reader) = false
-is_head (states.Rejected reader) = false
 is_head states.Failed = false
 
 abbrev pub is_failed : {C : Type 0} → DcsState C → Bool
-is_failed (states.Rejected reader) = true
 is_failed states.Failed = true
 is_failed _ = false
 

@@ -5,7 +5,6 @@ use Rattle.sixel_decoder.specs.declared.dcs_parser.DcsState.{DcsState}
 use Rattle.sixel_decoder.specs.declared.dcs_parser.DcsState.TheVariants.{Payload}
 use Rattle.sixel_decoder.specs.Session.{DcsSession}
 use Rattle.sixel_decoder.specs.inside.DcsParser.{HasFollowed, is_failed}
-use Rattle.sixel_decoder.specs.inside.DcsRejection.{IsKeeping, partial_of}
 use Rattle.sixel_decoder.specs.declared.dcs_reader.DcsReader.TheInside.{Inside}
 
 -- how many pixels the canvas of the payload has written; there is none before the payload and after
@@ -38,11 +37,8 @@ session_of reader = record {
   room = room_of reader.parser.state;
   paints = paints_of reader.parser.state;
   released = released_of reader.parser.state;
-  keeps_partial = reader.parser.keeps_partial;
-  has_partial = partial_of reader.parser.state;
 }
 
 abbrev pub IsFollowing : {C : Type 0} → Inside C → Type 0
 IsFollowing reader =
     HasFollowed reader.parser.state reader.parser.decoder reader.parser.ended reader.log.bytes
-    × IsKeeping reader.parser.state reader.parser.keeps_partial

@@ -2,7 +2,7 @@
 -- continue. An invariant of this library's own: what a payload means, by DEC's manual, is in
 -- Payload of sixel_base.
 use Rattle.std.specs.Prelude.{ℕ, ◌≤◌, ◌*◌, ◌≡◌, None, Bool, true, false, nat_lt, MatchResult}
-use Rattle.std.specs.Prelude.{Result, IfErr, List, ◌∷◌, fold, if◌then◌else◌}
+use Rattle.std.specs.Prelude.{Result, List, ◌∷◌, fold, if◌then◌else◌}
 use Rattle.sixel_base.specs.Status.{status_of}
 use Rattle.sixel_base.specs.declared.status.SixelFeedResult.{SixelFeedResult}
 use Rattle.sixel_base.specs.Bytes.{front, count, first_terminator, is_terminated}
@@ -12,16 +12,14 @@ use Rattle.sixel_decoder.specs.declared.payload_parser.PayloadParser.{PayloadPar
 use Rattle.sixel_decoder.specs.declared.payload_parser.OpenCommand.{OpenCommand}
 use Rattle.sixel_decoder.specs.declared.payload_parser.OpenCommand.TheVariants.{Ground, InRepeat}
 use Rattle.sixel_decoder.specs.declared.payload_parser.OpenCommand.TheVariants.{InRaster, InColor}
-use Rattle.sixel_base.specs.Fault.{Faults, is_fault}
+use Rattle.sixel_base.specs.Fault.{Faults}
 use Rattle.sixel_base.specs.inside.Parameters.{Keeps}
 use Rattle.sixel_base.specs.History.{Token, Repeat, Raster, Color, History, goes_on, read}
 use Rattle.sixel_base.specs.History.{history_of}
 use Rattle.sixel_base.specs.Stroke.{Origin}
 use Rattle.sixel_base.specs.Payload.{first_fault, closed, growths, payload_fault, payload_image}
 use Rattle.sixel_base.specs.Payload.{payload_registers, payload_wants}
-use Rattle.sixel_base.specs.Partial.{faultless_part}
 use Rattle.sixel_canvas.specs.declared.drawing.Canvas.{Ghosts}
-use Rattle.sixel_decoder.specs.declared.painter.Painter.{Painter}
 use Rattle.sixel_decoder.specs.inside.Painter.{Shows}
 use Rattle.sixel_decoder.specs.PictureView.{picture_value}
 use Rattle.sixel_decoder.specs.declared.decoded_payload.DecodedPayload.{DecodedPayload}
@@ -61,13 +59,6 @@ Reads result origin parser before history =
     (λ error.
     Faults error (nat_lt (growths (closed before)) (growths (closed history)))
     (first_fault origin.pixel_limit (closed history)))
-
--- After a fault the painter shows the tokens before it.
-abbrev pub Rests : {A C : Type 0} {canvas : Ghosts C} → Result A SixelError → Origin
-    → Painter C canvas → History → Type 0
-Rests result origin painter history =
-    IfErr result (λ error. is_fault error ≡ true
-    → Shows origin painter (faultless_part origin.pixel_limit history))
 
 -- the history after a chunk
 abbrev pub after : History → List ℕ → History

@@ -1,11 +1,10 @@
 -- What contracts see of a payload reader, and what its parser has read: the bytes so far, up to
 -- their first terminator. An invariant of this library's own: contracts speak of the bytes alone.
 use Rattle.std.specs.Prelude.{◌≡◌, ◌+◌, ◌++◌, nat_lt, List, ℕ, Option, Some, None, is_some, is_none}
-use Rattle.std.specs.Prelude.{Result, MatchResult, Bool, true, false}
+use Rattle.std.specs.Prelude.{Result, MatchResult}
 use Rattle.sixel_base.specs.declared.error.SixelError.{SixelError}
-use Rattle.sixel_base.specs.Fault.{Fault, Faults, IsFault}
+use Rattle.sixel_base.specs.Fault.{Faults}
 use Rattle.sixel_base.specs.Bytes.{front, count, first_terminator}
-use Rattle.sixel_base.specs.Partial.{faultless_part}
 use Rattle.sixel_base.specs.Payload.{fed_fault, settled, growths}
 use Rattle.sixel_canvas.specs.declared.drawing.Canvas.{Ghosts}
 use Rattle.sixel_canvas.specs.inside.Drawn.{Work, no_work}
@@ -20,22 +19,12 @@ use Rattle.sixel_decoder.specs.declared.payload_parser.PayloadParser.{PayloadPar
 use Rattle.sixel_decoder.specs.declared.payload_reader.PayloadReader.TheInside.{Inside}
 use Rattle.sixel_decoder.specs.declared.payload_reader.PayloadState.{PayloadState}
 use Rattle.sixel_decoder.specs.declared.payload_reader.PayloadState.TheVariants as states
-use Rattle.sixel_decoder.specs.declared.rejected_image.RejectedImage.{RejectedImage}
-use Rattle.sixel_decoder.specs.declared.painter.Painter.{Painter}
-use Rattle.sixel_decoder.specs.inside.DataFaults.{is_data_fault, named}
-use Rattle.sixel_decoder.specs.inside.Painter.{Shows}
 
 -- the parser of a payload that was not rejected
 abbrev pub parser_of : {C : Type 0} {canvas : Ghosts C} → PayloadState C canvas
     → Option (PayloadParser C canvas)
 parser_of (states.Reading parser) = Some parser
-parser_of (states.Failed rejected) = None
-
--- the image that was kept of a payload that was rejected
-abbrev pub rejected_of : {C : Type 0} {canvas : Ghosts C} → PayloadState C canvas
-    → Option (RejectedImage C canvas)
-rejected_of (states.Reading parser) = None
-rejected_of (states.Failed rejected) = rejected
+parser_of states.Failed = None
 
 -- what the canvas has cost; after an error there is no canvas
 abbrev pub work_of : {C : Type 0} {canvas : Ghosts C} → Option (PayloadParser C canvas) → Work
@@ -56,24 +45,7 @@ session_of reader = record {
   room = (work_of (parser_of reader.state)).room;
   paints = (work_of (parser_of reader.state)).paints;
   released = released_of (parser_of reader.state);
-  keeps_partial = reader.keeps_partial;
-  has_partial = is_some (rejected_of reader.state);
 }
-
--- This painter and the fault of this error were kept, or nothing.
-abbrev pub HasDrawn : {C : Type 0} {canvas : Ghosts C} → Option (RejectedImage C canvas)
-    → Painter C canvas → SixelError → Bool → Type 0
-HasDrawn None painter error kept = kept ≡ false
-HasDrawn (Some rejected) painter error kept =
-    (kept ≡ true) × (rejected.painter ≡ painter)
-    × ((fault : Fault) → IsFault error fault → is_data_fault fault ≡ true
-    → named rejected.fault ≡ fault)
-
--- What this parser has drawn was kept with this error, or nothing.
-abbrev pub KeepsDrawn : {C : Type 0} {canvas : Ghosts C} → Option (PayloadParser C canvas)
-    → Option (RejectedImage C canvas) → SixelError → Bool → Type 0
-KeepsDrawn None rejected error kept = Unit {0}
-KeepsDrawn (Some parser) rejected error kept = HasDrawn rejected parser.painter error kept
 
 -- A parser without an error has read the bytes up to their first terminator.
 abbrev pub HasRead : {C : Type 0} {canvas : Ghosts C} → Option (PayloadParser C canvas) → Origin
@@ -83,22 +55,9 @@ HasRead (Some parser) origin terminator bytes =
     (first_terminator bytes ≡ terminator)
     × StandsAfter (is_some terminator) origin parser (history_of (front bytes))
 
--- The painter has drawn the tokens before the fault of the bytes, which is stored.
-pub record IsRejected {C : Type 0} {canvas : Ghosts C} (origin : Origin)
-    (rejected : RejectedImage C canvas) (bytes : List ℕ) : Type 0 where
-  pub shows : Shows origin rejected.painter (faultless_part origin.pixel_limit (settled bytes))
-  pub fault : fed_fault origin.pixel_limit bytes ≡ Some (named rejected.fault)
-
--- An image that was kept is that of the bytes.
-abbrev pub HasKept : {C : Type 0} {canvas : Ghosts C} → Option (RejectedImage C canvas) → Origin
-    → List ℕ → Type 0
-HasKept None origin bytes = Unit {0}
-HasKept (Some rejected) origin bytes = IsRejected origin rejected bytes
-
 abbrev pub IsReading : {C : Type 0} {canvas : Ghosts C} → Inside C canvas → Type 0
 IsReading reader =
     HasRead (parser_of reader.state) (session_of reader).origin reader.terminator reader.log.bytes
-    × HasKept (rejected_of reader.state) (session_of reader).origin reader.log.bytes
 
 -- The parser has read these bytes and the chunk after them, or all are rejected by their first
 -- fault.

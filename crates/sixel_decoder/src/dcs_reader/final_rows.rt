@@ -1,6 +1,6 @@
 //! The rows of a DCS sequence's image, final or all, in a caller's memory.
 
-ghost use Rattle.std.specs.Prelude.{◌≡◌, ◌==◌, ◌≤◌, ◌<◌, ◌+◌, ◌^◌, ◌&&◌, false, length, max};
+ghost use Rattle.std.specs.Prelude.{◌≡◌, ◌≤◌, ◌<◌, ◌+◌, ◌^◌, false, length, max};
 ghost use Rattle.sixel_base.specs.Dcs.{dcs_status, end_fault};
 ghost use Rattle.sixel_base.specs.Fault.{DcsStreamFailed};
 ghost use Rattle.sixel_base.specs.OneShot.{found};
@@ -36,7 +36,7 @@ impl<C: Canvas + Drop> DcsReader<C> {
             (end_fault (dcs_status self.now.bytes))) result }
     {
         match &self.parser.state {
-            DcsState::Rejected(_) | DcsState::Failed => Err(SixelError::dcs_stream_failed()),
+            DcsState::Failed => Err(SixelError::dcs_stream_failed()),
             DcsState::Payload(reader) => {
                 if has_come(self.parser.ended) {
                     reader.end_height()
@@ -79,20 +79,18 @@ impl DcsReader<BandCanvas> {
         }
     }
 
-    /// Releases the rows above row `rows`, which are final. Then a fault leaves no picture.
+    /// Releases the rows above row `rows`, which are final.
     pub fn release_rows(&mut self, rows: usize)
         requires above { rows ≤ dcs_final_rows self.old.decoder.pixel_limit self.old.bytes }
         requires accepted { 0 < rows → self.old.is_refused ≡ false }
         ensures { self.new ≡ record self.old {
           released = max self.old.released rows;
-          keeps_partial = self.old.keeps_partial && (rows == 0);
         } }
     {
         let DcsState::Payload(reader) = &mut self.parser.state else {
             return;
         };
         reader.release_rows(rows);
-        self.parser.keeps_partial &= rows == 0;
     }
 
     /// Ends the image, and copies rows of it to a caller's memory.
@@ -114,7 +112,7 @@ impl DcsReader<BandCanvas> {
         let DcsReader { parser, .. } = self;
         let DcsParser { state, ended, .. } = parser;
         match state {
-            DcsState::Rejected(_) | DcsState::Failed => Err(SixelError::dcs_stream_failed()),
+            DcsState::Failed => Err(SixelError::dcs_stream_failed()),
             DcsState::Payload(reader) => {
                 if has_come(ended) {
                     reader.finish_into(first, rows, layout, out)

@@ -1,6 +1,6 @@
 //! The rows of a payload's image, final or all, in a caller's memory.
 
-ghost use Rattle.std.specs.Prelude.{◌≡◌, ◌==◌, ◌≤◌, ◌<◌, ◌+◌, ◌^◌, ◌&&◌, false, length, max};
+ghost use Rattle.std.specs.Prelude.{◌≡◌, ◌≤◌, ◌<◌, ◌+◌, ◌^◌, false, length, max};
 ghost use Rattle.sixel_base.specs.Bytes.{front};
 ghost use Rattle.sixel_base.specs.Clip.{clipped_pixel};
 ghost use Rattle.sixel_base.specs.Fault.{StreamFailed};
@@ -31,7 +31,7 @@ impl<C: Canvas + Drop> PayloadReader<C> {
                 .canvas
                 .top()
                 .min(parser.painter.clipped_height),
-            PayloadState::Failed(_) => 0,
+            PayloadState::Failed => 0,
         }
     }
 
@@ -44,7 +44,7 @@ impl<C: Canvas + Drop> PayloadReader<C> {
     {
         match &self.state {
             PayloadState::Reading(parser) => parser.end_height(),
-            PayloadState::Failed(_) => Err(SixelError::stream_failed()),
+            PayloadState::Failed => Err(SixelError::stream_failed()),
         }
     }
 }
@@ -74,24 +74,22 @@ impl PayloadReader<BandCanvas> {
     {
         match &self.state {
             PayloadState::Reading(parser) => parser.painter.canvas.released_rows(),
-            PayloadState::Failed(_) => 0,
+            PayloadState::Failed => 0,
         }
     }
 
-    /// Releases the rows above row `rows`, which are final. Then a fault leaves no picture.
+    /// Releases the rows above row `rows`, which are final.
     pub fn release_rows(&mut self, rows: usize)
         requires above { rows ≤ final_rows self.old.origin.pixel_limit (settled self.old.bytes) }
         requires accepted { 0 < rows → self.old.is_refused ≡ false }
         ensures { self.new ≡ record self.old {
           released = max self.old.released rows;
-          keeps_partial = self.old.keeps_partial && (rows == 0);
         } }
     {
         let PayloadState::Reading(parser) = &mut self.state else {
             return;
         };
         parser.release_rows(rows);
-        self.keeps_partial &= rows == 0;
     }
 
     /// Ends the image, and copies rows of it to a caller's memory.
@@ -115,7 +113,7 @@ impl PayloadReader<BandCanvas> {
         let PayloadReader { state, .. } = self;
         match state {
             PayloadState::Reading(parser) => parser.finish_into(first, rows, layout, out),
-            PayloadState::Failed(_) => Err(SixelError::stream_failed()),
+            PayloadState::Failed => Err(SixelError::stream_failed()),
         }
     }
 }

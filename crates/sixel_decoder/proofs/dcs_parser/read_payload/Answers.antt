@@ -1,4 +1,4 @@
-use Rattle.std.proofs.Common.{◌≡◌, ◌+◌, ◌++◌, List, ℕ, Some, Err, refl, sym, ap, ◌∙◌}
+use Rattle.std.proofs.Common.{◌≡◌, ◌+◌, ◌++◌, List, ℕ, Some, sym, ap, ◌∙◌}
 use Rattle.std.specs.Prelude.{nat_lt}
 use Rattle.std.proofs.lemmas.Result.{err_from_is_err_and}
 use Rattle.sixel_base.specs.Bytes.{count, first_terminator}
@@ -6,7 +6,6 @@ use Rattle.sixel_base.specs.Fault.{Faults}
 use Rattle.sixel_base.specs.Payload.{fed_fault, settled, growths}
 use Rattle.sixel_decoder.proofs.DcsEnds.{ended_at, terminated_by}
 use Rattle.sixel_decoder.proofs.DcsChunks.{payload_follows, payload_refuses}
-use Rattle.sixel_decoder.proofs.DcsRejections.{payload_stopped}
 use Rattle.sixel_decoder.proofs.Feeds.{open_follows}
 use Rattle.sixel_decoder.proofs.dcs_parser.read_payload.Goals as goal
 
@@ -18,7 +17,7 @@ returns-in_err-fed-clause-follows g c = λ decoder before is.
     let refused : Faults e
     (nat_lt (growths (settled payload)) (growths (settled (payload ++ piece))))
     (fed_fault c.args.reader.now.origin.pixel_limit (payload ++ piece)) =
-    rw (is.accepted, c.in_err-fed.ensures.fed.bytes) at c.in_err-fed.ensures.fed.error in
+    rw (is.accepted, c.in_err-fed.ensures.bytes) at c.in_err-fed.ensures.error in
     let p = err_from_is_err_and c.from_residual.result c.from_residual.ensures.1 in
     rw (p.1, p.2)
     (payload_refuses e c.args.reader.now decoder c.args.ended.now before piece is refused)
@@ -26,13 +25,13 @@ returns-in_err-fed-clause-follows g c = λ decoder before is.
 pub returns-in-NeedMoreData-clause-follows : goal.returns-in-NeedMoreData-clause-follows
 returns-in-NeedMoreData-clause-follows g c = λ decoder before is.
     open_follows g.row.C.Denot c.args.reader.now c.feed.new.self decoder c.args.ended.now before
-    c.args.chunk.now c.in_ok-fed.fed is c.in_ok-fed.ensures.fed c.in-NeedMoreData.is
+    c.args.chunk.now c.in_ok-fed.fed is c.in_ok-fed.ensures c.in-NeedMoreData.is
 
 pub returns-in-Terminated-clause-follows : goal.returns-in-Terminated-clause-follows
 returns-in-Terminated-clause-follows g c = λ decoder before is.
     let payload : List ℕ = c.args.reader.now.bytes in
     let piece : List ℕ = c.args.chunk.now in
-    let now = c.in_ok-fed.ensures.fed in
+    let now = c.in_ok-fed.ensures in
     let t = c.in-Terminated.terminator in
     let some : first_terminator (payload ++ piece) ≡ Some t =
     ap first_terminator (sym now.bytes)
@@ -45,11 +44,3 @@ returns-in-Terminated-clause-follows g c = λ decoder before is.
     (Some c.end_now-end.result.status) before piece _ _ is
     now.origin now.bytes now.ok.1 now.faultless goes
     (ap Some goes.1 ∙ sym (ended_at (payload ++ piece) t some))
-
-pub returns-in_err-fed-clause-stops : goal.returns-in_err-fed-clause-stops
-returns-in_err-fed-clause-stops g c = λ decoder before is.
-    let e = c.in_err-fed.field-0.0 in
-    let p = err_from_is_err_and c.from_residual.result c.from_residual.ensures.1 in
-    rw (p.1, p.2)
-    (payload_stopped e c.args.reader.now c.feed.new.self decoder c.args.ended.now before
-    c.args.chunk.now (Err e) refl is c.in_err-fed.ensures.fed c.in_err-fed.ensures.partial)

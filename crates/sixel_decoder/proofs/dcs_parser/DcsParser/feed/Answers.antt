@@ -8,18 +8,8 @@ pub returns-then-is_head-clause-follows : goal.returns-then-is_head-clause-follo
 returns-then-is_head-clause-follows g c = λ before fine is.
     c.read_beginning.ensures.follows before (sym c.is_head.ensures ∙ c.if-is_head.true) is
 
-pub returns-then-is_head-clause-stops : goal.returns-then-is_head-clause-stops
-returns-then-is_head-clause-stops g c = λ before fine is keeps.
-    c.read_beginning.ensures.stops before (sym c.is_head.ensures ∙ c.if-is_head.true) is
-
 pub returns-in_default-clause-follows : goal.returns-in_default-clause-follows
 returns-in_default-clause-follows g c = λ before fine is.
-    let head : is_head c.args.self.now.state ≡ true =
-    head_or_payload c.args.self.now.state fine c.in_default.not-Payload in
-    absurd (false≢true (sym c.if-is_head.false ∙ (c.is_head.ensures ∙ head)))
-
-pub returns-in_default-clause-stops : goal.returns-in_default-clause-stops
-returns-in_default-clause-stops g c = λ before fine is keeps.
     let head : is_head c.args.self.now.state ≡ true =
     head_or_payload c.args.self.now.state fine c.in_default.not-Payload in
     absurd (false≢true (sym c.if-is_head.false ∙ (c.is_head.ensures ∙ head)))

@@ -1,4 +1,4 @@
-use Rattle.std.proofs.Common.{◌≡◌, ◌++◌, ◌∙◌, Bool, List, ℕ, Option, None, drop, subst, take}
+use Rattle.std.proofs.Common.{◌++◌, ◌∙◌, List, ℕ, Option, None, subst, take}
 use Rattle.std.proofs.lemmas.Result.{err_from_is_err_and}
 use Rattle.sixel_base.specs.declared.status.SixelDcsFeedStatus.{SixelDcsFeedStatus}
 use Rattle.sixel_decoder.specs.declared.dcs_parser.DcsState.{DcsState}
@@ -7,9 +7,7 @@ use Rattle.sixel_base.specs.Dcs.{stage}
 use Rattle.sixel_decoder.specs.inside.DcsParser.{IsInPayload, HasFollowed}
 use Rattle.sixel_decoder.proofs.DcsChunks.{heading, head_or_payload, head_fine, stage_refuses}
 use Rattle.sixel_decoder.proofs.DcsChunks.{head_follows, all_counted, entered_follows}
-use Rattle.sixel_decoder.proofs.DcsChunks.{cut_joins, entered_refuses}
-use Rattle.sixel_decoder.specs.inside.DcsRejection.{IsKeeping, IsStopped}
-use Rattle.sixel_decoder.proofs.DcsRejections.{head_keeping, head_stopped}
+use Rattle.sixel_decoder.proofs.DcsChunks.{entered_refuses}
 use Rattle.sixel_decoder.proofs.dcs_parser.DcsParser.read_beginning.Goals as goal
 
 pub returns-in_err-start-clause-follows : goal.returns-in_err-start-clause-follows
@@ -75,43 +73,3 @@ returns-in_default-clause-follows g c = λ before head is.
     let now = head_or_payload c.read_head.new.self.state begun.1 c.in_default.not-Payload in
     head_follows c.read_head.new.self.state c.args.self.now.decoder c.read_head.new.self.ended
     before c.args.chunk.now c.in_ok-start.start from.0 begun.1 now (begun.3 now) begun.2
-
--- ---- what an error leaves
-
-pub returns-in_err-start-clause-stops : goal.returns-in_err-start-clause-stops
-returns-in_err-start-clause-stops g c = λ before head is.
-    let old = c.args.self.now in
-    let e = c.in_err-start.field-0.0 in
-    let now : List ℕ = before ++ c.args.chunk.now in
-    let refused = c.in_err-start.ensures.heads before (head_fine old.state head) is in
-    let p = err_from_is_err_and c.from_residual.result c.from_residual.ensures.1 in
-    rw (p.1, p.2)
-    (head_stopped c.read_head.new.self.state old.decoder old.keeps_partial now e
-    c.in_err-start.ensures.head refused)
-
-pub returns-in_err-fed-in-Payload-clause-stops : goal.returns-in_err-fed-in-Payload-clause-stops
-returns-in_err-fed-in-Payload-clause-stops g c = λ before head is.
-    let old = c.args.self.now in
-    let piece : List ℕ = c.args.chunk.now in
-    let start = c.in_ok-start.start in
-    let front : List ℕ = before ++ take start piece in
-    let e = c.in_err-fed-in-Payload.field-0.0 in
-    let reader = c.read_payload.new.reader in
-    let begun = c.in_ok-start.ensures.heads before (head_fine old.state head) is in
-    let now : IsInPayload c.in-Payload.reader old.decoder c.read_head.new.self.ended front =
-    subst (λ (w : DcsState _). HasFollowed w old.decoder c.read_head.new.self.ended front)
-    c.in-Payload.is begun.2 in
-    let setting : c.in-Payload.reader.keeps_partial ≡ old.keeps_partial =
-    subst (λ (w : DcsState _). IsKeeping w old.keeps_partial) c.in-Payload.is
-    (c.in_ok-start.ensures.keeps (head_keeping old.state old.keeps_partial head)) in
-    let stopped : IsStopped reader old.decoder c.in-Payload.reader.keeps_partial
-    (front ++ drop start piece) e =
-    rw c.tail.ensures at (c.in_err-fed-in-Payload.ensures.stops old.decoder front now) in
-    let p =
-    err_from_is_err_and c.from_residual-in_err-fed-in-Payload.result
-    c.from_residual-in_err-fed-in-Payload.ensures.1 in
-    rw (p.1, p.2)
-    (subst (λ (w : List ℕ). IsStopped reader old.decoder old.keeps_partial w e)
-    (cut_joins before piece start)
-    (subst (λ (k : Bool). IsStopped reader old.decoder k (front ++ drop start piece) e) setting
-    stopped))

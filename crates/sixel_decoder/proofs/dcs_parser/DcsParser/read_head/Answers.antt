@@ -1,12 +1,11 @@
 use Rattle.std.proofs.Common.{◌≡◌, ◌++◌, ◌∷◌, [], true, false, List, ℕ, length, get_or, take, drop}
-use Rattle.std.proofs.Common.{◌+◌, refl, sym, ◌∙◌, subst, arith, Bool}
+use Rattle.std.proofs.Common.{◌+◌, refl, sym, ◌∙◌, subst, arith}
 use Rattle.std.proofs.lemmas.Bool.{false≢true}
 use Rattle.std.proofs.lemmas.List.{append-nil}
 use Rattle.std.proofs.lemmas.Result.{err_from_is_err_and}
 use Rattle.sixel_base.specs.declared.state.DecoderState.{DecoderState}
 use Rattle.sixel_base.specs.Dcs.{stage}
 use Rattle.sixel_decoder.specs.inside.DcsParser.{HasFollowed, is_head, IsStageFault}
-use Rattle.sixel_decoder.specs.inside.DcsRejection.{IsKeeping}
 use Rattle.sixel_decoder.proofs.Terminators.{refused_stays, pieces_join, pieces_step}
 use Rattle.sixel_decoder.proofs.dcs_parser.DcsParser.read_head.Goals as goal
 
@@ -21,8 +20,6 @@ head-init g c = (
             (sym (append-nil before)) followed,
       ),
   refl,
-  refl,
-  λ is. is,
 )
 
 pub head-preserved : goal.head-preserved
@@ -45,13 +42,6 @@ head-preserved g c = (
             (pieces_step before chunk index c.head-test.true) stepped.1),
       ),
   c.in_ok-step.ensures.released ∙ c.head.invariant.3,
-  c.in_ok-step.ensures.setting ∙ c.head.invariant.4,
-  λ is.
-      let kept : IsKeeping c.head.self.state c.head.self.keeps_partial =
-      subst (λ (k : Bool). IsKeeping c.head.self.state k) (sym c.head.invariant.4)
-      (c.head.invariant.5 is) in
-      subst (λ (k : Bool). IsKeeping c.step.new.self.state k) c.head.invariant.4
-      (c.in_ok-step.ensures.keeps kept),
 )
 
 pub returns-then-not-is_head-clause-heads : goal.returns-then-not-is_head-clause-heads
@@ -99,28 +89,3 @@ returns-in_err-step-clause-heads g c = λ before fine followed.
     (pieces_join before chunk index c.head-test.true)
     (refused_stays e ((before ++ take index chunk) ++ (get_or chunk index 0 ∷ []))
     (drop (index + 1) chunk) refused))
-
--- ---- the setting
-
-pub returns-then-not-is_head-clause-setting : goal.returns-then-not-is_head-clause-setting
-returns-then-not-is_head-clause-setting g c = c.head.invariant.4
-
-pub returns-then-not-is_head-clause-keeps : goal.returns-then-not-is_head-clause-keeps
-returns-then-not-is_head-clause-keeps g c = c.head.invariant.5
-
-pub returns-in_err-step-clause-setting : goal.returns-in_err-step-clause-setting
-returns-in_err-step-clause-setting g c = c.in_err-step.ensures.setting ∙ c.head.invariant.4
-
-pub returns-in_err-step-clause-keeps : goal.returns-in_err-step-clause-keeps
-returns-in_err-step-clause-keeps g c = λ is.
-    let kept : IsKeeping c.head.self.state c.head.self.keeps_partial =
-    subst (λ (k : Bool). IsKeeping c.head.self.state k) (sym c.head.invariant.4)
-    (c.head.invariant.5 is) in
-    subst (λ (k : Bool). IsKeeping c.step.new.self.state k) c.head.invariant.4
-    (c.in_err-step.ensures.keeps kept)
-
-pub returns-clause-setting : goal.returns-clause-setting
-returns-clause-setting g c = c.head.invariant.4
-
-pub returns-clause-keeps : goal.returns-clause-keeps
-returns-clause-keeps g c = c.head.invariant.5

@@ -1,7 +1,6 @@
 use Rattle.std.proofs.Common.{◌≡◌, ◌++◌, false, List, ℕ, take}
 use Rattle.sixel_decoder.specs.inside.DcsParser.{HasFollowed, is_failed}
 use Rattle.sixel_decoder.specs.inside.DcsReader.{released_of}
-use Rattle.sixel_decoder.specs.inside.DcsRejection.{IsKeeping}
 use Rattle.sixel_decoder.proofs.dcs_parser.DcsParser.read_head.Given as goal
 
 abbrev pub invariant-head : goal.invariant-head
@@ -13,5 +12,3 @@ invariant-head g l =
     → (is_failed l.self.state ≡ false)
     × HasFollowed l.self.state l.self.decoder l.self.ended (before ++ take l.index l.chunk))
     × (released_of l.self.state ≡ released_of old.state)
-    × (l.self.keeps_partial ≡ old.keeps_partial)
-    × (IsKeeping old.state old.keeps_partial → IsKeeping l.self.state old.keeps_partial)

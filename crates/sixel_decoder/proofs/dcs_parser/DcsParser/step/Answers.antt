@@ -61,12 +61,7 @@ returns-in-Ok-Some-clause-steps g c = λ before head is.
       room = 0;
       paints = 0;
       released = 0;
-      keeps_partial = old.keeps_partial;
-      has_partial = false;
     } in
-    let same : c.set_keep_partial.new.self ≡ fresh =
-    c.set_keep_partial.ensures
-    ∙ ap (λ (w : Session). record w { keeps_partial = old.keeps_partial }) c.new-reader.ensures in
     let begun : IsInPayload fresh old.decoder old.ended (before ++ c.args.byte ∷ []) = record {
       reading =
           header_begins c.in-Header.header before c.args.byte it.0 stepped.0 stepped.1
@@ -78,7 +73,7 @@ returns-in-Ok-Some-clause-steps g c = λ before head is.
     } in (
       refl,
       subst (λ (w : Session). IsInPayload w old.decoder old.ended (before ++ c.args.byte ∷ []))
-          (sym same) begun,
+          (sym c.new-reader.ensures) begun,
     )
 
 pub returns-in-Err-clause-steps : goal.returns-in-Err-clause-steps

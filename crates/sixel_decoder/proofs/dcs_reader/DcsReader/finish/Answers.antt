@@ -23,7 +23,7 @@ returns-then-has_come-clause-finished g c =
     let bytes : List ℕ = inside.log.bytes in
     let is : IsInPayload reader inside.parser.decoder inside.parser.ended bytes =
     subst (λ (p : DcsState _). HasFollowed p inside.parser.decoder inside.parser.ended bytes)
-    c.in-Payload.is c.self.invariant.0 in
+    c.in-Payload.is c.self.invariant in
     let come : has_come inside.parser.ended ≡ true =
     sym c.has_come.ensures ∙ c.if-has_come.true in
     let limit : Limit = inside.parser.decoder.pixel_limit in
@@ -63,6 +63,6 @@ returns-then-has_come-clause-drawn g c =
     inside.log.bytes =
     subst (λ (p : DcsState _).
     HasFollowed p inside.parser.decoder inside.parser.ended inside.log.bytes)
-    c.in-Payload.is c.self.invariant.0 in
+    c.in-Payload.is c.self.invariant in
     rw (← c.self.view_is)
     (found_drawn c.finish.result c.in-Payload.reader _ _ _ is c.finish.ensures.drawn)

@@ -1,4 +1,4 @@
-use Rattle.std.proofs.Common.{◌≡◌, ◌∷◌, [], false, ℕ, List, refl, ◌∙◌, subst, None}
+use Rattle.std.proofs.Common.{◌≡◌, ◌∷◌, [], false, ℕ, List, refl, subst, None}
 use Rattle.sixel_base.specs.declared.status.SixelDcsFeedStatus.TheVariants as string_status
 use Rattle.sixel_base.specs.declared.status.SixelFeedStatus.TheVariants as payload_status
 use Rattle.sixel_base.specs.Dcs.{dcs_fault}
@@ -7,7 +7,6 @@ use Rattle.sixel_decoder.specs.declared.dcs_parser.DcsState.{DcsState}
 use Rattle.sixel_decoder.specs.declared.dcs_parser.DcsState.TheVariants.{Payload}
 use Rattle.sixel_decoder.specs.inside.DcsParser.{Follows, HasFollowed, IsInPayload, is_failed}
 use Rattle.sixel_decoder.specs.inside.DcsReader.{session_of}
-use Rattle.sixel_decoder.specs.inside.DcsRejection.{IsKeeping}
 use Rattle.sixel_decoder.proofs.Feeds.{open_follows, string_fed}
 use Rattle.sixel_decoder.proofs.Sessions.{followed_sound}
 use Rattle.sixel_decoder.proofs.dcs_reader.DcsReader.try_byte.Given.{Over}
@@ -23,20 +22,13 @@ followed g c =
     let bytes : List ℕ = c.self.inside.log.bytes in
     let is : IsInPayload c.in-Payload.reader parser.decoder parser.ended bytes =
     subst (λ (w : DcsState _). HasFollowed w parser.decoder parser.ended bytes) c.in-Payload.is
-    c.self.invariant.0 in
+    c.self.invariant in
     open_follows g.row.C.Denot c.in-Payload.reader c.try_byte.new.self parser.decoder parser.ended
     bytes (c.args.byte ∷ []) (record { consumed = 1; status = payload_status.NeedMoreData }) is
     (c.try_byte.ensures.fed c.if-not-try_byte.false) refl
 
 pub invariant_of-self-2 : goal.invariant_of-self-2
-invariant_of-self-2 g c =
-    let keeps = c.self.inside.parser.keeps_partial in
-    let kept : c.in-Payload.reader.keeps_partial ≡ keeps =
-    subst (λ (w : DcsState _). IsKeeping w keeps) c.in-Payload.is c.self.invariant.1 in
-    rw c.push.ensures (
-      (followed g c).3,
-      (c.try_byte.ensures.partial c.if-not-try_byte.false).setting ∙ kept,
-    )
+invariant_of-self-2 g c = rw c.push.ensures (followed g c).3
 
 pub returns-clause-fed : goal.returns-clause-fed
 returns-clause-fed g c = λ told.
@@ -44,7 +36,7 @@ returns-clause-fed g c = λ told.
     let parser = inside.parser in
     let accepted : is_failed parser.state ≡ false = rw c.in-Payload.is refl in
     let sound : dcs_fault parser.decoder.pixel_limit inside.log.bytes ≡ None =
-    followed_sound parser.state parser.decoder parser.ended inside.log.bytes c.self.invariant.0
+    followed_sound parser.state parser.decoder parser.ended inside.log.bytes c.self.invariant
     accepted in
     rw (← c.self.view_is)
     (string_fed {C = g.row.C.Denot} (session_of inside) _ (Payload c.try_byte.new.self) parser.ended (c.args.byte ∷ [])

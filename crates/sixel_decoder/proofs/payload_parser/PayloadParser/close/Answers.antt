@@ -1,9 +1,8 @@
 use Rattle.std.proofs.Common.{false, sym, subst}
 use Rattle.sixel_decoder.specs.inside.Painter.{Draws, Shows}
-use Rattle.sixel_decoder.specs.inside.PayloadParser.{IsOpen, Rests, StandsIn}
+use Rattle.sixel_decoder.specs.inside.PayloadParser.{IsOpen, StandsIn}
 use Rattle.sixel_decoder.specs.declared.payload_parser.OpenCommand.{OpenCommand}
-use Rattle.sixel_base.specs.History.{History, Repeat, Raster, Color}
-use Rattle.sixel_decoder.proofs.PartialPictures.{rests_command}
+use Rattle.sixel_base.specs.History.{History, Repeat, Color}
 use Rattle.sixel_decoder.proofs.payload_parser.PayloadParser.close.Goals as goal
 
 pub returns-in-InRepeat-clause-drawn : goal.returns-in-InRepeat-clause-drawn
@@ -19,25 +18,3 @@ returns-in-InColor-clause-drawn g c = λ o h stands.
     subst (λ (p : OpenCommand). StandsIn p o c.args.self.now h) c.in-InColor.is stands in
     subst (λ (w : History). Shows o c.select.new.self w)
     (sym is.newest) (c.select.ensures.shows o is.older is.text is.keeps is.shows)
-
-pub returns-in-InRepeat-clause-rests : goal.returns-in-InRepeat-clause-rests
-returns-in-InRepeat-clause-rests g c = λ o h stands.
-    let old = c.args.self.now in
-    let is : IsOpen Repeat o old h =
-    subst (λ (p : OpenCommand). StandsIn p o old h) c.in-InRepeat.is stands in
-    subst (λ (w : History). Rests c.set_repeat.result o c.set_repeat.new.self w)
-    (sym is.newest)
-    (rests_command c.set_repeat.result o old.painter c.set_repeat.new.self (Repeat is.text) is.older
-    false is.shows (c.set_repeat.ensures.draws o is.older is.text is.keeps is.shows)
-    c.set_repeat.ensures.kept)
-
-pub returns-in-InRaster-clause-rests : goal.returns-in-InRaster-clause-rests
-returns-in-InRaster-clause-rests g c = λ o h stands.
-    let old = c.args.self.now in
-    let is : IsOpen Raster o old h =
-    subst (λ (p : OpenCommand). StandsIn p o old h) c.in-InRaster.is stands in
-    subst (λ (w : History). Rests c.set_raster.result o c.set_raster.new.self w)
-    (sym is.newest)
-    (rests_command c.set_raster.result o old.painter c.set_raster.new.self (Raster is.text) is.older
-    false is.shows (c.set_raster.ensures.draws o is.older is.text is.keeps is.shows)
-    c.set_raster.ensures.kept)

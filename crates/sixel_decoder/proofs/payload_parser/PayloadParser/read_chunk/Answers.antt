@@ -14,8 +14,6 @@ use Rattle.sixel_decoder.proofs.ChunkReads.{first_ahead, printable_from_sixel, r
 use Rattle.sixel_decoder.proofs.ChunkReads.{reaches_pushed, reaches_read}
 use Rattle.sixel_decoder.proofs.ChunkReads.{reads_before, reads_whole, sixel_from_test, splits_at}
 use Rattle.sixel_decoder.proofs.ParserSteps.{refused_close}
-use Rattle.sixel_decoder.proofs.PartialPictures.{rests_byte, rests_close}
-use Rattle.sixel_decoder.proofs.PartialPictures.{rests_printable, rests_sixel}
 use Rattle.sixel_decoder.proofs.OpenCommands.{goes_on_numbered}
 use Rattle.sixel_decoder.proofs.SixelRuns.{Stands-run, goes_on_byte, refused_sixel}
 use Rattle.sixel_decoder.proofs.payload_parser.PayloadParser.read_chunk.Goals as goal
@@ -234,82 +232,3 @@ returns-clause-feeds g c = λ o h stands.
     feeds_whole o c.bytes.self h c.bytes.index c.args.chunk.now (omega (arith, c.bytes-test.false))
     (reads_whole o c.bytes.self h c.bytes.index c.args.chunk.now (omega (arith, c.bytes-test.false))
     (c.bytes.invariant.1 o h stands))
-
--- ---- what the painter shows after a fault
-
-pub returns-in_err-close-clause-rests : goal.returns-in_err-close-clause-rests
-returns-in_err-close-clause-rests g c = λ o h stands.
-    let piece = c.args.chunk.now in
-    let index = c.bytes.index in
-    let byte = get_or piece index 0 in
-    let test : is_sixel byte ≡ true = sym c.is_sixel.ensures ∙ c.if-is_sixel.true in
-    let r = c.bytes.invariant.1 o h stands in
-    let painter = c.close.new.self.painter in
-    let ends = goes_on_byte r.now byte (sixel_from_test byte test) in
-    let refused = c.in_err-close.ensures.drawn o r.now r.stands in
-    let p = err_from_is_err_and c.from_residual.result c.from_residual.ensures.1 in
-    rw (p.1, p.2)
-    (rests_printable _ o c.bytes.self painter _ h index piece c.bytes-test.true
-    (printable_from_sixel byte test) r
-    (refused_close _ o.pixel_limit r.now byte ends refused)
-    (rests_close _ o painter r.now byte ends refused
-    (c.in_err-close.ensures.rests o r.now r.stands)))
-
-pub returns-in_err-drawn-clause-rests : goal.returns-in_err-drawn-clause-rests
-returns-in_err-drawn-clause-rests g c = λ o h stands.
-    let piece = c.args.chunk.now in
-    let index = c.bytes.index in
-    let byte = get_or piece index 0 in
-    let test : is_sixel byte ≡ true = sym c.is_sixel.ensures ∙ c.if-is_sixel.true in
-    let sixel = sixel_from_test byte test in
-    let r = c.bytes.invariant.1 o h stands in
-    let e = c.in_err-drawn.field-0.0 in
-    let shows = c.in_ok-close.ensures.drawn o r.now r.stands in
-    let refused : Faults e true (first_fault o.pixel_limit (Sixel (byte - 63) ∷ r.now)) =
-    subst (λ (b : ℕ). Faults e true (first_fault o.pixel_limit (Sixel (b - 63) ∷ r.now)))
-    (first_ahead index piece c.tail.result.now c.tail.ensures)
-    (c.in_err-drawn.ensures.draws o r.now shows) in
-    let p =
-    err_from_is_err_and c.from_residual-in_err-drawn.result
-    c.from_residual-in_err-drawn.ensures.1 in
-    rw (p.1, p.2)
-    (rests_printable e o c.bytes.self c.draw_front.new.self _ h index piece c.bytes-test.true
-    (printable_from_sixel byte test) r
-    (refused_sixel e o.pixel_limit r.now byte sixel refused)
-    (rests_sixel e o c.close.new.self.painter c.draw_front.new.self r.now byte sixel shows refused
-    c.in_err-drawn.ensures.kept))
-
-pub returns-in_err-close-2-clause-rests : goal.returns-in_err-close-2-clause-rests
-returns-in_err-close-2-clause-rests g c = λ o h stands.
-    let piece = c.args.chunk.now in
-    let index = c.bytes.index in
-    let byte = get_or piece index 0 in
-    let numbered = c.is_numbered.ensures.bytes c.if-is_numbered.true in
-    let r = c.bytes.invariant.1 o h stands in
-    let painter = c.close-then-is_numbered.new.self.painter in
-    let ends = goes_on_numbered r.now byte numbered in
-    let refused = c.in_err-close-2.ensures.drawn o r.now r.stands in
-    let p =
-    err_from_is_err_and c.from_residual-in_err-close-2.result
-    c.from_residual-in_err-close-2.ensures.1 in
-    rw (p.1, p.2)
-    (rests_printable _ o c.bytes.self painter _ h index piece c.bytes-test.true
-    (numbered_printable byte numbered) r
-    (refused_close _ o.pixel_limit r.now byte ends refused)
-    (rests_close _ o painter r.now byte ends refused
-    (c.in_err-close-2.ensures.rests o r.now r.stands)))
-
-pub returns-in_err-push-clause-rests : goal.returns-in_err-push-clause-rests
-returns-in_err-push-clause-rests g c = λ o h stands.
-    let piece = c.args.chunk.now in
-    let index = c.bytes.index in
-    let byte = get_or piece index 0 in
-    let r = c.bytes.invariant.1 o h stands in
-    let ends : is_terminator byte ≡ false =
-    sym c.is_terminator.ensures ∙ c.if-is_terminator.false in
-    let carries : is_ignored byte ≡ false = sym c.is_ignored.ensures ∙ c.if-not-is_ignored.true in
-    let p =
-    err_from_is_err_and c.from_residual-in_err-push.result c.from_residual-in_err-push.ensures.1 in
-    rw (p.1, p.2) (rests_byte _ o c.bytes.self c.push.new.self.painter _ h index piece byte
-    (splits_at piece index c.bytes-test.true) ends carries r
-    (c.in_err-push.ensures.reads o r.now r.stands) (c.in_err-push.ensures.rests o r.now r.stands))

@@ -15,7 +15,7 @@ returns-in-Reading c =
     let bytes : List ℕ = inside.log.bytes in
     let read : HasRead (Some parser) origin inside.terminator bytes =
     subst (λ (w : PayloadState _ _). HasRead (parser_of w) origin inside.terminator bytes)
-    c.in-Reading.is c.self.invariant.0 in
+    c.in-Reading.is c.self.invariant in
     let shows = shown_settled origin parser inside.terminator bytes read in
     let cost =
     history_cost origin.pixel_limit parser.painter.canvas (settled bytes) shows.faultless

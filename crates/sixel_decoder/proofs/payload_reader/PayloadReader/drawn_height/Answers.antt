@@ -15,7 +15,7 @@ returns-in-Reading g c =
     let shows =
     shown_settled origin c.in-Reading.parser inside.terminator bytes
     (subst (λ (w : PayloadState _ _). HasRead (parser_of w) origin inside.terminator bytes)
-    c.in-Reading.is c.self.invariant.0) in
+    c.in-Reading.is c.self.invariant) in
     rw (← c.self.view_is, c.in-Reading.is) (record {
       accepted = λ accepted.
           c.drawn_height.ensures origin (settled bytes) shows

@@ -1,31 +1,20 @@
 use Rattle.std.proofs.Common.{◌≡◌, ℕ, List, [], ◌++◌, Option, Some, None, Ok, Err, false}
 use Rattle.std.proofs.Common.{refl, sym, ◌∙◌, append-nil, rules, subst}
-use Rattle.std.specs.Prelude.{Bool, Result, nat_lt, is_none, ◌&&◌}
+use Rattle.std.specs.Prelude.{Bool, Result, nat_lt, is_none}
 use Rattle.sixel_base.specs.declared.error.SixelError.{SixelError}
 use Rattle.sixel_base.specs.declared.status.SixelFeedResult.{SixelFeedResult}
-use Rattle.sixel_base.specs.Fault.{Faults, is_fault}
+use Rattle.sixel_base.specs.Fault.{Faults}
 use Rattle.sixel_base.specs.Limits.{Limit}
 use Rattle.sixel_base.specs.Payload.{fed_fault, settled, growths}
 use Rattle.sixel_base.specs.Status.{status_of}
 use Rattle.sixel_base.specs.Stroke.{Origin}
 use Rattle.sixel_decoder.specs.declared.payload_reader.PayloadState.{PayloadState}
-use Rattle.sixel_decoder.specs.inside.PayloadReader.{session_of, parser_of, rejected_of, HasKept, HasRead}
+use Rattle.sixel_decoder.specs.inside.PayloadReader.{session_of, parser_of, HasRead}
 use Rattle.sixel_decoder.proofs.Chunks.{ended_goes_on, ended_reads, open_goes_on}
 use Rattle.sixel_decoder.proofs.Feeds.{payload_fed}
-use Rattle.sixel_decoder.proofs.KeptPictures.{has_drawn, kept_drawn, kept_stays, open_rests}
 use Rattle.sixel_decoder.proofs.Sessions.{read_sound, frame_over, frame_refused_with}
 use Rattle.sixel_decoder.proofs.DcsEnds.{terminator_same}
 use Rattle.sixel_decoder.proofs.payload_reader.PayloadReader.feed.Goals as goal
-
-pub invariant_of-self : goal.invariant_of-self
-invariant_of-self g c =
-    let inside = c.self.inside in
-    let origin : Origin = (session_of inside).origin in
-    let kept : HasKept c.in_default.field-0 origin inside.log.bytes =
-    subst (λ (w : PayloadState _ _). HasKept (rejected_of w) origin inside.log.bytes)
-    c.in_default.is c.self.invariant.1 in
-    rw (c.in_default.is, c.extend.ensures)
-    (tt, kept_stays c.in_default.field-0 origin inside.log.bytes c.args.chunk.now kept)
 
 pub invariant_of-self-in-Some : goal.invariant_of-self-in-Some
 invariant_of-self-in-Some g c =
@@ -35,14 +24,14 @@ invariant_of-self-in-Some g c =
     let parser = c.in-Reading.parser in
     let read : HasRead (Some parser) origin inside.terminator bytes =
     subst (λ (w : PayloadState _ _). HasRead (parser_of w) origin inside.terminator bytes)
-    c.in-Reading.is c.self.invariant.0 in
+    c.in-Reading.is c.self.invariant in
     let ended : HasRead (Some parser) origin (Some c.in-Some.byte) bytes =
     subst (λ (w : Option ℕ). HasRead (Some parser) origin w bytes) c.in-Some.is read in
     rw (c.extend.ensures, c.in-Some.is)
-    (ended_reads origin parser bytes c.args.chunk.now c.in-Some.byte ended, tt)
+    (ended_reads origin parser bytes c.args.chunk.now c.in-Some.byte ended)
 
-pub returns-in-Some-clause-fed : goal.returns-in-Some-clause-fed
-returns-in-Some-clause-fed g c =
+pub returns-in-Some : goal.returns-in-Some
+returns-in-Some g c =
     let inside = c.self.inside in
     let origin : Origin = (session_of inside).origin in
     let bytes : List ℕ = inside.log.bytes in
@@ -52,11 +41,11 @@ returns-in-Some-clause-fed g c =
     let fed : SixelFeedResult = record { consumed = 0; status = status_of (Some byte) } in
     let read : HasRead (Some parser) origin inside.terminator bytes =
     subst (λ (w : PayloadState _ _). HasRead (parser_of w) origin inside.terminator bytes)
-    c.in-Reading.is c.self.invariant.0 in
+    c.in-Reading.is c.self.invariant in
     let ended : HasRead (Some parser) origin (Some byte) bytes =
     subst (λ (w : Option ℕ). HasRead (Some parser) origin w bytes) c.in-Some.is read in
     let goes = ended_goes_on origin parser bytes chunk byte ended in
-    let sound = read_sound (parser_of inside.state) origin inside.terminator bytes c.self.invariant.0 in
+    let sound = read_sound (parser_of inside.state) origin inside.terminator bytes c.self.invariant in
     let was : is_none (parser_of inside.state) ≡ false = rw c.in-Reading.is refl in
     rw (← c.self.view_is)
     (payload_fed (session_of inside) _ chunk fed was (sound was) (goes.0, goes.1) goes.3 refl
@@ -69,36 +58,36 @@ invariant_of-self-in-Ok g c =
     let bytes : List ℕ = inside.log.bytes in
     let read : HasRead (Some c.in-Reading.parser) origin inside.terminator bytes =
     subst (λ (w : PayloadState _ _). HasRead (parser_of w) origin inside.terminator bytes)
-    c.in-Reading.is c.self.invariant.0 in
+    c.in-Reading.is c.self.invariant in
     let goes =
     open_goes_on (Ok c.in-Ok.fed) origin c.in-Reading.parser c.feed.new.self inside.terminator bytes
     c.args.chunk.now
     c.in-None.is read (c.in-Ok.ensures.feeds origin _) in
     let terminator = c.terminator-self-inside in
     let same = terminator_same terminator.result _ (sym terminator.ensures ∙ goes.1) in
-    rw (c.extend.ensures, same) (goes.2, tt)
+    rw (c.extend.ensures, same) goes.2
 
-pub returns-in-Ok-clause-fed : goal.returns-in-Ok-clause-fed
-returns-in-Ok-clause-fed g c =
+pub returns-in-Ok : goal.returns-in-Ok
+returns-in-Ok g c =
     let inside = c.self.inside in
     let origin : Origin = (session_of inside).origin in
     let bytes : List ℕ = inside.log.bytes in
     let read : HasRead (Some c.in-Reading.parser) origin inside.terminator bytes =
     subst (λ (w : PayloadState _ _). HasRead (parser_of w) origin inside.terminator bytes)
-    c.in-Reading.is c.self.invariant.0 in
+    c.in-Reading.is c.self.invariant in
     let goes =
     open_goes_on (Ok c.in-Ok.fed) origin c.in-Reading.parser c.feed.new.self inside.terminator bytes
     c.args.chunk.now
     c.in-None.is read (c.in-Ok.ensures.feeds origin _) in
-    let sound = read_sound (parser_of inside.state) origin inside.terminator bytes c.self.invariant.0 in
+    let sound = read_sound (parser_of inside.state) origin inside.terminator bytes c.self.invariant in
     let was : is_none (parser_of inside.state) ≡ false = rw c.in-Reading.is refl in
     rw (← c.self.view_is)
     (payload_fed (session_of inside) _ c.args.chunk.now c.in-Ok.fed was (sound was) (goes.0, goes.1)
     goes.3
     refl c.extend.ensures refl (rw c.in-Reading.is c.in-Ok.ensures.released))
 
-pub returns-in-Err-clause-fed : goal.returns-in-Err-clause-fed
-returns-in-Err-clause-fed g c =
+pub returns-in-Err : goal.returns-in-Err
+returns-in-Err g c =
     let inside = c.self.inside in
     let origin : Origin = (session_of inside).origin in
     let limit : Limit = origin.pixel_limit in
@@ -109,13 +98,13 @@ returns-in-Err-clause-fed g c =
     let fed : Result SixelFeedResult SixelError = Err error in
     let read : HasRead (Some c.in-Reading.parser) origin inside.terminator bytes =
     subst (λ (w : PayloadState _ _). HasRead (parser_of w) origin inside.terminator bytes)
-    c.in-Reading.is c.self.invariant.0 in
+    c.in-Reading.is c.self.invariant in
     let grows : Bool = nat_lt (growths (settled bytes)) (growths (settled now)) in
     let told : Faults error grows (fed_fault limit now) =
     open_goes_on fed origin c.in-Reading.parser c.feed.new.self inside.terminator bytes chunk
     c.in-None.is read (c.in-Err.ensures.feeds origin _) in
     let sound : is_none (parser_of inside.state) ≡ false → fed_fault limit bytes ≡ None =
-    read_sound (parser_of inside.state) origin inside.terminator bytes c.self.invariant.0 in
+    read_sound (parser_of inside.state) origin inside.terminator bytes c.self.invariant in
     record {
       origin = rw (← c.self.view_is) refl;
       released = search rules;
@@ -136,36 +125,5 @@ returns-in-Err-clause-fed g c =
           frame_refused_with limit _ fed now more (now ++ more) refl told e is);
     }
 
-pub returns-in-Err-clause-partial : goal.returns-in-Err-clause-partial
-returns-in-Err-clause-partial g c =
-    let drawn = has_drawn (rejected_of c.reject.new.self) c.feed.new.self.painter c.in-Err.error
-    (c.self.inside.keeps_partial && is_fault c.in-Err.error) c.reject.ensures.kept in
-    rw (← c.self.view_is, c.in-Reading.is) (record {
-      setting = refl;
-      first = λ accepted. drawn;
-      later = λ is. absurd cc;
-    })
-
 pub invariant_of-self-in-Err : goal.invariant_of-self-in-Err
-invariant_of-self-in-Err g c =
-    let inside = c.self.inside in
-    let origin : Origin = (session_of inside).origin in
-    let limit : Limit = origin.pixel_limit in
-    let bytes : List ℕ = inside.log.bytes in
-    let chunk : List ℕ = c.args.chunk.now in
-    let error : SixelError = c.in-Err.error in
-    let fed : Result SixelFeedResult SixelError = Err error in
-    let read : HasRead (Some c.in-Reading.parser) origin inside.terminator bytes =
-    subst (λ (w : PayloadState _ _). HasRead (parser_of w) origin inside.terminator bytes)
-    c.in-Reading.is c.self.invariant.0 in
-    let grows : Bool = nat_lt (growths (settled bytes)) (growths (settled (bytes ++ chunk))) in
-    let told : Faults error grows (fed_fault limit (bytes ++ chunk)) =
-    open_goes_on fed origin c.in-Reading.parser c.feed.new.self inside.terminator bytes chunk
-    c.in-None.is read (c.in-Err.ensures.feeds origin _) in
-    let rests = open_rests fed origin c.in-Reading.parser c.feed.new.self.painter inside.terminator
-    bytes chunk c.in-None.is read (c.in-Err.ensures.rests origin _) in
-    rw (c.reject.ensures.parser, c.extend.ensures) (
-      tt,
-      kept_drawn (rejected_of c.reject.new.self) c.feed.new.self.painter error
-          inside.keeps_partial grows origin (bytes ++ chunk) c.reject.ensures.kept told rests,
-    )
+invariant_of-self-in-Err g c = rw c.fail.ensures tt

@@ -72,7 +72,7 @@ returns-in-Reading-clause-finished g c =
     let o : Origin = (session_of inside).origin in
     let read =
     reading inside.state c.in-Reading.parser o inside.terminator inside.log.bytes
-    c.in-Reading.is c.self.invariant.0 in
+    c.in-Reading.is c.self.invariant in
     rw (← c.self.view_is)
     (finished_by c.finish.result (session_of inside) (rw c.in-Reading.is refl)
     (c.finish.ensures.ends o _ (is_some inside.terminator) read)
@@ -84,7 +84,7 @@ returns-in-Reading-clause-drawn g c =
     let o : Origin = (session_of inside).origin in
     let read =
     reading inside.state c.in-Reading.parser o inside.terminator inside.log.bytes
-    c.in-Reading.is c.self.invariant.0 in
+    c.in-Reading.is c.self.invariant in
     rw (← c.self.view_is)
     (drawn_by c.finish.result (session_of inside)
     (c.finish.ensures.ends o _ (is_some inside.terminator) read))

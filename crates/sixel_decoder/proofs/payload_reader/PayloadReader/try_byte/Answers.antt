@@ -22,14 +22,14 @@ went_on g c =
     let bytes : List ℕ = inside.log.bytes in
     let read : HasRead (Some c.in-Reading.parser) origin inside.terminator bytes =
     subst (λ (w : PayloadState _ _). HasRead (parser_of w) origin inside.terminator bytes)
-    c.in-Reading.is c.self.invariant.0 in
+    c.in-Reading.is c.self.invariant in
     byte_goes_on origin c.in-Reading.parser c.try_byte.new.self inside.terminator bytes c.args.byte
     (sym c.is_some.ensures ∙ c.if-is_some.false) read
     (c.try_byte.ensures.printable c.if-not-try_byte.false)
     (c.try_byte.ensures.stands c.if-not-try_byte.false origin)
 
 pub invariant_of-self-2 : goal.invariant_of-self-2
-invariant_of-self-2 g c = rw c.push.ensures ((went_on g c).1, tt)
+invariant_of-self-2 g c = rw c.push.ensures (went_on g c).1
 
 pub returns-clause-fed : goal.returns-clause-fed
 returns-clause-fed g c = λ told.
@@ -39,7 +39,7 @@ returns-clause-fed g c = λ told.
     let was : is_none (parser_of inside.state) ≡ false = rw c.in-Reading.is refl in
     let sound =
     read_sound (parser_of inside.state) origin inside.terminator inside.log.bytes
-    c.self.invariant.0 was in
+    c.self.invariant was in
     rw (← c.self.view_is)
     (payload_fed (session_of inside) _ (c.args.byte ∷ [])
     (record { consumed = 1; status = NeedMoreData }) was sound (goes.0, goes.1) goes.3 refl

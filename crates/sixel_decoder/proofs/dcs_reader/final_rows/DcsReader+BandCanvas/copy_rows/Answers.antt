@@ -20,7 +20,7 @@ returns-clause-copied c =
     let bytes : List ℕ = inside.log.bytes in
     let is : IsInPayload reader decoder inside.parser.ended bytes =
     subst (λ (p : DcsState _). HasFollowed p decoder inside.parser.ended bytes)
-    c.in-Payload.is c.self.invariant.0 in
+    c.in-Payload.is c.self.invariant in
     let same : found_pixel decoder (found bytes)
     ≡ clipped_pixel reader.origin (history_of (front reader.bytes)) =
     ap (found_pixel decoder)

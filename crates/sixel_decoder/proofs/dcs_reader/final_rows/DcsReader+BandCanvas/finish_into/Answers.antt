@@ -61,7 +61,7 @@ returns-then-has_come-clause-copied c =
     let bytes : List ℕ = inside.log.bytes in
     let is : IsInPayload reader decoder inside.parser.ended bytes =
     subst (λ (p : DcsState _). HasFollowed p decoder inside.parser.ended bytes)
-    c.in-Payload.is c.self.invariant.0 in
+    c.in-Payload.is c.self.invariant in
     let come : has_come inside.parser.ended ≡ true =
     sym c.has_come.ensures ∙ c.if-has_come.true in
     rw (← c.self.view_is, c.in-Payload.is)
