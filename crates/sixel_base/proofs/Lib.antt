@@ -1,4 +1,5 @@
 pub mod Histories
+pub mod ToleratedTokens
 pub mod Fields
 pub mod KeptFields
 pub mod DefaultCodes

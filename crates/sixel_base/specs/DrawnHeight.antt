@@ -3,14 +3,13 @@
 -- is this library's own; where sixels are drawn, by DEC's manual, is in Place.
 use Rattle.std.specs.Prelude.{ℕ, zero, suc, ◌+◌, max, min, nat_lt, Bool, if◌then◌else◌, List, []}
 use Rattle.std.specs.Prelude.{◌∷◌}
-use Rattle.sixel_base.specs.Bytes.{front}
 use Rattle.sixel_base.specs.Clip.{clipped_bits, is_inside}
 use Rattle.sixel_base.specs.Dcs.{Stage, Heading, Failing, Reading, stage}
-use Rattle.sixel_base.specs.History.{Sixel, History, history_of}
+use Rattle.sixel_base.specs.History.{Sixel, History}
 use Rattle.sixel_base.specs.Picture.{is_set}
 use Rattle.sixel_base.specs.Limits.{Limit}
 use Rattle.sixel_base.specs.OneShot.{Found, Payload, NoPayload}
-use Rattle.sixel_base.specs.Payload.{image_height}
+use Rattle.sixel_base.specs.Payload.{image_height, tokens}
 use Rattle.sixel_base.specs.Place.{down}
 use Rattle.sixel_base.specs.declared.state.DecoderState.{DecoderState}
 
@@ -39,7 +38,7 @@ drawn_height limit (_ ∷ older) = drawn_height limit older
 
 -- that of a payload: a command that is open draws nothing, so the end changes nothing
 abbrev pub payload_drawn_height : Limit → List ℕ → ℕ
-payload_drawn_height limit bytes = drawn_height limit (history_of (front bytes))
+payload_drawn_height limit bytes = drawn_height limit (tokens limit bytes)
 
 -- that of a DCS sequence, and 0 before its payload
 abbrev pub stage_drawn_height : Limit → Stage → ℕ
@@ -59,5 +58,5 @@ image_drawn_height limit raster_crop history =
 -- that of the image of a payload, where there is a payload
 abbrev pub found_drawn_height : DecoderState → Found → ℕ
 found_drawn_height decoder (Payload settings payload) =
-    image_drawn_height decoder.pixel_limit decoder.raster_crop (history_of (front payload))
+    image_drawn_height decoder.pixel_limit decoder.raster_crop (tokens decoder.pixel_limit payload)
 found_drawn_height decoder (NoPayload fault) = 0

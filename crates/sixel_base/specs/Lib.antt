@@ -11,6 +11,8 @@ pub mod Place
 pub mod Stroke
 pub mod Clip
 pub mod Picture
+pub mod TokenFaults
+pub mod Lenient
 pub mod Payload
 pub mod Decoder
 pub mod Status

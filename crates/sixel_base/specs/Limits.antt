@@ -1,5 +1,5 @@
 -- The limits of the format, as this library sets them, and those that a host sets.
-use Rattle.std.specs.Prelude.{ℕ}
+use Rattle.std.specs.Prelude.{ℕ, Bool, false}
 
 -- the greatest width, height, edge of a sixel and raster size, in pixels
 abbrev pub side_limit : ℕ
@@ -22,12 +22,18 @@ abbrev pub header_limit : ℕ
 header_limit = 65535
 
 -- which pixels an image may have: at most so many, in so many columns from the left and so many
--- rows from the top, its clip
+-- rows from the top, its clip; and whether a command with a fault is ignored
 pub record Limit : Type 0 where
   pub pixels : ℕ
   pub columns : ℕ
   pub rows : ℕ
+  pub lenient : Bool
 
 -- the limit that a host sets none above: it clips nothing
 abbrev pub whole_limit : Limit
-whole_limit = record { pixels = area_limit; columns = side_limit; rows = side_limit }
+whole_limit = record {
+  pixels = area_limit;
+  columns = side_limit;
+  rows = side_limit;
+  lenient = false;
+}

@@ -2,54 +2,22 @@
 -- leaves. While bytes still come, a command that could go on is open and counts for nothing yet.
 -- The limits are this library's own.
 use Rattle.std.specs.Prelude.{ℕ, Bool, ◌+◌, ◌*◌, nat_lt, ◌&&◌, ◌||◌, if◌then◌else◌, List, [], ◌∷◌}
-use Rattle.std.specs.Prelude.{Option, Some, None, is_none, min}
-use Rattle.std.specs.Option.{option_or}
-use Rattle.sixel_base.specs.Limits.{Limit, side_limit, repeat_limit}
+use Rattle.std.specs.Prelude.{Option, is_none, min}
+use Rattle.sixel_base.specs.Limits.{Limit}
 pub use Rattle.sixel_base.specs.Limits.{area_limit}
+pub use Rattle.sixel_base.specs.TokenFaults.{area_fault, extent_fault, fault_of, first_fault}
+use Rattle.sixel_base.specs.Lenient.{fault, effective}
 use Rattle.sixel_base.specs.declared.settings.BackgroundMode.{BackgroundMode}
 use Rattle.sixel_base.specs.declared.settings.PixelAspectRatio.{PixelAspectRatio}
 use Rattle.sixel_base.specs.Settings.{mode_of, ratio_of}
-use Rattle.sixel_base.specs.Fault.{Fault, Malformed, TooLarge, Overflow}
-use Rattle.sixel_base.specs.Fields.{field}
-use Rattle.sixel_base.specs.Clip.{clipped_width, clipped_height}
+use Rattle.sixel_base.specs.Fault.{Fault}
+use Rattle.sixel_base.specs.Clip.{clipped_width}
 use Rattle.sixel_base.specs.Picture.{picture}
 use Rattle.sixel_base.specs.Bytes.{front, is_terminated}
-use Rattle.sixel_base.specs.History.{Token, Sixel, Repeat, Raster, Color, Return, Newline, Skip}
+use Rattle.sixel_base.specs.History.{Sixel, Repeat, Raster, Color}
 use Rattle.sixel_base.specs.History.{History, history_of}
-use Rattle.sixel_base.specs.Place.{span, across, down, width, height, raster_height}
+use Rattle.sixel_base.specs.Place.{width, height, raster_height}
 use Rattle.sixel_base.specs.Stroke.{Origin, pixel, ratio, registers}
-
--- a picture whose area inside the clip is above the limit
-abbrev pub area_fault : Limit → History → Option Fault
-area_fault limit history =
-    if nat_lt limit.pixels (clipped_width limit history * clipped_height limit history)
-    then Some TooLarge else None
-
--- A side above the limit comes before the area that it makes.
-abbrev pub extent_fault : Limit → ℕ → ℕ → History → Option Fault
-extent_fault limit right lower history =
-    if nat_lt side_limit right || nat_lt side_limit lower then Some Malformed
-    else area_fault limit history
-
--- the fault of a token, after these: a repeat above the limit; raster attributes or a sixel past
--- the limits; more new lines than a row number can count
-abbrev pub fault_of : Limit → Token → History → Option Fault
-fault_of limit (Sixel bits) older =
-    extent_fault limit (across older + span older) (down older + 6) (Sixel bits ∷ older)
-fault_of limit (Repeat text) older =
-    if nat_lt repeat_limit (field text 0) then Some Malformed else None
-fault_of limit (Raster text) older =
-    extent_fault limit (field text 2) (field text 3) (Raster text ∷ older)
-fault_of limit (Color text) older = None
-fault_of limit Return older = None
-fault_of limit Newline older =
-    if nat_lt 0xffff_ffff_ffff_ffff (down older + 6) then Some Overflow else None
-fault_of limit (Skip byte) older = None
-
--- the fault of the first token that has one
-abbrev pub first_fault : Limit → History → Option Fault
-first_fault limit [] = None
-first_fault limit (token ∷ older) = option_or (first_fault limit older) (fault_of limit token older)
 
 -- the tokens but a newest one that could go on
 abbrev pub closed : History → History
@@ -65,11 +33,15 @@ settled bytes =
 
 -- what is wrong with bytes that have been fed
 abbrev pub fed_fault : Limit → List ℕ → Option Fault
-fed_fault limit bytes = first_fault limit (settled bytes)
+fed_fault limit bytes = fault limit (settled bytes)
 
 -- what is wrong with a payload that has ended
 abbrev pub payload_fault : Limit → List ℕ → Option Fault
-payload_fault limit bytes = first_fault limit (history_of (front bytes))
+payload_fault limit bytes = fault limit (history_of (front bytes))
+
+-- the tokens of it that count
+abbrev pub tokens : Limit → List ℕ → History
+tokens limit bytes = effective limit (history_of (front bytes))
 
 -- an image apart from where its bytes lie
 pub record Image : Type 0 where
@@ -104,7 +76,7 @@ image_of origin history = record {
 
 -- the image of a payload that has ended
 abbrev pub payload_image : Origin → List ℕ → Image
-payload_image origin bytes = image_of origin (history_of (front bytes))
+payload_image origin bytes = image_of origin (tokens origin.pixel_limit bytes)
 
 -- how many pixels its extent has
 abbrev pub payload_area : List ℕ → ℕ
@@ -112,7 +84,7 @@ payload_area bytes = width (history_of (front bytes)) * height (history_of (fron
 
 -- the registers after it
 abbrev pub payload_registers : Origin → List ℕ → List (List ℕ)
-payload_registers origin bytes = registers origin.registers (history_of (front bytes))
+payload_registers origin bytes = registers origin.registers (tokens origin.pixel_limit bytes)
 
 -- how many sixels and raster attributes there are, for which alone a decoder may want memory before
 -- an image ends

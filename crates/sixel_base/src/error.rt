@@ -3,7 +3,7 @@
 ghost use Rattle.std.specs.Prelude.{◌≡◌};
 ghost use Rattle.sixel_base.specs.declared.error.SixelError.TheVariants.{OutOfMemory};
 ghost use Rattle.sixel_base.specs.Fault.{IsFault, Malformed, TooLarge, MissingCommand, BadHeader};
-ghost use Rattle.sixel_base.specs.Fault.{StreamFailed, DcsStreamFailed, Incomplete};
+ghost use Rattle.sixel_base.specs.Fault.{StreamFailed, DcsStreamFailed, Incomplete, is_fault};
 ghost use Rattle.sixel_base.specs.CallFault.{IsCallFault, ColorCount, IndexRange};
 ghost use Rattle.sixel_base.specs.CallFault.{RowsNotFinal, RowsReleased, ShortStride};
 
@@ -62,6 +62,13 @@ pub enum SixelError {
 }
 
 impl SixelError {
+    /// Whether the data are wrong. An allocation that failed is no fault of the data.
+    pub fn is_fault(&self) -> bool
+        ensures { result ≡ is_fault self.now }
+    {
+        !matches!(self, SixelError::OutOfMemory)
+    }
+
     /// The error of data that break the grammar or a limit of one command.
     pub fn malformed() -> SixelError
         ensures { IsFault result Malformed }

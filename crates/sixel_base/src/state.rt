@@ -17,6 +17,7 @@ pub struct PixelLimit {
     pixels: usize,
     columns: usize,
     rows: usize,
+    lenient: bool,
 }
 
 impl Model for PixelLimit {
@@ -29,12 +30,14 @@ impl Model for PixelLimit {
       pixels = limit.pixels;
       columns = limit.columns;
       rows = limit.rows;
+      lenient = limit.lenient;
     } };
 
     ghost inverse = { λ limit. record {
       pixels = limit.pixels;
       columns = limit.columns;
       rows = limit.rows;
+      lenient = limit.lenient;
     } };
 
     ghost invariant = { λ limit. (1 ≤ limit.pixels) × (limit.pixels ≤ area_limit)
@@ -51,6 +54,7 @@ impl PixelLimit {
             pixels: MAX_AREA,
             columns: MAX_SIDE,
             rows: MAX_SIDE,
+            lenient: false,
         }
     }
 
@@ -74,6 +78,24 @@ impl PixelLimit {
             rows: height.clamp(1, MAX_SIDE),
             ..self
         }
+    }
+
+    /// The same limit, by which a faulty command is ignored, or rejects the image.
+    pub fn with_lenient(self, on: bool) -> Self
+        ensures { result ≡ record self { lenient = on } }
+    {
+        Self {
+            lenient: on,
+            ..self
+        }
+    }
+
+    /// Whether a faulty command is ignored.
+    #[inline(always)]
+    pub fn lenient(self) -> bool
+        ensures { result ≡ self.lenient }
+    {
+        self.lenient
     }
 
     /// How many pixels an image may have.

@@ -1,0 +1,280 @@
+-- The tokens that lenient decoding tolerates have no fault, and those of a history without a fault
+-- are all tolerated.
+use Rattle.std.proofs.Common.{◌≡◌, true, false, [], ◌∷◌, refl, ap, ◌∙◌, cond, Option, Some}
+use Rattle.std.proofs.Common.{None, ◌+◌, sym, arith, ℕ, List}
+use Rattle.std.specs.Prelude.{is_none, min, slice_set}
+use Rattle.sixel_base.specs.Stroke.{definition, is_definition, named_by, registers}
+use Rattle.std.specs.Option.{option_or}
+use Rattle.sixel_base.specs.Fault.{Fault}
+use Rattle.sixel_base.specs.History.{Token, Sixel, Repeat, Raster, Color, Return, Newline, Skip}
+use Rattle.sixel_base.specs.History.{History}
+use Rattle.sixel_base.specs.Limits.{Limit}
+use Rattle.sixel_base.specs.Payload.{fault_of, first_fault}
+use Rattle.sixel_base.specs.Lenient.{without, with_tolerated, tolerated, ignored, ignored_count}
+use Rattle.sixel_base.specs.Lenient.{count_limit, effective, fault}
+
+-- the tokens that take effect where one is ignored have no fault of their own
+without-faultless : (limit : Limit) (token : Token) (older : History)
+    → first_fault limit older ≡ None → first_fault limit (without token older) ≡ None
+without-faultless limit (Sixel _) older none = ap (λ (f : Option Fault). option_or f None) none
+without-faultless limit (Repeat _) older none = none
+without-faultless limit (Raster _) older none = none
+without-faultless limit (Color _) older none = none
+without-faultless limit Return older none = none
+without-faultless limit Newline older none = none
+without-faultless limit (Skip _) older none = none
+
+with_tolerated-faultless : (limit : Limit) (token : Token) (older : History)
+    → first_fault limit older ≡ None → first_fault limit (with_tolerated limit token older) ≡ None
+with_tolerated-faultless limit token older none =
+    (elim (fault_of limit token older) as
+    (λ f.
+    fault_of limit token older ≡ f
+    → first_fault limit (cond (is_none f) (token ∷ older) (without token older)) ≡ None) [
+      | None ↦ λ is.
+        ap (λ (f : Option Fault). option_or f (fault_of limit token older)) none ∙ is
+      | Some fault ↦ λ is. without-faultless limit token older none
+    ]) refl
+
+-- tolerated tokens have no fault
+pub tolerated-faultless : (limit : Limit) (h : History) → first_fault limit (tolerated limit h) ≡ None
+tolerated-faultless limit [] = refl
+tolerated-faultless limit (token ∷ older) =
+    with_tolerated-faultless limit token (tolerated limit older) (tolerated-faultless limit older)
+
+-- the parts of an option that is none
+option_or-first : (a b : Option Fault) → option_or a b ≡ None → a ≡ None
+option_or-first None b none = refl
+option_or-first (Some fault) b none = absurd cc
+
+option_or-second : (a b : Option Fault) → option_or a b ≡ None → b ≡ None
+option_or-second None b none = none
+option_or-second (Some fault) b none = absurd cc
+
+-- a token without a fault stays
+pub with_tolerated-same : (limit : Limit) (token : Token) (older : History)
+    → fault_of limit token older ≡ None → with_tolerated limit token older ≡ token ∷ older
+with_tolerated-same limit token older none =
+    ap (λ (f : Option Fault). cond (is_none f) (token ∷ older) (without token older)) none
+
+-- a token with a fault is ignored
+pub with_tolerated-without : (limit : Limit) (token : Token) (older : History) (fault : Fault)
+    → fault_of limit token older ≡ Some fault
+    → with_tolerated limit token older ≡ without token older
+with_tolerated-without limit token older fault is =
+    ap (λ (f : Option Fault). cond (is_none f) (token ∷ older) (without token older)) is
+
+-- without a fault all tokens are tolerated
+pub tolerated-same : (limit : Limit) (h : History) → first_fault limit h ≡ None
+    → tolerated limit h ≡ h
+tolerated-same limit [] none = refl
+tolerated-same limit (token ∷ older) none =
+    ap (with_tolerated limit token)
+    (tolerated-same limit older
+    (option_or-first (first_fault limit older) (fault_of limit token older) none))
+    ∙ with_tolerated-same limit token older
+    (option_or-second (first_fault limit older) (fault_of limit token older) none)
+
+-- ---- by the setting
+
+-- the tokens that count have the fault that is reported
+pub effective-fault : (limit : Limit) (h : History) → first_fault limit (effective limit h) ≡ fault limit h
+effective-fault limit h =
+    elim limit.lenient as
+    (λ t. first_fault limit (cond t (tolerated limit h) h) ≡ cond t None (first_fault limit h)) [
+      | true ↦ tolerated-faultless limit h
+      | false ↦ refl
+    ]
+
+-- a token that has no fault after those counts
+pub effective-more : (limit : Limit) (token : Token) (h : History)
+    → first_fault limit (token ∷ effective limit h) ≡ None → effective limit (token ∷ h) ≡ token ∷ effective limit h
+effective-more limit token h =
+    elim limit.lenient as
+    (λ t. first_fault limit (token ∷ cond t (tolerated limit h) h) ≡ None
+    → cond t (with_tolerated limit token (tolerated limit h)) (token ∷ h)
+    ≡ token ∷ cond t (tolerated limit h) h) [
+      | true ↦ λ none. with_tolerated-same limit token (tolerated limit h)
+          (option_or-second (first_fault limit (tolerated limit h))
+          (fault_of limit token (tolerated limit h)) none)
+      | false ↦ λ none. refl
+    ]
+
+-- an option that is some after one that is none
+option_or-some : (a b : Option Fault) (f : Fault) → a ≡ None → option_or a b ≡ Some f → b ≡ Some f
+option_or-some None b f none some = some
+option_or-some (Some fault) b f none some = absurd cc
+
+-- a token that has a fault after those is ignored, where faults are
+pub effective-without : (limit : Limit) (token : Token) (h : History) (f : Fault)
+    → limit.lenient ≡ true → first_fault limit (token ∷ effective limit h) ≡ Some f
+    → effective limit (token ∷ h) ≡ without token (effective limit h)
+effective-without limit token h f =
+    elim limit.lenient as
+    (λ t. t ≡ true → first_fault limit (token ∷ cond t (tolerated limit h) h) ≡ Some f
+    → cond t (with_tolerated limit token (tolerated limit h)) (token ∷ h)
+    ≡ without token (cond t (tolerated limit h) h)) [
+      | true ↦ λ on some. with_tolerated-without limit token (tolerated limit h) f
+          (option_or-some (first_fault limit (tolerated limit h))
+          (fault_of limit token (tolerated limit h)) f (tolerated-faultless limit h) some)
+      | false ↦ λ on some. absurd (cc on)
+    ]
+
+-- where faults are not ignored, a token after those that count has the fault that is reported
+pub effective-strict : (limit : Limit) (token : Token) (h : History) → limit.lenient ≡ false
+    → first_fault limit (token ∷ effective limit h) ≡ fault limit (token ∷ h)
+effective-strict limit token h =
+    elim limit.lenient as
+    (λ t. t ≡ false → first_fault limit (token ∷ cond t (tolerated limit h) h)
+    ≡ cond t None (first_fault limit (token ∷ h))) [
+      | true ↦ λ off. absurd (cc off)
+      | false ↦ λ off. refl
+    ]
+
+-- of no tokens none count
+pub effective-none : (limit : Limit) → effective limit [] ≡ []
+effective-none limit = elim limit.lenient as (λ t. cond t (tolerated limit []) [] ≡ []) [
+  | true ↦ refl
+  | false ↦ refl
+]
+
+-- a fault that stays the first one is reported then too
+pub fault-along : (limit : Limit) (g h : History) (f : Fault)
+    → (first_fault limit g ≡ Some f → first_fault limit h ≡ Some f)
+    → fault limit g ≡ Some f → fault limit h ≡ Some f
+fault-along limit g h f stays =
+    elim limit.lenient as
+    (λ t. cond t None (first_fault limit g) ≡ Some f
+    → cond t None (first_fault limit h) ≡ Some f) [
+      | true ↦ λ is. absurd (cc is)
+      | false ↦ λ is. stays is
+    ]
+
+-- an option that is none in front of one
+pub option_or-none : (a b : Option Fault) → option_or a b ≡ None → a ≡ None
+option_or-none a b none = option_or-first a b none
+
+-- where none is ignored, no token has a fault
+ignored-step : (limit : Limit) (token : Token) (older : History)
+    → (ignored limit older ≡ 0 → first_fault limit older ≡ None)
+    → ignored limit (token ∷ older) ≡ 0 → first_fault limit (token ∷ older) ≡ None
+ignored-step limit token older before =
+    (elim (fault_of limit token (tolerated limit older)) as
+    (λ f. fault_of limit token (tolerated limit older) ≡ f
+    → cond (is_none f) (ignored limit older) (min (ignored limit older + 1) count_limit) ≡ 0
+    → first_fault limit (token ∷ older) ≡ None) [
+      | None ↦ λ is zero.
+          let none = before zero in
+          ap (λ (f : Option Fault). option_or f (fault_of limit token older)) none
+          ∙ ap (fault_of limit token) (sym (tolerated-same limit older none)) ∙ is
+      | Some f ↦ λ is zero. absurd (omega (arith, zero))
+    ]) refl
+
+pub ignored-none : (limit : Limit) (h : History) → ignored limit h ≡ 0
+    → first_fault limit h ≡ None
+ignored-none limit [] zero = refl
+ignored-none limit (token ∷ older) zero =
+    ignored-step limit token older (ignored-none limit older) zero
+
+-- and without a fault none is ignored
+pub none-ignored : (limit : Limit) (h : History) → first_fault limit h ≡ None
+    → ignored limit h ≡ 0
+none-ignored limit [] none = refl
+none-ignored limit (token ∷ older) none =
+    let first = option_or-first (first_fault limit older) (fault_of limit token older) none in
+    ap (λ (f : Option Fault).
+    cond (is_none f) (ignored limit older) (min (ignored limit older + 1) count_limit))
+    (ap (fault_of limit token) (tolerated-same limit older first)
+    ∙ option_or-second (first_fault limit older) (fault_of limit token older) none)
+    ∙ none-ignored limit older first
+
+-- ---- how many are ignored
+
+-- of no tokens none
+pub count-none : (limit : Limit) → ignored_count limit [] ≡ 0
+count-none limit = elim limit.lenient as (λ t. cond t (ignored limit []) 0 ≡ 0) [
+  | true ↦ refl
+  | false ↦ refl
+]
+
+-- a token without a fault is not ignored
+pub count-more : (limit : Limit) (token : Token) (h : History)
+    → first_fault limit (token ∷ effective limit h) ≡ None
+    → ignored_count limit (token ∷ h) ≡ ignored_count limit h
+count-more limit token h =
+    elim limit.lenient as
+    (λ t. first_fault limit (token ∷ cond t (tolerated limit h) h) ≡ None
+    → cond t (ignored limit (token ∷ h)) 0 ≡ cond t (ignored limit h) 0) [
+      | true ↦ λ none.
+          ap (λ (f : Option Fault).
+          cond (is_none f) (ignored limit h) (min (ignored limit h + 1) count_limit))
+          (option_or-second (first_fault limit (tolerated limit h))
+          (fault_of limit token (tolerated limit h)) none)
+      | false ↦ λ none. refl
+    ]
+
+-- a token with one is, if the image is lenient
+pub count-without : (limit : Limit) (token : Token) (h : History) (f : Fault)
+    → limit.lenient ≡ true → first_fault limit (token ∷ effective limit h) ≡ Some f
+    → ignored_count limit (token ∷ h) ≡ min (ignored_count limit h + 1) count_limit
+count-without limit token h f =
+    elim limit.lenient as
+    (λ t. t ≡ true → first_fault limit (token ∷ cond t (tolerated limit h) h) ≡ Some f
+    → cond t (ignored limit (token ∷ h)) 0 ≡ min (cond t (ignored limit h) 0 + 1) count_limit) [
+      | true ↦ λ on some.
+          ap (λ (f : Option Fault).
+          cond (is_none f) (ignored limit h) (min (ignored limit h + 1) count_limit))
+          (option_or-some (first_fault limit (tolerated limit h))
+          (fault_of limit token (tolerated limit h)) f (tolerated-faultless limit h) some)
+      | false ↦ λ on some. absurd (cc on)
+    ]
+
+-- ---- the registers, which no command with a fault defines
+
+registers-tolerated : (limit : Limit) (start : List (List ℕ)) (h : History)
+    → registers start (tolerated limit h) ≡ registers start h
+registers-tolerated limit start [] = refl
+registers-tolerated limit start (Sixel bits ∷ h) =
+    let o : History = tolerated limit h in
+    elim (is_none (fault_of limit (Sixel bits) o)) as
+    (λ n. registers start (cond n (Sixel bits ∷ o) (Repeat [] ∷ o)) ≡ registers start h) [
+      | true ↦ registers-tolerated limit start h
+      | false ↦ registers-tolerated limit start h
+    ]
+registers-tolerated limit start (Repeat text ∷ h) =
+    let o : History = tolerated limit h in
+    elim (is_none (fault_of limit (Repeat text) o)) as
+    (λ n. registers start (cond n (Repeat text ∷ o) o) ≡ registers start h) [
+      | true ↦ registers-tolerated limit start h
+      | false ↦ registers-tolerated limit start h
+    ]
+registers-tolerated limit start (Raster text ∷ h) =
+    let o : History = tolerated limit h in
+    elim (is_none (fault_of limit (Raster text) o)) as
+    (λ n. registers start (cond n (Raster text ∷ o) o) ≡ registers start h) [
+      | true ↦ registers-tolerated limit start h
+      | false ↦ registers-tolerated limit start h
+    ]
+registers-tolerated limit start (Color text ∷ h) =
+    ap (λ (r : List (List ℕ)).
+    cond (is_definition text) (slice_set r (named_by text) (definition text)) r)
+    (registers-tolerated limit start h)
+registers-tolerated limit start (Return ∷ h) = registers-tolerated limit start h
+registers-tolerated limit start (Newline ∷ h) =
+    let o : History = tolerated limit h in
+    elim (is_none (fault_of limit Newline o)) as
+    (λ n. registers start (cond n (Newline ∷ o) o) ≡ registers start h) [
+      | true ↦ registers-tolerated limit start h
+      | false ↦ registers-tolerated limit start h
+    ]
+registers-tolerated limit start (Skip byte ∷ h) = registers-tolerated limit start h
+
+-- so they are those of all tokens
+pub registers-effective : (limit : Limit) (start : List (List ℕ)) (h : History)
+    → registers start (effective limit h) ≡ registers start h
+registers-effective limit start h =
+    elim limit.lenient as
+    (λ t. registers start (cond t (tolerated limit h) h) ≡ registers start h) [
+      | true ↦ registers-tolerated limit start h
+      | false ↦ refl
+    ]
