@@ -37,7 +37,8 @@ with_tolerated-faultless limit token older none =
     ]) refl
 
 -- tolerated tokens have no fault
-pub tolerated-faultless : (limit : Limit) (h : History) → first_fault limit (tolerated limit h) ≡ None
+pub tolerated-faultless : (limit : Limit) (h : History) → first_fault limit (tolerated limit h)
+    ≡ None
 tolerated-faultless limit [] = refl
 tolerated-faultless limit (token ∷ older) =
     with_tolerated-faultless limit token (tolerated limit older) (tolerated-faultless limit older)
@@ -78,7 +79,8 @@ tolerated-same limit (token ∷ older) none =
 -- ---- by the setting
 
 -- the tokens that count have the fault that is reported
-pub effective-fault : (limit : Limit) (h : History) → first_fault limit (effective limit h) ≡ fault limit h
+pub effective-fault : (limit : Limit) (h : History) → first_fault limit (effective limit h)
+    ≡ fault limit h
 effective-fault limit h =
     elim limit.lenient as
     (λ t. first_fault limit (cond t (tolerated limit h) h) ≡ cond t None (first_fault limit h)) [
@@ -88,7 +90,8 @@ effective-fault limit h =
 
 -- a token that has no fault after those counts
 pub effective-more : (limit : Limit) (token : Token) (h : History)
-    → first_fault limit (token ∷ effective limit h) ≡ None → effective limit (token ∷ h) ≡ token ∷ effective limit h
+    → first_fault limit (token ∷ effective limit h) ≡ None → effective limit (token ∷ h)
+    ≡ token ∷ effective limit h
 effective-more limit token h =
     elim limit.lenient as
     (λ t. first_fault limit (token ∷ cond t (tolerated limit h) h) ≡ None
@@ -131,12 +134,31 @@ effective-strict limit token h =
       | false ↦ λ off. refl
     ]
 
+-- all tokens count where faults are not ignored
+pub effective-off : (limit : Limit) (h : History) → limit.lenient ≡ false → effective limit h ≡ h
+effective-off limit h off = ap (λ t. cond t (tolerated limit h) h) off
+
 -- of no tokens none count
 pub effective-none : (limit : Limit) → effective limit [] ≡ []
 effective-none limit = elim limit.lenient as (λ t. cond t (tolerated limit []) [] ≡ []) [
   | true ↦ refl
   | false ↦ refl
 ]
+
+-- and nothing is wrong with them
+pub fault-none : (limit : Limit) → fault limit [] ≡ None
+fault-none limit = elim limit.lenient as (λ t. cond t None (first_fault limit []) ≡ None) [
+  | true ↦ refl
+  | false ↦ refl
+]
+
+-- nor with tokens without a fault
+pub fault-sound : (limit : Limit) (h : History) → first_fault limit h ≡ None → fault limit h ≡ None
+fault-sound limit h none =
+    elim limit.lenient as (λ t. cond t None (first_fault limit h) ≡ None) [
+      | true ↦ refl
+      | false ↦ none
+    ]
 
 -- a fault that stays the first one is reported then too
 pub fault-along : (limit : Limit) (g h : History) (f : Fault)
@@ -187,6 +209,23 @@ none-ignored limit (token ∷ older) none =
     (ap (fault_of limit token) (tolerated-same limit older first)
     ∙ option_or-second (first_fault limit older) (fault_of limit token older) none)
     ∙ none-ignored limit older first
+
+-- what a token does not change it does not change where it is ignored
+pub effective-same : {A : Type 0} (f : History → A) (limit : Limit) (token : Token) (h : History)
+    → ((w : History) → without token w ≡ w) → ((w : History) → f (token ∷ w) ≡ f w)
+    → f (effective limit h) ≡ f (effective limit (token ∷ h))
+effective-same f limit token h other same =
+    let older : History = tolerated limit h in
+    elim limit.lenient as
+    (λ t. f (cond t older h) ≡ f (cond t (with_tolerated limit token older) (token ∷ h))) [
+      | true ↦
+          elim (is_none (fault_of limit token older)) as
+          (λ n. f older ≡ f (cond n (token ∷ older) (without token older))) [
+            | true ↦ sym (same older)
+            | false ↦ ap f (sym (other older))
+          ]
+      | false ↦ sym (same h)
+    ]
 
 -- ---- how many are ignored
 

@@ -2,8 +2,8 @@
 -- and after its `q` a payload. The payload ends at the string terminator, as one byte or as ESC and
 -- `\`. CAN or SUB cancels it. Another byte after ESC interrupts it, as another C1 control does,
 -- which is left to the caller. From DEC's device control strings.
-use Rattle.std.specs.Prelude.{ℕ, ◌≡◌, ◌+◌, ◌-◌, ◌==◌, Bool, true, false, ◌||◌, if◌then◌else◌, List}
-use Rattle.std.specs.Prelude.{[], ◌∷◌, length, Option, Some, None}
+use Rattle.std.specs.Prelude.{ℕ, ◌≡◌, ◌+◌, ◌-◌, ◌==◌, Bool, true, false, ◌&&◌, ◌||◌}
+use Rattle.std.specs.Prelude.{if◌then◌else◌, List, [], ◌∷◌, length, Option, Some, None}
 use Rattle.sixel_base.specs.Fault.{Fault, NoIntroducer, Incomplete}
 use Rattle.sixel_base.specs.Bytes.{is_terminator, count, first_terminator}
 use Rattle.sixel_base.specs.Limits.{Limit}
@@ -13,7 +13,7 @@ use Rattle.sixel_base.specs.Payload.{payload_registers}
 use Rattle.sixel_base.specs.declared.status.SixelDcsFeedStatus.{SixelDcsFeedStatus}
 use Rattle.sixel_base.specs.declared.status.SixelDcsFeedStatus.TheVariants.{NeedMoreData, Complete}
 use Rattle.sixel_base.specs.declared.status.SixelDcsFeedStatus.TheVariants.{Cancelled, Interrupted}
-use Rattle.sixel_base.specs.Reach.{reached_area, size}
+use Rattle.sixel_base.specs.Reach.{payload_reached_area, payload_size}
 use Rattle.sixel_base.specs.Decoder.{origin_of}
 use Rattle.sixel_base.specs.declared.state.DecoderState.{DecoderState}
 use Rattle.sixel_base.specs.Header.{Headed, Open, Begun, Faulty, headed, header_text, settings_of}
@@ -144,7 +144,7 @@ dcs_growths bytes = stage_growths (stage bytes)
 abbrev pub stage_reached_area : Limit → Stage → ℕ
 stage_reached_area limit Heading = 0
 stage_reached_area limit (Failing fault) = 0
-stage_reached_area limit (Reading settings payload) = reached_area limit (settled payload)
+stage_reached_area limit (Reading settings payload) = payload_reached_area limit payload
 
 abbrev pub dcs_reached_area : Limit → List ℕ → ℕ
 dcs_reached_area limit bytes = stage_reached_area limit (stage bytes)
@@ -162,7 +162,7 @@ dcs_in_payload bytes = stage_in_payload (stage bytes)
 abbrev pub stage_size : Limit → Stage → Option (ℕ × ℕ)
 stage_size limit Heading = None
 stage_size limit (Failing fault) = None
-stage_size limit (Reading settings payload) = Some (size limit (settled payload))
+stage_size limit (Reading settings payload) = Some (payload_size limit payload)
 
 abbrev pub dcs_size : Limit → List ℕ → Option (ℕ × ℕ)
 dcs_size limit bytes = stage_size limit (stage bytes)
@@ -184,9 +184,15 @@ abbrev pub has_come : Option SixelDcsFeedStatus → Bool
 has_come None = false
 has_come (Some status) = has_ended status
 
--- the fault of finishing a sequence of this status: it has not ended
-abbrev pub end_fault : SixelDcsFeedStatus → Option Fault
-end_fault status = if has_ended status then None else Some Incomplete
+-- whether a DCS sequence that is finished has an image: it has ended, or it is lenient and its
+-- payload has begun
+abbrev pub can_finish : Limit → List ℕ → Bool
+can_finish limit bytes =
+    (limit.lenient && dcs_in_payload bytes) || has_ended (dcs_status bytes)
+
+-- the fault of finishing it otherwise
+abbrev pub end_fault : Limit → List ℕ → Option Fault
+end_fault limit bytes = if can_finish limit bytes then None else Some Incomplete
 
 -- the image of a DCS sequence whose payload has begun, on this decoder
 abbrev pub IsStringImage : DecoderState → Stage → Image → Type 0

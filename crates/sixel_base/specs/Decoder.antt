@@ -1,7 +1,7 @@
 -- What a decoder keeps from one image to the next: its 256 color registers, which the data define,
 -- and what its host has set: whether images are cropped to their raster attributes, and which
 -- pixels one may have. The last two are this library's own.
-use Rattle.std.specs.Prelude.{ℕ, ◌≡◌, min, max, false}
+use Rattle.std.specs.Prelude.{ℕ, ◌≡◌, min, max, Bool, false}
 use Rattle.sixel_base.specs.Settings.{Settings}
 use Rattle.sixel_base.specs.Color.{default_registers}
 use Rattle.sixel_base.specs.Stroke.{Origin}
@@ -48,6 +48,12 @@ with_clip decoder width height = record decoder {
     columns = clip_side_of width;
     rows = clip_side_of height;
   };
+}
+
+-- a decoder of which faulty commands are ignored in images, or not
+abbrev pub with_lenient : DecoderState → Bool → DecoderState
+with_lenient decoder on = record decoder {
+  pixel_limit = record decoder.pixel_limit { lenient = on };
 }
 
 -- what the host has set is the same

@@ -21,4 +21,5 @@ pub mod Header
 pub mod OneShot
 pub mod Dcs
 pub mod DrawnHeight
+pub mod IgnoredCommands
 pub mod inside

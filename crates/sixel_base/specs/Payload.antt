@@ -39,9 +39,13 @@ fed_fault limit bytes = fault limit (settled bytes)
 abbrev pub payload_fault : Limit → List ℕ → Option Fault
 payload_fault limit bytes = fault limit (history_of (front bytes))
 
--- the tokens of it that count
+-- the tokens of it that take effect
 abbrev pub tokens : Limit → List ℕ → History
 tokens limit bytes = effective limit (history_of (front bytes))
+
+-- and those of bytes that have been fed
+abbrev pub settled_tokens : Limit → List ℕ → History
+settled_tokens limit bytes = effective limit (settled bytes)
 
 -- an image apart from where its bytes lie
 pub record Image : Type 0 where

@@ -2,12 +2,13 @@
 -- a sixel that covers a pixel of it, and the painted area is the sum over all rows. The measure is
 -- this library's own, and does not depend on how pixels are stored. Where sixels are drawn, by
 -- DEC's manual, is in Place.
-use Rattle.std.specs.Prelude.{ℕ, ◌+◌, max, min, ◌&&◌, if◌then◌else◌, [], ◌∷◌}
+use Rattle.std.specs.Prelude.{ℕ, ◌+◌, max, min, ◌&&◌, if◌then◌else◌, List, [], ◌∷◌}
 use Rattle.sixel_base.specs.History.{Sixel, History}
 use Rattle.sixel_base.specs.Picture.{is_struck, total}
 use Rattle.sixel_base.specs.Place.{span, across, down, height}
 use Rattle.sixel_base.specs.Clip.{clipped_bits, clipped_height, clipped_width, is_inside}
 use Rattle.sixel_base.specs.Limits.{Limit}
+use Rattle.sixel_base.specs.Payload.{settled_tokens}
 
 -- the greatest right edge of a sixel that covers a pixel of the row, 0 where none does
 abbrev pub row_reach : Limit → History → ℕ → ℕ
@@ -25,3 +26,10 @@ reached_area limit history = total (row_reach limit history) (height history)
 -- the width and the height that a picture has inside the clip so far
 abbrev pub size : Limit → History → ℕ × ℕ
 size limit history = (clipped_width limit history, clipped_height limit history)
+
+-- both of a payload, as far as no further byte can change its tokens
+abbrev pub payload_reached_area : Limit → List ℕ → ℕ
+payload_reached_area limit bytes = reached_area limit (settled_tokens limit bytes)
+
+abbrev pub payload_size : Limit → List ℕ → ℕ × ℕ
+payload_size limit bytes = size limit (settled_tokens limit bytes)

@@ -1,6 +1,7 @@
 -- How much of a chunk a parser has read, and what stays true of the chunk's whole history.
 use Rattle.std.proofs.Common.{◌≡◌, ℕ, zero, suc, ◌+◌, ◌<◌, ◌≤◌, Bool, true, false, cond, List, []}
 use Rattle.std.proofs.Common.{◌∷◌, ◌++◌, refl, ap, sym, ◌∙◌, subst, arith, Some, None, Result, Ok}
+use Rattle.std.proofs.Common.{Option}
 use Rattle.std.proofs.Common.{Err, length, take, drop, drop-cons, get_or, get_or-drop, add-one}
 use Rattle.std.specs.Prelude.{IsTrue, nat_lt, fold, ◌||◌, is_none}
 use Rattle.std.proofs.lemmas.Bool.Decides.{nat_tests}
@@ -12,8 +13,10 @@ use Rattle.sixel_base.specs.Bytes.{is_terminator, is_ignored, is_sixel, before_t
 use Rattle.sixel_base.specs.Bytes.{front, count, first_terminator, is_terminated}
 use Rattle.sixel_base.specs.History.{Token, Sixel, Repeat, Raster, Color, Return, Newline, Skip}
 use Rattle.sixel_base.specs.History.{History, begun, longer, goes_on, read, history_of}
+use Rattle.sixel_base.specs.Lenient.{fault, effective}
 use Rattle.sixel_base.specs.Limits.{Limit}
 use Rattle.sixel_base.specs.Stroke.{Origin}
+use Rattle.sixel_base.proofs.ToleratedTokens.{fault-along, effective-fault}
 use Rattle.sixel_base.specs.Payload.{first_fault, closed, growths, settled, payload_fault}
 use Rattle.sixel_base.specs.Payload.{payload_wants}
 use Rattle.sixel_canvas.specs.declared.drawing.Canvas.{Ghosts}
@@ -23,7 +26,8 @@ use Rattle.sixel_base.specs.Status.{status_of}
 use Rattle.sixel_base.specs.declared.status.SixelFeedStatus.TheVariants.{NeedMoreData, Terminated}
 use Rattle.sixel_decoder.specs.inside.PayloadParser.{Stands, StandsAfter, Decodes, after}
 use Rattle.sixel_decoder.specs.inside.PayloadParser.{settled_after}
-use Rattle.sixel_decoder.specs.inside.Painter.{Shows, Ends}
+use Rattle.sixel_decoder.specs.inside.Lenient.{HasDrawn}
+use Rattle.sixel_decoder.specs.inside.Painter.{Ends}
 use Rattle.sixel_decoder.specs.declared.decoded_payload.DecodedPayload.{DecodedPayload}
 use Rattle.sixel_decoder.specs.inside.Runs.{IsPrintable, IsSixelByte}
 use Rattle.sixel_decoder.proofs.ParserSteps.{Faults-along, fault_stays, growths-closed}
@@ -31,19 +35,24 @@ use Rattle.sixel_decoder.proofs.ParserSteps.{Faults-along, fault_stays, growths-
 -- ---- what is rejected stays rejected
 
 -- a fault of the tokens that are closed is one of all
-pub whole_fault : (limit : Limit) (h : History) (f : Fault) → first_fault limit (closed h) ≡ Some f
+pub whole_first : (limit : Limit) (h : History) (f : Fault) → first_fault limit (closed h) ≡ Some f
     → first_fault limit h ≡ Some f
-whole_fault limit [] f is = is
-whole_fault limit (Sixel _ ∷ h) f is = is
-whole_fault limit (Repeat _ ∷ h) f is = rw is refl
-whole_fault limit (Raster _ ∷ h) f is = rw is refl
-whole_fault limit (Color _ ∷ h) f is = rw is refl
-whole_fault limit (Return ∷ h) f is = is
-whole_fault limit (Newline ∷ h) f is = is
-whole_fault limit (Skip _ ∷ h) f is = is
+whole_first limit [] f is = is
+whole_first limit (Sixel _ ∷ h) f is = is
+whole_first limit (Repeat _ ∷ h) f is = rw is refl
+whole_first limit (Raster _ ∷ h) f is = rw is refl
+whole_first limit (Color _ ∷ h) f is = rw is refl
+whole_first limit (Return ∷ h) f is = is
+whole_first limit (Newline ∷ h) f is = is
+whole_first limit (Skip _ ∷ h) f is = is
+
+pub whole_fault : (limit : Limit) (h : History) (f : Fault) → fault limit (closed h) ≡ Some f
+    → fault limit h ≡ Some f
+whole_fault limit h f = fault-along limit (closed h) h f (whole_first limit h f)
 
 -- a command that goes on closes nothing
-pub closed-longer : (h : History) (byte : ℕ) → goes_on h byte ≡ true → closed (longer h byte) ≡ closed h
+pub closed-longer : (h : History) (byte : ℕ) → goes_on h byte ≡ true → closed (longer h byte)
+    ≡ closed h
 closed-longer [] byte goes = absurd cc
 closed-longer (Sixel _ ∷ h) byte goes = absurd cc
 closed-longer (Repeat _ ∷ h) byte goes = refl
@@ -54,19 +63,19 @@ closed-longer (Newline ∷ h) byte goes = absurd cc
 closed-longer (Skip _ ∷ h) byte goes = absurd cc
 
 pub read_fault : (limit : Limit) (h : History) (byte : ℕ) (f : Fault)
-    → first_fault limit (closed h) ≡ Some f → first_fault limit (closed (read h byte)) ≡ Some f
+    → fault limit (closed h) ≡ Some f → fault limit (closed (read h byte)) ≡ Some f
 read_fault limit h byte f is =
     (elim (goes_on h byte) as
     (λ g.
     goes_on h byte ≡ g
-    → first_fault limit (closed (cond g (longer h byte) (begun byte ∷ h))) ≡ Some f) [
-      | true ↦ λ goes. ap (first_fault limit) (closed-longer h byte goes) ∙ is
+    → fault limit (closed (cond g (longer h byte) (begun byte ∷ h))) ≡ Some f) [
+      | true ↦ λ goes. ap (fault limit) (closed-longer h byte goes) ∙ is
       | false ↦ λ ends. fault_stays limit (begun byte) h f (whole_fault limit h f is)
     ]) refl
 
 pub fold_fault : (limit : Limit) (h : History) (bytes : List ℕ) (f : Fault)
-    → first_fault limit (closed h) ≡ Some f
-    → first_fault limit (closed (fold read h bytes)) ≡ Some f
+    → fault limit (closed h) ≡ Some f
+    → fault limit (closed (fold read h bytes)) ≡ Some f
 fold_fault limit h [] f is = is
 fold_fault limit h (byte ∷ bytes) f is =
     fold_fault limit (read h byte) bytes f (read_fault limit h byte f is)
@@ -118,7 +127,8 @@ front-ignored : (byte : ℕ) (rest : List ℕ) → is_terminator byte ≡ false 
     → front (byte ∷ rest) ≡ front rest
 front-ignored byte rest ends is = rw (ends, is) refl
 
-pub front-carried : (byte : ℕ) (rest : List ℕ) → is_terminator byte ≡ false → is_ignored byte ≡ false
+pub front-carried : (byte : ℕ) (rest : List ℕ) → is_terminator byte ≡ false → is_ignored byte
+    ≡ false
     → front (byte ∷ rest) ≡ byte ∷ front rest
 front-carried byte rest ends is = rw (ends, is) refl
 
@@ -338,7 +348,7 @@ ending read piece more is =
 pub feeds_terminated : {C : Type 0} {canvas : Ghosts C}
     (o : Origin) (parser : PayloadParser C canvas) (h : History) (read : ℕ) (piece : List ℕ)
     → read < length piece → read ≡ count piece
-    → parser.command ≡ Ground → Shows o parser.painter (after h piece)
+    → parser.command ≡ Ground → HasDrawn o parser.painter parser.ignored (after h piece)
     → (read ≡ count piece) × (Terminated (get_or piece read 0) ≡ status_of (first_terminator piece))
     × StandsAfter (is_terminated piece) o parser (after h piece)
 feeds_terminated o parser h read piece more is ground shows =
@@ -348,29 +358,29 @@ feeds_terminated o parser h read piece more is ground shows =
 -- why the open command is rejected there
 pub feeds_refused_end : (e : SixelError) (limit : Limit) (h : History) (read : ℕ) (piece : List ℕ)
     → read < length piece → read ≡ count piece
-    → Faults e false (first_fault limit (after h piece))
+    → Faults e false (fault limit (after h piece))
     → Faults e (nat_lt (growths (closed h)) (growths (settled_after h piece)))
-    (first_fault limit (settled_after h piece))
+    (fault limit (settled_after h piece))
 feeds_refused_end e limit h read piece more is refused =
     let whole : settled_after h piece ≡ after h piece = rw (ending read piece more is) refl in
-    Faults-along e false _ (first_fault limit (after h piece))
-    (first_fault limit (settled_after h piece))
-    (λ never. absurd cc) (λ f found. ap (first_fault limit) whole ∙ found) refused
+    Faults-along e false _ (fault limit (after h piece))
+    (fault limit (settled_after h piece))
+    (λ never. absurd cc) (λ f found. ap (fault limit) whole ∙ found) refused
 
 -- An error before the end of a chunk is the error of its tokens there.
 refused_settled : (e : SixelError) (limit : Limit) (h now next : History) (rest : List ℕ)
     (piece : List ℕ)
     → fold read next rest ≡ after h piece → growths (closed h) ≤ growths (closed now)
     → Faults e (nat_lt (growths (closed now)) (growths (closed next)))
-    (first_fault limit (closed next))
+    (fault limit (closed next))
     → Faults e (nat_lt (growths (closed h)) (growths (settled_after h piece)))
-    (first_fault limit (settled_after h piece))
+    (fault limit (settled_after h piece))
 refused_settled e limit h now next rest piece whole grown refused =
     let last : History = after h piece in
-    let kept : (f : Fault) → first_fault limit (closed next) ≡ Some f
-    → first_fault limit (closed last) ≡ Some f =
+    let kept : (f : Fault) → fault limit (closed next) ≡ Some f
+    → fault limit (closed last) ≡ Some f =
     λ f is.
-    subst (λ (w : History). first_fault limit (closed w) ≡ Some f)
+    subst (λ (w : History). fault limit (closed w) ≡ Some f)
     whole (fold_fault limit next rest f is) in
     let more : growths (closed next) ≤ growths (closed last) =
     subst (λ (w : History). growths (closed next) ≤ growths (closed w))
@@ -378,14 +388,14 @@ refused_settled e limit h now next rest piece whole grown refused =
     (elim (is_terminated piece) as
     (λ t.
     Faults e (nat_lt (growths (closed h)) (growths (cond t last (closed last))))
-    (first_fault limit (cond t last (closed last)))) [
+    (fault limit (cond t last (closed last)))) [
       | true ↦ Faults-along e _ (nat_lt (growths (closed h)) (growths last))
-          (first_fault limit (closed next)) (first_fault limit last)
+          (fault limit (closed next)) (fault limit last)
           (λ may. grind (arith, nat_tests, growths-closed last))
           (λ f is. whole_fault limit last f (kept f is))
           refused
       | false ↦ Faults-along e _ (nat_lt (growths (closed h)) (growths (closed last)))
-          (first_fault limit (closed next)) (first_fault limit (closed last))
+          (fault limit (closed next)) (fault limit (closed last))
           (λ may. grind (arith, nat_tests)) kept refused
     ])
 
@@ -397,9 +407,9 @@ pub feeds_refused : {C : Type 0} {canvas : Ghosts C} (e : SixelError) (o : Origi
     → is_ignored byte ≡ false
     → (r : Reaches o parser h index piece)
     → Faults e (nat_lt (growths (closed r.now)) (growths (closed (read r.now byte))))
-    (first_fault o.pixel_limit (closed (read r.now byte)))
+    (fault o.pixel_limit (closed (read r.now byte)))
     → Faults e (nat_lt (growths (closed h)) (growths (settled_after h piece)))
-    (first_fault o.pixel_limit (settled_after h piece))
+    (fault o.pixel_limit (settled_after h piece))
 feeds_refused e o parser h index piece byte splits ends is r refused =
     let rest : List ℕ = front (drop (index + 1) piece) in
     let next : History = read r.now byte in
@@ -416,9 +426,9 @@ pub feeds_refused_printable : {C : Type 0} {canvas : Ghosts C} (e : SixelError) 
     → (r : Reaches o parser h index piece)
     → Faults e
     (nat_lt (growths (closed r.now)) (growths (closed (read r.now (get_or piece index 0)))))
-    (first_fault o.pixel_limit (closed (read r.now (get_or piece index 0))))
+    (fault o.pixel_limit (closed (read r.now (get_or piece index 0))))
     → Faults e (nat_lt (growths (closed h)) (growths (settled_after h piece)))
-    (first_fault o.pixel_limit (settled_after h piece))
+    (fault o.pixel_limit (settled_after h piece))
 feeds_refused_printable e o parser h index piece lt is r refused =
     let byte : ℕ = get_or piece index 0 in
     let ends : is_terminator byte ≡ false = grind (arith, nat_tests, is.0, is.1) in
@@ -435,11 +445,11 @@ first_ahead index piece bytes is =
 
 -- an error of a payload while it is fed is its error at the end
 pub settled_fault : (limit : Limit) (bytes : List ℕ) (f : Fault)
-    → first_fault limit (settled bytes) ≡ Some f → payload_fault limit bytes ≡ Some f
+    → fault limit (settled bytes) ≡ Some f → payload_fault limit bytes ≡ Some f
 settled_fault limit bytes f is =
     (elim (is_terminated bytes) as
     (λ t.
-    first_fault limit (cond t (history_of (front bytes)) (closed (history_of (front bytes))))
+    fault limit (cond t (history_of (front bytes)) (closed (history_of (front bytes))))
     ≡ Some f → payload_fault limit bytes ≡ Some f) [
       | true ↦ λ found. found
       | false ↦ λ found. whole_fault limit (history_of (front bytes)) f found
@@ -454,21 +464,24 @@ or_left true b is = refl
 or_left false b is = absurd cc
 
 pub payload_refused : (e : SixelError) (limit : Limit) (bytes : List ℕ)
-    → Faults e (nat_lt 0 (growths (settled bytes))) (first_fault limit (settled bytes))
+    → Faults e (nat_lt 0 (growths (settled bytes))) (fault limit (settled bytes))
     → Faults e (payload_wants limit bytes) (payload_fault limit bytes)
 payload_refused e limit bytes refused =
     Faults-along e (nat_lt 0 (growths (settled bytes))) (payload_wants limit bytes)
-    (first_fault limit (settled bytes)) (payload_fault limit bytes)
+    (fault limit (settled bytes)) (payload_fault limit bytes)
     (λ may. or_right (is_none (payload_fault limit bytes)) (nat_lt 0 (growths (settled bytes))) may)
     (λ f is. settled_fault limit bytes f is) refused
 
 -- what is rejected at the end of a payload
 pub payload_ends : (result : Result DecodedPayload SixelError) (o : Origin) (bytes : List ℕ)
-    → Ends result o (history_of (front bytes)) → Decodes result o bytes
-payload_ends (Ok picture) o bytes is = is
+    → Ends result o (effective o.pixel_limit (history_of (front bytes))) → Decodes result o bytes
+payload_ends (Ok picture) o bytes is =
+    (sym (effective-fault o.pixel_limit (history_of (front bytes))) ∙ is.0, is.1, is.2, is.3, is.4)
 payload_ends (Err e) o bytes refused =
     Faults-along e (is_none (payload_fault o.pixel_limit bytes)) (payload_wants o.pixel_limit bytes)
     (payload_fault o.pixel_limit bytes) (payload_fault o.pixel_limit bytes)
     (λ may.
     or_left (is_none (payload_fault o.pixel_limit bytes)) (nat_lt 0 (growths (settled bytes))) may)
-    (λ f is. is) refused
+    (λ f is. is)
+    (subst (λ (w : Option Fault). Faults e (is_none w) w)
+    (effective-fault o.pixel_limit (history_of (front bytes))) refused)

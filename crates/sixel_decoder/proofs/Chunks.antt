@@ -10,15 +10,17 @@ use Rattle.sixel_base.specs.Bytes.{is_terminator, is_ignored, front, carrying, b
 use Rattle.sixel_base.specs.Bytes.{count, first_terminator, is_terminated}
 use Rattle.sixel_base.specs.History.{Sixel, Repeat, Raster, Color, Return, Newline, Skip, History}
 use Rattle.sixel_base.specs.History.{goes_on, read, history_of}
+use Rattle.sixel_base.specs.Lenient.{fault}
 use Rattle.sixel_base.specs.Stroke.{Origin}
-use Rattle.sixel_base.specs.Payload.{first_fault, closed, growths, settled, fed_fault}
+use Rattle.sixel_base.proofs.ToleratedTokens.{effective-fault}
+use Rattle.sixel_base.specs.Payload.{closed, growths, settled, fed_fault}
 use Rattle.sixel_base.specs.declared.status.SixelFeedResult.{SixelFeedResult}
 use Rattle.sixel_canvas.specs.declared.drawing.Canvas.{Ghosts}
 use Rattle.sixel_decoder.specs.declared.payload_parser.PayloadParser.{PayloadParser}
 use Rattle.sixel_decoder.specs.declared.payload_parser.OpenCommand.{OpenCommand}
 use Rattle.sixel_decoder.specs.declared.payload_parser.OpenCommand.TheVariants.{Ground, InRepeat}
 use Rattle.sixel_decoder.specs.declared.payload_parser.OpenCommand.TheVariants.{InRaster, InColor}
-use Rattle.sixel_decoder.specs.inside.Painter.{Shows}
+use Rattle.sixel_decoder.specs.inside.Lenient.{HasDrawn}
 use Rattle.sixel_base.specs.Status.{status_of}
 use Rattle.sixel_decoder.specs.inside.PayloadParser.{StandsIn, StandsAfter, Feeds, after}
 use Rattle.sixel_decoder.specs.inside.PayloadParser.{settled_after}
@@ -131,19 +133,24 @@ closed-ended (Skip _ ∷ h) ended = refl
 -- what was drawn is what is closed
 stands_shown : {C : Type 0} {canvas : Ghosts C} (command : OpenCommand) (o : Origin)
     (parser : PayloadParser C canvas) (h : History)
-    → StandsIn command o parser h → Shows o parser.painter (closed h)
+    → StandsIn command o parser h → HasDrawn o parser.painter parser.ignored (closed h)
 stands_shown Ground o parser h is =
-    subst (λ (w : History). Shows o parser.painter w) (sym (closed-ended h is.ended)) is.shows
+    subst (λ (w : History). HasDrawn o parser.painter parser.ignored w)
+    (sym (closed-ended h is.ended)) is.shows
 stands_shown InRepeat o parser h is =
-    subst (λ (w : History). Shows o parser.painter (closed w)) (sym is.newest) is.shows
+    subst (λ (w : History). HasDrawn o parser.painter parser.ignored (closed w))
+    (sym is.newest) is.shows
 stands_shown InRaster o parser h is =
-    subst (λ (w : History). Shows o parser.painter (closed w)) (sym is.newest) is.shows
+    subst (λ (w : History). HasDrawn o parser.painter parser.ignored (closed w))
+    (sym is.newest) is.shows
 stands_shown InColor o parser h is =
-    subst (λ (w : History). Shows o parser.painter (closed w)) (sym is.newest) is.shows
+    subst (λ (w : History). HasDrawn o parser.painter parser.ignored (closed w))
+    (sym is.newest) is.shows
 
 pub shown_after : {C : Type 0} {canvas : Ghosts C} (ended : Bool) (o : Origin)
     (parser : PayloadParser C canvas) (h : History)
-    → StandsAfter ended o parser h → Shows o parser.painter (cond ended h (closed h))
+    → StandsAfter ended o parser h → HasDrawn o parser.painter parser.ignored
+    (cond ended h (closed h))
 shown_after true o parser h is = is.1
 shown_after false o parser h is = stands_shown parser.command o parser h is
 
@@ -186,7 +193,9 @@ feeds_goes_on (Ok fed) o parser before piece none fed_to =
       omega (arith, fed_to.0, count-append before piece none),
       fed_to.1 ∙ ap status_of (sym first),
       (refl, stands),
-      (shown_after (is_terminated bytes) o parser (history_of (front bytes)) stands).faultless,
+      sym (effective-fault o.pixel_limit (settled bytes))
+          ∙ (shown_after (is_terminated bytes) o parser
+          (history_of (front bytes)) stands).shows.faultless,
     )
 feeds_goes_on (Err e) o parser before piece none refused =
     subst (λ (w : History).
@@ -195,7 +204,7 @@ feeds_goes_on (Err e) o parser before piece none refused =
     (sym (settled_open before none))
     (subst (λ (w : History).
     Faults e (nat_lt (growths (closed (history_of (front before)))) (growths w))
-    (first_fault o.pixel_limit w))
+    (fault o.pixel_limit w))
     (settled_whole before piece none) refused)
 
 -- once a payload has ended, its bytes stay what they are
@@ -216,16 +225,20 @@ ended_goes_on o parser before piece t is =
       omega (arith, ap length same),
       ap status_of (sym first),
       (refl, stands),
-      (shown_after (is_terminated bytes) o parser (history_of (front bytes)) stands).faultless,
+      sym (effective-fault o.pixel_limit (settled bytes))
+          ∙ (shown_after (is_terminated bytes) o parser
+          (history_of (front bytes)) stands).shows.faultless,
     )
 
 -- what a parser has drawn is what no further byte can change
 pub shown_settled : {C : Type 0} {canvas : Ghosts C} (o : Origin)
     (parser : PayloadParser C canvas) (terminator : Option ℕ) (bytes : List ℕ)
-    → HasRead (Some parser) o terminator bytes → Shows o parser.painter (settled bytes)
+    → HasRead (Some parser) o terminator bytes → HasDrawn o parser.painter parser.ignored
+    (settled bytes)
 shown_settled o parser terminator bytes is =
     let h : History = history_of (front bytes) in
-    subst (λ (w : Option ℕ). Shows o parser.painter (cond (is_some w) h (closed h))) (sym is.0)
+    subst (λ (w : Option ℕ). HasDrawn o parser.painter parser.ignored
+    (cond (is_some w) h (closed h))) (sym is.0)
     (shown_after (is_some terminator) o parser h is.1)
 
 -- after a terminator a chunk changes nothing

@@ -8,10 +8,12 @@ use Rattle.sixel_base.specs.Clip.{clipped_bits, is_inside}
 use Rattle.sixel_base.specs.DrawnHeight.{drawn_height, lowered, payload_drawn_height, set_rows}
 use Rattle.sixel_base.specs.History.{Sixel, Repeat, Raster, Color, Return, Newline, Skip, History}
 use Rattle.sixel_base.specs.History.{history_of}
+use Rattle.sixel_base.specs.Lenient.{effective}
 use Rattle.sixel_base.specs.Limits.{Limit}
 use Rattle.sixel_base.specs.Payload.{closed, settled}
 use Rattle.sixel_base.specs.Place.{across, down, height}
 use Rattle.sixel_decoder.specs.inside.Runs.{most_rows}
+use Rattle.sixel_base.proofs.ToleratedTokens.{effective-same}
 use Rattle.sixel_decoder.proofs.SetRows.{lowered-again, set_rows_few}
 use Rattle.sixel_decoder.proofs.SixelRuns.{with_sixels, IsInside, IsInside-sixel}
 
@@ -83,23 +85,27 @@ drawn_within limit (Newline ∷ h) = drawn_within limit h
 drawn_within limit (Skip _ ∷ h) = drawn_within limit h
 
 drawn_height-closed : (limit : Limit) (h : History)
-    → drawn_height limit (closed h) ≡ drawn_height limit h
+    → drawn_height limit (effective limit (closed h)) ≡ drawn_height limit (effective limit h)
 drawn_height-closed limit [] = refl
 drawn_height-closed limit (Sixel _ ∷ h) = refl
-drawn_height-closed limit (Repeat _ ∷ h) = refl
-drawn_height-closed limit (Raster _ ∷ h) = refl
-drawn_height-closed limit (Color _ ∷ h) = refl
+drawn_height-closed limit (Repeat t ∷ h) =
+    effective-same (drawn_height limit) limit (Repeat t) h (λ w. refl) (λ w. refl)
+drawn_height-closed limit (Raster t ∷ h) =
+    effective-same (drawn_height limit) limit (Raster t) h (λ w. refl) (λ w. refl)
+drawn_height-closed limit (Color t ∷ h) =
+    effective-same (drawn_height limit) limit (Color t) h (λ w. refl) (λ w. refl)
 drawn_height-closed limit (Return ∷ h) = refl
 drawn_height-closed limit (Newline ∷ h) = refl
 drawn_height-closed limit (Skip _ ∷ h) = refl
 
 -- an open command sets no pixel
 pub drawn_height-settled : (limit : Limit) (bytes : List ℕ)
-    → drawn_height limit (settled bytes) ≡ payload_drawn_height limit bytes
+    → drawn_height limit (effective limit (settled bytes)) ≡ payload_drawn_height limit bytes
 drawn_height-settled limit bytes =
     let h : History = history_of (front bytes) in
     elim (is_terminated bytes) as
-    (λ t. drawn_height limit (cond t h (closed h)) ≡ drawn_height limit h) [
+    (λ t. drawn_height limit (effective limit (cond t h (closed h)))
+    ≡ drawn_height limit (effective limit h)) [
       | true ↦ refl
       | false ↦ drawn_height-closed limit h
     ]

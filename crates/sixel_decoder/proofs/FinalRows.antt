@@ -1,20 +1,22 @@
 -- Final rows stay: no token that follows draws above the band of the next sixel.
 use Rattle.std.proofs.Common.{◌≡◌, ℕ, ◌+◌, ◌<◌, ◌≤◌, true, false, cond, List, [], ◌∷◌, ◌++◌}
 use Rattle.std.proofs.Common.{refl, ap, sym, ◌∙◌, subst, arith, Option, Some, None}
-use Rattle.std.specs.Prelude.{fold, nat_le, nat_lt, ◌&&◌, if◌then◌else◌}
+use Rattle.std.specs.Prelude.{fold, is_none, nat_le, nat_lt, ◌&&◌, if◌then◌else◌}
 use Rattle.std.proofs.lemmas.Bool.Decides.{nat_tests}
 use Rattle.sixel_base.specs.Bytes.{front, first_terminator}
 use Rattle.sixel_base.specs.Clip.{clipped_pixel, is_pixel_inside}
 use Rattle.sixel_base.specs.Dcs.{Stage, Heading, Failing, Reading, stage}
+use Rattle.sixel_base.specs.Lenient.{effective, tolerated, with_tolerated, without}
 use Rattle.sixel_base.specs.Limits.{Limit}
 use Rattle.sixel_base.specs.History.{Token, Sixel, Repeat, Raster, Color, Return, Newline, Skip}
 use Rattle.sixel_base.specs.History.{History, begun, longer, goes_on, read, history_of}
-use Rattle.sixel_base.specs.Payload.{closed, settled}
+use Rattle.sixel_base.specs.Payload.{closed, settled, settled_tokens, tokens, fault_of}
 use Rattle.sixel_base.specs.Picture.{covers}
 use Rattle.sixel_base.specs.Place.{across, span, down, height}
 use Rattle.sixel_base.specs.Settings.{Settings}
 use Rattle.sixel_base.specs.Stroke.{Origin, background, pixel}
-use Rattle.sixel_decoder.specs.FinalRows.{final_rows, stage_final_rows, dcs_final_rows}
+use Rattle.sixel_decoder.specs.FinalRows.{payload_final_rows, stage_final_rows, dcs_final_rows}
+use Rattle.sixel_base.proofs.ToleratedTokens.{effective-same}
 use Rattle.sixel_decoder.proofs.ChunkReads.{closed-longer}
 use Rattle.sixel_decoder.proofs.Finality.{history_more, settled_open, of_settled, settled_ended}
 use Rattle.sixel_decoder.proofs.Finality.{front_ended}
@@ -79,44 +81,76 @@ continues_token (Skip byte) older newer is = record {
   pixels = is.pixels;
 }
 
+-- one that is ignored
+continues_without : (token : Token) (older newer : History) → Continues older newer
+    → Continues older (without token newer)
+continues_without (Sixel bits) older newer is = continues_token (Repeat []) older newer is
+continues_without (Repeat t) older newer is = is
+continues_without (Raster t) older newer is = is
+continues_without (Color t) older newer is = is
+continues_without Return older newer is = is
+continues_without Newline older newer is = is
+continues_without (Skip byte) older newer is = is
+
+-- one of which only the effect counts
+continues_more : (limit : Limit) (token : Token) (older h : History)
+    → Continues older (effective limit h) → Continues older (effective limit (token ∷ h))
+continues_more limit token older h =
+    let kept : History = tolerated limit h in
+    elim limit.lenient as
+    (λ t. Continues older (cond t kept h)
+    → Continues older (cond t (with_tolerated limit token kept) (token ∷ h))) [
+      | true ↦ λ is.
+          elim (is_none (fault_of limit token kept)) as
+          (λ n. Continues older (cond n (token ∷ kept) (without token kept))) [
+            | true ↦ continues_token token older kept is
+            | false ↦ continues_without token older kept is
+          ]
+      | false ↦ λ is. continues_token token older h is
+    ]
+
 -- all tokens continue what the closed ones do
-continues_whole : (older h : History) → Continues older (closed h) → Continues older h
-continues_whole older [] is = is
-continues_whole older (Sixel b ∷ h) is = is
-continues_whole older (Repeat t ∷ h) is = continues_token (Repeat t) older h is
-continues_whole older (Raster t ∷ h) is = continues_token (Raster t) older h is
-continues_whole older (Color t ∷ h) is = continues_token (Color t) older h is
-continues_whole older (Return ∷ h) is = is
-continues_whole older (Newline ∷ h) is = is
-continues_whole older (Skip b ∷ h) is = is
+continues_whole : (limit : Limit) (older h : History)
+    → Continues older (effective limit (closed h)) → Continues older (effective limit h)
+continues_whole limit older [] is = is
+continues_whole limit older (Sixel b ∷ h) is = is
+continues_whole limit older (Repeat t ∷ h) is = continues_more limit (Repeat t) older h is
+continues_whole limit older (Raster t ∷ h) is = continues_more limit (Raster t) older h is
+continues_whole limit older (Color t ∷ h) is = continues_more limit (Color t) older h is
+continues_whole limit older (Return ∷ h) is = is
+continues_whole limit older (Newline ∷ h) is = is
+continues_whole limit older (Skip b ∷ h) is = is
 
 -- the closed ones of a history with one more token
-continues_closed : (token : Token) (older h : History) → Continues older h
-    → Continues older (closed (token ∷ h))
-continues_closed (Sixel b) older h is = continues_token (Sixel b) older h is
-continues_closed (Repeat t) older h is = is
-continues_closed (Raster t) older h is = is
-continues_closed (Color t) older h is = is
-continues_closed Return older h is = continues_token Return older h is
-continues_closed Newline older h is = continues_token Newline older h is
-continues_closed (Skip b) older h is = continues_token (Skip b) older h is
+continues_closed : (limit : Limit) (token : Token) (older h : History)
+    → Continues older (effective limit h) → Continues older (effective limit (closed (token ∷ h)))
+continues_closed limit (Sixel b) older h is = continues_more limit (Sixel b) older h is
+continues_closed limit (Repeat t) older h is = is
+continues_closed limit (Raster t) older h is = is
+continues_closed limit (Color t) older h is = is
+continues_closed limit Return older h is = continues_more limit Return older h is
+continues_closed limit Newline older h is = continues_more limit Newline older h is
+continues_closed limit (Skip b) older h is = continues_more limit (Skip b) older h is
 
-continues_read : (older h : History) (byte : ℕ) → Continues older (closed h)
-    → Continues older (closed (read h byte))
-continues_read older h byte is =
+continues_read : (limit : Limit) (older h : History) (byte : ℕ)
+    → Continues older (effective limit (closed h))
+    → Continues older (effective limit (closed (read h byte)))
+continues_read limit older h byte is =
     (elim (goes_on h byte) as
     (λ g. goes_on h byte ≡ g
-    → Continues older (closed (cond g (longer h byte) (begun byte ∷ h)))) [
-      | true ↦ λ goes. subst (λ (w : History). Continues older w)
+    → Continues older (effective limit (closed (cond g (longer h byte) (begun byte ∷ h))))) [
+      | true ↦ λ goes. subst (λ (w : History). Continues older (effective limit w))
           (sym (closed-longer h byte goes)) is
-      | false ↦ λ ends. continues_closed (begun byte) older h (continues_whole older h is)
+      | false ↦ λ ends.
+          continues_closed limit (begun byte) older h (continues_whole limit older h is)
     ]) refl
 
-continues_fold : (older h : History) (bytes : List ℕ) → Continues older (closed h)
-    → Continues older (closed (fold read h bytes))
-continues_fold older h [] is = is
-continues_fold older h (byte ∷ bytes) is =
-    continues_fold older (read h byte) bytes (continues_read older h byte is)
+continues_fold : (limit : Limit) (older h : History) (bytes : List ℕ)
+    → Continues older (effective limit (closed h))
+    → Continues older (effective limit (closed (fold read h bytes)))
+continues_fold limit older h [] is = is
+continues_fold limit older h (byte ∷ bytes) is =
+    continues_fold limit older (read h byte) bytes (continues_read limit older h byte is)
 
 continues_self : (h : History) → Continues h h
 continues_self h = record {
@@ -126,45 +160,59 @@ continues_self h = record {
 }
 
 -- the tokens of a payload so far, and those once more bytes came: settled or all
-record GoesOn (bytes more : List ℕ) : Type 0 where
-  some : Continues (settled bytes) (settled (bytes ++ more))
-  all : Continues (settled bytes) (history_of (front (bytes ++ more)))
+record GoesOn (limit : Limit) (bytes more : List ℕ) : Type 0 where
+  some : Continues (settled_tokens limit bytes) (settled_tokens limit (bytes ++ more))
+  all : Continues (settled_tokens limit bytes) (tokens limit (bytes ++ more))
 
-goes_on_by : (bytes more : List ℕ) (o : Option ℕ) → first_terminator bytes ≡ o → GoesOn bytes more
-goes_on_by bytes more None none =
+goes_on_by : (limit : Limit) (bytes more : List ℕ) (o : Option ℕ) → first_terminator bytes ≡ o
+    → GoesOn limit bytes more
+goes_on_by limit bytes more None none =
     let h : History = history_of (front bytes) in
     let next : History = history_of (front (bytes ++ more)) in
-    let closed_on : Continues (closed h) (closed next) =
-    subst (λ (w : History). Continues (closed h) (closed w)) (sym (history_more bytes more none))
-    (continues_fold (closed h) h (front more) (continues_self (closed h))) in
-    let whole_on : Continues (closed h) next = continues_whole (closed h) next closed_on in
-    let start : closed h ≡ settled bytes = sym (settled_open bytes none) in
+    let older : History = effective limit (closed h) in
+    let closed_on : Continues older (effective limit (closed next)) =
+    subst (λ (w : History). Continues older (effective limit (closed w)))
+    (sym (history_more bytes more none))
+    (continues_fold limit older h (front more) (continues_self older)) in
+    let whole_on : Continues older (effective limit next) =
+    continues_whole limit older next closed_on in
+    let start : older ≡ settled_tokens limit bytes =
+    ap (effective limit) (sym (settled_open bytes none)) in
     record {
-      some = subst (λ (w : History). Continues w (settled (bytes ++ more))) start
-          (of_settled (Continues (closed h)) (bytes ++ more) whole_on closed_on);
-      all = subst (λ (w : History). Continues w next) start whole_on;
+      some = subst (λ (w : History). Continues w (settled_tokens limit (bytes ++ more))) start
+          (of_settled (λ (w : History). Continues older (effective limit w))
+          (bytes ++ more) whole_on
+          closed_on);
+      all = subst (λ (w : History). Continues w (effective limit next)) start whole_on;
     }
-goes_on_by bytes more (Some t) some =
+goes_on_by limit bytes more (Some t) some =
+    let older : History = settled_tokens limit bytes in
     let all : settled bytes ≡ history_of (front bytes) = rw some refl in
     record {
-      some = subst (λ (w : History). Continues (settled bytes) w)
-          (sym (settled_ended bytes more t some)) (continues_self (settled bytes));
-      all = subst (λ (w : History). Continues (settled bytes) w)
-          (all ∙ ap history_of (sym (front_ended bytes more t some)))
-          (continues_self (settled bytes));
+      some = subst (λ (w : History). Continues older (effective limit w))
+          (sym (settled_ended bytes more t some)) (continues_self older);
+      all = subst (λ (w : History). Continues older (effective limit w))
+          (all ∙ ap history_of (sym (front_ended bytes more t some))) (continues_self older);
     }
 
-goes_on_more : (bytes more : List ℕ) → GoesOn bytes more
-goes_on_more bytes more = goes_on_by bytes more (first_terminator bytes) refl
+goes_on_more : (limit : Limit) (bytes more : List ℕ) → GoesOn limit bytes more
+goes_on_more limit bytes more = goes_on_by limit bytes more (first_terminator bytes) refl
 
 -- no open command draws
 pixel-closed : (origin : Origin) (h : History) (column row : ℕ)
-    → pixel origin (closed h) column row ≡ pixel origin h column row
+    → pixel origin (effective origin.pixel_limit (closed h)) column row
+    ≡ pixel origin (effective origin.pixel_limit h) column row
 pixel-closed origin [] column row = refl
 pixel-closed origin (Sixel b ∷ h) column row = refl
-pixel-closed origin (Repeat t ∷ h) column row = refl
-pixel-closed origin (Raster t ∷ h) column row = refl
-pixel-closed origin (Color t ∷ h) column row = refl
+pixel-closed origin (Repeat t ∷ h) column row =
+    effective-same (λ (w : History). pixel origin w column row) origin.pixel_limit (Repeat t) h
+    (λ w. refl) (λ w. refl)
+pixel-closed origin (Raster t ∷ h) column row =
+    effective-same (λ (w : History). pixel origin w column row) origin.pixel_limit (Raster t) h
+    (λ w. refl) (λ w. refl)
+pixel-closed origin (Color t ∷ h) column row =
+    effective-same (λ (w : History). pixel origin w column row) origin.pixel_limit (Color t) h
+    (λ w. refl) (λ w. refl)
 pixel-closed origin (Return ∷ h) column row = refl
 pixel-closed origin (Newline ∷ h) column row = refl
 pixel-closed origin (Skip b ∷ h) column row = refl
@@ -181,28 +229,32 @@ same_clipped origin h k column row =
 
 -- a picture shows the settled tokens
 pub pixel_settled : (origin : Origin) (bytes : List ℕ) (column row : ℕ)
-    → clipped_pixel origin (settled bytes) column row
-    ≡ clipped_pixel origin (history_of (front bytes)) column row
+    → clipped_pixel origin (settled_tokens origin.pixel_limit bytes) column row
+    ≡ clipped_pixel origin (tokens origin.pixel_limit bytes) column row
 pixel_settled origin bytes column row =
     let h : History = history_of (front bytes) in
-    of_settled (λ k. clipped_pixel origin k column row ≡ clipped_pixel origin h column row)
-    bytes refl (same_clipped origin (closed h) h column row (pixel-closed origin h column row))
+    let limit : Limit = origin.pixel_limit in
+    of_settled (λ k. clipped_pixel origin (effective limit k) column row
+    ≡ clipped_pixel origin (effective limit h) column row) bytes refl
+    (same_clipped origin (effective limit (closed h)) (effective limit h) column row
+    (pixel-closed origin h column row))
 
 -- final rows never become fewer
 pub final_rows_stay : (limit : Limit) (bytes more : List ℕ)
-    → final_rows limit (settled bytes) ≤ final_rows limit (settled (bytes ++ more))
+    → payload_final_rows limit bytes ≤ payload_final_rows limit (bytes ++ more)
 final_rows_stay limit bytes more =
-    let on = (goes_on_more bytes more).some in
+    let on = (goes_on_more limit bytes more).some in
     omega (arith, on.lower, on.taller)
 
 -- they have the same pixels, whatever bytes follow
 pub final_pixels_stay : (origin : Origin) (bytes more : List ℕ) (column row : ℕ)
-    → row < final_rows origin.pixel_limit (settled bytes)
-    → clipped_pixel origin (history_of (front (bytes ++ more))) column row
-    ≡ clipped_pixel origin (history_of (front bytes)) column row
+    → row < payload_final_rows origin.pixel_limit bytes
+    → clipped_pixel origin (tokens origin.pixel_limit (bytes ++ more)) column row
+    ≡ clipped_pixel origin (tokens origin.pixel_limit bytes) column row
 final_pixels_stay origin bytes more column row final =
-    same_clipped origin (history_of (front (bytes ++ more))) (settled bytes) column row
-    ((goes_on_more bytes more).all.pixels origin column row (omega (arith, final)))
+    let limit : Limit = origin.pixel_limit in
+    same_clipped origin (tokens limit (bytes ++ more)) (settled_tokens limit bytes) column row
+    ((goes_on_more limit bytes more).all.pixels origin column row (omega (arith, final)))
     ∙ pixel_settled origin bytes column row
 
 -- ---- a DCS sequence

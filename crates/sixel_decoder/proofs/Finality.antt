@@ -11,13 +11,14 @@ use Rattle.sixel_base.specs.Settings.{Settings}
 use Rattle.sixel_base.specs.Stroke.{Origin, registers}
 use Rattle.sixel_base.specs.Decoder.{origin_of}
 use Rattle.sixel_base.specs.declared.state.DecoderState.{DecoderState}
-use Rattle.sixel_base.specs.Payload.{Image, image_of, first_fault, closed, settled, fed_fault}
+use Rattle.sixel_base.specs.Payload.{Image, image_of, closed, settled, fed_fault}
 use Rattle.sixel_base.specs.Payload.{growths, payload_image, payload_registers}
 use Rattle.sixel_base.specs.declared.status.SixelDcsFeedStatus.TheVariants.{NeedMoreData}
 use Rattle.sixel_base.specs.Dcs.{Stage, Heading, Failing, Reading, stage, after_terminator}
 use Rattle.sixel_base.specs.Dcs.{end_status, payload_status_by, stage_status, stage_count}
 use Rattle.sixel_base.specs.Dcs.{stage_fault, stage_growths, dcs_status, dcs_count, dcs_fault}
 use Rattle.sixel_base.specs.Dcs.{dcs_growths, has_ended}
+use Rattle.sixel_base.specs.Lenient.{effective, fault}
 use Rattle.sixel_base.specs.Limits.{Limit}
 use Rattle.sixel_base.specs.OneShot.{Payload, found, found_fault, IsFoundImage, AreFoundRegisters}
 use Rattle.sixel_decoder.proofs.ParserSteps.{growths-closed}
@@ -66,11 +67,11 @@ of_settled P bytes all some =
 
 fault_more : (limit : Limit) (h : History) (bytes more : List ℕ) (f : Fault)
     → history_of (front (bytes ++ more)) ≡ fold read h (front more)
-    → first_fault limit (closed h) ≡ Some f → fed_fault limit (bytes ++ more) ≡ Some f
+    → fault limit (closed h) ≡ Some f → fed_fault limit (bytes ++ more) ≡ Some f
 fault_more limit h bytes more f goes is =
-    let some : first_fault limit (closed (history_of (front (bytes ++ more)))) ≡ Some f =
-    ap (λ w. first_fault limit (closed w)) goes ∙ fold_fault limit h (front more) f is in
-    of_settled (λ w. first_fault limit w ≡ Some f)
+    let some : fault limit (closed (history_of (front (bytes ++ more)))) ≡ Some f =
+    ap (λ w. fault limit (closed w)) goes ∙ fold_fault limit h (front more) f is in
+    of_settled (λ w. fault limit w ≡ Some f)
     (bytes ++ more) (whole_fault limit (history_of (front (bytes ++ more))) f some) some
 
 fault_by : (limit : Limit) (bytes more : List ℕ) (f : Fault) (o : Option ℕ)
@@ -78,9 +79,9 @@ fault_by : (limit : Limit) (bytes more : List ℕ) (f : Fault) (o : Option ℕ)
     → fed_fault limit bytes ≡ Some f → fed_fault limit (bytes ++ more) ≡ Some f
 fault_by limit bytes more f None none is =
     fault_more limit (history_of (front bytes)) bytes more f (history_more bytes more none)
-    (ap (first_fault limit) (sym (settled_open bytes none)) ∙ is)
+    (ap (fault limit) (sym (settled_open bytes none)) ∙ is)
 fault_by limit bytes more f (Some t) some is =
-    ap (first_fault limit) (settled_ended bytes more t some) ∙ is
+    ap (fault limit) (settled_ended bytes more t some) ∙ is
 
 -- a payload that was rejected stays rejected
 pub fed_fault_stays : (limit : Limit) (bytes more : List ℕ) (f : Fault)
@@ -116,12 +117,14 @@ growths_stay bytes more = growths_by bytes more (first_terminator bytes) refl
 image_more : (origin : Origin) (bytes more : List ℕ) (t : ℕ) → first_terminator bytes ≡ Some t
     → payload_image origin (bytes ++ more) ≡ payload_image origin bytes
 image_more origin bytes more t is =
-    ap (λ w. image_of origin (history_of w)) (front_ended bytes more t is)
+    ap (λ w. image_of origin (effective origin.pixel_limit (history_of w)))
+    (front_ended bytes more t is)
 
 registers_more : (origin : Origin) (bytes more : List ℕ) (t : ℕ) → first_terminator bytes ≡ Some t
     → payload_registers origin (bytes ++ more) ≡ payload_registers origin bytes
 registers_more origin bytes more t is =
-    ap (λ w. registers origin.registers (history_of w)) (front_ended bytes more t is)
+    ap (λ w. registers origin.registers (effective origin.pixel_limit (history_of w)))
+    (front_ended bytes more t is)
 
 -- ---- a DCS sequence
 
@@ -205,7 +208,7 @@ pub dcs_fault_ended : (limit : Limit) (bytes more : List ℕ) → has_ended (dcs
 dcs_fault_ended limit bytes more ended =
     let e = ends_in bytes ended in
     ap (stage_fault limit) (reads_on bytes more e)
-    ∙ (ap (first_fault limit) (settled_ended e.payload more e.ends.terminator e.ends.first)
+    ∙ (ap (fault limit) (settled_ended e.payload more e.ends.terminator e.ends.first)
     ∙ sym (ap (stage_fault limit) e.reading))
 
 pub dcs_growths_ended : (bytes more : List ℕ) → has_ended (dcs_status bytes) ≡ true
@@ -252,7 +255,7 @@ found_fault_ended limit bytes more ended =
     ap (found_fault limit)
     (found_reading (bytes ++ more) e.settings (e.payload ++ more) (reads_on bytes more e))
     ∙ (ap
-    (λ w. first_fault limit (history_of w))
+    (λ w. fault limit (history_of w))
     (front_ended e.payload more e.ends.terminator e.ends.first)
     ∙ sym (ap (found_fault limit) (found_reading bytes e.settings e.payload e.reading)))
 

@@ -5,6 +5,8 @@ pub mod BandCosts
 pub mod ParserSteps
 pub mod OpenCommands
 pub mod ChunkReads
+pub mod TokenFaults
+pub mod LenientTokens
 pub mod Chunks
 pub mod HeaderReads
 pub mod Sixels
@@ -18,6 +20,7 @@ pub mod DcsPayloads
 pub mod Finality
 pub mod FinalRows
 pub mod Sessions
+pub mod DcsFinishes
 pub mod Feeds
 pub mod Lanes
 pub mod SixelRuns

@@ -17,7 +17,7 @@ use Rattle.sixel_decoder.specs.declared.payload_parser.PayloadParser.{PayloadPar
 use Rattle.sixel_decoder.specs.declared.payload_parser.OpenCommand.{OpenCommand}
 use Rattle.sixel_decoder.specs.declared.payload_parser.OpenCommand.TheVariants.{InRepeat, InColor}
 use Rattle.sixel_decoder.specs.inside.PayloadParser.{IsOpen, Stands, StandsIn}
-use Rattle.sixel_decoder.specs.inside.Painter.{Shows}
+use Rattle.sixel_decoder.specs.inside.Lenient.{HasDrawn}
 
 abbrev pub AreDigits : List ℕ → Type 0
 AreDigits bytes = (k : ℕ) → k < length bytes → IsDigit (get_or bytes k 0)
@@ -82,7 +82,8 @@ module _ {C : Type 0} {canvas : Ghosts C} (o : Origin) (new : PayloadParser C ca
     (h : History) (bytes : List ℕ) (n : ℕ)
     (some : 0 < length bytes) (le : n ≤ length (drop 1 bytes))
     (are : (k : ℕ) → k < n → IsDigit (get_or (drop 1 bytes) k 0))
-    (keeps : Keeps new.parameters (take n (drop 1 bytes))) (shows : Shows o new.painter h) where
+    (keeps : Keeps new.parameters (take n (drop 1 bytes)))
+    (shows : HasDrawn o new.painter new.ignored h) where
   pub Stands-repeat : get_or bytes 0 0 ≡ 33 → new.command ≡ InRepeat
       → Stands o new (fold read h (take (n + 1) bytes))
   Stands-repeat is command =

@@ -17,10 +17,12 @@ use Rattle.sixel_base.specs.inside.Parameters.{Parameters, Keeps}
 use Rattle.sixel_base.specs.History.{Token, Sixel, Repeat, Raster, Color, Return, Newline, Skip}
 use Rattle.sixel_base.specs.History.{History, begun, longer, goes_on, read}
 use Rattle.sixel_base.specs.Limits.{Limit}
+use Rattle.sixel_base.specs.Lenient.{fault}
 use Rattle.sixel_base.specs.Stroke.{Origin}
 use Rattle.sixel_base.specs.Payload.{first_fault, closed, growths}
 use Rattle.sixel_decoder.specs.inside.PayloadParser.{IsOpen, StandsIn}
-use Rattle.sixel_decoder.specs.inside.Painter.{Shows}
+use Rattle.sixel_decoder.specs.inside.Lenient.{HasDrawn}
+use Rattle.sixel_base.proofs.ToleratedTokens.{fault-along}
 use Rattle.sixel_base.proofs.Histories.{read_goes_on, read_ends}
 
 named_along : (e : SixelError) (found found' : Option Fault)
@@ -47,15 +49,20 @@ Faults-along IntegerOverflow may may' found found' wants stays is =
 Faults-along OutOfMemory may may' found found' wants stays is = wants is
 
 -- the first fault stays the first, whatever follows
-pub fault_stays : (limit : Limit) (token : Token) (h : History) (f : Fault)
+first_stays : (limit : Limit) (token : Token) (h : History) (f : Fault)
     → first_fault limit h ≡ Some f → first_fault limit (closed (token ∷ h)) ≡ Some f
-fault_stays limit (Sixel _) h f is = rw is refl
-fault_stays limit (Repeat _) h f is = is
-fault_stays limit (Raster _) h f is = is
-fault_stays limit (Color _) h f is = is
-fault_stays limit Return h f is = rw is refl
-fault_stays limit Newline h f is = rw is refl
-fault_stays limit (Skip _) h f is = rw is refl
+first_stays limit (Sixel _) h f is = rw is refl
+first_stays limit (Repeat _) h f is = is
+first_stays limit (Raster _) h f is = is
+first_stays limit (Color _) h f is = is
+first_stays limit Return h f is = rw is refl
+first_stays limit Newline h f is = rw is refl
+first_stays limit (Skip _) h f is = rw is refl
+
+pub fault_stays : (limit : Limit) (token : Token) (h : History) (f : Fault)
+    → fault limit h ≡ Some f → fault limit (closed (token ∷ h)) ≡ Some f
+fault_stays limit token h f =
+    fault-along limit h (closed (token ∷ h)) f (first_stays limit token h f)
 
 pub growths-closed : (h : History) → growths (closed h) ≤ growths h
 growths-closed [] = omega arith
@@ -103,25 +110,25 @@ stands_goes_on InColor o h parser ps byte goes is pushed =
 -- if the open command is rejected at the next byte, so are the tokens up to that byte
 pub refused_close : (e : SixelError) (limit : Limit) (h : History) (byte : ℕ)
     → goes_on h byte ≡ false
-    → Faults e false (first_fault limit h)
+    → Faults e false (fault limit h)
     → Faults e (nat_lt (growths (closed h)) (growths (closed (read h byte))))
-    (first_fault limit (closed (read h byte)))
+    (fault limit (closed (read h byte)))
 refused_close e limit h byte ends is =
     let told : Faults e (nat_lt (growths (closed h)) (growths (closed (begun byte ∷ h))))
-    (first_fault limit (closed (begun byte ∷ h))) =
-    Faults-along e false _ (first_fault limit h) (first_fault limit (closed (begun byte ∷ h)))
+    (fault limit (closed (begun byte ∷ h))) =
+    Faults-along e false _ (fault limit h) (fault limit (closed (begun byte ∷ h)))
     (λ never. absurd cc)
     (λ f found. fault_stays limit (begun byte) h f found)
     is
     in subst (λ (w : History).
-    Faults e (nat_lt (growths (closed h)) (growths (closed w))) (first_fault limit (closed w)))
+    Faults e (nat_lt (growths (closed h)) (growths (closed w))) (fault limit (closed w)))
     (sym (read_ends h byte ends)) told
 
 -- a command that was opened is the newest token
 pub opens : {C : Type 0} {canvas : Ghosts C} (command : List ℕ → Token) (o : Origin)
     (new : PayloadParser C canvas) (h : History) (byte : ℕ)
     → begun byte ≡ command [] → Keeps new.parameters []
-    → Shows o new.painter h → IsOpen command o new (begun byte ∷ h)
+    → HasDrawn o new.painter new.ignored h → IsOpen command o new (begun byte ∷ h)
 opens command o new h byte is keeps shows = record {
   text = [];
   older = h;

@@ -8,6 +8,8 @@ use Rattle.sixel_decoder.specs.declared.payload_parser.OpenCommand.{OpenCommand}
 use Rattle.sixel_decoder.specs.declared.payload_parser.OpenCommand.TheVariants.{Ground, InRepeat}
 use Rattle.sixel_decoder.specs.declared.payload_parser.OpenCommand.TheVariants.{InRaster, InColor}
 use Rattle.sixel_decoder.specs.declared.painter.Painter.{Painter}
+use Rattle.sixel_base.specs.Lenient.{effective}
+use Rattle.sixel_decoder.specs.inside.Lenient.{HasDrawn}
 use Rattle.sixel_decoder.specs.inside.Painter.{Shows}
 use Rattle.sixel_decoder.specs.inside.PayloadParser.{StandsAfter, StandsIn}
 
@@ -18,6 +20,16 @@ painted parser painter = record {
   command = parser.command;
   parameters = parser.parameters;
   painter = painter;
+  ignored = parser.ignored;
+}
+
+has_drawn_painted : {C : Type 0} {canvas : Ghosts C} (o : Origin)
+    (parser : PayloadParser C canvas) (painter : Painter C canvas) (h : History)
+    → ((k : History) → Shows o parser.painter k → Shows o painter k)
+    → HasDrawn o parser.painter parser.ignored h → HasDrawn o painter parser.ignored h
+has_drawn_painted o parser painter h same state = record {
+  shows = same (effective o.pixel_limit h) state.shows;
+  count = state.count;
 }
 
 stands_in : {C : Type 0} {canvas : Ghosts C} (command : OpenCommand) (o : Origin)
@@ -26,34 +38,35 @@ stands_in : {C : Type 0} {canvas : Ghosts C} (command : OpenCommand) (o : Origin
     → StandsIn command o parser h → StandsIn command o (painted parser painter) h
 stands_in Ground o parser painter h same is = record {
   ended = is.ended;
-  shows = same h is.shows;
+  shows = has_drawn_painted o parser painter h same is.shows;
 }
 stands_in InRepeat o parser painter h same is = record {
   text = is.text;
   older = is.older;
   newest = is.newest;
   keeps = is.keeps;
-  shows = same is.older is.shows;
+  shows = has_drawn_painted o parser painter is.older same is.shows;
 }
 stands_in InRaster o parser painter h same is = record {
   text = is.text;
   older = is.older;
   newest = is.newest;
   keeps = is.keeps;
-  shows = same is.older is.shows;
+  shows = has_drawn_painted o parser painter is.older same is.shows;
 }
 stands_in InColor o parser painter h same is = record {
   text = is.text;
   older = is.older;
   newest = is.newest;
   keeps = is.keeps;
-  shows = same is.older is.shows;
+  shows = has_drawn_painted o parser painter is.older same is.shows;
 }
 
 pub stands_painted : {C : Type 0} {canvas : Ghosts C} (ended : Bool) (o : Origin)
     (parser : PayloadParser C canvas) (painter : Painter C canvas) (h : History)
     → ((k : History) → Shows o parser.painter k → Shows o painter k)
     → StandsAfter ended o parser h → StandsAfter ended o (painted parser painter) h
-stands_painted true o parser painter h same is = (is.0, same h is.1)
+stands_painted true o parser painter h same is =
+    (is.0, has_drawn_painted o parser painter h same is.1)
 stands_painted false o parser painter h same is =
     stands_in parser.command o parser painter h same is

@@ -3,8 +3,8 @@
 use Rattle.std.proofs.Common.{◌≡◌, ℕ, ◌+◌, ◌≤◌, Bool, true, false, List, [], ◌∷◌, ◌++◌, refl, ap}
 use Rattle.std.proofs.Common.{sym, ◌∙◌, arith, Option, Some, None, Result, Ok, Err, length}
 use Rattle.std.proofs.Common.{length-append, subst}
-use Rattle.std.specs.Prelude.{◌==◌, nat_lt, is_none, is_some, if◌then◌else◌, IfOk, IfErr, MatchBool}
-use Rattle.std.specs.Prelude.{OnOk}
+use Rattle.std.specs.Prelude.{◌==◌, nat_lt, is_none, is_some}
+use Rattle.std.specs.Prelude.{IfOk, IfErr, MatchBool}
 use Rattle.std.proofs.lemmas.List.{length-drop}
 use Rattle.std.proofs.lemmas.Bool.{false≢true}
 use Rattle.std.proofs.lemmas.Bool.Decides.{nat_tests}
@@ -13,11 +13,11 @@ use Rattle.sixel_base.specs.declared.error.SixelError.TheVariants.{InvalidDimens
 use Rattle.sixel_base.specs.declared.error.SixelError.TheVariants.{BufferSizeMismatch, InvalidData}
 use Rattle.sixel_base.specs.declared.error.SixelError.TheVariants.{NoSixelData, IntegerOverflow}
 use Rattle.sixel_base.specs.declared.error.SixelError.TheVariants.{OutOfMemory}
-use Rattle.sixel_base.specs.Fault.{Fault, Faults, IsFault, StreamFailed}
+use Rattle.sixel_base.specs.Fault.{Faults}
 use Rattle.sixel_base.specs.Bytes.{front, count, first_terminator}
 use Rattle.sixel_base.specs.History.{history_of}
-use Rattle.sixel_base.specs.Payload.{closed, first_fault, fed_fault, settled, growths}
-use Rattle.sixel_base.specs.Payload.{payload_fault, payload_wants, payload_image, payload_registers}
+use Rattle.sixel_base.specs.Payload.{fed_fault, settled, growths}
+use Rattle.sixel_base.specs.Payload.{payload_fault, payload_wants}
 use Rattle.sixel_base.specs.Stroke.{Origin}
 use Rattle.sixel_base.specs.declared.state.DecoderState.{DecoderState}
 use Rattle.sixel_base.specs.declared.status.SixelFeedResult.{SixelFeedResult}
@@ -28,23 +28,20 @@ use Rattle.sixel_base.specs.declared.status.SixelDcsFeedStatus.TheVariants.{Need
 use Rattle.sixel_base.specs.declared.status.SixelDcsFeedStatus.TheVariants.{Cancelled, Interrupted}
 use Rattle.sixel_canvas.specs.declared.drawing.Canvas.{Ghosts}
 use Rattle.sixel_decoder.specs.declared.payload_parser.PayloadParser.{PayloadParser}
-use Rattle.sixel_decoder.specs.declared.decoded_payload.DecodedPayload.{DecodedPayload}
 use Rattle.sixel_decoder.specs.declared.dcs_parser.DcsState.{DcsState}
 use Rattle.sixel_decoder.specs.declared.dcs_parser.DcsState.TheVariants as states
 use Rattle.sixel_base.specs.Dcs.{Stage, Heading, Failing, Reading, introduced, stage, stage_status}
 use Rattle.sixel_base.specs.Dcs.{stage_count, stage_fault, after_terminator, end_count}
-use Rattle.sixel_base.specs.Dcs.{payload_count, payload_status, payload_status_by, dcs_status}
-use Rattle.sixel_base.specs.Dcs.{dcs_count, dcs_fault, dcs_growths, ended_by, end_fault, has_ended}
-use Rattle.sixel_base.specs.Dcs.{has_come, IsSameString, IsStringImage, AreStringRegisters}
+use Rattle.sixel_base.specs.Dcs.{payload_count, payload_status, dcs_status}
+use Rattle.sixel_base.specs.Dcs.{dcs_count, dcs_fault, dcs_growths, has_ended}
+use Rattle.sixel_base.specs.Dcs.{IsSameString}
+use Rattle.sixel_base.specs.Lenient.{fault}
 use Rattle.sixel_base.specs.Limits.{Limit}
+use Rattle.sixel_base.proofs.ToleratedTokens.{effective-fault}
 use Rattle.sixel_base.specs.Status.{status_of}
 use Rattle.sixel_decoder.specs.inside.PayloadParser.{StandsAfter}
-use Rattle.sixel_decoder.specs.inside.DcsParser.{HasFollowed, IsInPayload, is_failed}
-use Rattle.sixel_decoder.specs.PictureView.{picture_value}
+use Rattle.sixel_decoder.specs.inside.DcsParser.{HasFollowed, is_failed}
 use Rattle.sixel_decoder.specs.inside.PayloadReader.{HasRead}
-use Rattle.sixel_base.specs.OneShot.{Found, found, found_fault, IsFoundImage, AreFoundRegisters}
-use Rattle.sixel_base.specs.OneShot.{IsDecodedAs}
-use Rattle.sixel_decoder.specs.Session.{Session}
 use Rattle.sixel_decoder.proofs.Chunks.{shown_after, first_terminator-ended}
 use Rattle.sixel_decoder.proofs.Chunks.{before_terminator-whole}
 use Rattle.sixel_decoder.proofs.DcsChunks.{heading, reading_fits}
@@ -52,11 +49,8 @@ use Rattle.sixel_decoder.proofs.Finality.{count_ended, settled_ended, status_end
 use Rattle.sixel_decoder.proofs.Finality.{fed_fault_stays, growths_stay}
 use Rattle.sixel_decoder.proofs.Finality.{dcs_count_ended, dcs_fault_ended, dcs_growths_ended}
 use Rattle.sixel_decoder.proofs.Finality.{dcs_fault_stays, dcs_growths_stay}
-use Rattle.sixel_decoder.proofs.Finality.{found_fault_ended, found_image_ended}
-use Rattle.sixel_decoder.proofs.Finality.{found_registers_ended}
 use Rattle.sixel_decoder.proofs.Terminators.{drop-count, escape_waits, failing_stays}
 use Rattle.sixel_decoder.proofs.ChunkReads.{payload_refused}
-use Rattle.sixel_decoder.proofs.DcsPayloads.{found_reading}
 use Rattle.sixel_decoder.proofs.ParserSteps.{Faults-along}
 use Rattle.sixel_decoder.proofs.DcsEnds.{count-fits, count_open, count_at, status_at}
 
@@ -91,8 +85,9 @@ read_sound (Some parser) o terminator bytes is accepted =
     (history_of (front bytes)) =
     subst (λ (w : Option ℕ). StandsAfter (is_some w) o parser (history_of (front bytes)))
     (sym is.0) is.1 in
-    (shown_after (is_some (first_terminator bytes)) o parser (history_of (front bytes))
-    stands).faultless
+    sym (effective-fault o.pixel_limit (settled bytes))
+    ∙ (shown_after (is_some (first_terminator bytes)) o parser (history_of (front bytes))
+    stands).shows.faultless
 
 -- a feed after the terminator consumes no byte and reports it again
 pub frame_over :
@@ -111,7 +106,7 @@ frame_over limit (Ok r) fed piece fed' t some joined sound counted stands refuse
     λ i. Ok (record { consumed = none i; status = same i })
 frame_over limit (Err e) fed piece fed' t some joined sound counted stands refused =
     let same : settled fed' ≡ settled fed = ap settled joined ∙ settled_ended fed piece t some in
-    let fine : fed_fault limit fed' ≡ None = ap (first_fault limit) same ∙ sound in
+    let fine : fed_fault limit fed' ≡ None = ap (fault limit) same ∙ sound in
     absurd (never_refused e _ (no_growth _ _ (ap growths same))
     (subst (λ f. Faults e (nat_lt (growths (settled fed)) (growths (settled fed'))) f)
     fine refused))
@@ -313,103 +308,3 @@ pub string_refused_with : (limit : Limit) (n : ℕ) (result : Result SixelDcsFee
     → Faults e (nat_lt 0 (dcs_growths (fed ++ left))) (dcs_fault limit (fed ++ left))
 string_refused_with limit n result fed left refused e is =
     string_refused e limit fed left (fed ++ left) n refl (rw is at refused)
-
--- ---- what finishing a string in its payload answers
-
-has_come-ended : (o : Option ℕ) (rest : List ℕ)
-    → has_ended (payload_status_by o rest) ≡ has_come (ended_by o rest)
-has_come-ended None rest = refl
-has_come-ended (Some t) rest = refl
-
--- a string in its payload has ended once the end has come
-pub string_ended :
-    (reader : Session) (decoder : DecoderState) (ended : Option SixelDcsFeedStatus) (bytes : List ℕ)
-    → IsInPayload reader decoder ended bytes
-    → has_ended (dcs_status bytes) ≡ has_come ended
-string_ended reader decoder ended bytes is =
-    ap (λ w. has_ended (stage_status w)) is.reading
-    ∙ has_come-ended (first_terminator reader.bytes) (after_terminator reader.bytes)
-    ∙ ap has_come (sym is.ending)
-
-pub sound_by : (limit : Limit) (payload rest : List ℕ) (o : Option ℕ) → first_terminator payload ≡ o
-    → has_come (ended_by o rest) ≡ true
-    → fed_fault limit payload ≡ None → payload_fault limit payload ≡ None
-sound_by limit payload rest None is come sound = absurd cc
-sound_by limit payload rest (Some t) is come sound =
-    ap (λ (w : Option ℕ).
-    first_fault limit
-    (if is_some w then history_of (front payload) else closed (history_of (front payload))))
-    (sym is) ∙ sound
-
--- then its image fails only if an allocation fails
-pub string_refused_at_end : (result : Result DecodedPayload SixelError) (reader : Session)
-    (decoder : DecoderState) (ended : Option SixelDcsFeedStatus) (bytes : List ℕ)
-    → IsInPayload reader decoder ended bytes → has_come ended ≡ true
-    → IfErr result (λ error. MatchBool reader.is_refused (IsFault error StreamFailed)
-    (Faults error (is_none (payload_fault reader.origin.pixel_limit reader.bytes))
-    (payload_fault reader.origin.pixel_limit reader.bytes)))
-    → IfErr result
-    (λ error. Faults error (has_ended (dcs_status bytes)) (end_fault (dcs_status bytes)))
-string_refused_at_end (Ok picture) reader decoder ended bytes is come refused = tt
-string_refused_at_end (Err e) reader decoder ended bytes is come refused =
-    let limit = reader.origin.pixel_limit in
-    let over : has_ended (dcs_status bytes) ≡ true =
-    string_ended reader decoder ended bytes is ∙ come in
-    let fine : payload_fault limit reader.bytes ≡ None =
-    sound_by limit reader.bytes (after_terminator reader.bytes) (first_terminator reader.bytes) refl
-    (ap has_come (sym is.ending) ∙ come)
-    (ap (λ (o : Origin). fed_fault o.pixel_limit reader.bytes) is.start ∙ is.faultless) in
-    let told : Faults e (is_none (payload_fault limit reader.bytes))
-    (payload_fault limit reader.bytes) =
-    subst (λ (b : Bool).
-    MatchBool b (IsFault e StreamFailed)
-    (Faults e (is_none (payload_fault limit reader.bytes)) (payload_fault limit reader.bytes)))
-    is.accepted refused in
-    rw over (subst (λ (f : Option Fault). Faults e (is_none f) f) fine told)
-
-pub string_image : (result : Result DecodedPayload SixelError) (reader : Session)
-    (decoder : DecoderState) (ended : Option SixelDcsFeedStatus) (bytes : List ℕ)
-    → IsInPayload reader decoder ended bytes
-    → IfOk result (λ picture. picture_value picture ≡ payload_image reader.origin reader.bytes)
-    → IfOk result (λ picture. IsStringImage decoder (stage bytes) (picture_value picture))
-string_image (Ok picture) reader decoder ended bytes is image =
-    subst (λ (w : Stage). IsStringImage decoder w (picture_value picture)) (sym is.reading)
-    (image ∙ ap (λ (o : Origin). payload_image o reader.bytes) is.start)
-string_image (Err e) reader decoder ended bytes is image = tt
-
-pub string_registers : (result : Result DecodedPayload SixelError) (reader : Session)
-    (decoder : DecoderState) (ended : Option SixelDcsFeedStatus) (bytes : List ℕ)
-    → IsInPayload reader decoder ended bytes
-    → IfOk result (λ picture. picture.registers ≡ payload_registers reader.origin reader.bytes)
-    → IfOk result (λ picture. AreStringRegisters decoder (stage bytes) picture.registers)
-string_registers (Ok picture) reader decoder ended bytes is defined =
-    subst (λ (w : Stage). AreStringRegisters decoder w picture.registers) (sym is.reading)
-    (defined ∙ ap (λ (o : Origin). payload_registers o reader.bytes) is.start)
-string_registers (Err e) reader decoder ended bytes is defined = tt
-
--- which is what is decoded at once, whatever follows the end
-pub string_decoded : (result : Result DecodedPayload SixelError) (reader : Session)
-    (decoder : DecoderState) (ended : Option SixelDcsFeedStatus) (bytes more : List ℕ)
-    → IsInPayload reader decoder ended bytes → has_come ended ≡ true
-    → OnOk result (payload_fault reader.origin.pixel_limit reader.bytes ≡ None)
-    → IfOk result (λ picture. picture_value picture ≡ payload_image reader.origin reader.bytes)
-    → IfOk result (λ picture. picture.registers ≡ payload_registers reader.origin reader.bytes)
-    → IfOk result
-    (λ picture.
-    IsDecodedAs decoder (found (bytes ++ more)) (picture_value picture) picture.registers)
-string_decoded (Ok picture) reader decoder ended bytes more is come sound image defined =
-    let over : has_ended (dcs_status bytes) ≡ true =
-    string_ended reader decoder ended bytes is ∙ come in
-    let at = found_reading bytes reader.origin.settings reader.bytes is.reading in (
-      found_fault_ended decoder.pixel_limit bytes more over
-          ∙ (ap (found_fault decoder.pixel_limit) at
-          ∙ (ap (λ (o : Origin). payload_fault o.pixel_limit reader.bytes) (sym is.start)
-          ∙ sound)),
-      found_image_ended decoder bytes more (picture_value picture) over
-          (subst (λ (w : Found). IsFoundImage decoder w (picture_value picture))
-          (sym at) (image ∙ ap (λ (o : Origin). payload_image o reader.bytes) is.start)),
-      found_registers_ended decoder bytes more picture.registers over
-          (subst (λ (w : Found). AreFoundRegisters decoder w picture.registers)
-          (sym at) (defined ∙ ap (λ (o : Origin). payload_registers o reader.bytes) is.start)),
-    )
-string_decoded (Err e) reader decoder ended bytes more is come sound image defined = tt

@@ -15,10 +15,11 @@ use Rattle.sixel_base.specs.Limits.{Limit}
 use Rattle.sixel_base.specs.declared.error.SixelError.{SixelError}
 use Rattle.sixel_base.specs.Place.{span, across, down, width, height, raster_height}
 use Rattle.sixel_base.specs.Settings.{ratio_of}
+use Rattle.sixel_base.specs.Lenient.{fault}
 use Rattle.sixel_base.specs.Stroke.{Origin, registers, color, ratio}
 use Rattle.sixel_base.proofs.Histories.{fold-spelling}
 use Rattle.sixel_canvas.specs.declared.drawing.Canvas.{Ghosts}
-use Rattle.sixel_decoder.specs.inside.Painter.{Shows}
+use Rattle.sixel_decoder.specs.inside.Lenient.{HasDrawn}
 use Rattle.sixel_decoder.specs.declared.payload_parser.PayloadParser.{PayloadParser}
 use Rattle.sixel_decoder.specs.declared.payload_parser.OpenCommand.{OpenCommand}
 use Rattle.sixel_decoder.specs.declared.payload_parser.OpenCommand.TheVariants.{Ground}
@@ -196,7 +197,8 @@ pub Stands-run : {C : Type 0} {canvas : Ghosts C} (o : Origin) (new : PayloadPar
     (h : History) (n : ℕ) (bytes : List ℕ)
     → new.command ≡ Ground → 0 < n → n ≤ length bytes
     → ((k : ℕ) → k < n → IsSixelByte (get_or bytes k 0))
-    → Shows o new.painter (fold read h (take n bytes)) → Stands o new (fold read h (take n bytes))
+    → HasDrawn o new.painter new.ignored (fold read h (take n bytes)) → Stands o new
+    (fold read h (take n bytes))
 Stands-run o new h n bytes ground some le are shows =
     let after : History = fold read h (take n bytes) in
     let is : IsDrawn o new after = record {
@@ -217,7 +219,7 @@ fold_one h (byte ∷ bytes) some is = read_sixel h byte is
 pub Stands-one : {C : Type 0} {canvas : Ghosts C} (o : Origin) (new : PayloadParser C canvas)
     (h : History) (bytes : List ℕ)
     → new.command ≡ Ground → 0 < length bytes → IsSixelByte (get_or bytes 0 0)
-    → Shows o new.painter (Sixel (get_or bytes 0 0 - 63) ∷ h)
+    → HasDrawn o new.painter new.ignored (Sixel (get_or bytes 0 0 - 63) ∷ h)
     → Stands o new (fold read h (take 1 bytes))
 Stands-one o new h bytes ground some sixel shows =
     let after : History = Sixel (get_or bytes 0 0 - 63) ∷ h in
@@ -228,13 +230,13 @@ Stands-one o new h bytes ground some sixel shows =
 
 -- why a sixel can be rejected
 pub refused_sixel : (e : SixelError) (limit : Limit) (h : History) (byte : ℕ) → IsSixelByte byte
-    → Faults e true (first_fault limit (Sixel (byte - 63) ∷ h))
+    → Faults e true (fault limit (Sixel (byte - 63) ∷ h))
     → Faults e (nat_lt (growths (closed h)) (growths (closed (read h byte))))
-    (first_fault limit (closed (read h byte)))
+    (fault limit (closed (read h byte)))
 refused_sixel e limit h byte is refused =
     let grown : nat_lt (growths (closed h)) (growths h + 1) ≡ true =
     lt-ltb (growths (closed h)) (growths h + 1) (omega (arith, growths-closed h)) in
     subst (λ (w : History).
-    Faults e (nat_lt (growths (closed h)) (growths (closed w))) (first_fault limit (closed w)))
+    Faults e (nat_lt (growths (closed h)) (growths (closed w))) (fault limit (closed w)))
     (sym (read_sixel h byte is))
     (rw grown refused)

@@ -3,15 +3,13 @@
 use Rattle.std.specs.Prelude.{◌≡◌, ◌≤◌, ◌*◌, ℕ, min, Bool, false, if◌then◌else◌, List, []}
 use Rattle.std.specs.Prelude.{Option, Some, None}
 use Rattle.std.specs.Prelude.{Result, MatchResult, IfOk, OnOk, IfErr, OnErr}
-use Rattle.sixel_base.specs.Bytes.{front}
 use Rattle.sixel_base.specs.Clip.{clipped_pixel}
 use Rattle.sixel_base.specs.Decoder.{origin_of}
 use Rattle.sixel_base.specs.DrawnHeight.{found_drawn_height}
 use Rattle.sixel_base.specs.Fault.{Fault, Faults}
-use Rattle.sixel_base.specs.History.{history_of}
 use Rattle.sixel_base.specs.Limits.{area_limit}
 use Rattle.sixel_base.specs.OneShot.{Found, Payload, NoPayload, AreFoundRegisters}
-use Rattle.sixel_base.specs.Payload.{Image, image_height, payload_image}
+use Rattle.sixel_base.specs.Payload.{Image, image_height, payload_image, tokens}
 use Rattle.sixel_base.specs.Stroke.{Origin}
 use Rattle.sixel_base.specs.declared.error.SixelError.{SixelError}
 use Rattle.sixel_base.specs.declared.state.DecoderState.{DecoderState}
@@ -42,13 +40,13 @@ decoder_of origin = record {
 -- no byte if there is no payload
 abbrev pub found_pixel : DecoderState → Found → ℕ → ℕ → List ℕ
 found_pixel decoder (Payload settings payload) =
-    clipped_pixel (origin_of decoder settings) (history_of (front payload))
+    clipped_pixel (origin_of decoder settings) (tokens decoder.pixel_limit payload)
 found_pixel decoder (NoPayload fault) = λ column row. []
 
 -- the height of its image
 abbrev pub found_height : DecoderState → Found → ℕ
 found_height decoder (Payload settings payload) =
-    image_height decoder.pixel_limit decoder.raster_crop (history_of (front payload))
+    image_height decoder.pixel_limit decoder.raster_crop (tokens decoder.pixel_limit payload)
 found_height decoder (NoPayload fault) = 0
 
 -- its image has this shape

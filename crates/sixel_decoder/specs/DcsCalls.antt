@@ -8,10 +8,12 @@ use Rattle.sixel_base.specs.declared.state.DecoderState.{DecoderState}
 use Rattle.sixel_base.specs.declared.status.SixelDcsFeedResult.{SixelDcsFeedResult}
 use Rattle.sixel_base.specs.declared.status.SixelDcsFeedStatus.TheVariants.{NeedMoreData}
 use Rattle.sixel_base.specs.Dcs.{dcs_count, dcs_status, dcs_fault, dcs_growths}
-use Rattle.sixel_base.specs.Dcs.{dcs_reached_area, dcs_size, has_ended, end_fault, stage}
+use Rattle.sixel_base.specs.Dcs.{dcs_reached_area, dcs_size, can_finish, has_ended, end_fault}
+use Rattle.sixel_base.specs.Dcs.{stage}
 use Rattle.sixel_base.specs.Dcs.{IsSameString, IsStringImage, AreStringRegisters}
 use Rattle.sixel_base.specs.DrawnHeight.{dcs_drawn_height}
 use Rattle.sixel_base.specs.Fault.{Faults, IsFault, DcsStreamFailed}
+use Rattle.sixel_base.specs.IgnoredCommands.{dcs_ignored}
 use Rattle.sixel_base.specs.OneShot.{found, found_fault, IsFoundImage, AreFoundRegisters}
 use Rattle.sixel_base.specs.OneShot.{IsDecodedAs}
 use Rattle.sixel_base.specs.Payload.{Image}
@@ -92,8 +94,9 @@ pub record IsFinished {A : Type 0} (image_of : A → Image) (registers_of : A �
   -- it leaves the same registers
   pub found_registers : IfOk result (λ done.
       AreFoundRegisters session.decoder (found session.bytes) (registers_of done))
-  -- that stays so, whatever bytes follow
-  pub as_decoded : (more : List ℕ) → IfOk result (λ done. IsDecodedAs session.decoder
+  -- that stays so, whatever bytes follow a sequence that has ended
+  pub as_decoded : (more : List ℕ) → has_ended (dcs_status session.bytes) ≡ true
+      → IfOk result (λ done. IsDecodedAs session.decoder
       (found (session.bytes ++ more)) (image_of done) (registers_of done))
   -- the area is within the limit
   pub area : IfOk result (λ done.
@@ -107,13 +110,14 @@ pub record IsFinished {A : Type 0} (image_of : A → Image) (registers_of : A �
   pub accepted : OnOk result (session.is_refused ≡ false)
   -- an image of which rows were released is never returned
   pub whole : OnOk result (session.released ≡ 0)
-  -- a sequence has an image only once it has ended
-  pub ended : OnOk result (has_ended (dcs_status session.bytes) ≡ true)
+  -- a sequence has an image only once it has ended, unless it is lenient
+  pub ended : OnOk result (can_finish session.decoder.pixel_limit session.bytes ≡ true)
   -- an error is that the sequence goes on, or an allocation failed; a rejected session reports that
   -- the stream has failed
   pub error : IfErr result (λ error. MatchBool session.is_refused
       (IsFault error DcsStreamFailed)
-      (Faults error (has_ended (dcs_status session.bytes)) (end_fault (dcs_status session.bytes))))
+      (Faults error (can_finish session.decoder.pixel_limit session.bytes)
+      (end_fault session.decoder.pixel_limit session.bytes)))
 
 -- This number of pixels was copied or filled to grow the canvas of the payload.
 pub record IsWriteCount (session : DcsSession) (writes : ℕ) : Type 0 where
@@ -180,3 +184,11 @@ pub record IsDrawnHeight (session : DcsSession) (rows : ℕ) : Type 0 where
       → rows ≡ dcs_drawn_height session.decoder.pixel_limit session.bytes
   -- a rejected session has none
   pub refused : session.is_refused ≡ true → rows ≡ 0
+
+-- So many commands of the payload are ignored if the sequence ends now.
+pub record IsIgnoredCount (session : DcsSession) (count : ℕ) : Type 0 where
+  -- those with a fault, if the session is lenient
+  pub accepted : session.is_refused ≡ false
+      → count ≡ dcs_ignored session.decoder.pixel_limit session.bytes
+  -- a rejected session has none
+  pub refused : session.is_refused ≡ true → count ≡ 0

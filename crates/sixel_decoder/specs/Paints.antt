@@ -7,7 +7,7 @@ use Rattle.std.specs.Prelude.{if◌then◌else◌, List, [], ◌∷◌, Option, 
 use Rattle.sixel_base.specs.Clip.{clipped_bits, clipped_width, is_inside}
 use Rattle.sixel_base.specs.History.{Sixel, History}
 use Rattle.sixel_base.specs.Limits.{Limit}
-use Rattle.sixel_base.specs.Payload.{settled}
+use Rattle.sixel_base.specs.Payload.{settled, settled_tokens}
 use Rattle.sixel_base.specs.Place.{across, down, span}
 use Rattle.sixel_base.specs.Dcs.{Stage, Heading, Failing, Reading, stage}
 
@@ -77,6 +77,16 @@ abbrev pub area_of : Option (ℕ × ℕ) → ℕ
 area_of None = 0
 area_of (Some size) = size.0 * size.1
 
+-- these measures of the closed tokens of a payload that take effect
+abbrev pub payload_least_count : Limit → List ℕ → ℕ
+payload_least_count limit bytes = least_count limit (settled_tokens limit bytes)
+
+abbrev pub payload_band_columns : Limit → List ℕ → ℕ
+payload_band_columns limit bytes = band_columns limit (settled_tokens limit bytes)
+
+abbrev pub payload_band_room : Limit → List ℕ → ℕ
+payload_band_room limit bytes = band_room limit (settled_tokens limit bytes)
+
 -- how many closed sixels the payload of a DCS sequence has
 abbrev pub stage_sixels : Stage → ℕ
 stage_sixels Heading = 0
@@ -90,7 +100,7 @@ dcs_sixels bytes = stage_sixels (stage bytes)
 abbrev pub stage_least_count : Limit → Stage → ℕ
 stage_least_count limit Heading = 0
 stage_least_count limit (Failing fault) = 0
-stage_least_count limit (Reading settings payload) = least_count limit (settled payload)
+stage_least_count limit (Reading settings payload) = payload_least_count limit payload
 
 abbrev pub dcs_least_count : Limit → List ℕ → ℕ
 dcs_least_count limit bytes = stage_least_count limit (stage bytes)
@@ -99,7 +109,7 @@ dcs_least_count limit bytes = stage_least_count limit (stage bytes)
 abbrev pub stage_band_columns : Limit → Stage → ℕ
 stage_band_columns limit Heading = 0
 stage_band_columns limit (Failing fault) = 0
-stage_band_columns limit (Reading settings payload) = band_columns limit (settled payload)
+stage_band_columns limit (Reading settings payload) = payload_band_columns limit payload
 
 abbrev pub dcs_band_columns : Limit → List ℕ → ℕ
 dcs_band_columns limit bytes = stage_band_columns limit (stage bytes)
@@ -108,7 +118,7 @@ dcs_band_columns limit bytes = stage_band_columns limit (stage bytes)
 abbrev pub stage_band_room : Limit → Stage → ℕ
 stage_band_room limit Heading = 0
 stage_band_room limit (Failing fault) = 0
-stage_band_room limit (Reading settings payload) = band_room limit (settled payload)
+stage_band_room limit (Reading settings payload) = payload_band_room limit payload
 
 abbrev pub dcs_band_room : Limit → List ℕ → ℕ
 dcs_band_room limit bytes = stage_band_room limit (stage bytes)

@@ -9,13 +9,15 @@ use Rattle.sixel_base.specs.declared.status.SixelFeedStatus.TheVariants.{NeedMor
 use Rattle.sixel_base.specs.Bytes.{count, first_terminator}
 use Rattle.sixel_base.specs.DrawnHeight.{payload_drawn_height}
 use Rattle.sixel_base.specs.Fault.{Faults, IsFault, StreamFailed}
+use Rattle.sixel_base.specs.IgnoredCommands.{payload_ignored}
 use Rattle.sixel_base.specs.Payload.{Image, fed_fault, settled, growths}
 use Rattle.sixel_base.specs.Payload.{payload_fault, payload_wants, payload_image, payload_registers}
-use Rattle.sixel_base.specs.Reach.{reached_area, size}
+use Rattle.sixel_base.specs.Reach.{payload_reached_area, payload_size}
 use Rattle.sixel_base.specs.Status.{status_of}
 use Rattle.sixel_base.specs.Stroke.{Origin}
-use Rattle.sixel_decoder.specs.Paints.{sixels, least_count, most_sixel_paints, band_columns}
-use Rattle.sixel_decoder.specs.Paints.{area_of, band_room, most_row_writes, most_run_paints}
+use Rattle.sixel_decoder.specs.Paints.{sixels, payload_least_count, most_sixel_paints}
+use Rattle.sixel_decoder.specs.Paints.{payload_band_columns, payload_band_room}
+use Rattle.sixel_decoder.specs.Paints.{area_of, most_row_writes, most_run_paints}
 use Rattle.sixel_decoder.specs.Session.{Session}
 
 -- a session that was fed nothing
@@ -119,11 +121,11 @@ pub record IsWriteCount (session : Session) (writes : ℕ) : Type 0 where
   pub value : writes ≡ session.writes
   -- at least once the painted area
   pub at_least : session.is_refused ≡ false
-      → reached_area session.origin.pixel_limit (settled session.bytes) ≤ writes
+      → payload_reached_area session.origin.pixel_limit session.bytes ≤ writes
   -- at most three times the painted area
-  pub at_most : writes ≤ 3 * reached_area session.origin.pixel_limit (settled session.bytes)
+  pub at_most : writes ≤ 3 * payload_reached_area session.origin.pixel_limit session.bytes
   -- the rows have capacity for at most twice the painted area
-  pub room : session.room ≤ 2 * reached_area session.origin.pixel_limit (settled session.bytes)
+  pub room : session.room ≤ 2 * payload_reached_area session.origin.pixel_limit session.bytes
   -- a rejected session has no canvas
   pub refused : session.is_refused ≡ true → writes ≡ 0
 
@@ -133,9 +135,9 @@ pub record IsPaintCount (session : Session) (paints : ℕ) : Type 0 where
   pub value : paints ≡ session.paints
   -- at least what the closed sixels count
   pub at_least : session.is_refused ≡ false
-      → least_count session.origin.pixel_limit (settled session.bytes) ≤ paints
+      → payload_least_count session.origin.pixel_limit session.bytes ≤ paints
   -- at most three times the painted area, and a constant for each closed sixel
-  pub at_most : paints ≤ 3 * reached_area session.origin.pixel_limit (settled session.bytes)
+  pub at_most : paints ≤ 3 * payload_reached_area session.origin.pixel_limit session.bytes
       + most_sixel_paints * sixels (settled session.bytes)
   -- a rejected session has no canvas
   pub refused : session.is_refused ≡ true → paints ≡ 0
@@ -145,10 +147,10 @@ pub record IsBandPaintCount (session : Session) (paints : ℕ) : Type 0 where
   -- the number that contracts see of the session
   pub value : paints ≡ session.paints
   -- at most twice the columns of all bands, and a constant for each closed sixel
-  pub at_most : paints ≤ 2 * band_columns session.origin.pixel_limit (settled session.bytes)
+  pub at_most : paints ≤ 2 * payload_band_columns session.origin.pixel_limit session.bytes
       + most_run_paints * sixels (settled session.bytes)
   -- the band has capacity for at most this number of pixels
-  pub room : session.room ≤ band_room session.origin.pixel_limit (settled session.bytes)
+  pub room : session.room ≤ payload_band_room session.origin.pixel_limit session.bytes
   -- a rejected session has no canvas
   pub refused : session.is_refused ≡ true → paints ≡ 0
 
@@ -158,7 +160,7 @@ pub record IsBandWriteCount (session : Session) (writes : ℕ) : Type 0 where
   pub value : writes ≡ session.writes
   -- at most four times the pixels of the image so far
   pub at_most : writes ≤ most_row_writes
-      * area_of (Some (size session.origin.pixel_limit (settled session.bytes)))
+      * area_of (Some (payload_size session.origin.pixel_limit session.bytes))
   -- a rejected session has no canvas
   pub refused : session.is_refused ≡ true → writes ≡ 0
 
@@ -166,7 +168,7 @@ pub record IsBandWriteCount (session : Session) (writes : ℕ) : Type 0 where
 pub record IsSizeSoFar (session : Session) (answer : Option (ℕ × ℕ)) : Type 0 where
   -- width and height of the closed sixels and raster attributes
   pub accepted : session.is_refused ≡ false
-      → answer ≡ Some (size session.origin.pixel_limit (settled session.bytes))
+      → answer ≡ Some (payload_size session.origin.pixel_limit session.bytes)
   -- a rejected session has none
   pub refused : session.is_refused ≡ true → answer ≡ None
 
@@ -177,3 +179,11 @@ pub record IsDrawnHeight (session : Session) (rows : ℕ) : Type 0 where
       → rows ≡ payload_drawn_height session.origin.pixel_limit session.bytes
   -- a rejected session has none
   pub refused : session.is_refused ≡ true → rows ≡ 0
+
+-- So many commands are ignored if the payload ends now.
+pub record IsIgnoredCount (session : Session) (count : ℕ) : Type 0 where
+  -- those with a fault, if the session is lenient
+  pub accepted : session.is_refused ≡ false
+      → count ≡ payload_ignored session.origin.pixel_limit session.bytes
+  -- a rejected session has none
+  pub refused : session.is_refused ≡ true → count ≡ 0

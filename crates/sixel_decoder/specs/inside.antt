@@ -3,6 +3,7 @@
 pub mod CopiedImage
 pub mod DrawnRows
 pub mod Painter
+pub mod Lenient
 pub mod PayloadParser
 pub mod PayloadReader
 pub mod Header

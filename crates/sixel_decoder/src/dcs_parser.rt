@@ -1,7 +1,8 @@
 //! The parser of a DCS sequence: introducer, header, payload and end.
 
 ghost use Rattle.std.specs.Prelude.{◌≡◌, ◌≤◌, ◌++◌, ◌+◌, ◌∷◌, [], true, false, List, ℕ, length};
-ghost use Rattle.std.specs.Prelude.{None, Option, IfOk, OnOk, MatchResult};
+ghost use Rattle.std.specs.Prelude.{◌||◌, None, Option, IfOk, OnOk, MatchResult};
+ghost use Rattle.sixel_base.specs.Dcs.{has_come};
 ghost use Rattle.sixel_base.specs.declared.state.DecoderState.{DecoderState};
 ghost use Rattle.sixel_base.specs.Fault.{IsFault, DcsStreamFailed};
 ghost use Rattle.sixel_decoder.specs.declared.dcs_parser.DcsState.TheVariants.{Start, Payload};
@@ -77,6 +78,23 @@ impl<C: Canvas + Drop> DcsParser<C> {
             alloc,
             decoder,
         }
+    }
+
+    /// Whether the end of the sequence has come, after which no byte is its own.
+    pub fn has_ended(&self) -> bool
+        ensures { result ≡ has_come self.now.ended }
+    {
+        match self.ended {
+            None | Some(SixelDcsFeedStatus::NeedMoreData) => false,
+            Some(_) => true,
+        }
+    }
+
+    /// Whether a sequence in its payload can be finished: it has ended, or is lenient.
+    pub fn can_finish(&self) -> bool
+        ensures { result ≡ has_come self.now.ended || self.now.decoder.pixel_limit.lenient }
+    {
+        self.has_ended() || self.decoder.pixel_limit.lenient()
     }
 
     /// Reads a chunk as far as the DCS sequence goes.

@@ -3,11 +3,11 @@
 //! The contracts of its calls are the records of `DcsCalls`.
 
 ghost use Rattle.std.specs.Prelude.{◌≡◌, ◌∷◌, [], true, false, IsTrue, IfOk};
-ghost use Rattle.sixel_base.specs.Dcs.{dcs_in_payload, has_come};
+ghost use Rattle.sixel_base.specs.Dcs.{dcs_in_payload, dcs_status, has_ended};
 ghost use Rattle.sixel_base.specs.DrawnHeight.{found_drawn_height};
 ghost use Rattle.sixel_base.specs.OneShot.{found};
 ghost use Rattle.sixel_decoder.specs.DcsCalls.{begun, byte_read, IsFed, IsFinished};
-ghost use Rattle.sixel_decoder.specs.DcsCalls.{IsSizeSoFar, IsDrawnHeight};
+ghost use Rattle.sixel_decoder.specs.DcsCalls.{IsSizeSoFar, IsDrawnHeight, IsIgnoredCount};
 ghost use Rattle.sixel_decoder.specs.DcsCalls.{IsWriteCount, IsPaintCount, IsBandPaintCount};
 ghost use Rattle.sixel_decoder.specs.DcsCalls.{IsBandWriteCount};
 ghost use Rattle.sixel_decoder.specs.PictureView.{picture_value};
@@ -18,7 +18,7 @@ use crate::dcs_parser::{DcsParser, DcsState};
 use crate::decoded_payload::DecodedPayload;
 use crate::log::Log;
 use sixel_base::state::DecoderState;
-use sixel_base::status::{SixelDcsFeedResult, SixelDcsFeedStatus};
+use sixel_base::status::SixelDcsFeedResult;
 use sixel_base::{Result, SixelError};
 use sixel_canvas::band_canvas::BandCanvas;
 use sixel_canvas::drawing::Canvas;
@@ -117,18 +117,41 @@ impl<C: Canvas + Drop> DcsReader<C> {
         }
     }
 
-    /// Returns the image and the registers, once the DCS sequence has ended.
+    /// Returns how many commands are ignored if the DCS sequence ends here.
+    pub fn ignored_commands(&self) -> u64
+        ensures { IsIgnoredCount self.now result }
+    {
+        match &self.parser.state {
+            DcsState::Payload(reader) => reader.ignored_commands(),
+            _ => 0,
+        }
+    }
+
+    /// Whether the end of the DCS sequence was fed, and no feed has failed.
+    pub fn has_ended(&self) -> bool
+        ensures accepted { self.now.is_refused ≡ false
+            → result ≡ has_ended (dcs_status self.now.bytes) }
+        ensures refused { self.now.is_refused ≡ true → result ≡ false }
+    {
+        match &self.parser.state {
+            DcsState::Payload(_) => self.parser.has_ended(),
+            _ => false,
+        }
+    }
+
+    /// Returns the image and the registers, once the DCS sequence has ended, or if it is lenient.
     pub fn finish(self) -> Result<DecodedPayload>
         ensures finished { IsFinished picture_value (λ picture. picture.registers) self result }
         ensures drawn { IfOk result (λ picture.
             picture.drawn_height ≡ found_drawn_height self.decoder (found self.bytes)) }
     {
         let DcsReader { parser, .. } = self;
-        let DcsParser { state, ended, .. } = parser;
+        let can_finish = parser.can_finish();
+        let DcsParser { state, .. } = parser;
         match state {
             DcsState::Failed => Err(SixelError::dcs_stream_failed()),
             DcsState::Payload(reader) => {
-                if has_come(ended) {
+                if can_finish {
                     reader.finish()
                 } else {
                     Err(SixelError::incomplete())
@@ -182,15 +205,5 @@ impl DcsReader<BandCanvas> {
             return 0;
         };
         reader.paints()
-    }
-}
-
-/// Whether the end of a DCS sequence has come, after which no byte is its own.
-fn has_come(ended: Option<SixelDcsFeedStatus>) -> bool
-    ensures { result ≡ has_come ended }
-{
-    match ended {
-        None | Some(SixelDcsFeedStatus::NeedMoreData) => false,
-        Some(_) => true,
     }
 }

@@ -13,6 +13,7 @@ mod decoded_payload;
 mod drawn_rows;
 mod front_sixels;
 mod header;
+mod lenience;
 mod log;
 mod one_shot;
 mod painter;

@@ -10,8 +10,8 @@ ghost use Rattle.sixel_canvas.specs.inside.Drawn.{no_work};
 ghost use Rattle.sixel_base.specs.Bytes.{is_sixel as sixel};
 ghost use Rattle.sixel_base.specs.History.{History, begun, goes_on, read};
 ghost use Rattle.sixel_base.specs.Decoder.{origin_of};
-ghost use Rattle.sixel_base.specs.Payload.{closed};
 ghost use Rattle.sixel_base.specs.inside.Parameters.{IsDigit};
+ghost use Rattle.sixel_base.specs.Lenient.{effective};
 ghost use Rattle.sixel_base.specs.Stroke.{Origin};
 ghost use Rattle.sixel_decoder.specs.inside.Runs.{IsPrintable, IsSixelByte};
 ghost use Rattle.sixel_decoder.specs.declared.payload_parser.OpenCommand.TheVariants.{Ground};
@@ -55,17 +55,19 @@ impl OpenCommand {
     }
 }
 
-/// A payload's open command, and the painter that has drawn the closed ones.
+/// A payload's open command, the painter that has drawn the closed ones, and how many it ignored.
 #[derive(Drop)]
 pub struct PayloadParser<C: Canvas + Drop> {
     pub command: OpenCommand,
     pub parameters: Parameters,
     pub painter: Painter<C>,
+    pub ignored: u64,
 }
 
 impl<C: Canvas + Drop> PayloadParser<C> {
-    ghost use Rattle.sixel_decoder.specs.inside.Painter.{Shows, Draws, Ends, FitsColumn};
+    ghost use Rattle.sixel_decoder.specs.inside.Painter.{Ends, FitsColumn};
     ghost use Rattle.sixel_decoder.specs.inside.PayloadParser.{Stands, Reads, Feeds, StandsAfter};
+    ghost use Rattle.sixel_decoder.specs.inside.Lenient.{Tolerates, HasDrawn};
 
     /// Creates a parser that has read nothing.
     pub fn new(alloc: Global, decoder: DecoderState, settings: DcsSettings) -> PayloadParser<C>
@@ -77,6 +79,7 @@ impl<C: Canvas + Drop> PayloadParser<C> {
             command: OpenCommand::Ground,
             parameters: Parameters::new(),
             painter: Painter::new(alloc, decoder, settings),
+            ignored: 0,
         }
     }
 
@@ -153,7 +156,7 @@ impl<C: Canvas + Drop> PayloadParser<C> {
     fn try_close(&mut self) -> bool
         ensures ground { IsTrue result → self.new.command ≡ Ground }
         ensures shows { IsTrue result → (o : Origin) (h : History) → Stands o self.old h
-            → Shows o self.new.painter h }
+            → HasDrawn o self.new.painter self.new.ignored h }
         ensures fits { FitsColumn self.old.painter → FitsColumn self.new.painter }
         ensures left { result ≡ false → self.new ≡ self.old }
         ensures released { C.released self.new.painter.canvas
@@ -195,7 +198,9 @@ impl<C: Canvas + Drop> PayloadParser<C> {
             let byte = chunk[index];
             if is_sixel(byte) {
                 self.close()?;
-                let drawn = self.painter.draw_front(tail(chunk, index))?;
+                let drawn = self
+                    .painter
+                    .draw_sixels(tail(chunk, index), &mut self.ignored)?;
                 index += drawn;
             } else if is_numbered(byte) {
                 self.close()?;
@@ -226,9 +231,10 @@ impl<C: Canvas + Drop> PayloadParser<C> {
     fn close(&mut self) -> Result<()>
         ensures ground { self.new.command ≡ Ground }
         ensures drawn { (o : Origin) (h : History) → Stands o self.old h
-            → Draws result o self.new.painter h false }
+            → Tolerates result o self.new.painter self.new.ignored h }
         ensures kept { (o : Origin) (h : History) → self.old.command ≡ Ground
-            → Shows o self.old.painter h → Draws result o self.new.painter h false }
+            → HasDrawn o self.old.painter self.old.ignored h
+            → Tolerates result o self.new.painter self.new.ignored h }
         ensures released { OnOk result
             (C.released self.new.painter.canvas ≡ C.released self.old.painter.canvas) }
     {
@@ -236,8 +242,12 @@ impl<C: Canvas + Drop> PayloadParser<C> {
         self.command = OpenCommand::Ground;
         match command {
             OpenCommand::Ground => Ok(()),
-            OpenCommand::InRepeat => self.painter.set_repeat(&self.parameters),
-            OpenCommand::InRaster => self.painter.set_raster(&self.parameters),
+            OpenCommand::InRepeat => self
+                .painter
+                .close_repeat(&self.parameters, &mut self.ignored),
+            OpenCommand::InRaster => self
+                .painter
+                .close_raster(&self.parameters, &mut self.ignored),
             OpenCommand::InColor => {
                 self.painter.select(&self.parameters);
                 Ok(())
@@ -253,7 +263,8 @@ impl<C: Canvas + Drop> PayloadParser<C> {
         ensures some { 0 < result }
         ensures within { result ≤ length bytes.now }
         ensures printable { (k : ℕ) → k < result → IsPrintable (slice_index bytes.now k) }
-        ensures stands { (o : Origin) (h : History) → Shows o self.old.painter h
+        ensures stands { (o : Origin) (h : History)
+            → HasDrawn o self.old.painter self.old.ignored h
             → Stands o self.new (fold read h (take result bytes.now)) }
         ensures released { C.released self.new.painter.canvas
             ≡ C.released self.old.painter.canvas }
@@ -286,7 +297,8 @@ impl<C: Canvas + Drop> PayloadParser<C> {
         requires ground { self.old.command ≡ Ground }
         requires sixel { sixel byte ≡ false }
         requires numbered { (byte ≡ 33 → ⊥) × (byte ≡ 35 → ⊥) }
-        ensures reads { (o : Origin) (h : History) → Shows o self.old.painter h
+        ensures reads { (o : Origin) (h : History)
+            → HasDrawn o self.old.painter self.old.ignored h
             → Reads result o self.new h (begun byte ∷ h) }
         ensures released { OnOk result
             (C.released self.new.painter.canvas ≡ C.released self.old.painter.canvas) }
@@ -301,7 +313,7 @@ impl<C: Canvas + Drop> PayloadParser<C> {
                 self.painter.carriage_return();
                 Ok(())
             }
-            b'-' => self.painter.new_line(),
+            b'-' => self.painter.move_down(&mut self.ignored),
             _ => Ok(()),
         }
     }
@@ -309,7 +321,7 @@ impl<C: Canvas + Drop> PayloadParser<C> {
     /// Closes the open command, and returns the image with the registers.
     pub fn finish(mut self) -> Result<DecodedPayload>
         ensures ends { (o : Origin) (h : History) (ended : Bool) → StandsAfter ended o self h
-            → Ends result o h }
+            → Ends result o (effective o.pixel_limit h) }
         ensures whole { OnOk result (C.released self.painter.canvas ≡ 0) }
     {
         match self.close() {

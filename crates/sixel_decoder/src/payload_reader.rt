@@ -2,13 +2,14 @@
 //!
 //! The contracts of its calls are the records of `PayloadCalls`.
 
-ghost use Rattle.std.specs.Prelude.{◌≡◌, ◌∷◌, [], false, IsTrue, IfOk};
+ghost use Rattle.std.specs.Prelude.{◌≡◌, ◌∷◌, [], true, false, IsTrue, IfOk};
+ghost use Rattle.sixel_base.specs.Bytes.{is_terminated};
 ghost use Rattle.sixel_base.specs.Decoder.{origin_of};
 ghost use Rattle.sixel_base.specs.DrawnHeight.{found_drawn_height};
 ghost use Rattle.sixel_base.specs.OneShot.{Payload};
 ghost use Rattle.sixel_decoder.specs.CopiedImage.{decoder_of};
 ghost use Rattle.sixel_decoder.specs.PayloadCalls.{begun, byte_read, IsFed, IsFinished};
-ghost use Rattle.sixel_decoder.specs.PayloadCalls.{IsSizeSoFar, IsDrawnHeight};
+ghost use Rattle.sixel_decoder.specs.PayloadCalls.{IsSizeSoFar, IsDrawnHeight, IsIgnoredCount};
 ghost use Rattle.sixel_decoder.specs.PayloadCalls.{IsWriteCount, IsPaintCount, IsBandPaintCount};
 ghost use Rattle.sixel_decoder.specs.PayloadCalls.{IsBandWriteCount};
 ghost use Rattle.sixel_decoder.specs.PictureView.{picture_value};
@@ -153,6 +154,27 @@ impl<C: Canvas + Drop> PayloadReader<C> {
         match &self.state {
             PayloadState::Reading(parser) => parser.painter.drawn_height(),
             PayloadState::Failed => 0,
+        }
+    }
+
+    /// Returns how many commands are ignored if the payload ends here.
+    pub fn ignored_commands(&self) -> u64
+        ensures { IsIgnoredCount self.now result }
+    {
+        match &self.state {
+            PayloadState::Reading(parser) => parser.end_ignored(),
+            PayloadState::Failed => 0,
+        }
+    }
+
+    /// Whether a terminator was fed, and no feed has failed.
+    pub fn has_ended(&self) -> bool
+        ensures accepted { self.now.is_refused ≡ false → result ≡ is_terminated self.now.bytes }
+        ensures refused { self.now.is_refused ≡ true → result ≡ false }
+    {
+        match &self.state {
+            PayloadState::Reading(_) => self.terminator.is_some(),
+            PayloadState::Failed => false,
         }
     }
 

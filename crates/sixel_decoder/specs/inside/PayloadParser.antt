@@ -15,12 +15,12 @@ use Rattle.sixel_decoder.specs.declared.payload_parser.OpenCommand.TheVariants.{
 use Rattle.sixel_base.specs.Fault.{Faults}
 use Rattle.sixel_base.specs.inside.Parameters.{Keeps}
 use Rattle.sixel_base.specs.History.{Token, Repeat, Raster, Color, History, goes_on, read}
-use Rattle.sixel_base.specs.History.{history_of}
+use Rattle.sixel_base.specs.Lenient.{fault}
 use Rattle.sixel_base.specs.Stroke.{Origin}
-use Rattle.sixel_base.specs.Payload.{first_fault, closed, growths, payload_fault, payload_image}
-use Rattle.sixel_base.specs.Payload.{payload_registers, payload_wants}
+use Rattle.sixel_base.specs.Payload.{closed, growths, payload_fault, payload_image}
+use Rattle.sixel_base.specs.Payload.{payload_registers, payload_wants, tokens}
 use Rattle.sixel_canvas.specs.declared.drawing.Canvas.{Ghosts}
-use Rattle.sixel_decoder.specs.inside.Painter.{Shows}
+use Rattle.sixel_decoder.specs.inside.Lenient.{HasDrawn}
 use Rattle.sixel_decoder.specs.PictureView.{picture_value}
 use Rattle.sixel_decoder.specs.declared.decoded_payload.DecodedPayload.{DecodedPayload}
 
@@ -31,13 +31,13 @@ pub record IsOpen {C : Type 0} {canvas : Ghosts C} (command : List ℕ → Token
   pub older : History
   pub newest : history ≡ command text ∷ older
   pub keeps : Keeps parser.parameters text
-  pub shows : Shows origin parser.painter older
+  pub shows : HasDrawn origin parser.painter parser.ignored older
 
 -- no token can continue, and all were drawn
 pub record IsDrawn {C : Type 0} {canvas : Ghosts C} (origin : Origin)
     (parser : PayloadParser C canvas) (history : History) : Type 0 where
   pub ended : (byte : ℕ) → goes_on history byte ≡ false
-  pub shows : Shows origin parser.painter history
+  pub shows : HasDrawn origin parser.painter parser.ignored history
 
 abbrev pub StandsIn : {C : Type 0} {canvas : Ghosts C} → OpenCommand → Origin
     → PayloadParser C canvas → History → Type 0
@@ -58,7 +58,7 @@ Reads result origin parser before history =
     MatchResult result (λ _. Stands origin parser history)
     (λ error.
     Faults error (nat_lt (growths (closed before)) (growths (closed history)))
-    (first_fault origin.pixel_limit (closed history)))
+    (fault origin.pixel_limit (closed history)))
 
 -- the history after a chunk
 abbrev pub after : History → List ℕ → History
@@ -73,7 +73,7 @@ settled_after history piece =
 abbrev pub StandsAfter : {C : Type 0} {canvas : Ghosts C} → Bool → Origin
     → PayloadParser C canvas → History → Type 0
 StandsAfter true origin parser history =
-    (parser.command ≡ Ground) × Shows origin parser.painter history
+    (parser.command ≡ Ground) × HasDrawn origin parser.painter parser.ignored history
 StandsAfter false origin parser history = Stands origin parser history
 
 -- The chunk was read up to its first terminator, or is rejected by the first fault.
@@ -85,7 +85,7 @@ Feeds result origin parser history piece =
     × StandsAfter (is_terminated piece) origin parser (after history piece))
     (λ error. Faults error
     (nat_lt (growths (closed history)) (growths (settled_after history piece)))
-    (first_fault origin.pixel_limit (settled_after history piece)))
+    (fault origin.pixel_limit (settled_after history piece)))
 
 -- The bytes are a payload with no fault, and this is its image; or they are rejected by their first
 -- fault.
@@ -97,6 +97,6 @@ Decodes result origin bytes =
     × (picture.registers ≡ payload_registers origin bytes)
     × (picture.width * picture.height ≤ origin.pixel_limit.pixels)
     × (picture.drawn_height
-    ≡ image_drawn_height origin.pixel_limit origin.raster_crop (history_of (front bytes))))
+    ≡ image_drawn_height origin.pixel_limit origin.raster_crop (tokens origin.pixel_limit bytes)))
     (λ error.
     Faults error (payload_wants origin.pixel_limit bytes) (payload_fault origin.pixel_limit bytes))

@@ -1,7 +1,7 @@
 //! The rows of a DCS sequence's image, final or all, in a caller's memory.
 
 ghost use Rattle.std.specs.Prelude.{◌≡◌, ◌≤◌, ◌<◌, ◌+◌, ◌^◌, false, length, max};
-ghost use Rattle.sixel_base.specs.Dcs.{dcs_status, end_fault};
+ghost use Rattle.sixel_base.specs.Dcs.{end_fault};
 ghost use Rattle.sixel_base.specs.Fault.{DcsStreamFailed};
 ghost use Rattle.sixel_base.specs.OneShot.{found};
 ghost use Rattle.sixel_canvas.specs.Layout.{AreCopied, AreRowsIn};
@@ -11,7 +11,7 @@ ghost use Rattle.sixel_decoder.specs.FinalRows.{dcs_final_rows, row_count};
 
 use crate::copied_payload::CopiedPayload;
 use crate::dcs_parser::{DcsParser, DcsState};
-use crate::dcs_reader::{DcsReader, has_come};
+use crate::dcs_reader::DcsReader;
 use sixel_base::{Result, SixelError};
 use sixel_canvas::band_canvas::BandCanvas;
 use sixel_canvas::channels::RowLayout;
@@ -29,16 +29,16 @@ impl<C: Canvas + Drop> DcsReader<C> {
         }
     }
 
-    /// Returns the height of the image, once the DCS sequence has ended.
+    /// Returns the height of the image, once the DCS sequence has ended, or if it is lenient.
     pub fn end_height(&self) -> Result<usize>
         ensures { IsEndHeight self.now.decoder (found self.now.bytes)
             (last_fault self.now.is_refused DcsStreamFailed
-            (end_fault (dcs_status self.now.bytes))) result }
+            (end_fault self.now.decoder.pixel_limit self.now.bytes)) result }
     {
         match &self.parser.state {
             DcsState::Failed => Err(SixelError::dcs_stream_failed()),
             DcsState::Payload(reader) => {
-                if has_come(self.parser.ended) {
+                if self.parser.can_finish() {
                     reader.end_height()
                 } else {
                     Err(SixelError::incomplete())
@@ -83,9 +83,7 @@ impl DcsReader<BandCanvas> {
     pub fn release_rows(&mut self, rows: usize)
         requires above { rows ≤ dcs_final_rows self.old.decoder.pixel_limit self.old.bytes }
         requires accepted { 0 < rows → self.old.is_refused ≡ false }
-        ensures { self.new ≡ record self.old {
-          released = max self.old.released rows;
-        } }
+        ensures { self.new ≡ record self.old { released = max self.old.released rows } }
     {
         let DcsState::Payload(reader) = &mut self.parser.state else {
             return;
@@ -106,15 +104,17 @@ impl DcsReader<BandCanvas> {
         requires fits { AreRowsIn layout rows (length out.old) }
         ensures len { length out.new ≡ length out.old }
         ensures copied { IsImageCopied self.decoder (found self.bytes)
-            (last_fault self.is_refused DcsStreamFailed (end_fault (dcs_status self.bytes)))
+            (last_fault self.is_refused DcsStreamFailed
+            (end_fault self.decoder.pixel_limit self.bytes))
             first rows layout out.old out.new result }
     {
         let DcsReader { parser, .. } = self;
-        let DcsParser { state, ended, .. } = parser;
+        let can_finish = parser.can_finish();
+        let DcsParser { state, .. } = parser;
         match state {
             DcsState::Failed => Err(SixelError::dcs_stream_failed()),
             DcsState::Payload(reader) => {
-                if has_come(ended) {
+                if can_finish {
                     reader.finish_into(first, rows, layout, out)
                 } else {
                     Err(SixelError::incomplete())

@@ -4,7 +4,7 @@ ghost use Rattle.std.specs.Prelude.{◌≡◌, ◌≤◌, ◌<◌, ◌+◌, ◌^
 ghost use Rattle.std.specs.Prelude.{MatchResult};
 ghost use Rattle.sixel_base.specs.Fault.{Faults};
 ghost use Rattle.sixel_base.specs.History.{History};
-ghost use Rattle.sixel_base.specs.Payload.{first_fault};
+ghost use Rattle.sixel_base.specs.Lenient.{effective, fault, ignored_count};
 ghost use Rattle.sixel_base.specs.Stroke.{Origin};
 ghost use Rattle.sixel_canvas.specs.Layout.{AreRowsIn};
 ghost use Rattle.sixel_decoder.specs.inside.CopiedImage.{HasHeight, IsCopied};
@@ -21,12 +21,30 @@ impl<C: Canvas + Drop> PayloadParser<C> {
     /// Returns the height of the image if the payload ends here.
     pub fn end_height(&self) -> Result<usize>
         ensures { (o : Origin) (h : History) (ended : Bool) → StandsAfter ended o self.now h
-            → HasHeight result o h }
+            → HasHeight result o (effective o.pixel_limit h) }
     {
         match self.command {
             OpenCommand::Ground | OpenCommand::InColor => Ok(self.painter.image_height()),
-            OpenCommand::InRepeat => self.painter.height_after_repeat(&self.parameters),
-            OpenCommand::InRaster => self.painter.height_after_raster(&self.parameters),
+            OpenCommand::InRepeat => self.painter.height_closing_repeat(&self.parameters),
+            OpenCommand::InRaster => self.painter.height_closing_raster(&self.parameters),
+        }
+    }
+
+    /// Returns how many commands are ignored if the payload ends here.
+    pub fn end_ignored(&self) -> u64
+        ensures { (o : Origin) (h : History) (ended : Bool) → StandsAfter ended o self.now h
+            → result ≡ ignored_count o.pixel_limit h }
+    {
+        match self.command {
+            OpenCommand::Ground | OpenCommand::InColor => self.ignored,
+            OpenCommand::InRepeat => {
+                self.painter
+                    .count_closing_repeat(&self.parameters, self.ignored)
+            }
+            OpenCommand::InRaster => {
+                self.painter
+                    .count_closing_raster(&self.parameters, self.ignored)
+            }
         }
     }
 }
@@ -59,8 +77,9 @@ impl PayloadParser<BandCanvas> {
         ensures len { length out.new ≡ length out.old }
         ensures copied { (o : Origin) (h : History) (ended : Bool) → StandsAfter ended o self h
             → MatchResult result
-            (λ copied. IsCopied o h first rows layout out.old out.new copied)
-            (λ error. Faults error false (first_fault o.pixel_limit h) × (out.new ≡ out.old)) }
+            (λ copied.
+            IsCopied o (effective o.pixel_limit h) first rows layout out.old out.new copied)
+            (λ error. Faults error false (fault o.pixel_limit h) × (out.new ≡ out.old)) }
     {
         match self.close() {
             Ok(()) => Ok(self.painter.copy_image(first, rows, layout, out)),

@@ -1,16 +1,14 @@
 //! The rows of a payload's image, final or all, in a caller's memory.
 
 ghost use Rattle.std.specs.Prelude.{◌≡◌, ◌≤◌, ◌<◌, ◌+◌, ◌^◌, false, length, max};
-ghost use Rattle.sixel_base.specs.Bytes.{front};
 ghost use Rattle.sixel_base.specs.Clip.{clipped_pixel};
 ghost use Rattle.sixel_base.specs.Fault.{StreamFailed};
-ghost use Rattle.sixel_base.specs.History.{history_of};
 ghost use Rattle.sixel_base.specs.OneShot.{Payload};
-ghost use Rattle.sixel_base.specs.Payload.{payload_fault, settled};
+ghost use Rattle.sixel_base.specs.Payload.{payload_fault, tokens};
 ghost use Rattle.sixel_canvas.specs.Layout.{AreCopied, AreRowsIn};
 ghost use Rattle.sixel_decoder.specs.CopiedImage.{decoder_of, last_fault};
 ghost use Rattle.sixel_decoder.specs.CopiedImage.{IsEndHeight, IsImageCopied};
-ghost use Rattle.sixel_decoder.specs.FinalRows.{final_rows, row_count};
+ghost use Rattle.sixel_decoder.specs.FinalRows.{payload_final_rows, row_count};
 
 use crate::copied_payload::CopiedPayload;
 use crate::payload_reader::{PayloadReader, PayloadState};
@@ -23,7 +21,7 @@ impl<C: Canvas + Drop> PayloadReader<C> {
     /// Returns how many rows from the top are final, and 0 after a failed feed.
     pub fn rows_so_far(&self) -> usize
         ensures { result ≡ row_count self.now.is_refused
-            (final_rows self.now.origin.pixel_limit (settled self.now.bytes)) }
+            (payload_final_rows self.now.origin.pixel_limit self.now.bytes) }
     {
         match &self.state {
             PayloadState::Reading(parser) => parser
@@ -54,12 +52,12 @@ impl PayloadReader<BandCanvas> {
     pub fn copy_rows(&self, first: usize, rows: usize, layout: RowLayout, out: &mut [u8])
         requires stored { self.now.released ≤ first }
         requires above { first + rows
-            ≤ final_rows self.now.origin.pixel_limit (settled self.now.bytes) }
+            ≤ payload_final_rows self.now.origin.pixel_limit self.now.bytes }
         requires accepted { 0 < rows → self.now.is_refused ≡ false }
         requires fits { AreRowsIn layout rows (length out.old) }
         ensures len { length out.new ≡ length out.old }
         ensures copied { AreCopied
-            (clipped_pixel self.now.origin (history_of (front self.now.bytes)))
+            (clipped_pixel self.now.origin (tokens self.now.origin.pixel_limit self.now.bytes))
             first rows layout out.old out.new }
     {
         let PayloadState::Reading(parser) = &self.state else {
@@ -80,11 +78,9 @@ impl PayloadReader<BandCanvas> {
 
     /// Releases the rows above row `rows`, which are final.
     pub fn release_rows(&mut self, rows: usize)
-        requires above { rows ≤ final_rows self.old.origin.pixel_limit (settled self.old.bytes) }
+        requires above { rows ≤ payload_final_rows self.old.origin.pixel_limit self.old.bytes }
         requires accepted { 0 < rows → self.old.is_refused ≡ false }
-        ensures { self.new ≡ record self.old {
-          released = max self.old.released rows;
-        } }
+        ensures { self.new ≡ record self.old { released = max self.old.released rows } }
     {
         let PayloadState::Reading(parser) = &mut self.state else {
             return;

@@ -4,6 +4,7 @@ use Rattle.sixel_base.specs.Bytes.{carrying}
 use Rattle.sixel_base.specs.Decoder.{origin_of}
 use Rattle.sixel_base.specs.Dcs.{Reading}
 use Rattle.sixel_base.specs.Header.{header_text, is_header, settings_of}
+use Rattle.sixel_base.proofs.ToleratedTokens.{fault-none}
 use Rattle.sixel_decoder.specs.Session.{Session}
 use Rattle.sixel_decoder.specs.inside.DcsParser.{HasFollowed, IsInHeader, IsInPayload}
 use Rattle.sixel_decoder.specs.declared.dcs_parser.DcsState.{DcsState}
@@ -68,7 +69,7 @@ returns-in-Ok-Some-clause-steps g c = λ before head is.
           ∙ ap (λ s. Reading s []) (sym stepped.2);
       start = refl;
       accepted = refl;
-      faultless = refl;
+      faultless = fault-none old.decoder.pixel_limit;
       ending = it.1;
     } in (
       refl,

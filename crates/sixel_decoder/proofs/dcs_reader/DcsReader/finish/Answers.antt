@@ -1,7 +1,7 @@
 use Rattle.std.proofs.Common.{◌≡◌, ◌*◌, ◌≤◌, ℕ, List, Bool, true, false, ap, subst, sym, ◌∙◌}
 use Rattle.std.specs.Prelude.{IfOk, OnOk}
 use Rattle.std.proofs.lemmas.Result.{on_ok_weaker}
-use Rattle.sixel_base.specs.Dcs.{dcs_status, has_come, has_ended}
+use Rattle.sixel_base.specs.Dcs.{can_finish}
 use Rattle.sixel_base.specs.Limits.{Limit}
 use Rattle.sixel_base.specs.OneShot.{found, found_fault}
 use Rattle.sixel_base.specs.Payload.{payload_fault}
@@ -10,12 +10,12 @@ use Rattle.sixel_decoder.specs.inside.DcsParser.{HasFollowed, IsInPayload}
 use Rattle.sixel_decoder.specs.declared.dcs_parser.DcsState.{DcsState}
 use Rattle.sixel_decoder.proofs.DcsPayloads.{found_drawn, found_image, found_reading}
 use Rattle.sixel_decoder.proofs.DcsPayloads.{found_registers}
-use Rattle.sixel_decoder.proofs.Sessions.{string_decoded, string_ended, string_image}
-use Rattle.sixel_decoder.proofs.Sessions.{string_refused_at_end, string_registers}
+use Rattle.sixel_decoder.proofs.DcsFinishes.{finish_told, string_decoded, string_image}
+use Rattle.sixel_decoder.proofs.DcsFinishes.{string_refused_at_end, string_registers}
 use Rattle.sixel_decoder.proofs.dcs_reader.DcsReader.finish.Goals as goal
 
-pub returns-then-has_come-clause-finished : goal.returns-then-has_come-clause-finished
-returns-then-has_come-clause-finished g c =
+pub returns-then-can_finish-clause-finished : goal.returns-then-can_finish-clause-finished
+returns-then-can_finish-clause-finished g c =
     let inside = c.self.inside in
     let reader = c.in-Payload.reader in
     let result = c.finish.result in
@@ -24,15 +24,14 @@ returns-then-has_come-clause-finished g c =
     let is : IsInPayload reader inside.parser.decoder inside.parser.ended bytes =
     subst (λ (p : DcsState _). HasFollowed p inside.parser.decoder inside.parser.ended bytes)
     c.in-Payload.is c.self.invariant in
-    let come : has_come inside.parser.ended ≡ true =
-    sym c.has_come.ensures ∙ c.if-has_come.true in
+    let finishes : can_finish inside.parser.decoder.pixel_limit bytes ≡ true =
+    finish_told reader inside.parser.decoder inside.parser.ended bytes is
+    ∙ (sym c.can_finish-can_finish.ensures ∙ c.if-can_finish.true) in
     let limit : Limit = inside.parser.decoder.pixel_limit in
     let same : found_fault limit (found bytes)
     ≡ payload_fault reader.origin.pixel_limit reader.bytes =
     ap (found_fault limit) (found_reading bytes reader.origin.settings reader.bytes is.reading)
     ∙ ap (λ (o : Origin). payload_fault o.pixel_limit reader.bytes) (sym is.start) in
-    let over : has_ended (dcs_status bytes) ≡ true =
-    string_ended reader inside.parser.decoder inside.parser.ended bytes is ∙ come in
     record {
       image = rw (← c.self.view_is) (string_image result reader _ _ _ is told.image);
       registers = rw (← c.self.view_is)
@@ -40,8 +39,8 @@ returns-then-has_come-clause-finished g c =
       found_image = rw (← c.self.view_is) (found_image result reader _ _ _ is told.image);
       found_registers = rw (← c.self.view_is)
           (found_registers result reader _ _ _ is told.registers);
-      as_decoded = λ more. rw (← c.self.view_is)
-          (string_decoded result reader _ _ _ more is come
+      as_decoded = λ more. rw (← c.self.view_is) (λ over.
+          string_decoded result reader _ _ _ more is over
           told.faultless told.image told.registers);
       area = rw (← c.self.view_is)
           (subst (λ (o : Origin). IfOk result (λ it. it.width * it.height ≤ o.pixel_limit.pixels))
@@ -51,13 +50,13 @@ returns-then-has_come-clause-finished g c =
       whole = rw (← c.self.view_is, c.in-Payload.is) told.whole;
       accepted = rw (← c.self.view_is, c.in-Payload.is)
           (subst (λ (b : Bool). OnOk result (b ≡ false)) is.accepted told.accepted);
-      ended = rw (← c.self.view_is) (on_ok_weaker result (λ _. over) told.accepted);
+      ended = rw (← c.self.view_is) (on_ok_weaker result (λ _. finishes) told.accepted);
       error = rw (← c.self.view_is, c.in-Payload.is)
-          (string_refused_at_end result reader _ _ _ is come told.error);
+          (string_refused_at_end result reader _ _ _ is finishes told.error);
     }
 
-pub returns-then-has_come-clause-drawn : goal.returns-then-has_come-clause-drawn
-returns-then-has_come-clause-drawn g c =
+pub returns-then-can_finish-clause-drawn : goal.returns-then-can_finish-clause-drawn
+returns-then-can_finish-clause-drawn g c =
     let inside = c.self.inside in
     let is : IsInPayload c.in-Payload.reader inside.parser.decoder inside.parser.ended
     inside.log.bytes =

@@ -39,7 +39,8 @@ returns-clause-fed g c = λ told.
     followed_sound parser.state parser.decoder parser.ended inside.log.bytes c.self.invariant
     accepted in
     rw (← c.self.view_is)
-    (string_fed {C = g.row.C.Denot} (session_of inside) _ (Payload c.try_byte.new.self) parser.ended (c.args.byte ∷ [])
+    (string_fed {C = g.row.C.Denot} (session_of inside) _ (Payload c.try_byte.new.self) parser.ended
+    (c.args.byte ∷ [])
     (record { consumed = 1; status = string_status.NeedMoreData }) accepted sound (followed g c)
     refl c.push.ensures refl
     (rw c.in-Payload.is (c.try_byte.ensures.fed c.if-not-try_byte.false).released))

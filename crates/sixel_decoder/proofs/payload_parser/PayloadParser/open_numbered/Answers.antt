@@ -14,6 +14,7 @@ returns-clause-stands g c = λ o h shows.
       command = c.numbered-self.result;
       parameters = parameters;
       painter = c.args.self.now.painter;
+      ignored = c.args.self.now.ignored;
     } in
     let le : n ≤ length (drop 1 bytes) =
     subst (λ (bs : List ℕ). n ≤ length bs) c.tail.ensures kept.within in

@@ -4,7 +4,7 @@ use Rattle.std.specs.Prelude.{◌⊎◌}
 use Rattle.std.proofs.lemmas.Result.{err_from_is_err_and}
 use Rattle.sixel_base.specs.Fault.{Faults}
 use Rattle.sixel_base.specs.History.{Sixel}
-use Rattle.sixel_base.specs.Payload.{first_fault}
+use Rattle.sixel_base.specs.Lenient.{fault}
 use Rattle.sixel_base.specs.Bytes.{is_ignored, is_sixel, is_terminator}
 use Rattle.sixel_decoder.specs.declared.payload_parser.PayloadParser.{PayloadParser}
 use Rattle.sixel_decoder.specs.inside.Runs.{IsPrintable}
@@ -29,12 +29,12 @@ numbered_printable byte (inr is) = (omega (arith, is), omega (arith, is))
 
 -- ---- a sixel
 
-pub draw_front-requires-clause-some : goal.draw_front-requires-clause-some
-draw_front-requires-clause-some g c =
+pub draw_sixels-requires-clause-some : goal.draw_sixels-requires-clause-some
+draw_sixels-requires-clause-some g c =
     rw (c.tail.ensures, splits_at c.args.chunk.now c.bytes.index c.bytes-test.true) (omega arith)
 
-pub draw_front-requires-clause-sixel : goal.draw_front-requires-clause-sixel
-draw_front-requires-clause-sixel g c =
+pub draw_sixels-requires-clause-sixel : goal.draw_sixels-requires-clause-sixel
+draw_sixels-requires-clause-sixel g c =
     let byte = get_or c.args.chunk.now c.bytes.index 0 in
     rw (c.tail.ensures, splits_at c.args.chunk.now c.bytes.index c.bytes-test.true)
     (sixel_from_test byte (sym c.is_sixel.ensures ∙ c.if-is_sixel.true))
@@ -62,7 +62,7 @@ returns-in_err-drawn-clause-feeds g c = λ o h stands.
     let r = c.bytes.invariant.1 o h stands in
     let e = c.in_err-drawn.field-0.0 in
     let refused =
-    c.in_err-drawn.ensures.draws o r.now (c.in_ok-close.ensures.drawn o r.now r.stands) in
+    c.in_err-drawn.ensures.tolerates o r.now (c.in_ok-close.ensures.drawn o r.now r.stands) in
     let p =
     err_from_is_err_and c.from_residual-in_err-drawn.result
     c.from_residual-in_err-drawn.ensures.1 in
@@ -70,7 +70,7 @@ returns-in_err-drawn-clause-feeds g c = λ o h stands.
     (feeds_refused_printable _ o c.bytes.self h index piece c.bytes-test.true
     (printable_from_sixel byte test) r
     (refused_sixel e o.pixel_limit r.now byte (sixel_from_test byte test)
-    (subst (λ (b : ℕ). Faults e true (first_fault o.pixel_limit (Sixel (b - 63) ∷ r.now)))
+    (subst (λ (b : ℕ). Faults e true (fault o.pixel_limit (Sixel (b - 63) ∷ r.now)))
     (first_ahead index piece c.tail.result.now c.tail.ensures) refused)))
 
 pub bytes-preserved-then-is_sixel : goal.bytes-preserved-then-is_sixel
@@ -83,7 +83,8 @@ bytes-preserved-then-is_sixel g c =
     let new : PayloadParser _ g.C.Canvas = record {
       command = closed.command;
       parameters = closed.parameters;
-      painter = c.draw_front.new.self;
+      painter = c.draw_sixels.new.self;
+      ignored = c.draw_sixels.new.ignored;
     } in (
       omega (
         arith,
@@ -94,7 +95,7 @@ bytes-preserved-then-is_sixel g c =
       ),
       λ o h stands.
           let r = c.bytes.invariant.1 o h stands in
-          let shows = is.draws o r.now (c.in_ok-close.ensures.drawn o r.now r.stands) in
+          let shows = is.tolerates o r.now (c.in_ok-close.ensures.drawn o r.now r.stands) in
           reaches_read o c.bytes.self new h c.bytes.index drawn piece rest c.tail.ensures
           (λ k lt. (omega (arith, is.sixels k lt), omega (arith, is.sixels k lt))) is.within r
           (Stands-run o new r.now drawn rest c.in_ok-close.ensures.ground is.some is.within

@@ -1,4 +1,7 @@
-use Rattle.std.proofs.Common.{[], ◌∷◌, arith}
+use Rattle.std.proofs.Common.{[], ◌∷◌, ◌-◌, arith}
+use Rattle.sixel_base.specs.History.{Sixel}
+use Rattle.sixel_base.specs.Lenient.{effective}
+use Rattle.sixel_decoder.proofs.LenientTokens.{has_drawn_more}
 use Rattle.sixel_decoder.proofs.SixelRuns.{Stands-one}
 use Rattle.sixel_decoder.proofs.payload_parser.PayloadParser.try_sixel.Goals as goal
 
@@ -6,4 +9,7 @@ pub returns-clause-stands : goal.returns-clause-stands
 returns-clause-stands g c = λ drawn o h stands.
     let closed = c.if-not-try_close.ensures in
     Stands-one o _ h (c.args.byte ∷ []) (closed.ground drawn) (omega arith) c.requires
-    (c.draw_column.ensures.shows o h (closed.shows drawn o h stands))
+    (has_drawn_more o _ _ (Sixel (c.args.byte - 63)) h
+    (c.draw_column.ensures.shows o (effective o.pixel_limit h)
+    (closed.shows drawn o h stands).shows)
+    (closed.shows drawn o h stands).count)

@@ -1,5 +1,5 @@
 use Rattle.std.proofs.Common.{ℕ, List, Some, refl, subst}
-use Rattle.sixel_base.specs.Payload.{settled}
+use Rattle.sixel_base.specs.Payload.{settled_tokens}
 use Rattle.sixel_base.specs.Stroke.{Origin}
 use Rattle.sixel_decoder.specs.declared.payload_reader.PayloadState.{PayloadState}
 use Rattle.sixel_decoder.specs.inside.PayloadReader.{session_of, parser_of, HasRead}
@@ -16,9 +16,10 @@ returns-in-Reading c =
     let read : HasRead (Some parser) origin inside.terminator bytes =
     subst (λ (w : PayloadState _ _). HasRead (parser_of w) origin inside.terminator bytes)
     c.in-Reading.is c.self.invariant in
-    let shows = shown_settled origin parser inside.terminator bytes read in
+    let shows = (shown_settled origin parser inside.terminator bytes read).shows in
     let cost =
-    history_cost origin.pixel_limit parser.painter.canvas (settled bytes) shows.faultless
+    history_cost origin.pixel_limit parser.painter.canvas
+    (settled_tokens origin.pixel_limit bytes) shows.faultless
     shows.paid in
     rw (← c.self.view_is, c.in-Reading.is, c.writes.ensures.value) (record {
       value = refl;

@@ -45,7 +45,8 @@ returns-in-Some g c =
     let ended : HasRead (Some parser) origin (Some byte) bytes =
     subst (λ (w : Option ℕ). HasRead (Some parser) origin w bytes) c.in-Some.is read in
     let goes = ended_goes_on origin parser bytes chunk byte ended in
-    let sound = read_sound (parser_of inside.state) origin inside.terminator bytes c.self.invariant in
+    let sound = read_sound
+    (parser_of inside.state) origin inside.terminator bytes c.self.invariant in
     let was : is_none (parser_of inside.state) ≡ false = rw c.in-Reading.is refl in
     rw (← c.self.view_is)
     (payload_fed (session_of inside) _ chunk fed was (sound was) (goes.0, goes.1) goes.3 refl
@@ -79,7 +80,8 @@ returns-in-Ok g c =
     open_goes_on (Ok c.in-Ok.fed) origin c.in-Reading.parser c.feed.new.self inside.terminator bytes
     c.args.chunk.now
     c.in-None.is read (c.in-Ok.ensures.feeds origin _) in
-    let sound = read_sound (parser_of inside.state) origin inside.terminator bytes c.self.invariant in
+    let sound = read_sound
+    (parser_of inside.state) origin inside.terminator bytes c.self.invariant in
     let was : is_none (parser_of inside.state) ≡ false = rw c.in-Reading.is refl in
     rw (← c.self.view_is)
     (payload_fed (session_of inside) _ c.args.chunk.now c.in-Ok.fed was (sound was) (goes.0, goes.1)

@@ -1,10 +1,15 @@
-use Rattle.std.proofs.Common.{◌≡◌, ℕ, List, Option, Ok, Err, false, Result, subst, refl, rules}
-use Rattle.std.specs.Prelude.{is_some, IfOk, OnOk}
+use Rattle.std.proofs.Common.{◌≡◌, ◌∙◌, ℕ, List, Option, Ok, Err, false, Result, subst, refl}
+use Rattle.std.proofs.Common.{rules, sym}
+use Rattle.std.specs.Prelude.{is_none, is_some, IfOk, OnOk}
 use Rattle.sixel_base.specs.declared.error.SixelError.{SixelError}
 use Rattle.sixel_base.specs.Bytes.{front}
 use Rattle.sixel_base.specs.DrawnHeight.{found_drawn_height}
 use Rattle.sixel_base.specs.History.{history_of}
+use Rattle.sixel_base.specs.Fault.{Fault, Faults}
+use Rattle.sixel_base.specs.Limits.{Limit}
 use Rattle.sixel_base.specs.OneShot.{Payload}
+use Rattle.sixel_base.specs.Payload.{payload_fault, tokens}
+use Rattle.sixel_base.proofs.ToleratedTokens.{effective-fault}
 use Rattle.sixel_base.specs.Stroke.{Origin}
 use Rattle.sixel_canvas.specs.declared.drawing.Canvas.{Ghosts}
 use Rattle.sixel_decoder.specs.CopiedImage.{decoder_of}
@@ -23,11 +28,11 @@ use Rattle.sixel_decoder.proofs.payload_reader.PayloadReader.finish.Goals as goa
 
 -- how a session is finished whose parser ended its history
 finished_by : (result : Result DecodedPayload SixelError) (s : Session) → s.is_refused ≡ false
-    → Ends result s.origin (history_of (front s.bytes)) → OnOk result (s.released ≡ 0)
+    → Ends result s.origin (tokens s.origin.pixel_limit s.bytes) → OnOk result (s.released ≡ 0)
     → IsFinished picture_value (λ picture. picture.registers) s result
 finished_by (Ok picture) s accepted ends whole = record {
   image = ends.1;
-  faultless = ends.0;
+  faultless = sym (effective-fault s.origin.pixel_limit (history_of (front s.bytes))) ∙ ends.0;
   registers = ends.2;
   area = ends.3;
   pixels = picture.whole;
@@ -38,6 +43,10 @@ finished_by (Ok picture) s accepted ends whole = record {
 }
 finished_by (Err e) s accepted ends whole =
     let decodes : Decodes (Err e) s.origin s.bytes = payload_ends (Err e) s.origin s.bytes ends in
+    let limit : Limit = s.origin.pixel_limit in
+    let told : Faults e (is_none (payload_fault limit s.bytes)) (payload_fault limit s.bytes) =
+    subst (λ (w : Option Fault). Faults e (is_none w) w)
+    (effective-fault limit (history_of (front s.bytes))) ends in
     record {
       image = tt;
       faultless = tt;
@@ -46,13 +55,13 @@ finished_by (Err e) s accepted ends whole =
       pixels = tt;
       accepted = tt;
       whole = tt;
-      error = rw accepted ends;
+      error = rw accepted told;
       refused = λ error is sound. search (rules, decodes, is);
     }
 
 -- and its drawn height
 drawn_by : (result : Result DecodedPayload SixelError) (s : Session)
-    → Ends result s.origin (history_of (front s.bytes))
+    → Ends result s.origin (tokens s.origin.pixel_limit s.bytes)
     → IfOk result (λ picture. picture.drawn_height
     ≡ found_drawn_height (decoder_of s.origin) (Payload s.origin.settings s.bytes))
 drawn_by (Ok picture) s ends = ends.4

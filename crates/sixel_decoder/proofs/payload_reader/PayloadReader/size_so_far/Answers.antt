@@ -1,4 +1,4 @@
-use Rattle.std.proofs.Common.{refl, subst}
+use Rattle.std.proofs.Common.{List, ℕ, refl, subst}
 use Rattle.sixel_base.specs.Stroke.{Origin}
 use Rattle.sixel_decoder.specs.declared.payload_reader.PayloadState.{PayloadState}
 use Rattle.sixel_decoder.specs.inside.PayloadReader.{session_of, parser_of, HasRead}
@@ -9,10 +9,10 @@ pub returns-in-Reading : goal.returns-in-Reading
 returns-in-Reading g c =
     let inside = c.self.inside in
     let origin : Origin = (session_of inside).origin in
-    let shows =
-    shown_settled origin c.in-Reading.parser inside.terminator inside.log.bytes
-    (subst (λ (w : PayloadState _ _). HasRead (parser_of w) origin inside.terminator inside.log.bytes)
-    c.in-Reading.is c.self.invariant) in
+    let bytes : List ℕ = inside.log.bytes in
+    let shows = (shown_settled origin c.in-Reading.parser inside.terminator bytes
+    (subst (λ (w : PayloadState _ _). HasRead (parser_of w) origin inside.terminator bytes)
+    c.in-Reading.is c.self.invariant)).shows in
     rw (← c.self.view_is, c.in-Reading.is) (record {
       accepted = λ accepted.
           rw (

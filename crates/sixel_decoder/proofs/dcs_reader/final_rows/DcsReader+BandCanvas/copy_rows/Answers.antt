@@ -1,8 +1,7 @@
 use Rattle.std.proofs.Common.{◌≡◌, ◌∙◌, ℕ, List, ap, sym, subst}
-use Rattle.sixel_base.specs.Bytes.{front}
 use Rattle.sixel_base.specs.Clip.{clipped_pixel}
-use Rattle.sixel_base.specs.History.{history_of}
 use Rattle.sixel_base.specs.OneShot.{found}
+use Rattle.sixel_base.specs.Payload.{tokens}
 use Rattle.sixel_base.specs.Stroke.{Origin}
 use Rattle.sixel_base.specs.declared.state.DecoderState.{DecoderState}
 use Rattle.sixel_canvas.specs.Layout.{AreCopied}
@@ -22,10 +21,10 @@ returns-clause-copied c =
     subst (λ (p : DcsState _). HasFollowed p decoder inside.parser.ended bytes)
     c.in-Payload.is c.self.invariant in
     let same : found_pixel decoder (found bytes)
-    ≡ clipped_pixel reader.origin (history_of (front reader.bytes)) =
+    ≡ clipped_pixel reader.origin (tokens reader.origin.pixel_limit reader.bytes) =
     ap (found_pixel decoder)
     (found_reading bytes reader.origin.settings reader.bytes is.reading)
-    ∙ ap (λ (o : Origin). clipped_pixel o (history_of (front reader.bytes))) (sym is.start) in
+    ∙ ap (λ (o : Origin). clipped_pixel o (tokens o.pixel_limit reader.bytes)) (sym is.start) in
     rw (← c.self.view_is)
     (subst (λ (shown : ℕ → ℕ → List ℕ). AreCopied shown c.args.first c.args.rows c.args.layout
     c.args.out.now c.copy_rows.new.out) (sym same) c.copy_rows.ensures.copied)

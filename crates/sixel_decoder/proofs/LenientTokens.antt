@@ -1,0 +1,361 @@
+-- What a painter has drawn of all tokens where commands with a fault may be ignored.
+use Rattle.std.proofs.Common.{◌≡◌, ℕ, ◌-◌, ◌<◌, ◌≤◌, Bool, true, false, cond, List, [], ◌∷◌, refl}
+use Rattle.std.proofs.Common.{ap}
+use Rattle.std.proofs.Common.{sym, ◌∙◌, subst, length, take, get_or, Option, Some, None, Result, Ok}
+use Rattle.std.proofs.Common.{Err, arith}
+use Rattle.std.specs.Prelude.{IfErr, fold, is_none, min, ◌+◌, ◌&&◌}
+use Rattle.std.specs.Option.{option_or}
+use Rattle.sixel_base.specs.declared.error.SixelError.{SixelError}
+use Rattle.sixel_base.specs.declared.error.SixelError.TheVariants.{InvalidDimensions}
+use Rattle.sixel_base.specs.declared.error.SixelError.TheVariants.{BufferSizeMismatch, InvalidData}
+use Rattle.sixel_base.specs.declared.error.SixelError.TheVariants.{NoSixelData, IntegerOverflow}
+use Rattle.sixel_base.specs.declared.error.SixelError.TheVariants.{OutOfMemory}
+use Rattle.sixel_base.specs.Fault.{Fault, Faults, is_fault}
+use Rattle.sixel_base.specs.History.{Token, Sixel, Repeat, Raster, Color, Return, Newline, Skip}
+use Rattle.sixel_base.specs.History.{History, read}
+use Rattle.sixel_base.specs.Lenient.{count_limit, effective, fault, ignored, ignored_count}
+use Rattle.sixel_base.specs.Lenient.{tolerated}
+use Rattle.sixel_base.specs.Lenient.{without}
+use Rattle.sixel_base.specs.Limits.{Limit}
+use Rattle.sixel_base.specs.Payload.{fault_of, first_fault, image_height, settled}
+use Rattle.sixel_base.specs.Payload.{settled_tokens}
+use Rattle.sixel_base.specs.Stroke.{Origin}
+use Rattle.sixel_base.proofs.ToleratedTokens.{effective-fault, effective-more, effective-none}
+use Rattle.sixel_base.proofs.ToleratedTokens.{effective-strict}
+use Rattle.sixel_base.proofs.ToleratedTokens.{count-more, count-none, count-without}
+use Rattle.sixel_base.proofs.ToleratedTokens.{effective-without, option_or-none}
+use Rattle.sixel_canvas.specs.declared.drawing.Canvas.{Ghosts}
+use Rattle.sixel_decoder.specs.declared.painter.Painter.{Painter}
+use Rattle.sixel_decoder.specs.inside.Lenient.{Tolerates, HasDrawn, tolerated_count}
+use Rattle.sixel_decoder.specs.inside.Lenient.{tolerated_height, tolerated_result}
+use Rattle.sixel_decoder.specs.inside.CopiedImage.{HasHeight}
+use Rattle.sixel_decoder.specs.Paints.{sixels}
+use Rattle.sixel_decoder.specs.inside.Painter.{Draws, Shows}
+use Rattle.sixel_decoder.specs.inside.Runs.{IsRun, IsSixelByte, bits_of}
+use Rattle.sixel_decoder.proofs.SixelRuns.{IsRun-take, fold_one, fold_run, with_sixels}
+use Rattle.sixel_decoder.proofs.TokenFaults.{fault_found, never_memory}
+
+-- a failed allocation may be answered whatever was found
+pub memory_along : (e : SixelError) (may : Bool) (found found' : Option Fault) → is_fault e ≡ false
+    → Faults e may found → Faults e may found'
+memory_along (InvalidDimensions w h) may found found' not_fault is = absurd (cc not_fault)
+memory_along (BufferSizeMismatch w h) may found found' not_fault is = absurd (cc not_fault)
+memory_along (InvalidData t) may found found' not_fault is = absurd (cc not_fault)
+memory_along NoSixelData may found found' not_fault is = absurd (cc not_fault)
+memory_along IntegerOverflow may found found' not_fault is = absurd (cc not_fault)
+memory_along OutOfMemory may found found' not_fault is = is
+
+-- no tokens
+pub has_drawn_none : {C : Type 0} {canvas : Ghosts C} (o : Origin) (painter : Painter C canvas)
+    → Shows o painter [] → HasDrawn o painter 0 []
+has_drawn_none o painter shows = record {
+  shows = subst (λ (w : History). Shows o painter w) (sym (effective-none o.pixel_limit)) shows;
+  count = sym (count-none o.pixel_limit);
+}
+
+-- one more token that was drawn
+pub has_drawn_more : {C : Type 0} {canvas : Ghosts C} (o : Origin) (painter : Painter C canvas)
+    (n : ℕ) (token : Token) (h : History)
+    → Shows o painter (token ∷ effective o.pixel_limit h) → n ≡ ignored_count o.pixel_limit h
+    → HasDrawn o painter n (token ∷ h)
+has_drawn_more o painter n token h shows count = record {
+  shows = subst (λ (w : History). Shows o painter w)
+      (sym (effective-more o.pixel_limit token h shows.faultless)) shows;
+  count = count ∙ sym (count-more o.pixel_limit token h shows.faultless);
+}
+
+-- one that is ignored
+pub has_drawn_without : {C : Type 0} {canvas : Ghosts C} (o : Origin) (painter : Painter C canvas)
+    (n : ℕ) (token : Token) (h : History) (f : Fault) → o.pixel_limit.lenient ≡ true
+    → first_fault o.pixel_limit (token ∷ effective o.pixel_limit h) ≡ Some f
+    → Shows o painter (without token (effective o.pixel_limit h))
+    → n ≡ ignored_count o.pixel_limit h
+    → HasDrawn o painter (min (n + 1) count_limit) (token ∷ h)
+has_drawn_without o painter n token h f on found shows count = record {
+  shows = subst (λ (w : History). Shows o painter w)
+      (sym (effective-without o.pixel_limit token h f on found)) shows;
+  count =
+      ap (λ (m : ℕ). min (m + 1) count_limit) count
+      ∙ sym (count-without o.pixel_limit token h f on found);
+}
+
+-- a command that was drawn, or has a fault that may be ignored
+pub tolerates_command : {C : Type 0} {canvas : Ghosts C} (result : Result (Unit {0}) SixelError)
+    (o : Origin) (old new : Painter C canvas) (n : ℕ) (token : Token) (h : History)
+    → ((w : History) → without token w ≡ w)
+    → HasDrawn o old n h → Draws result o new (token ∷ effective o.pixel_limit h) false
+    → IfErr result (λ error. is_fault error ≡ true → new ≡ old)
+    → Tolerates (tolerated_result old.pixel_limit.lenient result) o new
+    (tolerated_count old.pixel_limit.lenient result n) (token ∷ h)
+tolerates_command (Ok _) o old new n token h other state draws kept =
+    has_drawn_more o new n token h draws state.count
+tolerates_command {C} {canvas} (Err e) o old new n token h other state draws kept =
+    let limit : Limit = o.pixel_limit in
+    subst (λ (w : Limit). Tolerates (tolerated_result w.lenient (Err e)) o new
+    (tolerated_count {A = Unit {0}} w.lenient (Err e) n) (token ∷ h))
+    (sym state.shows.limit)
+    ((elim limit.lenient as
+    (λ t. limit.lenient ≡ t
+    → Tolerates (tolerated_result t (Err e)) o new (tolerated_count {A = Unit {0}} t (Err e) n)
+    (token ∷ h)) [
+      | false ↦ λ off.
+          subst (λ (w : Option Fault). Faults e false w) (effective-strict limit token h off) draws
+      | true ↦ λ on.
+          (elim (is_fault e) as
+          (λ t. is_fault e ≡ t
+          → Tolerates (cond t (Ok tt) (Err e)) o new (cond t (min (n + 1) count_limit) n)
+          (token ∷ h)) [
+            | false ↦ λ not_fault. memory_along e false _ (fault limit (token ∷ h)) not_fault draws
+            | true ↦ λ is.
+                fault_found e false (first_fault limit (token ∷ effective limit h))
+                (HasDrawn o new (min (n + 1) count_limit) (token ∷ h)) draws is (λ f found.
+                has_drawn_without o new n token h f on found
+                (subst (λ (w : History). Shows o new w) (sym (other (effective limit h)))
+                (subst (λ (w : Painter C canvas). Shows o w (effective limit h)) (sym (kept is))
+                state.shows)) state.count)
+          ]) refl
+    ]) refl)
+
+-- ---- sixels at the front of bytes
+
+sixels-older : (limit : Limit) (h : History) (sixels : List ℕ)
+    → first_fault limit (with_sixels h sixels) ≡ None → first_fault limit h ≡ None
+sixels-older limit h [] none = none
+sixels-older limit h (bits ∷ more) none =
+    option_or-none (first_fault limit h) (fault_of limit (Sixel bits) h)
+    (sixels-older limit (Sixel bits ∷ h) more none)
+
+-- sixels that have no fault after the tokens that count
+effective-sixels : (limit : Limit) (h : History) (sixels : List ℕ)
+    → first_fault limit (with_sixels (effective limit h) sixels) ≡ None
+    → effective limit (with_sixels h sixels) ≡ with_sixels (effective limit h) sixels
+effective-sixels limit h [] none = refl
+effective-sixels limit h (bits ∷ more) none =
+    let one : effective limit (Sixel bits ∷ h) ≡ Sixel bits ∷ effective limit h =
+    effective-more limit (Sixel bits) h
+    (sixels-older limit (Sixel bits ∷ effective limit h) more none) in
+    effective-sixels limit (Sixel bits ∷ h) more
+    (ap (λ (w : History). first_fault limit (with_sixels w more)) one ∙ none)
+    ∙ ap (λ (w : History). with_sixels w more) one
+
+-- of which none is ignored
+count-sixels : (limit : Limit) (h : History) (sixels : List ℕ)
+    → first_fault limit (with_sixels (effective limit h) sixels) ≡ None
+    → ignored_count limit (with_sixels h sixels) ≡ ignored_count limit h
+count-sixels limit h [] none = refl
+count-sixels limit h (bits ∷ more) none =
+    let first : first_fault limit (Sixel bits ∷ effective limit h) ≡ None =
+    sixels-older limit (Sixel bits ∷ effective limit h) more none in
+    count-sixels limit (Sixel bits ∷ h) more
+    (ap (λ (w : History). first_fault limit (with_sixels w more))
+    (effective-more limit (Sixel bits) h first) ∙ none)
+    ∙ count-more limit (Sixel bits) h first
+
+-- that were drawn
+pub has_drawn_front : {C : Type 0} {canvas : Ghosts C} (o : Origin) (painter : Painter C canvas)
+    (n : ℕ) (h : History) (drawn : ℕ) (bytes : List ℕ)
+    → drawn ≤ length bytes → ((k : ℕ) → k < drawn → IsSixelByte (get_or bytes k 0))
+    → Shows o painter (fold read (effective o.pixel_limit h) (take drawn bytes))
+    → n ≡ ignored_count o.pixel_limit h
+    → HasDrawn o painter n (fold read h (take drawn bytes))
+has_drawn_front o painter n h drawn bytes le are shows count =
+    let limit : Limit = o.pixel_limit in
+    let run : List ℕ = take drawn bytes in
+    let is : IsRun run = IsRun-take drawn bytes le are in
+    let whole : fold read (effective limit h) run ≡ with_sixels (effective limit h) (bits_of run) =
+    fold_run (effective limit h) run is in
+    let none : first_fault limit (with_sixels (effective limit h) (bits_of run)) ≡ None =
+    ap (first_fault limit) (sym whole) ∙ shows.faultless in
+    record {
+      shows = subst (λ (w : History). Shows o painter w)
+          (whole ∙ sym (effective-sixels limit h (bits_of run) none)
+          ∙ ap (effective limit) (sym (fold_run h run is))) shows;
+      count =
+          count ∙ sym (count-sixels limit h (bits_of run) none)
+          ∙ ap (ignored_count limit) (sym (fold_run h run is));
+    }
+
+-- a sixel that is ignored
+pub has_drawn_ignored : {C : Type 0} {canvas : Ghosts C} (e : SixelError) (o : Origin)
+    (old new : Painter C canvas) (n : ℕ) (h : History) (bytes : List ℕ)
+    → 0 < length bytes → IsSixelByte (get_or bytes 0 0)
+    → old.pixel_limit.lenient ≡ true → is_fault e ≡ true → HasDrawn o old n h
+    → Faults e true
+    (first_fault o.pixel_limit (Sixel (get_or bytes 0 0 - 63) ∷ effective o.pixel_limit h))
+    → Shows o new (Repeat [] ∷ effective o.pixel_limit h)
+    → HasDrawn o new (min (n + 1) count_limit) (fold read h (take 1 bytes))
+has_drawn_ignored e o old new n h bytes some is lenient faulty state refused shows =
+    let limit : Limit = o.pixel_limit in
+    let token : Token = Sixel (get_or bytes 0 0 - 63) in
+    let on : limit.lenient ≡ true =
+    ap (λ (w : Limit). w.lenient) (sym state.shows.limit) ∙ lenient in
+    subst (λ (w : History). HasDrawn o new (min (n + 1) count_limit) w)
+    (sym (fold_one h bytes some is))
+    (fault_found e true (first_fault limit (token ∷ effective limit h))
+    (HasDrawn o new (min (n + 1) count_limit) (token ∷ h)) refused faulty (λ f found.
+    has_drawn_without o new n token h f on found shows state.count))
+
+-- a sixel that is rejected
+pub tolerates_refused : {C : Type 0} {canvas : Ghosts C} (e : SixelError) (o : Origin)
+    (old : Painter C canvas) (n : ℕ) (h : History) (token : Token)
+    → old.pixel_limit.lenient && is_fault e ≡ false → HasDrawn o old n h
+    → Faults e true (first_fault o.pixel_limit (token ∷ effective o.pixel_limit h))
+    → Faults e true (fault o.pixel_limit (token ∷ h))
+tolerates_refused e o old n h token not_fault state refused =
+    let limit : Limit = o.pixel_limit in
+    let not_here : limit.lenient && is_fault e ≡ false =
+    ap (λ (w : Limit). w.lenient && is_fault e) (sym state.shows.limit) ∙ not_fault in
+    (elim limit.lenient as
+    (λ t. limit.lenient ≡ t → t && is_fault e ≡ false → Faults e true (fault limit (token ∷ h))) [
+      | false ↦ λ off none.
+          subst (λ (w : Option Fault). Faults e true w) (effective-strict limit token h off) refused
+      | true ↦ λ on none. memory_along e true _ (fault limit (token ∷ h)) none refused
+    ]) refl not_here
+
+-- a byte that is skipped
+pub has_drawn_skip : {C : Type 0} {canvas : Ghosts C} (o : Origin) (painter : Painter C canvas)
+    (n : ℕ) (byte : ℕ) (h : History) → HasDrawn o painter n h
+    → HasDrawn o painter n (Skip byte ∷ h)
+has_drawn_skip o painter n byte h state =
+    let shows = state.shows in
+    has_drawn_more o painter n (Skip byte) h (record {
+      pixels = shows.pixels;
+      paid = shows.paid;
+      registers = shows.registers;
+      color = shows.color;
+      repeat = shows.repeat;
+      column = shows.column;
+      top = shows.top;
+      width = shows.width;
+      height = shows.height;
+      raster_height = shows.raster_height;
+      drawn = shows.drawn;
+      ratio = shows.ratio;
+      settings = shows.settings;
+      crop = shows.crop;
+      limit = shows.limit;
+      faultless = rw shows.faultless refl;
+    }) state.count
+
+-- ---- the height of an image that ends with a command
+
+-- a command that ends an image
+pub height_command : {C : Type 0} {canvas : Ghosts C} (result : Result ℕ SixelError)
+    (o : Origin) (painter : Painter C canvas) (n : ℕ) (token : Token) (h : History) (height : ℕ)
+    → ((w : History) → without token w ≡ w)
+    → HasDrawn o painter n h → height ≡ image_height o.pixel_limit o.raster_crop
+    (effective o.pixel_limit h)
+    → HasHeight result o (token ∷ effective o.pixel_limit h)
+    → HasHeight (tolerated_height painter.pixel_limit.lenient height result) o
+    (effective o.pixel_limit (token ∷ h))
+height_command (Ok own) o painter n token h height other state tall is =
+    subst (λ (w : History). HasHeight (Ok own) o w)
+    (sym (effective-more o.pixel_limit token h is.0)) is
+height_command (Err e) o painter n token h height other state tall is =
+    let limit : Limit = o.pixel_limit in
+    let faulty : is_fault e ≡ true =
+    never_memory e (first_fault limit (token ∷ effective limit h)) is in
+    subst (λ (w : Limit). HasHeight (tolerated_height w.lenient height (Err e)) o
+    (effective limit (token ∷ h))) (sym state.shows.limit)
+    ((elim limit.lenient as
+    (λ t. limit.lenient ≡ t
+    → HasHeight (cond (t && is_fault e) (Ok height) (Err e)) o (effective limit (token ∷ h))) [
+      | false ↦ λ off.
+          subst (λ (w : Option Fault). Faults e false w)
+          (effective-strict limit token h off ∙ sym (effective-fault limit (token ∷ h))) is
+      | true ↦ λ on.
+          rw faulty
+          (fault_found e false (first_fault limit (token ∷ effective limit h))
+          (HasHeight (Ok height) o (effective limit (token ∷ h))) is faulty (λ f found.
+          let same : effective limit (token ∷ h) ≡ effective limit h =
+          effective-without limit token h f on found ∙ other (effective limit h) in
+          subst (λ (w : History). HasHeight (Ok height) o w) (sym same)
+          (state.shows.faultless, tall)))
+    ]) refl)
+
+-- how many are ignored then
+pub count_command : (result : Result ℕ SixelError) {C : Type 0} {canvas : Ghosts C} (o : Origin)
+    (painter : Painter C canvas) (n : ℕ) (token : Token) (h : History)
+    → HasDrawn o painter n h → HasHeight result o (token ∷ effective o.pixel_limit h)
+    → tolerated_count painter.pixel_limit.lenient result n
+    ≡ ignored_count o.pixel_limit (token ∷ h)
+count_command (Ok own) o painter n token h state is =
+    state.count ∙ sym (count-more o.pixel_limit token h is.0)
+count_command (Err e) o painter n token h state is =
+    let limit : Limit = o.pixel_limit in
+    let faulty : is_fault e ≡ true =
+    never_memory e (first_fault limit (token ∷ effective limit h)) is in
+    subst (λ (w : Limit).
+    tolerated_count {A = ℕ} w.lenient (Err e) n ≡ ignored_count limit (token ∷ h))
+    (sym state.shows.limit)
+    ((elim limit.lenient as
+    (λ t. limit.lenient ≡ t
+    → cond (t && is_fault e) (min (n + 1) count_limit) n ≡ ignored_count limit (token ∷ h)) [
+      | false ↦ λ off.
+          state.count ∙ ap (λ (t : Bool). cond t (ignored limit h) 0) off
+          ∙ sym (ap (λ (t : Bool). cond t (ignored limit (token ∷ h)) 0) off)
+      | true ↦ λ on.
+          rw faulty
+          (fault_found e false (first_fault limit (token ∷ effective limit h))
+          (min (n + 1) count_limit ≡ ignored_count limit (token ∷ h)) is faulty (λ f found.
+          ap (λ (m : ℕ). min (m + 1) count_limit) state.count
+          ∙ sym (count-without limit token h f on found)))
+    ]) refl)
+
+-- a color introducer has no fault
+pub effective-color : (limit : Limit) (text : List ℕ) (h : History)
+    → first_fault limit (effective limit h) ≡ None
+    → effective limit (Color text ∷ h) ≡ Color text ∷ effective limit h
+effective-color limit text h none =
+    effective-more limit (Color text) h (ap (λ (f : Option Fault). option_or f None) none)
+
+pub count-color : (limit : Limit) (text : List ℕ) (h : History)
+    → first_fault limit (effective limit h) ≡ None
+    → ignored_count limit (Color text ∷ h) ≡ ignored_count limit h
+count-color limit text h none =
+    count-more limit (Color text) h (ap (λ (f : Option Fault). option_or f None) none)
+
+-- ---- how many sixels there are
+
+sixels-without : (token : Token) (h : History) → sixels (without token h) ≤ sixels (token ∷ h)
+sixels-without (Sixel bits) h = omega arith
+sixels-without (Repeat text) h = omega arith
+sixels-without (Raster text) h = omega arith
+sixels-without (Color text) h = omega arith
+sixels-without Return h = omega arith
+sixels-without Newline h = omega arith
+sixels-without (Skip byte) h = omega arith
+
+sixels-more : (token : Token) (g h : History) → sixels g ≤ sixels h
+    → sixels (token ∷ g) ≤ sixels (token ∷ h)
+sixels-more (Sixel bits) g h le = omega (arith, le)
+sixels-more (Repeat text) g h le = le
+sixels-more (Raster text) g h le = le
+sixels-more (Color text) g h le = le
+sixels-more Return g h le = le
+sixels-more Newline g h le = le
+sixels-more (Skip byte) g h le = le
+
+-- tolerated tokens have no more sixels than all
+sixels-tolerated : (limit : Limit) (h : History) → sixels (tolerated limit h) ≤ sixels h
+sixels-tolerated limit [] = omega arith
+sixels-tolerated limit (token ∷ h) =
+    let older : History = tolerated limit h in
+    let le : sixels (token ∷ older) ≤ sixels (token ∷ h) =
+    sixels-more token older h (sixels-tolerated limit h) in
+    elim (is_none (fault_of limit token older)) as
+    (λ n. sixels (cond n (token ∷ older) (without token older)) ≤ sixels (token ∷ h)) [
+      | true ↦ le
+      | false ↦ omega (arith, le, sixels-without token older)
+    ]
+
+-- nor have those that take effect
+pub sixels-settled : (limit : Limit) (bytes : List ℕ)
+    → sixels (settled_tokens limit bytes) ≤ sixels (settled bytes)
+sixels-settled limit bytes =
+    elim limit.lenient as
+    (λ t. sixels (cond t (tolerated limit (settled bytes)) (settled bytes))
+    ≤ sixels (settled bytes)) [
+      | true ↦ sixels-tolerated limit (settled bytes)
+      | false ↦ omega arith
+    ]
