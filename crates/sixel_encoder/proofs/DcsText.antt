@@ -17,9 +17,10 @@ use Rattle.sixel_base.specs.Header.{Begun, headed, headed_by, header_front, head
 use Rattle.sixel_base.specs.Header.{header_text, is_header, settings_of}
 use Rattle.sixel_base.specs.History.{history_of}
 use Rattle.sixel_base.specs.Limits.{Limit}
+use Rattle.sixel_base.specs.Lenient.{fault}
 use Rattle.sixel_base.specs.OneShot.{Found, IsFoundImage, Payload, found, found_by, found_fault}
 use Rattle.sixel_base.specs.OneShot.{found_in}
-use Rattle.sixel_base.specs.Payload.{closed, first_fault}
+use Rattle.sixel_base.specs.Payload.{closed, payload_fault}
 use Rattle.sixel_base.specs.Settings.{Settings, p1_of, p2_of}
 use Rattle.sixel_base.specs.Size.{banded}
 use Rattle.sixel_base.specs.declared.settings.BackgroundMode.{BackgroundMode}
@@ -213,7 +214,7 @@ payload-counted payload all =
 -- a payload without a fault makes one DCS sequence
 IsOneString-sequence : (limit : Limit) (drawing : Drawing) (payload : List ℕ)
     → IsTrue (list_all carries payload)
-    → first_fault limit (history_of (front (ended_payload payload))) ≡ None
+    → payload_fault limit (ended_payload payload) ≡ None
     → IsOneString limit (sequence_of drawing payload)
 IsOneString-sequence limit drawing payload all sound =
     let total = length-append (parameters_text drawing) (ended_payload payload) in
@@ -228,7 +229,7 @@ IsOneString-sequence limit drawing payload all sound =
       sound = ap (stage_fault limit) (stage-sequence drawing payload)
           ∙ (ap
           (λ t.
-          first_fault limit (cond (is_some t) (history_of (front (ended_payload payload)))
+          fault limit (cond (is_some t) (history_of (front (ended_payload payload)))
           (closed (history_of (front (ended_payload payload))))))
           (first_terminator-carrying payload (codes "\\") all)
           ∙ sound);

@@ -10,10 +10,13 @@ use Rattle.std.proofs.lemmas.List.FromFn.{get_or-map-range_with_len, length-map-
 use Rattle.std.proofs.lemmas.Nat.{mul-le}
 use Rattle.sixel_base.specs.Color.{default_color, default_registers}
 use Rattle.sixel_base.specs.Decoder.{origin_of}
-use Rattle.sixel_base.specs.History.{History}
+use Rattle.sixel_base.specs.Bytes.{front}
+use Rattle.sixel_base.specs.History.{History, history_of}
+use Rattle.sixel_base.specs.Lenient.{fault}
+use Rattle.sixel_base.proofs.ToleratedTokens.{effective-off, fault-sound}
 use Rattle.sixel_base.specs.Clip.{clipped_width}
 use Rattle.sixel_base.specs.Limits.{Limit, whole_limit}
-use Rattle.sixel_base.specs.Payload.{Image, first_fault, image_height, image_of}
+use Rattle.sixel_base.specs.Payload.{Image, image_height, image_of}
 use Rattle.sixel_base.specs.Payload.{payload_fault, payload_image}
 use Rattle.sixel_base.specs.Picture.{joined, picture}
 use Rattle.sixel_base.specs.Place.{height, width}
@@ -224,7 +227,10 @@ pub payload-trip : (decoder : DecoderState) (drawing : Drawing) (definitions : L
     (marks_payload drawing definitions marks ++ 27 ∷ rest) ≡ trip decoder.raster_crop drawing
 payload-trip decoder drawing definitions marks rest is draws can =
     let origin : Origin = origin_of decoder (drawing_settings drawing) in
-    ap (image_of origin) (payload-read drawing definitions marks rest is draws)
+    ap (image_of origin)
+    (effective-off decoder.pixel_limit
+    (history_of (front (marks_payload drawing definitions marks ++ 27 ∷ rest))) can.strict
+    ∙ payload-read drawing definitions marks rest is draws)
     ∙ image-tokens drawing definitions marks origin is draws
     (IsOrigin-new decoder drawing can.registers) can.columns can.rows
 
@@ -236,11 +242,11 @@ pub payload-sound : (limit : Limit) (drawing : Drawing) (definitions : List Defi
 payload-sound limit drawing definitions marks rest is draws room =
     let fits = (Follows-tokens drawing definitions marks [] is draws).fits in
     let h = tokens drawing definitions marks in
-    ap (first_fault limit) (payload-read drawing definitions marks rest is draws)
-    ∙ first_fault-other whole_limit limit h fits.sound
+    ap (fault limit) (payload-read drawing definitions marks rest is draws)
+    ∙ fault-sound limit h (first_fault-other whole_limit limit h fits.sound
     (omega (
       arith,
       room,
       mul-le (width h) (height h) drawing.width (banded drawing.height) (omega (arith, fits.wide))
           (omega (arith, fits.high)),
-    ))
+    )))

@@ -114,6 +114,7 @@ CanRead-drawn decoder image max_colors drawing drawn reads = record {
     registers = reads.shows.registers;
     columns = omega (arith, drawn.width, reads.shows.columns);
     rows = omega (arith, ap banded drawn.height, reads.shows.rows);
+    strict = reads.shows.strict;
   };
   room = omega (arith, reads.room, area-drawn image max_colors drawing drawn);
 }
@@ -124,7 +125,12 @@ pub CanRead-new : (image : Image) → image_fault image ≡ None
 CanRead-new image sound =
     let within = within-sound image sound in
     record {
-      shows = record { registers = refl; columns = within.wide; rows = within.high };
+      shows = record {
+        registers = refl;
+        columns = within.wide;
+        rows = within.high;
+        strict = refl;
+      };
       room = within.area;
     }
 
