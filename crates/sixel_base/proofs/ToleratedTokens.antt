@@ -32,7 +32,7 @@ with_tolerated-faultless limit token older none =
     fault_of limit token older ≡ f
     → first_fault limit (cond (is_none f) (token ∷ older) (without token older)) ≡ None) [
       | None ↦ λ is.
-        ap (λ (f : Option Fault). option_or f (fault_of limit token older)) none ∙ is
+          ap (λ (f : Option Fault). option_or f (fault_of limit token older)) none ∙ is
       | Some fault ↦ λ is. without-faultless limit token older none
     ]) refl
 

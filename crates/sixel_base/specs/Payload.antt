@@ -83,8 +83,8 @@ abbrev pub payload_image : Origin → List ℕ → Image
 payload_image origin bytes = image_of origin (tokens origin.pixel_limit bytes)
 
 -- how many pixels its extent has
-abbrev pub payload_area : List ℕ → ℕ
-payload_area bytes = width (history_of (front bytes)) * height (history_of (front bytes))
+abbrev pub payload_area : Limit → List ℕ → ℕ
+payload_area limit bytes = width (tokens limit bytes) * height (tokens limit bytes)
 
 -- the registers after it
 abbrev pub payload_registers : Origin → List ℕ → List (List ℕ)

@@ -2,7 +2,7 @@
 use Rattle.std.proofs.Common.{◌≡◌, ℕ, suc, zero, ◌+◌, ◌*◌, ◌≤◌, Bool, true, false, max, min, nat_lt}
 use Rattle.std.proofs.Common.{cond, List, [], ◌∷◌, Option, Some, None, refl}
 use Rattle.std.proofs.Common.{arith}
-use Rattle.std.specs.Prelude.{◌&&◌}
+use Rattle.std.specs.Prelude.{◌&&◌, is_none}
 use Rattle.std.specs.Option.{option_or}
 use Rattle.std.proofs.Math.Nat.{mul-suc}
 use Rattle.std.proofs.lemmas.Nat.{mul-le}
@@ -14,11 +14,14 @@ use Rattle.sixel_base.specs.Bytes.{front, is_terminated}
 use Rattle.sixel_base.specs.Fault.{Fault}
 use Rattle.sixel_base.specs.Fields.{field}
 use Rattle.sixel_base.specs.Limits.{Limit, side_limit}
-use Rattle.sixel_base.specs.Payload.{cropped_height, extent_fault, first_fault, closed, settled}
+use Rattle.sixel_base.specs.Lenient.{effective, tolerated, with_tolerated}
+use Rattle.sixel_base.specs.Payload.{cropped_height, extent_fault, fault_of, first_fault, closed}
+use Rattle.sixel_base.specs.Payload.{payload_area}
 use Rattle.sixel_base.specs.Clip.{clipped_bits, is_inside}
 use Rattle.sixel_base.specs.Picture.{is_struck, total}
 use Rattle.sixel_base.specs.Place.{across, down, height, raster_height, span, width}
-use Rattle.sixel_base.specs.Reach.{row_reach, reached_area}
+use Rattle.sixel_base.specs.Reach.{payload_reached_area, row_reach, reached_area}
+use Rattle.sixel_base.proofs.ToleratedTokens.{effective-same}
 
 -- a test that fails last
 fails_last : (a : Bool) → (a && false) ≡ false
@@ -131,31 +134,64 @@ cropped_height-most crop h =
       | false ↦ omega arith
     ]
 
--- the closed tokens reach no more than the picture of all tokens has
-closed-area : (limit : Limit) (h : History) → reached_area limit (closed h) ≤ width h * height h
-closed-area limit [] = reached_area-most limit []
-closed-area limit (Sixel bits ∷ h) = reached_area-most limit (Sixel bits ∷ h)
-closed-area limit (Repeat _ ∷ h) = reached_area-most limit h
-closed-area limit (Raster text ∷ h) =
+-- raster attributes make a picture no smaller
+raster-area : (limit : Limit) (text : List ℕ) (h : History)
+    → reached_area limit h ≤ width (Raster text ∷ h) * height (Raster text ∷ h)
+raster-area limit text h =
     omega (
       arith,
       reached_area-most limit h,
       mul-le (width h) (height h) (width (Raster text ∷ h)) (height (Raster text ∷ h)) (omega arith)
           (omega arith),
     )
-closed-area limit (Color _ ∷ h) = reached_area-most limit h
-closed-area limit (Return ∷ h) = reached_area-most limit (Return ∷ h)
-closed-area limit (Newline ∷ h) = reached_area-most limit (Newline ∷ h)
-closed-area limit (Skip byte ∷ h) = reached_area-most limit (Skip byte ∷ h)
 
--- the closed tokens of a payload reach no more than its picture has
+-- the effective closed tokens reach no more than the picture of all effective tokens has
+closed-area : (limit : Limit) (h : History) → reached_area limit (effective limit (closed h))
+    ≤ width (effective limit h) * height (effective limit h)
+closed-area limit [] = reached_area-most limit (effective limit [])
+closed-area limit (Sixel bits ∷ h) = reached_area-most limit (effective limit (Sixel bits ∷ h))
+closed-area limit (Repeat text ∷ h) =
+    omega (
+      arith,
+      reached_area-most limit (effective limit h),
+      effective-same (λ (w : History). width w * height w) limit (Repeat text) h (λ w. refl)
+          (λ w. refl),
+    )
+closed-area limit (Raster text ∷ h) =
+    let older : History = tolerated limit h in
+    elim limit.lenient as
+    (λ t. reached_area limit (cond t older h)
+    ≤ width (cond t (with_tolerated limit (Raster text) older) (Raster text ∷ h))
+    * height (cond t (with_tolerated limit (Raster text) older) (Raster text ∷ h))) [
+      | true ↦
+          elim (is_none (fault_of limit (Raster text) older)) as
+          (λ n. reached_area limit older
+          ≤ width (cond n (Raster text ∷ older) older) * height
+          (cond n (Raster text ∷ older) older)) [
+            | true ↦ raster-area limit text older
+            | false ↦ reached_area-most limit older
+          ]
+      | false ↦ raster-area limit text h
+    ]
+closed-area limit (Color text ∷ h) =
+    omega (
+      arith,
+      reached_area-most limit (effective limit h),
+      effective-same (λ (w : History). width w * height w) limit (Color text) h (λ w. refl)
+          (λ w. refl),
+    )
+closed-area limit (Return ∷ h) = reached_area-most limit (effective limit (Return ∷ h))
+closed-area limit (Newline ∷ h) = reached_area-most limit (effective limit (Newline ∷ h))
+closed-area limit (Skip byte ∷ h) = reached_area-most limit (effective limit (Skip byte ∷ h))
+
+-- those of a payload reach no more than its picture has
 pub settled-area : (limit : Limit) (bytes : List ℕ)
-    → reached_area limit (settled bytes)
-    ≤ width (history_of (front bytes)) * height (history_of (front bytes))
+    → payload_reached_area limit bytes ≤ payload_area limit bytes
 settled-area limit bytes =
     let h : History = history_of (front bytes) in
     elim (is_terminated bytes) as
-    (λ t. reached_area limit (cond t h (closed h)) ≤ width h * height h) [
-      | true ↦ reached_area-most limit h
+    (λ t. reached_area limit (effective limit (cond t h (closed h)))
+    ≤ width (effective limit h) * height (effective limit h)) [
+      | true ↦ reached_area-most limit (effective limit h)
       | false ↦ closed-area limit h
     ]
