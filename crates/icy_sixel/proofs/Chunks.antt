@@ -1,17 +1,18 @@
 -- What is known of the bytes of an image once a beginning of them was fed.
 use Rattle.std.proofs.Common.{◌≡◌, ℕ, ◌≤◌, true, List, [], ◌++◌, refl, ap, sym, ◌∙◌, inl, inr}
 use Rattle.std.proofs.Common.{subst, arith, Option, Some, None}
-use Rattle.std.specs.Prelude.{nat_lt, is_none, is_some, length, Result, Ok, Err, IfErr}
+use Rattle.std.specs.Prelude.{◌&&◌, if◌then◌else◌, nat_lt, is_none, is_some, length}
+use Rattle.std.specs.Prelude.{Result, Ok, Err, IfErr}
 use Rattle.std.proofs.lemmas.List.{append-nil, append_assoc}
 use Rattle.std.proofs.lemmas.Bool.Decides.{nat_tests}
 use Rattle.sixel_base.specs.declared.error.SixelError.{SixelError}
-use Rattle.sixel_base.specs.Fault.{Faults}
+use Rattle.sixel_base.specs.Fault.{Faults, Incomplete}
 use Rattle.sixel_base.specs.Bytes.{front, first_terminator}
 use Rattle.sixel_base.specs.History.{history_of}
-use Rattle.sixel_base.specs.Payload.{first_fault}
+use Rattle.sixel_base.specs.Lenient.{fault as reported}
 use Rattle.sixel_base.specs.Settings.{Settings}
 use Rattle.sixel_base.specs.Status.{status_of}
-use Rattle.sixel_base.specs.Dcs.{dcs_status}
+use Rattle.sixel_base.specs.Dcs.{can_finish, dcs_in_payload, dcs_status}
 use Rattle.sixel_base.specs.Dcs as strings
 use Rattle.icy_sixel.specs.declared.script.Status.TheVariants.{Payload, Dcs}
 use Rattle.sixel_base.specs.Limits.{Limit}
@@ -20,6 +21,7 @@ use Rattle.icy_sixel.specs.Receiver.{growths, is_over, end_fault, end_wants}
 use Rattle.icy_sixel.specs.inside.Session.{IsWhole}
 use Rattle.icy_sixel.specs.Receiver.{has_ended}
 use Rattle.sixel_decoder.proofs.ParserSteps.{Faults-along}
+use Rattle.sixel_decoder.proofs.ChunkReads.{or_right}
 use Rattle.sixel_decoder.proofs.Chunks.{first_terminator-ended}
 use Rattle.sixel_decoder.proofs.Finality.{front_ended, count_ended, settled_ended}
 use Rattle.sixel_decoder.proofs.Finality.{status_ended, dcs_count_ended, dcs_fault_ended}
@@ -66,6 +68,11 @@ pub record IsSame (limit : Limit) (form : Form) (fed bytes : List ℕ) : Type 0 
   pub ends : end_fault limit form fed ≡ end_fault limit form bytes
   pub wants : end_wants limit form fed ≡ end_wants limit form bytes
 
+-- a sequence that has ended can be finished
+pub ended_finishes : (limit : Limit) (bytes : List ℕ)
+    → strings.has_ended (dcs_status bytes) ≡ true → can_finish limit bytes ≡ true
+ended_finishes limit bytes over = or_right (limit.lenient && dcs_in_payload bytes) _ over
+
 terminator_of : (o : Option ℕ) → is_some o ≡ true → (t : ℕ) × (o ≡ Some t)
 terminator_of None is = absurd cc
 terminator_of (Some t) is = (t, refl)
@@ -80,18 +87,21 @@ ended limit (OfPayload settings) fed left over =
       counted = sym (count_ended fed left t.0 t.1);
       stands =
           ap (λ w. Payload (status_of w)) (t.1 ∙ sym (first_terminator-ended fed left t.0 t.1));
-      faults = ap (first_fault limit) (sym (settled_ended fed left t.0 t.1));
-      ends = ap (λ w. first_fault limit (history_of w)) carried;
-      wants = ap (λ w. is_none (first_fault limit (history_of w))) carried;
+      faults = ap (reported limit) (sym (settled_ended fed left t.0 t.1));
+      ends = ap (λ w. reported limit (history_of w)) carried;
+      wants = ap (λ w. is_none (reported limit (history_of w))) carried;
     }
 ended limit OfString fed left over =
     let stands : dcs_status fed ≡ dcs_status (fed ++ left) = sym (status_ended fed left over) in
+    let finishes : can_finish limit fed ≡ can_finish limit (fed ++ left) =
+    ended_finishes limit fed over ∙ sym (ended_finishes limit (fed ++ left)
+    (ap strings.has_ended (sym stands) ∙ over)) in
     record {
       counted = sym (dcs_count_ended fed left over);
       stands = ap Dcs stands;
       faults = sym (dcs_fault_ended limit fed left over);
-      ends = ap strings.end_fault stands;
-      wants = ap strings.has_ended stands;
+      ends = ap (λ b. if b then None else Some Incomplete) finishes;
+      wants = finishes;
     }
 
 -- where no byte is left all were fed

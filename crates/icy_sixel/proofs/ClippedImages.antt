@@ -17,12 +17,13 @@ use Rattle.sixel_base.specs.Limits.{Limit, side_limit}
 use Rattle.sixel_base.specs.OneShot.{Found, Payload, NoPayload, AreFoundRegisters, IsFoundImage}
 use Rattle.sixel_base.specs.OneShot.{found_fault}
 use Rattle.sixel_base.specs.Payload.{Image, area_fault, cropped_height, extent_fault, first_fault}
-use Rattle.sixel_base.specs.Payload.{image_height, image_of}
+use Rattle.sixel_base.specs.Payload.{image_height, image_of, tokens}
 use Rattle.sixel_base.specs.Picture.{covers, picture}
 use Rattle.sixel_base.specs.Place.{across, down, span, width}
 use Rattle.sixel_base.specs.Settings.{Settings, mode_of, ratio_of}
 use Rattle.sixel_base.specs.Stroke.{Origin, color, pixel, ratio}
 use Rattle.sixel_base.specs.declared.state.DecoderState.{DecoderState}
+use Rattle.sixel_base.proofs.ToleratedTokens.{effective-fault, effective-off, registers-effective}
 use Rattle.sixel_canvas.proofs.Pictures.{picture_same}
 use Rattle.sixel_decoder.proofs.RowExtents.{both_none, cropped_height-most, sides-fit}
 use Rattle.icy_sixel.specs.ClippedImages.{HasNoClip, IsInsideClip, IsPartInside, IsWholeImage}
@@ -57,8 +58,8 @@ pub whole_is : (decoder : DecoderState) (payload : Found) (image : Image)
     → IsFoundImage decoder payload image → IsWholeImage decoder payload image
 whole_is decoder (Payload settings bytes) image none faultless is =
     is
-    ∙ image_whole (origin_of decoder settings) (history_of (front bytes)) none.columns none.rows
-    faultless
+    ∙ image_whole (origin_of decoder settings) (tokens decoder.pixel_limit bytes) none.columns
+    none.rows (effective-fault decoder.pixel_limit (history_of (front bytes)) ∙ faultless)
 whole_is decoder (NoPayload fault) image none faultless is = absurd is
 
 -- ---- a part of an image
@@ -106,16 +107,22 @@ part_of decoder columns rows settings h inside =
     }
 
 pub part_is : (decoder : DecoderState) (columns rows : ℕ) (payload : Found) (image part : Image)
-    → IsInsideClip decoder columns rows → IsFoundImage decoder payload image
+    → decoder.pixel_limit.lenient ≡ false → IsInsideClip decoder columns rows
+    → IsFoundImage decoder payload image
     → IsFoundImage (with_clip decoder columns rows) payload part
     → IsPartInside (whole_pixel decoder payload) columns rows image part
-part_is decoder columns rows (Payload settings bytes) image part inside is is_part =
+part_is decoder columns rows (Payload settings bytes) image part strict inside is is_part =
     let o : Origin = origin_of decoder settings in
-    let h : History = history_of (front bytes) in
+    let h : History = tokens decoder.pixel_limit bytes in
+    let clip : DecoderState = with_clip decoder columns rows in
+    let same : tokens clip.pixel_limit bytes ≡ h =
+    effective-off clip.pixel_limit (history_of (front bytes)) strict
+    ∙ sym (effective-off decoder.pixel_limit (history_of (front bytes)) strict) in
     subst (λ (i : Image). IsPartInside (pixel o h) columns rows i part) (sym is)
-    (subst (λ (p : Image). IsPartInside (pixel o h) columns rows (image_of o h) p) (sym is_part)
+    (subst (λ (p : Image). IsPartInside (pixel o h) columns rows (image_of o h) p)
+    (sym (is_part ∙ ap (image_of (origin_of clip settings)) same))
     (part_of decoder columns rows settings h inside))
-part_is decoder columns rows (NoPayload fault) image part inside is is_part = absurd is
+part_is decoder columns rows (NoPayload fault) image part strict inside is is_part = absurd is
 
 -- ---- faults
 
@@ -182,16 +189,26 @@ first_none limit other (Skip byte ∷ h) less none =
 pub faultless_is : (decoder : DecoderState) (columns rows : ℕ) (payload : Found)
     → IsInsideClip decoder columns rows → found_fault decoder.pixel_limit payload ≡ None
     → found_fault (with_clip decoder columns rows).pixel_limit payload ≡ None
-faultless_is decoder columns rows (Payload settings bytes) inside none =
-    first_none decoder.pixel_limit (with_clip decoder columns rows).pixel_limit
-    (history_of (front bytes))
-    (record { pixels = refl; columns = inside.columns; rows = inside.rows }) none
-faultless_is decoder columns rows (NoPayload fault) inside none = none
+faultless_is decoder columns rows (Payload settings bytes) inside =
+    let limit : Limit = decoder.pixel_limit in
+    let other : Limit = (with_clip decoder columns rows).pixel_limit in
+    let h : History = history_of (front bytes) in
+    elim limit.lenient as
+    (λ t. cond t None (first_fault limit h) ≡ None → cond t None (first_fault other h) ≡ None) [
+      | true ↦ λ none. refl
+      | false ↦
+          first_none limit other h
+          (record { pixels = refl; columns = inside.columns; rows = inside.rows })
+    ]
+faultless_is decoder columns rows (NoPayload fault) inside = λ none. none
 
 -- ---- registers
 
 pub registers_stay : (decoder : DecoderState) (columns rows : ℕ) (payload : Found)
     (after : List (List ℕ)) → AreFoundRegisters decoder payload after
     → AreFoundRegisters (with_clip decoder columns rows) payload after
-registers_stay decoder columns rows (Payload settings bytes) after are = are
+registers_stay decoder columns rows (Payload settings bytes) after are =
+    let h : History = history_of (front bytes) in
+    are ∙ registers-effective decoder.pixel_limit decoder.registers h
+    ∙ sym (registers-effective (with_clip decoder columns rows).pixel_limit decoder.registers h)
 registers_stay decoder columns rows (NoPayload fault) after are = are

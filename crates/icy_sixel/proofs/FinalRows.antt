@@ -2,17 +2,15 @@
 use Rattle.std.proofs.Common.{◌≡◌, ℕ, ◌<◌, ◌≤◌, List, ◌++◌, refl, ap, sym, ◌∙◌, subst, arith}
 use Rattle.sixel_base.specs.Decoder.{origin_of}
 use Rattle.sixel_base.specs.OneShot.{Found, Payload, NoPayload, IsFoundImage}
-use Rattle.sixel_base.specs.Bytes.{front}
 use Rattle.sixel_base.specs.Clip.{clipped_width}
-use Rattle.sixel_base.specs.History.{History, history_of}
+use Rattle.sixel_base.specs.History.{History}
 use Rattle.sixel_base.specs.Limits.{Limit}
-use Rattle.sixel_base.specs.Payload.{Image, image_height, settled}
+use Rattle.sixel_base.specs.Payload.{Image, image_height, tokens}
 use Rattle.sixel_base.specs.Picture.{picture}
 use Rattle.sixel_base.specs.Stroke.{Origin}
 use Rattle.sixel_base.specs.declared.state.DecoderState.{DecoderState}
 use Rattle.sixel_decoder.specs.CopiedImage.{found_pixel}
-use Rattle.sixel_decoder.specs.FinalRows.{stage_final_rows}
-use Rattle.sixel_decoder.specs.FinalRows as rows
+use Rattle.sixel_decoder.specs.FinalRows.{payload_final_rows, stage_final_rows}
 use Rattle.sixel_decoder.proofs.Clips.{clipped_picture}
 use Rattle.sixel_decoder.proofs.DcsPayloads.{found_reading}
 use Rattle.sixel_decoder.proofs.FinalRows.{final_rows_stay, final_pixels_stay}
@@ -37,7 +35,7 @@ pixels_stay start OfString bytes more column row final =
     let limit : Limit = start.pixel_limit in
     let begun = has_begun limit bytes (omega (arith, final)) in
     let on = stage_reading bytes more begun.settings begun.payload begun.reading in
-    let above : row < rows.final_rows limit (settled begun.payload) =
+    let above : row < payload_final_rows limit begun.payload =
     omega (arith, final, ap (stage_final_rows limit) begun.reading) in
     ap (λ (f : Found). found_pixel start f column row)
     (found_reading (bytes ++ more) begun.settings (begun.payload ++ more) on)
@@ -51,7 +49,7 @@ pub image_pixels : (start : DecoderState) (payload : Found) (image : Image)
     → image.pixels ≡ picture (found_pixel start payload) image.width image.height
 image_pixels start (Payload settings bytes) image is =
     let origin : Origin = origin_of start settings in
-    let h : History = history_of (front bytes) in
+    let h : History = tokens start.pixel_limit bytes in
     subst (λ (i : Image).
     i.pixels ≡ picture (found_pixel start (Payload settings bytes)) i.width i.height) (sym is)
     (sym (clipped_picture origin h (clipped_width start.pixel_limit h)

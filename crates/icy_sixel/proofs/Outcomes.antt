@@ -1,5 +1,7 @@
 -- What a step comes to, by what the calls that it makes ensure.
-use Rattle.std.proofs.Common.{◌≡◌, ℕ, true, false, List, refl, ap, sym, ◌∙◌, subst}
+use Rattle.std.proofs.Common.{◌≡◌, ℕ, ◌++◌, true, false, List, refl, ap, sym, ◌∙◌, subst}
+use Rattle.std.proofs.Common.{inl, inr}
+use Rattle.std.proofs.lemmas.List.{append-nil}
 use Rattle.std.proofs.Common.{Option, Some, None}
 use Rattle.std.specs.Prelude.{Bool, IsTrue, nat_lt, ◌||◌, if◌then◌else◌, is_none, Result, Ok, Err}
 use Rattle.std.specs.Prelude.{MatchResult, IfOk, IfErr, OnOk, OnErr}
@@ -10,8 +12,9 @@ use Rattle.sixel_base.specs.Decoder.{IsSetAs, origin_of}
 use Rattle.sixel_base.specs.declared.state.DecoderState.{DecoderState}
 use Rattle.sixel_base.specs.History.{history_of}
 use Rattle.sixel_base.specs.Payload.{Image, image_of, payload_fault}
+use Rattle.sixel_base.specs.Lenient.{effective}
 use Rattle.sixel_base.specs.Stroke.{registers}
-use Rattle.sixel_base.specs.Dcs.{dcs_status, dcs_fault, dcs_growths, has_ended}
+use Rattle.sixel_base.specs.Dcs.{can_finish, dcs_status, dcs_fault, dcs_growths, has_ended}
 use Rattle.sixel_base.specs.Dcs as strings
 use Rattle.sixel_base.specs.OneShot.{Found, IsDecodedAs, IsFoundImage, AreFoundRegisters}
 use Rattle.sixel_base.specs.Limits.{Limit}
@@ -49,7 +52,7 @@ fed_fails e limit OfString bytes refused =
     let wrong : Option Fault = whole_fault limit OfString bytes in
     Faults-along e grows (is_none wrong || grows) (dcs_fault limit bytes) wrong
     (or_right (is_none wrong) grows)
-    (λ f is. ap (λ w. option_or w (strings.end_fault (dcs_status bytes))) is) refused
+    (λ f is. ap (λ w. option_or w (strings.end_fault limit bytes)) is) refused
 
 pub fails : (e : SixelError) (before after : DecoderState) (form : Form) (bytes : List ℕ)
     (ending : End)
@@ -90,10 +93,10 @@ end_fails e limit (OfPayload settings) bytes sound refused =
     (or_left (is_none wrong) grows) (λ f is. is) refused
 end_fails e limit OfString bytes sound refused =
     let grows : Bool = nat_lt 0 (dcs_growths bytes) in
-    let wrong : Option Fault = strings.end_fault (dcs_status bytes) in
+    let wrong : Option Fault = strings.end_fault limit bytes in
     let may : Faults e (is_none wrong || grows) wrong =
-    Faults-along e (has_ended (dcs_status bytes)) (is_none wrong || grows) wrong wrong
-    (ended_wants (has_ended (dcs_status bytes)) grows) (λ f is. is) refused in
+    Faults-along e (can_finish limit bytes) (is_none wrong || grows) wrong wrong
+    (ended_wants (can_finish limit bytes) grows) (λ f is. is) refused in
     subst
     (λ (w : Option Fault). Faults e (is_none (option_or w wrong) || grows) (option_or w wrong))
     (sym sound) may
@@ -104,7 +107,21 @@ end_sound : (limit : Limit) (form : Form) (bytes : List ℕ) → fault limit for
 end_sound limit Nothing bytes sound ends = ends
 end_sound limit (OfPayload settings) bytes sound ends = ends
 end_sound limit OfString bytes sound ends =
-    ap (λ w. option_or w (strings.end_fault (dcs_status bytes))) sound ∙ ends
+    ap (λ w. option_or w (strings.end_fault limit bytes)) sound ∙ ends
+
+-- what follows the bytes fed of a DCS sequence that has ended makes up all bytes
+followed_whole : (fed bytes : List ℕ) (whole : IsWhole OfString fed bytes)
+    → (if has_ended (dcs_status fed) then fed ++ whole.left else fed) ≡ bytes
+followed_whole fed bytes whole =
+    elim whole.over [
+      | inl none ↦
+          elim (has_ended (dcs_status fed)) as
+          (λ t. (if t then fed ++ whole.left else fed) ≡ bytes) [
+            | true ↦ whole.joined
+            | false ↦ sym (append-nil fed) ∙ ap (λ w. fed ++ w) (sym none) ∙ whole.joined
+          ]
+      | inr over ↦ ap (λ t. if t then fed ++ whole.left else fed) over ∙ whole.joined
+    ]
 
 -- the image and the registers of what was fed are those of all bytes
 drawn_whole : (before : DecoderState) (form : Form) (fed bytes : List ℕ) (image : Image)
@@ -115,13 +132,15 @@ drawn_whole : (before : DecoderState) (form : Form) (fed bytes : List ℕ) (imag
 drawn_whole before Nothing fed bytes image after whole decoded = absurd decoded.1
 drawn_whole before (OfPayload settings) fed bytes image after whole decoded =
     let carried = front_whole settings fed bytes whole in (
-      subst (λ w. image ≡ image_of (origin_of before settings) (history_of w)) carried decoded.1,
-      subst (λ w. after ≡ registers before.registers (history_of w)) carried decoded.2,
+      subst (λ w. image ≡ image_of (origin_of before settings)
+          (effective before.pixel_limit (history_of w))) carried decoded.1,
+      subst (λ w. after ≡ registers before.registers (effective before.pixel_limit (history_of w)))
+          carried decoded.2,
     )
 drawn_whole before OfString fed bytes image after whole decoded =
     let all =
     subst (λ (w : List ℕ). IsDecodedAs before (one_shot.found w) image after)
-    whole.joined decoded in
+    (followed_whole fed bytes whole) decoded in
     (all.1, all.2)
 
 pub finishes : (answer : Result SixelImage SixelError) (outcome : Outcome)

@@ -5,7 +5,7 @@ use Rattle.std.specs.Result.{result_map_both}
 use Rattle.sixel_base.specs.declared.error.SixelError.{SixelError}
 use Rattle.icy_sixel.specs.FinalRows.{rows_so_far}
 use Rattle.icy_sixel.specs.Receiver.{Receiver, has_ended}
-use Rattle.icy_sixel.specs.ReceiverCalls.{IsFed, KeepsPartial}
+use Rattle.icy_sixel.specs.ReceiverCalls.{IsFed}
 use Rattle.icy_sixel.specs.declared.receiver.Received.{Received}
 use Rattle.icy_sixel.specs.declared.receiver.bands.BandStatus.{BandStatus}
 use Rattle.icy_sixel.specs.declared.receiver.bands.BandStatus.TheVariants.{Rows, Image}
@@ -36,7 +36,6 @@ pub record IsBandFed (old new : Receiver) (chunk : List ℕ)
   -- what a feed of these bytes returns
   pub received : Result Received SixelError
   pub fed : IsFed old new (band_of chunk) received
-  pub partial : KeepsPartial old.image new.image received
   -- the call returns the same, with the status of a band
   pub reported : result ≡ result_map_both
       (received_band (rows_so_far old.image) (rows_so_far new.image)) (λ error. error) received

@@ -4,15 +4,14 @@
 use Rattle.std.specs.Prelude.{ℕ, ◌≡◌, ◌≤◌, ◌+◌, ◌*◌, min, max, nat_lt, ◌||◌, if◌then◌else◌, List}
 use Rattle.std.specs.Prelude.{[], ◌∷◌, Option, Some, None}
 use Rattle.std.specs.Option.{option_or}
-use Rattle.sixel_base.specs.Bytes.{front}
 use Rattle.sixel_base.specs.Decoder.{clip_side_of, origin_of}
 use Rattle.sixel_base.specs.Fault.{Fault, Malformed, TooLarge, Overflow}
 use Rattle.sixel_base.specs.Fields.{field}
 use Rattle.sixel_base.specs.History.{Token, Sixel, Repeat, Raster, Color, Return, Newline, Skip}
-use Rattle.sixel_base.specs.History.{History, history_of}
+use Rattle.sixel_base.specs.History.{History}
 use Rattle.sixel_base.specs.Limits.{repeat_limit, side_limit}
 use Rattle.sixel_base.specs.OneShot.{Found, Payload, NoPayload}
-use Rattle.sixel_base.specs.Payload.{Image, cropped_height}
+use Rattle.sixel_base.specs.Payload.{Image, cropped_height, tokens}
 use Rattle.sixel_base.specs.Picture.{is_struck, picture, total}
 use Rattle.sixel_base.specs.Place.{across, down, height, span, width}
 use Rattle.sixel_base.specs.Settings.{mode_of, ratio_of}
@@ -33,13 +32,13 @@ whole_image origin history = record {
 -- the image is the whole picture of the payload
 abbrev pub IsWholeImage : DecoderState → Found → Image → Type 0
 IsWholeImage decoder (Payload settings payload) image =
-    image ≡ whole_image (origin_of decoder settings) (history_of (front payload))
+    image ≡ whole_image (origin_of decoder settings) (tokens decoder.pixel_limit payload)
 IsWholeImage decoder (NoPayload fault) image = ⊥
 
 -- the pixel of the whole picture at a column and a row, and no byte if there is no payload
 abbrev pub whole_pixel : DecoderState → Found → ℕ → ℕ → List ℕ
 whole_pixel decoder (Payload settings payload) =
-    pixel (origin_of decoder settings) (history_of (front payload))
+    pixel (origin_of decoder settings) (tokens decoder.pixel_limit payload)
 whole_pixel decoder (NoPayload fault) = λ column row. []
 
 -- the fault of a sixel or of raster attributes by the whole picture: a side above the limit, then

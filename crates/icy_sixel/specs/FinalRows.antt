@@ -1,16 +1,15 @@
 -- The final rows of an open image, in the words that Receiver has for both forms, and what the
 -- calls of a receiver do with rows. Which rows are final is in FinalRows of sixel_decoder.
-use Rattle.std.specs.Prelude.{ℕ, ◌≡◌, ◌+◌, ◌-◌, ◌*◌, ◌≤◌, ◌==◌, max, min, nat_lt}
+use Rattle.std.specs.Prelude.{ℕ, ◌≡◌, ◌+◌, ◌-◌, ◌*◌, ◌≤◌, max, min, nat_lt}
 use Rattle.std.specs.Prelude.{if◌then◌else◌, List, length}
 use Rattle.std.specs.Prelude.{Option, Some, None, Result, IfOk, OnOk, IfErr, OnErr, IsSomeAnd}
-use Rattle.std.specs.Prelude.{◌&&◌, MatchOption}
+use Rattle.std.specs.Prelude.{MatchOption}
 use Rattle.sixel_base.specs.CallFault.{CallFault, Exactly, RowsNotFinal, RowsReleased, ShortStride}
 use Rattle.sixel_base.specs.CallFault.{IsCallFault, IsVerdict}
 use Rattle.sixel_base.specs.Decoder.{IsSetAs}
 use Rattle.sixel_base.specs.Fault.{Fault, IsFault}
 use Rattle.sixel_base.specs.Limits.{Limit, area_limit}
 use Rattle.sixel_base.specs.OneShot.{AreFoundRegisters}
-use Rattle.sixel_base.specs.Payload.{settled}
 use Rattle.sixel_base.specs.declared.error.SixelError.{SixelError}
 use Rattle.sixel_base.specs.declared.error.SixelError.TheVariants.{BufferSizeMismatch}
 use Rattle.sixel_base.specs.declared.error.SixelError.TheVariants.{IntegerOverflow}
@@ -19,8 +18,7 @@ pub use Rattle.sixel_canvas.specs.Layout.{AreCopied, rows_len}
 pub use Rattle.sixel_canvas.specs.declared.channels.RowLayout.{RowLayout}
 pub use Rattle.sixel_decoder.specs.CopiedImage.{found_height, found_pixel, last_fault}
 pub use Rattle.sixel_decoder.specs.CopiedImage.{shape_of, IsFoundShape}
-use Rattle.sixel_decoder.specs.FinalRows.{dcs_final_rows, row_count}
-use Rattle.sixel_decoder.specs.FinalRows as rows
+use Rattle.sixel_decoder.specs.FinalRows.{dcs_final_rows, payload_final_rows, row_count}
 pub use Rattle.sixel_decoder.specs.declared.copied_payload.ImageShape.{ImageShape}
 use Rattle.icy_sixel.specs.Receiver.{Form, Nothing, OfPayload, OfString, Receiver, Reception}
 use Rattle.icy_sixel.specs.Receiver.{end_fault, failed, found, no_image}
@@ -28,7 +26,7 @@ use Rattle.icy_sixel.specs.Receiver.{end_fault, failed, found, no_image}
 -- how many rows from the top are final
 abbrev pub final_rows : Limit → Form → List ℕ → ℕ
 final_rows limit Nothing bytes = 0
-final_rows limit (OfPayload settings) bytes = rows.final_rows limit (settled bytes)
+final_rows limit (OfPayload settings) bytes = payload_final_rows limit bytes
 final_rows limit OfString bytes = dcs_final_rows limit bytes
 
 -- how many of these the open image has: none after an error
@@ -66,13 +64,9 @@ copy_fault image first rows layout len =
     else if nat_lt first image.released then Some RowsReleased
     else layout_fault layout rows len
 
--- the open image after the rows above this one were released: a fault leaves no picture then, because
--- no memory has all of its rows
+-- the open image after the rows above this one were released
 abbrev pub with_released : Reception → ℕ → Reception
-with_released image rows = record image {
-  released = max image.released rows;
-  keeps_partial = image.keeps_partial && (rows == 0);
-}
+with_released image rows = record image { released = max image.released rows }
 
 -- Final rows of the open image are copied to the caller's memory, or the call fails.
 pub record AreRowsCopied (image : Reception) (first rows : ℕ) (layout : RowLayout)
@@ -136,8 +130,6 @@ pub record IsFinishedInto (old new : Receiver) (first : ℕ) (layout : RowLayout
       (found old.image.form old.image.bytes) new.decoder.registers)
   -- crop and limit of the decoder stay
   pub set : IsSetAs old.decoder new.decoder
-  -- the setting of partial pictures stays
-  pub setting : new.keeps_partial ≡ old.keeps_partial
   -- the call succeeds only if nothing is wrong with the image, with the row and with the memory
   pub sound : OnOk result ((image_fault old.image ≡ None)
       × (into_fault old.image first layout (length before) ≡ None))

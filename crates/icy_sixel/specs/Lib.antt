@@ -3,7 +3,6 @@ pub mod ClippedImages
 pub mod FinalRows
 pub mod ImageView
 pub mod Script
-pub mod PartialImages
 pub mod Receiver
 pub mod ReceiverCalls
 pub mod Registers

@@ -1,9 +1,11 @@
 -- What contracts see of a receiver: its decoder, and the image that is open. The bytes of an image
 -- mean what they mean in a session, of a payload or of a DCS sequence. Chunks are not mentioned.
-use Rattle.std.specs.Prelude.{ℕ, Bool, true, false, List, [], ◌++◌, Option, Some, None, is_none}
+use Rattle.std.specs.Prelude.{ℕ, Bool, true, false, if◌then◌else◌, List, [], ◌++◌, Option, Some}
+use Rattle.std.specs.Prelude.{None, is_none}
 use Rattle.sixel_base.specs.Bytes.{first_terminator, is_terminated}
 use Rattle.sixel_base.specs.DrawnHeight.{dcs_drawn_height, payload_drawn_height}
 use Rattle.sixel_base.specs.Fault.{Fault, StreamFailed, DcsStreamFailed}
+use Rattle.sixel_base.specs.IgnoredCommands.{dcs_ignored, payload_ignored}
 use Rattle.sixel_base.specs.Payload.{fed_fault, payload_fault, settled}
 use Rattle.sixel_base.specs.Bytes as own
 use Rattle.sixel_base.specs.Payload as payloads
@@ -32,9 +34,8 @@ pub data Form : Type 0 where
 
 -- The image that is open: its form, the decoder that it began from, the bytes fed, whether a feed
 -- was rejected, how many pixels its canvas wrote as rows became wider, the capacity of its canvas
--- in pixels beside the image, how many columns and tags sixels have painted at most, how many rows
--- from the top were released, whether it keeps the picture of the tokens before a fault, and
--- whether it has one.
+-- in pixels beside the image, how many columns and tags sixels have painted at most, and how many
+-- rows from the top were released.
 pub record Reception : Type 0 where
   pub form : Form
   pub start : DecoderState
@@ -44,20 +45,11 @@ pub record Reception : Type 0 where
   pub room : ℕ
   pub paints : ℕ
   pub released : ℕ
-  pub keeps_partial : Bool
-  pub has_partial : Bool
 
--- a decoder, the image that it is receiving, and whether an image that is begun keeps the picture
--- of the tokens before a fault
+-- a decoder, and the image that it is receiving
 pub record Receiver : Type 0 where
   pub decoder : DecoderState
   pub image : Reception
-  pub keeps_partial : Bool
-
--- whether an image of this form keeps the picture of the tokens before a fault
-abbrev pub keeps : Form → Bool → Bool
-keeps Nothing setting = false
-keeps form setting = setting
 
 -- if none is open, every call fails
 abbrev pub no_image : Reception
@@ -70,17 +62,15 @@ no_image = record {
   room = 0;
   paints = 0;
   released = 0;
-  keeps_partial = false;
-  has_partial = false;
 }
 
 -- a receiver that was only given its decoder
 abbrev pub idle : DecoderState → Receiver
-idle decoder = record { decoder = decoder; image = no_image; keeps_partial = false }
+idle decoder = record { decoder = decoder; image = no_image }
 
 -- an image that was fed nothing
-abbrev pub begun : Form → DecoderState → Bool → Reception
-begun form decoder setting = record {
+abbrev pub begun : Form → DecoderState → Reception
+begun form decoder = record {
   form = form;
   start = decoder;
   bytes = [];
@@ -89,8 +79,6 @@ begun form decoder setting = record {
   room = 0;
   paints = 0;
   released = 0;
-  keeps_partial = keeps form setting;
-  has_partial = false;
 }
 
 abbrev pub is_open : Form → Bool
@@ -136,13 +124,13 @@ growths OfString bytes = dcs_growths bytes
 -- the right edges of the bands of its closed sixels, together
 abbrev pub band_columns : Limit → Form → List ℕ → ℕ
 band_columns limit Nothing bytes = 0
-band_columns limit (OfPayload settings) bytes = paints.band_columns limit (settled bytes)
+band_columns limit (OfPayload settings) bytes = paints.payload_band_columns limit bytes
 band_columns limit OfString bytes = paints.dcs_band_columns limit bytes
 
 -- for how many pixels its canvas has capacity at most beside the image
 abbrev pub band_room : Limit → Form → List ℕ → ℕ
 band_room limit Nothing bytes = 0
-band_room limit (OfPayload settings) bytes = paints.band_room limit (settled bytes)
+band_room limit (OfPayload settings) bytes = paints.payload_band_room limit bytes
 band_room limit OfString bytes = paints.dcs_band_room limit bytes
 
 -- how many closed sixels it has
@@ -160,7 +148,7 @@ in_payload OfString bytes = dcs_in_payload bytes
 -- the width and the height that the picture has so far
 abbrev pub size : Limit → Form → List ℕ → Option (ℕ × ℕ)
 size limit Nothing bytes = None
-size limit (OfPayload settings) bytes = Some (reach.size limit (settled bytes))
+size limit (OfPayload settings) bytes = Some (reach.payload_size limit bytes)
 size limit OfString bytes = dcs_size limit bytes
 
 -- the last row with a set pixel, plus one, or 0 if there is none
@@ -169,29 +157,36 @@ drawn_height limit Nothing bytes = 0
 drawn_height limit (OfPayload settings) bytes = payload_drawn_height limit bytes
 drawn_height limit OfString bytes = dcs_drawn_height limit bytes
 
+-- how many commands are ignored if the image ends now
+abbrev pub ignored : Limit → Form → List ℕ → ℕ
+ignored limit Nothing bytes = 0
+ignored limit (OfPayload settings) bytes = payload_ignored limit bytes
+ignored limit OfString bytes = dcs_ignored limit bytes
+
 -- the payload that is drawn
 abbrev pub found : Form → List ℕ → Found
 found Nothing bytes = NoPayload StreamFailed
 found (OfPayload settings) bytes = Payload settings bytes
 found OfString bytes = one_shot.found bytes
 
--- and if more bytes follow those of a DCS sequence
+-- and if more bytes follow those of a DCS sequence that has ended
 abbrev pub found_followed : Form → List ℕ → List ℕ → Found
 found_followed Nothing bytes more = NoPayload StreamFailed
 found_followed (OfPayload settings) bytes more = Payload settings bytes
-found_followed OfString bytes more = one_shot.found (bytes ++ more)
+found_followed OfString bytes more =
+    one_shot.found (if strings.has_ended (dcs_status bytes) then bytes ++ more else bytes)
 
 -- why its image is rejected, if no feed was
 abbrev pub end_fault : Limit → Form → List ℕ → Option Fault
 end_fault limit Nothing bytes = Some StreamFailed
 end_fault limit (OfPayload settings) bytes = payload_fault limit bytes
-end_fault limit OfString bytes = strings.end_fault (dcs_status bytes)
+end_fault limit OfString bytes = strings.end_fault limit bytes
 
 -- whether its image can fail because an allocation fails
 abbrev pub end_wants : Limit → Form → List ℕ → Bool
 end_wants limit Nothing bytes = false
 end_wants limit (OfPayload settings) bytes = is_none (payload_fault limit bytes)
-end_wants limit OfString bytes = strings.has_ended (dcs_status bytes)
+end_wants limit OfString bytes = strings.can_finish limit bytes
 
 -- the error of each call after an error
 abbrev pub failed : Form → Fault

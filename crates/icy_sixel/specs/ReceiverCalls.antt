@@ -1,7 +1,7 @@
 -- What the calls of a receiver do, by the receiver before and after. Each field is one fact. The
 -- facts are those of a payload session or a DCS session, in the words that Receiver has for both.
 use Rattle.std.specs.Prelude.{ℕ, ◌≡◌, ◌+◌, ◌*◌, ◌<◌, ◌≤◌, ◌++◌, List, length, true, false}
-use Rattle.std.specs.Prelude.{◌&&◌, nat_lt, Option, Some, None, Result, Ok, Err}
+use Rattle.std.specs.Prelude.{nat_lt, Option, Some, None, Result, Ok, Err}
 use Rattle.std.specs.Prelude.{OnOk, OnErr, IfOk, IfErr, MatchBool}
 use Rattle.sixel_base.specs.declared.error.SixelError.{SixelError}
 use Rattle.sixel_base.specs.CallFault.{FailsBy, RowsReleased}
@@ -11,7 +11,6 @@ use Rattle.sixel_base.specs.Fault.{Faults, IsFault}
 use Rattle.sixel_base.specs.OneShot.{found_fault, IsFoundImage, AreFoundRegisters, IsDecodedAs}
 use Rattle.sixel_base.specs.Payload.{payload_fault, payload_wants}
 use Rattle.sixel_base.specs.Settings.{Settings}
-use Rattle.sixel_decoder.specs.PartialCalls.{is_kept}
 use Rattle.icy_sixel.specs.ImageView.{image_value}
 use Rattle.icy_sixel.specs.Receiver.{Form, Receiver, Reception, OfPayload, OfString, no_image}
 use Rattle.icy_sixel.specs.Receiver as receivers
@@ -23,9 +22,7 @@ pub record IsBegun (old new : Receiver) (form : Form) : Type 0 where
   -- the decoder stays
   pub decoder : new.decoder ≡ old.decoder
   -- the image was fed nothing, and begins from the decoder
-  pub image : new.image ≡ receivers.begun form old.decoder old.keeps_partial
-  -- the setting stays
-  pub setting : new.keeps_partial ≡ old.keeps_partial
+  pub image : new.image ≡ receivers.begun form old.decoder
 
 -- The open image reads the chunk, or is rejected.
 pub record IsFed (old new : Receiver) (chunk : List ℕ)
@@ -38,8 +35,6 @@ pub record IsFed (old new : Receiver) (chunk : List ℕ)
   pub start : new.image.start ≡ old.image.start
   -- a feed releases no row
   pub released : OnOk result (new.image.released ≡ old.image.released)
-  -- the setting stays
-  pub setting : new.keeps_partial ≡ old.keeps_partial
   -- the chunk follows the bytes so far
   pub bytes : receivers.is_open old.image.form ≡ true
       → new.image.bytes ≡ old.image.bytes ++ chunk
@@ -99,16 +94,6 @@ pub record IsFed (old new : Receiver) (chunk : List ℕ)
       → Faults error (nat_lt 0 (dcs_growths (new.image.bytes ++ more)))
       (dcs_fault old.image.start.pixel_limit (new.image.bytes ++ more))
 
--- What a feed leaves of a rejected image: the setting that it began with stays, and a fault of the
--- payload leaves the picture of the tokens before it, for good.
-pub record KeepsPartial (old new : Reception) (result : Result Received SixelError)
-    : Type 0 where
-  pub setting : new.keeps_partial ≡ old.keeps_partial
-  pub first : old.is_refused ≡ false
-      → new.has_partial
-      ≡ receivers.in_payload new.form new.bytes && is_kept old.keeps_partial result
-  pub later : old.is_refused ≡ true → new.has_partial ≡ old.has_partial
-
 -- No memory has an image of which rows were released. A call that returns the whole image fails
 -- with that, and the image stays open as it was.
 abbrev pub StaysOpen : {A : Type 0} → Receiver → Receiver → Result A SixelError → Type 0
@@ -137,8 +122,6 @@ pub record IsFinished (old new : Receiver) (result : Result SixelImage SixelErro
       length image.pixels.items ≡ 4 * (image.width * image.height))
   -- crop and limit of the decoder stay
   pub set : IsSetAs old.decoder new.decoder
-  -- the setting stays
-  pub setting : new.keeps_partial ≡ old.keeps_partial
   -- a payload with an image has no fault
   pub faultless : OnOk result (found_fault old.image.start.pixel_limit
       (receivers.found old.image.form old.image.bytes) ≡ None)
@@ -147,7 +130,7 @@ pub record IsFinished (old new : Receiver) (result : Result SixelImage SixelErro
   -- an image of which rows were released is never returned, and stays open
   pub whole : OnOk result (old.image.released ≡ 0)
   pub released : StaysOpen old new result
-  -- a DCS sequence has an image only once it has ended
+  -- a DCS sequence has an image only once it has ended, unless it is lenient
   pub ended : OnOk result (receivers.end_fault old.image.start.pixel_limit
       old.image.form old.image.bytes ≡ None)
   -- an error leaves the decoder as it was
@@ -173,8 +156,6 @@ pub record IsAborted (old new : Receiver) : Type 0 where
   pub decoder : new.decoder ≡ old.decoder
   -- no image is open then
   pub closed : new.image ≡ no_image
-  -- the setting stays
-  pub setting : new.keeps_partial ≡ old.keeps_partial
 
 -- The canvas of the open image has written this number of pixels as its rows became wider.
 pub record IsWriteCount (image : Reception) (writes : ℕ) : Type 0 where
@@ -214,3 +195,11 @@ pub record IsDrawnHeight (image : Reception) (rows : ℕ) : Type 0 where
       → rows ≡ receivers.drawn_height image.start.pixel_limit image.form image.bytes
   -- a rejected image has none
   pub refused : image.is_refused ≡ true → rows ≡ 0
+
+-- So many commands are ignored if the open image ends now.
+pub record IsIgnoredCount (image : Reception) (count : ℕ) : Type 0 where
+  -- those with a fault, if the image is lenient
+  pub accepted : image.is_refused ≡ false
+      → count ≡ receivers.ignored image.start.pixel_limit image.form image.bytes
+  -- a rejected image has none
+  pub refused : image.is_refused ≡ true → count ≡ 0

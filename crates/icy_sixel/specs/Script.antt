@@ -52,7 +52,7 @@ string_meaning limit bytes = record {
   consumed = dcs_count bytes;
   status = statuses.Dcs (dcs_status bytes);
   fed_fault = dcs_fault limit bytes;
-  end_fault = option_or (dcs_fault limit bytes) (end_fault (dcs_status bytes));
+  end_fault = option_or (dcs_fault limit bytes) (end_fault limit bytes);
   grows = nat_lt 0 (dcs_growths bytes);
   drawn = found bytes;
 }

@@ -1,6 +1,6 @@
 //! Laws of decoded images, stated by functions with empty bodies.
 
-ghost use Rattle.std.specs.Prelude.{◌≡◌, ℕ, List, None};
+ghost use Rattle.std.specs.Prelude.{◌≡◌, ℕ, List, None, false};
 ghost use Rattle.sixel_base.specs.Clip.{clipped_height, clipped_width};
 ghost use Rattle.sixel_base.specs.Decoder.{with_clip};
 ghost use Rattle.sixel_base.specs.History.{History};
@@ -19,7 +19,8 @@ ghost use Rattle.icy_sixel.specs.ClippedImages.{whole_reached_area};
 /// - `whole_fault`, `whole_size`, `whole_area`: then the error is that of the whole picture, and so
 ///   are the size and the painted area, by which the work of a canvas is counted.
 /// - `part`: a clip leaves the columns and rows inside it, pixel by pixel. The image that it is
-///   compared with has no clip or a larger one.
+///   compared with has no clip or a larger one. A lenient image may have another part, because
+///   the area inside the clip decides which commands are ignored.
 /// - `faultless`: a payload without an error has none with a clip.
 /// - `registers`: the registers after an image do not depend on the clip.
 ///
@@ -39,7 +40,8 @@ pub fn clipped_images()
         → first_fault decoder.pixel_limit tokens ≡ None
         → reached_area decoder.pixel_limit tokens ≡ whole_reached_area tokens }
     ensures part { (decoder : DecoderState) (columns rows : ℕ) (payload : Found)
-        (image part : Image) → IsInsideClip decoder columns rows
+        (image part : Image) → decoder.pixel_limit.lenient ≡ false
+        → IsInsideClip decoder columns rows
         → IsFoundImage decoder payload image
         → IsFoundImage (with_clip decoder columns rows) payload part
         → IsPartInside (whole_pixel decoder payload) columns rows image part }

@@ -17,7 +17,7 @@ pub use decoder::{
 pub use encoder::{
     Dither, EncodeOptions, TextForm, palette_indices, sixel_encode, sixel_encode_default,
 };
-pub use receiver::{BandStatus, PartialImage, Received, ReceivedBand, SixelReceiver};
+pub use receiver::{BandStatus, Received, ReceivedBand, SixelReceiver};
 pub use script::Status;
 pub use sixel_base::size::validate_encode_dimensions;
 pub use sixel_base::{Result, SixelError, limits};

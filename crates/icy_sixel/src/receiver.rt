@@ -4,17 +4,16 @@
 
 ghost use Rattle.std.specs.Prelude.{◌≡◌, ◌∷◌, [], true, false, IfSome, None, Ok};
 ghost use Rattle.sixel_base.specs.Decoder.{new_decoder};
-ghost use Rattle.icy_sixel.specs.Receiver.{OfPayload, OfString, idle, is_open, in_payload};
+ghost use Rattle.icy_sixel.specs.Receiver.{OfPayload, OfString, idle, is_open, is_over};
+ghost use Rattle.icy_sixel.specs.Receiver.{in_payload};
 ghost use Rattle.icy_sixel.specs.ReceiverCalls.{IsBegun, IsFed, IsFinished, IsAborted};
 ghost use Rattle.icy_sixel.specs.ReceiverCalls.{IsDrawnHeight, IsPaintCount, IsSizeSoFar};
-ghost use Rattle.icy_sixel.specs.ReceiverCalls.{IsWriteCount};
-ghost use Rattle.icy_sixel.specs.ReceiverCalls.{KeepsPartial};
+ghost use Rattle.icy_sixel.specs.ReceiverCalls.{IsIgnoredCount, IsWriteCount};
 ghost use Rattle.icy_sixel.specs.inside.Receiving.{reception_of};
 
 mod bands;
 mod drawn;
 mod final_rows;
-mod partial;
 mod row_buffer;
 mod settings;
 
@@ -26,7 +25,6 @@ use crate::script::Status;
 use crate::sixel_image::SixelImage;
 pub use bands::{BandStatus, ReceivedBand, band_len};
 pub use final_rows::stable_rows;
-pub use partial::PartialImage;
 use sixel_base::{Result, SixelError};
 use sixel_canvas::band_canvas::BandCanvas;
 use sixel_decoder::{DcsReader, PayloadReader};
@@ -71,7 +69,6 @@ enum Open {
 pub struct SixelReceiver {
     decoder: SixelDecoder,
     open: Open,
-    keeps_partial: bool,
 }
 
 impl Model for SixelReceiver {
@@ -99,7 +96,6 @@ impl SixelReceiver {
         Self {
             decoder,
             open: Open::Nothing,
-            keeps_partial: false,
         }
     }
 
@@ -131,8 +127,7 @@ impl SixelReceiver {
     pub fn begin_frame(&mut self, alloc: Global, settings: DcsSettings)
         ensures { IsBegun self.old self.new (OfPayload settings) }
     {
-        let mut reader = PayloadReader::new(alloc, self.decoder.state, settings);
-        reader.set_keep_partial(self.keeps_partial);
+        let reader = PayloadReader::new(alloc, self.decoder.state, settings);
         self.replace_open(Open::Payload(reader));
     }
 
@@ -142,8 +137,7 @@ impl SixelReceiver {
     pub fn begin_dcs(&mut self, alloc: Global)
         ensures { IsBegun self.old self.new OfString }
     {
-        let mut reader = DcsReader::new(alloc, self.decoder.state);
-        reader.set_keep_partial(self.keeps_partial);
+        let reader = DcsReader::new(alloc, self.decoder.state);
         self.replace_open(Open::ControlString(reader));
     }
 
@@ -157,8 +151,7 @@ impl SixelReceiver {
     /// [`SixelStreamDecoder::feed`]: crate::SixelStreamDecoder::feed
     /// [`SixelDcsStreamDecoder::feed`]: crate::SixelDcsStreamDecoder::feed
     pub fn feed(&mut self, piece: &[u8]) -> Result<Received>
-        ensures fed { IsFed self.old self.new piece.now result }
-        ensures partial { KeepsPartial self.old.image self.new.image result }
+        ensures { IsFed self.old self.new piece.now result }
     {
         match &mut self.open {
             Open::Nothing => Err(SixelError::stream_failed()),
@@ -177,8 +170,6 @@ impl SixelReceiver {
         ensures open { IfSome result (λ _. is_open self.old.image.form ≡ true) }
         ensures fed { IfSome result (λ received.
             IsFed self.old self.new (byte ∷ []) (Ok received)) }
-        ensures partial { IfSome result (λ received.
-            KeepsPartial self.old.image self.new.image (Ok received)) }
         ensures left { result ≡ None → self.new ≡ self.old }
     {
         let (is_read, status) = match &mut self.open {
@@ -224,7 +215,6 @@ impl SixelReceiver {
     fn replace_open(&mut self, image: Open)
         ensures decoder { self.new.decoder ≡ self.old.decoder }
         ensures image { self.new.image ≡ reception_of image }
-        ensures setting { self.new.keeps_partial ≡ self.old.keeps_partial }
     {
         self.open = image;
     }
@@ -313,6 +303,37 @@ impl SixelReceiver {
             Open::Nothing => 0,
             Open::Payload(reader) => reader.drawn_height(),
             Open::ControlString(reader) => reader.drawn_height(),
+        }
+    }
+
+    /// Returns how many commands are ignored if the open image ends now.
+    ///
+    /// It is 0 unless the image is lenient ([`set_lenient`](Self::set_lenient)), before the
+    /// payload, after an error, and if no image is open. Then the picture is that of all commands.
+    /// The number saturates. The call does not allocate.
+    pub fn ignored_commands(&self) -> u64
+        ensures { IsIgnoredCount self.now.image result }
+    {
+        match &self.open {
+            Open::Nothing => 0,
+            Open::Payload(reader) => reader.ignored_commands(),
+            Open::ControlString(reader) => reader.ignored_commands(),
+        }
+    }
+
+    /// Whether the end of the open image was fed: the terminator of a payload or of a DCS sequence.
+    ///
+    /// A lenient DCS sequence can be finished before its end, and is not complete then. It is
+    /// `false` after an error, and if no image is open. The call does not allocate.
+    pub fn has_ended(&self) -> bool
+        ensures accepted { self.now.image.is_refused ≡ false
+            → result ≡ is_over self.now.image.form self.now.image.bytes }
+        ensures refused { self.now.image.is_refused ≡ true → result ≡ false }
+    {
+        match &self.open {
+            Open::Nothing => false,
+            Open::Payload(reader) => reader.has_ended(),
+            Open::ControlString(reader) => reader.has_ended(),
         }
     }
 }

@@ -20,8 +20,6 @@ reception_of (opened.Payload reader) = record {
   room = reader.room;
   paints = reader.paints;
   released = reader.released;
-  keeps_partial = reader.keeps_partial;
-  has_partial = reader.has_partial;
 }
 reception_of (opened.ControlString reader) = record {
   form = OfString;
@@ -32,13 +30,10 @@ reception_of (opened.ControlString reader) = record {
   room = reader.room;
   paints = reader.paints;
   released = reader.released;
-  keeps_partial = reader.keeps_partial;
-  has_partial = reader.has_partial;
 }
 
 abbrev pub receiver_of : Inside → Receiver
 receiver_of receiver = record {
   decoder = receiver.decoder;
   image = reception_of receiver.open;
-  keeps_partial = receiver.keeps_partial;
 }

@@ -4,7 +4,7 @@ use Rattle.std.specs.Prelude.{ℕ, ◌≡◌, ◌++◌, ◌⊎◌, true, nat_lt,
 use Rattle.std.specs.Option.{option_or}
 use Rattle.sixel_base.specs.Fault.{Fault, StreamFailed}
 use Rattle.sixel_base.specs.Payload.{payload_fault}
-use Rattle.sixel_base.specs.Dcs.{dcs_status, dcs_fault, end_fault}
+use Rattle.sixel_base.specs.Dcs.{dcs_fault, end_fault}
 use Rattle.sixel_base.specs.Limits.{Limit}
 use Rattle.icy_sixel.specs.Receiver.{Form, Nothing, OfPayload, OfString, is_over}
 use Rattle.icy_sixel.specs.Receiver as images
@@ -20,7 +20,7 @@ pub record IsWhole (form : Form) (fed bytes : List ℕ) : Type 0 where
 abbrev pub whole_fault : Limit → Form → List ℕ → Option Fault
 whole_fault limit Nothing bytes = Some StreamFailed
 whole_fault limit (OfPayload settings) bytes = payload_fault limit bytes
-whole_fault limit OfString bytes = option_or (dcs_fault limit bytes) (end_fault (dcs_status bytes))
+whole_fault limit OfString bytes = option_or (dcs_fault limit bytes) (end_fault limit bytes)
 
 -- what bytes mean that are fed to an image of this form
 abbrev pub meaning : Limit → Form → List ℕ → Meaning

@@ -147,7 +147,8 @@ impl<'a> SixelStreamDecoder<'a> {
         ensures counted { IfOk result (λ counted. counted.1
             ≡ (payload self.entry).writes + counted.0.width * counted.0.height) }
         ensures at_most { IfOk result
-            (λ counted. counted.1 ≤ 4 * payload_area (payload self.entry).bytes) }
+            (λ counted. counted.1 ≤ 4 * payload_area (payload self.entry).origin.pixel_limit
+            (payload self.entry).bytes) }
         ensures set { IsSetAs (payload_owner self.entry).now self.exit.0.now }
         ensures kept { OnErr result (self.exit.0.now ≡ (payload_owner self.entry).now) }
     {

@@ -93,10 +93,9 @@ impl SixelReceiver {
     /// The caller has copied them. Then an image that is shown while it comes takes the memory of
     /// the rows between two calls, and not of the image: copy the final rows and release them after
     /// each [`feed_band`](Self::feed_band). [`finish_into`](Self::finish_into) returns the rows
-    /// that are left. [`finish`](Self::finish) and [`finish_partial`](Self::finish_partial) fail,
-    /// because no memory has the whole image, and leave it open. For the same reason a later fault
-    /// leaves no picture, whatever [`set_keep_partial`](Self::set_keep_partial) was. A number below
-    /// [`released_rows`](Self::released_rows) changes nothing. The call does not allocate.
+    /// that are left. [`finish`](Self::finish) fails, because no memory has the whole image, and
+    /// leaves it open. A number below [`released_rows`](Self::released_rows) changes nothing. The
+    /// call does not allocate.
     ///
     /// The error is `InvalidData("rows are not final")` if `rows` is greater than
     /// [`rows_so_far`](Self::rows_so_far).

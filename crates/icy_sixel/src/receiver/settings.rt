@@ -1,8 +1,8 @@
-//! What the host of a receiver sets: registers, crop, clip and the limit of pixels.
+//! What the host of a receiver sets: registers, crop, clip, the limit of pixels and lenience.
 
 ghost use Rattle.std.specs.Prelude.{◌≡◌, [], slice_index_or, slice_set};
 ghost use Rattle.sixel_base.specs.Color.{default_registers};
-ghost use Rattle.sixel_base.specs.Decoder.{with_clip, with_pixel_limit};
+ghost use Rattle.sixel_base.specs.Decoder.{with_clip, with_lenient, with_pixel_limit};
 ghost use Rattle.icy_sixel.specs.Registers.{with_colors};
 
 use crate::receiver::SixelReceiver;
@@ -24,7 +24,6 @@ impl SixelReceiver {
           registers = slice_set self.old.decoder.registers register color;
         } }
         ensures image { self.new.image ≡ self.old.image }
-        ensures setting { self.new.keeps_partial ≡ self.old.keeps_partial }
     {
         self.decoder.set_register(register, color);
     }
@@ -45,7 +44,6 @@ impl SixelReceiver {
           registers = with_colors self.old.decoder.registers first colors.now;
         } }
         ensures image { self.new.image ≡ self.old.image }
-        ensures setting { self.new.keeps_partial ≡ self.old.keeps_partial }
     {
         self.decoder.set_registers(first, colors);
     }
@@ -57,7 +55,6 @@ impl SixelReceiver {
         ensures decoder { self.new.decoder
             ≡ record self.old.decoder { registers = default_registers } }
         ensures image { self.new.image ≡ self.old.image }
-        ensures setting { self.new.keeps_partial ≡ self.old.keeps_partial }
     {
         self.decoder.reset_palette();
     }
@@ -69,7 +66,6 @@ impl SixelReceiver {
     pub fn set_raster_crop(&mut self, on: bool)
         ensures decoder { self.new.decoder ≡ record self.old.decoder { raster_crop = on } }
         ensures image { self.new.image ≡ self.old.image }
-        ensures setting { self.new.keeps_partial ≡ self.old.keeps_partial }
     {
         self.decoder.set_raster_crop(on);
     }
@@ -81,7 +77,6 @@ impl SixelReceiver {
     pub fn set_pixel_limit(&mut self, pixels: usize)
         ensures decoder { self.new.decoder ≡ with_pixel_limit self.old.decoder pixels }
         ensures image { self.new.image ≡ self.old.image }
-        ensures setting { self.new.keeps_partial ≡ self.old.keeps_partial }
     {
         self.decoder.set_pixel_limit(pixels);
     }
@@ -93,8 +88,30 @@ impl SixelReceiver {
     pub fn set_clip(&mut self, width: usize, height: usize)
         ensures decoder { self.new.decoder ≡ with_clip self.old.decoder width height }
         ensures image { self.new.image ≡ self.old.image }
-        ensures setting { self.new.keeps_partial ≡ self.old.keeps_partial }
     {
         self.decoder.set_clip(width, height);
+    }
+
+    /// Sets whether a command with a fault is ignored, in place of rejecting the image.
+    ///
+    /// It is off in a new decoder. The setting applies to each payload and each DCS sequence that
+    /// is begun afterwards. It is part of the decoder, so
+    /// [`into_decoder`](Self::into_decoder) returns a decoder that is lenient, too.
+    ///
+    /// - A repeat count, raster attributes or a graphics new line past a limit changes nothing.
+    /// - A sixel outside the limits is not drawn and does not move the position. Its repeat count
+    ///   is used up.
+    /// - So [`feed`](Self::feed) and [`finish`](Self::finish) of a payload fail only if an
+    ///   allocation fails. A DCS sequence can also have no introducer or a faulty header.
+    /// - `finish` of a DCS sequence that has not ended returns its image so far, once its payload
+    ///   has begun.
+    ///
+    /// [`ignored_commands`](Self::ignored_commands) returns how many commands are ignored, and
+    /// [`has_ended`](Self::has_ended) whether the image is complete.
+    pub fn set_lenient(&mut self, on: bool)
+        ensures decoder { self.new.decoder ≡ with_lenient self.old.decoder on }
+        ensures image { self.new.image ≡ self.old.image }
+    {
+        self.decoder.state.pixel_limit = self.decoder.state.pixel_limit.with_lenient(on);
     }
 }

@@ -36,8 +36,7 @@ impl<'a> Session<'a> {
 
     /// Plays the session on the open image of a receiver, and stores its decoder.
     pub fn play(&self, mut receiver: SixelReceiver, decoder: &mut SixelDecoder) -> Outcome
-        requires begun { receiver.image ≡ begun receiver.image.form receiver.decoder
-            receiver.image.keeps_partial }
+        requires begun { receiver.image ≡ begun receiver.image.form receiver.decoder }
         requires open { is_open receiver.image.form ≡ true }
         ensures { IsSessionOutcome receiver.decoder
             (meaning receiver.decoder.pixel_limit receiver.image.form self.now.bytes.now)
@@ -51,7 +50,7 @@ impl<'a> Session<'a> {
     /// Feeds the image, and ends it unless a feed was rejected.
     fn outcome(&self, receiver: &mut SixelReceiver) -> Outcome
         requires begun { receiver.old.image ≡ begun receiver.old.image.form
-            receiver.old.decoder receiver.old.image.keeps_partial }
+            receiver.old.decoder }
         requires open { is_open receiver.old.image.form ≡ true }
         ensures { IsSessionOutcome receiver.old.decoder
             (meaning receiver.old.decoder.pixel_limit receiver.old.image.form self.now.bytes.now)

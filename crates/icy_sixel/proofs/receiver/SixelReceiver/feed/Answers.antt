@@ -16,8 +16,8 @@ same_for_good : (result : Result Received SixelError) (form : Form) (limit : Lim
 same_for_good (Ok r) form limit fed more = λ is over. same_string limit fed more over
 same_for_good (Err e) form limit fed more = tt
 
-pub returns-clause-fed : goal.returns-clause-fed
-returns-clause-fed c =
+pub returns : goal.returns
+returns c =
     let old = c.args.self.now.image in
     let fed : List ℕ = (reception_of c.match-self.self-inside.open).bytes in
     record {
@@ -25,7 +25,6 @@ returns-clause-fed c =
       form = search rules;
       start = search rules;
       released = search rules;
-      setting = search rules;
       bytes = search rules;
       ok = search rules;
       err = search rules;

@@ -1,7 +1,9 @@
-use Rattle.std.proofs.Common.{◌≡◌, ◌≤◌, ◌*◌, ℕ, List, None, false, ap, sym, ◌∙◌, subst, refl}
+use Rattle.std.proofs.Common.{◌≡◌, ◌≤◌, ◌*◌, ◌++◌, ℕ, List, None, true, false, ap, sym, ◌∙◌}
+use Rattle.std.proofs.Common.{subst, refl}
 use Rattle.std.proofs.Common.{Result, Ok, Err, rules, arith}
-use Rattle.std.specs.Prelude.{IfOk}
+use Rattle.std.specs.Prelude.{IfOk, if◌then◌else◌}
 use Rattle.sixel_base.specs.declared.error.SixelError.{SixelError}
+use Rattle.sixel_base.specs.Dcs.{dcs_status, has_ended}
 use Rattle.sixel_base.specs.DrawnHeight.{found_drawn_height}
 use Rattle.sixel_base.specs.OneShot.{Payload, found_fault, IsDecodedAs, IsFoundImage}
 use Rattle.sixel_base.specs.OneShot.{AreFoundRegisters}
@@ -64,7 +66,15 @@ string_finished : (result : Result DecodedPayload SixelError) (session : DcsSess
 string_finished (Ok picture) session is drawn = record {
   shows = is.found_image;
   registers = is.found_registers;
-  decoded = is.as_decoded;
+  decoded = λ more.
+      (elim (has_ended (dcs_status session.bytes)) as
+      (λ t. has_ended (dcs_status session.bytes) ≡ t
+      → IsDecodedAs session.decoder
+      (one_shot.found (if t then session.bytes ++ more else session.bytes))
+      (picture_value picture) picture.registers) [
+        | true ↦ λ over. is.as_decoded more over
+        | false ↦ λ on. (is.faultless, is.found_image, is.found_registers)
+      ]) refl;
   drawn = drawn;
   area = is.area;
   faultless = is.faultless;
@@ -116,7 +126,6 @@ returns-clause-finished c =
       area = rw (ap (λ i. i.width) shown, ap (λ i. i.height) shown) is.area;
       pixels = c.from_picture.ensures.pixels;
       set = search rules;
-      setting = search rules;
       faultless = is.faultless;
       accepted = is.accepted;
       whole = is.whole;

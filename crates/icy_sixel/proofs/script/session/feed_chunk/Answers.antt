@@ -5,7 +5,7 @@ use Rattle.icy_sixel.proofs.script.session.feed_chunk.Goals as goal
 pub overflow_add-fed : goal.overflow_add-fed
 overflow_add-fed c =
     let before = c.args.receiver.now.image in
-    let told = c.in_ok-fed.ensures.fed in
+    let told = c.in_ok-fed.ensures in
     omega (
       arith,
       count_fits c.feed.new.self.image.form c.feed.new.self.image.bytes,

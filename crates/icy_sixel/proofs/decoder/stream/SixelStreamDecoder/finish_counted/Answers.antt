@@ -3,7 +3,8 @@ use Rattle.std.proofs.lemmas.Nat.{mul-le}
 use Rattle.sixel_base.specs.Bytes.{front}
 use Rattle.sixel_base.specs.History.{history_of}
 use Rattle.sixel_base.specs.Limits.{Limit}
-use Rattle.sixel_base.specs.Payload.{Image, payload_area, payload_fault, payload_image}
+use Rattle.sixel_base.specs.Payload.{Image, payload_area, payload_fault, payload_image, tokens}
+use Rattle.sixel_base.proofs.ToleratedTokens.{effective-fault}
 use Rattle.sixel_base.specs.Place.{width, height}
 use Rattle.sixel_base.specs.Stroke.{Origin}
 use Rattle.sixel_decoder.proofs.RowExtents.{cropped_height-most, settled-area, sides-fit}
@@ -11,19 +12,19 @@ use Rattle.icy_sixel.proofs.decoder.stream.SixelStreamDecoder.finish_counted.Goa
 
 -- the image has at most the pixels of the extent
 fewer : (image : Image) (o : Origin) (bytes : List ℕ) → image ≡ payload_image o bytes
-    → image.width * image.height ≤ payload_area bytes
+    → image.width * image.height ≤ payload_area o.pixel_limit bytes
 fewer image o bytes is =
-    let h = history_of (front bytes) in
+    let h = tokens o.pixel_limit bytes in
     mul-le image.width image.height (width h) (height h)
     (omega (arith, ap (λ (i : Image). i.width) is))
     (omega (arith, ap (λ (i : Image). i.height) is, cropped_height-most o.raster_crop h))
 
 -- which are few
 few : (limit : Limit) (bytes : List ℕ) → payload_fault limit bytes ≡ None
-    → payload_area bytes ≤ 1000000000000
+    → payload_area limit bytes ≤ 1000000000000
 few limit bytes sound =
-    let h = history_of (front bytes) in
-    let sides = sides-fit limit h sound in
+    let h = tokens limit bytes in
+    let sides = sides-fit limit h (effective-fault limit (history_of (front bytes)) ∙ sound) in
     mul-le (width h) (height h) 1000000 1000000 sides.0 sides.1
 
 pub with_packed-count-requires : goal.with_packed-count-requires
