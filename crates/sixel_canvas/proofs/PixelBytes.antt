@@ -1,6 +1,6 @@
 -- What the bytes of a row are once those of one pixel more were written to it.
 use Rattle.std.proofs.Common.{◌≡◌, ℕ, ◌+◌, ◌*◌, ◌/◌, ◌%◌, ◌<◌, ◌≤◌, List, length, get_or, refl, ◌∙◌}
-use Rattle.std.proofs.Common.{inl, inr, arith, [], ◌∷◌, ◌++◌, ◌-◌, take, drop, ap}
+use Rattle.std.proofs.Common.{inl, inr, arith, [], ◌∷◌, ◌++◌, ◌-◌, take, drop, ap, sym}
 use Rattle.std.proofs.Common.{get_or-drop, length-drop}
 use Rattle.std.specs.Prelude.{slice_set}
 use Rattle.sixel_canvas.specs.inside.FinalRows.{pixel_at}
@@ -109,6 +109,30 @@ put_more row bytes f column fits is before i up =
                 ]
           ]
     ]
+
+-- bytes after those of the pixel
+pub put_past : (row : List ℕ) (at : ℕ) (bytes : List ℕ) (i : ℕ) → at + 4 ≤ i
+    → get_or (put row at bytes) i 0 ≡ get_or row i 0
+put_past row at bytes i past =
+    let one = slice_set row at (get_or bytes 0 0) in
+    let two = slice_set one (at + 1) (get_or bytes 1 0) in
+    let three = slice_set two (at + 2) (get_or bytes 2 0) in
+    get_or-set_other three (at + 3) i (get_or bytes 3 0) 0 (λ e. omega (arith, e, past))
+    ∙ get_or-set_other two (at + 2) i (get_or bytes 2 0) 0 (λ e. omega (arith, e, past))
+    ∙ get_or-set_other one (at + 1) i (get_or bytes 1 0) 0 (λ e. omega (arith, e, past))
+    ∙ get_or-set_other row at i (get_or bytes 0 0) 0 (λ e. omega (arith, e, past))
+
+-- a pixel whose bytes are the same
+pub pixel_kept : (now old : List ℕ) (k : ℕ) → 4 * k + 4 ≤ length now → 4 * k + 4 ≤ length old
+    → ((i : ℕ) → 4 * k ≤ i → get_or now i 0 ≡ get_or old i 0) → pixel_at now k ≡ pixel_at old k
+pixel_kept now old k fits inside same =
+    sym (pixel_four now k fits)
+    ∙ rw (
+      same (4 * k) (omega arith),
+      same (4 * k + 1) (omega arith),
+      same (4 * k + 2) (omega arith),
+      same (4 * k + 3) (omega arith),
+    ) (pixel_four old k inside)
 
 -- a row of stored pixels, and of background right of them
 pub row_bytes : (f : List ℕ → List ℕ) (pixels background stored rest : List ℕ) (len i : ℕ) →

@@ -211,10 +211,11 @@ above_stored rows released first gone column row le =
     rw (le-ltb (first + row) released (omega (arith, le)))
     (ap (final rows column) (omega (arith, le)))
 
--- a row where none was released
-pub above_whole :
-    (rows : RowsState) (released : ℕ) (gone : List ℕ) (column row : ℕ) → released ≡ 0 →
-    (if nat_lt row released then gone else final rows column (row - released))
+-- a row that is left, counted from the first one that is
+pub row_left :
+    (rows : RowsState) (released : ℕ) (gone : List ℕ) (column row : ℕ) →
+    (if nat_lt (released + row) released then gone
+    else final rows column (released + row - released))
     ≡ final rows column row
-above_whole rows released gone column row none =
-    rw (le-ltb row released (omega (arith, none))) (ap (final rows column) (omega (arith, none)))
+row_left rows released gone column row =
+    rw (le-ltb (released + row) released (omega arith)) (ap (final rows column) (omega arith))

@@ -2,7 +2,7 @@
 -- The bytes of a pixel are in the order of the image, or with blue and red exchanged. The layout is
 -- this library's own.
 use Rattle.std.specs.Prelude.{◌≡◌, ℕ, ◌+◌, ◌-◌, ◌*◌, ◌/◌, ◌%◌, ◌≤◌, ◌<◌, nat_lt, ◌&&◌, max}
-use Rattle.std.specs.Prelude.{List, [], ◌∷◌, slice_index, if◌then◌else◌}
+use Rattle.std.specs.Prelude.{List, [], ◌∷◌, drop, slice_index, take, if◌then◌else◌}
 use Rattle.sixel_canvas.specs.declared.channels.ChannelOrder.{ChannelOrder}
 use Rattle.sixel_canvas.specs.declared.channels.ChannelOrder.TheVariants.{Rgba, Bgra}
 use Rattle.sixel_canvas.specs.declared.channels.RowLayout.{RowLayout}
@@ -12,6 +12,12 @@ abbrev pub in_order : ChannelOrder → List ℕ → List ℕ
 in_order Rgba pixel = pixel
 in_order Bgra pixel =
     slice_index pixel 2 ∷ slice_index pixel 1 ∷ slice_index pixel 0 ∷ slice_index pixel 3 ∷ []
+
+-- the pixel at this place of rows that are stored without gaps, and background elsewhere
+abbrev pub stored_pixel : List ℕ → ℕ → ℕ → List ℕ → ℕ → ℕ → List ℕ
+stored_pixel bytes width rows background column row =
+    if nat_lt column width && nat_lt row rows then take 4 (drop (4 * (row * width + column)) bytes)
+    else background
 
 -- how many bytes so many rows take: a stride for each row but the last
 abbrev pub rows_len : RowLayout → ℕ → ℕ

@@ -1,5 +1,5 @@
 //! A canvas of one band: the rows above it are final, and stored as those of the image.
-ghost use Rattle.std.specs.Prelude.{◌≡◌, ℕ, ◌+◌, ◌*◌, ◌^◌, ◌≤◌, ◌<◌, List, max, OnErr, OnOk};
+ghost use Rattle.std.specs.Prelude.{◌≡◌, ℕ, ◌+◌, ◌*◌, ◌≤◌, ◌<◌, List, max, OnErr, OnOk};
 ghost use Rattle.std.specs.Prelude.{◌-◌, length, nat_lt, if◌then◌else◌};
 ghost use Rattle.sixel_canvas.specs.Layout.{AreCopied, AreRowsIn};
 ghost use Rattle.sixel_canvas.specs.inside.Band.{cell};
@@ -86,6 +86,10 @@ impl Canvas for BandCanvas {
         self.top
     }
 
+    fn released(&self) -> usize {
+        self.released
+    }
+
     #[inline(always)]
     fn held(&self) -> usize {
         if self.band.is_tagged() { 0 } else { self.held }
@@ -133,11 +137,9 @@ impl Canvas for BandCanvas {
     }
 
     fn take_picture(&mut self, width: usize, height: usize) -> Result<Vec<u8>, AllocError> {
-        if self.released > 0 {
-            return Err(AllocError);
-        }
         self.finish_rows();
-        self.rows.take(width, height)
+        let rows = height.saturating_sub(self.released);
+        self.rows.take(width, rows)
     }
 }
 
@@ -158,13 +160,6 @@ impl BandCanvas {
         self.band.painted()
     }
 
-    /// Returns how many rows from the top are released.
-    pub fn released_rows(&self) -> usize
-        ensures { result ≡ self.now.released }
-    {
-        self.released
-    }
-
     /// Copies so many final rows from row `first` on to a caller's memory.
     pub fn copy_rows(&self, first: usize, rows: usize, layout: RowLayout, out: &mut [u8])
         requires stored { self.now.released ≤ first }
@@ -175,21 +170,8 @@ impl BandCanvas {
     {
         // The proof reads the top for the range of its type.
         let _top = self.top;
-        self.rows.copy(first - self.released, rows, layout, out);
-    }
-
-    /// Copies so many rows of the picture from row `first` on to a caller's memory.
-    ///
-    /// All that was drawn is final then.
-    pub fn copy_picture(&mut self, first: usize, rows: usize, layout: RowLayout, out: &mut [u8])
-        requires stored { self.old.released ≤ first }
-        requires within { first + rows < 2 ^ 64 }
-        requires fits { AreRowsIn layout rows (length out.old) }
-        ensures len { length out.new ≡ length out.old }
-        ensures copied { AreCopied (band_canvas_shown self.old) first rows layout out.old out.new }
-    {
-        self.finish_rows();
-        self.rows.copy(first - self.released, rows, layout, out);
+        let stored = self.rows.stored();
+        stored.copy(first - self.released, rows, layout, out);
     }
 
     /// Releases the final rows above row `rows`.

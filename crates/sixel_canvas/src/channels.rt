@@ -50,24 +50,24 @@ pub fn copy_row(pixels: &[u8], background: [u8; 4], order: ChannelOrder, row: &m
 {
     let len = pixels.len().min(row.len());
     let (stored, rest) = row.split_at_mut(len);
-    copy_pixels(&pixels[..len], order, stored);
+    stored.copy_from_slice(&pixels[..len]);
+    reorder(stored, order);
     fill_rgba_span(rest, order.of(background));
 }
 
-/// Copies pixels in another order of bytes.
-fn copy_pixels(pixels: &[u8], order: ChannelOrder, row: &mut [u8])
-    requires same { length pixels.now ≡ length row.old }
-    requires whole { length row.old % 4 ≡ 0 }
-    ensures len { length row.new ≡ length row.old }
-    ensures copied { (i : ℕ) → i < length row.old → slice_index row.new i
-        ≡ slice_index (in_order order (pixel_at pixels.now (i / 4))) (i % 4) }
+/// Gives the bytes of each pixel this order, where they are RGBA.
+pub fn reorder(pixels: &mut [u8], order: ChannelOrder)
+    requires { length pixels.old % 4 ≡ 0 }
+    ensures len { length pixels.new ≡ length pixels.old }
+    ensures ordered { (i : ℕ) → i < length pixels.old → slice_index pixels.new i
+        ≡ slice_index (in_order order (pixel_at pixels.old (i / 4))) (i % 4) }
 {
-    'copied: for column in 0..row.len() / 4 {
+    'ordered: for column in 0..pixels.len() / 4 {
         let at = 4 * column;
         let bytes = order.of([pixels[at], pixels[at + 1], pixels[at + 2], pixels[at + 3]]);
-        row[at] = bytes[0];
-        row[at + 1] = bytes[1];
-        row[at + 2] = bytes[2];
-        row[at + 3] = bytes[3];
+        pixels[at] = bytes[0];
+        pixels[at + 1] = bytes[1];
+        pixels[at + 2] = bytes[2];
+        pixels[at + 3] = bytes[3];
     }
 }

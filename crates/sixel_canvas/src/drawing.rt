@@ -1,6 +1,6 @@
 //! The trait of everything that a SIXEL decoder draws on.
-ghost use Rattle.std.specs.Prelude.{◌≡◌, ℕ, ◌+◌, ◌*◌, ◌^◌, ◌≤◌, ◌<◌, List, [], ◌∷◌, length, take};
-ghost use Rattle.std.specs.Prelude.{true, max, slice_index_or, IfOk, OnOk, if◌then◌else◌};
+ghost use Rattle.std.specs.Prelude.{◌≡◌, ℕ, ◌+◌, ◌-◌, ◌*◌, ◌^◌, ◌≤◌, ◌<◌, List, [], ◌∷◌, length};
+ghost use Rattle.std.specs.Prelude.{true, max, take, slice_index_or, IfOk, OnOk, if◌then◌else◌};
 ghost use Rattle.sixel_base.specs.Limits.{area_limit, side_limit};
 ghost use Rattle.sixel_base.specs.Picture.{covers, picture};
 ghost use Rattle.sixel_canvas.specs.inside.Drawn.{Run, run, with_sixels, covers_block};
@@ -44,6 +44,10 @@ pub trait Canvas {
     /// Returns the first row of the band.
     fn top(&self) -> usize
         ensures { result ≡ top self.now };
+
+    /// Returns how many rows from the top are released.
+    fn released(&self) -> usize
+        ensures { result ≡ released self.now };
 
     /// Returns how many columns of the band are drawn on without an allocation.
     fn held(&self) -> usize
@@ -131,12 +135,14 @@ pub trait Canvas {
 
     /// Returns the bytes of the picture of this size, and leaves the canvas without it.
     ///
-    /// It fails if rows were released, because no memory has them.
+    /// Rows that were released are not among them.
     fn take_picture(&mut self, width: usize, height: usize) -> Result<Vec<u8>, AllocError>
         requires narrow { width ≤ side_limit }
         requires few { height ≤ side_limit }
         requires small { width * height ≤ area_limit }
-        ensures ok { IfOk result (λ bytes. bytes.items ≡ picture (shown self.old) width height) }
-        ensures len { IfOk result (λ bytes. length bytes.items ≡ 4 * (width * height)) }
-        ensures whole { OnOk result (released self.old ≡ 0) };
+        ensures ok { IfOk result (λ bytes. bytes.items
+            ≡ picture (λ column row. shown self.old column (released self.old + row)) width
+            (height - released self.old)) }
+        ensures len { IfOk result (λ bytes.
+            length bytes.items ≡ 4 * (width * (height - released self.old))) };
 }

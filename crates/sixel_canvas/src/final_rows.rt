@@ -1,17 +1,17 @@
 //! The rows of an image that are final, in the bytes of the image.
 ghost use Rattle.std.specs.Prelude.{◌≡◌, ℕ, ◌+◌, ◌-◌, ◌*◌, ◌^◌, ◌≤◌, ◌<◌, ◌++◌, ◌==◌};
-ghost use Rattle.std.specs.Prelude.{◌/◌, ◌%◌, List, length, max, nat_lt, ◌&&◌};
-ghost use Rattle.std.specs.Prelude.{drop, slice_index, slice_index_or};
+ghost use Rattle.std.specs.Prelude.{List, length, max, nat_lt, ◌&&◌};
+ghost use Rattle.std.specs.Prelude.{drop, slice_index_or};
 ghost use Rattle.std.specs.Prelude.{IfOk, IsOk, OnErr, OnOk, if◌then◌else◌};
 ghost use Rattle.std.specs.Prelude.{vec_len, vec_capacity};
 ghost use Rattle.sixel_base.specs.Picture.{joined, picture};
-ghost use Rattle.sixel_canvas.specs.Layout.{AreCopied, AreRowsIn, in_order};
-ghost use Rattle.sixel_canvas.specs.inside.FinalRows.{AreMovedWithin, AreRows, final, pixel_at};
+ghost use Rattle.sixel_canvas.specs.Layout.{stored_pixel};
+ghost use Rattle.sixel_canvas.specs.inside.FinalRows.{AreMovedWithin, AreRows, final};
 ghost use Rattle.sixel_canvas.specs.inside.FinalRows.{stored_area};
 ghost use Rattle.sixel_canvas.specs.inside.Paints.{counted};
 
-use crate::channels::{ChannelOrder, RowLayout, copy_row};
 use crate::span::add_pixels;
+use crate::stored_rows::StoredRows;
 use std::alloc::{AllocError, Global};
 use std::marker::Model;
 use std::mem;
@@ -217,42 +217,18 @@ impl FinalRows {
         }
     }
 
-    /// Copies so many rows from row `first` on to a caller's memory.
-    pub fn copy(&self, first: usize, rows: usize, layout: RowLayout, out: &mut [u8])
-        requires above_bottom { first + rows < 2 ^ 64 }
-        requires fits { AreRowsIn layout rows (length out.old) }
-        ensures len { length out.new ≡ length out.old }
-        ensures copied { AreCopied (final self.now) first rows layout out.old out.new }
+    /// Returns the stored rows, to copy them.
+    pub fn stored(&self) -> StoredRows<'_>
+        ensures whole { length result.bytes.now ≡ 4 * (result.rows * result.width) }
+        ensures shown { (column row : ℕ) → stored_pixel result.bytes.now result.width result.rows
+            result.background column row ≡ final self.now column row }
     {
-        let len = 4 * layout.columns;
-        'copied: for row in 0..rows {
-            let start = row * layout.stride;
-            self.copy_row(first + row, layout.order, &mut out[start..start + len]);
+        StoredRows {
+            bytes: &self.bytes,
+            width: self.width,
+            rows: self.rows,
+            background: self.background,
         }
-    }
-
-    /// Copies one row to a row of a caller's memory.
-    fn copy_row(&self, row: usize, order: ChannelOrder, out: &mut [u8])
-        requires { length out.old % 4 ≡ 0 }
-        ensures len { length out.new ≡ length out.old }
-        ensures copied { (i : ℕ) → i < length out.old → slice_index out.new i
-            ≡ slice_index (in_order order (final self.now (i / 4) row)) (i % 4) }
-    {
-        copy_row(self.stored(row), self.background, order, out);
-    }
-
-    /// Returns the bytes of a row, or none where there is no such row.
-    fn stored(&self, row: usize) -> &[u8]
-        ensures len { length result.now
-            ≡ (if nat_lt row self.now.rows then 4 * self.now.width else 0) }
-        ensures pixels { (column : ℕ) → column < self.now.width → row < self.now.rows
-            → pixel_at result.now column ≡ final self.now column row }
-    {
-        if row >= self.rows {
-            return &[];
-        }
-        let start = 4 * (row * self.width);
-        &self.bytes[start..start + 4 * self.width]
     }
 
     /// Returns the bytes of the picture of this size, and keeps no row.

@@ -12,6 +12,7 @@ mod row;
 mod row_band;
 pub mod row_canvas;
 mod span;
+pub mod stored_rows;
 pub mod tagged_band;
 mod tagged_row;
 

@@ -76,6 +76,10 @@ impl Canvas for RowCanvas {
         6 * self.band
     }
 
+    fn released(&self) -> usize {
+        0
+    }
+
     #[inline(always)]
     fn held(&self) -> usize {
         match self.bands.get(self.band) {

@@ -9,7 +9,7 @@ use Rattle.sixel_base.specs.Fault.{Fault, Faults, IsFault, StreamFailed}
 use Rattle.sixel_base.specs.Bytes.{front, first_terminator}
 use Rattle.sixel_base.specs.History.{history_of}
 use Rattle.sixel_base.specs.Payload.{closed, fed_fault, first_fault}
-use Rattle.sixel_base.specs.Payload.{payload_fault, payload_image, payload_registers}
+use Rattle.sixel_base.specs.Payload.{Image, payload_fault, payload_image, payload_registers}
 use Rattle.sixel_base.specs.Stroke.{Origin}
 use Rattle.sixel_base.specs.declared.state.DecoderState.{DecoderState}
 use Rattle.sixel_base.specs.declared.status.SixelDcsFeedStatus.{SixelDcsFeedStatus}
@@ -24,15 +24,12 @@ use Rattle.sixel_base.specs.Dcs.{has_come, IsStringImage, AreStringRegisters}
 use Rattle.sixel_base.specs.Lenient.{fault}
 use Rattle.sixel_base.specs.Limits.{Limit}
 use Rattle.sixel_decoder.specs.inside.DcsParser.{IsInPayload}
-use Rattle.sixel_decoder.specs.PictureView.{picture_value}
 use Rattle.sixel_base.specs.OneShot.{Found, found, found_fault, IsFoundImage, AreFoundRegisters}
 use Rattle.sixel_base.specs.OneShot.{IsDecodedAs}
 use Rattle.sixel_decoder.specs.Session.{Session}
 use Rattle.sixel_decoder.proofs.Finality.{found_fault_ended, found_image_ended}
 use Rattle.sixel_decoder.proofs.Finality.{found_registers_ended}
 use Rattle.sixel_decoder.proofs.DcsPayloads.{found_reading}
-use Rattle.sixel_base.specs.OneShot.{Payload}
-use Rattle.sixel_decoder.specs.CopiedImage.{decoder_of, last_fault}
 
 has_come-ended : (o : Option ℕ) (rest : List ℕ)
     → has_ended (payload_status_by o rest) ≡ has_come (ended_by o rest)
@@ -119,15 +116,16 @@ string_refused_at_end (Err e) reader decoder ended bytes is finishes refused =
     is.accepted refused in
     rw finishes (subst (λ (f : Option Fault). Faults e (is_none f) f) fine told)
 
-pub string_image : (result : Result DecodedPayload SixelError) (reader : Session)
+pub string_image : (result : Result DecodedPayload SixelError)
+    (image_of : DecodedPayload → Image) (reader : Session)
     (decoder : DecoderState) (ended : Option SixelDcsFeedStatus) (bytes : List ℕ)
     → IsInPayload reader decoder ended bytes
-    → IfOk result (λ picture. picture_value picture ≡ payload_image reader.origin reader.bytes)
-    → IfOk result (λ picture. IsStringImage decoder (stage bytes) (picture_value picture))
-string_image (Ok picture) reader decoder ended bytes is image =
-    subst (λ (w : Stage). IsStringImage decoder w (picture_value picture)) (sym is.reading)
+    → IfOk result (λ picture. image_of picture ≡ payload_image reader.origin reader.bytes)
+    → IfOk result (λ picture. IsStringImage decoder (stage bytes) (image_of picture))
+string_image (Ok picture) image_of reader decoder ended bytes is image =
+    subst (λ (w : Stage). IsStringImage decoder w (image_of picture)) (sym is.reading)
     (image ∙ ap (λ (o : Origin). payload_image o reader.bytes) is.start)
-string_image (Err e) reader decoder ended bytes is image = tt
+string_image (Err e) image_of reader decoder ended bytes is image = tt
 
 pub string_registers : (result : Result DecodedPayload SixelError) (reader : Session)
     (decoder : DecoderState) (ended : Option SixelDcsFeedStatus) (bytes : List ℕ)
@@ -140,51 +138,27 @@ string_registers (Ok picture) reader decoder ended bytes is defined =
 string_registers (Err e) reader decoder ended bytes is defined = tt
 
 -- which is what is decoded at once, whatever follows the end
-pub string_decoded : (result : Result DecodedPayload SixelError) (reader : Session)
+pub string_decoded : (result : Result DecodedPayload SixelError)
+    (image_of : DecodedPayload → Image) (reader : Session)
     (decoder : DecoderState) (ended : Option SixelDcsFeedStatus) (bytes more : List ℕ)
     → IsInPayload reader decoder ended bytes → has_ended (dcs_status bytes) ≡ true
     → OnOk result (payload_fault reader.origin.pixel_limit reader.bytes ≡ None)
-    → IfOk result (λ picture. picture_value picture ≡ payload_image reader.origin reader.bytes)
+    → IfOk result (λ picture. image_of picture ≡ payload_image reader.origin reader.bytes)
     → IfOk result (λ picture. picture.registers ≡ payload_registers reader.origin reader.bytes)
     → IfOk result
     (λ picture.
-    IsDecodedAs decoder (found (bytes ++ more)) (picture_value picture) picture.registers)
-string_decoded (Ok picture) reader decoder ended bytes more is over sound image defined =
+    IsDecodedAs decoder (found (bytes ++ more)) (image_of picture) picture.registers)
+string_decoded (Ok picture) image_of reader decoder ended bytes more is over sound image defined =
     let at = found_reading bytes reader.origin.settings reader.bytes is.reading in (
       found_fault_ended decoder.pixel_limit bytes more over
           ∙ (ap (found_fault decoder.pixel_limit) at
           ∙ (ap (λ (o : Origin). payload_fault o.pixel_limit reader.bytes) (sym is.start)
           ∙ sound)),
-      found_image_ended decoder bytes more (picture_value picture) over
-          (subst (λ (w : Found). IsFoundImage decoder w (picture_value picture))
+      found_image_ended decoder bytes more (image_of picture) over
+          (subst (λ (w : Found). IsFoundImage decoder w (image_of picture))
           (sym at) (image ∙ ap (λ (o : Origin). payload_image o reader.bytes) is.start)),
       found_registers_ended decoder bytes more picture.registers over
           (subst (λ (w : Found). AreFoundRegisters decoder w picture.registers)
           (sym at) (defined ∙ ap (λ (o : Origin). payload_registers o reader.bytes) is.start)),
     )
-string_decoded (Err e) reader decoder ended bytes more is over sound image defined = tt
-
--- what holds of its payload holds of the string
-pub string_finished : (P : DecoderState → Found → Option Fault → Type 0) (reader : Session)
-    (decoder : DecoderState) (ended : Option SixelDcsFeedStatus) (bytes : List ℕ)
-    → IsInPayload reader decoder ended bytes → can_finish decoder.pixel_limit bytes ≡ true
-    → P (decoder_of reader.origin) (Payload reader.origin.settings reader.bytes)
-    (last_fault reader.is_refused StreamFailed
-    (payload_fault reader.origin.pixel_limit reader.bytes))
-    → P decoder (found bytes) (end_fault decoder.pixel_limit bytes)
-string_finished P reader decoder ended bytes is finishes told =
-    let limit : Limit = reader.origin.pixel_limit in
-    let payload : Found = Payload reader.origin.settings reader.bytes in
-    let fault : Option Fault =
-    last_fault reader.is_refused StreamFailed (payload_fault limit reader.bytes) in
-    let none : end_fault decoder.pixel_limit bytes ≡ None = rw finishes refl in
-    let fine : payload_fault limit reader.bytes ≡ None =
-    ap (λ (o : Origin). payload_fault o.pixel_limit reader.bytes) is.start
-    ∙ finish_sound reader decoder ended bytes is finishes in
-    let same : fault ≡ end_fault decoder.pixel_limit bytes =
-    ap (λ (b : Bool). last_fault b StreamFailed (payload_fault limit reader.bytes)) is.accepted
-    ∙ (fine ∙ sym none) in
-    subst (P decoder (found bytes)) same
-    (subst (λ (p : Found). P decoder p fault)
-    (sym (found_reading bytes reader.origin.settings reader.bytes is.reading))
-    (subst (λ (d : DecoderState). P d payload fault) (ap decoder_of is.start) told))
+string_decoded (Err e) image_of reader decoder ended bytes more is over sound image defined = tt

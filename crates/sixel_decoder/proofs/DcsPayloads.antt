@@ -4,10 +4,11 @@ use Rattle.std.proofs.Common.{Option, Some, Result, Ok, Err}
 use Rattle.std.specs.Prelude.{◌==◌, ◌&&◌, IfOk}
 use Rattle.sixel_base.specs.declared.error.SixelError.{SixelError}
 use Rattle.sixel_base.specs.DrawnHeight.{found_drawn_height}
+use Rattle.sixel_base.specs.IgnoredCommands.{dcs_ignored, payload_ignored, stage_ignored}
 use Rattle.sixel_base.specs.Settings.{Settings}
 use Rattle.sixel_base.specs.declared.state.DecoderState.{DecoderState}
 use Rattle.sixel_base.specs.Stroke.{Origin}
-use Rattle.sixel_base.specs.Payload.{payload_image, payload_registers}
+use Rattle.sixel_base.specs.Payload.{Image, payload_image, payload_registers}
 use Rattle.sixel_base.specs.declared.status.SixelDcsFeedStatus.{SixelDcsFeedStatus}
 use Rattle.sixel_base.specs.Header.{Headed, Open, Begun, Faulty, headed}
 use Rattle.sixel_base.specs.OneShot.{begins_with_p, without_first, after_introducer, found}
@@ -15,9 +16,7 @@ use Rattle.sixel_base.specs.OneShot.{found_in, found_by, Found, Payload, IsFound
 use Rattle.sixel_base.specs.OneShot.{AreFoundRegisters}
 use Rattle.sixel_base.specs.Dcs.{Introduced, Waiting, Absent, Entered, introduced, escaped, Reading}
 use Rattle.sixel_base.specs.Dcs.{stage_after, stage_by, stage}
-use Rattle.sixel_decoder.specs.CopiedImage.{decoder_of}
-use Rattle.sixel_decoder.specs.Session.{Session}
-use Rattle.sixel_decoder.specs.PictureView.{picture_value}
+use Rattle.sixel_decoder.specs.Session.{Session, decoder_of}
 use Rattle.sixel_decoder.specs.inside.DcsParser.{IsInPayload}
 use Rattle.sixel_decoder.specs.declared.decoded_payload.DecodedPayload.{DecodedPayload}
 
@@ -73,16 +72,17 @@ found_reading bytes s payload is = found_by_introducer bytes (introduced bytes) 
 
 -- ---- what finishing a string in its payload answers
 
-pub found_image : (result : Result DecodedPayload SixelError) (reader : Session)
+pub found_image : (result : Result DecodedPayload SixelError)
+    (image_of : DecodedPayload → Image) (reader : Session)
     (decoder : DecoderState) (ended : Option SixelDcsFeedStatus) (bytes : List ℕ)
     → IsInPayload reader decoder ended bytes
-    → IfOk result (λ picture. picture_value picture ≡ payload_image reader.origin reader.bytes)
-    → IfOk result (λ picture. IsFoundImage decoder (found bytes) (picture_value picture))
-found_image (Ok picture) reader decoder ended bytes is image =
-    subst (λ (w : Found). IsFoundImage decoder w (picture_value picture))
+    → IfOk result (λ picture. image_of picture ≡ payload_image reader.origin reader.bytes)
+    → IfOk result (λ picture. IsFoundImage decoder (found bytes) (image_of picture))
+found_image (Ok picture) image_of reader decoder ended bytes is image =
+    subst (λ (w : Found). IsFoundImage decoder w (image_of picture))
     (sym (found_reading bytes reader.origin.settings reader.bytes is.reading))
     (image ∙ ap (λ (o : Origin). payload_image o reader.bytes) is.start)
-found_image (Err e) reader decoder ended bytes is image = tt
+found_image (Err e) image_of reader decoder ended bytes is image = tt
 
 pub found_registers : (result : Result DecodedPayload SixelError) (reader : Session)
     (decoder : DecoderState) (ended : Option SixelDcsFeedStatus) (bytes : List ℕ)
@@ -107,3 +107,16 @@ found_drawn (Ok picture) reader decoder ended bytes is drawn =
     (drawn ∙ ap (λ (o : Origin).
     found_drawn_height (decoder_of o) (Payload reader.origin.settings reader.bytes)) is.start)
 found_drawn (Err e) reader decoder ended bytes is drawn = tt
+
+-- how many of its commands are ignored
+pub found_ignored : (result : Result DecodedPayload SixelError) (reader : Session)
+    (decoder : DecoderState) (ended : Option SixelDcsFeedStatus) (bytes : List ℕ)
+    → IsInPayload reader decoder ended bytes
+    → IfOk result (λ picture.
+    picture.ignored ≡ payload_ignored reader.origin.pixel_limit reader.bytes)
+    → IfOk result (λ picture. picture.ignored ≡ dcs_ignored decoder.pixel_limit bytes)
+found_ignored (Ok picture) reader decoder ended bytes is counted =
+    counted
+    ∙ ap (λ (o : Origin). payload_ignored o.pixel_limit reader.bytes) is.start
+    ∙ ap (stage_ignored decoder.pixel_limit) (sym is.reading)
+found_ignored (Err e) reader decoder ended bytes is counted = tt

@@ -13,27 +13,26 @@ use Rattle.sixel_base.specs.declared.error.SixelError.TheVariants.{OutOfMemory}
 use Rattle.sixel_base.specs.Fault.{Fault, Faults, is_fault}
 use Rattle.sixel_base.specs.History.{Token, Sixel, Repeat, Raster, Color, Return, Newline, Skip}
 use Rattle.sixel_base.specs.History.{History, read}
-use Rattle.sixel_base.specs.Lenient.{count_limit, effective, fault, ignored, ignored_count}
+use Rattle.sixel_base.specs.Lenient.{count_limit, effective, fault, ignored_count}
 use Rattle.sixel_base.specs.Lenient.{tolerated}
 use Rattle.sixel_base.specs.Lenient.{without}
 use Rattle.sixel_base.specs.Limits.{Limit}
-use Rattle.sixel_base.specs.Payload.{fault_of, first_fault, image_height, settled}
+use Rattle.sixel_base.specs.Payload.{fault_of, first_fault, settled}
 use Rattle.sixel_base.specs.Payload.{settled_tokens}
 use Rattle.sixel_base.specs.Stroke.{Origin}
-use Rattle.sixel_base.proofs.ToleratedTokens.{effective-fault, effective-more, effective-none}
+use Rattle.sixel_base.proofs.ToleratedTokens.{effective-more, effective-none}
 use Rattle.sixel_base.proofs.ToleratedTokens.{effective-strict}
 use Rattle.sixel_base.proofs.ToleratedTokens.{count-more, count-none, count-without}
 use Rattle.sixel_base.proofs.ToleratedTokens.{effective-without, option_or-none}
 use Rattle.sixel_canvas.specs.declared.drawing.Canvas.{Ghosts}
 use Rattle.sixel_decoder.specs.declared.painter.Painter.{Painter}
 use Rattle.sixel_decoder.specs.inside.Lenient.{Tolerates, HasDrawn, tolerated_count}
-use Rattle.sixel_decoder.specs.inside.Lenient.{tolerated_height, tolerated_result}
-use Rattle.sixel_decoder.specs.inside.CopiedImage.{HasHeight}
+use Rattle.sixel_decoder.specs.inside.Lenient.{tolerated_result}
 use Rattle.sixel_decoder.specs.Paints.{sixels}
 use Rattle.sixel_decoder.specs.inside.Painter.{Draws, Shows}
 use Rattle.sixel_decoder.specs.inside.Runs.{IsRun, IsSixelByte, bits_of}
 use Rattle.sixel_decoder.proofs.SixelRuns.{IsRun-take, fold_one, fold_run, with_sixels}
-use Rattle.sixel_decoder.proofs.TokenFaults.{fault_found, never_memory}
+use Rattle.sixel_decoder.proofs.TokenFaults.{fault_found}
 
 -- a failed allocation may be answered whatever was found
 pub memory_along : (e : SixelError) (may : Bool) (found found' : Option Fault) → is_fault e ≡ false
@@ -236,84 +235,6 @@ has_drawn_skip o painter n byte h state =
       limit = shows.limit;
       faultless = rw shows.faultless refl;
     }) state.count
-
--- ---- the height of an image that ends with a command
-
--- a command that ends an image
-pub height_command : {C : Type 0} {canvas : Ghosts C} (result : Result ℕ SixelError)
-    (o : Origin) (painter : Painter C canvas) (n : ℕ) (token : Token) (h : History) (height : ℕ)
-    → ((w : History) → without token w ≡ w)
-    → HasDrawn o painter n h → height ≡ image_height o.pixel_limit o.raster_crop
-    (effective o.pixel_limit h)
-    → HasHeight result o (token ∷ effective o.pixel_limit h)
-    → HasHeight (tolerated_height painter.pixel_limit.lenient height result) o
-    (effective o.pixel_limit (token ∷ h))
-height_command (Ok own) o painter n token h height other state tall is =
-    subst (λ (w : History). HasHeight (Ok own) o w)
-    (sym (effective-more o.pixel_limit token h is.0)) is
-height_command (Err e) o painter n token h height other state tall is =
-    let limit : Limit = o.pixel_limit in
-    let faulty : is_fault e ≡ true =
-    never_memory e (first_fault limit (token ∷ effective limit h)) is in
-    subst (λ (w : Limit). HasHeight (tolerated_height w.lenient height (Err e)) o
-    (effective limit (token ∷ h))) (sym state.shows.limit)
-    ((elim limit.lenient as
-    (λ t. limit.lenient ≡ t
-    → HasHeight (cond (t && is_fault e) (Ok height) (Err e)) o (effective limit (token ∷ h))) [
-      | false ↦ λ off.
-          subst (λ (w : Option Fault). Faults e false w)
-          (effective-strict limit token h off ∙ sym (effective-fault limit (token ∷ h))) is
-      | true ↦ λ on.
-          rw faulty
-          (fault_found e false (first_fault limit (token ∷ effective limit h))
-          (HasHeight (Ok height) o (effective limit (token ∷ h))) is faulty (λ f found.
-          let same : effective limit (token ∷ h) ≡ effective limit h =
-          effective-without limit token h f on found ∙ other (effective limit h) in
-          subst (λ (w : History). HasHeight (Ok height) o w) (sym same)
-          (state.shows.faultless, tall)))
-    ]) refl)
-
--- how many are ignored then
-pub count_command : (result : Result ℕ SixelError) {C : Type 0} {canvas : Ghosts C} (o : Origin)
-    (painter : Painter C canvas) (n : ℕ) (token : Token) (h : History)
-    → HasDrawn o painter n h → HasHeight result o (token ∷ effective o.pixel_limit h)
-    → tolerated_count painter.pixel_limit.lenient result n
-    ≡ ignored_count o.pixel_limit (token ∷ h)
-count_command (Ok own) o painter n token h state is =
-    state.count ∙ sym (count-more o.pixel_limit token h is.0)
-count_command (Err e) o painter n token h state is =
-    let limit : Limit = o.pixel_limit in
-    let faulty : is_fault e ≡ true =
-    never_memory e (first_fault limit (token ∷ effective limit h)) is in
-    subst (λ (w : Limit).
-    tolerated_count {A = ℕ} w.lenient (Err e) n ≡ ignored_count limit (token ∷ h))
-    (sym state.shows.limit)
-    ((elim limit.lenient as
-    (λ t. limit.lenient ≡ t
-    → cond (t && is_fault e) (min (n + 1) count_limit) n ≡ ignored_count limit (token ∷ h)) [
-      | false ↦ λ off.
-          state.count ∙ ap (λ (t : Bool). cond t (ignored limit h) 0) off
-          ∙ sym (ap (λ (t : Bool). cond t (ignored limit (token ∷ h)) 0) off)
-      | true ↦ λ on.
-          rw faulty
-          (fault_found e false (first_fault limit (token ∷ effective limit h))
-          (min (n + 1) count_limit ≡ ignored_count limit (token ∷ h)) is faulty (λ f found.
-          ap (λ (m : ℕ). min (m + 1) count_limit) state.count
-          ∙ sym (count-without limit token h f on found)))
-    ]) refl)
-
--- a color introducer has no fault
-pub effective-color : (limit : Limit) (text : List ℕ) (h : History)
-    → first_fault limit (effective limit h) ≡ None
-    → effective limit (Color text ∷ h) ≡ Color text ∷ effective limit h
-effective-color limit text h none =
-    effective-more limit (Color text) h (ap (λ (f : Option Fault). option_or f None) none)
-
-pub count-color : (limit : Limit) (text : List ℕ) (h : History)
-    → first_fault limit (effective limit h) ≡ None
-    → ignored_count limit (Color text ∷ h) ≡ ignored_count limit h
-count-color limit text h none =
-    count-more limit (Color text) h (ap (λ (f : Option Fault). option_or f None) none)
 
 -- ---- how many sixels there are
 

@@ -32,3 +32,4 @@ pub mod ShownRows
 pub mod ReleasedRows
 pub mod ImageAreas
 pub mod Clips
+pub mod WholePictures

@@ -26,13 +26,3 @@ fault_found (InvalidData t) may found P is fault then =
 fault_found NoSixelData may found P is fault then = found_some NoSixelData found P is then
 fault_found IntegerOverflow may found P is fault then = found_some IntegerOverflow found P is then
 fault_found OutOfMemory may found P is fault then = absurd (cc fault)
-
--- an error without an allocation is a fault
-pub never_memory : (e : SixelError) (found : Option Fault) → Faults e false found
-    → is_fault e ≡ true
-never_memory (InvalidDimensions w h) found is = refl
-never_memory (BufferSizeMismatch w h) found is = refl
-never_memory (InvalidData t) found is = refl
-never_memory NoSixelData found is = refl
-never_memory IntegerOverflow found is = refl
-never_memory OutOfMemory found is = absurd (cc is)

@@ -13,7 +13,6 @@ use Rattle.sixel_base.specs.Dcs.{stage}
 use Rattle.sixel_base.specs.Dcs.{IsSameString, IsStringImage, AreStringRegisters}
 use Rattle.sixel_base.specs.DrawnHeight.{dcs_drawn_height}
 use Rattle.sixel_base.specs.Fault.{Faults, IsFault, DcsStreamFailed}
-use Rattle.sixel_base.specs.IgnoredCommands.{dcs_ignored}
 use Rattle.sixel_base.specs.OneShot.{found, found_fault, IsFoundImage, AreFoundRegisters}
 use Rattle.sixel_base.specs.OneShot.{IsDecodedAs}
 use Rattle.sixel_base.specs.Payload.{Image}
@@ -101,15 +100,10 @@ pub record IsFinished {A : Type 0} (image_of : A → Image) (registers_of : A �
   -- the area is within the limit
   pub area : IfOk result (λ done.
       (image_of done).width * (image_of done).height ≤ session.decoder.pixel_limit.pixels)
-  -- each pixel takes four bytes
-  pub pixels : IfOk result (λ done.
-      length (image_of done).pixels ≡ 4 * ((image_of done).width * (image_of done).height))
   -- a sequence with an image has no fault
   pub faultless : OnOk result (found_fault session.decoder.pixel_limit (found session.bytes) ≡ None)
   -- a rejected session has no image
   pub accepted : OnOk result (session.is_refused ≡ false)
-  -- an image of which rows were released is never returned
-  pub whole : OnOk result (session.released ≡ 0)
   -- a sequence has an image only once it has ended, unless it is lenient
   pub ended : OnOk result (can_finish session.decoder.pixel_limit session.bytes ≡ true)
   -- an error is that the sequence goes on, or an allocation failed; a rejected session reports that
@@ -184,11 +178,3 @@ pub record IsDrawnHeight (session : DcsSession) (rows : ℕ) : Type 0 where
       → rows ≡ dcs_drawn_height session.decoder.pixel_limit session.bytes
   -- a rejected session has none
   pub refused : session.is_refused ≡ true → rows ≡ 0
-
--- So many commands of the payload are ignored if the sequence ends now.
-pub record IsIgnoredCount (session : DcsSession) (count : ℕ) : Type 0 where
-  -- those with a fault, if the session is lenient
-  pub accepted : session.is_refused ≡ false
-      → count ≡ dcs_ignored session.decoder.pixel_limit session.bytes
-  -- a rejected session has none
-  pub refused : session.is_refused ≡ true → count ≡ 0

@@ -1,13 +1,16 @@
 -- Which rows of a picture are final: no byte that follows changes a pixel of them. By DEC's manual
 -- a graphics new line goes down six rows and nothing goes up. So these are the rows above the band
 -- of the next sixel. The measure is this library's own.
-use Rattle.std.specs.Prelude.{ℕ, min, Bool, if◌then◌else◌, List}
+use Rattle.std.specs.Prelude.{ℕ, min, Bool, if◌then◌else◌, List, []}
+use Rattle.sixel_base.specs.Clip.{clipped_height, clipped_pixel}
 use Rattle.sixel_base.specs.Dcs.{Stage, Heading, Failing, Reading, stage}
-use Rattle.sixel_base.specs.Clip.{clipped_height}
+use Rattle.sixel_base.specs.Decoder.{origin_of}
 use Rattle.sixel_base.specs.History.{History}
 use Rattle.sixel_base.specs.Limits.{Limit}
-use Rattle.sixel_base.specs.Payload.{settled_tokens}
+use Rattle.sixel_base.specs.OneShot.{Found, Payload, NoPayload}
+use Rattle.sixel_base.specs.Payload.{settled_tokens, tokens}
 use Rattle.sixel_base.specs.Place.{down}
+use Rattle.sixel_base.specs.declared.state.DecoderState.{DecoderState}
 
 -- how many rows from the top are final: of those above the band of the next sixel, as many as the
 -- picture has inside the clip so far
@@ -30,3 +33,10 @@ dcs_final_rows limit bytes = stage_final_rows limit (stage bytes)
 -- how many of these a session has: none after an error
 abbrev pub row_count : Bool → ℕ → ℕ
 row_count is_refused final = if is_refused then 0 else final
+
+-- the pixel of a payload's picture at a column and a row, which is background outside the clip, and
+-- no byte if there is no payload
+abbrev pub found_pixel : DecoderState → Found → ℕ → ℕ → List ℕ
+found_pixel decoder (Payload settings payload) =
+    clipped_pixel (origin_of decoder settings) (tokens decoder.pixel_limit payload)
+found_pixel decoder (NoPayload fault) = λ column row. []

@@ -1,4 +1,3 @@
-pub mod CopiedImage
 pub mod DcsCalls
 pub mod FinalRows
 pub mod OneShotCalls

@@ -9,7 +9,6 @@ use Rattle.sixel_base.specs.declared.status.SixelFeedStatus.TheVariants.{NeedMor
 use Rattle.sixel_base.specs.Bytes.{count, first_terminator}
 use Rattle.sixel_base.specs.DrawnHeight.{payload_drawn_height}
 use Rattle.sixel_base.specs.Fault.{Faults, IsFault, StreamFailed}
-use Rattle.sixel_base.specs.IgnoredCommands.{payload_ignored}
 use Rattle.sixel_base.specs.Payload.{Image, fed_fault, settled, growths}
 use Rattle.sixel_base.specs.Payload.{payload_fault, payload_wants, payload_image, payload_registers}
 use Rattle.sixel_base.specs.Reach.{payload_reached_area, payload_size}
@@ -95,13 +94,8 @@ pub record IsFinished {A : Type 0} (image_of : A → Image) (registers_of : A �
   -- the area is within the limit
   pub area : IfOk result (λ done.
       (image_of done).width * (image_of done).height ≤ session.origin.pixel_limit.pixels)
-  -- each pixel takes four bytes
-  pub pixels : IfOk result (λ done.
-      length (image_of done).pixels ≡ 4 * ((image_of done).width * (image_of done).height))
   -- a rejected session has no image
   pub accepted : OnOk result (session.is_refused ≡ false)
-  -- an image of which rows were released is never returned
-  pub whole : OnOk result (session.released ≡ 0)
   -- an error is the first fault of the payload, or an allocation failed; a rejected session reports
   -- that the stream has failed
   pub error : IfErr result (λ error. MatchBool session.is_refused
@@ -179,11 +173,3 @@ pub record IsDrawnHeight (session : Session) (rows : ℕ) : Type 0 where
       → rows ≡ payload_drawn_height session.origin.pixel_limit session.bytes
   -- a rejected session has none
   pub refused : session.is_refused ≡ true → rows ≡ 0
-
--- So many commands are ignored if the payload ends now.
-pub record IsIgnoredCount (session : Session) (count : ℕ) : Type 0 where
-  -- those with a fault, if the session is lenient
-  pub accepted : session.is_refused ≡ false
-      → count ≡ payload_ignored session.origin.pixel_limit session.bytes
-  -- a rejected session has none
-  pub refused : session.is_refused ≡ true → count ≡ 0

@@ -16,6 +16,14 @@ pub record Session : Type 0 where
   pub paints : ℕ
   pub released : ℕ
 
+-- the decoder that a picture began from
+abbrev pub decoder_of : Origin → DecoderState
+decoder_of origin = record {
+  registers = origin.registers;
+  raster_crop = origin.raster_crop;
+  pixel_limit = origin.pixel_limit;
+}
+
 -- What contracts see of a session that decodes one DCS sequence in chunks: the decoder that it
 -- began from, the bytes fed, whether a feed was rejected, and the same numbers for the canvas of
 -- its payload.

@@ -1,6 +1,5 @@
 -- Words that only the contracts of private functions cite, over the painter, the parsers and the
 -- readers. What sessions and decoding mean does not depend on them.
-pub mod CopiedImage
 pub mod DrawnRows
 pub mod Painter
 pub mod Lenient

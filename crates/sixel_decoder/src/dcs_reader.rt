@@ -2,15 +2,17 @@
 //!
 //! The contracts of its calls are the records of `DcsCalls`.
 
-ghost use Rattle.std.specs.Prelude.{◌≡◌, ◌∷◌, [], true, false, IsTrue, IfOk};
+ghost use Rattle.std.specs.Prelude.{◌≡◌, ◌∷◌, [], true, false, min, IsTrue, IfOk};
 ghost use Rattle.sixel_base.specs.Dcs.{dcs_in_payload, dcs_status, has_ended};
 ghost use Rattle.sixel_base.specs.DrawnHeight.{found_drawn_height};
+ghost use Rattle.sixel_base.specs.IgnoredCommands.{dcs_ignored};
 ghost use Rattle.sixel_base.specs.OneShot.{found};
+ghost use Rattle.sixel_decoder.specs.FinalRows.{found_pixel};
 ghost use Rattle.sixel_decoder.specs.DcsCalls.{begun, byte_read, IsFed, IsFinished};
-ghost use Rattle.sixel_decoder.specs.DcsCalls.{IsSizeSoFar, IsDrawnHeight, IsIgnoredCount};
+ghost use Rattle.sixel_decoder.specs.DcsCalls.{IsSizeSoFar, IsDrawnHeight};
 ghost use Rattle.sixel_decoder.specs.DcsCalls.{IsWriteCount, IsPaintCount, IsBandPaintCount};
 ghost use Rattle.sixel_decoder.specs.DcsCalls.{IsBandWriteCount};
-ghost use Rattle.sixel_decoder.specs.PictureView.{picture_value};
+ghost use Rattle.sixel_decoder.specs.PictureView.{whole_image};
 
 mod final_rows;
 
@@ -117,16 +119,6 @@ impl<C: Canvas + Drop> DcsReader<C> {
         }
     }
 
-    /// Returns how many commands are ignored if the DCS sequence ends here.
-    pub fn ignored_commands(&self) -> u64
-        ensures { IsIgnoredCount self.now result }
-    {
-        match &self.parser.state {
-            DcsState::Payload(reader) => reader.ignored_commands(),
-            _ => 0,
-        }
-    }
-
     /// Whether the end of the DCS sequence was fed, and no feed has failed.
     pub fn has_ended(&self) -> bool
         ensures accepted { self.now.is_refused ≡ false
@@ -139,9 +131,16 @@ impl<C: Canvas + Drop> DcsReader<C> {
         }
     }
 
-    /// Returns the image and the registers, once the DCS sequence has ended, or if it is lenient.
+    /// Returns the rows of the image that are left, and the registers after it.
+    ///
+    /// The DCS sequence has ended, or is lenient.
     pub fn finish(self) -> Result<DecodedPayload>
-        ensures finished { IsFinished picture_value (λ picture. picture.registers) self result }
+        ensures finished { IsFinished (whole_image (found_pixel self.decoder (found self.bytes)))
+            (λ picture. picture.registers) self result }
+        ensures first { IfOk result (λ picture.
+            picture.first_row ≡ min self.released picture.height) }
+        ensures ignored { IfOk result (λ picture.
+            picture.ignored ≡ dcs_ignored self.decoder.pixel_limit self.bytes) }
         ensures drawn { IfOk result (λ picture.
             picture.drawn_height ≡ found_drawn_height self.decoder (found self.bytes)) }
     {
@@ -165,6 +164,16 @@ impl<C: Canvas + Drop> DcsReader<C> {
 }
 
 impl DcsReader<RowCanvas> {
+    /// States that no row of its canvas is released.
+    pub fn stores_all_rows(&self)
+        ensures { self.now.released ≡ 0 }
+    {
+        match &self.parser.state {
+            DcsState::Payload(reader) => reader.stores_all_rows(),
+            _ => {}
+        }
+    }
+
     /// Returns how many pixels were copied or filled to grow the canvas of the payload.
     pub fn writes(&self) -> u64
         ensures { IsWriteCount self.now result }

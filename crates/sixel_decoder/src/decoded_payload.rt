@@ -1,21 +1,25 @@
 //! The result of decoding a payload.
 
-ghost use Rattle.std.specs.Prelude.{◌≡◌, ◌*◌, length};
+ghost use Rattle.std.specs.Prelude.{◌≡◌, ◌-◌, ◌*◌, length};
 
 use sixel_base::registers::Registers;
 use sixel_base::settings::{BackgroundMode, PixelAspectRatio};
 
-/// The image of a payload, and the registers after it.
+/// The image of a payload, or its rows that are left, and the registers after it.
 #[derive(Drop)]
 pub struct DecodedPayload {
-    /// The pixels, `4 * width * height` bytes, row by row from the top.
+    /// The pixels of the rows from `first_row` on, four bytes each.
     pub pixels: Vec<u8>,
     pub width: usize,
     pub height: usize,
+    /// How many rows of the image were released.
+    pub first_row: usize,
     /// Rows down to the last one with a set pixel, at most the height.
     pub drawn_height: usize,
+    /// How many commands were ignored. The number saturates.
+    pub ignored: u64,
     pub aspect_ratio: PixelAspectRatio,
     pub background_mode: BackgroundMode,
     pub registers: Registers,
-    pub ghost whole: { length pixels.items ≡ 4 * (width * height) },
+    pub ghost rows: { length pixels.items ≡ 4 * (width * (height - first_row)) },
 }

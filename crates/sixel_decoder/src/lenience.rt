@@ -3,13 +3,10 @@
 ghost use Rattle.std.specs.Prelude.{◌≡◌, ◌<◌, ◌≤◌, ◌∷◌, [], List, ℕ, length};
 ghost use Rattle.std.specs.Prelude.{slice_index, IfOk, OnOk};
 ghost use Rattle.sixel_base.specs.History.{History, Repeat, Raster, Newline};
-ghost use Rattle.sixel_base.specs.Lenient.{effective, ignored_count};
 ghost use Rattle.sixel_base.specs.Stroke.{Origin};
 ghost use Rattle.sixel_base.specs.inside.Parameters.{Keeps};
-ghost use Rattle.sixel_decoder.specs.inside.CopiedImage.{HasHeight};
 ghost use Rattle.sixel_decoder.specs.inside.Lenient.{Tolerates, ToleratesFront, HasDrawn};
-ghost use Rattle.sixel_decoder.specs.inside.Lenient.{tolerated_count};
-ghost use Rattle.sixel_decoder.specs.inside.Lenient.{tolerated_height, tolerated_result};
+ghost use Rattle.sixel_decoder.specs.inside.Lenient.{tolerated_count, tolerated_result};
 ghost use Rattle.sixel_decoder.specs.inside.Painter.{Shows};
 ghost use Rattle.sixel_decoder.specs.inside.Runs.{IsSixelByte};
 
@@ -118,79 +115,5 @@ impl<C: Canvas + Drop> Painter<C> {
     {
         self.ready = 0;
         self.repeat = 1;
-    }
-
-    /// Returns the height of the image that ends with this repeat count.
-    pub fn height_closing_repeat(&self, parameters: &Parameters) -> Result<usize>
-        ensures { (o : Origin) (h : History) (text : List ℕ) (n : ℕ) → Keeps parameters.now text
-            → HasDrawn o self.now n h
-            → HasHeight result o (effective o.pixel_limit (Repeat text ∷ h)) }
-    {
-        let height = self.image_height();
-        let outcome = self.height_after_repeat(parameters);
-        height_or(self.pixel_limit.lenient(), height, outcome)
-    }
-
-    /// Returns the height of the image that ends with these raster attributes.
-    pub fn height_closing_raster(&self, parameters: &Parameters) -> Result<usize>
-        ensures { (o : Origin) (h : History) (text : List ℕ) (n : ℕ) → Keeps parameters.now text
-            → HasDrawn o self.now n h
-            → HasHeight result o (effective o.pixel_limit (Raster text ∷ h)) }
-    {
-        let height = self.image_height();
-        let outcome = self.height_after_raster(parameters);
-        height_or(self.pixel_limit.lenient(), height, outcome)
-    }
-
-    /// Returns how many commands are ignored in an image that ends with this repeat count.
-    pub fn count_closing_repeat(&self, parameters: &Parameters, ignored: u64) -> u64
-        ensures { (o : Origin) (h : History) (text : List ℕ) → Keeps parameters.now text
-            → HasDrawn o self.now ignored h
-            → result ≡ ignored_count o.pixel_limit (Repeat text ∷ h) }
-    {
-        let outcome = self.height_after_repeat(parameters);
-        count_or(self.pixel_limit.lenient(), ignored, outcome)
-    }
-
-    /// Returns how many commands are ignored in an image that ends with these raster attributes.
-    pub fn count_closing_raster(&self, parameters: &Parameters, ignored: u64) -> u64
-        ensures { (o : Origin) (h : History) (text : List ℕ) → Keeps parameters.now text
-            → HasDrawn o self.now ignored h
-            → result ≡ ignored_count o.pixel_limit (Raster text ∷ h) }
-    {
-        let outcome = self.height_after_raster(parameters);
-        count_or(self.pixel_limit.lenient(), ignored, outcome)
-    }
-}
-
-/// Returns how many commands are ignored once the last one may be.
-fn count_or(lenient: bool, ignored: u64, outcome: Result<usize>) -> u64
-    ensures { result ≡ tolerated_count lenient outcome ignored }
-{
-    match outcome {
-        Ok(_) => ignored,
-        Err(error) => {
-            if lenient && error.is_fault() {
-                ignored.saturating_add(1)
-            } else {
-                ignored
-            }
-        }
-    }
-}
-
-/// Returns the height of an image whose last command may have a fault that is ignored.
-fn height_or(lenient: bool, height: usize, outcome: Result<usize>) -> Result<usize>
-    ensures { result ≡ tolerated_height lenient height outcome }
-{
-    match outcome {
-        Ok(own) => Ok(own),
-        Err(error) => {
-            if lenient && error.is_fault() {
-                Ok(height)
-            } else {
-                Err(error)
-            }
-        }
     }
 }

@@ -5,7 +5,6 @@
 
 mod bytes;
 mod colors;
-mod copied_payload;
 mod dcs_end;
 mod dcs_parser;
 mod dcs_reader;
@@ -21,7 +20,6 @@ mod payload_parser;
 mod payload_reader;
 mod raster;
 
-pub use copied_payload::{CopiedPayload, ImageShape};
 pub use dcs_reader::DcsReader;
 pub use decoded_payload::DecodedPayload;
 pub use one_shot::{decode_found, decode_payload};

@@ -58,7 +58,9 @@ pub fn decode_payload(
 
 /// Reads a payload with a new parser, and returns the image and the registers.
 fn read_whole(mut parser: PayloadParser<BandCanvas>, bytes: &[u8]) -> Result<DecodedPayload>
-    ensures { (o : Origin) → Stands o parser [] → Decodes result o bytes.now }
+    requires { parser.painter.canvas.released ≡ 0 }
+    ensures decodes { (o : Origin) → Stands o parser [] → Decodes result o bytes.now }
+    ensures whole { IfOk result (λ picture. picture.first_row ≡ 0) }
 {
     match parser.feed(bytes) {
         Ok(_) => parser.finish(),

@@ -18,7 +18,7 @@ ghost use Rattle.sixel_decoder.specs.inside.Runs.{IsSixelByte};
 ghost use Rattle.sixel_decoder.specs.inside.Ready.{IsReady};
 ghost use Rattle.sixel_decoder.specs.inside.Sizes.{IsTooLarge};
 
-mod copied_image;
+mod final_rows;
 
 use crate::colors::{background, define, opaque};
 use crate::decoded_payload::DecodedPayload;
@@ -371,12 +371,17 @@ impl<C: Canvas + Drop> Painter<C> {
         self.drawn.height(self.canvas.top())
     }
 
-    /// Takes the image off the canvas, and returns it with the registers.
-    pub fn take_image(&mut self) -> Result<DecodedPayload>
+    /// Takes the rows that are left off the canvas, and returns them with the registers.
+    ///
+    /// The number is how many commands were ignored.
+    pub fn take_image(&mut self, ignored: u64) -> Result<DecodedPayload>
         ensures ends { (o : Origin) (h : History) → Shows o self.old h → Ends result o h }
-        ensures whole { OnOk result (C.released self.old.canvas ≡ 0) }
+        ensures first { IfOk result (λ picture.
+            picture.first_row ≡ min (C.released self.old.canvas) picture.height) }
+        ensures ignored { IfOk result (λ picture. picture.ignored ≡ ignored) }
     {
         let height = self.image_height();
+        let first_row = self.canvas.released().min(height);
         let drawn_height = self.drawn_height().min(height);
         self.ready = 0;
         let pixels = self.canvas.take_picture(self.clipped_width, height)?;
@@ -384,7 +389,9 @@ impl<C: Canvas + Drop> Painter<C> {
             pixels,
             width: self.clipped_width,
             height,
+            first_row,
             drawn_height,
+            ignored,
             aspect_ratio: self.ratio,
             background_mode: self.settings.background_mode(),
             registers: self.registers,
@@ -394,7 +401,7 @@ impl<C: Canvas + Drop> Painter<C> {
     /// Returns the height of the image inside the clip.
     ///
     /// With crop it is the last positive raster height.
-    pub fn image_height(&self) -> usize
+    fn image_height(&self) -> usize
         ensures { result ≡ min (if self.now.raster_crop && nat_lt 0 self.now.raster_height
             then self.now.raster_height else self.now.height) self.now.pixel_limit.rows }
     {

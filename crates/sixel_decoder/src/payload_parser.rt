@@ -4,21 +4,21 @@
 //! terminator, or by the end. So a chunk may end within a command.
 
 ghost use Rattle.std.specs.Prelude.{◌≡◌, ◌<◌, ◌≤◌, ◌+◌, ◌∷◌, ℕ, true, false, []};
-ghost use Rattle.std.specs.Prelude.{length, slice_index, fold, take};
+ghost use Rattle.std.specs.Prelude.{length, min, slice_index, fold, take, IfOk};
 ghost use Rattle.std.specs.Prelude.{IsTrue, OnOk, ◌⊎◌, Bool, if◌then◌else◌};
 ghost use Rattle.sixel_canvas.specs.inside.Drawn.{no_work};
 ghost use Rattle.sixel_base.specs.Bytes.{is_sixel as sixel};
 ghost use Rattle.sixel_base.specs.History.{History, begun, goes_on, read};
 ghost use Rattle.sixel_base.specs.Decoder.{origin_of};
 ghost use Rattle.sixel_base.specs.inside.Parameters.{IsDigit};
-ghost use Rattle.sixel_base.specs.Lenient.{effective};
+ghost use Rattle.sixel_base.specs.Lenient.{effective, ignored_count};
 ghost use Rattle.sixel_base.specs.Stroke.{Origin};
 ghost use Rattle.sixel_decoder.specs.inside.Runs.{IsPrintable, IsSixelByte};
 ghost use Rattle.sixel_decoder.specs.declared.payload_parser.OpenCommand.TheVariants.{Ground};
 ghost use Rattle.sixel_decoder.specs.declared.payload_parser.OpenCommand.TheVariants.{InRepeat};
 ghost use Rattle.sixel_decoder.specs.declared.payload_parser.OpenCommand.TheVariants.{InColor};
 
-mod copied_image;
+mod final_rows;
 
 use crate::bytes::{is_ignored, is_numbered, is_parameter, is_sixel, is_terminator, tail};
 use crate::decoded_payload::DecodedPayload;
@@ -318,14 +318,17 @@ impl<C: Canvas + Drop> PayloadParser<C> {
         }
     }
 
-    /// Closes the open command, and returns the image with the registers.
+    /// Closes the open command, and returns the rows that are left with the registers.
     pub fn finish(mut self) -> Result<DecodedPayload>
         ensures ends { (o : Origin) (h : History) (ended : Bool) → StandsAfter ended o self h
             → Ends result o (effective o.pixel_limit h) }
-        ensures whole { OnOk result (C.released self.painter.canvas ≡ 0) }
+        ensures first { IfOk result (λ picture.
+            picture.first_row ≡ min (C.released self.painter.canvas) picture.height) }
+        ensures ignored { (o : Origin) (h : History) (ended : Bool) → StandsAfter ended o self h
+            → IfOk result (λ picture. picture.ignored ≡ ignored_count o.pixel_limit h) }
     {
         match self.close() {
-            Ok(()) => self.painter.take_image(),
+            Ok(()) => self.painter.take_image(self.ignored),
             Err(error) => Err(error),
         }
     }

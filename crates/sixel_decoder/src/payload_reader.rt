@@ -2,17 +2,19 @@
 //!
 //! The contracts of its calls are the records of `PayloadCalls`.
 
-ghost use Rattle.std.specs.Prelude.{◌≡◌, ◌∷◌, [], true, false, IsTrue, IfOk};
+ghost use Rattle.std.specs.Prelude.{◌≡◌, ◌∷◌, [], true, false, min, IsTrue, IfOk};
 ghost use Rattle.sixel_base.specs.Bytes.{is_terminated};
 ghost use Rattle.sixel_base.specs.Decoder.{origin_of};
 ghost use Rattle.sixel_base.specs.DrawnHeight.{found_drawn_height};
+ghost use Rattle.sixel_base.specs.IgnoredCommands.{payload_ignored};
 ghost use Rattle.sixel_base.specs.OneShot.{Payload};
-ghost use Rattle.sixel_decoder.specs.CopiedImage.{decoder_of};
+ghost use Rattle.sixel_decoder.specs.FinalRows.{found_pixel};
 ghost use Rattle.sixel_decoder.specs.PayloadCalls.{begun, byte_read, IsFed, IsFinished};
-ghost use Rattle.sixel_decoder.specs.PayloadCalls.{IsSizeSoFar, IsDrawnHeight, IsIgnoredCount};
+ghost use Rattle.sixel_decoder.specs.PayloadCalls.{IsSizeSoFar, IsDrawnHeight};
 ghost use Rattle.sixel_decoder.specs.PayloadCalls.{IsWriteCount, IsPaintCount, IsBandPaintCount};
 ghost use Rattle.sixel_decoder.specs.PayloadCalls.{IsBandWriteCount};
-ghost use Rattle.sixel_decoder.specs.PictureView.{picture_value};
+ghost use Rattle.sixel_decoder.specs.PictureView.{whole_image};
+ghost use Rattle.sixel_decoder.specs.Session.{decoder_of};
 ghost use Rattle.sixel_decoder.specs.declared.payload_reader.PayloadState.TheVariants.{Failed};
 
 mod final_rows;
@@ -157,16 +159,6 @@ impl<C: Canvas + Drop> PayloadReader<C> {
         }
     }
 
-    /// Returns how many commands are ignored if the payload ends here.
-    pub fn ignored_commands(&self) -> u64
-        ensures { IsIgnoredCount self.now result }
-    {
-        match &self.state {
-            PayloadState::Reading(parser) => parser.end_ignored(),
-            PayloadState::Failed => 0,
-        }
-    }
-
     /// Whether a terminator was fed, and no feed has failed.
     pub fn has_ended(&self) -> bool
         ensures accepted { self.now.is_refused ≡ false → result ≡ is_terminated self.now.bytes }
@@ -178,9 +170,16 @@ impl<C: Canvas + Drop> PayloadReader<C> {
         }
     }
 
-    /// Returns the image and the registers after the bytes that were fed.
+    /// Returns the rows of the image that are left, and the registers after it.
     pub fn finish(self) -> Result<DecodedPayload>
-        ensures finished { IsFinished picture_value (λ picture. picture.registers) self result }
+        ensures finished { IsFinished
+            (whole_image (found_pixel (decoder_of self.origin)
+            (Payload self.origin.settings self.bytes)))
+            (λ picture. picture.registers) self result }
+        ensures first { IfOk result (λ picture.
+            picture.first_row ≡ min self.released picture.height) }
+        ensures ignored { IfOk result (λ picture.
+            picture.ignored ≡ payload_ignored self.origin.pixel_limit self.bytes) }
         ensures drawn { IfOk result (λ picture. picture.drawn_height
             ≡ found_drawn_height (decoder_of self.origin)
             (Payload self.origin.settings self.bytes)) }
@@ -194,6 +193,16 @@ impl<C: Canvas + Drop> PayloadReader<C> {
 }
 
 impl PayloadReader<RowCanvas> {
+    /// States that no row of its canvas is released.
+    pub fn stores_all_rows(&self)
+        ensures { self.now.released ≡ 0 }
+    {
+        match &self.state {
+            PayloadState::Reading(_) => {}
+            PayloadState::Failed => {}
+        }
+    }
+
     /// Returns how many pixels were copied or filled to grow the canvas.
     pub fn writes(&self) -> u64
         ensures { IsWriteCount self.now result }

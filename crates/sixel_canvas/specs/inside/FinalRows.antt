@@ -2,7 +2,7 @@
 -- row, and background where there is none. The layout is that of the image, as Picture of
 -- sixel_base has it.
 use Rattle.std.specs.Prelude.{◌≡◌, ℕ, ◌+◌, ◌*◌, ◌≤◌, List, length, take, drop}
-use Rattle.std.specs.Prelude.{◌&&◌, nat_lt, if◌then◌else◌}
+use Rattle.sixel_canvas.specs.Layout.{stored_pixel}
 
 -- the background, the bytes of the rows, how many columns and rows they have, for how many bytes
 -- there is memory, and how many pixels were written to give rows another width
@@ -35,10 +35,7 @@ pixel_at bytes i = take 4 (drop (4 * i) bytes)
 
 -- the pixel at this place
 abbrev pub final : RowsState → ℕ → ℕ → List ℕ
-final rows column row =
-    if nat_lt column rows.width && nat_lt row rows.rows then
-    pixel_at rows.bytes (row * rows.width + column)
-    else rows.background
+final rows = stored_pixel rows.bytes rows.width rows.rows rows.background
 
 -- what is true of the rows of every image
 pub record AreRows (rows : RowsState) : Type 0 where

@@ -44,9 +44,3 @@ abbrev pub tolerated_count : {A : Type 0} → Bool → Result A SixelError → �
 tolerated_count lenient (Ok value) ignored = ignored
 tolerated_count lenient (Err error) ignored =
     if lenient && is_fault error then min (ignored + 1) count_limit else ignored
-
--- the height of an image whose last command has a fault that may be ignored
-abbrev pub tolerated_height : Bool → ℕ → Result ℕ SixelError → Result ℕ SixelError
-tolerated_height lenient height (Ok own) = Ok own
-tolerated_height lenient height (Err error) =
-    if lenient && is_fault error then Ok height else Err error

@@ -17,7 +17,7 @@ use Rattle.sixel_base.specs.Stroke.{Origin, registers, color, ratio}
 use Rattle.sixel_base.specs.Picture.{covers}
 use Rattle.sixel_canvas.specs.declared.drawing.Canvas.{Ghosts}
 use Rattle.sixel_canvas.specs.inside.Drawn.{Run, run}
-use Rattle.sixel_decoder.specs.PictureView.{picture_value}
+use Rattle.sixel_decoder.specs.PictureView.{whole_image}
 use Rattle.sixel_decoder.specs.declared.decoded_payload.DecodedPayload.{DecodedPayload}
 use Rattle.sixel_decoder.specs.declared.painter.Painter.{Painter}
 use Rattle.sixel_decoder.specs.inside.DrawnRows.{drawn_rows}
@@ -122,7 +122,7 @@ abbrev pub Ends : Result DecodedPayload SixelError → Origin → History → Ty
 Ends result origin history =
     MatchResult result
     (λ picture. (first_fault origin.pixel_limit history ≡ None)
-    × (picture_value picture ≡ image_of origin history)
+    × (whole_image (clipped_pixel origin history) picture ≡ image_of origin history)
     × (picture.registers ≡ registers origin.registers history)
     × (picture.width * picture.height ≤ origin.pixel_limit.pixels)
     × (picture.drawn_height

@@ -6,6 +6,7 @@ use Rattle.std.specs.Prelude.{Result, List, ◌∷◌, fold, if◌then◌else◌
 use Rattle.sixel_base.specs.Status.{status_of}
 use Rattle.sixel_base.specs.declared.status.SixelFeedResult.{SixelFeedResult}
 use Rattle.sixel_base.specs.Bytes.{front, count, first_terminator, is_terminated}
+use Rattle.sixel_base.specs.Clip.{clipped_pixel}
 use Rattle.sixel_base.specs.DrawnHeight.{image_drawn_height}
 use Rattle.sixel_base.specs.declared.error.SixelError.{SixelError}
 use Rattle.sixel_decoder.specs.declared.payload_parser.PayloadParser.{PayloadParser}
@@ -21,7 +22,7 @@ use Rattle.sixel_base.specs.Payload.{closed, growths, payload_fault, payload_ima
 use Rattle.sixel_base.specs.Payload.{payload_registers, payload_wants, tokens}
 use Rattle.sixel_canvas.specs.declared.drawing.Canvas.{Ghosts}
 use Rattle.sixel_decoder.specs.inside.Lenient.{HasDrawn}
-use Rattle.sixel_decoder.specs.PictureView.{picture_value}
+use Rattle.sixel_decoder.specs.PictureView.{whole_image}
 use Rattle.sixel_decoder.specs.declared.decoded_payload.DecodedPayload.{DecodedPayload}
 
 -- the newest token is a command that is open, and the parameters are those of its text so far
@@ -93,7 +94,8 @@ abbrev pub Decodes : Result DecodedPayload SixelError → Origin → List ℕ �
 Decodes result origin bytes =
     MatchResult result
     (λ picture. (payload_fault origin.pixel_limit bytes ≡ None)
-    × (picture_value picture ≡ payload_image origin bytes)
+    × (whole_image (clipped_pixel origin (tokens origin.pixel_limit bytes)) picture
+    ≡ payload_image origin bytes)
     × (picture.registers ≡ payload_registers origin bytes)
     × (picture.width * picture.height ≤ origin.pixel_limit.pixels)
     × (picture.drawn_height

@@ -1,18 +1,12 @@
-//! The rows of a DCS sequence's image, final or all, in a caller's memory.
+//! The rows of a DCS sequence's image that are final.
 
-ghost use Rattle.std.specs.Prelude.{◌≡◌, ◌≤◌, ◌<◌, ◌+◌, ◌^◌, false, length, max};
-ghost use Rattle.sixel_base.specs.Dcs.{end_fault};
-ghost use Rattle.sixel_base.specs.Fault.{DcsStreamFailed};
+ghost use Rattle.std.specs.Prelude.{◌≡◌, ◌≤◌, ◌<◌, ◌+◌, false, length, max};
 ghost use Rattle.sixel_base.specs.OneShot.{found};
 ghost use Rattle.sixel_canvas.specs.Layout.{AreCopied, AreRowsIn};
-ghost use Rattle.sixel_decoder.specs.CopiedImage.{found_pixel, last_fault};
-ghost use Rattle.sixel_decoder.specs.CopiedImage.{IsEndHeight, IsImageCopied};
-ghost use Rattle.sixel_decoder.specs.FinalRows.{dcs_final_rows, row_count};
+ghost use Rattle.sixel_decoder.specs.FinalRows.{dcs_final_rows, found_pixel, row_count};
 
-use crate::copied_payload::CopiedPayload;
-use crate::dcs_parser::{DcsParser, DcsState};
+use crate::dcs_parser::DcsState;
 use crate::dcs_reader::DcsReader;
-use sixel_base::{Result, SixelError};
 use sixel_canvas::band_canvas::BandCanvas;
 use sixel_canvas::channels::RowLayout;
 use sixel_canvas::drawing::Canvas;
@@ -26,27 +20,6 @@ impl<C: Canvas + Drop> DcsReader<C> {
         match &self.parser.state {
             DcsState::Payload(reader) => reader.rows_so_far(),
             _ => 0,
-        }
-    }
-
-    /// Returns the height of the image, once the DCS sequence has ended, or if it is lenient.
-    pub fn end_height(&self) -> Result<usize>
-        ensures { IsEndHeight self.now.decoder (found self.now.bytes)
-            (last_fault self.now.is_refused DcsStreamFailed
-            (end_fault self.now.decoder.pixel_limit self.now.bytes)) result }
-    {
-        match &self.parser.state {
-            DcsState::Failed => Err(SixelError::dcs_stream_failed()),
-            DcsState::Payload(reader) => {
-                if self.parser.can_finish() {
-                    reader.end_height()
-                } else {
-                    Err(SixelError::incomplete())
-                }
-            }
-            DcsState::Start | DcsState::Escape | DcsState::Header(_) => {
-                Err(SixelError::incomplete())
-            }
         }
     }
 }
@@ -89,40 +62,5 @@ impl DcsReader<BandCanvas> {
             return;
         };
         reader.release_rows(rows);
-    }
-
-    /// Ends the image, and copies rows of it to a caller's memory.
-    pub fn finish_into(
-        self,
-        first: usize,
-        rows: usize,
-        layout: RowLayout,
-        out: &mut [u8],
-    ) -> Result<CopiedPayload>
-        requires stored { self.released ≤ first }
-        requires within { first + rows < 2 ^ 64 }
-        requires fits { AreRowsIn layout rows (length out.old) }
-        ensures len { length out.new ≡ length out.old }
-        ensures copied { IsImageCopied self.decoder (found self.bytes)
-            (last_fault self.is_refused DcsStreamFailed
-            (end_fault self.decoder.pixel_limit self.bytes))
-            first rows layout out.old out.new result }
-    {
-        let DcsReader { parser, .. } = self;
-        let can_finish = parser.can_finish();
-        let DcsParser { state, .. } = parser;
-        match state {
-            DcsState::Failed => Err(SixelError::dcs_stream_failed()),
-            DcsState::Payload(reader) => {
-                if can_finish {
-                    reader.finish_into(first, rows, layout, out)
-                } else {
-                    Err(SixelError::incomplete())
-                }
-            }
-            DcsState::Start | DcsState::Escape | DcsState::Header(_) => {
-                Err(SixelError::incomplete())
-            }
-        }
     }
 }

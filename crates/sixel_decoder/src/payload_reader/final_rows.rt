@@ -1,18 +1,12 @@
-//! The rows of a payload's image, final or all, in a caller's memory.
+//! The rows of a payload's image that are final.
 
-ghost use Rattle.std.specs.Prelude.{◌≡◌, ◌≤◌, ◌<◌, ◌+◌, ◌^◌, false, length, max};
+ghost use Rattle.std.specs.Prelude.{◌≡◌, ◌≤◌, ◌<◌, ◌+◌, false, length, max};
 ghost use Rattle.sixel_base.specs.Clip.{clipped_pixel};
-ghost use Rattle.sixel_base.specs.Fault.{StreamFailed};
-ghost use Rattle.sixel_base.specs.OneShot.{Payload};
-ghost use Rattle.sixel_base.specs.Payload.{payload_fault, tokens};
+ghost use Rattle.sixel_base.specs.Payload.{tokens};
 ghost use Rattle.sixel_canvas.specs.Layout.{AreCopied, AreRowsIn};
-ghost use Rattle.sixel_decoder.specs.CopiedImage.{decoder_of, last_fault};
-ghost use Rattle.sixel_decoder.specs.CopiedImage.{IsEndHeight, IsImageCopied};
 ghost use Rattle.sixel_decoder.specs.FinalRows.{payload_final_rows, row_count};
 
-use crate::copied_payload::CopiedPayload;
 use crate::payload_reader::{PayloadReader, PayloadState};
-use sixel_base::{Result, SixelError};
 use sixel_canvas::band_canvas::BandCanvas;
 use sixel_canvas::channels::RowLayout;
 use sixel_canvas::drawing::Canvas;
@@ -30,19 +24,6 @@ impl<C: Canvas + Drop> PayloadReader<C> {
                 .top()
                 .min(parser.painter.clipped_height),
             PayloadState::Failed => 0,
-        }
-    }
-
-    /// Returns the height of the image if the payload ends here.
-    pub fn end_height(&self) -> Result<usize>
-        ensures { IsEndHeight (decoder_of self.now.origin)
-            (Payload self.now.origin.settings self.now.bytes)
-            (last_fault self.now.is_refused StreamFailed
-            (payload_fault self.now.origin.pixel_limit self.now.bytes)) result }
-    {
-        match &self.state {
-            PayloadState::Reading(parser) => parser.end_height(),
-            PayloadState::Failed => Err(SixelError::stream_failed()),
         }
     }
 }
@@ -71,7 +52,7 @@ impl PayloadReader<BandCanvas> {
         ensures { result ≡ self.now.released }
     {
         match &self.state {
-            PayloadState::Reading(parser) => parser.painter.canvas.released_rows(),
+            PayloadState::Reading(parser) => parser.painter.canvas.released(),
             PayloadState::Failed => 0,
         }
     }
@@ -86,30 +67,5 @@ impl PayloadReader<BandCanvas> {
             return;
         };
         parser.release_rows(rows);
-    }
-
-    /// Ends the image, and copies rows of it to a caller's memory.
-    pub fn finish_into(
-        self,
-        first: usize,
-        rows: usize,
-        layout: RowLayout,
-        out: &mut [u8],
-    ) -> Result<CopiedPayload>
-        requires stored { self.released ≤ first }
-        requires within { first + rows < 2 ^ 64 }
-        requires fits { AreRowsIn layout rows (length out.old) }
-        ensures len { length out.new ≡ length out.old }
-        ensures copied { IsImageCopied (decoder_of self.origin)
-            (Payload self.origin.settings self.bytes)
-            (last_fault self.is_refused StreamFailed
-            (payload_fault self.origin.pixel_limit self.bytes))
-            first rows layout out.old out.new result }
-    {
-        let PayloadReader { state, .. } = self;
-        match state {
-            PayloadState::Reading(parser) => parser.finish_into(first, rows, layout, out),
-            PayloadState::Failed => Err(SixelError::stream_failed()),
-        }
     }
 }

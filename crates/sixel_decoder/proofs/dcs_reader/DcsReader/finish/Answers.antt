@@ -1,15 +1,19 @@
 use Rattle.std.proofs.Common.{◌≡◌, ◌*◌, ◌≤◌, ℕ, List, Bool, true, false, ap, subst, sym, ◌∙◌}
 use Rattle.std.specs.Prelude.{IfOk, OnOk}
 use Rattle.std.proofs.lemmas.Result.{on_ok_weaker}
+use Rattle.sixel_base.specs.Clip.{clipped_pixel}
 use Rattle.sixel_base.specs.Dcs.{can_finish}
 use Rattle.sixel_base.specs.Limits.{Limit}
-use Rattle.sixel_base.specs.OneShot.{found, found_fault}
-use Rattle.sixel_base.specs.Payload.{payload_fault}
+use Rattle.sixel_base.specs.OneShot.{Payload, found, found_fault}
+use Rattle.sixel_base.specs.Payload.{payload_fault, payload_image, tokens}
 use Rattle.sixel_base.specs.Stroke.{Origin}
+use Rattle.sixel_decoder.specs.FinalRows.{found_pixel}
+use Rattle.sixel_decoder.specs.PictureView.{whole_image}
+use Rattle.sixel_decoder.specs.Session.{decoder_of}
 use Rattle.sixel_decoder.specs.inside.DcsParser.{HasFollowed, IsInPayload}
 use Rattle.sixel_decoder.specs.declared.dcs_parser.DcsState.{DcsState}
 use Rattle.sixel_decoder.proofs.DcsPayloads.{found_drawn, found_image, found_reading}
-use Rattle.sixel_decoder.proofs.DcsPayloads.{found_registers}
+use Rattle.sixel_decoder.proofs.DcsPayloads.{found_ignored, found_registers}
 use Rattle.sixel_decoder.proofs.DcsFinishes.{finish_told, string_decoded, string_image}
 use Rattle.sixel_decoder.proofs.DcsFinishes.{string_refused_at_end, string_registers}
 use Rattle.sixel_decoder.proofs.dcs_reader.DcsReader.finish.Goals as goal
@@ -32,22 +36,29 @@ returns-then-can_finish-clause-finished g c =
     ≡ payload_fault reader.origin.pixel_limit reader.bytes =
     ap (found_fault limit) (found_reading bytes reader.origin.settings reader.bytes is.reading)
     ∙ ap (λ (o : Origin). payload_fault o.pixel_limit reader.bytes) (sym is.start) in
+    let shown : found_pixel inside.parser.decoder (found bytes)
+    ≡ found_pixel (decoder_of reader.origin) (Payload reader.origin.settings reader.bytes) =
+    ap (found_pixel inside.parser.decoder)
+    (found_reading bytes reader.origin.settings reader.bytes is.reading)
+    ∙ ap (λ (o : Origin). clipped_pixel o (tokens o.pixel_limit reader.bytes)) (sym is.start) in
+    let view = whole_image (found_pixel inside.parser.decoder (found bytes)) in
+    let image : IfOk result
+    (λ picture. view picture ≡ payload_image reader.origin reader.bytes) =
+    rw shown told.image in
     record {
-      image = rw (← c.self.view_is) (string_image result reader _ _ _ is told.image);
+      image = rw (← c.self.view_is) (string_image result view reader _ _ _ is image);
       registers = rw (← c.self.view_is)
           (string_registers result reader _ _ _ is told.registers);
-      found_image = rw (← c.self.view_is) (found_image result reader _ _ _ is told.image);
+      found_image = rw (← c.self.view_is) (found_image result view reader _ _ _ is image);
       found_registers = rw (← c.self.view_is)
           (found_registers result reader _ _ _ is told.registers);
       as_decoded = λ more. rw (← c.self.view_is) (λ over.
-          string_decoded result reader _ _ _ more is over
-          told.faultless told.image told.registers);
+          string_decoded result view reader _ _ _ more is over
+          told.faultless image told.registers);
       area = rw (← c.self.view_is)
           (subst (λ (o : Origin). IfOk result (λ it. it.width * it.height ≤ o.pixel_limit.pixels))
           is.start told.area);
-      pixels = told.pixels;
       faultless = rw (← c.self.view_is, same) told.faultless;
-      whole = rw (← c.self.view_is, c.in-Payload.is) told.whole;
       accepted = rw (← c.self.view_is, c.in-Payload.is)
           (subst (λ (b : Bool). OnOk result (b ≡ false)) is.accepted told.accepted);
       ended = rw (← c.self.view_is) (on_ok_weaker result (λ _. finishes) told.accepted);
@@ -65,3 +76,14 @@ returns-then-can_finish-clause-drawn g c =
     c.in-Payload.is c.self.invariant in
     rw (← c.self.view_is)
     (found_drawn c.finish.result c.in-Payload.reader _ _ _ is c.finish.ensures.drawn)
+
+pub returns-then-can_finish-clause-ignored : goal.returns-then-can_finish-clause-ignored
+returns-then-can_finish-clause-ignored g c =
+    let inside = c.self.inside in
+    let is : IsInPayload c.in-Payload.reader inside.parser.decoder inside.parser.ended
+    inside.log.bytes =
+    subst (λ (p : DcsState _).
+    HasFollowed p inside.parser.decoder inside.parser.ended inside.log.bytes)
+    c.in-Payload.is c.self.invariant in
+    rw (← c.self.view_is)
+    (found_ignored c.finish.result c.in-Payload.reader _ _ _ is c.finish.ensures.ignored)

@@ -1,5 +1,7 @@
-use Rattle.std.proofs.Common.{arith, ◌≡◌, ℕ, ◌*◌, ◌≤◌, List, ap, ◌∙◌, refl}
+use Rattle.std.proofs.Common.{arith, ◌≡◌, ℕ, ◌+◌, ◌-◌, ◌*◌, ◌≤◌, List, ◌++◌, ap, sym, ◌∙◌, refl}
+use Rattle.std.proofs.Common.{append-nil, inl, inr, min}
 use Rattle.std.proofs.Math.Nat.{mul-le-mul_left}
+use Rattle.std.proofs.lemmas.Bool.{cases_lt}
 use Rattle.std.proofs.lemmas.Result.{err_from_is_err_and}
 use Rattle.sixel_base.specs.Clip.{clipped_pixel, clipped_width}
 use Rattle.sixel_base.specs.Limits.{Limit}
@@ -8,7 +10,7 @@ use Rattle.sixel_base.specs.Picture.{joined, picture}
 use Rattle.sixel_base.specs.Settings.{mode_of, ratio_of}
 use Rattle.sixel_base.specs.declared.settings.BackgroundMode.{BackgroundMode}
 use Rattle.sixel_base.specs.declared.settings.PixelAspectRatio.{PixelAspectRatio}
-use Rattle.sixel_base.proofs.PictureBytes.{joined-same}
+use Rattle.sixel_base.proofs.PictureBytes.{joined-add, joined-same}
 use Rattle.sixel_base.specs.Stroke.{pixel, ratio}
 use Rattle.sixel_decoder.proofs.Clips.{clipped_picture}
 use Rattle.sixel_decoder.proofs.ImageAreas.{low}
@@ -26,6 +28,31 @@ picture-same f g width height same =
     (λ row _.
     joined-same (λ column. f column row) (λ column. g column row) width
     (λ column _. same column row))
+
+-- the rows that are left, below those above the first of them
+picture-left : (p q : ℕ → ℕ → List ℕ) (width height released first : ℕ)
+    → first ≡ min released height → ((column row : ℕ) → q column row ≡ p column row)
+    → picture p width first
+    ++ picture (λ column row. q column (released + row)) width (height - released)
+    ≡ picture p width height
+unfolding picture joined
+picture-left p q width height released first is same = elim (cases_lt released height) [
+  | inl above ↦
+      let at : first ≡ released = omega (arith, is, above) in
+      let all : released + (height - released) ≡ height = omega (arith, above) in
+      rw at
+      (ap (λ ys. picture p width released ++ ys)
+      (picture-same (λ column row. q column (released + row))
+      (λ column row. p column (released + row)) width (height - released)
+      (λ column row. same column (released + row)))
+      ∙ sym (joined-add (λ row. joined (λ column. p column row) width) released
+      (height - released))
+      ∙ ap (picture p width) all)
+  | inr below ↦
+      let at : first ≡ height = omega (arith, is, below) in
+      let none : height - released ≡ 0 = omega (arith, below) in
+      rw (at, none) (append-nil (picture p width height))
+]
 
 -- the image of these parts
 abbrev image_from : List ℕ → ℕ → ℕ → PixelAspectRatio → BackgroundMode → Image
@@ -57,14 +84,18 @@ returns-clause-ends g c = λ o h shows.
     let area_fits : painter.clipped_width * painter.clipped_height ≤ limit.pixels =
     rw shows.limit at painter.area_fits in
     let pixels =
+    ap (λ ys. picture (clipped_pixel o h) painter.clipped_width c.min-first_row.result ++ ys)
     c.in_ok-pixels.ensures.ok
-    ∙ picture-same (g.C.Canvas.shown painter.canvas) (clipped_pixel o h) painter.clipped_width
-    height shows.pixels
+    ∙ picture-left (clipped_pixel o h) (g.C.Canvas.shown painter.canvas) painter.clipped_width
+    height (g.C.Canvas.released painter.canvas) c.min-first_row.result
+    (c.min-first_row.ensures ∙ ap (λ n. min n height) c.released.ensures) shows.pixels
     ∙ clipped_picture o h painter.clipped_width height (omega (arith, wide)) (omega (arith, tall))
     ∙ ap (λ w. picture (pixel o h) w height) wide
     ∙ ap (picture (pixel o h) (clipped_width limit h)) tall in (
       shows.faultless,
-      image_of-parts c.in_ok-pixels.pixels.items
+      image_of-parts
+          (picture (clipped_pixel o h) painter.clipped_width c.min-first_row.result
+          ++ c.in_ok-pixels.pixels.items)
           (picture (pixel o h) (clipped_width limit h) (image_height limit o.raster_crop h))
           painter.clipped_width (clipped_width limit h)
           height (image_height limit o.raster_crop h)

@@ -1,6 +1,6 @@
 use Rattle.std.proofs.Common.{◌≡◌, ◌∙◌, ℕ, List, Option, Ok, Err, false, Result, subst, refl}
 use Rattle.std.proofs.Common.{rules, sym}
-use Rattle.std.specs.Prelude.{is_none, is_some, IfOk, OnOk}
+use Rattle.std.specs.Prelude.{is_none, is_some, IfOk}
 use Rattle.sixel_base.specs.declared.error.SixelError.{SixelError}
 use Rattle.sixel_base.specs.Bytes.{front}
 use Rattle.sixel_base.specs.DrawnHeight.{found_drawn_height}
@@ -12,10 +12,10 @@ use Rattle.sixel_base.specs.Payload.{payload_fault, tokens}
 use Rattle.sixel_base.proofs.ToleratedTokens.{effective-fault}
 use Rattle.sixel_base.specs.Stroke.{Origin}
 use Rattle.sixel_canvas.specs.declared.drawing.Canvas.{Ghosts}
-use Rattle.sixel_decoder.specs.CopiedImage.{decoder_of}
+use Rattle.sixel_decoder.specs.FinalRows.{found_pixel}
 use Rattle.sixel_decoder.specs.PayloadCalls.{IsFinished}
-use Rattle.sixel_decoder.specs.PictureView.{picture_value}
-use Rattle.sixel_decoder.specs.Session.{Session}
+use Rattle.sixel_decoder.specs.PictureView.{whole_image}
+use Rattle.sixel_decoder.specs.Session.{Session, decoder_of}
 use Rattle.sixel_decoder.specs.inside.Painter.{Ends}
 use Rattle.sixel_decoder.specs.inside.PayloadParser.{Decodes, StandsAfter}
 use Rattle.sixel_decoder.specs.declared.payload_parser.PayloadParser.{PayloadParser}
@@ -28,20 +28,20 @@ use Rattle.sixel_decoder.proofs.payload_reader.PayloadReader.finish.Goals as goa
 
 -- how a session is finished whose parser ended its history
 finished_by : (result : Result DecodedPayload SixelError) (s : Session) → s.is_refused ≡ false
-    → Ends result s.origin (tokens s.origin.pixel_limit s.bytes) → OnOk result (s.released ≡ 0)
-    → IsFinished picture_value (λ picture. picture.registers) s result
-finished_by (Ok picture) s accepted ends whole = record {
+    → Ends result s.origin (tokens s.origin.pixel_limit s.bytes)
+    → IsFinished
+    (whole_image (found_pixel (decoder_of s.origin) (Payload s.origin.settings s.bytes)))
+    (λ picture. picture.registers) s result
+finished_by (Ok picture) s accepted ends = record {
   image = ends.1;
   faultless = sym (effective-fault s.origin.pixel_limit (history_of (front s.bytes))) ∙ ends.0;
   registers = ends.2;
   area = ends.3;
-  pixels = picture.whole;
   accepted = accepted;
-  whole = whole;
   error = tt;
   refused = λ e is. absurd cc;
 }
-finished_by (Err e) s accepted ends whole =
+finished_by (Err e) s accepted ends =
     let decodes : Decodes (Err e) s.origin s.bytes = payload_ends (Err e) s.origin s.bytes ends in
     let limit : Limit = s.origin.pixel_limit in
     let told : Faults e (is_none (payload_fault limit s.bytes)) (payload_fault limit s.bytes) =
@@ -52,9 +52,7 @@ finished_by (Err e) s accepted ends whole =
       faultless = tt;
       registers = tt;
       area = tt;
-      pixels = tt;
       accepted = tt;
-      whole = tt;
       error = rw accepted told;
       refused = λ error is sound. search (rules, decodes, is);
     }
@@ -84,8 +82,7 @@ returns-in-Reading-clause-finished g c =
     c.in-Reading.is c.self.invariant in
     rw (← c.self.view_is)
     (finished_by c.finish.result (session_of inside) (rw c.in-Reading.is refl)
-    (c.finish.ensures.ends o _ (is_some inside.terminator) read)
-    (rw c.in-Reading.is c.finish.ensures.whole))
+    (c.finish.ensures.ends o _ (is_some inside.terminator) read))
 
 pub returns-in-Reading-clause-drawn : goal.returns-in-Reading-clause-drawn
 returns-in-Reading-clause-drawn g c =
@@ -97,3 +94,13 @@ returns-in-Reading-clause-drawn g c =
     rw (← c.self.view_is)
     (drawn_by c.finish.result (session_of inside)
     (c.finish.ensures.ends o _ (is_some inside.terminator) read))
+
+pub returns-in-Reading-clause-ignored : goal.returns-in-Reading-clause-ignored
+returns-in-Reading-clause-ignored g c =
+    let inside = c.self.inside in
+    let o : Origin = (session_of inside).origin in
+    let read =
+    reading inside.state c.in-Reading.parser o inside.terminator inside.log.bytes
+    c.in-Reading.is c.self.invariant in
+    rw (← c.self.view_is)
+    (c.finish.ensures.ignored o (history_of (front inside.log.bytes)) (is_some inside.terminator) read)

@@ -5,7 +5,7 @@ use Rattle.sixel_base.specs.Payload.{tokens}
 use Rattle.sixel_base.specs.Stroke.{Origin}
 use Rattle.sixel_base.specs.declared.state.DecoderState.{DecoderState}
 use Rattle.sixel_canvas.specs.Layout.{AreCopied}
-use Rattle.sixel_decoder.specs.CopiedImage.{found_pixel}
+use Rattle.sixel_decoder.specs.FinalRows.{found_pixel}
 use Rattle.sixel_decoder.specs.inside.DcsParser.{HasFollowed, IsInPayload}
 use Rattle.sixel_decoder.specs.declared.dcs_parser.DcsState.{DcsState}
 use Rattle.sixel_decoder.proofs.DcsPayloads.{found_reading}
