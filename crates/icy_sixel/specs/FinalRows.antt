@@ -1,27 +1,19 @@
 -- The final rows of an open image, in the words that Receiver has for both forms, and what the
 -- calls of a receiver do with rows. Which rows are final is in FinalRows of sixel_decoder.
-use Rattle.std.specs.Prelude.{ℕ, ◌≡◌, ◌+◌, ◌-◌, ◌*◌, ◌≤◌, max, min, nat_lt}
-use Rattle.std.specs.Prelude.{if◌then◌else◌, List, length}
-use Rattle.std.specs.Prelude.{Option, Some, None, Result, IfOk, OnOk, IfErr, OnErr, IsSomeAnd}
-use Rattle.std.specs.Prelude.{MatchOption}
+use Rattle.std.specs.Prelude.{ℕ, ◌≡◌, ◌+◌, ◌*◌, max, nat_lt, if◌then◌else◌, List, length}
+use Rattle.std.specs.Prelude.{Option, Some, None, Result, OnOk, OnErr}
 use Rattle.sixel_base.specs.CallFault.{CallFault, Exactly, RowsNotFinal, RowsReleased, ShortStride}
-use Rattle.sixel_base.specs.CallFault.{IsCallFault, IsVerdict}
-use Rattle.sixel_base.specs.Decoder.{IsSetAs}
-use Rattle.sixel_base.specs.Fault.{Fault, IsFault}
-use Rattle.sixel_base.specs.Limits.{Limit, area_limit}
-use Rattle.sixel_base.specs.OneShot.{AreFoundRegisters}
+use Rattle.sixel_base.specs.CallFault.{IsVerdict}
+use Rattle.sixel_base.specs.Limits.{Limit}
 use Rattle.sixel_base.specs.declared.error.SixelError.{SixelError}
 use Rattle.sixel_base.specs.declared.error.SixelError.TheVariants.{BufferSizeMismatch}
 use Rattle.sixel_base.specs.declared.error.SixelError.TheVariants.{IntegerOverflow}
 use Rattle.sixel_base.specs.declared.state.DecoderState.{DecoderState}
 pub use Rattle.sixel_canvas.specs.Layout.{AreCopied, rows_len}
 pub use Rattle.sixel_canvas.specs.declared.channels.RowLayout.{RowLayout}
-pub use Rattle.sixel_decoder.specs.CopiedImage.{found_height, found_pixel, last_fault}
-pub use Rattle.sixel_decoder.specs.CopiedImage.{shape_of, IsFoundShape}
+pub use Rattle.sixel_decoder.specs.FinalRows.{found_pixel}
 use Rattle.sixel_decoder.specs.FinalRows.{dcs_final_rows, payload_final_rows, row_count}
-pub use Rattle.sixel_decoder.specs.declared.copied_payload.ImageShape.{ImageShape}
-use Rattle.icy_sixel.specs.Receiver.{Form, Nothing, OfPayload, OfString, Receiver, Reception}
-use Rattle.icy_sixel.specs.Receiver.{end_fault, failed, found, no_image}
+use Rattle.icy_sixel.specs.Receiver.{Form, Nothing, OfPayload, OfString, Receiver, Reception, found}
 
 -- how many rows from the top are final
 abbrev pub final_rows : Limit → Form → List ℕ → ℕ
@@ -68,32 +60,22 @@ copy_fault image first rows layout len =
 abbrev pub with_released : Reception → ℕ → Reception
 with_released image rows = record image { released = max image.released rows }
 
--- Final rows of the open image are copied to the caller's memory, or the call fails.
-pub record AreRowsCopied (image : Reception) (first rows : ℕ) (layout : RowLayout)
-    (old new : List ℕ) (result : Result (Unit {0}) SixelError) : Type 0 where
+-- Rows of a picture with these pixels are copied to the caller's memory, or the call fails.
+pub record IsRowCopy (fault : Option CallFault) (shown : ℕ → ℕ → List ℕ) (first rows : ℕ)
+    (layout : RowLayout) (old new : List ℕ) (result : Result (Unit {0}) SixelError) : Type 0 where
   -- the call fails exactly for what is wrong with it
-  pub verdict : IsVerdict (copy_fault image first rows layout (length old)) result
+  pub verdict : IsVerdict fault result
   -- each byte of the memory is that of a pixel or as it was
-  pub pixels : OnOk result
-      (AreCopied (pixel_so_far image.start image.form image.bytes) first rows layout old new)
+  pub pixels : OnOk result (AreCopied shown first rows layout old new)
   -- an error leaves the memory as it was
   pub untouched : OnErr result (new ≡ old)
 
--- why the open image is rejected if it ends now
-abbrev pub image_fault : Reception → Option Fault
-image_fault image =
-    last_fault image.is_refused (failed image.form)
-    (end_fault image.start.pixel_limit image.form image.bytes)
-
--- how many rows its image has from this one on
-abbrev pub rows_from : Reception → ℕ → ℕ
-rows_from image first = found_height image.start (found image.form image.bytes) - first
-
--- what is wrong with the memory for its rows from this one on, or with this row
-abbrev pub into_fault : Reception → ℕ → RowLayout → ℕ → Option CallFault
-into_fault image first layout len =
-    if nat_lt first image.released then Some RowsReleased
-    else layout_fault layout (rows_from image first) len
+-- Final rows of the open image are copied.
+abbrev pub AreRowsCopied : Reception → ℕ → ℕ → RowLayout → List ℕ → List ℕ
+    → Result (Unit {0}) SixelError → Type 0
+AreRowsCopied image first rows layout old new result =
+    IsRowCopy (copy_fault image first rows layout (length old))
+    (pixel_so_far image.start image.form image.bytes) first rows layout old new result
 
 -- what is wrong with a release of the rows above this one
 abbrev pub release_fault : Reception → ℕ → Option CallFault
@@ -108,38 +90,3 @@ pub record AreRowsReleased (old new : Receiver) (rows : ℕ)
   pub released : OnOk result (new ≡ record old { image = with_released old.image rows })
   -- an error leaves the receiver as it was
   pub unchanged : OnErr result (new ≡ old)
-
--- The open image ends, its rows from this one on are copied to the caller's memory, and the decoder
--- has the registers after it; or the call fails.
-pub record IsFinishedInto (old new : Receiver) (first : ℕ) (layout : RowLayout)
-    (before after : List ℕ) (result : Result ImageShape SixelError) : Type 0 where
-  -- no image is open then
-  pub closed : OnOk result (new.image ≡ no_image)
-  -- the shape is that of the image of its bytes
-  pub shape : IfOk result (λ shape.
-      IsFoundShape old.image.start (found old.image.form old.image.bytes) shape)
-  -- the area is within the limit of the image and that of the format
-  pub area : IfOk result (λ shape.
-      shape.width * shape.height ≤ min old.image.start.pixel_limit.pixels area_limit)
-  -- each byte of the memory is that of a pixel or as it was
-  pub pixels : OnOk result
-      (AreCopied (pixel_so_far old.image.start old.image.form old.image.bytes)
-      first (rows_from old.image first) layout before after)
-  -- the registers are those that its payload leaves
-  pub registers : OnOk result (AreFoundRegisters old.image.start
-      (found old.image.form old.image.bytes) new.decoder.registers)
-  -- crop and limit of the decoder stay
-  pub set : IsSetAs old.decoder new.decoder
-  -- the call succeeds only if nothing is wrong with the image, with the row and with the memory
-  pub sound : OnOk result ((image_fault old.image ≡ None)
-      × (into_fault old.image first layout (length before) ≡ None))
-  -- an error is what is wrong: with the image, which is closed then, or with the row or the memory
-  -- alone, and then the image stays open as it was
-  pub error : IfErr result (λ error. MatchOption (image_fault old.image)
-      (IsSomeAnd (into_fault old.image first layout (length before))
-      (IsCallFault error) × (new ≡ old))
-      (λ fault. IsFault error fault × (new.image ≡ no_image)))
-  -- an error leaves the decoder as it was
-  pub kept : OnErr result (new.decoder ≡ old.decoder)
-  -- an error leaves the memory as it was
-  pub untouched : OnErr result (after ≡ before)

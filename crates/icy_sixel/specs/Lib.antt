@@ -3,6 +3,7 @@ pub mod ClippedImages
 pub mod FinalRows
 pub mod ImageView
 pub mod Script
+pub mod ReceivedImages
 pub mod Receiver
 pub mod ReceiverCalls
 pub mod Registers

@@ -4,18 +4,18 @@ use Rattle.std.specs.Prelude.{ℕ, ◌≡◌, ◌+◌, ◌*◌, ◌<◌, ◌≤�
 use Rattle.std.specs.Prelude.{nat_lt, Option, Some, None, Result, Ok, Err}
 use Rattle.std.specs.Prelude.{OnOk, OnErr, IfOk, IfErr, MatchBool}
 use Rattle.sixel_base.specs.declared.error.SixelError.{SixelError}
-use Rattle.sixel_base.specs.CallFault.{FailsBy, RowsReleased}
 use Rattle.sixel_base.specs.Dcs.{dcs_fault, dcs_growths, IsSameString}
 use Rattle.sixel_base.specs.Decoder.{IsSetAs}
 use Rattle.sixel_base.specs.Fault.{Faults, IsFault}
 use Rattle.sixel_base.specs.OneShot.{found_fault, IsFoundImage, AreFoundRegisters, IsDecodedAs}
-use Rattle.sixel_base.specs.Payload.{payload_fault, payload_wants}
+use Rattle.sixel_base.specs.Payload.{Image, payload_fault, payload_wants}
 use Rattle.sixel_base.specs.Settings.{Settings}
-use Rattle.icy_sixel.specs.ImageView.{image_value}
+use Rattle.icy_sixel.specs.FinalRows.{pixel_so_far}
+use Rattle.icy_sixel.specs.ReceivedImages.{whole_value}
 use Rattle.icy_sixel.specs.Receiver.{Form, Receiver, Reception, OfPayload, OfString, no_image}
 use Rattle.icy_sixel.specs.Receiver as receivers
 use Rattle.icy_sixel.specs.declared.receiver.Received.{Received}
-use Rattle.icy_sixel.specs.declared.sixel_image.SixelImage.{SixelImage}
+use Rattle.icy_sixel.specs.declared.receiver.received_image.ReceivedImage.{ReceivedImage}
 
 -- The receiver opens an image of this form, and aborts the one that was open.
 pub record IsBegun (old new : Receiver) (form : Form) : Type 0 where
@@ -94,32 +94,28 @@ pub record IsFed (old new : Receiver) (chunk : List ℕ)
       → Faults error (nat_lt 0 (dcs_growths (new.image.bytes ++ more)))
       (dcs_fault old.image.start.pixel_limit (new.image.bytes ++ more))
 
--- No memory has an image of which rows were released. A call that returns the whole image fails
--- with that, and the image stays open as it was.
-abbrev pub StaysOpen : {A : Type 0} → Receiver → Receiver → Result A SixelError → Type 0
-StaysOpen old new result =
-    0 < old.image.released → FailsBy (Some RowsReleased) result × (new ≡ old)
+-- the image that a receiver has finished: the released rows are above those that are left
+abbrev pub whole_of : Reception → ReceivedImage → Image
+whole_of image = whole_value (pixel_so_far image.start image.form image.bytes)
 
 -- The open image ends, and the decoder has the registers after it; or the call reports an error.
-pub record IsFinished (old new : Receiver) (result : Result SixelImage SixelError) : Type 0 where
-  -- no image is open then, unless rows were released
-  pub closed : old.image.released ≡ 0 → new.image ≡ no_image
+pub record IsFinished {A : Type 0} (image_of : A → Image) (old new : Receiver)
+    (result : Result A SixelError) : Type 0 where
+  -- no image is open then
+  pub closed : new.image ≡ no_image
   -- the image is that of its bytes
-  pub image : IfOk result (λ image. IsFoundImage old.image.start
-      (receivers.found old.image.form old.image.bytes) (image_value image))
+  pub image : IfOk result (λ done. IsFoundImage old.image.start
+      (receivers.found old.image.form old.image.bytes) (image_of done))
   -- the registers are those that its payload leaves
   pub registers : OnOk result (AreFoundRegisters old.image.start
       (receivers.found old.image.form old.image.bytes) new.decoder.registers)
   -- decoding in one call returns this image, whatever bytes follow a DCS sequence
-  pub as_decoded : (more : List ℕ) → IfOk result (λ image. IsDecodedAs old.image.start
+  pub as_decoded : (more : List ℕ) → IfOk result (λ done. IsDecodedAs old.image.start
       (receivers.found_followed old.image.form old.image.bytes more)
-      (image_value image) new.decoder.registers)
+      (image_of done) new.decoder.registers)
   -- the area is within the limit
-  pub area : IfOk result (λ image.
-      image.width * image.height ≤ old.image.start.pixel_limit.pixels)
-  -- each pixel takes four bytes
-  pub pixels : IfOk result (λ image.
-      length image.pixels.items ≡ 4 * (image.width * image.height))
+  pub area : IfOk result (λ done.
+      (image_of done).width * (image_of done).height ≤ old.image.start.pixel_limit.pixels)
   -- crop and limit of the decoder stay
   pub set : IsSetAs old.decoder new.decoder
   -- a payload with an image has no fault
@@ -127,17 +123,14 @@ pub record IsFinished (old new : Receiver) (result : Result SixelImage SixelErro
       (receivers.found old.image.form old.image.bytes) ≡ None)
   -- a rejected image is never returned
   pub accepted : OnOk result (old.image.is_refused ≡ false)
-  -- an image of which rows were released is never returned, and stays open
-  pub whole : OnOk result (old.image.released ≡ 0)
-  pub released : StaysOpen old new result
   -- a DCS sequence has an image only once it has ended, unless it is lenient
   pub ended : OnOk result (receivers.end_fault old.image.start.pixel_limit
       old.image.form old.image.bytes ≡ None)
   -- an error leaves the decoder as it was
   pub kept : OnErr result (new.decoder ≡ old.decoder)
-  -- an error of a whole image is the fault of the bytes, or an allocation failed; a rejected image
-  -- reports that the stream has failed
-  pub error : old.image.released ≡ 0 → IfErr result (λ error. MatchBool old.image.is_refused
+  -- an error is the fault of the bytes, or an allocation failed; a rejected image reports that the
+  -- stream has failed
+  pub error : IfErr result (λ error. MatchBool old.image.is_refused
       (IsFault error (receivers.failed old.image.form))
       (Faults error
       (receivers.end_wants old.image.start.pixel_limit old.image.form old.image.bytes)
@@ -145,7 +138,6 @@ pub record IsFinished (old new : Receiver) (result : Result SixelImage SixelErro
   -- decoding the bytes of a payload in one call fails with that error
   pub refused : (settings : Settings) (error : SixelError)
       → old.image.form ≡ OfPayload settings → result ≡ Err error → old.image.is_refused ≡ false
-      → old.image.released ≡ 0
       → Faults error
       (payload_wants old.image.start.pixel_limit old.image.bytes)
       (payload_fault old.image.start.pixel_limit old.image.bytes)
@@ -195,11 +187,3 @@ pub record IsDrawnHeight (image : Reception) (rows : ℕ) : Type 0 where
       → rows ≡ receivers.drawn_height image.start.pixel_limit image.form image.bytes
   -- a rejected image has none
   pub refused : image.is_refused ≡ true → rows ≡ 0
-
--- So many commands are ignored if the open image ends now.
-pub record IsIgnoredCount (image : Reception) (count : ℕ) : Type 0 where
-  -- those with a fault, if the image is lenient
-  pub accepted : image.is_refused ≡ false
-      → count ≡ receivers.ignored image.start.pixel_limit image.form image.bytes
-  -- a rejected image has none
-  pub refused : image.is_refused ≡ true → count ≡ 0

@@ -17,12 +17,11 @@ pub use decoder::{
 pub use encoder::{
     Dither, EncodeOptions, TextForm, palette_indices, sixel_encode, sixel_encode_default,
 };
-pub use receiver::{BandStatus, Received, ReceivedBand, SixelReceiver};
+pub use receiver::{BandStatus, Received, ReceivedBand, ReceivedImage, SixelReceiver};
 pub use script::Status;
 pub use sixel_base::size::validate_encode_dimensions;
 pub use sixel_base::{Result, SixelError, limits};
 pub use sixel_canvas::channels::{ChannelOrder, RowLayout};
-pub use sixel_decoder::ImageShape;
 pub use sixel_image::{BackgroundMode, PixelAspectRatio, SixelImage};
 pub use sixel_palette::palette;
 pub use sixel_palette::palette::{

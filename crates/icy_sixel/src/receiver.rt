@@ -2,34 +2,40 @@
 //!
 //! The contracts of its calls are the records of `ReceiverCalls`.
 
-ghost use Rattle.std.specs.Prelude.{◌≡◌, ◌∷◌, [], true, false, IfSome, None, Ok};
+ghost use Rattle.std.specs.Prelude.{◌≡◌, ◌*◌, ◌<◌, ◌∷◌, [], true, false, length, min};
+ghost use Rattle.std.specs.Prelude.{IfOk, IfSome, None, Ok, Some};
+ghost use Rattle.sixel_base.specs.CallFault.{FailsBy, RowsReleased};
 ghost use Rattle.sixel_base.specs.Decoder.{new_decoder};
+ghost use Rattle.sixel_base.specs.DrawnHeight.{found_drawn_height};
+ghost use Rattle.icy_sixel.specs.ImageView.{image_value};
 ghost use Rattle.icy_sixel.specs.Receiver.{OfPayload, OfString, idle, is_open, is_over};
-ghost use Rattle.icy_sixel.specs.Receiver.{in_payload};
-ghost use Rattle.icy_sixel.specs.ReceiverCalls.{IsBegun, IsFed, IsFinished, IsAborted};
+ghost use Rattle.icy_sixel.specs.Receiver.{found, ignored, in_payload};
+ghost use Rattle.icy_sixel.specs.ReceiverCalls.{IsBegun, IsFed, IsFinished, IsAborted, whole_of};
 ghost use Rattle.icy_sixel.specs.ReceiverCalls.{IsDrawnHeight, IsPaintCount, IsSizeSoFar};
-ghost use Rattle.icy_sixel.specs.ReceiverCalls.{IsIgnoredCount, IsWriteCount};
+ghost use Rattle.icy_sixel.specs.ReceiverCalls.{IsWriteCount};
 ghost use Rattle.icy_sixel.specs.inside.Receiving.{reception_of};
 
 mod bands;
-mod drawn;
 mod final_rows;
+mod received_image;
 mod row_buffer;
 mod settings;
 
 use crate::decoder::{
-    DcsSettings, DrawnImage, SixelDcsFeedResult, SixelDcsFeedStatus, SixelDecoder, SixelFeedResult,
+    DcsSettings, SixelDcsFeedResult, SixelDcsFeedStatus, SixelDecoder, SixelFeedResult,
     SixelFeedStatus,
 };
 use crate::script::Status;
 use crate::sixel_image::SixelImage;
 pub use bands::{BandStatus, ReceivedBand, band_len};
 pub use final_rows::stable_rows;
+pub use received_image::ReceivedImage;
 use sixel_base::{Result, SixelError};
 use sixel_canvas::band_canvas::BandCanvas;
 use sixel_decoder::{DcsReader, PayloadReader};
 use std::alloc::Global;
 use std::marker::Model;
+use std::mem;
 
 /// What a feed of a receiver did.
 #[derive(Clone, Copy, Debug, PartialEq, Eq)]
@@ -191,17 +197,48 @@ impl SixelReceiver {
 
     /// Closes the image, returns it, and stores its registers in the decoder.
     ///
-    /// An error closes the image too, and leaves the decoder unchanged. The errors are those of the
+    /// The open command is closed first. Rows that were released are not among the pixels of the
+    /// [`ReceivedImage`]. No pixel is copied here: the host copies rows of it or takes it whole. An
+    /// error closes the image too, and leaves the decoder unchanged. The errors are those of the
     /// sessions. If no image is open, the error is that of [`feed`](Self::feed).
+    pub fn finish(&mut self) -> Result<ReceivedImage>
+        ensures finished { IsFinished (whole_of self.old.image) self.old self.new result }
+        ensures first { IfOk result (λ image.
+            image.first_row ≡ min self.old.image.released image.height) }
+        ensures drawn { IfOk result (λ image. image.drawn_height ≡ found_drawn_height
+            self.old.image.start (found self.old.image.form self.old.image.bytes)) }
+        ensures ignored { IfOk result (λ image. image.ignored_commands ≡ ignored
+            self.old.image.start.pixel_limit self.old.image.form self.old.image.bytes) }
+    {
+        let open = mem::replace(&mut self.open, Open::Nothing);
+        let picture = match open {
+            Open::Nothing => Err(SixelError::stream_failed()),
+            Open::Payload(reader) => reader.finish(),
+            Open::ControlString(reader) => reader.finish(),
+        }?;
+        self.decoder.state.registers = picture.registers;
+        Ok(ReceivedImage::from_picture(picture))
+    }
+
+    /// Closes the image as [`finish`](Self::finish) does, and returns it whole.
     ///
     /// If rows were released, the error is `InvalidData("rows were released")`, because no memory
-    /// has the whole image. Then the image stays open as it was. End such an image by
-    /// [`finish_into`](Self::finish_into).
-    pub fn finish(&mut self) -> Result<SixelImage>
-        ensures { IsFinished self.old self.new result }
+    /// has the whole image. Then the image stays open as it was.
+    pub fn finish_image(&mut self) -> Result<SixelImage>
+        ensures finished { self.old.image.released ≡ 0
+            → IsFinished image_value self.old self.new result }
+        ensures pixels { IfOk result (λ image.
+            length image.pixels.items ≡ 4 * (image.width * image.height)) }
+        ensures released { 0 < self.old.image.released
+            → FailsBy (Some RowsReleased) result × (self.new ≡ self.old) }
     {
-        let DrawnImage { image, .. } = self.finish_drawn()?;
-        Ok(image)
+        if self.released_rows() > 0 {
+            return Err(SixelError::rows_released());
+        }
+        match self.finish() {
+            Ok(image) => image.into_image(),
+            Err(error) => Err(error),
+        }
     }
 
     /// Aborts the open image, if there is one. The decoder is unchanged.
@@ -303,21 +340,6 @@ impl SixelReceiver {
             Open::Nothing => 0,
             Open::Payload(reader) => reader.drawn_height(),
             Open::ControlString(reader) => reader.drawn_height(),
-        }
-    }
-
-    /// Returns how many commands are ignored if the open image ends now.
-    ///
-    /// It is 0 unless the image is lenient ([`set_lenient`](Self::set_lenient)), before the
-    /// payload, after an error, and if no image is open. Then the picture is that of all commands.
-    /// The number saturates. The call does not allocate.
-    pub fn ignored_commands(&self) -> u64
-        ensures { IsIgnoredCount self.now.image result }
-    {
-        match &self.open {
-            Open::Nothing => 0,
-            Open::Payload(reader) => reader.ignored_commands(),
-            Open::ControlString(reader) => reader.ignored_commands(),
         }
     }
 

@@ -71,6 +71,7 @@ impl SixelImage {
 
     /// Creates the image of a decoded payload.
     pub(crate) fn from_picture(picture: DecodedPayload) -> Self
+        requires { length picture.pixels.items ≡ 4 * (picture.width * picture.height) }
         ensures image { image_value result ≡ picture_value picture }
         ensures pixels { length result.pixels.items ≡ 4 * (result.width * result.height) }
     {

@@ -2,7 +2,7 @@
 //!
 //! The contracts of its calls are the records of `DcsCalls` in `sixel_decoder`.
 
-ghost use Rattle.std.specs.Prelude.{◌≡◌, true, false, OnErr};
+ghost use Rattle.std.specs.Prelude.{◌≡◌, ◌*◌, true, false, OnErr, IfOk, length};
 ghost use Rattle.sixel_base.specs.Dcs.{dcs_in_payload};
 ghost use Rattle.sixel_base.specs.Decoder.{IsSetAs};
 ghost use Rattle.sixel_decoder.specs.DcsCalls.{begun, IsFed, IsFinished, IsSizeSoFar};
@@ -138,10 +138,13 @@ impl<'a> SixelDcsStreamDecoder<'a> {
     pub fn finish(self) -> Result<SixelImage>
         ensures finished { IsFinished image_value (λ _. self.exit.0.now.registers)
             (sequence self.entry) result }
+        ensures pixels { IfOk result (λ image.
+            length image.pixels.items ≡ 4 * (image.width * image.height)) }
         ensures set { IsSetAs (sequence_owner self.entry).now self.exit.0.now }
         ensures kept { OnErr result (self.exit.0.now ≡ (sequence_owner self.entry).now) }
     {
         let SixelDcsStreamDecoder { owner, reader } = self;
+        reader.stores_all_rows();
         let picture = reader.finish()?;
         owner.state.registers = picture.registers;
         Ok(SixelImage::from_picture(picture))

@@ -32,6 +32,7 @@ pub struct DrawnImage {
 impl DrawnImage {
     /// Creates the image of a decoded payload.
     pub(crate) fn from_picture(picture: DecodedPayload) -> Self
+        requires { length picture.pixels.items ≡ 4 * (picture.width * picture.height) }
         ensures image { image_value result.image ≡ picture_value picture }
         ensures drawn { result.drawn_height ≡ picture.drawn_height }
         ensures pixels { length result.image.pixels.items

@@ -2,7 +2,7 @@
 //!
 //! The contracts of its calls are the records of `PayloadCalls` in `sixel_decoder`.
 
-ghost use Rattle.std.specs.Prelude.{◌≡◌, ◌<◌, ◌+◌, ◌*◌, ◌≤◌, OnErr, IfOk};
+ghost use Rattle.std.specs.Prelude.{◌≡◌, ◌<◌, ◌+◌, ◌*◌, ◌≤◌, OnErr, IfOk, length};
 ghost use Rattle.sixel_base.specs.Decoder.{IsSetAs, origin_of};
 ghost use Rattle.sixel_base.specs.Payload.{payload_area};
 ghost use Rattle.sixel_decoder.specs.PayloadCalls.{begun, IsFed, IsFinished, IsSizeSoFar};
@@ -128,10 +128,13 @@ impl<'a> SixelStreamDecoder<'a> {
     pub fn finish(self) -> Result<SixelImage>
         ensures finished { IsFinished image_value (λ _. self.exit.0.now.registers)
             (payload self.entry) result }
+        ensures pixels { IfOk result (λ image.
+            length image.pixels.items ≡ 4 * (image.width * image.height)) }
         ensures set { IsSetAs (payload_owner self.entry).now self.exit.0.now }
         ensures kept { OnErr result (self.exit.0.now ≡ (payload_owner self.entry).now) }
     {
         let SixelStreamDecoder { owner, reader } = self;
+        reader.stores_all_rows();
         let picture = reader.finish()?;
         owner.state.registers = picture.registers;
         Ok(SixelImage::from_picture(picture))
@@ -144,6 +147,8 @@ impl<'a> SixelStreamDecoder<'a> {
     pub fn finish_counted(self) -> Result<(SixelImage, u64)>
         ensures finished { IsFinished (λ counted. image_value counted.0)
             (λ _. self.exit.0.now.registers) (payload self.entry) result }
+        ensures pixels { IfOk result (λ counted.
+            length counted.0.pixels.items ≡ 4 * (counted.0.width * counted.0.height)) }
         ensures counted { IfOk result (λ counted. counted.1
             ≡ (payload self.entry).writes + counted.0.width * counted.0.height) }
         ensures at_most { IfOk result

@@ -3,18 +3,14 @@
 //! In SIXEL the drawing position never goes up. Once a graphics new line is read, no byte that
 //! follows changes a row above it.
 
-ghost use Rattle.std.specs.Prelude.{◌≡◌, ◌≤◌, ◌<◌, ◌+◌, ◌^◌, ◌++◌, nat_le, ℕ, List, length};
+ghost use Rattle.std.specs.Prelude.{◌≡◌, ◌≤◌, ◌<◌, ◌+◌, ◌++◌, nat_le, ℕ, List, length};
 ghost use Rattle.sixel_base.specs.Limits.{Limit};
 ghost use Rattle.sixel_base.specs.OneShot.{IsFoundImage};
 ghost use Rattle.sixel_base.specs.Payload.{Image};
 ghost use Rattle.sixel_base.specs.Picture.{picture};
 ghost use Rattle.sixel_base.specs.declared.state.DecoderState.{DecoderState};
-ghost use Rattle.sixel_canvas.specs.Layout.{AreRowsIn};
-ghost use Rattle.sixel_decoder.specs.CopiedImage.{IsEndHeight, IsImageCopied};
-ghost use Rattle.icy_sixel.specs.FinalRows.{final_rows, image_fault, pixel_so_far};
-ghost use Rattle.icy_sixel.specs.FinalRows.{rows_so_far};
-ghost use Rattle.icy_sixel.specs.FinalRows.{AreRowsCopied, AreRowsReleased, IsFinishedInto};
-ghost use Rattle.icy_sixel.specs.FinalRows.{with_released};
+ghost use Rattle.icy_sixel.specs.FinalRows.{final_rows, pixel_so_far, rows_so_far};
+ghost use Rattle.icy_sixel.specs.FinalRows.{with_released, AreRowsCopied, AreRowsReleased};
 ghost use Rattle.icy_sixel.specs.Receiver.{Form, found};
 ghost use Rattle.icy_sixel.specs.inside.Receiving.{reception_of};
 
@@ -22,8 +18,6 @@ use crate::receiver::row_buffer::check_rows;
 use crate::receiver::{Open, SixelReceiver};
 use sixel_base::{Result, SixelError};
 use sixel_canvas::channels::RowLayout;
-use sixel_decoder::{CopiedPayload, ImageShape};
-use std::mem;
 
 impl SixelReceiver {
     /// Returns how many rows from the top of the open image are final.
@@ -92,10 +86,9 @@ impl SixelReceiver {
     ///
     /// The caller has copied them. Then an image that is shown while it comes takes the memory of
     /// the rows between two calls, and not of the image: copy the final rows and release them after
-    /// each [`feed_band`](Self::feed_band). [`finish_into`](Self::finish_into) returns the rows
-    /// that are left. [`finish`](Self::finish) fails, because no memory has the whole image, and
-    /// leaves it open. A number below [`released_rows`](Self::released_rows) changes nothing. The
-    /// call does not allocate.
+    /// each [`feed_band`](Self::feed_band). [`finish`](Self::finish) returns the rows that are left.
+    /// A number below [`released_rows`](Self::released_rows) changes nothing. The call does not
+    /// allocate.
     ///
     /// The error is `InvalidData("rows are not final")` if `rows` is greater than
     /// [`rows_so_far`](Self::rows_so_far).
@@ -129,62 +122,6 @@ impl SixelReceiver {
         let so_far = self.rows_so_far();
         first <= so_far && rows <= so_far - first
     }
-
-    /// Ends the image, and copies its rows from `first` on to the caller's memory.
-    ///
-    /// It does what [`finish`](Self::finish) does, and returns the image without its pixels. The
-    /// rows lie as those of [`copy_rows`](Self::copy_rows). With `first` 0 they are all rows of the
-    /// image, and with the rows that were copied before they are the others. No row is copied if
-    /// crop ends the image above `first`. The call does not allocate.
-    ///
-    /// The errors, in this order, leave the decoder and `out` as they were:
-    ///
-    /// - those of `finish` about the data of the image, which close it,
-    /// - those of `copy_rows` about released rows, the stride and `out`, which leave the image open
-    ///   as it was. The rows take at most those that [`size_so_far`](Self::size_so_far) reports
-    ///   once the image has ended.
-    pub fn finish_into(
-        &mut self,
-        first: usize,
-        layout: RowLayout,
-        out: &mut [u8],
-    ) -> Result<ImageShape>
-        ensures len { length out.new ≡ length out.old }
-        ensures finished { IsFinishedInto self.old self.new first layout out.old out.new result }
-    {
-        let height = match self.end_height() {
-            Ok(height) => height,
-            Err(error) => {
-                self.replace_open(Open::Nothing);
-                return Err(error);
-            }
-        };
-        if self.released_rows() > first {
-            return Err(SixelError::rows_released());
-        }
-        let rows = height.saturating_sub(first);
-        check_rows(layout, rows, out.len())?;
-        let open = mem::replace(&mut self.open, Open::Nothing);
-        match open.finish_into(first, rows, layout, out) {
-            Ok(copied) => {
-                self.decoder.state.registers = copied.registers;
-                Ok(copied.shape)
-            }
-            Err(error) => Err(error),
-        }
-    }
-
-    /// Returns the height of the image if it ends now.
-    fn end_height(&self) -> Result<usize>
-        ensures { IsEndHeight self.now.image.start (found self.now.image.form self.now.image.bytes)
-            (image_fault self.now.image) result }
-    {
-        match &self.open {
-            Open::Nothing => Err(SixelError::stream_failed()),
-            Open::Payload(reader) => reader.end_height(),
-            Open::ControlString(reader) => reader.end_height(),
-        }
-    }
 }
 
 impl Open {
@@ -197,29 +134,6 @@ impl Open {
             Open::Nothing => {}
             Open::Payload(reader) => reader.release_rows(rows),
             Open::ControlString(reader) => reader.release_rows(rows),
-        }
-    }
-
-    /// Ends the image, and copies rows of it to the caller's memory.
-    fn finish_into(
-        self,
-        first: usize,
-        rows: usize,
-        layout: RowLayout,
-        out: &mut [u8],
-    ) -> Result<CopiedPayload>
-        requires stored { (reception_of self).released ≤ first }
-        requires within { first + rows < 2 ^ 64 }
-        requires fits { AreRowsIn layout rows (length out.old) }
-        ensures len { length out.new ≡ length out.old }
-        ensures copied { IsImageCopied (reception_of self).start
-            (found (reception_of self).form (reception_of self).bytes)
-            (image_fault (reception_of self)) first rows layout out.old out.new result }
-    {
-        match self {
-            Open::Nothing => Err(SixelError::stream_failed()),
-            Open::Payload(reader) => reader.finish_into(first, rows, layout, out),
-            Open::ControlString(reader) => reader.finish_into(first, rows, layout, out),
         }
     }
 }

@@ -106,8 +106,8 @@ impl SixelReceiver {
     /// - `finish` of a DCS sequence that has not ended returns its image so far, once its payload
     ///   has begun.
     ///
-    /// [`ignored_commands`](Self::ignored_commands) returns how many commands are ignored, and
-    /// [`has_ended`](Self::has_ended) whether the image is complete.
+    /// The finished image reports how many commands were ignored, and
+    /// [`has_ended`](Self::has_ended) before the end whether it is complete.
     pub fn set_lenient(&mut self, on: bool)
         ensures decoder { self.new.decoder ≡ with_lenient self.old.decoder on }
         ensures image { self.new.image ≡ self.old.image }

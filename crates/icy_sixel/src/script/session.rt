@@ -155,7 +155,7 @@ fn end(receiver: &mut SixelReceiver, fed: Received, ending: End) -> Outcome
         receiver.new.decoder }
 {
     match ending {
-        End::Finish => finished(fed, receiver.finish()),
+        End::Finish => finished(fed, receiver.finish_image()),
         End::Abort => {
             let Received { consumed, status } = fed;
             receiver.abort();

@@ -3,10 +3,10 @@ use Rattle.icy_sixel.proofs.script.session.end.Goals as goal
 
 pub returns-in-Finish : goal.returns-in-Finish
 returns-in-Finish c = λ bytes whole sound counted stands.
-    let told = c.finish.ensures in
+    let told = c.finish_image.ensures.finished c.requires.stored in
     let image = c.args.receiver.now.image in
-    rw c.in-Finish.is (finishes c.finish.result _ c.args.receiver.now.decoder _ image.form
+    rw c.in-Finish.is (finishes c.finish_image.result _ c.args.receiver.now.decoder _ image.form
     image.bytes bytes _ _ c.finished.ensures whole sound counted stands
     (rw c.requires.start at told.as_decoded) (rw c.requires.start at told.ended)
-    (rw (c.requires.accepted, c.requires.start) at (told.error c.requires.stored))
+    (rw (c.requires.accepted, c.requires.start) at told.error)
     told.set told.kept)

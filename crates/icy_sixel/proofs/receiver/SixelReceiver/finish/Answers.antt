@@ -1,88 +1,113 @@
-use Rattle.std.proofs.Common.{◌≡◌, ◌≤◌, ◌*◌, ◌++◌, ℕ, List, None, true, false, ap, sym, ◌∙◌}
+use Rattle.std.proofs.Common.{◌≡◌, ◌≤◌, ◌*◌, ◌++◌, ℕ, List, None, true, false, ap, min, sym, ◌∙◌}
 use Rattle.std.proofs.Common.{subst, refl}
-use Rattle.std.proofs.Common.{Result, Ok, Err, rules, arith}
+use Rattle.std.proofs.Common.{Result, Ok, Err, rules}
 use Rattle.std.specs.Prelude.{IfOk, if◌then◌else◌}
 use Rattle.sixel_base.specs.declared.error.SixelError.{SixelError}
 use Rattle.sixel_base.specs.Dcs.{dcs_status, has_ended}
 use Rattle.sixel_base.specs.DrawnHeight.{found_drawn_height}
+use Rattle.sixel_base.specs.IgnoredCommands.{dcs_ignored, payload_ignored}
+use Rattle.sixel_base.specs.Payload.{Image}
 use Rattle.sixel_base.specs.OneShot.{Payload, found_fault, IsDecodedAs, IsFoundImage}
 use Rattle.sixel_base.specs.OneShot.{AreFoundRegisters}
 use Rattle.sixel_base.specs.OneShot as one_shot
-use Rattle.sixel_decoder.specs.CopiedImage.{decoder_of}
 use Rattle.sixel_decoder.specs.DcsCalls as strings
 use Rattle.sixel_decoder.specs.PayloadCalls as payloads
-use Rattle.sixel_decoder.specs.Session.{Session, DcsSession}
+use Rattle.sixel_decoder.specs.Session.{Session, DcsSession, decoder_of}
 use Rattle.sixel_decoder.specs.declared.decoded_payload.DecodedPayload.{DecodedPayload}
-use Rattle.sixel_decoder.specs.PictureView.{picture_value}
-use Rattle.icy_sixel.specs.Receiver.{Receiver, Reception, found, found_followed, end_fault}
+use Rattle.sixel_decoder.specs.FinalRows.{found_pixel}
+use Rattle.sixel_decoder.specs.PictureView.{whole_image}
+use Rattle.icy_sixel.specs.FinalRows.{pixel_so_far}
+use Rattle.icy_sixel.specs.Receiver.{Receiver, Reception, found, found_followed, end_fault, ignored}
 use Rattle.icy_sixel.specs.inside.Receiving.{reception_of}
 use Rattle.icy_sixel.specs.declared.receiver.Open.TheVariants as opened
 use Rattle.icy_sixel.specs.declared.receiver.SixelReceiver.TheInside.{Inside}
-use Rattle.icy_sixel.proofs.receiver.SixelReceiver.finish_drawn.Goals as goal
-use Rattle.icy_sixel.proofs.receiver.SixelReceiver.finish_drawn.Goals.{in-Nothing, in-Payload}
-use Rattle.icy_sixel.proofs.receiver.SixelReceiver.finish_drawn.Goals.{in-ControlString}
+use Rattle.icy_sixel.proofs.receiver.SixelReceiver.finish.Goals as goal
+use Rattle.icy_sixel.proofs.receiver.SixelReceiver.finish.Goals.{in-Nothing, in-Payload}
+use Rattle.icy_sixel.proofs.receiver.SixelReceiver.finish.Goals.{in-ControlString}
+
+-- the whole image, with the released rows above
+abbrev shown_whole : Reception → DecodedPayload → Image
+shown_whole image = whole_image (found_pixel image.start (found image.form image.bytes))
 
 -- The picture of an image that was finished, and the registers after it.
 record IsPictureOf (image : Reception) (picture : DecodedPayload) : Type 0 where
-  shows : IsFoundImage image.start (found image.form image.bytes) (picture_value picture)
+  shows : IsFoundImage image.start (found image.form image.bytes) (shown_whole image picture)
   registers : AreFoundRegisters image.start (found image.form image.bytes) picture.registers
   decoded : (more : List ℕ)
       → IsDecodedAs image.start (found_followed image.form image.bytes more)
-      (picture_value picture) picture.registers
+      (shown_whole image picture) picture.registers
+  first : picture.first_row ≡ min image.released picture.height
+  ignored : picture.ignored ≡ ignored image.start.pixel_limit image.form image.bytes
   drawn : picture.drawn_height ≡ found_drawn_height image.start (found image.form image.bytes)
   area : picture.width * picture.height ≤ image.start.pixel_limit.pixels
   faultless : found_fault image.start.pixel_limit (found image.form image.bytes) ≡ None
   accepted : image.is_refused ≡ false
-  whole : image.released ≡ 0
   ended : end_fault image.start.pixel_limit image.form image.bytes ≡ None
+
+both : {A : Type 0} (result : Result A SixelError) (P Q : A → Type 0) → IfOk result P
+    → IfOk result Q → IfOk result (λ a. P a × Q a)
+both (Ok a) P Q p q = (p, q)
+both (Err e) P Q p q = tt
 
 abbrev Finished : Result DecodedPayload SixelError → Reception → Type 0
 Finished result image = IfOk result (IsPictureOf image)
 
 payload_finished : (result : Result DecodedPayload SixelError) (session : Session)
-    → payloads.IsFinished picture_value (λ picture. picture.registers) session result
+    → payloads.IsFinished
+    (whole_image (found_pixel (decoder_of session.origin)
+    (Payload session.origin.settings session.bytes)))
+    (λ picture. picture.registers) session result
     → IfOk result (λ picture. picture.drawn_height
     ≡ found_drawn_height (decoder_of session.origin)
     (Payload session.origin.settings session.bytes))
+    → IfOk result (λ picture. (picture.first_row ≡ min session.released picture.height)
+    × (picture.ignored ≡ payload_ignored session.origin.pixel_limit session.bytes))
     → Finished result (reception_of (opened.Payload session))
-payload_finished (Ok picture) session is drawn = record {
+payload_finished (Ok picture) session is drawn more = record {
   shows = is.image;
   registers = is.registers;
-  decoded = λ more. (is.faultless, is.image, is.registers);
+  decoded = λ left. (is.faultless, is.image, is.registers);
   drawn = drawn;
   area = is.area;
   faultless = is.faultless;
   accepted = is.accepted;
-  whole = is.whole;
+  first = more.0;
+  ignored = more.1;
   ended = is.faultless;
 }
-payload_finished (Err e) session is drawn = tt
+payload_finished (Err e) session is drawn more = tt
 
 string_finished : (result : Result DecodedPayload SixelError) (session : DcsSession)
-    → strings.IsFinished picture_value (λ picture. picture.registers) session result
+    → strings.IsFinished
+    (whole_image (found_pixel session.decoder (one_shot.found session.bytes)))
+    (λ picture. picture.registers) session result
     → IfOk result (λ picture.
     picture.drawn_height ≡ found_drawn_height session.decoder (one_shot.found session.bytes))
+    → IfOk result (λ picture. (picture.first_row ≡ min session.released picture.height)
+    × (picture.ignored ≡ dcs_ignored session.decoder.pixel_limit session.bytes))
     → Finished result (reception_of (opened.ControlString session))
-string_finished (Ok picture) session is drawn = record {
+string_finished (Ok picture) session is drawn more = record {
   shows = is.found_image;
   registers = is.found_registers;
-  decoded = λ more.
+  decoded = λ left.
       (elim (has_ended (dcs_status session.bytes)) as
       (λ t. has_ended (dcs_status session.bytes) ≡ t
       → IsDecodedAs session.decoder
-      (one_shot.found (if t then session.bytes ++ more else session.bytes))
-      (picture_value picture) picture.registers) [
-        | true ↦ λ over. is.as_decoded more over
+      (one_shot.found (if t then session.bytes ++ left else session.bytes))
+      (whole_image (found_pixel session.decoder (one_shot.found session.bytes)) picture)
+      picture.registers) [
+        | true ↦ λ over. is.as_decoded left over
         | false ↦ λ on. (is.faultless, is.found_image, is.found_registers)
       ]) refl;
   drawn = drawn;
   area = is.area;
   faultless = is.faultless;
   accepted = is.accepted;
-  whole = is.whole;
+  first = more.0;
+  ignored = more.1;
   ended = rw is.ended refl;
 }
-string_finished (Err e) session is drawn = tt
+string_finished (Err e) session is drawn more = tt
 
 -- the picture is that of the image that was open
 is_picture : (c : goal.After-from_picture)
@@ -101,37 +126,48 @@ is_picture c =
           rw w.branch'-is
           (subst (Finished w.finish.result) (sym (ap reception_of w.in-Payload.is) ∙ held)
           (payload_finished w.finish.result w.in-Payload.reader w.finish.ensures.finished
-          w.finish.ensures.drawn))
+          w.finish.ensures.drawn
+          (both w.finish.result _ _ w.finish.ensures.first w.finish.ensures.ignored)))
       | in-ControlString w ↦
           let done = w.finish-in-ControlString in
           rw w.branch'-is
           (subst (Finished done.result) (sym (ap reception_of w.in-ControlString.is) ∙ held)
           (string_finished done.result w.in-ControlString.reader done.ensures.finished
-          done.ensures.drawn))
+          done.ensures.drawn
+          (both done.result _ _ done.ensures.first done.ensures.ignored)))
     ] in
     subst (λ r. Finished r image) was finished
+
+pub returns-clause-first : goal.returns-clause-first
+returns-clause-first c =
+    let image : Reception = c.args.self.now.image in
+    let done = c.from_picture.ensures in
+    let shown = done.image (pixel_so_far image.start image.form image.bytes) in
+    done.first ∙ (is_picture c).first
+    ∙ ap (λ (i : Image). min image.released i.height) (sym shown)
 
 pub returns-clause-drawn : goal.returns-clause-drawn
 returns-clause-drawn c = c.from_picture.ensures.drawn ∙ (is_picture c).drawn
 
+pub returns-clause-ignored : goal.returns-clause-ignored
+returns-clause-ignored c = c.from_picture.ensures.ignored ∙ (is_picture c).ignored
+
 pub returns-clause-finished : goal.returns-clause-finished
 returns-clause-finished c =
     let is : IsPictureOf c.args.self.now.image c.in_ok-picture.picture = is_picture c in
-    let shown = c.from_picture.ensures.image in
+    let image : Reception = c.args.self.now.image in
+    let shown = c.from_picture.ensures.image (pixel_so_far image.start image.form image.bytes) in
     record {
       closed = search rules;
       image = rw shown is.shows;
       registers = is.registers;
       as_decoded = λ more. rw shown (is.decoded more);
-      area = rw (ap (λ i. i.width) shown, ap (λ i. i.height) shown) is.area;
-      pixels = c.from_picture.ensures.pixels;
+      area = rw (ap (λ (i : Image). i.width) shown, ap (λ (i : Image). i.height) shown) is.area;
       set = search rules;
       faultless = is.faultless;
       accepted = is.accepted;
-      whole = is.whole;
-      released = λ some. absurd (omega (arith, some, is.whole));
       ended = is.ended;
       kept = tt;
-      error = λ none. tt;
+      error = tt;
       refused = λ settings error form failed. absurd cc;
     }

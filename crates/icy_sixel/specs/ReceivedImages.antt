@@ -1,0 +1,45 @@
+-- An image that a receiver has finished. Rows that were released are the caller's: the pixels are
+-- those of the rows below them. Which image that is, by DEC's manual, is in Payload of sixel_base.
+use Rattle.std.specs.Prelude.{ℕ, ◌+◌, ◌-◌, ◌*◌, nat_lt, if◌then◌else◌, List, [], ◌∷◌, ◌++◌, Option}
+use Rattle.std.specs.Prelude.{Some}
+use Rattle.sixel_base.specs.CallFault.{CallFault, RowsNotFinal, RowsReleased}
+use Rattle.sixel_base.specs.Payload.{Image}
+use Rattle.sixel_base.specs.Picture.{picture}
+use Rattle.sixel_canvas.specs.Layout.{stored_pixel}
+use Rattle.sixel_canvas.specs.declared.channels.RowLayout.{RowLayout}
+use Rattle.icy_sixel.specs.FinalRows.{layout_fault}
+use Rattle.icy_sixel.specs.declared.receiver.received_image.ReceivedImage.{ReceivedImage}
+use Rattle.icy_sixel.specs.declared.sixel_image.SixelImage.{SixelImage}
+
+-- the whole image, whose picture has these pixels: the released rows are above those that are left
+abbrev pub whole_value : (ℕ → ℕ → List ℕ) → ReceivedImage → Image
+whole_value shown image = record {
+  pixels = picture shown image.width image.first_row ++ image.pixels.items;
+  width = image.width;
+  height = image.height;
+  aspect_ratio = image.aspect_ratio;
+  background_mode = image.background_mode;
+}
+
+-- the image of the rows that are left
+abbrev pub left_image : ReceivedImage → SixelImage
+left_image image = record {
+  pixels = image.pixels;
+  width = image.width;
+  height = image.height;
+  aspect_ratio = image.aspect_ratio;
+  background_mode = image.background_mode;
+}
+
+-- the pixel at this place of the rows that are left, and a transparent one right of the image
+abbrev pub received_pixel : ReceivedImage → ℕ → ℕ → List ℕ
+received_pixel image column row =
+    stored_pixel image.pixels.items image.width (image.height - image.first_row)
+    (0 ∷ 0 ∷ 0 ∷ 0 ∷ []) column (row - image.first_row)
+
+-- what is wrong with a copy of so many rows of the image from this one on
+abbrev pub received_fault : ReceivedImage → ℕ → ℕ → RowLayout → ℕ → Option CallFault
+received_fault image first rows layout len =
+    if nat_lt image.height (first + rows) then Some RowsNotFinal
+    else if nat_lt first image.first_row then Some RowsReleased
+    else layout_fault layout rows len

@@ -1,0 +1,140 @@
+//! An image that a receiver has finished, and copies of its rows.
+
+ghost use Rattle.std.specs.Prelude.{◌≡◌, ℕ, ◌-◌, ◌*◌, ◌/◌, ◌%◌, ◌<◌, List, length, slice_index};
+ghost use Rattle.std.specs.Prelude.{Some, Ok, IfOk};
+ghost use Rattle.sixel_base.specs.CallFault.{FailsBy, RowsReleased};
+ghost use Rattle.sixel_canvas.specs.Layout.{in_order};
+ghost use Rattle.sixel_canvas.specs.inside.FinalRows.{pixel_at};
+ghost use Rattle.sixel_decoder.specs.PictureView.{whole_image};
+
+use crate::receiver::row_buffer::check_rows;
+use crate::sixel_image::{BackgroundMode, PixelAspectRatio, SixelImage};
+use sixel_base::{Result, SixelError};
+use sixel_canvas::channels::{ChannelOrder, RowLayout, reorder};
+use sixel_canvas::stored_rows::StoredRows;
+use sixel_decoder::DecodedPayload;
+
+/// An image that was received, without the rows that were released.
+#[derive(Debug, Drop)]
+pub struct ReceivedImage {
+    /// The pixels of the rows from `first_row` on: red, green, blue, alpha.
+    pub pixels: Vec<u8>,
+    /// Pixels in a row.
+    pub width: usize,
+    /// Rows of the whole image.
+    pub height: usize,
+    /// How many rows from the top were released, at most the height.
+    pub first_row: usize,
+    /// Rows down to the last one with a set pixel, or 0 if there is none.
+    ///
+    /// It is at most the height, because crop can end an image above that row.
+    pub drawn_height: usize,
+    /// How many commands were ignored, if the image is lenient. The number saturates.
+    pub ignored_commands: u64,
+    /// The shape of a pixel.
+    pub aspect_ratio: PixelAspectRatio,
+    /// Whether pixels that were not drawn are opaque or transparent.
+    pub background_mode: BackgroundMode,
+    pub ghost rows: { length pixels.items ≡ 4 * (width * (height - first_row)) },
+}
+
+impl ReceivedImage {
+    ghost use Rattle.icy_sixel.specs.FinalRows.{IsRowCopy};
+    ghost use Rattle.icy_sixel.specs.ReceivedImages.{left_image, received_fault, received_pixel};
+    ghost use Rattle.icy_sixel.specs.ReceivedImages.{whole_value};
+
+    /// Creates the image of a decoded payload.
+    pub(crate) fn from_picture(picture: DecodedPayload) -> Self
+        ensures image { (shown : ℕ → ℕ → List ℕ)
+            → whole_value shown result ≡ whole_image shown picture }
+        ensures first { result.first_row ≡ picture.first_row }
+        ensures drawn { result.drawn_height ≡ picture.drawn_height }
+        ensures ignored { result.ignored_commands ≡ picture.ignored }
+    {
+        Self {
+            pixels: picture.pixels,
+            width: picture.width,
+            height: picture.height,
+            first_row: picture.first_row,
+            drawn_height: picture.drawn_height,
+            ignored_commands: picture.ignored,
+            aspect_ratio: picture.aspect_ratio,
+            background_mode: picture.background_mode,
+        }
+    }
+
+    /// Copies rows of the image to the caller's memory, as often as the caller calls it.
+    ///
+    /// The rows are `first` up to before `first + rows`. They lie as those of
+    /// [`SixelReceiver::copy_rows`]. Columns on the right of the image are transparent. The call
+    /// does not allocate.
+    ///
+    /// The errors, in this order, leave `out` as it was:
+    ///
+    /// - `InvalidData("rows are not final")`: `first + rows` is greater than the height.
+    /// - `InvalidData("rows were released")`: `first` is less than `first_row`.
+    /// - The errors about the layout and the length of `out` that `SixelReceiver::copy_rows` has.
+    ///
+    /// [`SixelReceiver::copy_rows`]: crate::SixelReceiver::copy_rows
+    pub fn copy_rows(
+        &self,
+        first: usize,
+        rows: usize,
+        layout: RowLayout,
+        out: &mut [u8],
+    ) -> Result<()>
+        ensures len { length out.new ≡ length out.old }
+        ensures copied { IsRowCopy (received_fault self.now first rows layout (length out.old))
+            (received_pixel self.now) first rows layout out.old out.new result }
+    {
+        if first > self.height || rows > self.height - first {
+            return Err(SixelError::rows_not_final());
+        }
+        if first < self.first_row {
+            return Err(SixelError::rows_released());
+        }
+        check_rows(layout, rows, out.len())?;
+        let stored = StoredRows {
+            bytes: &self.pixels,
+            width: self.width,
+            rows: self.height - self.first_row,
+            background: [0, 0, 0, 0],
+        };
+        stored.copy(first - self.first_row, rows, layout, out);
+        Ok(())
+    }
+
+    /// Returns the whole image. No pixel is copied.
+    ///
+    /// The error is `InvalidData("rows were released")` if no memory has all rows.
+    pub fn into_image(self) -> Result<SixelImage>
+        ensures whole { self.first_row ≡ 0 → result ≡ Ok (left_image self) }
+        ensures released { 0 < self.first_row → FailsBy (Some RowsReleased) result }
+        ensures pixels { IfOk result (λ image.
+            length image.pixels.items ≡ 4 * (image.width * image.height)) }
+    {
+        if self.first_row > 0 {
+            return Err(SixelError::rows_released());
+        }
+        Ok(SixelImage {
+            pixels: self.pixels,
+            width: self.width,
+            height: self.height,
+            aspect_ratio: self.aspect_ratio,
+            background_mode: self.background_mode,
+        })
+    }
+
+    /// Returns the pixels of the rows from `first_row` on, in this order of channels.
+    ///
+    /// Red and blue are exchanged in place, so no pixel is copied and the call does not allocate.
+    pub fn into_pixels(self, order: ChannelOrder) -> Vec<u8>
+        ensures len { length result.items ≡ length self.pixels.items }
+        ensures ordered { (i : ℕ) → i < length self.pixels.items → slice_index result.items i
+            ≡ slice_index (in_order order (pixel_at self.pixels.items (i / 4))) (i % 4) }
+    {
+        let mut pixels = self.pixels;
+        reorder(&mut pixels, order);
+        pixels
+    }
+}
