@@ -1,7 +1,7 @@
 -- What a session that was fed some of the bytes shows about the DCS sequence at their start.
 use Rattle.std.proofs.Common.{◌≡◌, ℕ, ◌<◌, ◌≤◌, Bool, true, false, List, [], ◌∷◌, ◌++◌, refl, ap}
 use Rattle.std.proofs.Common.{sym, ◌∙◌, subst, arith, length, length-append, Option, Some, None}
-use Rattle.std.specs.Prelude.{◌==◌, IsSomeAnd}
+use Rattle.std.specs.Prelude.{◌==◌, if◌then◌else◌, IsSomeAnd}
 use Rattle.std.specs.Option.{option_or}
 use Rattle.std.proofs.lemmas.Bool.{false≢true}
 use Rattle.std.proofs.lemmas.Option.{none-some}
@@ -11,12 +11,14 @@ use Rattle.sixel_base.specs.declared.error.SixelError.TheVariants.{InvalidDimens
 use Rattle.sixel_base.specs.declared.error.SixelError.TheVariants.{BufferSizeMismatch, InvalidData}
 use Rattle.sixel_base.specs.declared.error.SixelError.TheVariants.{NoSixelData, IntegerOverflow}
 use Rattle.sixel_base.specs.declared.error.SixelError.TheVariants.{OutOfMemory}
-use Rattle.sixel_base.specs.Fault.{Fault, Faults, IsFault}
+use Rattle.sixel_base.specs.Fault.{Fault, Faults, Incomplete, IsFault}
 use Rattle.sixel_base.specs.declared.status.SixelDcsFeedStatus.{SixelDcsFeedStatus}
 use Rattle.sixel_base.specs.declared.status.SixelDcsFeedStatus.TheVariants.{NeedMoreData, Complete}
 use Rattle.sixel_base.specs.declared.status.SixelDcsFeedStatus.TheVariants.{Cancelled, Interrupted}
-use Rattle.sixel_base.specs.Dcs.{dcs_status, dcs_fault, has_ended, end_fault}
+use Rattle.sixel_base.specs.Dcs.{can_finish, dcs_status, dcs_fault, has_ended, end_fault}
+use Rattle.sixel_base.specs.Dcs.{IsSameString}
 use Rattle.sixel_base.specs.Limits.{Limit}
+use Rattle.icy_sixel.proofs.Chunks.{ended_finishes}
 use Rattle.sixel.specs.Sequences.{sequence_fault}
 
 -- a list whose length is 0 is empty
@@ -39,7 +41,7 @@ pub begins_fits : (fed bytes : List ℕ) → Begins fed bytes → length fed ≤
 begins_fits fed bytes b = omega (arith, length-append fed b.rest, ap length b.joined)
 
 sequence_fault-some : (limit : Limit) (bytes : List ℕ) → 0 < length bytes
-    → sequence_fault limit bytes ≡ option_or (dcs_fault limit bytes) (end_fault (dcs_status bytes))
+    → sequence_fault limit bytes ≡ option_or (dcs_fault limit bytes) (end_fault limit bytes)
 sequence_fault-some limit [] some = absurd (omega arith)
 sequence_fault-some limit (byte ∷ bytes) some = refl
 
@@ -73,7 +75,7 @@ refused_early e may limit bytes some is =
     Faults-weaker e may (dcs_fault limit bytes) (sequence_fault limit bytes)
     (λ f found.
     sequence_fault-some limit bytes some
-    ∙ ap (λ o. option_or o (end_fault (dcs_status bytes))) found)
+    ∙ ap (λ o. option_or o (end_fault limit bytes)) found)
     is
 
 -- a sequence that has not ended waits for more
@@ -83,53 +85,82 @@ goes_on Complete going = absurd (false≢true going)
 goes_on (Cancelled byte) going = absurd (false≢true going)
 goes_on (Interrupted byte) going = absurd (false≢true going)
 
-no_end_fault : (status : SixelDcsFeedStatus) → has_ended status ≡ true → end_fault status ≡ None
-no_end_fault NeedMoreData ended = absurd cc
-no_end_fault Complete ended = refl
-no_end_fault (Cancelled byte) ended = refl
-no_end_fault (Interrupted byte) ended = refl
+-- and one that cannot be finished has not ended
+waits_unfinished : (limit : Limit) (fed : List ℕ) (f : Fault) → end_fault limit fed ≡ Some f
+    → dcs_status fed ≡ NeedMoreData
+waits_unfinished limit fed f found =
+    (elim (has_ended (dcs_status fed)) as
+    (λ t. has_ended (dcs_status fed) ≡ t → dcs_status fed ≡ NeedMoreData) [
+      | true ↦ λ ended.
+          absurd (none-some f (sym (ap (λ t. if t then None else Some Incomplete)
+          (ended_finishes limit fed ended)) ∙ found))
+      | false ↦ λ going. goes_on _ (sym going)
+    ]) refl
 
--- a sequence that has ended without a fault has none
-pub ended_faultless : (limit : Limit) (bytes : List ℕ) → 0 < length bytes
-    → has_ended (dcs_status bytes) ≡ true → dcs_fault limit bytes ≡ None
+-- a sequence that can be finished and has no fault so far has none
+pub finished_faultless : (limit : Limit) (bytes : List ℕ) → 0 < length bytes
+    → can_finish limit bytes ≡ true → dcs_fault limit bytes ≡ None
     → sequence_fault limit bytes ≡ None
-ended_faultless limit bytes some ended faultless =
+finished_faultless limit bytes some finishes faultless =
     sequence_fault-some limit bytes some
-    ∙ ap (λ o. option_or o (end_fault (dcs_status bytes))) faultless
-    ∙ no_end_fault (dcs_status bytes) ended
+    ∙ ap (λ o. option_or o (end_fault limit bytes)) faultless
+    ∙ ap (λ t. if t then None else Some Incomplete) finishes
 
-at_end : (e : SixelError) (limit : Limit) (fed bytes : List ℕ) (status : SixelDcsFeedStatus)
-    → dcs_status fed ≡ status → 0 < length bytes → dcs_fault limit fed ≡ None
-    → (status ≡ NeedMoreData → fed ≡ bytes)
-    → Faults e (has_ended status) (end_fault status) → Faults e true (sequence_fault limit bytes)
-at_end e limit fed bytes NeedMoreData is some none enough wrong =
-    let whole = enough refl in
-    let fault : sequence_fault limit bytes ≡ end_fault NeedMoreData =
-    sequence_fault-some limit bytes some
-    ∙ (ap (λ b. option_or (dcs_fault limit b) (end_fault (dcs_status b))) (sym whole)
-    ∙ (ap (λ o. option_or o (end_fault (dcs_status fed))) none ∙ ap end_fault is)) in
-    Faults-weaker e false _ (sequence_fault limit bytes) (λ f found. fault ∙ found) wrong
-at_end e limit fed bytes Complete is some none enough wrong =
-    Faults-weaker e true None (sequence_fault limit bytes) (λ f found. absurd (none-some f found))
-    wrong
-at_end e limit fed bytes (Cancelled byte) is some none enough wrong =
-    Faults-weaker e true None (sequence_fault limit bytes) (λ f found. absurd (none-some f found))
-    wrong
-at_end e limit fed bytes (Interrupted byte) is some none enough wrong =
-    Faults-weaker e true None (sequence_fault limit bytes) (λ f found. absurd (none-some f found))
-    wrong
+-- one that has no fault at its end can be finished
+pub finishes_faultless : (limit : Limit) (bytes : List ℕ) → end_fault limit bytes ≡ None
+    → can_finish limit bytes ≡ true
+finishes_faultless limit bytes =
+    elim (can_finish limit bytes) as (λ t. (if t then None else Some Incomplete) ≡ None → t ≡ true) [
+      | true ↦ λ none. refl
+      | false ↦ λ none. absurd (none-some _ (sym none))
+    ]
+
+-- the sequence that was fed is that of all bytes: it has ended, or all were fed
+pub same_fed : (limit : Limit) (fed bytes : List ℕ)
+    → (has_ended (dcs_status fed) ≡ true → IsSameString limit fed bytes)
+    → (dcs_status fed ≡ NeedMoreData → fed ≡ bytes) → IsSameString limit fed bytes
+same_fed limit fed bytes over enough =
+    (elim (has_ended (dcs_status fed)) as
+    (λ t. has_ended (dcs_status fed) ≡ t → IsSameString limit fed bytes) [
+      | true ↦ λ ended. over ended
+      | false ↦ λ going.
+          subst (λ (w : List ℕ). IsSameString limit fed w) (enough (goes_on _ (sym going)))
+          (record { count = refl; status = refl; fault = refl })
+    ]) refl
+
+-- and can be finished as it can
+pub finishes_fed : (limit : Limit) (fed bytes : List ℕ) → dcs_status bytes ≡ dcs_status fed
+    → (dcs_status fed ≡ NeedMoreData → fed ≡ bytes) → can_finish limit fed ≡ true
+    → can_finish limit bytes ≡ true
+finishes_fed limit fed bytes stands enough finishes =
+    (elim (has_ended (dcs_status fed)) as
+    (λ t. has_ended (dcs_status fed) ≡ t → can_finish limit bytes ≡ true) [
+      | true ↦ λ ended. ended_finishes limit bytes (ap has_ended stands ∙ ended)
+      | false ↦ λ going.
+          subst (λ (w : List ℕ). can_finish limit w ≡ true) (enough (goes_on _ (sym going)))
+          finishes
+    ]) refl
+
+-- with the rest, if it has ended, it makes up all bytes
+pub followed_joined : (fed rest bytes : List ℕ) → fed ++ rest ≡ bytes
+    → (dcs_status fed ≡ NeedMoreData → fed ≡ bytes)
+    → (if has_ended (dcs_status fed) then fed ++ rest else fed) ≡ bytes
+followed_joined fed rest bytes joined enough =
+    (elim (has_ended (dcs_status fed)) as
+    (λ t. has_ended (dcs_status fed) ≡ t → (if t then fed ++ rest else fed) ≡ bytes) [
+      | true ↦ λ ended. joined
+      | false ↦ λ going. enough (goes_on _ (sym going))
+    ]) refl
 
 -- an error at the end of what was fed is the sequence's fault, or an allocation failed
 pub refused_at_end : (e : SixelError) (limit : Limit) (fed bytes : List ℕ) → 0 < length bytes
     → dcs_fault limit fed ≡ None → (dcs_status fed ≡ NeedMoreData → fed ≡ bytes)
-    → Faults e (has_ended (dcs_status fed)) (end_fault (dcs_status fed))
+    → Faults e (can_finish limit fed) (end_fault limit fed)
     → Faults e true (sequence_fault limit bytes)
-refused_at_end e limit fed bytes = at_end e limit fed bytes (dcs_status fed) refl
-
--- a status without a fault at the end has ended
-pub has_ended-faultless : (status : SixelDcsFeedStatus) → end_fault status ≡ None
-    → has_ended status ≡ true
-has_ended-faultless NeedMoreData none = absurd (none-some _ (sym none))
-has_ended-faultless Complete none = refl
-has_ended-faultless (Cancelled byte) none = refl
-has_ended-faultless (Interrupted byte) none = refl
+refused_at_end e limit fed bytes some none enough wrong =
+    Faults-weaker e (can_finish limit fed) (end_fault limit fed) (sequence_fault limit bytes)
+    (λ f found.
+    sequence_fault-some limit bytes some
+    ∙ ap (λ (b : List ℕ). option_or (dcs_fault limit b) (end_fault limit b))
+    (sym (enough (waits_unfinished limit fed f found)))
+    ∙ ap (λ o. option_or o (end_fault limit fed)) none ∙ found) wrong

@@ -66,12 +66,11 @@ writes_none now rest a none = (
   Appends-nil a,
 )
 
--- ---- a sequence that has ended
+-- ---- a sequence with an image
 
--- The sequence that the bytes begin with has ended, with this image, and leaves this decoder.
+-- The sequence that the bytes begin with has this image, and leaves this decoder.
 pub record HasEnded (now : DecoderState) (bytes : List ℕ) (image : Image) (after : DecoderState)
     : Type 0 where
-  pub ended : has_ended (dcs_status bytes) ≡ true
   pub faultless : sequence_fault now.pixel_limit bytes ≡ None
   pub shows : IsFoundImage now (found bytes) image
   pub leaves : AreFoundRegisters now (found bytes) after.registers
@@ -106,7 +105,7 @@ begins_by now after bytes image Complete is sequence =
           sequence.leaves sequence.set wanting,
     )
 begins_by now after bytes image NeedMoreData is sequence =
-    absurd (false≢true (ap has_ended (sym is) ∙ sequence.ended))
+    begins_last now after bytes image sequence (ap is_cut_short is)
 begins_by now after bytes image (Cancelled byte) is sequence =
     begins_last now after bytes image sequence (ap is_cut_short is)
 begins_by now after bytes image (Interrupted byte) is sequence =
@@ -249,15 +248,15 @@ stands_last start bytes now rest a b none (Leading l) =
     Serves-led {A = Unit {0}} (Ok tt) start bytes now rest a b b l (writes_none now rest b none)
 stands_last start bytes now rest a b none (Whole _ written) = written
 
--- a sequence that has ended is complete or ended early
+-- a sequence is complete or cut short
 abbrev EndsBy : SixelDcsFeedStatus → Type 0
 EndsBy status = (status ≡ Complete) ⊎ (is_cut_short status ≡ true)
 
-ends_by : (status : SixelDcsFeedStatus) → has_ended status ≡ true → EndsBy status
-ends_by NeedMoreData ended = absurd (false≢true ended)
-ends_by Complete ended = inl refl
-ends_by (Cancelled byte) ended = inr refl
-ends_by (Interrupted byte) ended = inr refl
+ends_by : (status : SixelDcsFeedStatus) → EndsBy status
+ends_by NeedMoreData = inr refl
+ends_by Complete = inl refl
+ends_by (Cancelled byte) = inr refl
+ends_by (Interrupted byte) = inr refl
 
 -- the bytes to read after a sequence: none if it ended early
 pub record Follows (bytes after : List ℕ) : Type 0 where
@@ -277,10 +276,9 @@ smaller_by bytes after (inl whole) f some =
 smaller_by bytes after (inr cut) f some = omega (arith, some, ap length (f.cut_short cut))
 
 -- these are fewer
-pub follows_smaller : (bytes after : List ℕ) → has_ended (dcs_status bytes) ≡ true
-    → Follows bytes after → 0 < length bytes → length after < length bytes
-follows_smaller bytes after ended f some =
-    smaller_by bytes after (ends_by (dcs_status bytes) ended) f some
+pub follows_smaller : (bytes after : List ℕ) → Follows bytes after → 0 < length bytes
+    → length after < length bytes
+follows_smaller bytes after f some = smaller_by bytes after (ends_by (dcs_status bytes)) f some
 
 stands_by : (start : DecoderState) (bytes : List ℕ) (now next : DecoderState) (rest after : List ℕ)
     (image : Image) (a b c : Option (List ℕ)) → EndsBy (dcs_status rest)
@@ -300,5 +298,5 @@ pub stands_more : (start : DecoderState) (bytes : List ℕ) (now next : DecoderS
     → HasEnded now rest image next → Follows rest after → Appends b c (image_form image)
     → Leads start bytes now rest a b → Stands start bytes next after a c
 stands_more start bytes now next rest after image a b c sequence f grown l =
-    stands_by start bytes now next rest after image a b c (ends_by (dcs_status rest) sequence.ended)
-    sequence f grown l
+    stands_by start bytes now next rest after image a b c (ends_by (dcs_status rest)) sequence f
+    grown l

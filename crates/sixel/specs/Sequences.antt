@@ -24,7 +24,7 @@ use Rattle.sixel.specs.Ending.{Ending, Done, Refused}
 abbrev pub sequence_fault : Limit → List ℕ → Option Fault
 sequence_fault limit [] = None
 sequence_fault limit (byte ∷ bytes) =
-    option_or (dcs_fault limit (byte ∷ bytes)) (end_fault (dcs_status (byte ∷ bytes)))
+    option_or (dcs_fault limit (byte ∷ bytes)) (end_fault limit (byte ∷ bytes))
 
 -- A sequence was fed in chunks of this length, counted from its own first byte, and in no more of
 -- them than it took to end. The last chunk can be shorter if no byte is left. If the sequence has
@@ -36,12 +36,11 @@ pub record IsFedInChunks (chunk_len : ℕ) (bytes fed : List ℕ) : Type 0 where
       → dcs_status (take (fewer * chunk_len) bytes) ≡ NeedMoreData
   pub enough : dcs_status fed ≡ NeedMoreData → fed ≡ bytes
 
--- whether a sequence ended before its terminator
+-- whether a sequence ended before its terminator; one that has not ended has a fault, unless the
+-- decoder is lenient
 abbrev pub is_cut_short : SixelDcsFeedStatus → Bool
-is_cut_short NeedMoreData = false
 is_cut_short Complete = false
-is_cut_short (Cancelled byte) = true
-is_cut_short (Interrupted byte) = true
+is_cut_short status = true
 
 -- By this decoder, this is the output for these bytes, and so it ends.
 pub data IsSequencesOutput : DecoderState → List ℕ → List ℕ → Ending → Type 0 where

@@ -84,7 +84,6 @@ fn write_sequence<'a, O: Write>(
     ensures registers { OnOk result
         (AreFoundRegisters receiver.old.decoder (found bytes.now) receiver.new.decoder.registers) }
     ensures set { OnOk result (IsSetAs receiver.old.decoder receiver.new.decoder) }
-    ensures ended { OnOk result (has_ended (dcs_status bytes.now) ≡ true) }
     ensures faultless { OnOk result
         (sequence_fault receiver.old.decoder.pixel_limit bytes.now ≡ None) }
     ensures complete { IfOk result (λ after. dcs_status bytes.now ≡ Complete
@@ -150,7 +149,6 @@ fn read_sequence(
     ensures len { IfOk result (λ sequence. sequence.len ≡ dcs_count bytes.now) }
     ensures within { IfOk result (λ sequence. sequence.len ≤ length bytes.now) }
     ensures status { IfOk result (λ sequence. sequence.status ≡ Dcs (dcs_status bytes.now)) }
-    ensures ended { OnOk result (has_ended (dcs_status bytes.now) ≡ true) }
     ensures faultless { OnOk result
         (sequence_fault receiver.old.decoder.pixel_limit bytes.now ≡ None) }
     ensures refused { IfErr result (λ error. Faults error true
@@ -158,7 +156,7 @@ fn read_sequence(
 {
     receiver.begin_dcs(alloc);
     let fed = feed_chunks(receiver, chunk_len, bytes)?;
-    let image = receiver.finish()?;
+    let image = receiver.finish_image()?;
     Ok(Sequence {
         image,
         len: fed.consumed,

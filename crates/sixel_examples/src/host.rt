@@ -50,7 +50,7 @@ impl Terminal {
             self.receiver.feed(chunk)?;
             rest = after;
         }
-        self.receiver.finish()
+        self.receiver.finish_image()
     }
 
     /// Decodes a DCS sequence in chunks of so many bytes.
@@ -78,6 +78,6 @@ impl Terminal {
             self.receiver.feed(chunk)?;
             rest = after;
         }
-        self.receiver.finish()
+        self.receiver.finish_image()
     }
 }

@@ -20,10 +20,10 @@ pub fn read(receiver: &mut SixelReceiver, bytes: &[u8]) -> Result<Came> {
     let received = receiver.feed(bytes)?;
     match received.status {
         Status::Dcs(SixelDcsFeedStatus::Complete) => {
-            Ok(Came::Whole(receiver.finish()?, received.consumed))
+            Ok(Came::Whole(receiver.finish_image()?, received.consumed))
         }
         Status::Dcs(SixelDcsFeedStatus::Cancelled(_) | SixelDcsFeedStatus::Interrupted(_)) => {
-            Ok(Came::CutShort(receiver.finish()?, received.consumed))
+            Ok(Came::CutShort(receiver.finish_image()?, received.consumed))
         }
         _ => Ok(Came::Part),
     }

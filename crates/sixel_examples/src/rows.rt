@@ -1,6 +1,6 @@
 //! A window that shows the rows of an image before it ends.
 
-use icy_sixel::{ChannelOrder, ImageShape, Result, RowLayout, SixelReceiver};
+use icy_sixel::{ChannelOrder, ReceivedImage, Result, RowLayout, SixelReceiver};
 
 /// How rows lie in the memory of a window: 640 columns in BGRA.
 pub const WINDOW: RowLayout = RowLayout {
@@ -34,7 +34,10 @@ pub fn draw_rest(
     receiver: &mut SixelReceiver,
     drawn: usize,
     window: &mut [u8],
-) -> Result<ImageShape> {
+) -> Result<ReceivedImage> {
+    let image = receiver.finish()?;
     let start = drawn.saturating_mul(WINDOW.stride).min(window.len());
-    receiver.finish_into(drawn, WINDOW, &mut window[start..])
+    let rows = image.height.saturating_sub(image.first_row);
+    image.copy_rows(image.first_row, rows, WINDOW, &mut window[start..])?;
+    Ok(image)
 }

@@ -45,7 +45,7 @@ impl Images {
             Status::Payload(SixelFeedStatus::Terminated(_))
         );
         let image = if has_ended {
-            Some(self.receiver.finish()?)
+            Some(self.receiver.finish_image()?)
         } else {
             None
         };

@@ -2,11 +2,11 @@
 
 use crate::vectors::error::{Result, VectorError, ensure};
 use crate::vectors::notation::{
-    bytes, color, push_error, push_fed, push_hexadecimal, push_outcome,
+    bytes, color, push_error, push_fed, push_hexadecimal, push_image, push_outcome,
 };
 use crate::vectors::session::{Owner, Session, begin, check_decoder, clip, settings};
 use icy_sixel::receiver::{Received, SixelReceiver};
-use icy_sixel::{SixelDecoder, SixelError};
+use icy_sixel::{ChannelOrder, ReceivedImage, RowLayout, SixelDecoder, SixelError, SixelImage};
 use std::alloc::Global;
 
 /// Checks a vector of `sessions.tsv`, by a session that borrows its decoder and by a receiver.
@@ -98,9 +98,10 @@ fn make(alloc: Global, found: &mut String, receiver: &mut SixelReceiver, call: &
         "feed" => return push_received(found, receiver.feed(&bytes(alloc, argument)?)),
         "try" => return push_tried(found, receiver, &bytes(alloc, argument)?),
         "writes" => return Ok(write!(found, "\t{}", receiver.canvas_writes())?),
-        "finish" => return push_outcome(found, &receiver.finish()),
+        "finish" => return push_finished(alloc, found, receiver.finish()),
         "state" => return push_state(found, receiver),
         "register" => return push_register(found, receiver, argument),
+        "end" => found.push_str(if receiver.has_ended() { "\tended" } else { "\topen" })?,
         "begin" => begin(alloc, receiver, settings(argument)?.0),
         "abort" => receiver.abort(),
         "release" => receiver.release_rows(argument.parse::<usize>()?)?,
@@ -146,6 +147,52 @@ fn push_register(found: &mut String, receiver: &SixelReceiver, register: &str) -
     ensure(receiver.decoder().register(register) == color, "decoder")?;
     found.push('\t')?;
     push_hexadecimal(found, &color)
+}
+
+/// Writes a finished image or an error. Copies of its rows must have its pixels.
+fn push_finished(
+    alloc: Global,
+    found: &mut String,
+    finished: icy_sixel::Result<ReceivedImage>,
+) -> Result<()> {
+    let image = match finished {
+        Ok(image) => image,
+        Err(error) => return push_error(found, &error),
+    };
+    let rows = copied(alloc, &image, ChannelOrder::Rgba)?;
+    ensure(rows[..] == image.pixels[..], "rows")?;
+    let shown = SixelImage {
+        pixels: rows,
+        width: image.width,
+        height: image.height,
+        aspect_ratio: image.aspect_ratio,
+        background_mode: image.background_mode,
+    };
+    push_image(found, &shown)?;
+    if image.first_row > 0 {
+        write!(found, " from {}", image.first_row)?;
+    }
+    if image.ignored_commands > 0 {
+        write!(found, " ignored {}", image.ignored_commands)?;
+    }
+    let exchanged = copied(alloc, &image, ChannelOrder::Bgra)?;
+    ensure(
+        image.into_pixels(ChannelOrder::Bgra)[..] == exchanged[..],
+        "pixels",
+    )
+}
+
+/// Copies all rows that are left.
+fn copied(alloc: Global, image: &ReceivedImage, order: ChannelOrder) -> Result<Vec<u8>> {
+    let layout = RowLayout {
+        stride: image.width.max(1).saturating_mul(4),
+        columns: image.width,
+        order,
+    };
+    let mut rows = vec![in alloc; 0; image.pixels.len()]?;
+    let count = image.height.saturating_sub(image.first_row);
+    image.copy_rows(image.first_row, count, layout, &mut rows)?;
+    Ok(rows)
 }
 
 /// Writes whether an image is open, and its size so far.

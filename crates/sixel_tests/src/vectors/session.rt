@@ -171,7 +171,7 @@ impl<'a> Session<'a> {
         match self {
             Self::Payload(session) => session.finish(),
             Self::Dcs(session) => session.finish(),
-            Self::Receiver(receiver) => receiver.finish(),
+            Self::Receiver(receiver) => receiver.finish_image(),
         }
     }
 

@@ -13,7 +13,7 @@ pub returns-in_err-feed-clause-refused : goal.returns-in_err-feed-clause-refused
 returns-in_err-feed-clause-refused c =
     let p = err_from_is_err_and c.from_residual.result c.from_residual.ensures.1 in
     let before = c.chunks.invariant in
-    let fed = c.in_err-feed.ensures.fed in
+    let fed = c.in_err-feed.ensures in
     let waits =
     goes_on (dcs_status c.chunks.receiver.image.bytes)
     (c.if-not-has_ended.ensures ∙ ap has_ended before.known) in
@@ -30,7 +30,7 @@ returns-in_err-feed-clause-refused c =
 pub total-fed-requires : goal.total-fed-requires
 total-fed-requires c =
     let before = c.chunks.invariant in
-    let fed = c.in_ok-feed.ensures.fed in
+    let fed = c.in_ok-feed.ensures in
     let bytes = fed.bytes (rw before.form refl) in
     let waits =
     goes_on (dcs_status c.chunks.receiver.image.bytes)
@@ -51,7 +51,7 @@ total-fed-requires c =
 pub chunks-preserved : goal.chunks-preserved
 chunks-preserved c =
     let before = c.chunks.invariant in
-    let s = c.in_ok-feed.ensures.fed in
+    let s = c.in_ok-feed.ensures in
     let form = s.form ∙ before.form in
     let bytes = s.bytes (rw before.form refl) in
     let fed : List ℕ = c.feed.new.self.image.bytes in

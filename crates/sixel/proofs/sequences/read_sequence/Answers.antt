@@ -1,10 +1,11 @@
-use Rattle.std.proofs.Common.{◌≡◌, true, ap, sym, ◌∙◌, arith, rules}
+use Rattle.std.proofs.Common.{◌≡◌, ◌++◌, true, ap, sym, ◌∙◌, arith, rules}
+use Rattle.std.specs.Prelude.{if◌then◌else◌}
 use Rattle.std.proofs.lemmas.Result.{err_from_is_err_and}
-use Rattle.sixel_base.specs.Dcs.{IsSameString, dcs_status, has_ended}
+use Rattle.sixel_base.specs.Dcs.{IsSameString, can_finish, dcs_status, has_ended}
 use Rattle.icy_sixel.specs.declared.script.Status.TheVariants.{Dcs}
 use Rattle.sixel.proofs.Chunks.{chunks_begin}
-use Rattle.sixel.proofs.DcsSequences.{Begins, begins_fits, ended_faultless, has_ended-faultless}
-use Rattle.sixel.proofs.DcsSequences.{refused_at_end}
+use Rattle.sixel.proofs.DcsSequences.{Begins, begins_fits, finished_faultless, finishes_faultless}
+use Rattle.sixel.proofs.DcsSequences.{finishes_fed, followed_joined, refused_at_end, same_fed}
 use Rattle.sixel.proofs.sequences.read_sequence.Goals as goal
 
 pub returns-in_err-image-clause-refused : goal.returns-in_err-image-clause-refused
@@ -12,38 +13,55 @@ returns-in_err-image-clause-refused c =
     let s = c.in_ok-fed.ensures in
     let p = err_from_is_err_and c.from_residual-in_err-image.result
     c.from_residual-in_err-image.ensures.1 in
-    let whole = s.released ∙ ap (λ i. i.released) c.begin_dcs.ensures.image in
-    let wrong = c.in_err-image.ensures.error whole in
+    let stored = s.released ∙ ap (λ i. i.released) c.begin_dcs.ensures.image in
+    let wrong = (c.in_err-image.ensures.finished stored).error in
     rw (p.1, p.2) (refused_at_end _ c.args.receiver.now.decoder.pixel_limit
     c.feed_chunks.new.receiver.image.bytes c.args.bytes.now c.requires.some
     (rw c.begin_dcs.ensures.image at s.faultless) s.chunks.enough
     (rw (s.accepts, s.start, c.begin_dcs.ensures.image, s.form) at wrong))
 
--- what was fed has ended
-ended : (c : goal.In_ok-image)
-    → has_ended (dcs_status c.feed_chunks.new.receiver.image.bytes) ≡ true
-ended c =
-    has_ended-faultless _ (rw c.in_ok-fed.ensures.form at c.in_ok-image.ensures.ended)
+-- no row was released
+stored : (c : goal.In_ok-image) → c.feed_chunks.new.receiver.image.released ≡ 0
+stored c = c.in_ok-fed.ensures.released ∙ ap (λ i. i.released) c.begin_dcs.ensures.image
+
+-- what was fed can be finished
+finishes : (c : goal.In_ok-image)
+    → can_finish c.args.receiver.now.decoder.pixel_limit c.feed_chunks.new.receiver.image.bytes
+    ≡ true
+finishes c =
+    let s = c.in_ok-fed.ensures in
+    finishes_faultless _ _
+    (rw (s.form, s.start, c.begin_dcs.ensures.image) at (c.in_ok-image.ensures.finished (stored c)).ended)
 
 -- the bytes of the sequence that was fed are those of the sequence that all begin with
 same : (c : goal.In_ok-image)
     → IsSameString c.args.receiver.now.decoder.pixel_limit c.feed_chunks.new.receiver.image.bytes
     c.args.bytes.now
-same c = rw c.begin_dcs.ensures.image at (c.in_ok-fed.ensures.over (ended c))
+same c =
+    let s = c.in_ok-fed.ensures in
+    same_fed _ _ _ (rw c.begin_dcs.ensures.image at s.over) s.chunks.enough
+
+-- and with the rest that followed they make up all bytes
+joined : (c : goal.In_ok-image) (begins : Begins c.feed_chunks.new.receiver.image.bytes c.args.bytes.now)
+    → (if has_ended (dcs_status c.feed_chunks.new.receiver.image.bytes)
+    then c.feed_chunks.new.receiver.image.bytes ++ begins.rest
+    else c.feed_chunks.new.receiver.image.bytes) ≡ c.args.bytes.now
+joined c begins =
+    followed_joined _ begins.rest _ begins.joined c.in_ok-fed.ensures.chunks.enough
 
 pub returns-clause-image : goal.returns-clause-image
 returns-clause-image c =
     let s = c.in_ok-fed.ensures in
     let begins : Begins _ c.args.bytes.now = chunks_begin _ _ _ s.chunks in
-    let decoded = c.in_ok-image.ensures.as_decoded begins.rest in
-    (rw (s.start, c.begin_dcs.ensures.image, s.form, begins.joined) at decoded).1
+    let decoded = (c.in_ok-image.ensures.finished (stored c)).as_decoded begins.rest in
+    (rw (s.start, c.begin_dcs.ensures.image, s.form, joined c begins) at decoded).1
 
 pub returns-clause-registers : goal.returns-clause-registers
 returns-clause-registers c =
     let s = c.in_ok-fed.ensures in
     let begins : Begins _ c.args.bytes.now = chunks_begin _ _ _ s.chunks in
-    let decoded = c.in_ok-image.ensures.as_decoded begins.rest in
-    let left = (rw (s.start, c.begin_dcs.ensures.image, s.form, begins.joined) at decoded).2 in
+    let decoded = (c.in_ok-image.ensures.finished (stored c)).as_decoded begins.rest in
+    let left = (rw (s.start, c.begin_dcs.ensures.image, s.form, joined c begins) at decoded).2 in
     search (rules, left)
 
 pub returns-clause-len : goal.returns-clause-len
@@ -60,11 +78,8 @@ returns-clause-within c =
 pub returns-clause-status : goal.returns-clause-status
 returns-clause-status c = c.in_ok-fed.ensures.status ∙ ap Dcs (sym (same c).status)
 
-pub returns-clause-ended : goal.returns-clause-ended
-returns-clause-ended c = ap has_ended (same c).status ∙ ended c
-
 pub returns-clause-faultless : goal.returns-clause-faultless
 returns-clause-faultless c =
-    ended_faultless c.args.receiver.now.decoder.pixel_limit c.args.bytes.now c.requires.some
-    (ap has_ended (same c).status ∙ ended c)
+    finished_faultless c.args.receiver.now.decoder.pixel_limit c.args.bytes.now c.requires.some
+    (finishes_fed _ _ _ (same c).status c.in_ok-fed.ensures.chunks.enough (finishes c))
     ((same c).fault ∙ (rw c.begin_dcs.ensures.image at c.in_ok-fed.ensures.faultless))

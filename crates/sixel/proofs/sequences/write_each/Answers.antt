@@ -21,7 +21,7 @@ returns-in_err-rest g c =
 pub sequences-smaller : goal.sequences-smaller
 sequences-smaller g c =
     let s = c.in_ok-rest.ensures in
-    follows_smaller c.sequences.rest.now _ s.ended record {
+    follows_smaller c.sequences.rest.now _ record {
       complete = s.complete;
       cut_short = s.cut_short;
     } (some_bytes c.sequences.rest.now c.sequences-test.ensures)
@@ -35,7 +35,6 @@ sequences-preserved g c =
     let sequence : HasEnded c.sequences.receiver.decoder c.sequences.rest.now s.image.0
     c.write_sequence.new.receiver.decoder =
     record {
-      ended = s.ended;
       faultless = s.faultless;
       shows = s.image.1;
       leaves = s.registers;

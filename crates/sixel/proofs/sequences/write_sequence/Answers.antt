@@ -22,7 +22,6 @@ returns-clause-stopped g c =
     let sequence : HasEnded c.args.receiver.now.decoder c.args.bytes.now
     (image_value c.in_ok-sequence.sequence.image) c.read_sequence.new.receiver.decoder =
     record {
-      ended = s.ended;
       faultless = s.faultless;
       shows = s.image;
       leaves = s.registers;

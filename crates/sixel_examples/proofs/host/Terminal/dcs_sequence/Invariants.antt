@@ -8,6 +8,7 @@ invariant-chunks l = record {
   form : l.self.receiver.image.form ≡ OfString;
   start : l.self.receiver.image.start ≡ l.fn.self.receiver.decoder;
   accepted : l.self.receiver.image.is_refused ≡ false;
+  whole : l.self.receiver.image.released ≡ 0;
   bytes : l.self.receiver.image.bytes ++ l.rest ≡ l.bytes;
 }
 

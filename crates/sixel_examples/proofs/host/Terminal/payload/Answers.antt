@@ -13,7 +13,7 @@ use Rattle.sixel_examples.proofs.host.Terminal.payload.Goals as goal
 pub returns-in_err-feed-clause-refused : goal.returns-in_err-feed-clause-refused
 returns-in_err-feed-clause-refused c =
     let now = c.chunks.invariant in
-    let s = c.in_err-feed.ensures.fed in
+    let s = c.in_err-feed.ensures in
     let told : SixelError = c.in_err-feed.field-0.0 in
     let before : List ℕ = c.chunks.self.receiver.image.bytes in
     let after : List ℕ = c.split_at.result.1.now in
@@ -39,4 +39,4 @@ returns-clause-image c =
     let whole : c.chunks.self.receiver.image.bytes ≡ c.args.bytes.now =
     sym (append-nil c.chunks.self.receiver.image.bytes)
     ∙ (ap (λ w. c.chunks.self.receiver.image.bytes ++ w) (sym none) ∙ now.bytes) in
-    rw (now.form, now.start, whole) at c.finish.ensures.image
+    rw (now.form, now.start, whole) at (c.finish_image.ensures.finished now.whole).image
