@@ -16,6 +16,7 @@ use Rattle.sixel_base.specs.OneShot.{found_in, found_by, Found, Payload, IsFound
 use Rattle.sixel_base.specs.OneShot.{AreFoundRegisters}
 use Rattle.sixel_base.specs.Dcs.{Introduced, Waiting, Absent, Entered, introduced, escaped, Reading}
 use Rattle.sixel_base.specs.Dcs.{stage_after, stage_by, stage}
+use Rattle.sixel_decoder.specs.PictureView.{found_raster_height}
 use Rattle.sixel_decoder.specs.Session.{Session, decoder_of}
 use Rattle.sixel_decoder.specs.inside.DcsParser.{IsInPayload}
 use Rattle.sixel_decoder.specs.declared.decoded_payload.DecodedPayload.{DecodedPayload}
@@ -120,3 +121,17 @@ found_ignored (Ok picture) reader decoder ended bytes is counted =
     ∙ ap (λ (o : Origin). payload_ignored o.pixel_limit reader.bytes) is.start
     ∙ ap (stage_ignored decoder.pixel_limit) (sym is.reading)
 found_ignored (Err e) reader decoder ended bytes is counted = tt
+
+-- the height that its raster attributes name
+pub found_raster : (result : Result DecodedPayload SixelError) (reader : Session)
+    (decoder : DecoderState) (ended : Option SixelDcsFeedStatus) (bytes : List ℕ)
+    → IsInPayload reader decoder ended bytes
+    → IfOk result (λ picture. picture.raster_height
+    ≡ found_raster_height (decoder_of reader.origin) (Payload reader.origin.settings reader.bytes))
+    → IfOk result (λ picture. picture.raster_height ≡ found_raster_height decoder (found bytes))
+found_raster (Ok picture) reader decoder ended bytes is named =
+    subst (λ (w : Found). picture.raster_height ≡ found_raster_height decoder w)
+    (sym (found_reading bytes reader.origin.settings reader.bytes is.reading))
+    (named ∙ ap (λ (o : Origin).
+    found_raster_height (decoder_of o) (Payload reader.origin.settings reader.bytes)) is.start)
+found_raster (Err e) reader decoder ended bytes is named = tt

@@ -12,7 +12,7 @@ ghost use Rattle.sixel_decoder.specs.DcsCalls.{begun, byte_read, IsFed, IsFinish
 ghost use Rattle.sixel_decoder.specs.DcsCalls.{IsSizeSoFar, IsDrawnHeight};
 ghost use Rattle.sixel_decoder.specs.DcsCalls.{IsWriteCount, IsPaintCount, IsBandPaintCount};
 ghost use Rattle.sixel_decoder.specs.DcsCalls.{IsBandWriteCount};
-ghost use Rattle.sixel_decoder.specs.PictureView.{whole_image};
+ghost use Rattle.sixel_decoder.specs.PictureView.{found_raster_height, whole_image};
 
 mod final_rows;
 
@@ -139,6 +139,8 @@ impl<C: Canvas + Drop> DcsReader<C> {
             (λ picture. picture.registers) self result }
         ensures first { IfOk result (λ picture.
             picture.first_row ≡ min self.released picture.height) }
+        ensures raster { IfOk result (λ picture.
+            picture.raster_height ≡ found_raster_height self.decoder (found self.bytes)) }
         ensures ignored { IfOk result (λ picture.
             picture.ignored ≡ dcs_ignored self.decoder.pixel_limit self.bytes) }
         ensures drawn { IfOk result (λ picture.

@@ -16,6 +16,8 @@ pub struct DecodedPayload {
     pub first_row: usize,
     /// Rows down to the last one with a set pixel, at most the height.
     pub drawn_height: usize,
+    /// The last height above 0 that raster attributes name, or 0 if there is none.
+    pub raster_height: usize,
     /// How many commands were ignored. The number saturates.
     pub ignored: u64,
     pub aspect_ratio: PixelAspectRatio,

@@ -391,6 +391,7 @@ impl<C: Canvas + Drop> Painter<C> {
             height,
             first_row,
             drawn_height,
+            raster_height: self.raster_height,
             ignored,
             aspect_ratio: self.ratio,
             background_mode: self.settings.background_mode(),

@@ -13,7 +13,7 @@ ghost use Rattle.sixel_decoder.specs.PayloadCalls.{begun, byte_read, IsFed, IsFi
 ghost use Rattle.sixel_decoder.specs.PayloadCalls.{IsSizeSoFar, IsDrawnHeight};
 ghost use Rattle.sixel_decoder.specs.PayloadCalls.{IsWriteCount, IsPaintCount, IsBandPaintCount};
 ghost use Rattle.sixel_decoder.specs.PayloadCalls.{IsBandWriteCount};
-ghost use Rattle.sixel_decoder.specs.PictureView.{whole_image};
+ghost use Rattle.sixel_decoder.specs.PictureView.{found_raster_height, whole_image};
 ghost use Rattle.sixel_decoder.specs.Session.{decoder_of};
 ghost use Rattle.sixel_decoder.specs.declared.payload_reader.PayloadState.TheVariants.{Failed};
 
@@ -178,6 +178,9 @@ impl<C: Canvas + Drop> PayloadReader<C> {
             (λ picture. picture.registers) self result }
         ensures first { IfOk result (λ picture.
             picture.first_row ≡ min self.released picture.height) }
+        ensures raster { IfOk result (λ picture. picture.raster_height
+            ≡ found_raster_height (decoder_of self.origin)
+            (Payload self.origin.settings self.bytes)) }
         ensures ignored { IfOk result (λ picture.
             picture.ignored ≡ payload_ignored self.origin.pixel_limit self.bytes) }
         ensures drawn { IfOk result (λ picture. picture.drawn_height

@@ -126,7 +126,8 @@ Ends result origin history =
     × (picture.registers ≡ registers origin.registers history)
     × (picture.width * picture.height ≤ origin.pixel_limit.pixels)
     × (picture.drawn_height
-    ≡ image_drawn_height origin.pixel_limit origin.raster_crop history))
+    ≡ image_drawn_height origin.pixel_limit origin.raster_crop history)
+    × (picture.raster_height ≡ raster_height history))
     (λ error.
     Faults error (is_none (first_fault origin.pixel_limit history))
     (first_fault origin.pixel_limit history))

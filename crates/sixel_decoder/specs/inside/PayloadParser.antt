@@ -17,6 +17,7 @@ use Rattle.sixel_base.specs.Fault.{Faults}
 use Rattle.sixel_base.specs.inside.Parameters.{Keeps}
 use Rattle.sixel_base.specs.History.{Token, Repeat, Raster, Color, History, goes_on, read}
 use Rattle.sixel_base.specs.Lenient.{fault}
+use Rattle.sixel_base.specs.Place.{raster_height}
 use Rattle.sixel_base.specs.Stroke.{Origin}
 use Rattle.sixel_base.specs.Payload.{closed, growths, payload_fault, payload_image}
 use Rattle.sixel_base.specs.Payload.{payload_registers, payload_wants, tokens}
@@ -99,6 +100,7 @@ Decodes result origin bytes =
     × (picture.registers ≡ payload_registers origin bytes)
     × (picture.width * picture.height ≤ origin.pixel_limit.pixels)
     × (picture.drawn_height
-    ≡ image_drawn_height origin.pixel_limit origin.raster_crop (tokens origin.pixel_limit bytes)))
+    ≡ image_drawn_height origin.pixel_limit origin.raster_crop (tokens origin.pixel_limit bytes))
+    × (picture.raster_height ≡ raster_height (tokens origin.pixel_limit bytes)))
     (λ error.
     Faults error (payload_wants origin.pixel_limit bytes) (payload_fault origin.pixel_limit bytes))

@@ -13,7 +13,7 @@ use Rattle.sixel_decoder.specs.Session.{decoder_of}
 use Rattle.sixel_decoder.specs.inside.DcsParser.{HasFollowed, IsInPayload}
 use Rattle.sixel_decoder.specs.declared.dcs_parser.DcsState.{DcsState}
 use Rattle.sixel_decoder.proofs.DcsPayloads.{found_drawn, found_image, found_reading}
-use Rattle.sixel_decoder.proofs.DcsPayloads.{found_ignored, found_registers}
+use Rattle.sixel_decoder.proofs.DcsPayloads.{found_ignored, found_raster, found_registers}
 use Rattle.sixel_decoder.proofs.DcsFinishes.{finish_told, string_decoded, string_image}
 use Rattle.sixel_decoder.proofs.DcsFinishes.{string_refused_at_end, string_registers}
 use Rattle.sixel_decoder.proofs.dcs_reader.DcsReader.finish.Goals as goal
@@ -87,3 +87,14 @@ returns-then-can_finish-clause-ignored g c =
     c.in-Payload.is c.self.invariant in
     rw (← c.self.view_is)
     (found_ignored c.finish.result c.in-Payload.reader _ _ _ is c.finish.ensures.ignored)
+
+pub returns-then-can_finish-clause-raster : goal.returns-then-can_finish-clause-raster
+returns-then-can_finish-clause-raster g c =
+    let inside = c.self.inside in
+    let is : IsInPayload c.in-Payload.reader inside.parser.decoder inside.parser.ended
+    inside.log.bytes =
+    subst (λ (p : DcsState _).
+    HasFollowed p inside.parser.decoder inside.parser.ended inside.log.bytes)
+    c.in-Payload.is c.self.invariant in
+    rw (← c.self.view_is)
+    (found_raster c.finish.result c.in-Payload.reader _ _ _ is c.finish.ensures.raster)

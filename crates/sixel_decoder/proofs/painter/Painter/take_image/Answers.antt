@@ -109,6 +109,7 @@ returns-clause-ends g c = λ o h shows.
         area_fits,
       ),
       c.min-drawn_height.ensures ∙ rw (c.drawn_height.ensures o h shows, tall) refl,
+      shows.raster_height,
     )
 
 pub returns-in_err-pixels-clause-ends : goal.returns-in_err-pixels-clause-ends

@@ -14,7 +14,7 @@ use Rattle.sixel_base.specs.Stroke.{Origin}
 use Rattle.sixel_canvas.specs.declared.drawing.Canvas.{Ghosts}
 use Rattle.sixel_decoder.specs.FinalRows.{found_pixel}
 use Rattle.sixel_decoder.specs.PayloadCalls.{IsFinished}
-use Rattle.sixel_decoder.specs.PictureView.{whole_image}
+use Rattle.sixel_decoder.specs.PictureView.{found_raster_height, whole_image}
 use Rattle.sixel_decoder.specs.Session.{Session, decoder_of}
 use Rattle.sixel_decoder.specs.inside.Painter.{Ends}
 use Rattle.sixel_decoder.specs.inside.PayloadParser.{Decodes, StandsAfter}
@@ -65,6 +65,14 @@ drawn_by : (result : Result DecodedPayload SixelError) (s : Session)
 drawn_by (Ok picture) s ends = ends.4
 drawn_by (Err e) s ends = tt
 
+-- and the height that its raster attributes name
+raster_by : (result : Result DecodedPayload SixelError) (s : Session)
+    → Ends result s.origin (tokens s.origin.pixel_limit s.bytes)
+    → IfOk result (λ picture. picture.raster_height
+    ≡ found_raster_height (decoder_of s.origin) (Payload s.origin.settings s.bytes))
+raster_by (Ok picture) s ends = ends.5
+raster_by (Err e) s ends = tt
+
 -- the parser of a reader without an error has read its bytes
 reading : {C : Type 0} {canvas : Ghosts C} (state : PayloadState C canvas)
     (parser : PayloadParser C canvas) (o : Origin) (terminator : Option ℕ) (bytes : List ℕ)
@@ -104,3 +112,14 @@ returns-in-Reading-clause-ignored g c =
     c.in-Reading.is c.self.invariant in
     rw (← c.self.view_is)
     (c.finish.ensures.ignored o (history_of (front inside.log.bytes)) (is_some inside.terminator) read)
+
+pub returns-in-Reading-clause-raster : goal.returns-in-Reading-clause-raster
+returns-in-Reading-clause-raster g c =
+    let inside = c.self.inside in
+    let o : Origin = (session_of inside).origin in
+    let read =
+    reading inside.state c.in-Reading.parser o inside.terminator inside.log.bytes
+    c.in-Reading.is c.self.invariant in
+    rw (← c.self.view_is)
+    (raster_by c.finish.result (session_of inside)
+    (c.finish.ensures.ends o _ (is_some inside.terminator) read))
