@@ -1,6 +1,6 @@
 -- An image that a receiver has finished. Rows that were released are the caller's: the pixels are
 -- those of the rows below them. Which image that is, by DEC's manual, is in Payload of sixel_base.
-use Rattle.std.specs.Prelude.{ℕ, ◌+◌, ◌-◌, ◌*◌, nat_lt, if◌then◌else◌, List, [], ◌∷◌, ◌++◌, Option}
+use Rattle.std.specs.Prelude.{ℕ, ◌+◌, ◌-◌, ◌*◌, ◌==◌, max, nat_lt, if◌then◌else◌, List, [], ◌∷◌, ◌++◌, Option}
 use Rattle.std.specs.Prelude.{Some}
 use Rattle.sixel_base.specs.CallFault.{CallFault, RowsNotFinal, RowsReleased}
 use Rattle.sixel_base.specs.Payload.{Image}
@@ -8,6 +8,8 @@ use Rattle.sixel_base.specs.Picture.{picture}
 use Rattle.sixel_canvas.specs.Layout.{stored_pixel}
 use Rattle.sixel_canvas.specs.declared.channels.RowLayout.{RowLayout}
 use Rattle.icy_sixel.specs.FinalRows.{layout_fault}
+use Rattle.icy_sixel.specs.declared.receiver.received_image.Height.{Height}
+use Rattle.icy_sixel.specs.declared.receiver.received_image.Height.TheVariants.{Bands, Raster, Drawn}
 use Rattle.icy_sixel.specs.declared.receiver.received_image.ReceivedImage.{ReceivedImage}
 use Rattle.icy_sixel.specs.declared.sixel_image.SixelImage.{SixelImage}
 
@@ -43,3 +45,9 @@ received_fault image first rows layout len =
     if nat_lt image.height (first + rows) then Some RowsNotFinal
     else if nat_lt first image.first_row then Some RowsReleased
     else layout_fault layout rows len
+
+-- where an image ends that is cropped to this height
+abbrev pub end_of : ReceivedImage → Height → ℕ
+end_of image Bands = image.height
+end_of image Raster = if image.raster_height == 0 then image.height else image.raster_height
+end_of image Drawn = max image.raster_height image.drawn_height

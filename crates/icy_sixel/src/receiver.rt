@@ -7,6 +7,7 @@ ghost use Rattle.std.specs.Prelude.{IfOk, IfSome, None, Ok, Some};
 ghost use Rattle.sixel_base.specs.CallFault.{FailsBy, RowsReleased};
 ghost use Rattle.sixel_base.specs.Decoder.{new_decoder};
 ghost use Rattle.sixel_base.specs.DrawnHeight.{found_drawn_height};
+ghost use Rattle.sixel_decoder.specs.PictureView.{found_raster_height};
 ghost use Rattle.icy_sixel.specs.ImageView.{image_value};
 ghost use Rattle.icy_sixel.specs.Receiver.{OfPayload, OfString, idle, is_open, is_over};
 ghost use Rattle.icy_sixel.specs.Receiver.{found, ignored, in_payload};
@@ -29,7 +30,7 @@ use crate::script::Status;
 use crate::sixel_image::SixelImage;
 pub use bands::{BandStatus, ReceivedBand, band_len};
 pub use final_rows::stable_rows;
-pub use received_image::ReceivedImage;
+pub use received_image::{Height, ReceivedImage};
 use sixel_base::{Result, SixelError};
 use sixel_canvas::band_canvas::BandCanvas;
 use sixel_decoder::{DcsReader, PayloadReader};
@@ -206,6 +207,8 @@ impl SixelReceiver {
         ensures first { IfOk result (λ image.
             image.first_row ≡ min self.old.image.released image.height) }
         ensures drawn { IfOk result (λ image. image.drawn_height ≡ found_drawn_height
+            self.old.image.start (found self.old.image.form self.old.image.bytes)) }
+        ensures raster { IfOk result (λ image. image.raster_height ≡ found_raster_height
             self.old.image.start (found self.old.image.form self.old.image.bytes)) }
         ensures ignored { IfOk result (λ image. image.ignored_commands ≡ ignored
             self.old.image.start.pixel_limit self.old.image.form self.old.image.bytes) }

@@ -1,7 +1,7 @@
 //! An image that a receiver has finished, and copies of its rows.
 
 ghost use Rattle.std.specs.Prelude.{◌≡◌, ℕ, ◌-◌, ◌*◌, ◌/◌, ◌%◌, ◌<◌, List, length, slice_index};
-ghost use Rattle.std.specs.Prelude.{Some, Ok, IfOk};
+ghost use Rattle.std.specs.Prelude.{◌==◌, ◌&&◌, min, take, Some, Ok, IfOk};
 ghost use Rattle.sixel_base.specs.CallFault.{FailsBy, RowsReleased};
 ghost use Rattle.sixel_canvas.specs.Layout.{in_order};
 ghost use Rattle.sixel_canvas.specs.inside.FinalRows.{pixel_at};
@@ -13,6 +13,17 @@ use sixel_base::{Result, SixelError};
 use sixel_canvas::channels::{ChannelOrder, RowLayout, reorder};
 use sixel_canvas::stored_rows::StoredRows;
 use sixel_decoder::DecodedPayload;
+
+/// Where an image ends that a host crops.
+#[derive(Clone, Copy, Debug, PartialEq, Eq)]
+pub enum Height {
+    /// At the end of its last band, or lower if raster attributes name a greater height.
+    Bands,
+    /// At the last height that raster attributes name, if there is one.
+    Raster,
+    /// At that height, or lower if a pixel below it is set, as other terminals do.
+    Drawn,
+}
 
 /// An image that was received, without the rows that were released.
 #[derive(Debug, Drop)]
@@ -29,6 +40,8 @@ pub struct ReceivedImage {
     ///
     /// It is at most the height, because crop can end an image above that row.
     pub drawn_height: usize,
+    /// The last height above 0 that raster attributes name, or 0 if there is none.
+    pub raster_height: usize,
     /// How many commands were ignored, if the image is lenient. The number saturates.
     pub ignored_commands: u64,
     /// The shape of a pixel.
@@ -40,8 +53,8 @@ pub struct ReceivedImage {
 
 impl ReceivedImage {
     ghost use Rattle.icy_sixel.specs.FinalRows.{IsRowCopy};
-    ghost use Rattle.icy_sixel.specs.ReceivedImages.{left_image, received_fault, received_pixel};
-    ghost use Rattle.icy_sixel.specs.ReceivedImages.{whole_value};
+    ghost use Rattle.icy_sixel.specs.ReceivedImages.{end_of, left_image, received_fault};
+    ghost use Rattle.icy_sixel.specs.ReceivedImages.{received_pixel, whole_value};
 
     /// Creates the image of a decoded payload.
     pub(crate) fn from_picture(picture: DecodedPayload) -> Self
@@ -49,6 +62,7 @@ impl ReceivedImage {
             → whole_value shown result ≡ whole_image shown picture }
         ensures first { result.first_row ≡ picture.first_row }
         ensures drawn { result.drawn_height ≡ picture.drawn_height }
+        ensures raster { result.raster_height ≡ picture.raster_height }
         ensures ignored { result.ignored_commands ≡ picture.ignored }
     {
         Self {
@@ -57,10 +71,45 @@ impl ReceivedImage {
             height: picture.height,
             first_row: picture.first_row,
             drawn_height: picture.drawn_height,
+            raster_height: picture.raster_height,
             ignored_commands: picture.ignored,
             aspect_ratio: picture.aspect_ratio,
             background_mode: picture.background_mode,
         }
+    }
+
+    /// Whether no pixel is set and no raster attributes name a height.
+    ///
+    /// Terminals do not move their cursor for such an image.
+    pub fn is_empty(&self) -> bool
+        ensures { result ≡ (self.now.drawn_height == 0 && self.now.raster_height == 0) }
+    {
+        self.drawn_height == 0 && self.raster_height == 0
+    }
+
+    /// Ends the image at this height, if the image is higher. It does not allocate.
+    ///
+    /// The decoder must not have cropped the image.
+    pub fn crop(&mut self, height: Height)
+        ensures height { self.new.height ≡ min self.old.height (end_of self.old height) }
+        ensures first { self.new.first_row ≡ min self.old.first_row self.new.height }
+        ensures pixels { self.new.pixels.items ≡ take
+            (4 * (self.old.width * (self.new.height - self.new.first_row))) self.old.pixels.items }
+        ensures drawn { self.new.drawn_height ≡ min self.old.drawn_height self.new.height }
+        ensures width { self.new.width ≡ self.old.width }
+    {
+        let end = match height {
+            Height::Bands => self.height,
+            Height::Raster if self.raster_height == 0 => self.height,
+            Height::Raster => self.raster_height,
+            Height::Drawn => self.raster_height.max(self.drawn_height),
+        };
+        let height = self.height.min(end);
+        let first_row = self.first_row.min(height);
+        self.pixels.truncate(4 * (self.width * (height - first_row)));
+        self.height = height;
+        self.first_row = first_row;
+        self.drawn_height = self.drawn_height.min(height);
     }
 
     /// Copies rows of the image to the caller's memory, as often as the caller calls it.

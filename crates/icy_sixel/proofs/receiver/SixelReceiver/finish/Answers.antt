@@ -15,7 +15,7 @@ use Rattle.sixel_decoder.specs.PayloadCalls as payloads
 use Rattle.sixel_decoder.specs.Session.{Session, DcsSession, decoder_of}
 use Rattle.sixel_decoder.specs.declared.decoded_payload.DecodedPayload.{DecodedPayload}
 use Rattle.sixel_decoder.specs.FinalRows.{found_pixel}
-use Rattle.sixel_decoder.specs.PictureView.{whole_image}
+use Rattle.sixel_decoder.specs.PictureView.{found_raster_height, whole_image}
 use Rattle.icy_sixel.specs.FinalRows.{pixel_so_far}
 use Rattle.icy_sixel.specs.Receiver.{Receiver, Reception, found, found_followed, end_fault, ignored}
 use Rattle.icy_sixel.specs.inside.Receiving.{reception_of}
@@ -37,6 +37,8 @@ record IsPictureOf (image : Reception) (picture : DecodedPayload) : Type 0 where
       → IsDecodedAs image.start (found_followed image.form image.bytes more)
       (shown_whole image picture) picture.registers
   first : picture.first_row ≡ min image.released picture.height
+  raster : picture.raster_height
+      ≡ found_raster_height image.start (found image.form image.bytes)
   ignored : picture.ignored ≡ ignored image.start.pixel_limit image.form image.bytes
   drawn : picture.drawn_height ≡ found_drawn_height image.start (found image.form image.bytes)
   area : picture.width * picture.height ≤ image.start.pixel_limit.pixels
@@ -62,8 +64,11 @@ payload_finished : (result : Result DecodedPayload SixelError) (session : Sessio
     (Payload session.origin.settings session.bytes))
     → IfOk result (λ picture. (picture.first_row ≡ min session.released picture.height)
     × (picture.ignored ≡ payload_ignored session.origin.pixel_limit session.bytes))
+    → IfOk result (λ picture. picture.raster_height
+    ≡ found_raster_height (decoder_of session.origin)
+    (Payload session.origin.settings session.bytes))
     → Finished result (reception_of (opened.Payload session))
-payload_finished (Ok picture) session is drawn more = record {
+payload_finished (Ok picture) session is drawn more raster = record {
   shows = is.image;
   registers = is.registers;
   decoded = λ left. (is.faultless, is.image, is.registers);
@@ -73,9 +78,10 @@ payload_finished (Ok picture) session is drawn more = record {
   accepted = is.accepted;
   first = more.0;
   ignored = more.1;
+  raster = raster;
   ended = is.faultless;
 }
-payload_finished (Err e) session is drawn more = tt
+payload_finished (Err e) session is drawn more raster = tt
 
 string_finished : (result : Result DecodedPayload SixelError) (session : DcsSession)
     → strings.IsFinished
@@ -85,8 +91,10 @@ string_finished : (result : Result DecodedPayload SixelError) (session : DcsSess
     picture.drawn_height ≡ found_drawn_height session.decoder (one_shot.found session.bytes))
     → IfOk result (λ picture. (picture.first_row ≡ min session.released picture.height)
     × (picture.ignored ≡ dcs_ignored session.decoder.pixel_limit session.bytes))
+    → IfOk result (λ picture.
+    picture.raster_height ≡ found_raster_height session.decoder (one_shot.found session.bytes))
     → Finished result (reception_of (opened.ControlString session))
-string_finished (Ok picture) session is drawn more = record {
+string_finished (Ok picture) session is drawn more raster = record {
   shows = is.found_image;
   registers = is.found_registers;
   decoded = λ left.
@@ -105,9 +113,10 @@ string_finished (Ok picture) session is drawn more = record {
   accepted = is.accepted;
   first = more.0;
   ignored = more.1;
+  raster = raster;
   ended = rw is.ended refl;
 }
-string_finished (Err e) session is drawn more = tt
+string_finished (Err e) session is drawn more raster = tt
 
 -- the picture is that of the image that was open
 is_picture : (c : goal.After-from_picture)
@@ -127,14 +136,16 @@ is_picture c =
           (subst (Finished w.finish.result) (sym (ap reception_of w.in-Payload.is) ∙ held)
           (payload_finished w.finish.result w.in-Payload.reader w.finish.ensures.finished
           w.finish.ensures.drawn
-          (both w.finish.result _ _ w.finish.ensures.first w.finish.ensures.ignored)))
+          (both w.finish.result _ _ w.finish.ensures.first w.finish.ensures.ignored)
+          w.finish.ensures.raster))
       | in-ControlString w ↦
           let done = w.finish-in-ControlString in
           rw w.branch'-is
           (subst (Finished done.result) (sym (ap reception_of w.in-ControlString.is) ∙ held)
           (string_finished done.result w.in-ControlString.reader done.ensures.finished
           done.ensures.drawn
-          (both done.result _ _ done.ensures.first done.ensures.ignored)))
+          (both done.result _ _ done.ensures.first done.ensures.ignored)
+          done.ensures.raster))
     ] in
     subst (λ r. Finished r image) was finished
 
@@ -148,6 +159,9 @@ returns-clause-first c =
 
 pub returns-clause-drawn : goal.returns-clause-drawn
 returns-clause-drawn c = c.from_picture.ensures.drawn ∙ (is_picture c).drawn
+
+pub returns-clause-raster : goal.returns-clause-raster
+returns-clause-raster c = c.from_picture.ensures.raster ∙ (is_picture c).raster
 
 pub returns-clause-ignored : goal.returns-clause-ignored
 returns-clause-ignored c = c.from_picture.ensures.ignored ∙ (is_picture c).ignored
