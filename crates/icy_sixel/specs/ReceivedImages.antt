@@ -1,7 +1,7 @@
 -- An image that a receiver has finished. Rows that were released are the caller's: the pixels are
 -- those of the rows below them. Which image that is, by DEC's manual, is in Payload of sixel_base.
-use Rattle.std.specs.Prelude.{ℕ, ◌+◌, ◌-◌, ◌*◌, ◌==◌, max, nat_lt, if◌then◌else◌, List, [], ◌∷◌, ◌++◌, Option}
-use Rattle.std.specs.Prelude.{Some}
+use Rattle.std.specs.Prelude.{ℕ, ◌+◌, ◌-◌, ◌==◌, max, nat_lt, if◌then◌else◌, List, [], ◌∷◌, ◌++◌}
+use Rattle.std.specs.Prelude.{Option, Some}
 use Rattle.sixel_base.specs.CallFault.{CallFault, RowsNotFinal, RowsReleased}
 use Rattle.sixel_base.specs.Payload.{Image}
 use Rattle.sixel_base.specs.Picture.{picture}
@@ -9,7 +9,8 @@ use Rattle.sixel_canvas.specs.Layout.{stored_pixel}
 use Rattle.sixel_canvas.specs.declared.channels.RowLayout.{RowLayout}
 use Rattle.icy_sixel.specs.FinalRows.{layout_fault}
 use Rattle.icy_sixel.specs.declared.receiver.received_image.Height.{Height}
-use Rattle.icy_sixel.specs.declared.receiver.received_image.Height.TheVariants.{Bands, Raster, Drawn}
+use Rattle.icy_sixel.specs.declared.receiver.received_image.Height.TheVariants.{Bands, Raster}
+use Rattle.icy_sixel.specs.declared.receiver.received_image.Height.TheVariants.{Drawn}
 use Rattle.icy_sixel.specs.declared.receiver.received_image.ReceivedImage.{ReceivedImage}
 use Rattle.icy_sixel.specs.declared.sixel_image.SixelImage.{SixelImage}
 

@@ -9,11 +9,11 @@ ghost use Rattle.sixel_base.specs.Decoder.{new_decoder};
 ghost use Rattle.sixel_base.specs.DrawnHeight.{found_drawn_height};
 ghost use Rattle.sixel_decoder.specs.PictureView.{found_raster_height};
 ghost use Rattle.icy_sixel.specs.ImageView.{image_value};
-ghost use Rattle.icy_sixel.specs.Receiver.{OfPayload, OfString, idle, is_open, is_over};
-ghost use Rattle.icy_sixel.specs.Receiver.{found, ignored, in_payload};
-ghost use Rattle.icy_sixel.specs.ReceiverCalls.{IsBegun, IsFed, IsFinished, IsAborted, whole_of};
-ghost use Rattle.icy_sixel.specs.ReceiverCalls.{IsDrawnHeight, IsPaintCount, IsSizeSoFar};
-ghost use Rattle.icy_sixel.specs.ReceiverCalls.{IsWriteCount};
+ghost use Rattle.icy_sixel.specs.Receiver.{OfPayload, OfString, found, idle, ignored};
+ghost use Rattle.icy_sixel.specs.Receiver.{in_payload, is_open, is_over};
+ghost use Rattle.icy_sixel.specs.ReceiverCalls.{IsAborted, IsBegun, IsDrawnHeight, IsFed};
+ghost use Rattle.icy_sixel.specs.ReceiverCalls.{IsFinished, IsPaintCount, IsSizeSoFar};
+ghost use Rattle.icy_sixel.specs.ReceiverCalls.{IsWriteCount, whole_of};
 ghost use Rattle.icy_sixel.specs.inside.Receiving.{reception_of};
 
 mod bands;
@@ -198,10 +198,9 @@ impl SixelReceiver {
 
     /// Closes the image, returns it, and stores its registers in the decoder.
     ///
-    /// The open command is closed first. Rows that were released are not among the pixels of the
-    /// [`ReceivedImage`]. No pixel is copied here: the host copies rows of it or takes it whole. An
-    /// error closes the image too, and leaves the decoder unchanged. The errors are those of the
-    /// sessions. If no image is open, the error is that of [`feed`](Self::feed).
+    /// The open command is closed first. Released rows are not among the pixels. No pixel is
+    /// copied. An error closes the image too, and leaves the decoder unchanged. The errors are
+    /// those of the sessions. If no image is open, it is that of [`feed`](Self::feed).
     pub fn finish(&mut self) -> Result<ReceivedImage>
         ensures finished { IsFinished (whole_of self.old.image) self.old self.new result }
         ensures first { IfOk result (λ image.
@@ -268,8 +267,7 @@ impl SixelReceiver {
     /// rows again, and each of their pixels counts, background too. What the allocator copies is
     /// not counted.
     ///
-    /// The number is at most four times the pixels of the image so far, also if rows were released.
-    /// It saturates.
+    /// It saturates, and is at most four times the pixels of the image so far, released or not.
     pub fn canvas_writes(&self) -> u64
         ensures { IsWriteCount self.now.image result }
     {
@@ -287,8 +285,8 @@ impl SixelReceiver {
     /// of 128 columns. Tagged columns are painted once the band ends, so the number rises then.
     ///
     /// The number is at most twice the right edges of the bands of the closed sixels, together, and
-    /// 1151 for each of these sixels: 511 tags, two ends, and tagged columns that it covers in part.
-    /// It saturates.
+    /// 1151 for each of these sixels: 511 tags, two ends, and tagged columns that it covers in
+    /// part. It saturates.
     ///
     /// Beside the image the canvas has capacity for six rows of at most twice the width and 16
     /// columns, whatever the height.

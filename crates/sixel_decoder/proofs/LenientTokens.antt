@@ -4,7 +4,6 @@ use Rattle.std.proofs.Common.{ap}
 use Rattle.std.proofs.Common.{sym, ◌∙◌, subst, length, take, get_or, Option, Some, None, Result, Ok}
 use Rattle.std.proofs.Common.{Err, arith}
 use Rattle.std.specs.Prelude.{IfErr, fold, is_none, min, ◌+◌, ◌&&◌}
-use Rattle.std.specs.Option.{option_or}
 use Rattle.sixel_base.specs.declared.error.SixelError.{SixelError}
 use Rattle.sixel_base.specs.declared.error.SixelError.TheVariants.{InvalidDimensions}
 use Rattle.sixel_base.specs.declared.error.SixelError.TheVariants.{BufferSizeMismatch, InvalidData}

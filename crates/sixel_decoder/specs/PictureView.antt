@@ -18,7 +18,8 @@ picture_value picture = record {
   background_mode = picture.background_mode;
 }
 
--- the image whose first rows were released, with these pixels: they are above the rows that are left
+-- the image whose first rows were released, with these pixels: they are above the rows that are
+-- left
 abbrev pub whole_image : (ℕ → ℕ → List ℕ) → DecodedPayload → Image
 whole_image shown decoded = record {
   pixels = picture shown decoded.width decoded.first_row ++ decoded.pixels.items;

@@ -86,9 +86,9 @@ impl SixelReceiver {
     ///
     /// The caller has copied them. Then an image that is shown while it comes takes the memory of
     /// the rows between two calls, and not of the image: copy the final rows and release them after
-    /// each [`feed_band`](Self::feed_band). [`finish`](Self::finish) returns the rows that are left.
-    /// A number below [`released_rows`](Self::released_rows) changes nothing. The call does not
-    /// allocate.
+    /// each [`feed_band`](Self::feed_band). [`finish`](Self::finish) returns the rows that are
+    /// left. A number below [`released_rows`](Self::released_rows) changes nothing. The call does
+    /// not allocate.
     ///
     /// The error is `InvalidData("rows are not final")` if `rows` is greater than
     /// [`rows_so_far`](Self::rows_so_far).

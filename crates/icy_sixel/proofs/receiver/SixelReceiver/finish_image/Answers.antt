@@ -1,4 +1,4 @@
-use Rattle.std.proofs.Common.{◌≡◌, ◌<◌, ◌∙◌, ℕ, List, Ok, refl, subst, arith}
+use Rattle.std.proofs.Common.{◌≡◌, ℕ, List, refl, subst, arith}
 use Rattle.sixel_base.specs.OneShot.{IsDecodedAs, IsFoundImage}
 use Rattle.sixel_base.specs.Payload.{Image}
 use Rattle.sixel_base.specs.Picture.{joined, picture}

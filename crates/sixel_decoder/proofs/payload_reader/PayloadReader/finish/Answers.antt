@@ -111,7 +111,8 @@ returns-in-Reading-clause-ignored g c =
     reading inside.state c.in-Reading.parser o inside.terminator inside.log.bytes
     c.in-Reading.is c.self.invariant in
     rw (← c.self.view_is)
-    (c.finish.ensures.ignored o (history_of (front inside.log.bytes)) (is_some inside.terminator) read)
+    (c.finish.ensures.ignored o (history_of (front inside.log.bytes)) (is_some inside.terminator)
+    read)
 
 pub returns-in-Reading-clause-raster : goal.returns-in-Reading-clause-raster
 returns-in-Reading-clause-raster g c =
