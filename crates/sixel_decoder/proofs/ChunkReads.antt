@@ -475,15 +475,14 @@ payload_refused e limit bytes refused =
 -- what is rejected at the end of a payload
 pub payload_ends : (result : Result DecodedPayload SixelError) (o : Origin) (bytes : List ℕ)
     → Ends result o (effective o.pixel_limit (history_of (front bytes))) → Decodes result o bytes
-payload_ends (Ok picture) o bytes is =
-    (
-      sym (effective-fault o.pixel_limit (history_of (front bytes))) ∙ is.0,
-      is.1,
-      is.2,
-      is.3,
-      is.4,
-      is.5,
-    )
+payload_ends (Ok picture) o bytes is = (
+  sym (effective-fault o.pixel_limit (history_of (front bytes))) ∙ is.0,
+  is.1,
+  is.2,
+  is.3,
+  is.4,
+  is.5,
+)
 payload_ends (Err e) o bytes refused =
     Faults-along e (is_none (payload_fault o.pixel_limit bytes)) (payload_wants o.pixel_limit bytes)
     (payload_fault o.pixel_limit bytes) (payload_fault o.pixel_limit bytes)

@@ -106,7 +106,8 @@ impl ReceivedImage {
         };
         let height = self.height.min(end);
         let first_row = self.first_row.min(height);
-        self.pixels.truncate(4 * (self.width * (height - first_row)));
+        self.pixels
+            .truncate(4 * (self.width * (height - first_row)));
         self.height = height;
         self.first_row = first_row;
         self.drawn_height = self.drawn_height.min(height);

@@ -101,7 +101,11 @@ fn make(alloc: Global, found: &mut String, receiver: &mut SixelReceiver, call: &
         "finish" => return push_finished(alloc, found, receiver.finish()),
         "state" => return push_state(found, receiver),
         "register" => return push_register(found, receiver, argument),
-        "end" => found.push_str(if receiver.has_ended() { "\tended" } else { "\topen" })?,
+        "end" => found.push_str(if receiver.has_ended() {
+            "\tended"
+        } else {
+            "\topen"
+        })?,
         "begin" => begin(alloc, receiver, settings(argument)?.0),
         "abort" => receiver.abort(),
         "release" => receiver.release_rows(argument.parse::<usize>()?)?,
