@@ -20,7 +20,7 @@ static void decode(icysixel *decoder, const uint8_t *bytes, size_t length, size_
         want(icysixel_feed(decoder, bytes + at, chunk, &fed));
     }
     want(icysixel_finish(decoder, shape));
-    want(icysixel_take_pixels(decoder, &pixels));
+    want(icysixel_take_pixels(decoder, ICYSIXEL_ORDER_RGBA, &pixels));
     icysixel_free_bytes(&pixels);
 }
 

@@ -18,7 +18,7 @@ int main(void)
            && (length = fread(chunk, 1, sizeof chunk, stdin)) > 0)
         code = icysixel_feed(&decoder, chunk, length, &fed);
     if (code == ICYSIXEL_OK) code = icysixel_finish(&decoder, &shape);
-    if (code == ICYSIXEL_OK) code = icysixel_take_pixels(&decoder, &pixels);
+    if (code == ICYSIXEL_OK) code = icysixel_take_pixels(&decoder, ICYSIXEL_ORDER_RGBA, &pixels);
 
     if (code == ICYSIXEL_OK) {
         fprintf(stderr, "%zu x %zu pixels\n", shape.width, shape.height);

@@ -63,7 +63,7 @@ static int write_image(icysixel *decoder, const icysixel_shape *shape)
     icysixel_bytes pixels = {0};
     uint8_t *text = NULL;
     size_t length;
-    if (icysixel_take_pixels(decoder, &pixels) == ICYSIXEL_OK &&
+    if (icysixel_take_pixels(decoder, ICYSIXEL_ORDER_RGBA, &pixels) == ICYSIXEL_OK &&
         icysixel_encode_compact(decoder, pixels.data, pixels.length, &encoding, 256, &length) ==
             ICYSIXEL_OK)
         text = malloc(length);

@@ -38,9 +38,11 @@ static uint32_t draw_bands(icysixel *sixel, const uint8_t *chunk, size_t length,
 static uint32_t draw_rest(icysixel *sixel, size_t drawn)
 {
     icysixel_shape shape;
-    size_t wanted, start = drawn * layout.stride;
-    uint32_t code = icysixel_finish_into(sixel, drawn, &layout, window + start,
-                                         sizeof window - start, &shape, &wanted);
+    size_t start = drawn * layout.stride;
+    uint32_t code = icysixel_finish(sixel, &shape);
+    if (code == ICYSIXEL_OK)
+        code = icysixel_copy_pixels(sixel, drawn, shape.height - drawn, &layout, window + start,
+                                    sizeof window - start);
     if (code == ICYSIXEL_OK)
         printf("%zu x %zu pixels, the first is %02x%02x%02x\n", shape.width, shape.height,
                window[2], window[1], window[0]);

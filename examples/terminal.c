@@ -39,7 +39,8 @@ static uint32_t end_image(struct terminal *term)
     icysixel_shape shape;
     icysixel_bytes pixels = {0};
     uint32_t code = icysixel_finish(&term->sixel, &shape);
-    if (code == ICYSIXEL_OK) code = icysixel_take_pixels(&term->sixel, &pixels);
+    if (code == ICYSIXEL_OK)
+        code = icysixel_take_pixels(&term->sixel, ICYSIXEL_ORDER_RGBA, &pixels);
     if (code != ICYSIXEL_OK) return code;
     const uint8_t *last = pixels.data + pixels.length - 4;
     printf("[%zu x %zu pixels on %zu rows, the last pixel is %02x%02x%02x]", shape.width,

@@ -9,9 +9,14 @@ class Handle(c.Structure):
 
 
 class Shape(c.Structure):
-    _fields_ = [(name, c.c_size_t) for name in ("width", "height", "drawn_height", "bytes")]
+    _fields_ = [(name, c.c_size_t) for name in ("width", "height", "drawn_height", "first_row")]
+    _fields_ += [("bytes", c.c_size_t), ("ignored", c.c_uint64)]
     _fields_ += [(name, c.c_uint16) for name in ("pixel_width", "pixel_height")]
-    _fields_ += [(name, c.c_uint8) for name in ("p1", "p2")]
+    _fields_ += [(name, c.c_uint8) for name in ("p1", "p2", "is_complete")]
+
+
+class Layout(c.Structure):
+    _fields_ = [("stride", c.c_size_t), ("columns", c.c_size_t), ("order", c.c_uint8)]
 
 
 library = c.CDLL("libicysixel.so.0")
@@ -32,7 +37,8 @@ def decode(data):
     shape = Shape()
     call("icysixel_decode", data, c.c_size_t(len(data)), c.byref(shape))
     rgba = c.create_string_buffer(shape.bytes)
-    call("icysixel_copy_pixels", rgba, c.c_size_t(shape.bytes), c.c_size_t(0), c.byref(size))
+    rows, layout = (c.c_size_t(0), c.c_size_t(shape.height)), c.byref(Layout())
+    call("icysixel_copy_pixels", *rows, layout, rgba, c.c_size_t(shape.bytes))
     pixels = b"".join(rgba.raw[at : at + 3] for at in range(0, shape.bytes, 4))
     return b"P6\n%d %d\n255\n" % (shape.width, shape.height) + pixels
 

@@ -69,7 +69,7 @@ static size_t width_of(int kind)
 static uint32_t make_image(icysixel *h, int kind, struct bytes *made)
 {
     const uint8_t *input = inputs[kind].at;
-    size_t length = inputs[kind].length, wanted;
+    size_t length = inputs[kind].length;
     icysixel_shape shape = {0};
     if (kind == CLIPPED) icysixel_set_clip(h, 50, 9);
     uint32_t code = kind <= CLIPPED ? icysixel_decode(h, input, length, &shape)
@@ -80,7 +80,7 @@ static uint32_t make_image(icysixel *h, int kind, struct bytes *made)
         CHECK(shape.width == width_of(kind));
         *made = (struct bytes){outcome_of(h, code, shape).pixels, shape.bytes};
     } else {
-        CHECK(icysixel_copy_pixels(h, NULL, 0, 0, &wanted) == ICYSIXEL_NO_IMAGE);
+        CHECK(icysixel_take_pixels(h, 0, &(icysixel_bytes){0}) == ICYSIXEL_NO_IMAGE);
     }
     return code;
 }
@@ -89,7 +89,7 @@ static uint32_t make_image(icysixel *h, int kind, struct bytes *made)
 static uint32_t make_rows(icysixel *h, int kind, struct bytes *made)
 {
     static uint8_t rows[18][520];
-    size_t length = sizeof payload - 1, final = 0, wanted;
+    size_t length = sizeof payload - 1, final = 0;
     icysixel_layout layout = {.columns = 130};
     icysixel_shape shape;
     icysixel_fed fed;
@@ -101,8 +101,9 @@ static uint32_t make_rows(icysixel *h, int kind, struct bytes *made)
         OK(icysixel_copy_rows(h, from, final - from, &layout, rows[from], (18 - from) * 520));
         OK(icysixel_release_rows(h, final));
     }
-    OK(icysixel_finish_into(h, final, &layout, rows[final], (18 - final) * 520, &shape, &wanted));
-    CHECK(shape.width == 130 && shape.height == 18);
+    OK(icysixel_finish(h, &shape));
+    CHECK(shape.width == 130 && shape.height == 18 && shape.first_row == final);
+    OK(icysixel_copy_pixels(h, final, 18 - final, &layout, rows[final], (18 - final) * 520));
     append(made, rows, sizeof rows);
     return ICYSIXEL_OK;
 }
@@ -257,7 +258,7 @@ static void test_no_allocation(void)
     size_t wanted;
     subject = "calls that do not allocate", line_number = 0;
     memory.requests = 0, memory.all_fail = true;
-    OK(icysixel_copy_pixels(&h, buffer, sizeof buffer, 0, &wanted));
+    OK(icysixel_copy_pixels(&h, 0, 1, &(icysixel_layout){.columns = 1}, buffer, sizeof buffer));
     OK(icysixel_copy_text(&h, buffer, sizeof buffer, &wanted));
     icysixel_set_register(&h, 1, 1, 2, 3);
     OK(icysixel_get_register(&h, 1, &color));
@@ -282,7 +283,7 @@ static void test_no_allocation(void)
     icysixel_set_limit(&h, SIZE_MAX), icysixel_set_clip(&h, SIZE_MAX, SIZE_MAX);
     OK(icysixel_decode(&h, string, sizeof string - 1, &shape));
     memory.requests = 0, memory.all_fail = true;
-    OK(icysixel_take_pixels(&h, &block)), CHECK(block.length == shape.bytes);
+    OK(icysixel_take_pixels(&h, 0, &block)), CHECK(block.length == shape.bytes);
     icysixel_free(&h);
     icysixel_free_bytes(&block);
     CHECK(memory.requests == 0 && memory.blocks == 0 && memory.bytes == 0);

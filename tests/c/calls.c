@@ -2,7 +2,7 @@
 #include "checks.h"
 
 _Static_assert(sizeof(icysixel) == 16 && sizeof(icysixel_fed) == 16 && sizeof(icysixel_size) == 16
-    && sizeof(icysixel_shape) == 40 && sizeof(icysixel_color) == 3 && sizeof(icysixel_bytes) == 24
+    && sizeof(icysixel_shape) == 56 && sizeof(icysixel_color) == 3 && sizeof(icysixel_bytes) == 24
     && sizeof(icysixel_palette) == 24 && sizeof(icysixel_refined) == 32
     && sizeof(icysixel_dithering) == 2 && sizeof(icysixel_encoding) == 40
     && sizeof(icysixel_layout) == 24, "the sizes of the structs");
@@ -16,7 +16,8 @@ _Static_assert(sizeof(icysixel) == 16 && sizeof(icysixel_fed) == 16 && sizeof(ic
 #define FEED(text) icysixel_feed(h, BYTES(text), &fed)
 #define ENCODE(call, pixels, ...)                                                                  \
     icysixel_encode_##call(h, SIZED(pixels), &e, __VA_ARGS__, &length)
-#define HAS_IMAGE (icysixel_copy_pixels(h, NULL, 0, 0, &wanted) != ICYSIXEL_NO_IMAGE)
+#define HAS_IMAGE                                                                                  \
+    (icysixel_copy_pixels(h, 0, 0, &(icysixel_layout){0}, NULL, 0) != ICYSIXEL_NO_IMAGE)
 #define RED "\377\0\0\377"
 #define FOUR_RED RED RED RED RED
 #define IS_RED(pixels, count) are_rows(pixels, count, RED, 4)
@@ -67,24 +68,22 @@ static void make_silent_calls(void)
     icysixel_set_limit(h, 1), icysixel_set_clip(h, 1, 1);
 }
 
-/* On an empty handle each call reports that, and writes nothing but a `wanted` of 0. */
+/* On an empty handle each call reports that, and writes nothing but a length of 0. */
 static void test_empty_handle(void)
 {
     icysixel_bytes block = {&(uint8_t){7}, 7, 7};
     icysixel_layout layout = {4, 1, ICYSIXEL_ORDER_RGBA};
     icysixel_encoding e = {.width = 1, .height = 1, .p1 = 9, .p2 = 1};
     uint8_t buffer[4] = {7, 7, 7, 7};
-    size_t copied = 7;
-    fed.consumed = shape.width = shape.bytes = size.width = wanted = length = color.red = 7;
+    fed.consumed = shape.width = shape.bytes = size.width = length = color.red = 7;
     make_silent_calls();
     CHECK(icysixel_is_empty(h) == 1);
     const uint32_t codes[] = {
         FEED("~"), icysixel_feed_band(h, BYTES("~"), &fed), icysixel_finish(h, &shape),
         icysixel_release_rows(h, 0), icysixel_get_size_so_far(h, &size),
         icysixel_copy_rows(h, 0, 1, &layout, buffer, 4),
-        icysixel_finish_into(h, 0, &layout, buffer, 4, &shape, &wanted),
         DECODE(red), icysixel_decode_payload(h, BYTES("~"), 9, 1, &shape),
-        icysixel_copy_pixels(h, NULL, 0, 0, &copied), icysixel_take_pixels(h, &block),
+        icysixel_copy_pixels(h, 0, 1, &layout, buffer, 4), icysixel_take_pixels(h, 0, &block),
         icysixel_get_register(h, 1, &color), icysixel_get_registers(h, 1, &color, 1),
         icysixel_get_clip(h, &size),
         icysixel_encode(h, BYTES("rgba"), 0, 1, 1, 9, 1, 9, &length),
@@ -96,7 +95,6 @@ static void test_empty_handle(void)
     EACH(code, codes) CHECK(*code == ICYSIXEL_NO_HANDLE);
     CHECK(fed.consumed == 7 && shape.width == 7 && shape.bytes == 7 && size.width == 7);
     CHECK(block.length == 7 && color.red == 7 && length == 7 && memcmp(buffer, "\7\7\7\7", 4) == 0);
-    CHECK(wanted == 0 && copied == 0);
     CHECK(icysixel_copy_text(h, NULL, 0, &length) == ICYSIXEL_NO_HANDLE && length == 0);
     CHECK((icysixel_is_receiving(h) | icysixel_in_payload(h) | icysixel_get_canvas_paints(h)
            | icysixel_get_drawn_height(h) | icysixel_get_rows_so_far(h) | icysixel_get_crop(h)
@@ -168,7 +166,7 @@ static void test_bands(void)
     icysixel_abort(h);
 }
 
-/* Final rows are copied to memory with a stride, and the others when the image ends. */
+/* Final rows are copied to memory with a stride, and the others from the finished image. */
 static void test_copied_rows(void)
 {
     enum { NOT_FINAL = ICYSIXEL_ROWS_NOT_FINAL };
@@ -178,9 +176,15 @@ static void test_copied_rows(void)
         {STRIDE, 0, 1, 72, {7, 2, 0}}, {STRIDE, 0, 1, 72, {3, 0, 0}},
         {STRIDE, 0, 0, 72, {0, 0, 0}}, {STRIDE, 0, 0, 72, {0, SIZE_MAX, 0}},
         {STRIDE, 0, 3, 72, {SIZE_MAX, 2, 0}}, {SMALL, 0, 6, 67, {12, 2, 0}},
+    }, wrong_pixels[] = {
+        {NOT_FINAL, 6, 7, 72, {12, 2, 0}}, {NOT_FINAL, SIZE_MAX, 1, 72, {12, 2, 0}},
+        {ICYSIXEL_ROWS_RELEASED, 5, 7, 72, {12, 2, 0}}, {STRIDE, 6, 1, 72, {11, 0, 0}},
+        {STRIDE, 6, 3, 72, {SIZE_MAX, 2, 0}}, {SMALL, 6, 6, 67, {12, 2, 0}},
+        {SMALL, 6, 6, 71, {0, 0, 0}},
     };
     uint8_t rows[72], dense[24];
-    memset(rows, 7, sizeof rows), shape.width = 7;
+    icysixel_bytes block = {0};
+    memset(rows, 7, sizeof rows);
     RETURNS(NO_SESSION, icysixel_copy_rows(h, 0, 0, &rgba, rows, 72));
     RETURNS(NO_SESSION, icysixel_release_rows(h, 0));
     icysixel_begin_payload(h, 3, 1);
@@ -202,87 +206,87 @@ static void test_copied_rows(void)
     RETURNS(ROWS_RELEASED, icysixel_copy_rows(h, 5, 1, &rgba, rows, 72));
     RETURNS(OK, icysixel_feed_band(h, BYTES("!3~"), &fed));
     CHECK(fed.consumed == 3 && fed.status == ICYSIXEL_MORE);
-    RETURNS(ROWS_RELEASED, icysixel_finish_into(h, 5, &rgba, rows, 72, &shape, &wanted));
-    RETURNS(ROWS_RELEASED, icysixel_finish(h, &shape));
-    RETURNS(BUFFER_TOO_SMALL, icysixel_finish_into(h, 6, &rgba, rows, 67, &shape, &wanted));
-    CHECK(wanted == 68 && icysixel_is_receiving(h) == 1 && shape.width == 7);
-    RETURNS(BAD_STRIDE, icysixel_finish_into(h, 6, &wrong[2].to, rows, 72, &shape, &wanted));
-    CHECK(wanted == 0 && icysixel_is_receiving(h) == 1 && shape.width == 7);
-    RETURNS(OK, icysixel_finish_into(h, 6, &rgba, rows, 68, &shape, &wanted));
-    CHECK(are_rows(rows, 6, "\377\0\0\377\377\0\0\377\7\7\7\7", 12) && wanted == 0);
-    CHECK(shape.width == 3 && shape.height == 12 && shape.drawn_height == 12 && shape.bytes == 144);
+    RETURNS(OK, icysixel_finish(h, &shape));
+    CHECK(shape.width == 3 && shape.height == 12 && shape.drawn_height == 12);
+    CHECK(shape.first_row == 6 && shape.bytes == 72 && shape.is_complete == 0);
     CHECK(shape.p1 == 3 && shape.p2 == 1 && shape.pixel_width == 1 && shape.pixel_height == 3);
-    CHECK(red_of_1() == 255);
-    RETURNS(NO_SESSION, icysixel_finish_into(h, 0, &rgba, rows, 72, &shape, &wanted));
+    EACH(it, wrong_pixels)
+        CHECK(icysixel_copy_pixels(h, it->first, it->rows, &it->to, rows, it->size) == it->code);
+    CHECK(are_rows(rows, 2, "\377\0\0\377\0\0\0\0\7\7\7\7", 12));
+    RETURNS(OK, icysixel_copy_pixels(h, 6, 6, &rgba, rows, 68));
+    CHECK(are_rows(rows, 6, "\377\0\0\377\377\0\0\377\7\7\7\7", 12) && red_of_1() == 255);
+    RETURNS(OK, icysixel_take_pixels(h, ICYSIXEL_ORDER_BGRA, &block));
+    CHECK(block.length == 72 && are_rows(block.data, 18, "\0\0\377\377", 4));
+    icysixel_free_bytes(&block);
+    RETURNS(NO_SESSION, icysixel_finish(h, &shape));
     RETURNS(NO_SESSION, icysixel_feed_band(h, BYTES("~"), &fed));
-    icysixel_begin_dcs(h);
-    RETURNS(OK, FEED("\033Pq~"));
-    RETURNS(INCOMPLETE, icysixel_finish_into(h, 0, &rgba, rows, 72, &shape, &wanted));
-    CHECK(icysixel_is_receiving(h) == 0);
     icysixel_begin_payload(h, 9, 1);
     CHECK(FEED("~-~") == OK && icysixel_release_rows(h, 6) == OK && FEED("!65536~") == BAD);
     RETURNS(ROWS_NOT_FINAL, icysixel_copy_rows(h, 6, 1, &rgba, rows, 72));
 }
 
-/* An image ends in memory. Too small memory leaves it open, its command too. A fault closes it. */
-static void test_finish_into(void)
+/* The end of an image can make it wider than it was so far. A copy writes only the columns that its
+ * layout names. */
+static void test_wider_end(void)
 {
-    static const icysixel_layout rgba = {12, 2, ICYSIXEL_ORDER_RGBA};
-    uint8_t rows[144];
-    memset(rows, 7, sizeof rows);
-    icysixel_begin_payload(h, 9, 1);
-    RETURNS(OK, FEED("#1;2;100;0;0~~#1;2;0;100;0-!3~"));
-    RETURNS(OK, icysixel_finish_into(h, 0, &rgba, rows, 144, &shape, &wanted));
-    CHECK(are_rows(rows, 6, RED RED "\7\7\7\7", 12) && shape.width == 3 && shape.height == 12);
-    CHECK(are_rows(rows + 72, 6, "\0\377\0\377\0\377\0\377\7\7\7\7", 12));
-    CHECK(icysixel_is_receiving(h) == 0 && red_of_1() == 0);
-    memset(rows, 7, sizeof rows);
-    icysixel_set_crop(h, 1), icysixel_begin_payload(h, 9, 1);
-    CHECK(FEED("\"1;1;1;3~-~") == OK);
-    icysixel_set_crop(h, 0);
-    RETURNS(OK, icysixel_finish_into(h, 6, &rgba, rows, 12, &shape, &wanted));
-    CHECK(shape.width == 1 && shape.height == 3 && rows[0] == 7);
-    icysixel_begin_payload(h, 9, 1);
-    CHECK(FEED("~\"1;1;1;9") == OK);
-    RETURNS(BUFFER_TOO_SMALL, icysixel_finish_into(h, 0, &rgba, rows, 72, &shape, &wanted));
-    CHECK(wanted == 104 && FEED("0") == OK);
-    RETURNS(BUFFER_TOO_SMALL, icysixel_finish_into(h, 0, &rgba, rows, 72, &shape, &wanted));
-    CHECK(wanted == 1076 && are_rows(rows, 12, "\7\7\7\7\7\7\7\7\7\7\7\7", 12));
-    RETURNS(OK, icysixel_finish_into(h, 84, &rgba, rows, 72, &shape, &wanted));
-    CHECK(are_rows(rows, 6, "\0\0\0\0\0\0\0\0\7\7\7\7", 12) && shape.height == 90);
-    icysixel_begin_payload(h, 9, 1);
-    CHECK(FEED("~!65536") == OK);
-    RETURNS(MALFORMED, icysixel_finish_into(h, 0, &rgba, rows, 72, &shape, &wanted));
-    CHECK(icysixel_is_receiving(h) == 0);
+    uint8_t *rows = malloc(24);
+    memset(rows, 7, 24);
+    icysixel_reset_registers(h), icysixel_begin_payload(h, 9, 1);
+    CHECK(FEED("#1~\"1;1;100;6") == OK && icysixel_get_size_so_far(h, &size) == OK);
+    CHECK(size.width == 1 && size.height == 6 && icysixel_finish(h, &shape) == OK);
+    CHECK(shape.width == 100 && shape.bytes == 2400);
+    RETURNS(BUFFER_TOO_SMALL, icysixel_copy_pixels(h, 0, 6, &(icysixel_layout){0}, rows, 24));
+    RETURNS(BAD_STRIDE, icysixel_copy_pixels(h, 0, 6, &(icysixel_layout){.stride = 4}, rows, 24));
+    CHECK(are_rows(rows, 6, "\7\7\7\7", 4));
+    RETURNS(OK, icysixel_copy_pixels(h, 0, 6, &(icysixel_layout){.columns = 1}, rows, 24));
+    CHECK(are_rows(rows, 6, "\63\63\314\377", 4));
+    free(rows);
 }
 
-/* Pixels are copied row by row with a stride, only into a buffer that is large enough, and once. */
+/* Rows that crop cuts off are not stored, whether they were released or not. */
+static void test_cropped_rows(void)
+{
+    static const char *const chunks[] = {"\"1;1;1;3~-~", "\"1;1;1;9~-~"};
+    EACH(chunk, chunks) {
+        size_t height = line_number == 0 ? 3 : 9, first = line_number == 0 ? 3 : 6;
+        icysixel_set_crop(h, 1), icysixel_begin_payload(h, 9, 1), icysixel_set_crop(h, 0);
+        CHECK(FEED(*chunk) == OK && icysixel_release_rows(h, 6) == OK);
+        RETURNS(OK, icysixel_finish(h, &shape));
+        CHECK(shape.height == height && shape.first_row == first);
+        CHECK(shape.bytes == 4 * (height - first) && HAS_IMAGE);
+    }
+}
+
+/* Stored pixels are copied row by row with a stride, as often as wanted. */
 static void test_pixels(void)
 {
-    static const struct { size_t size, stride, wanted; uint32_t code; } copies[] = {
-        {287, 0, 288, SMALL}, {0, 0, 288, SMALL}, {312, 47, 0, STRIDE}, {307, 52, 308, SMALL},
-        {308, 52, 308, OK}, {0, 0, 0, ICYSIXEL_NO_IMAGE},
+    static const struct { size_t rows, size; icysixel_layout to; uint32_t code; } copies[] = {
+        {6, 287, {0}, SMALL}, {6, 0, {0}, SMALL}, {6, 312, {47, 0, 0}, STRIDE},
+        {6, 307, {52, 0, 0}, SMALL}, {6, 308, {52, 0, 0}, OK}, {6, 308, {52, 12, 0}, OK},
+        {0, 0, {0}, OK},
     };
     uint8_t buffer[6 * 52];
     RETURNS(OK, DECODE(red));
+    CHECK(shape.is_complete == 1 && shape.first_row == 0 && shape.ignored == 0);
     memset(buffer, 7, sizeof buffer);
-    EACH(row, copies) {
-        uint8_t *start = row->size == 0 ? NULL : buffer;
-        CHECK(icysixel_copy_pixels(h, start, row->size, row->stride, &wanted) == row->code);
-        CHECK(wanted == row->wanted);
+    EACH(it, copies) {
+        uint8_t *start = it->size == 0 ? NULL : buffer;
+        CHECK(icysixel_copy_pixels(h, 0, it->rows, &it->to, start, it->size) == it->code);
     }
     CHECK(are_rows(buffer, 6, FOUR_RED FOUR_RED FOUR_RED "\7\7\7\7", 52));
+    RETURNS(OK, icysixel_copy_pixels(h, 5, 1, &(icysixel_layout){0, 1, 1}, buffer, 4));
+    CHECK(memcmp(buffer, "\0\0\377\377\377", 5) == 0 && HAS_IMAGE);
 }
 
 /* The library's own block belongs to the caller, and outlives later images and the handle. */
 static void test_take_pixels(void)
 {
     icysixel_bytes first = {0}, second = {0};
-    CHECK(DECODE(red) == OK && icysixel_take_pixels(h, &first) == OK);
+    CHECK(DECODE(red) == OK && icysixel_take_pixels(h, 0, &first) == OK);
     CHECK(first.length == 288 && first.capacity >= 288 && !HAS_IMAGE);
-    RETURNS(NO_IMAGE, icysixel_take_pixels(h, &second));
+    RETURNS(NO_IMAGE, icysixel_take_pixels(h, 0, &second));
     CHECK(second.data == NULL && second.length == 0 && second.capacity == 0);
-    CHECK(DECODE("\033P9;1q!5~\033\\") == OK && icysixel_take_pixels(h, &second) == OK);
+    CHECK(DECODE("\033P9;1q!5~\033\\") == OK && icysixel_take_pixels(h, 0, &second) == OK);
     icysixel_discard_image(h);
     CHECK(IS_RED(first.data, 72));
     memset(first.data, 7, first.capacity);
@@ -338,18 +342,15 @@ static void test_drawn_height(void)
         {"\"1;1;20;12@@@@@@@@@@A@@@@", 0, 99, 12, 2}, {"@-B!5", 0, 99, 12, 8},
         {"\"1;1;20;12AAAAAAAAAA-@@@@@@@@@@", 0, 99, 12, 7}, {"@", 0, 99, 6, 1},
     };
-    static const icysixel_layout layout = {.columns = 1};
-    uint8_t pixels[96];
     EACH(row, images) {
         icysixel_set_crop(h, row->crop), icysixel_set_clip(h, 999, row->rows);
-        for (int call = 0; call < 4; call++) {
+        for (int call = 0; call < 3; call++) {
             icysixel_begin_payload(h, 9, 1);
             RETURNS(OK, FEED(row->data));
             CHECK(row->crop == 1 || icysixel_get_drawn_height(h) == row->drawn);
             const uint32_t code = call == 0 ? DECODE(row->data)
                 : call == 1 ? icysixel_decode_payload(h, BYTES(row->data), 9, 1, &shape)
-                : call == 2 ? icysixel_finish(h, &shape)
-                : icysixel_finish_into(h, 0, &layout, pixels, 96, &shape, &wanted);
+                : icysixel_finish(h, &shape);
             CHECK(code == OK && shape.height == row->height && shape.drawn_height == row->drawn);
             shape = (icysixel_shape){0};
         }
@@ -380,7 +381,7 @@ static void test_registers(void)
     icysixel_set_register(h, 1, 255, 1, 2);
     CHECK(red_of_1() == 255 && color.green == 1 && color.blue == 2);
     RETURNS(OK, icysixel_decode(h, BYTES("..\033P0;1q#1@\033\\"), &shape));
-    RETURNS(OK, icysixel_copy_pixels(h, pixels, sizeof pixels, 0, &wanted));
+    RETURNS(OK, icysixel_copy_pixels(h, 0, 6, &(icysixel_layout){0}, pixels, sizeof pixels));
     CHECK(memcmp(pixels, "\377\1\2\377\0\0\0\0", 8) == 0);
     icysixel_reset_registers(h);
     CHECK(red_of_1() == 51);
@@ -608,10 +609,10 @@ int main(void)
 {
     static const struct { const char *name; void (*test)(void); } tests[] = {
         TEST(empty_handle), TEST(new_on_full_handle), TEST(progress), TEST(canvas_paints),
-        TEST(bands), TEST(copied_rows), TEST(finish_into), TEST(pixels), TEST(errors),
-        TEST(drawn_height), TEST(take_pixels), TEST(new_on_full_handle), TEST(registers),
-        TEST(settings), TEST(encode), TEST(encodings), TEST(widest), TEST(palettes), TEST(indices),
-        TEST(code_texts), TEST(version),
+        TEST(bands), TEST(copied_rows), TEST(wider_end), TEST(cropped_rows), TEST(pixels),
+        TEST(errors), TEST(drawn_height), TEST(take_pixels), TEST(new_on_full_handle),
+        TEST(registers), TEST(settings), TEST(encode), TEST(encodings), TEST(widest),
+        TEST(palettes), TEST(indices), TEST(code_texts), TEST(version),
     };
     for (size_t i = 0; i < COUNT_OF(tests); i++) subject = tests[i].name, tests[i].test();
     icysixel_free(h);

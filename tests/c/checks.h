@@ -99,12 +99,11 @@ struct outcome {
 static inline struct outcome outcome_of(icysixel *decoder, uint32_t code, icysixel_shape shape)
 {
     struct outcome outcome = {code, shape, NULL};
-    size_t wanted = 0;
     if (code != ICYSIXEL_OK) return outcome;
     CHECK(shape.bytes == 4 * shape.width * shape.height);
     outcome.pixels = malloc(shape.bytes);
-    CHECK(icysixel_copy_pixels(decoder, outcome.pixels, shape.bytes, 0, &wanted) == ICYSIXEL_OK);
-    CHECK(wanted == shape.bytes);
+    CHECK(icysixel_copy_pixels(decoder, 0, shape.height, &(icysixel_layout){0}, outcome.pixels,
+                               shape.bytes) == ICYSIXEL_OK);
     return outcome;
 }
 

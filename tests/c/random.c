@@ -84,7 +84,7 @@ static void try_rows(struct bytes data, const struct outcome *image)
     bool is_image = image->code == ICYSIXEL_OK;
     icysixel_layout layout = {.columns = is_image ? image->shape.width : 1};
     size_t row = 4 * layout.columns, size = is_image ? row * image->shape.height : 0;
-    size_t copied = 0, seen = 0, wanted;
+    size_t copied = 0, seen = 0;
     struct outcome rows = {ICYSIXEL_OK, shape, malloc(size)};
     for (size_t at = 0; rows.code == ICYSIXEL_OK && at < data.length; at += fed.consumed) {
         struct bytes chunk = part(data, at, 1 + below(30));
@@ -101,9 +101,13 @@ static void try_rows(struct bytes data, const struct outcome *image)
         if (below(2)) CHECK(icysixel_release_rows(&decoder, final) == ICYSIXEL_OK);
         copied = final;
     }
-    if (rows.code == ICYSIXEL_OK)
-        rows.code = icysixel_finish_into(&decoder, copied, &layout, rows.pixels + copied * row,
-                                         size - copied * row, &rows.shape, &wanted);
+    if (rows.code == ICYSIXEL_OK) rows.code = icysixel_finish(&decoder, &rows.shape);
+    if (rows.code == ICYSIXEL_OK) {
+        size_t height = rows.shape.height, from = copied < height ? copied : height;
+        CHECK(icysixel_copy_pixels(&decoder, from, height - from, &layout,
+                                   rows.pixels + from * row, size - from * row) == ICYSIXEL_OK);
+        rows.shape.bytes = size;
+    }
     CHECK(is_same(&rows, image));
     free(rows.pixels), icysixel_free(&decoder);
 }

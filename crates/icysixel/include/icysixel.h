@@ -88,13 +88,16 @@ typedef struct {
 /* The properties of an image, without its pixels. */
 typedef struct {
     size_t width;          /* pixels in a row */
-    size_t height;         /* rows */
+    size_t height;         /* rows, with those that were released */
     size_t drawn_height;   /* rows down to the last one with a set pixel, at most height; or 0 */
-    size_t bytes;          /* 4 * width * height, the size of all pixels with stride 0 */
+    size_t first_row;      /* rows from the top that were released, at most height */
+    size_t bytes;          /* 4 * width * (height - first_row), the size of the stored rows */
+    uint64_t ignored;      /* commands that were ignored, if the image is lenient; it saturates */
     uint16_t pixel_width;  /* the displayed width of a pixel: 1 */
     uint16_t pixel_height; /* the displayed height of a pixel in the same unit: 1, 2, 3 or 5 */
     uint8_t p1;            /* the DCS parameter P1 for this shape of a pixel: 9, 0, 3 or 2 */
     uint8_t p2;            /* the background: 1 is transparent, 0 is the color of register 0 */
+    uint8_t is_complete;   /* 1 if the end of the image was fed, and 0 if not */
 } icysixel_shape;
 
 /* A color, one byte for each channel. */
@@ -146,7 +149,7 @@ typedef struct {
 /* How rows of pixels lie in a buffer. */
 typedef struct {
     size_t stride;  /* bytes from the start of a row to the next, or 0 for 4 * columns */
-    size_t columns; /* pixels of a row that are written; bytes right of them are unchanged */
+    size_t columns; /* pixels of a row that are written, or 0 for all of a stored image */
     uint8_t order;  /* an enum icysixel_order; numbers above 1 are BGRA, too */
 } icysixel_layout;
 
@@ -179,8 +182,8 @@ enum icysixel_code {
     /* about palettes */
     ICYSIXEL_COLOR_COUNT = 20, /* the number of colors is not 1 to 256 */
     ICYSIXEL_INDEX_RANGE = 21, /* the palette index of an opaque pixel is past the palette */
-    /* about rows of an open image */
-    ICYSIXEL_ROWS_NOT_FINAL = 22, /* bytes to come can change the rows */
+    /* about rows of an image */
+    ICYSIXEL_ROWS_NOT_FINAL = 22, /* bytes to come can change the rows, or there are none */
     ICYSIXEL_ROWS_RELEASED = 23   /* the rows were released */
 };
 
@@ -294,28 +297,17 @@ uint32_t icysixel_copy_rows(icysixel *handle, size_t first, size_t rows,
 
 /* Releases the final rows above row `rows` of the open image, which were copied. So an image that
  * is shown while it comes takes the memory of one band: copy the final rows and release them after
- * each band. icysixel_finish_into copies those that are left. icysixel_finish fails with
- * ICYSIXEL_ROWS_RELEASED, because no memory has the whole image. The call does not allocate. The
- * errors are ICYSIXEL_NO_SESSION if no image is open, and ICYSIXEL_ROWS_NOT_FINAL if `rows` is
+ * each band. icysixel_finish stores the rows that are left. The call does not allocate. The errors
+ * are ICYSIXEL_NO_SESSION if no image is open, and ICYSIXEL_ROWS_NOT_FINAL if `rows` is
  * above icysixel_get_rows_so_far. */
 uint32_t icysixel_release_rows(icysixel *handle, size_t rows);
 
-/* Closes the open image as icysixel_finish does, and copies its rows from `first` on to `buf` in
- * place of storing it. A stored image stays. With `first` 0 these are all rows, and otherwise those
- * below the rows that were copied before. No row is copied if crop ends the image above `first`.
- * It does not allocate. The errors of the data come first, as in icysixel_finish.
- * ICYSIXEL_ROWS_RELEASED, ICYSIXEL_BAD_STRIDE and ICYSIXEL_BUFFER_TOO_SMALL leave the image open
- * as it was. `wanted` is the number of bytes needed with ICYSIXEL_BUFFER_TOO_SMALL, and 0
- * otherwise. */
-uint32_t icysixel_finish_into(icysixel *handle, size_t first, const icysixel_layout *layout,
-                              uint8_t *buf, size_t size, icysixel_shape *shape, size_t *wanted);
-
 /* Closes the open image, stores it and writes its properties. It replaces an image that is stored.
- * The decoder takes over the image's registers. The errors are those of icysixel_feed, and
- * ICYSIXEL_INCOMPLETE for a DCS sequence without terminator. A payload can end anywhere. An error
- * closes the image too. Then no image is stored and no register changes. ICYSIXEL_ROWS_RELEASED
- * stores no image either, but leaves the image open: end it by icysixel_finish_into. It is reported
- * before ICYSIXEL_INCOMPLETE. */
+ * Rows that were released are not stored. The decoder takes over the image's registers. The image
+ * is complete if its terminator was fed, and a control byte that ends it early is one too. The
+ * errors are those of icysixel_feed, and ICYSIXEL_INCOMPLETE for a DCS sequence without terminator.
+ * A payload can end anywhere. An error closes the image too. Then no image is stored and no
+ * register changes. */
 uint32_t icysixel_finish(icysixel *handle, icysixel_shape *shape);
 
 /* Aborts the open image, if there is one. The decoder is unchanged. */
@@ -325,7 +317,8 @@ void icysixel_abort(icysixel *handle);
 
 /* Decodes the first DCS sequence in the bytes, or all of them as a payload if there is none. It
  * stores the image and writes its properties, as icysixel_finish does. The sequence needs no
- * terminator. The errors are those of the data and ICYSIXEL_OUT_OF_MEMORY. An open image is
+ * terminator. All bytes are given, so `is_complete` is 1. Ignored commands are not counted, so
+ * `ignored` is 0. The errors are those of the data and ICYSIXEL_OUT_OF_MEMORY. An open image is
  * aborted. */
 uint32_t icysixel_decode(icysixel *handle, const uint8_t *bytes, size_t length,
                          icysixel_shape *shape);
@@ -336,18 +329,26 @@ uint32_t icysixel_decode_payload(icysixel *handle, const uint8_t *bytes, size_t 
 
 /* -- The stored image -- */
 
-/* Copies the pixels of the stored image to `buf` and releases the image. Row n starts at n *
- * stride, and has 4 * width bytes. Bytes between rows are unchanged. `wanted` is the number of
- * bytes needed, also with ICYSIXEL_BUFFER_TOO_SMALL. With another error it is 0. After an error the
- * image is still stored. It does not allocate. */
-uint32_t icysixel_copy_pixels(icysixel *handle, uint8_t *buf, size_t size, size_t stride,
-                              size_t *wanted);
+/* Copies `rows` rows of the stored image from row `first` on to `buf`. The first of them starts at
+ * buf[0]. Bytes between rows are unchanged. The image stays stored, so rows can be copied as often
+ * as wanted. With a zeroed layout all columns are copied, in RGBA and without gaps. Columns on the
+ * right of the image are transparent. It does not allocate. The errors, in this order, are:
+ *
+ * - ICYSIXEL_NO_IMAGE;
+ * - ICYSIXEL_ROWS_NOT_FINAL if first + rows is above the height;
+ * - ICYSIXEL_ROWS_RELEASED if `first` is less than `first_row` of the shape;
+ * - ICYSIXEL_BAD_STRIDE if the stride is shorter than a row or a pixel, or the rows overflow
+ *   size_t;
+ * - ICYSIXEL_BUFFER_TOO_SMALL. */
+uint32_t icysixel_copy_pixels(icysixel *handle, size_t first, size_t rows,
+                              const icysixel_layout *layout, uint8_t *buf, size_t size);
 
-/* Transfers the pixels of the stored image to the caller, with stride 0 and without a copy. The
- * error is ICYSIXEL_NO_IMAGE. The call does not allocate, and does not free an earlier block in
- * `pixels`. The block stays valid after icysixel_free. icysixel_free_bytes frees it, and so does
- * free(pixels->data) with the default memory functions. */
-uint32_t icysixel_take_pixels(icysixel *handle, icysixel_bytes *pixels);
+/* Transfers the pixels of the stored rows to the caller, with stride 0 and without a copy. `order`
+ * is an enum icysixel_order, and numbers above 1 are BGRA, too. Red and blue are exchanged in
+ * place. The error is ICYSIXEL_NO_IMAGE. The call does not allocate, and does not free an earlier
+ * block in `pixels`. The block stays valid after icysixel_free. icysixel_free_bytes frees it, and
+ * so does free(pixels->data) with the default memory functions. */
+uint32_t icysixel_take_pixels(icysixel *handle, uint8_t order, icysixel_bytes *pixels);
 
 /* Frees a block that the library has transferred, if there is one, and zeroes `bytes`. The caller
  * may have written to its data, but not to `length` or `capacity`. */

@@ -3,10 +3,9 @@ pub mod AsBytes
 pub mod Calls
 pub mod Dense
 pub mod Ended
+pub mod Gathered
 pub mod Known
 pub mod MissingCommand
-pub mod Spread
 pub mod Stored
 pub mod Witnesses
 pub mod RowsCodes
-pub mod EndedImages

@@ -1,12 +1,12 @@
 -- Finishing an image finds no missing command: neither a payload nor a control string that was
 -- begun has this fault.
-use Rattle.std.proofs.Common.{◌≡◌, ◌≢◌, ℕ, zero, suc, ◌+◌, ◌*◌, ◌<◌, Bool, true, false}
+use Rattle.std.proofs.Common.{◌≡◌, ◌≢◌, ℕ, ◌+◌, ◌*◌, Bool, true, false}
 use Rattle.std.proofs.Common.{List, [], ◌∷◌, Option, Some}
 use Rattle.std.proofs.Common.{None, refl, ◌∙◌, sym, arith, inl, inr}
 use Rattle.std.specs.Prelude.{IfSome, if◌then◌else◌, nat_lt, ◌||◌}
 use Rattle.std.specs.Option.{option_or}
 use Rattle.sixel_base.specs.Clip.{clipped_height, clipped_width}
-use Rattle.sixel_base.specs.Dcs.{dcs_status, has_ended}
+use Rattle.sixel_base.specs.Dcs.{can_finish}
 use Rattle.sixel_base.specs.Fault.{Fault, Malformed, TooLarge, Incomplete, Overflow}
 use Rattle.sixel_base.specs.Bytes.{front}
 use Rattle.sixel_base.specs.Fields.{field}
@@ -78,9 +78,11 @@ payload_other limit (token ∷ older) =
 
 end_other : (limit : Limit) (form : Form) (bytes : List ℕ) → IsOther (end_fault limit form bytes)
 end_other limit Nothing bytes = omega arith
-end_other limit (OfPayload settings) bytes = payload_other limit (history_of (front bytes))
+end_other limit (OfPayload settings) bytes =
+    branch limit.lenient None (first_fault limit (history_of (front bytes))) tt
+    (payload_other limit (history_of (front bytes)))
 end_other limit OfString bytes =
-    branch (has_ended (dcs_status bytes)) None (Some Incomplete) tt incomplete
+    branch (can_finish limit bytes) None (Some Incomplete) tt incomplete
 
 told_other : (code : ℕ) (wants : Bool) (found : Option Fault) → IsOther found
     → IsTold code wants found → code ≢ 16
@@ -116,30 +118,11 @@ form_other limit (OfPayload settings) bytes was_refused wants code unopened agai
 form_other limit OfString bytes was_refused wants code unopened again refused =
     opened_other limit OfString bytes was_refused wants code (again refl) (refused refl)
 
--- of an image of which rows were released it has code 23
-released_other : (limit : Limit) (form : Form) (bytes : List ℕ) (was_refused wants : Bool)
-    (code released : ℕ)
-    → (is_open form ≡ false → code ≡ 2)
-    → (is_open form ≡ true → 0 < released → code ≡ 23)
-    → (is_open form ≡ true → released ≡ 0 → was_refused ≡ true → code ≡ fault_code (failed form))
-    → (is_open form ≡ true → released ≡ 0 → was_refused ≡ false → code ≢ 0
-    → IsTold code wants (end_fault limit form bytes)) → code ≢ 16
-released_other limit form bytes was_refused wants code zero unopened left again refused =
-    form_other limit form bytes was_refused wants code unopened (λ opened. again opened refl)
-    (λ opened. refused opened refl)
-released_other limit Nothing bytes was_refused wants code (suc n) unopened left again refused =
-    omega (arith, unopened refl)
-released_other limit (OfPayload settings) bytes was_refused wants code (suc n) unopened left again
-    refused = omega (arith, left refl (omega arith))
-released_other limit OfString bytes was_refused wants code (suc n) unopened left again refused =
-    omega (arith, left refl (omega arith))
-
 -- the code of finishing an image is not that of a missing command
 pub finish_other : (before after : State) (now : Shape) (code : ℕ)
     → IsFinished before after now code → code ≢ 16
 finish_other before after now code finished =
     let image = before.receiver.image in
-    released_other image.start.pixel_limit image.form image.bytes image.is_refused
-    (end_wants image.start.pixel_limit image.form image.bytes) code image.released
-    finished.unopened (λ opened some. (finished.released opened some).0) finished.again
-    finished.refused
+    form_other image.start.pixel_limit image.form image.bytes image.is_refused
+    (end_wants image.start.pixel_limit image.form image.bytes) code finished.unopened
+    finished.again finished.refused

@@ -1,7 +1,7 @@
 -- The rows of an image in the caller's memory. A stride is the number of bytes from the start of a
 -- row to the start of the next.
 use Rattle.std.specs.Prelude.{ℕ, ◌+◌, ◌-◌, ◌*◌, ◌==◌, nat_lt, ◌||◌, if◌then◌else◌, List, Option}
-use Rattle.std.specs.Prelude.{Some, None, slice_range, ◌≡◌, Bool, true, false}
+use Rattle.std.specs.Prelude.{Some, None, slice_range, Bool, true, false}
 use Rattle.sixel_base.specs.Payload.{Image}
 use Rattle.sixel_base.specs.Picture.{joined}
 use Rattle.icy_sixel.specs.FinalRows.{usize_max}
@@ -32,9 +32,3 @@ rows_of stride wide height bytes =
 -- the number of bytes of the rows of an image at this stride
 abbrev pub bytes_of : ℕ → Image → Option ℕ
 bytes_of stride image = wanted (stride_of stride (4 * image.width)) (4 * image.width) image.height
-
--- the gap after a row is unchanged
-abbrev pub AreGapsKept : ℕ → ℕ → ℕ → List ℕ → List ℕ → Type 0
-AreGapsKept stride wide row before after =
-    slice_range after (row * stride + wide) ((row + 1) * stride)
-    ≡ slice_range before (row * stride + wide) ((row + 1) * stride)

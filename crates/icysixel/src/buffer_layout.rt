@@ -18,33 +18,38 @@ use sixel_base::error;
 pub struct BufferLayout {
     /// The number of bytes from row to row, or 0 for rows without gaps.
     pub stride: usize,
-    /// How many pixels of a row are written.
+    /// How many pixels of a row are written, or 0 for all pixels of the image.
     pub columns: usize,
     /// 0 is RGBA, any other number BGRA.
     pub order: u8,
 }
 
 impl BufferLayout {
-    /// The layout of rows.
-    pub fn row_layout(&self) -> RowLayout
-        ensures { result ≡ layout_of self.now }
+    /// The layout of rows of an image with this width.
+    pub fn row_layout(&self, width: usize) -> RowLayout
+        ensures { result ≡ layout_of width self.now }
     {
+        let columns = if self.columns == 0 {
+            width
+        } else {
+            self.columns
+        };
         RowLayout {
-            stride: stride_of(self.stride, self.columns.saturating_mul(4)),
-            columns: self.columns,
-            order: self.channel_order(),
+            stride: stride_of(self.stride, columns.saturating_mul(4)),
+            columns,
+            order: channel_order(self.order),
         }
     }
+}
 
-    /// The order of a pixel's bytes.
-    fn channel_order(&self) -> ChannelOrder
-        ensures { result ≡ order_of self.now }
-    {
-        if self.order == 0 {
-            ChannelOrder::Rgba
-        } else {
-            ChannelOrder::Bgra
-        }
+/// The order of a pixel's bytes.
+pub fn channel_order(order: u8) -> ChannelOrder
+    ensures { result ≡ order_of order }
+{
+    if order == 0 {
+        ChannelOrder::Rgba
+    } else {
+        ChannelOrder::Bgra
     }
 }
 
@@ -64,18 +69,5 @@ pub fn rows_code(error: &SixelError) -> u32
         SixelError::InvalidData(error::ROWS_NOT_FINAL) => Code::RowsNotFinal as u32,
         SixelError::InvalidData(error::ROWS_RELEASED) => Code::RowsReleased as u32,
         _ => Code::BadStride as u32,
-    }
-}
-
-/// The number of bytes that the rows take, if the buffer is too small, or 0.
-pub fn needed_len(error: &SixelError) -> usize
-    ensures small { (expected actual : ℕ) → error.now ≡ BufferSizeMismatch expected actual
-        → result ≡ expected }
-    ensures other { ((expected actual : ℕ) → error.now ≡ BufferSizeMismatch expected actual → ⊥)
-        → result ≡ 0 }
-{
-    match error {
-        SixelError::BufferSizeMismatch { expected, .. } => *expected,
-        _ => 0,
     }
 }

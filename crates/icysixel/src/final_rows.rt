@@ -1,14 +1,12 @@
-//! The calls on final rows of the open image, and on rows in the caller's memory.
+//! The calls on final rows of the open image.
 
 ghost use Rattle.std.specs.Prelude.{◌≡◌, ◌≢◌, Some, None, is_some, length};
 ghost use Rattle.icy_sixel.specs.FinalRows.{rows_so_far};
-ghost use Rattle.icysixel.specs.FinalRows.{AreRowsCopied, AreRowsReleased, IsFinishedInto};
-ghost use Rattle.icysixel.specs.FinalRows.{layout_of};
+ghost use Rattle.icysixel.specs.FinalRows.{AreRowsCopied, AreRowsReleased, layout_of};
 ghost use Rattle.icysixel.specs.declared.state.State.{State};
 
-use crate::buffer_layout::{BufferLayout, needed_len, rows_code};
-use crate::code::{Code, code_of};
-use crate::shape::Shape;
+use crate::buffer_layout::{BufferLayout, rows_code};
+use crate::code::Code;
 use crate::slot::Slot;
 use crate::state::State;
 use icy_sixel::RowLayout;
@@ -39,13 +37,13 @@ pub extern "C" fn icysixel_copy_rows(
     ensures same { slot.new.handle.state ≡ slot.old.handle.state }
     ensures none { slot.old.handle.state ≡ None → result ≡ 1 }
     ensures copied { (state : State) → slot.old.handle.state ≡ Some state
-        → AreRowsCopied state first rows (layout_of layout.now) buf.old buf.new result }
+        → AreRowsCopied state first rows (layout_of 0 layout.now) buf.old buf.new result }
     ensures untouched { result ≢ 0 → buf.new ≡ buf.old }
 {
     if !slot.is_held() {
         return Code::NoHandle as u32;
     }
-    copy_rows(slot.state(), first, rows, layout.row_layout(), buf)
+    copy_rows(slot.state(), first, rows, layout.row_layout(0), buf)
 }
 
 /// Copies final rows of the image, if one is open.
@@ -86,66 +84,5 @@ fn release_rows(state: &mut State, rows: usize) -> u32
     match state.receiver.release_rows(rows) {
         Ok(()) => Code::Success as u32,
         Err(error) => rows_code(&error),
-    }
-}
-
-/// Closes the open image, and copies its rows from `first` on to the buffer.
-#[unsafe(no_mangle)]
-pub extern "C" fn icysixel_finish_into(
-    slot: &mut Slot,
-    first: usize,
-    layout: &BufferLayout,
-    buf: &mut [u8],
-    shape: &mut Shape,
-    wanted: &mut usize,
-) -> u32
-    ensures held { is_some slot.new.handle.state ≡ is_some slot.old.handle.state }
-    ensures none { slot.old.handle.state ≡ None → result ≡ 1 }
-    ensures finished { (before after : State) → slot.old.handle.state ≡ Some before
-        → slot.new.handle.state ≡ Some after
-        → IsFinishedInto before after first (layout_of layout.now) buf.old buf.new shape.new
-        wanted.new result }
-    ensures untouched { result ≢ 0 → buf.new ≡ buf.old }
-    ensures told { result ≢ 0 → shape.new ≡ shape.old }
-    ensures no_wanted { result ≢ 6 → wanted.new ≡ 0 }
-{
-    *wanted = 0;
-    if !slot.is_held() {
-        return Code::NoHandle as u32;
-    }
-    finish_into(slot.state(), first, layout.row_layout(), buf, shape, wanted)
-}
-
-/// Closes the image, if one is open, and copies its rows from `first` on.
-fn finish_into(
-    state: &mut State,
-    first: usize,
-    layout: RowLayout,
-    buf: &mut [u8],
-    shape: &mut Shape,
-    wanted: &mut usize,
-) -> u32
-    ensures finished { IsFinishedInto state.old state.new first layout buf.old buf.new shape.new
-        wanted.new result }
-    ensures untouched { result ≢ 0 → buf.new ≡ buf.old }
-    ensures told { result ≢ 0 → shape.new ≡ shape.old }
-    ensures no_wanted { result ≢ 6 → wanted.new ≡ 0 }
-{
-    *wanted = 0;
-    if !state.receiver.is_receiving() {
-        return Code::NoSession as u32;
-    }
-    match state.receiver.finish_into(first, layout, buf) {
-        Ok(copied) => {
-            *shape = Shape::of_copied(copied);
-            Code::Success as u32
-        }
-        Err(error) => {
-            if !state.receiver.is_receiving() {
-                return code_of(&error);
-            }
-            *wanted = needed_len(&error);
-            rows_code(&error)
-        }
     }
 }

@@ -1,29 +1,22 @@
 //! The calls that finish an image, and copy, transfer and free its pixels.
 
-ghost use Rattle.std.specs.Prelude.{◌≡◌, ◌≢◌, ◌*◌, ◌<◌, ◌≤◌, ℕ, Some, None, is_some};
-ghost use Rattle.std.specs.Prelude.{[], length, drop};
-ghost use Rattle.sixel_base.specs.Payload.{Image};
-ghost use Rattle.icy_sixel.specs.ImageView.{image_value};
-ghost use Rattle.icy_sixel.specs.declared.sixel_image.SixelImage.{SixelImage};
+ghost use Rattle.std.specs.Prelude.{◌≡◌, ◌≢◌, ◌≤◌, Some, None, is_some, []};
+ghost use Rattle.icy_sixel.specs.declared.receiver.received_image.ReceivedImage.{ReceivedImage};
 ghost use Rattle.icysixel.specs.Changes.{Acts};
+ghost use Rattle.icysixel.specs.FinalRows.{AreInOrder, ArePixelsCopied};
 ghost use Rattle.icysixel.specs.Finish.{IsFinished};
-ghost use Rattle.icysixel.specs.Kept.{kept_image};
-ghost use Rattle.icysixel.specs.Rows.{AreGapsKept, bytes_of, rows_of, stride_of, wanted};
 ghost use Rattle.icysixel.specs.declared.state.State.{State};
 
+use crate::buffer_layout::{BufferLayout, channel_order, rows_code};
 use crate::bytes::Bytes;
-use crate::code::Code;
-use crate::rows::{Layout, stride_of};
+use crate::code::{Code, code_of};
 use crate::shape::Shape;
 use crate::slot::Slot;
 use crate::state::State;
-use icy_sixel::SixelImage;
 use std::alloc::Global;
 use std::mem;
 
-/// Closes the open image, stores it and writes its properties.
-///
-/// An image of which rows were released stays open.
+/// Closes the open image, stores the rows that are left and writes its properties.
 #[unsafe(no_mangle)]
 pub extern "C" fn icysixel_finish(slot: &mut Slot, shape: &mut Shape) -> u32
     ensures held { is_some slot.new.handle.state ≡ is_some slot.old.handle.state }
@@ -49,148 +42,75 @@ fn finish(state: &mut State, shape: &mut Shape) -> u32
         state.receiver.abort();
         return Code::NoSession as u32;
     }
-    if state.receiver.released_rows() > 0 {
-        return Code::RowsReleased as u32;
+    let is_complete = state.receiver.has_ended();
+    match state.receiver.finish() {
+        Ok(image) => {
+            *shape = Shape::of(&image, is_complete);
+            state.store_image(Some(image));
+            Code::Success as u32
+        }
+        Err(error) => code_of(&error),
     }
-    let answer = state.receiver.finish_drawn();
-    state.store_decoded(answer, shape)
 }
 
-/// Copies the stored pixels to the buffer and releases them.
-///
-/// It writes the number of bytes.
+/// Copies rows of the stored image to the buffer.
 #[unsafe(no_mangle)]
 pub extern "C" fn icysixel_copy_pixels(
     slot: &mut Slot,
+    first: usize,
+    rows: usize,
+    layout: &BufferLayout,
     buf: &mut [u8],
-    stride: usize,
-    bytes: &mut usize,
+) -> u32
+    ensures same { slot.new.handle.state ≡ slot.old.handle.state }
+    ensures none { slot.old.handle.state ≡ None → result ≡ 1 }
+    ensures copied { (state : State) → slot.old.handle.state ≡ Some state
+        → ArePixelsCopied state first rows layout.now buf.old buf.new result }
+    ensures untouched { result ≢ 0 → buf.new ≡ buf.old }
+{
+    if !slot.is_held() {
+        return Code::NoHandle as u32;
+    }
+    copy_pixels(slot.state(), first, rows, layout, buf)
+}
+
+/// Copies rows of the image, if one is stored.
+fn copy_pixels(
+    state: &State,
+    first: usize,
+    rows: usize,
+    layout: &BufferLayout,
+    buf: &mut [u8],
+) -> u32
+    ensures copied { ArePixelsCopied state.now first rows layout.now buf.old buf.new result }
+    ensures untouched { result ≢ 0 → buf.new ≡ buf.old }
+{
+    let Some(image) = &state.image else {
+        return Code::NoImage as u32;
+    };
+    match image.copy_rows(first, rows, layout.row_layout(image.width), buf) {
+        Ok(()) => Code::Success as u32,
+        Err(error) => rows_code(&error),
+    }
+}
+
+/// Transfers the block of the stored pixels to the caller, in this order of channels.
+#[unsafe(no_mangle)]
+pub extern "C" fn icysixel_take_pixels(
+    alloc: Global,
+    slot: &mut Slot,
+    order: u8,
+    bytes: &mut Bytes,
 ) -> u32
     ensures held { is_some slot.new.handle.state ≡ is_some slot.old.handle.state }
     ensures none { slot.old.handle.state ≡ None → result ≡ 1 }
     ensures no_image { (before : State) → slot.old.handle.state ≡ Some before
-        → kept_image before ≡ None → result ≡ 4 }
-    ensures bad_stride { (before : State) (image : Image) → slot.old.handle.state ≡ Some before
-        → kept_image before ≡ Some image → bytes_of stride image ≡ None → result ≡ 7 }
-    ensures small { (before : State) (image : Image) (size : ℕ)
-        → slot.old.handle.state ≡ Some before → kept_image before ≡ Some image
-        → bytes_of stride image ≡ Some size → length buf.old < size → result ≡ 6 }
-    ensures bytes { (before : State) (image : Image) (size : ℕ)
-        → slot.old.handle.state ≡ Some before → kept_image before ≡ Some image
-        → bytes_of stride image ≡ Some size → bytes.new ≡ size }
-    ensures no_bytes { result ≢ 0 → result ≢ 6 → bytes.new ≡ 0 }
-    ensures moved { (before : State) (image : Image) (size : ℕ)
-        → slot.old.handle.state ≡ Some before → kept_image before ≡ Some image
-        → bytes_of stride image ≡ Some size → size ≤ length buf.old → result ≡ 0 }
-    ensures pixels { (before : State) (image : Image) → slot.old.handle.state ≡ Some before
-        → kept_image before ≡ Some image → result ≡ 0
-        → rows_of (stride_of stride (4 * image.width)) (4 * image.width) image.height buf.new
-        ≡ image.pixels }
-    ensures gaps { (before : State) (image : Image) (row : ℕ)
-        → slot.old.handle.state ≡ Some before → kept_image before ≡ Some image
-        → AreGapsKept (stride_of stride (4 * image.width)) (4 * image.width) row
-        buf.old buf.new }
-    ensures rest { (before : State) (image : Image)
-        → slot.old.handle.state ≡ Some before → kept_image before ≡ Some image
-        → drop (image.height * stride_of stride (4 * image.width)) buf.new
-        ≡ drop (image.height * stride_of stride (4 * image.width)) buf.old }
-    ensures unwritten { result ≢ 0 → buf.new ≡ buf.old }
-    ensures taken { (after : State) → slot.new.handle.state ≡ Some after
-        → result ≡ 0 → after.image ≡ None }
-    ensures same { result ≢ 0 → slot.new.handle.state ≡ slot.old.handle.state }
-    ensures decoder { (before after : State) → slot.old.handle.state ≡ Some before
-        → slot.new.handle.state ≡ Some after → after.receiver ≡ before.receiver }
-    ensures text { (before after : State) → slot.old.handle.state ≡ Some before
-        → slot.new.handle.state ≡ Some after → after.text ≡ before.text }
-{
-    *bytes = 0;
-    if !slot.is_held() {
-        return Code::NoHandle as u32;
-    }
-    let state = slot.state();
-    let code = match &state.image {
-        Some(image) => copied(image, buf, stride, bytes),
-        None => Code::NoImage as u32,
-    };
-    state.leave_image(code);
-    code
-}
-
-/// Copies the pixels of an image to a buffer, and reports how many bytes they take.
-fn copied(image: &SixelImage, buf: &mut [u8], stride: usize, bytes: &mut usize) -> u32
-    requires { length image.now.pixels.items ≡ 4 * (image.now.width * image.now.height) }
-    ensures bad_stride { bytes_of stride (image_value image.now) ≡ None → result ≡ 7 }
-    ensures no_bytes { result ≢ 0 → result ≢ 6 → bytes.new ≡ bytes.old }
-    ensures small { (size : ℕ) → bytes_of stride (image_value image.now) ≡ Some size
-        → length buf.old < size → result ≡ 6 }
-    ensures bytes { (size : ℕ) → bytes_of stride (image_value image.now) ≡ Some size
-        → bytes.new ≡ size }
-    ensures moved { (size : ℕ) → bytes_of stride (image_value image.now) ≡ Some size
-        → size ≤ length buf.old → result ≡ 0 }
-    ensures pixels { let wide = 4 * image.now.width in result ≡ 0
-        → rows_of (stride_of stride wide) wide image.now.height buf.new
-        ≡ image.now.pixels.items }
-    ensures gaps { (row : ℕ) → let wide = 4 * image.now.width in
-        AreGapsKept (stride_of stride wide) wide row buf.old buf.new }
-    ensures rest { let stride = stride_of stride (4 * image.now.width) in
-        drop (image.now.height * stride) buf.new ≡ drop (image.now.height * stride) buf.old }
-    ensures unwritten { result ≢ 0 → buf.new ≡ buf.old }
-{
-    let Some(row_len) = image.width.checked_mul(4) else {
-        return Code::BadStride as u32;
-    };
-    let stride = stride_of(stride, row_len);
-    let layout = Layout {
-        stride,
-        row_len,
-        height: image.height,
-    };
-    copied_rows(&image.pixels, buf, layout, bytes)
-}
-
-/// Copies rows into the buffer, and reports how many bytes they take there.
-fn copied_rows(rows: &[u8], buf: &mut [u8], layout: Layout, bytes: &mut usize) -> u32
-    requires { length rows.now ≡ layout.row_len * layout.height }
-    ensures bad_stride { wanted layout.stride layout.row_len layout.height ≡ None
-        → result ≡ 7 }
-    ensures no_bytes { result ≢ 0 → result ≢ 6 → bytes.new ≡ bytes.old }
-    ensures small { (size : ℕ) → wanted layout.stride layout.row_len layout.height ≡ Some size
-        → length buf.old < size → result ≡ 6 }
-    ensures bytes { (size : ℕ) → wanted layout.stride layout.row_len layout.height ≡ Some size
-        → bytes.new ≡ size }
-    ensures moved { (size : ℕ) → wanted layout.stride layout.row_len layout.height ≡ Some size
-        → size ≤ length buf.old → result ≡ 0 }
-    ensures rows { result ≡ 0
-        → rows_of layout.stride layout.row_len layout.height buf.new ≡ rows.now }
-    ensures gaps { (row : ℕ) → AreGapsKept layout.stride layout.row_len row buf.old buf.new }
-    ensures rest { drop (layout.height * layout.stride) buf.new
-        ≡ drop (layout.height * layout.stride) buf.old }
-    ensures unwritten { result ≢ 0 → buf.new ≡ buf.old }
-{
-    let Some(size) = layout.byte_len() else {
-        return Code::BadStride as u32;
-    };
-    *bytes = size;
-    if buf.len() < size {
-        return Code::BufferTooSmall as u32;
-    }
-    layout.spread(buf, rows);
-    Code::Success as u32
-}
-
-/// Transfers the block of the stored pixels to the caller.
-#[unsafe(no_mangle)]
-pub extern "C" fn icysixel_take_pixels(alloc: Global, slot: &mut Slot, bytes: &mut Bytes) -> u32
-    ensures held { is_some slot.new.handle.state ≡ is_some slot.old.handle.state }
-    ensures none { slot.old.handle.state ≡ None → result ≡ 1 }
-    ensures no_image { (before : State) → slot.old.handle.state ≡ Some before
-        → kept_image before ≡ None → result ≡ 4 }
-    ensures done { (before : State) (image : Image) → slot.old.handle.state ≡ Some before
-        → kept_image before ≡ Some image → result ≡ 0 }
-    ensures pixels { (before : State) (image : Image) → slot.old.handle.state ≡ Some before
-        → kept_image before ≡ Some image → bytes.new.items ≡ image.pixels }
-    ensures length { (before : State) (image : Image) → slot.old.handle.state ≡ Some before
-        → kept_image before ≡ Some image → bytes.new.len ≡ 4 * (image.width * image.height) }
+        → before.image ≡ None → result ≡ 4 }
+    ensures done { (before : State) (image : ReceivedImage) → slot.old.handle.state ≡ Some before
+        → before.image ≡ Some image → result ≡ 0 }
+    ensures pixels { (before : State) (image : ReceivedImage)
+        → slot.old.handle.state ≡ Some before → before.image ≡ Some image
+        → AreInOrder order image.pixels.items bytes.new.items }
     ensures capacity { bytes.new.len ≤ bytes.new.capacity }
     ensures unwritten { result ≢ 0 → bytes.new ≡ bytes.old }
     ensures taken { (after : State) → slot.new.handle.state ≡ Some after → after.image ≡ None }
@@ -203,15 +123,15 @@ pub extern "C" fn icysixel_take_pixels(alloc: Global, slot: &mut Slot, bytes: &m
     if !slot.is_held() {
         return Code::NoHandle as u32;
     }
-    transfer(alloc, slot.state(), bytes)
+    transfer(alloc, slot.state(), order, bytes)
 }
 
 /// Transfers the block of the stored pixels, if there are any.
-fn transfer(alloc: Global, state: &mut State, bytes: &mut Bytes) -> u32
+fn transfer(alloc: Global, state: &mut State, order: u8, bytes: &mut Bytes) -> u32
     ensures no_image { state.old.image ≡ None → result ≡ 4 }
-    ensures done { (image : SixelImage) → state.old.image ≡ Some image → result ≡ 0 }
-    ensures pixels { (image : SixelImage) → state.old.image ≡ Some image
-        → bytes.new.items ≡ image.pixels.items }
+    ensures done { (image : ReceivedImage) → state.old.image ≡ Some image → result ≡ 0 }
+    ensures pixels { (image : ReceivedImage) → state.old.image ≡ Some image
+        → AreInOrder order image.pixels.items bytes.new.items }
     ensures unwritten { result ≢ 0 → bytes.new ≡ bytes.old }
     ensures taken { state.new.image ≡ None }
     ensures same { result ≢ 0 → state.new ≡ state.old }
@@ -221,7 +141,7 @@ fn transfer(alloc: Global, state: &mut State, bytes: &mut Bytes) -> u32
     let Some(image) = state.take_image() else {
         return Code::NoImage as u32;
     };
-    *bytes = Bytes::of(alloc, image.pixels);
+    *bytes = Bytes::of(alloc, image.into_pixels(channel_order(order)));
     Code::Success as u32
 }
 

@@ -7,10 +7,10 @@ ghost use Rattle.sixel_base.specs.OneShot.{IsFoundImage, AreFoundRegisters, Payl
 ghost use Rattle.sixel_base.specs.OneShot.{found, found_fault, found_wants};
 ghost use Rattle.sixel_base.specs.Payload.{payload_fault, payload_image};
 ghost use Rattle.sixel_base.specs.Payload.{payload_registers, payload_wants};
-ghost use Rattle.icy_sixel.specs.ImageView.{image_value};
 ghost use Rattle.icy_sixel.specs.Receiver.{no_image};
-ghost use Rattle.icy_sixel.specs.declared.sixel_image.SixelImage.{SixelImage};
+ghost use Rattle.icy_sixel.specs.declared.receiver.received_image.ReceivedImage.{ReceivedImage};
 ghost use Rattle.icysixel.specs.Code.{IsTold, settings_of};
+ghost use Rattle.icysixel.specs.Kept.{image_left};
 ghost use Rattle.icysixel.specs.Shape.{shape_of};
 ghost use Rattle.icysixel.specs.declared.state.State.{State};
 
@@ -37,14 +37,17 @@ pub extern "C" fn icysixel_decode(
         → after.receiver.image ≡ no_image }
     ensures found { (after : State) → slot.new.handle.state ≡ Some after → result ≡ 0
         → is_some after.image ≡ true }
-    ensures image { (before after : State) (image : SixelImage)
+    ensures image { (before after : State) (image : ReceivedImage)
         → slot.old.handle.state ≡ Some before → slot.new.handle.state ≡ Some after
         → after.image ≡ Some image
-        → IsFoundImage before.receiver.decoder (found bytes.now) (image_value image) }
-    ensures shape { (before after : State) (image : SixelImage)
+        → IsFoundImage before.receiver.decoder (found bytes.now) (image_left image) }
+    ensures shape { (before after : State) (image : ReceivedImage)
         → slot.old.handle.state ≡ Some before → slot.new.handle.state ≡ Some after
-        → after.image ≡ Some image → shape.new ≡ shape_of (image_value image)
-        (found_drawn_height before.receiver.decoder (found bytes.now)) }
+        → after.image ≡ Some image → shape.new ≡ shape_of (image_left image) 0
+        (found_drawn_height before.receiver.decoder (found bytes.now)) 0 true }
+    ensures first { (after : State) (image : ReceivedImage)
+        → slot.new.handle.state ≡ Some after → after.image ≡ Some image
+        → image.first_row ≡ 0 }
     ensures bytes { result ≡ 0 → shape.new.bytes ≡ 4 * (shape.new.width * shape.new.height) }
     ensures area { (before : State) → slot.old.handle.state ≡ Some before → result ≡ 0
         → shape.new.width * shape.new.height ≤ before.receiver.decoder.pixel_limit.pixels }
@@ -95,14 +98,18 @@ pub extern "C" fn icysixel_decode_payload(
         → after.receiver.image ≡ no_image }
     ensures found { (after : State) → slot.new.handle.state ≡ Some after → result ≡ 0
         → is_some after.image ≡ true }
-    ensures image { (before after : State) (image : SixelImage)
+    ensures image { (before after : State) (image : ReceivedImage)
         → slot.old.handle.state ≡ Some before → slot.new.handle.state ≡ Some after
-        → after.image ≡ Some image → image_value image
+        → after.image ≡ Some image → image_left image
         ≡ payload_image (origin_of before.receiver.decoder (settings_of p1 p2)) bytes.now }
-    ensures shape { (before after : State) (image : SixelImage)
+    ensures shape { (before after : State) (image : ReceivedImage)
         → slot.old.handle.state ≡ Some before → slot.new.handle.state ≡ Some after
-        → after.image ≡ Some image → shape.new ≡ shape_of (image_value image)
-        (found_drawn_height before.receiver.decoder (Payload (settings_of p1 p2) bytes.now)) }
+        → after.image ≡ Some image → shape.new ≡ shape_of (image_left image) 0
+        (found_drawn_height before.receiver.decoder (Payload (settings_of p1 p2) bytes.now))
+        0 true }
+    ensures first { (after : State) (image : ReceivedImage)
+        → slot.new.handle.state ≡ Some after → after.image ≡ Some image
+        → image.first_row ≡ 0 }
     ensures bytes { result ≡ 0 → shape.new.bytes ≡ 4 * (shape.new.width * shape.new.height) }
     ensures area { (before : State) → slot.old.handle.state ≡ Some before → result ≡ 0
         → shape.new.width * shape.new.height ≤ before.receiver.decoder.pixel_limit.pixels }

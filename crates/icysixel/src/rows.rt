@@ -1,7 +1,7 @@
 //! Rows of an image in the caller's memory.
 
-ghost use Rattle.std.specs.Prelude.{◌≡◌, ◌+◌, ◌*◌, ◌≤◌, ℕ, IfOk, length, drop, slice_range};
-ghost use Rattle.icysixel.specs.Rows.{AreGapsKept, extent, rows_of, stride_of, wanted};
+ghost use Rattle.std.specs.Prelude.{◌≡◌, ◌+◌, ◌*◌, ◌≤◌, IfOk, length, slice_range};
+ghost use Rattle.icysixel.specs.Rows.{extent, rows_of, stride_of, wanted};
 
 use std::alloc::{AllocError, Global};
 
@@ -65,24 +65,6 @@ impl Layout {
     {
         let start = row * self.stride;
         &bytes[start..start + self.row_len]
-    }
-
-    /// Copies rows without gaps into the buffer. The gaps stay as they are.
-    #[tactic(auto, unfolding(sixel_base::specs::Picture::joined))]
-    pub fn spread(self, buf: &mut [u8], rows: &[u8])
-        requires stride { self.row_len ≤ self.stride }
-        requires rows { length rows.now ≡ self.row_len * self.height }
-        requires within { extent self.stride self.row_len self.height ≤ length buf.old }
-        ensures rows { rows_of self.stride self.row_len self.height buf.new ≡ rows.now }
-        ensures gaps { (row : ℕ) → AreGapsKept self.stride self.row_len row buf.old buf.new }
-        ensures after { drop (self.height * self.stride) buf.new
-            ≡ drop (self.height * self.stride) buf.old }
-    {
-        for row in 0..self.height {
-            let to = row * self.stride;
-            let from = row * self.row_len;
-            buf[to..to + self.row_len].copy_from_slice(&rows[from..from + self.row_len]);
-        }
     }
 }
 

@@ -85,7 +85,7 @@ pub extern "C" fn icysixel_is_empty(slot: &mut Slot) -> u8
 /// Opens a DCS sequence. An open image is aborted.
 #[unsafe(no_mangle)]
 pub extern "C" fn icysixel_begin_dcs(alloc: Global, slot: &mut Slot)
-    ensures { IsOpened (λ receiver. begun OfString receiver.decoder receiver.keeps_partial)
+    ensures { IsOpened (λ receiver. begun OfString receiver.decoder)
         slot.old.handle.state slot.new.handle.state }
 {
     if slot.is_held() {
@@ -97,8 +97,7 @@ pub extern "C" fn icysixel_begin_dcs(alloc: Global, slot: &mut Slot)
 /// Opens a payload with these parameters. An open image is aborted.
 #[unsafe(no_mangle)]
 pub extern "C" fn icysixel_begin_payload(alloc: Global, slot: &mut Slot, p1: i32, p2: i32)
-    ensures { IsOpened (λ receiver. begun (OfPayload (settings_of p1 p2)) receiver.decoder
-        receiver.keeps_partial)
+    ensures { IsOpened (λ receiver. begun (OfPayload (settings_of p1 p2)) receiver.decoder)
         slot.old.handle.state slot.new.handle.state }
 {
     if slot.is_held() {

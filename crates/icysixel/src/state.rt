@@ -1,29 +1,29 @@
 //! The state behind a handle: a receiver, the stored image and the stored text.
 
 ghost use Rattle.std.specs.Prelude.{◌≡◌, ◌≢◌, ◌*◌, ◌≤◌, ℕ, Bool, Option, Some, None, length};
-ghost use Rattle.std.specs.Prelude.{OnOk, OnErr, IfOk, IfErr, string_bytes};
-ghost use Rattle.std.specs.Option.{ForSome};
+ghost use Rattle.std.specs.Prelude.{OnOk, OnErr, IfOk, IfErr, is_some, string_bytes, true};
 ghost use Rattle.sixel_base.specs.Decoder.{new_decoder};
 ghost use Rattle.sixel_base.specs.Fault.{Fault, Faults, IsFault};
-ghost use Rattle.icy_sixel.specs.ImageView.{image_result, image_value};
+ghost use Rattle.icy_sixel.specs.ImageView.{image_result};
+ghost use Rattle.icy_sixel.specs.ReceivedImages.{left_image};
 ghost use Rattle.icy_sixel.specs.Receiver.{idle};
+ghost use Rattle.icy_sixel.specs.declared.receiver.received_image.ReceivedImage.{ReceivedImage};
 ghost use Rattle.icysixel.specs.Code.{IsKnown, IsTold, fault_code};
-ghost use Rattle.icy_sixel.specs.declared.sixel_image.SixelImage.{SixelImage};
+ghost use Rattle.icysixel.specs.Kept.{image_left};
 ghost use Rattle.icysixel.specs.Shape.{shape_of};
 
 use crate::code::{Code, code_of};
 use crate::shape::Shape;
 use icy_sixel::receiver::SixelReceiver;
-use icy_sixel::{DrawnImage, SixelDecoder, SixelError, SixelImage};
+use icy_sixel::{DrawnImage, ReceivedImage, SixelDecoder, SixelError};
 use std::mem;
 
 /// A receiver, and the last image and the last text until the caller takes them.
 #[derive(Drop)]
 pub struct State {
     pub receiver: SixelReceiver,
-    pub image: Option<SixelImage>,
+    pub image: Option<ReceivedImage>,
     pub text: Option<String>,
-    pub ghost whole: { ForSome image (λ i. length i.pixels.items ≡ 4 * (i.width * i.height)) },
 }
 
 impl State {
@@ -51,8 +51,7 @@ impl State {
     }
 
     /// Replaces the stored image.
-    pub fn store_image(&mut self, image: Option<SixelImage>)
-        requires { ForSome image (λ i. length i.pixels.items ≡ 4 * (i.width * i.height)) }
+    pub fn store_image(&mut self, image: Option<ReceivedImage>)
         ensures image { self.new.image ≡ image }
         ensures receiver { self.new.receiver ≡ self.old.receiver }
         ensures text { self.new.text ≡ self.old.text }
@@ -61,6 +60,8 @@ impl State {
     }
 
     /// Stores a decoded image and writes its properties, or stores none.
+    ///
+    /// All bytes were decoded, so the image is complete. Ignored commands were not counted.
     pub fn store_decoded(
         &mut self,
         answer: Result<DrawnImage, SixelError>,
@@ -70,10 +71,14 @@ impl State {
             (λ i. length i.pixels.items ≡ 4 * (i.width * i.height)) }
         requires known { IfErr (image_result answer) IsKnown }
         ensures done { OnOk (image_result answer) (result ≡ 0) }
-        ensures image { IfOk (image_result answer) (λ image. self.new.image ≡ Some image) }
-        ensures shape { (rows : ℕ) (image : SixelImage) → self.new.image ≡ Some image
+        ensures found { result ≡ 0 → is_some self.new.image ≡ true }
+        ensures image { (image : ReceivedImage) → self.new.image ≡ Some image
+            → IfOk (image_result answer) (λ decoded. left_image image ≡ decoded) }
+        ensures first { (image : ReceivedImage) → self.new.image ≡ Some image
+            → image.first_row ≡ 0 }
+        ensures shape { (rows : ℕ) (image : ReceivedImage) → self.new.image ≡ Some image
             → IfOk answer (λ drawn. drawn.drawn_height ≡ rows)
-            → shape.new ≡ shape_of (image_value image) rows }
+            → shape.new ≡ shape_of (image_left image) 0 rows 0 true }
         ensures bytes { result ≡ 0 → shape.new.bytes ≡ 4 * (shape.new.width * shape.new.height) }
         ensures area { (limit : ℕ) → result ≡ 0
             → IfOk (image_result answer) (λ i. i.width * i.height ≤ limit)
@@ -81,9 +86,6 @@ impl State {
         ensures refused { OnErr (image_result answer) (result ≢ 0) }
         ensures dropped { OnErr (image_result answer) (self.new.image ≡ None) }
         ensures told { OnErr (image_result answer) (shape.new ≡ shape.old) }
-        ensures fault { (fault : Fault) → result ≢ 0
-            → IfErr (image_result answer) (λ error. IsFault error fault)
-            → result ≡ fault_code fault }
         ensures code { (may_want : Bool) (found : Option Fault) → result ≢ 0
             → IfErr (image_result answer) (λ error. Faults error may_want found)
             → IsTold result may_want found }
@@ -92,8 +94,8 @@ impl State {
     {
         match answer {
             Ok(drawn) => {
-                *shape = Shape::of(&drawn);
-                let DrawnImage { image, .. } = drawn;
+                let image = whole_image(drawn);
+                *shape = Shape::of(&image, true);
                 self.store_image(Some(image));
                 Code::Success as u32
             }
@@ -148,7 +150,7 @@ impl State {
     }
 
     /// Takes the stored image out, if there is one.
-    pub fn take_image(&mut self) -> Option<SixelImage>
+    pub fn take_image(&mut self) -> Option<ReceivedImage>
         ensures image { result ≡ self.old.image }
         ensures taken { self.new.image ≡ None }
         ensures same { result ≡ None → self.new ≡ self.old }
@@ -156,18 +158,6 @@ impl State {
         ensures text { self.new.text ≡ self.old.text }
     {
         self.image.take()
-    }
-
-    /// Discards the stored image if this code is success.
-    pub fn leave_image(&mut self, code: u32)
-        ensures done { code ≡ 0 → self.new.image ≡ None }
-        ensures same { code ≢ 0 → self.new ≡ self.old }
-        ensures receiver { self.new.receiver ≡ self.old.receiver }
-        ensures text { self.new.text ≡ self.old.text }
-    {
-        if code == Code::Success as u32 {
-            self.store_image(None);
-        }
     }
 
     /// Discards the stored text if this code is success.
@@ -180,5 +170,29 @@ impl State {
         if code == Code::Success as u32 {
             self.store_text(None);
         }
+    }
+}
+
+/// The image of a decoding in one call: no row was released.
+fn whole_image(drawn: DrawnImage) -> ReceivedImage
+    requires { length drawn.image.pixels.items ≡ 4 * (drawn.image.width * drawn.image.height) }
+    ensures image { left_image result ≡ drawn.image }
+    ensures first { result.first_row ≡ 0 }
+    ensures drawn { result.drawn_height ≡ drawn.drawn_height }
+    ensures ignored { result.ignored_commands ≡ 0 }
+{
+    let DrawnImage {
+        image,
+        drawn_height,
+    } = drawn;
+    ReceivedImage {
+        pixels: image.pixels,
+        width: image.width,
+        height: image.height,
+        first_row: 0,
+        drawn_height,
+        ignored_commands: 0,
+        aspect_ratio: image.aspect_ratio,
+        background_mode: image.background_mode,
     }
 }

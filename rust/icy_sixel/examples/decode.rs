@@ -21,7 +21,7 @@ fn decode_in_chunks(bytes: &[u8], length: usize) -> icy_sixel::Result<SixelImage
             break;
         }
     }
-    receiver.finish()
+    receiver.finish()?.into_image()
 }
 
 fn run(length: Option<usize>) -> Result<(), Box<dyn Error>> {

@@ -39,11 +39,14 @@ pub(crate) struct Shape {
     pub(crate) width: usize,
     pub(crate) height: usize,
     pub(crate) drawn_height: usize,
+    pub(crate) first_row: usize,
     pub(crate) bytes: usize,
+    pub(crate) ignored: u64,
     pub(crate) pixel_width: u16,
     pub(crate) pixel_height: u16,
     pub(crate) p1: u8,
     pub(crate) p2: u8,
+    pub(crate) is_complete: u8,
 }
 
 /// A color.
@@ -112,7 +115,6 @@ unsafe extern "C" {
     safe fn icysixel_free(handle: &mut Raw);
     safe fn icysixel_begin_dcs(handle: &mut Raw);
     safe fn icysixel_begin_payload(handle: &mut Raw, p1: i32, p2: i32);
-    safe fn icysixel_is_receiving(handle: &mut Raw) -> u8;
     safe fn icysixel_in_payload(handle: &mut Raw) -> u8;
     safe fn icysixel_get_size_so_far(handle: &mut Raw, size: &mut Size) -> u32;
     safe fn icysixel_get_drawn_height(handle: &mut Raw) -> usize;
@@ -142,15 +144,6 @@ unsafe extern "C" {
         buf: *mut u8,
         size: usize,
     ) -> u32;
-    fn icysixel_finish_into(
-        handle: &mut Raw,
-        first: usize,
-        layout: *const BufferLayout,
-        buf: *mut u8,
-        size: usize,
-        shape: &mut Shape,
-        wanted: &mut usize,
-    ) -> u32;
     fn icysixel_decode(handle: &mut Raw, bytes: *const u8, length: usize, shape: &mut Shape)
     -> u32;
     fn icysixel_decode_payload(
@@ -163,10 +156,11 @@ unsafe extern "C" {
     ) -> u32;
     fn icysixel_copy_pixels(
         handle: &mut Raw,
+        first: usize,
+        rows: usize,
+        layout: *const BufferLayout,
         buf: *mut u8,
         size: usize,
-        stride: usize,
-        wanted: &mut usize,
     ) -> u32;
     fn icysixel_get_registers(handle: &mut Raw, first: u8, colors: *mut Color, count: usize)
     -> u32;
@@ -359,31 +353,6 @@ impl Handle {
         answer(icysixel_release_rows(&mut self.0, rows), ())
     }
 
-    /// Closes the open image and copies rows of it, or returns the code.
-    ///
-    /// Beside the code is the number of bytes needed.
-    pub(crate) fn close_into(
-        &mut self,
-        first: usize,
-        layout: &BufferLayout,
-        out: &mut [u8],
-    ) -> Result<Shape, (u32, usize)> {
-        let (mut shape, mut wanted) = (Shape::default(), 0);
-        let (start, size) = (out.as_mut_ptr(), out.len());
-        let handle = &mut self.0;
-        // SAFETY: the pointer and the size are those of a slice that is only written to, and the
-        // layout is only read.
-        let code = unsafe {
-            icysixel_finish_into(handle, first, layout, start, size, &mut shape, &mut wanted)
-        };
-        answer(code, shape).map_err(|code| (code, wanted))
-    }
-
-    /// Whether an image is open.
-    pub(crate) fn is_receiving(&mut self) -> bool {
-        icysixel_is_receiving(&mut self.0) != 0
-    }
-
     /// Whether the payload of the open image has begun.
     pub(crate) fn in_payload(&mut self) -> bool {
         icysixel_in_payload(&mut self.0) != 0
@@ -459,11 +428,17 @@ impl Handle {
             self.set_registers(0, &before);
             return Err(OUT_OF_MEMORY);
         }
-        append(&mut pixels, |buf, size, wanted| {
+        let (first, rows) = (shape.first_row, shape.height - shape.first_row);
+        append(&mut pixels, |buf, size, written| {
+            *written = shape.bytes;
             // SAFETY: the pointer and the size are those of the vector's own spare capacity, which
-            // is only written to.
-            unsafe { icysixel_copy_pixels(&mut self.0, buf, size, 0, wanted) }
+            // is only written to. A layout of zeros writes each byte of the rows.
+            unsafe {
+                let layout = BufferLayout::default();
+                icysixel_copy_pixels(&mut self.0, first, rows, &layout, buf, size)
+            }
         })?;
+        icysixel_discard_image(&mut self.0);
         Ok((shape, pixels))
     }
 

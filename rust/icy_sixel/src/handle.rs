@@ -4,6 +4,7 @@ use crate::codes::error_of;
 use crate::decoder::DrawnImage;
 use crate::error::Result;
 use crate::ffi::{Handle, Shape};
+use crate::receiver::ReceivedImage;
 use crate::settings::{BackgroundMode, DcsSettings, PixelAspectRatio};
 use crate::sixel_image::SixelImage;
 
@@ -23,8 +24,8 @@ impl Handle {
     }
 
     /// Closes the open image, and returns it.
-    pub(crate) fn finish(&mut self) -> Result<DrawnImage> {
-        self.close().map(drawn_image).map_err(error_of)
+    pub(crate) fn finish(&mut self) -> Result<ReceivedImage> {
+        self.close().map(received_image).map_err(error_of)
     }
 
     /// A new decoder with the registers and the settings of this one.
@@ -39,7 +40,7 @@ impl Handle {
     }
 }
 
-/// The image of this shape with these pixels.
+/// The whole image of this shape with these pixels.
 fn drawn_image((shape, pixels): (Shape, Vec<u8>)) -> DrawnImage {
     let image = SixelImage {
         pixels,
@@ -49,4 +50,19 @@ fn drawn_image((shape, pixels): (Shape, Vec<u8>)) -> DrawnImage {
         background_mode: BackgroundMode::from_p2(u16::from(shape.p2)),
     };
     DrawnImage { image, drawn_height: shape.drawn_height }
+}
+
+/// The image of this shape with the pixels of the rows that are left.
+fn received_image((shape, pixels): (Shape, Vec<u8>)) -> ReceivedImage {
+    ReceivedImage {
+        pixels,
+        width: shape.width,
+        height: shape.height,
+        first_row: shape.first_row,
+        drawn_height: shape.drawn_height,
+        ignored_commands: shape.ignored,
+        is_complete: shape.is_complete != 0,
+        aspect_ratio: PixelAspectRatio::from_p1(u16::from(shape.p1)),
+        background_mode: BackgroundMode::from_p2(u16::from(shape.p2)),
+    }
 }

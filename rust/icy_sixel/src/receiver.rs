@@ -1,15 +1,16 @@
 //! A decoder and its open image, for a host that stores both in one struct.
 
+mod received_image;
 mod rows;
 
 use crate::codes::error_of;
-use crate::decoder::{DcsSettings, DrawnImage, SixelDecoder};
+use crate::decoder::{DcsSettings, SixelDecoder};
 use crate::decoder::{payload_status, string_status};
 use crate::error::Result;
 use crate::ffi::Fed;
 use crate::script::Status;
-use crate::sixel_image::SixelImage;
-pub use rows::{BandStatus, ChannelOrder, ImageShape, ReceivedBand, RowLayout};
+pub use received_image::ReceivedImage;
+pub use rows::{BandStatus, ChannelOrder, ReceivedBand, RowLayout};
 
 /// The result of a feed of a receiver.
 #[derive(Clone, Copy, Debug, PartialEq, Eq)]
@@ -45,7 +46,8 @@ enum Open {
 /// assert_eq!(receiver.feed(b"\x1bP9;1q#1!1")?.status, Status::Dcs(NeedMoreData));
 /// let fed = receiver.feed(b"2~\x1b\\text")?; // what follows is the caller's
 /// assert_eq!((fed.consumed, fed.status), (4, Status::Dcs(Complete)));
-/// assert_eq!(receiver.finish()?.dimensions(), (12, 6));
+/// let image = receiver.finish()?;
+/// assert_eq!((image.width, image.height, image.is_complete), (12, 6, true));
 /// # Ok::<(), icy_sixel::SixelError>(())
 /// ```
 ///
@@ -131,37 +133,15 @@ impl SixelReceiver {
 
     /// Closes the image, returns it, and stores its registers in the decoder.
     ///
+    /// Rows that were released are not among the pixels of the [`ReceivedImage`].
+    ///
     /// # Errors
     ///
     /// Those of the sessions, and if no image is open that of [`feed`](Self::feed). An error closes
     /// the image too, and leaves the decoder unchanged.
-    ///
-    /// `InvalidData` with `rows were released` if rows were released, because no memory has the
-    /// whole image. Then the image stays open as it was. End such an image by
-    /// [`finish_into`](Self::finish_into).
-    pub fn finish(&mut self) -> Result<SixelImage> {
-        Ok(self.finish_drawn()?.image)
-    }
-
-    /// Closes the image as [`finish`](Self::finish) does, and returns the drawn height too.
-    ///
-    /// The height is that of [`drawn_height`](Self::drawn_height) before the call, or the height of
-    /// the image if crop ends it above that row.
-    ///
-    /// # Errors
-    ///
-    /// Those of `finish`.
-    pub fn finish_drawn(&mut self) -> Result<DrawnImage> {
-        let answer = self.decoder.handle().finish();
-        self.update_open();
-        answer
-    }
-
-    /// Stores that no image is open if a call has closed it.
-    fn update_open(&mut self) {
-        if !self.decoder.shared().is_receiving() {
-            self.open = Open::Nothing;
-        }
+    pub fn finish(&mut self) -> Result<ReceivedImage> {
+        self.open = Open::Nothing;
+        self.decoder.handle().finish()
     }
 
     /// Aborts the open image, if there is one. The decoder is unchanged.

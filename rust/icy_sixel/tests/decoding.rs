@@ -4,8 +4,8 @@ mod common;
 
 use common::*;
 use icy_sixel::{
-    BackgroundMode, ChannelOrder, DcsSettings, DrawnImage, PixelAspectRatio, RowLayout,
-    SixelDecoder, SixelError, SixelImage, SixelReceiver,
+    BackgroundMode, DcsSettings, DrawnImage, PixelAspectRatio, SixelDecoder, SixelError,
+    SixelImage, SixelReceiver,
 };
 
 #[test]
@@ -151,11 +151,7 @@ fn finished_images_have_a_drawn_height() {
         let mut receiver = SixelReceiver::with_decoder(decoder);
         receiver.begin_frame(settings());
         assert!(receiver.feed(bytes).is_ok());
-        assert_eq!(heights(receiver.finish_drawn().unwrap()), expected, "{payload}");
-        receiver.begin_frame(settings());
-        assert!(receiver.feed(bytes).is_ok());
-        let layout = RowLayout { stride: 4, columns: 1, order: ChannelOrder::Rgba };
-        let shape = receiver.finish_into(0, layout, &mut [0; 48]).unwrap();
-        assert_eq!((shape.height, shape.drawn_height), expected, "{payload}");
+        let image = receiver.finish().unwrap();
+        assert_eq!((image.height, image.drawn_height), expected, "{payload}");
     }
 }

@@ -157,7 +157,7 @@ fn decoding() {
         |receiver| {
             receiver.begin_dcs();
             feed_chunks(STRING, |chunk| receiver.feed(chunk))?;
-            receiver.finish()
+            receiver.finish()?.into_image()
         },
         |receiver| is_unchanged(receiver.decoder()),
     );
@@ -298,7 +298,7 @@ fn pixels_have_their_own_capacity() {
         images.push(session.finish().unwrap());
         receiver.begin_dcs();
         assert!(receiver.feed(&string).is_ok());
-        images.push(receiver.finish().unwrap());
+        images.push(receiver.finish().unwrap().into_image().unwrap());
         for image in images {
             assert_eq!(image.dimensions(), (width, height));
             assert_eq!(image.pixels.len(), 4 * width * height);

@@ -6,8 +6,8 @@ use common::*;
 use icy_sixel::receiver::{Received, SixelReceiver};
 use icy_sixel::script::Status;
 use icy_sixel::{
-    BandStatus, ChannelOrder, DcsSettings, Result, RowLayout, SixelDcsFeedStatus as Dcs,
-    SixelDecoder, SixelError, SixelFeedStatus as Payload, SixelImage,
+    BandStatus, ChannelOrder, DcsSettings, ReceivedImage, Result, RowLayout,
+    SixelDcsFeedStatus as Dcs, SixelDecoder, SixelError, SixelFeedStatus as Payload, SixelImage,
 };
 use std::sync::{Arc, Mutex, RwLock, mpsc};
 use std::thread;
@@ -31,7 +31,7 @@ impl Host {
             let received = self.receiver.feed(bytes)?;
             bytes = &bytes[received.consumed..];
             if received.status != Status::Dcs(Dcs::NeedMoreData) {
-                self.images.push(self.receiver.finish()?);
+                self.images.push(self.receiver.finish()?.into_image()?);
             }
         }
         Ok(())
@@ -68,7 +68,7 @@ fn a_payload_is_received() {
     let status = Status::Payload(Payload::Terminated(0x9c));
     assert_eq!(received, Received { consumed: 9, status });
     assert_eq!((receiver.size_so_far(), receiver.drawn_height()), (Some((2, 6)), 0));
-    assert_filled(receiver.finish(), (2, 3), [1, 2, 3, 255]);
+    assert_filled(receiver.finish().and_then(ReceivedImage::into_image), (2, 3), [1, 2, 3, 255]);
     assert_eq!(receiver.register(0), [1, 2, 3]);
     assert!(!receiver.is_receiving());
 }
@@ -116,15 +116,30 @@ fn rows_are_copied_before_the_image_ends() {
     assert_eq!(receiver.copy_rows(5, 1, NARROW, &mut out), released);
     let goes_on = BandStatus::Image(Status::Payload(Payload::NeedMoreData));
     assert_eq!(receiver.feed_band(b"!3~").unwrap().status, goes_on);
-    assert_eq!(receiver.finish_into(5, NARROW, &mut out), Err(invalid("rows were released")));
-    assert_eq!(receiver.finish(), Err(invalid("rows were released")));
+    let image = receiver.finish().unwrap();
+    assert!(!receiver.is_receiving() && !image.is_complete && image.ignored_commands == 0);
+    assert_eq!((image.width, image.height, image.first_row, image.drawn_height), (3, 12, 6, 12));
+    assert_eq!((image.aspect_ratio.pad(), image.pixels.len()), (1, 72));
+    assert!(image.background_mode.is_transparent());
+    let before = out.clone();
+    assert_eq!(image.copy_rows(5, 1, NARROW, &mut out), released);
+    assert_eq!(image.copy_rows(6, 7, NARROW, &mut out), Err(invalid("rows are not final")));
+    let short = RowLayout { stride: 7, ..NARROW };
+    let stride = invalid("stride is shorter than a row");
+    assert_eq!(image.copy_rows(6, 1, short, &mut out), Err(stride));
+    let far = RowLayout { stride: usize::MAX, ..NARROW };
+    assert_eq!(image.copy_rows(6, 3, far, &mut out), Err(SixelError::IntegerOverflow));
     let mismatch = SixelError::BufferSizeMismatch { expected: 68, actual: 67 };
-    assert_eq!(receiver.finish_into(6, NARROW, &mut out[..67]), Err(mismatch));
-    assert!(receiver.is_receiving());
-    let shape = receiver.finish_into(6, NARROW, &mut out).unwrap();
+    assert_eq!(image.copy_rows(6, 6, NARROW, &mut out[..67]), Err(mismatch));
+    assert_eq!(image.copy_rows(12, 0, NARROW, &mut []), Ok(()));
+    assert_eq!(out, before);
+    assert_eq!(image.copy_rows(6, 6, NARROW, &mut out), Ok(()));
     assert_eq!(out, rows(6, [RED, RED, UNTOUCHED]));
-    assert_eq!((shape.width, shape.height, shape.aspect_ratio.pad()), (3, 12, 1));
-    assert!(shape.background_mode.is_transparent() && !receiver.is_receiving());
+    let wide = RowLayout { stride: 16, columns: 4, order: ChannelOrder::Bgra };
+    let mut one = [9; 16];
+    assert_eq!(image.copy_rows(11, 1, wide, &mut one), Ok(()));
+    assert_eq!(one, [[0, 0, 255, 255], [0, 0, 255, 255], [0, 0, 255, 255], CLEAR].concat()[..]);
+    assert_eq!(image.into_image(), Err(invalid("rows were released")));
     assert_eq!(receiver.register(1), [255, 0, 0]);
 }
 
@@ -149,11 +164,6 @@ fn rows_are_not_copied() {
     let mismatch = SixelError::BufferSizeMismatch { expected: 68, actual: 67 };
     assert_eq!(receiver.copy_rows(0, 6, NARROW, &mut out[..67]), Err(mismatch));
     assert_eq!(out, [9; 72]);
-    receiver.begin_dcs();
-    assert!(receiver.feed(b"\x1bPq~").is_ok());
-    assert_eq!(receiver.finish_into(0, NARROW, &mut out), Err(invalid(INCOMPLETE)));
-    assert!(!receiver.is_receiving());
-    assert_eq!(receiver.finish_into(0, NARROW, &mut out), Err(invalid(STREAM_FAILED)));
 }
 
 #[test]
@@ -200,7 +210,8 @@ fn a_receiver_owns_its_decoder() {
     let clone = receiver.decoder().clone();
     assert_eq!(clone.register(3), [3, 3, 3]);
     assert!(receiver.feed(b"\x9c").is_ok());
-    assert_eq!(receiver.finish().unwrap().dimensions(), (500, 6));
+    let image = receiver.finish().unwrap();
+    assert!(image.is_complete && (image.width, image.height) == (500, 6));
     assert_eq!(receiver.into_decoder().register(3), [255, 0, 0]);
 }
 
@@ -222,7 +233,7 @@ fn a_receiver_moves_between_threads() {
     }
     drop(to_worker);
     worker.join().unwrap();
-    assert_filled(receiver.finish(), (12, 6), RED);
+    assert_filled(receiver.finish().and_then(ReceivedImage::into_image), (12, 6), RED);
 }
 
 #[test]

@@ -145,16 +145,16 @@ fn names_of_our_own() {
     let _: fn(icy_sixel::Status) -> bool = icy_sixel::Status::has_ended;
     let _: fn(&Receiver, usize, usize, Layout, &mut [u8]) -> Answer<()> = Receiver::copy_rows;
     let _: fn(&mut Receiver, usize) -> Answer<()> = Receiver::release_rows;
-    let _: fn(&mut Receiver, usize, Layout, &mut [u8]) -> Answer<icy_sixel::ImageShape> =
-        Receiver::finish_into;
+    type Received = receiver::ReceivedImage;
+    let _: fn(&mut Receiver) -> Answer<Received> = Receiver::finish;
+    let _: fn(&Received, usize, usize, Layout, &mut [u8]) -> Answer<()> = Received::copy_rows;
+    let _: fn(Received) -> Answer<Image> = Received::into_image;
     type Drawn = icy_sixel::DrawnImage;
     let _: fn(&mut Decoder, &[u8]) -> Answer<Drawn> = Decoder::decode_drawn;
     let _: fn(&mut Decoder, &[u8], Settings) -> Answer<decoder::DrawnImage> =
         Decoder::decode_from_dcs_drawn;
-    let _: fn(&mut Receiver) -> Answer<Drawn> = Receiver::finish_drawn;
     is_value::<Layout>();
     is_value::<icy_sixel::ChannelOrder>();
-    is_value::<icy_sixel::ImageShape>();
     is_value::<icy_sixel::Status>();
     is_value::<icy_sixel::ReceivedBand>();
     is_value::<icy_sixel::BandStatus>();

@@ -5,7 +5,7 @@
 mod common;
 
 use common::*;
-use icy_sixel::receiver::SixelReceiver;
+use icy_sixel::receiver::{ReceivedImage, SixelReceiver};
 use icy_sixel::script::Status;
 use icy_sixel::{
     BackgroundMode, DcsSettings, EncodeOptions, PaletteChoice, PixelAspectRatio, Result,
@@ -209,7 +209,7 @@ impl Input {
         let received =
             feed_all(cut, |chunk| receiver.feed(chunk).map(|fed| (fed.consumed, fed.status)));
         assert_eq!(received, fed);
-        assert_eq!(receiver.finish(), outcome);
+        assert_eq!(receiver.finish().and_then(ReceivedImage::into_image), outcome);
         assert_eq!(registers(receiver.decoder()), registers(&decoder));
 
         if fed.is_err() {

@@ -96,7 +96,7 @@ impl<'a> SixelDcsStreamDecoder<'a> {
     /// - `InvalidData` with `DCS stream decoder has failed` after a failed feed
     /// - `OutOfMemory` if an allocation fails
     pub fn finish(self) -> Result<SixelImage> {
-        Ok(self.owner.handle().finish()?.image)
+        self.owner.handle().finish()?.into_image()
     }
 
     /// Ends the session without changing the decoder, as dropping it does.

@@ -77,7 +77,7 @@ impl<'a> SixelStreamDecoder<'a> {
     ///
     /// Those of [`feed`](Self::feed), and `OutOfMemory`. They leave the decoder unchanged.
     pub fn finish(self) -> Result<SixelImage> {
-        Ok(self.owner.handle().finish()?.image)
+        self.owner.handle().finish()?.into_image()
     }
 
     /// Ends the session without changing the decoder, as dropping it does.

@@ -1,12 +1,10 @@
 //! Rows of an open image, copied to a caller's memory in its own layout.
 
-use super::{Open, SixelReceiver};
-use crate::codes::{BAD_STRIDE, BUFFER_TOO_SMALL, NO_SESSION, ROWS, ROWS_NOT_FINAL};
-use crate::codes::{ROWS_RELEASED, error_of};
+use super::SixelReceiver;
+use crate::codes::{BAD_STRIDE, BUFFER_TOO_SMALL, NO_SESSION, ROWS, ROWS_NOT_FINAL, error_of};
 use crate::error::{Result, SixelError};
 use crate::ffi::BufferLayout;
 use crate::script::Status;
-use crate::settings::{BackgroundMode, PixelAspectRatio};
 
 /// What a feed of a band did.
 #[derive(Clone, Copy, Debug, PartialEq, Eq)]
@@ -45,23 +43,6 @@ pub struct RowLayout {
     pub columns: usize,
     /// The order of a pixel's bytes.
     pub order: ChannelOrder,
-}
-
-/// An image without its pixels.
-#[derive(Clone, Copy, Debug, PartialEq, Eq)]
-pub struct ImageShape {
-    /// Pixels in a row.
-    pub width: usize,
-    /// Rows.
-    pub height: usize,
-    /// Rows down to the last one with a set pixel, or 0 if there is none.
-    ///
-    /// It is at most the height, because crop can end an image above that row.
-    pub drawn_height: usize,
-    /// The shape of a pixel.
-    pub aspect_ratio: PixelAspectRatio,
-    /// Whether pixels that were not drawn are opaque or transparent.
-    pub background_mode: BackgroundMode,
 }
 
 impl SixelReceiver {
@@ -121,9 +102,8 @@ impl SixelReceiver {
     /// Releases the final rows above row `rows`, whose memory is used again.
     ///
     /// The caller has copied them. Then an image that is shown while it comes takes the memory of
-    /// the rows between two calls, and not of the image. [`finish_into`](Self::finish_into) returns
-    /// the rows that are left. [`finish`](Self::finish) fails, because no memory has the whole
-    /// image, and leaves it open. The call does not allocate.
+    /// the rows between two calls, and not of the image. [`finish`](Self::finish) returns the rows
+    /// that are left. The call does not allocate.
     ///
     /// # Errors
     ///
@@ -134,44 +114,6 @@ impl SixelReceiver {
             Err(NO_SESSION) if rows == 0 => Ok(()),
             Err(NO_SESSION) => Err(error_of(ROWS_NOT_FINAL)),
             answer => answer.map_err(error_of),
-        }
-    }
-
-    /// Ends the image, and copies its rows from `first` on to the caller's memory.
-    ///
-    /// It does what [`finish`](Self::finish) does, and returns the image without its pixels. The
-    /// rows lie as those of [`copy_rows`](Self::copy_rows). With `first` 0 they are all rows of the
-    /// image, and with the rows that were copied before they are the others. No row is copied if
-    /// crop ends the image above `first`. The call does not allocate.
-    ///
-    /// # Errors
-    ///
-    /// Those of `finish` about the data of the image, which close it. Then those of `copy_rows`
-    /// about released rows, the stride and `out`, which leave the image open as it was. An error
-    /// leaves the decoder and `out` as they were.
-    pub fn finish_into(
-        &mut self,
-        first: usize,
-        layout: RowLayout,
-        out: &mut [u8],
-    ) -> Result<ImageShape> {
-        match self.decoder.handle().close_into(first, &layout.in_c(), out) {
-            Ok(shape) => {
-                self.open = Open::Nothing;
-                Ok(ImageShape {
-                    width: shape.width,
-                    height: shape.height,
-                    drawn_height: shape.drawn_height,
-                    aspect_ratio: PixelAspectRatio::from_p1(u16::from(shape.p1)),
-                    background_mode: BackgroundMode::from_p2(u16::from(shape.p2)),
-                })
-            }
-            Err((code, expected)) => {
-                if !matches!(code, BAD_STRIDE | BUFFER_TOO_SMALL | ROWS_RELEASED) {
-                    self.open = Open::Nothing;
-                }
-                Err(layout.error(code, expected, out.len()))
-            }
         }
     }
 }
@@ -190,6 +132,22 @@ impl RowLayout {
             BAD_STRIDE if self.is_short() => SixelError::of_data("stride is shorter than a row"),
             BAD_STRIDE => SixelError::IntegerOverflow,
             other => error_of(other),
+        }
+    }
+
+    /// Checks that so many rows lie apart from each other in memory of so many bytes.
+    pub(super) fn check(self, rows: usize, actual: usize) -> Result<()> {
+        if self.is_short() {
+            return Err(SixelError::of_data("stride is shorter than a row"));
+        }
+        let above = rows.saturating_sub(1).checked_mul(self.stride);
+        match above.and_then(|above| above.checked_add(4 * self.columns)) {
+            _ if rows == 0 => Ok(()),
+            None => Err(SixelError::IntegerOverflow),
+            Some(expected) if actual < expected => {
+                Err(SixelError::BufferSizeMismatch { expected, actual })
+            }
+            Some(_) => Ok(()),
         }
     }
 

@@ -1,83 +1,113 @@
-use Rattle.std.proofs.Common.{IfErr, MatchBool, subst, arith, rules}
+use Rattle.std.proofs.Common.{◌≡◌, ◌∙◌, Some, Ok, Err, true, false, refl, ap, subst, arith}
+use Rattle.std.specs.Prelude.{MatchBool, is_some}
 use Rattle.sixel_base.specs.DrawnHeight.{found_drawn_height}
 use Rattle.sixel_base.specs.Fault.{Faults, IsFault}
-use Rattle.sixel_base.specs.OneShot.{IsDecodedAs}
-use Rattle.icy_sixel.specs.ImageView.{image_result, image_value}
+use Rattle.sixel_base.specs.OneShot.{IsDecodedAs, IsFoundImage}
 use Rattle.icy_sixel.specs.Receiver.{end_fault, end_wants, failed, found, found_followed}
-use Rattle.icysixel.proofs.Known.{received_known, result_known}
-use Rattle.icysixel.proofs.Stored.{of_stored}
+use Rattle.icy_sixel.specs.Receiver.{ignored, is_open, is_over}
+use Rattle.icy_sixel.specs.ReceiverCalls.{IsFinished, whole_of}
+use Rattle.icy_sixel.specs.declared.receiver.received_image.ReceivedImage.{ReceivedImage}
+use Rattle.icysixel.specs.Kept.{image_left}
+use Rattle.icysixel.specs.Shape.{shape_of}
+use Rattle.icysixel.proofs.Known.{received_known}
 use Rattle.icysixel.proofs.images.finish.Goals as goal
 
-pub store_image-requires : goal.store_image-requires
-store_image-requires c = grind arith
-
-pub invariant_of-state : goal.invariant_of-state
-invariant_of-state c = grind arith
-
-pub returns-then-not-is_receiving : goal.returns-then-not-is_receiving
-returns-then-not-is_receiving c = grind arith
-
-pub invariant_of-state-2 : goal.invariant_of-state-2
-invariant_of-state-2 c = grind arith
-
-pub store_decoded-requires-clause-pixels : goal.store_decoded-requires-clause-pixels
-store_decoded-requires-clause-pixels c = grind arith
-
-pub store_decoded-requires-clause-known : goal.store_decoded-requires-clause-known
-store_decoded-requires-clause-known c =
+pub code_of-requires : goal.code_of-requires
+code_of-requires c =
     let image = c.store_image.new.self.receiver.image in
-    let wants = end_wants image.start.pixel_limit image.form image.bytes in
-    let fault = end_fault image.start.pixel_limit image.form image.bytes in
-    result_known (image_result c.finish_drawn-answer.result)
-    (λ error.
-    MatchBool image.is_refused (IsFault error (failed image.form)) (Faults error wants fault))
-    (λ error. received_known error image.is_refused wants (failed image.form) fault)
-    (c.finish_drawn-answer.ensures.finished.error (grind arith))
+    received_known c.in-Err.error image.is_refused
+    (end_wants image.start.pixel_limit image.form image.bytes) (failed image.form)
+    (end_fault image.start.pixel_limit image.form image.bytes) c.in-Err.ensures.finished.error
 
-pub returns-clause-finished : goal.returns-clause-finished
-returns-clause-finished c =
-    let image = c.args.state.now.receiver.image in
+pub returns-in-Ok-clause-finished : goal.returns-in-Ok-clause-finished
+returns-in-Ok-clause-finished c =
+    let old = c.args.state.now.receiver in
+    let new = c.store_image-in-Ok.new.self in
+    let kept : new.receiver ≡ c.finish.new.self = c.store_image-in-Ok.ensures.receiver in
+    let stored : new.image ≡ Some c.in-Ok.image = c.store_image-in-Ok.ensures.image in
+    let one : (image : ReceivedImage) → new.image ≡ Some image → c.in-Ok.image ≡ image =
+    λ image is. grind (arith, stored, is) in
+    let done : IsFinished (whole_of old.image) old new.receiver (Ok c.in-Ok.image) =
+    rw (kept, ← c.store_image.ensures.receiver) c.in-Ok.ensures.finished in
+    let opened : is_open old.image.form ≡ true = grind arith in
+    let left = image_left c.in-Ok.image in
+    let first = c.in-Ok.image.first_row in
+    let rows = found_drawn_height old.image.start (found old.image.form old.image.bytes) in
+    let drawn : c.in-Ok.image.drawn_height ≡ rows =
+    rw (← c.store_image.ensures.receiver) c.in-Ok.ensures.drawn in
+    let count = ignored old.image.start.pixel_limit old.image.form old.image.bytes in
+    let counted : c.in-Ok.image.ignored_commands ≡ count =
+    rw (← c.store_image.ensures.receiver) c.in-Ok.ensures.ignored in
+    let over : old.image.is_refused ≡ false
+    → c.has_ended-is_complete.result ≡ is_over old.image.form old.image.bytes =
+    rw (← c.store_image.ensures.receiver) c.has_ended-is_complete.ensures.accepted in
+    let shape : c.of.result
+    ≡ shape_of left first rows count (is_over old.image.form old.image.bytes) =
+    c.of.ensures
+    ∙ (ap (λ n. shape_of left first n c.in-Ok.image.ignored_commands
+    c.has_ended-is_complete.result) drawn
+    ∙ (ap (λ n. shape_of left first rows n c.has_ended-is_complete.result) counted
+    ∙ ap (shape_of left first rows count) (over done.accepted))) in
+    record {
+      unopened = λ closed. absurd (grind (arith, closed, opened));
+      closed = done.closed;
+      found = λ _. ap is_some stored;
+      image = λ image is.
+          subst (λ i. IsFoundImage old.image.start (found old.image.form old.image.bytes)
+          (whole_of old.image i)) (one image is) done.image;
+      first = λ image is.
+          rw (← one image is, ← c.store_image.ensures.receiver) c.in-Ok.ensures.first;
+      shape = λ image is. rw (← one image is) shape;
+      bytes = λ _. rw c.of.ensures c.in-Ok.image.rows;
+      area = λ _. rw c.of.ensures done.area;
+      registers = λ _. done.registers;
+      as_decoded = λ image more is.
+          subst (λ i. IsDecodedAs old.image.start
+          (found_followed old.image.form old.image.bytes more) (whole_of old.image i)
+          new.receiver.decoder.registers) (one image is) (done.as_decoded more);
+      accepted = λ _. done.accepted;
+      faultless = λ _. done.ended;
+      set = done.set;
+      text = grind arith;
+      kept = λ error. absurd (error refl);
+      dropped = λ error. absurd (error refl);
+      refused = λ _ _ error. absurd (error refl);
+      again = λ _ was. absurd (grind (arith, was, done.accepted));
+    }
+
+pub returns-in-Err-clause-finished : goal.returns-in-Err-clause-finished
+returns-in-Err-clause-finished c =
+    let old = c.args.state.now.receiver in
+    let code = c.code_of.ensures in
+    let image = old.image in
     let wants = end_wants image.start.pixel_limit image.form image.bytes in
     let fault = end_fault image.start.pixel_limit image.form image.bytes in
-    let error : IfErr (image_result c.finish_drawn-answer.result)
-    (λ error.
-    MatchBool image.is_refused (IsFault error (failed image.form)) (Faults error wants fault)) =
-    rw (← c.store_image.ensures.receiver)
-    (c.finish_drawn-answer.ensures.finished.error (grind arith)) in
+    let done : IsFinished (whole_of image) old c.finish.new.self (Err c.in-Err.error) =
+    rw (← c.store_image.ensures.receiver) c.in-Err.ensures.finished in
+    let opened : is_open image.form ≡ true = grind arith in
     record {
-      unopened = grind arith;
-      closed = grind arith;
-      released = grind arith;
-      found = grind arith;
-      image = grind arith;
-      shape = λ stored is.
-          c.store_decoded.ensures.shape
-          (found_drawn_height image.start (found image.form image.bytes)) stored is
-          (rw (← c.store_image.ensures.receiver) c.finish_drawn-answer.ensures.drawn);
-      bytes = c.store_decoded.ensures.bytes;
-      area = λ done.
-          c.store_decoded.ensures.area image.start.pixel_limit.pixels done
-          (rw (← c.store_image.ensures.receiver) c.finish_drawn-answer.ensures.finished.area);
-      registers = grind arith;
-      as_decoded = λ stored more is.
-          of_stored (image_result c.finish_drawn-answer.result) c.store_decoded.new.self.image
-          (λ i.
-          IsDecodedAs image.start (found_followed image.form image.bytes more) (image_value i)
-          c.store_decoded.new.self.receiver.decoder.registers)
-          (rw (c.store_decoded.ensures.receiver, ← c.store_image.ensures.receiver)
-          (c.finish_drawn-answer.ensures.finished.as_decoded more))
-          c.store_decoded.ensures.image c.store_decoded.ensures.dropped stored is;
-      accepted = grind arith;
-      faultless = grind arith;
-      set = grind arith;
+      unopened = λ closed. absurd (grind (arith, closed, opened));
+      closed = done.closed;
+      found = λ ok. absurd (code.refused ok);
+      image = λ stored is. absurd (grind (arith, is));
+      first = λ stored is. absurd (grind (arith, is));
+      shape = λ stored is. absurd (grind (arith, is));
+      bytes = λ ok. absurd (code.refused ok);
+      area = λ ok. absurd (code.refused ok);
+      registers = λ ok. absurd (code.refused ok);
+      as_decoded = λ stored more is. absurd (grind (arith, is));
+      accepted = λ ok. absurd (code.refused ok);
+      faultless = λ ok. absurd (code.refused ok);
+      set = done.set;
       text = grind arith;
-      kept = grind arith;
-      dropped = search rules;
-      refused = λ opened none accepted refused. c.store_decoded.ensures.code wants fault refused
-          (subst (λ is_refused.
-          IfErr (image_result c.finish_drawn-answer.result)
-          (λ error.
-          MatchBool is_refused (IsFault error (failed image.form)) (Faults error wants fault)))
-          accepted error);
-      again = grind arith;
+      kept = λ _. done.kept;
+      dropped = λ _. c.store_image.ensures.image;
+      refused = λ _ accepted _.
+          code.told wants fault
+          (subst (λ was. MatchBool was (IsFault c.in-Err.error (failed image.form))
+          (Faults c.in-Err.error wants fault)) accepted done.error);
+      again = λ _ was.
+          code.fault (failed image.form)
+          (subst (λ was. MatchBool was (IsFault c.in-Err.error (failed image.form))
+          (Faults c.in-Err.error wants fault)) was done.error);
     }

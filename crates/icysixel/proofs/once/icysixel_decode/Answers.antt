@@ -1,4 +1,7 @@
 use Rattle.std.proofs.Common.{◌≡◌, Some, arith}
+use Rattle.sixel_base.specs.OneShot.{IsFoundImage, found}
+use Rattle.icy_sixel.specs.ImageView.{image_result, image_value}
+use Rattle.icysixel.proofs.Stored.{of_stored}
 use Rattle.icysixel.proofs.once.icysixel_decode.Goals as goal
 
 pub returns-then-not-is_held : goal.returns-then-not-is_held
@@ -23,7 +26,19 @@ pub returns-clause-found : goal.returns-clause-found
 returns-clause-found c = grind arith
 
 pub returns-clause-image : goal.returns-clause-image
-returns-clause-image c = grind arith
+returns-clause-image c = λ before after image is is_now kept.
+    let same : c.replace_decoder-decoder.result ≡ before.receiver.decoder =
+    grind (arith, c.state-state.ensures.value) in
+    let now : c.store_decoded.new.self.image ≡ Some image = grind arith in
+    rw (← same)
+    (of_stored (image_result c.decode_drawn-answer.result) c.store_decoded.new.self.image
+    (λ image.
+    IsFoundImage c.replace_decoder-decoder.result (found c.args.bytes.now) (image_value image))
+    c.decode_drawn-answer.ensures.decoded.image c.store_decoded.ensures.image
+    c.store_decoded.ensures.dropped image now)
+
+pub returns-clause-first : goal.returns-clause-first
+returns-clause-first c = grind arith
 
 pub returns-clause-shape : goal.returns-clause-shape
 returns-clause-shape c = λ before after image is is_now kept.

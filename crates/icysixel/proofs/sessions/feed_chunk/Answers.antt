@@ -9,12 +9,12 @@ pub returns-in-Ok : goal.returns-in-Ok
 returns-in-Ok c = grind arith
 
 pub code_of-requires : goal.code_of-requires
-code_of-requires c = received_known c.in-Err.error _ _ _ _ c.in-Err.ensures.fed.error
+code_of-requires c = received_known c.in-Err.error _ _ _ _ c.in-Err.ensures.error
 
 pub returns-in-Err-clause-fed : goal.returns-in-Err-clause-fed
 returns-in-Err-clause-fed c =
     let told = c.code_of.ensures.told in
-    let read = c.feed.ensures.fed in
+    let read = c.feed.ensures in
     record {
       closed = grind arith;
       unchanged = grind arith;

@@ -2,7 +2,7 @@ use Rattle.std.proofs.Common.{◌≡◌, ◌+◌, ◌-◌, ◌*◌, ◌++◌, Re
 use Rattle.std.proofs.Common.{ap, sym, ◌∙◌, arith, length-append, length-take, length-drop}
 use Rattle.std.proofs.lemmas.Bool.{false≢true}
 use Rattle.std.specs.Prelude.{slice_range}
-use Rattle.icysixel.proofs.Spread.{row_inside, rows_more}
+use Rattle.icysixel.proofs.Gathered.{row_inside, rows_more}
 use Rattle.icysixel.proofs.rows.Layout.gathered.Goals as goal
 
 pub row_of-requires : goal.row_of-requires

@@ -1,0 +1,93 @@
+//! An image that a receiver has finished, and copies of its rows.
+
+use super::rows::{ChannelOrder, RowLayout};
+use crate::codes::{ROWS_NOT_FINAL, ROWS_RELEASED, error_of};
+use crate::error::Result;
+use crate::settings::{BackgroundMode, PixelAspectRatio};
+use crate::sixel_image::SixelImage;
+
+/// An image that was received, without the rows that were released.
+#[derive(Clone, Debug, PartialEq, Eq)]
+pub struct ReceivedImage {
+    /// The pixels of the rows from `first_row` on: red, green, blue, alpha.
+    pub pixels: Vec<u8>,
+    /// Pixels in a row.
+    pub width: usize,
+    /// Rows of the whole image.
+    pub height: usize,
+    /// How many rows from the top were released, at most the height.
+    pub first_row: usize,
+    /// Rows down to the last one with a set pixel, or 0 if there is none.
+    ///
+    /// It is at most the height, because crop can end an image above that row.
+    pub drawn_height: usize,
+    /// How many commands were ignored, if the image is lenient. The number saturates.
+    pub ignored_commands: u64,
+    /// Whether the end of the image was fed: the terminator of a payload or of a DCS sequence.
+    pub is_complete: bool,
+    /// The shape of a pixel.
+    pub aspect_ratio: PixelAspectRatio,
+    /// Whether pixels that were not drawn are opaque or transparent.
+    pub background_mode: BackgroundMode,
+}
+
+impl ReceivedImage {
+    /// Copies rows of the image to the caller's memory, as often as the caller calls it.
+    ///
+    /// The rows are `first` up to before `first + rows`. They lie as those of
+    /// [`SixelReceiver::copy_rows`](super::SixelReceiver::copy_rows). Columns on the right of the
+    /// image are transparent.
+    ///
+    /// # Errors
+    ///
+    /// In this order:
+    ///
+    /// - `InvalidData` with `rows are not final`: `first + rows` is greater than the height.
+    /// - `InvalidData` with `rows were released`: `first` is less than `first_row`.
+    /// - The errors about the layout and the length of `out` that `SixelReceiver::copy_rows` has.
+    pub fn copy_rows(
+        &self,
+        first: usize,
+        rows: usize,
+        layout: RowLayout,
+        out: &mut [u8],
+    ) -> Result<()> {
+        if first.checked_add(rows).is_none_or(|end| end > self.height) {
+            return Err(error_of(ROWS_NOT_FINAL));
+        }
+        if first < self.first_row {
+            return Err(error_of(ROWS_RELEASED));
+        }
+        layout.check(rows, out.len())?;
+        for row in 0..rows {
+            let from = 4 * self.width * (first - self.first_row + row);
+            let source = &self.pixels[from..from + 4 * self.width];
+            let target = &mut out[layout.stride * row..][..4 * layout.columns];
+            let shared = source.len().min(target.len());
+            target[..shared].copy_from_slice(&source[..shared]);
+            target[shared..].fill(0);
+            if layout.order == ChannelOrder::Bgra {
+                target.chunks_exact_mut(4).for_each(|pixel| pixel.swap(0, 2));
+            }
+        }
+        Ok(())
+    }
+
+    /// Returns the whole image. No pixel is copied.
+    ///
+    /// # Errors
+    ///
+    /// `InvalidData` with `rows were released` if no memory has all rows.
+    pub fn into_image(self) -> Result<SixelImage> {
+        if self.first_row > 0 {
+            return Err(error_of(ROWS_RELEASED));
+        }
+        Ok(SixelImage {
+            pixels: self.pixels,
+            width: self.width,
+            height: self.height,
+            aspect_ratio: self.aspect_ratio,
+            background_mode: self.background_mode,
+        })
+    }
+}
