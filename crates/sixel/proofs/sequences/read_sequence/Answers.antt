@@ -30,8 +30,10 @@ finishes : (c : goal.In_ok-image)
     ≡ true
 finishes c =
     let s = c.in_ok-fed.ensures in
-    finishes_faultless _ _
-    (rw (s.form, s.start, c.begin_dcs.ensures.image) at (c.in_ok-image.ensures.finished (stored c)).ended)
+    finishes_faultless c.args.receiver.now.decoder.pixel_limit
+    c.feed_chunks.new.receiver.image.bytes
+    (rw (s.form, s.start, c.begin_dcs.ensures.image) at
+    (c.in_ok-image.ensures.finished (stored c)).ended)
 
 -- the bytes of the sequence that was fed are those of the sequence that all begin with
 same : (c : goal.In_ok-image)
@@ -81,5 +83,6 @@ returns-clause-status c = c.in_ok-fed.ensures.status ∙ ap Dcs (sym (same c).st
 pub returns-clause-faultless : goal.returns-clause-faultless
 returns-clause-faultless c =
     finished_faultless c.args.receiver.now.decoder.pixel_limit c.args.bytes.now c.requires.some
-    (finishes_fed _ _ _ (same c).status c.in_ok-fed.ensures.chunks.enough (finishes c))
+    (finishes_fed c.args.receiver.now.decoder.pixel_limit _ _ (same c).status
+    c.in_ok-fed.ensures.chunks.enough (finishes c))
     ((same c).fault ∙ (rw c.begin_dcs.ensures.image at c.in_ok-fed.ensures.faultless))
