@@ -155,6 +155,15 @@ impl SixelDecoder {
         self.state.raster_crop = on;
     }
 
+    /// Whether images are lenient: off in a new decoder.
+    ///
+    /// [`SixelReceiver::set_lenient`](crate::SixelReceiver::set_lenient) describes such images.
+    pub fn is_lenient(&self) -> bool
+        ensures { result ≡ self.now.pixel_limit.lenient }
+    {
+        self.state.pixel_limit.lenient()
+    }
+
     /// Returns how many pixels an image can have.
     ///
     /// The limit is 67,108,864 in a new decoder, and never more.
