@@ -65,7 +65,7 @@ static void make_silent_calls(void)
     icysixel_begin_dcs(h), icysixel_begin_payload(h, 9, 1), icysixel_abort(h);
     icysixel_discard_image(h), icysixel_set_register(h, 1, 2, 3, 4);
     icysixel_set_registers(h, 1, &color, 1), icysixel_reset_registers(h), icysixel_set_crop(h, 1);
-    icysixel_set_limit(h, 1), icysixel_set_clip(h, 1, 1);
+    icysixel_set_lenient(h, 1), icysixel_set_limit(h, 1), icysixel_set_clip(h, 1, 1);
 }
 
 /* On an empty handle each call reports that, and writes nothing but a length of 0. */
@@ -98,7 +98,7 @@ static void test_empty_handle(void)
     CHECK(icysixel_copy_text(h, NULL, 0, &length) == ICYSIXEL_NO_HANDLE && length == 0);
     CHECK((icysixel_is_receiving(h) | icysixel_in_payload(h) | icysixel_get_canvas_paints(h)
            | icysixel_get_drawn_height(h) | icysixel_get_rows_so_far(h) | icysixel_get_crop(h)
-           | icysixel_get_limit(h)) == 0);
+           | icysixel_get_lenient(h) | icysixel_get_limit(h)) == 0);
     icysixel_free(h);
 }
 
@@ -241,6 +241,30 @@ static void test_wider_end(void)
     RETURNS(OK, icysixel_copy_pixels(h, 0, 6, &(icysixel_layout){.columns = 1}, rows, 24));
     CHECK(are_rows(rows, 6, "\63\63\314\377", 4));
     free(rows);
+}
+
+/* A lenient image ignores commands with a fault, and a DCS sequence may end without terminator. */
+static void test_lenient(void)
+{
+    static const struct { const char *data; size_t width; uint8_t is_complete; } images[] = {
+        {"\033Pq~!65536~~", 3, 0}, {"\033Pq~!65536~~\033\\", 3, 1}, {"\033Pq~!65536~~\030", 3, 1},
+        {"\033Pq!999999~~\234", 2, 1},
+    };
+    icysixel_set_lenient(h, 2);
+    CHECK(icysixel_get_lenient(h) == 1);
+    EACH(image, images) {
+        icysixel_begin_dcs(h);
+        CHECK(FEED(image->data) == OK && icysixel_finish(h, &shape) == OK);
+        CHECK(shape.width == image->width && shape.ignored == 1);
+        CHECK(shape.is_complete == image->is_complete);
+    }
+    CHECK(DECODE("~!65536~~") == OK && shape.width == 3 && shape.ignored == 0);
+    icysixel_begin_dcs(h);
+    CHECK(FEED("\033P") == OK && icysixel_finish(h, &shape) == ICYSIXEL_INCOMPLETE);
+    icysixel_begin_payload(h, 9, 1), icysixel_set_lenient(h, 0);
+    CHECK(icysixel_get_lenient(h) == 0 && FEED("!65536~") == OK);
+    icysixel_begin_payload(h, 9, 1);
+    RETURNS(MALFORMED, FEED("!65536~"));
 }
 
 /* Rows that crop cuts off are not stored, whether they were released or not. */
@@ -387,14 +411,14 @@ static void test_registers(void)
     CHECK(red_of_1() == 51);
 }
 
-/* Crop, limit and clip are set and reported. */
+/* Crop, lenience, limit and clip are set and reported. */
 static void test_settings(void)
 {
     static const size_t limits[][2] = {{71, 71}, {0, 1}, {SIZE_MAX, 67108864}};
     icysixel_set_crop(h, 2);
     CHECK(icysixel_get_crop(h) == 1);
     icysixel_set_crop(h, 0);
-    CHECK(icysixel_get_crop(h) == 0);
+    CHECK(icysixel_get_crop(h) == 0 && icysixel_get_lenient(h) == 0);
     EACH(row, limits) {
         icysixel_set_limit(h, (*row)[0]);
         CHECK(icysixel_get_limit(h) == (*row)[1]);
@@ -609,8 +633,8 @@ int main(void)
 {
     static const struct { const char *name; void (*test)(void); } tests[] = {
         TEST(empty_handle), TEST(new_on_full_handle), TEST(progress), TEST(canvas_paints),
-        TEST(bands), TEST(copied_rows), TEST(wider_end), TEST(cropped_rows), TEST(pixels),
-        TEST(errors), TEST(drawn_height), TEST(take_pixels), TEST(new_on_full_handle),
+        TEST(bands), TEST(copied_rows), TEST(wider_end), TEST(lenient), TEST(cropped_rows),
+        TEST(pixels), TEST(errors), TEST(drawn_height), TEST(take_pixels), TEST(new_on_full_handle),
         TEST(registers), TEST(settings), TEST(encode), TEST(encodings), TEST(widest),
         TEST(palettes), TEST(indices), TEST(code_texts), TEST(version),
     };

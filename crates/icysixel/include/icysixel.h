@@ -217,8 +217,9 @@ enum icysixel_status {
 
 /* -- Handles -- */
 
-/* Creates a decoder with default registers, no crop, no clip and a limit of 67,108,864 pixels. What
- * the handle contained is freed first. With ICYSIXEL_OUT_OF_MEMORY the handle is empty. */
+/* Creates a decoder with default registers, no crop, no clip and a limit of 67,108,864 pixels. Its
+ * images are not lenient. What the handle contained is freed first. With ICYSIXEL_OUT_OF_MEMORY the
+ * handle is empty. */
 uint32_t icysixel_new(icysixel *handle);
 
 /* Frees the decoder and all that it stores, and empties the handle. */
@@ -230,7 +231,7 @@ uint8_t icysixel_is_empty(icysixel *handle);
 /* -- Streaming -- */
 
 /* Opens a DCS sequence, from its introducer to its terminator. It starts with the decoder's current
- * registers, crop, limit and clip. An open image is aborted. */
+ * registers and settings. An open image is aborted. */
 void icysixel_begin_dcs(icysixel *handle);
 
 /* Opens a payload: the data between the `q` and the terminator of a DCS sequence. p1 and p2 are the
@@ -385,6 +386,21 @@ uint8_t icysixel_get_crop(icysixel *handle);
 
 /* Sets whether images that are begun afterwards are cropped: 0 is off, any other number is on. */
 void icysixel_set_crop(icysixel *handle, uint8_t on);
+
+/* Returns 1 if images are lenient. */
+uint8_t icysixel_get_lenient(icysixel *handle);
+
+/* Sets whether images that are begun afterwards are lenient: 0 is off, any other number is on. A
+ * command with a fault is then ignored, in place of an error. So a terminal shows what it can.
+ *
+ * - A repeat count, raster attributes or a graphics new line past a limit changes nothing.
+ * - A sixel outside of the limits is not drawn and does not move the position. Its repeat count is
+ *   used up.
+ * - A payload fails only with ICYSIXEL_OUT_OF_MEMORY. A DCS sequence can also have no introducer or
+ *   an invalid header.
+ * - icysixel_finish of a DCS sequence without terminator stores its image so far, once its payload
+ *   has begun. Then `is_complete` of the shape is 0. */
+void icysixel_set_lenient(icysixel *handle, uint8_t on);
 
 /* Returns how many pixels an image can have, or 0 if the handle is empty. */
 size_t icysixel_get_limit(icysixel *handle);

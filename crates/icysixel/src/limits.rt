@@ -1,7 +1,7 @@
-//! The calls that read and set the crop, the limit of pixels and the clip.
+//! The calls that read and set crop, lenience, the limit of pixels and the clip.
 
 ghost use Rattle.std.specs.Prelude.{◌≡◌, ◌≢◌, ◌==◌, Some, None, is_some, true, not, cond};
-ghost use Rattle.sixel_base.specs.Decoder.{with_clip, with_pixel_limit};
+ghost use Rattle.sixel_base.specs.Decoder.{with_clip, with_lenient, with_pixel_limit};
 ghost use Rattle.icysixel.specs.Changes.{IsSet};
 ghost use Rattle.icysixel.specs.declared.state.State.{State};
 
@@ -31,6 +31,31 @@ pub extern "C" fn icysixel_set_crop(slot: &mut Slot, on: u8)
 {
     if slot.is_held() {
         slot.state().receiver.set_raster_crop(on != 0);
+    }
+}
+
+/// Returns 1 if images are lenient, and 0 if not.
+#[unsafe(no_mangle)]
+pub extern "C" fn icysixel_get_lenient(slot: &mut Slot) -> u8
+    ensures same { slot.new.handle.state ≡ slot.old.handle.state }
+    ensures none { slot.old.handle.state ≡ None → result ≡ 0 }
+    ensures value { (state : State) → slot.old.handle.state ≡ Some state
+        → result ≡ cond state.receiver.decoder.pixel_limit.lenient 1 0 }
+{
+    if !slot.is_held() {
+        return 0;
+    }
+    u8::from(slot.state().receiver.decoder().is_lenient())
+}
+
+/// Sets whether images are lenient: 0 is off, any other number is on.
+#[unsafe(no_mangle)]
+pub extern "C" fn icysixel_set_lenient(slot: &mut Slot, on: u8)
+    ensures { IsSet (λ decoder. with_lenient decoder (not (on == 0)))
+        slot.old.handle.state slot.new.handle.state }
+{
+    if slot.is_held() {
+        slot.state().receiver.set_lenient(on != 0);
     }
 }
 

@@ -127,6 +127,19 @@ impl SixelDecoder {
         self.handle().set_crop(on);
     }
 
+    /// Whether images are lenient; off in a new decoder.
+    ///
+    /// [`SixelReceiver::set_lenient`](crate::SixelReceiver::set_lenient) describes such images.
+    #[must_use]
+    pub fn is_lenient(&self) -> bool {
+        self.shared().lenient()
+    }
+
+    /// Sets whether images are lenient.
+    pub(crate) fn set_lenient(&mut self, on: bool) {
+        self.handle().set_lenient(on);
+    }
+
     /// Returns how many pixels an image can have.
     ///
     /// The limit is 67,108,864 in a new decoder, and never more.

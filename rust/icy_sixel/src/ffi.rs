@@ -129,6 +129,8 @@ unsafe extern "C" {
     safe fn icysixel_reset_registers(handle: &mut Raw);
     safe fn icysixel_get_crop(handle: &mut Raw) -> u8;
     safe fn icysixel_set_crop(handle: &mut Raw, on: u8);
+    safe fn icysixel_get_lenient(handle: &mut Raw) -> u8;
+    safe fn icysixel_set_lenient(handle: &mut Raw, on: u8);
     safe fn icysixel_get_limit(handle: &mut Raw) -> usize;
     safe fn icysixel_set_limit(handle: &mut Raw, pixels: usize);
     safe fn icysixel_get_clip(handle: &mut Raw, clip: &mut Size) -> u32;
@@ -478,6 +480,14 @@ impl Handle {
 
     pub(crate) fn set_crop(&mut self, on: bool) {
         icysixel_set_crop(&mut self.0, u8::from(on));
+    }
+
+    pub(crate) fn lenient(&mut self) -> bool {
+        icysixel_get_lenient(&mut self.0) != 0
+    }
+
+    pub(crate) fn set_lenient(&mut self, on: bool) {
+        icysixel_set_lenient(&mut self.0, u8::from(on));
     }
 
     pub(crate) fn limit(&mut self) -> usize {

@@ -33,6 +33,7 @@ impl Handle {
         let mut copy = Self::new().map_err(error_of)?;
         copy.set_registers(0, &self.registers());
         copy.set_crop(self.crop());
+        copy.set_lenient(self.lenient());
         copy.set_limit(self.limit());
         let (width, height) = self.clip();
         copy.set_clip(width, height);

@@ -241,6 +241,22 @@ impl SixelReceiver {
         self.decoder.set_raster_crop(on);
     }
 
+    /// Sets whether a command with a fault is ignored, in place of rejecting the image.
+    ///
+    /// It is off in a new decoder. The setting applies to images that are begun afterwards, and
+    /// [`into_decoder`](Self::into_decoder) returns a decoder that is lenient, too.
+    ///
+    /// - A repeat count, raster attributes or a graphics new line past a limit changes nothing.
+    /// - A sixel outside of the limits is not drawn and does not move the position. Its repeat
+    ///   count is used up.
+    /// - So [`feed`](Self::feed) and [`finish`](Self::finish) of a payload fail only if an
+    ///   allocation fails. A DCS sequence can also have no introducer or an invalid header.
+    /// - `finish` of a DCS sequence without terminator returns its image so far, once its payload
+    ///   has begun.
+    pub fn set_lenient(&mut self, on: bool) {
+        self.decoder.set_lenient(on);
+    }
+
     /// Sets how many pixels an image can have.
     ///
     /// It does what [`SixelDecoder::set_pixel_limit`] does. An open image keeps the limit that it

@@ -197,6 +197,26 @@ fn errors_close_the_image() {
 }
 
 #[test]
+fn lenient_images_ignore_commands() {
+    let mut receiver = SixelReceiver::new();
+    receiver.set_lenient(true);
+    for (string, is_complete) in [(&b"\x1bPq~!65536~~"[..], false), (b"\x1bPq~!65536~~\x9c", true)]
+    {
+        receiver.begin_dcs();
+        assert!(receiver.feed(string).is_ok());
+        let image = receiver.finish().unwrap();
+        assert_eq!((image.width, image.ignored_commands), (3, 1));
+        assert_eq!(image.is_complete, is_complete);
+    }
+    assert!(receiver.decoder().is_lenient() && receiver.decoder().clone().is_lenient());
+    let mut decoder = receiver.into_decoder();
+    assert_eq!(decoder.decode(b"~!65536~~").unwrap().dimensions(), (3, 6));
+    let mut strict = SixelReceiver::new();
+    strict.begin_dcs();
+    assert_eq!(strict.feed(b"\x1bPq~!65536~~"), Err(invalid(MALFORMED)));
+}
+
+#[test]
 fn a_receiver_owns_its_decoder() {
     let mut decoder = SixelDecoder::new();
     decoder.set_register(3, [3, 3, 3]);
