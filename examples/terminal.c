@@ -1,4 +1,4 @@
-/* A terminal in short: it copies text, and shows a line for each image and for each rejected one.
+/* A terminal in short: it copies text, and shows a line for each image.
  *
  * The terminal's own parser reads DCS, its parameters and `q`, and passes the payload on. */
 #include "icysixel.h"
@@ -25,6 +25,7 @@ static uint32_t begin_image(struct terminal *term)
         uint32_t code = icysixel_new(&term->sixel);
         if (code != ICYSIXEL_OK) return code;
         icysixel_set_crop(&term->sixel, 1);
+        icysixel_set_lenient(&term->sixel, 1);
         icysixel_set_registers(&term->sixel, 0, palette, sizeof palette / sizeof *palette);
         icysixel_set_limit(&term->sixel, SCREEN_WIDTH * SCREEN_HEIGHT);
         icysixel_set_clip(&term->sixel, SCREEN_WIDTH, SIZE_MAX);
@@ -49,7 +50,7 @@ static uint32_t end_image(struct terminal *term)
     return ICYSIXEL_OK;
 }
 
-/* Shows why an image is rejected. The parser then skips the payload. */
+/* Shows why an image is rejected: an allocation failed. The parser then skips the payload. */
 static void reject_image(struct terminal *term, uint32_t code)
 {
     char text[64];
