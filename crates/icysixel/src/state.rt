@@ -191,7 +191,6 @@ fn whole_image(drawn: DrawnImage) -> ReceivedImage
         height: image.height,
         first_row: 0,
         drawn_height,
-        // No call of C reads it.
         raster_height: 0,
         ignored_commands: 0,
         aspect_ratio: image.aspect_ratio,

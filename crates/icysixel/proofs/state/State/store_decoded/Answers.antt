@@ -1,9 +1,6 @@
 use Rattle.std.proofs.Common.{arith}
 use Rattle.icysixel.proofs.state.State.store_decoded.Goals as goal
 
-pub store_image-requires-in-Err : goal.store_image-requires-in-Err
-store_image-requires-in-Err c = grind arith
-
 pub returns-in-Ok : goal.returns-in-Ok
 returns-in-Ok c = grind arith
 
