@@ -4,7 +4,7 @@ use Rattle.icysixel.proofs.sessions.feed_band.Goals as goal
 use Rattle.icysixel.proofs.sessions.feed_band.Goals.{then-code, else-code}
 use Rattle.icysixel.proofs.sessions.feed_band.Goals.{else-goes_on-via-else-goes_on}
 use Rattle.icysixel.proofs.sessions.feed_band.Goals.{
-  else-goes_on-via-then-goes_on+else-before-rows_so_far
+  else-goes_on-via-then-goes_on+else-before-rows_so_far,
 }
 
 pub returns-then-before-rows_so_far-clause-fed : goal.returns-then-before-rows_so_far-clause-fed
