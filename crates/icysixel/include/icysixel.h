@@ -304,8 +304,8 @@ uint32_t icysixel_copy_rows(icysixel *handle, size_t first, size_t rows,
 uint32_t icysixel_release_rows(icysixel *handle, size_t rows);
 
 /* Closes the open image, stores it and writes its properties. It replaces an image that is stored.
- * Rows that were released are not stored. The decoder takes over the image's registers. The image
- * is complete if its terminator was fed, and a control byte that ends it early is one too. The
+ * Rows that were released are not stored. The decoder takes over the image's registers.
+ * `is_complete` is 1 if the terminator was fed, or a control byte that ends the image early. The
  * errors are those of icysixel_feed, and ICYSIXEL_INCOMPLETE for a DCS sequence without terminator.
  * A payload can end anywhere. An error closes the image too. Then no image is stored and no
  * register changes. */
