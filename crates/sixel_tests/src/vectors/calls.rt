@@ -101,11 +101,7 @@ fn make(alloc: Global, found: &mut String, receiver: &mut SixelReceiver, call: &
         "finish" => return push_finished(alloc, found, receiver.finish()),
         "state" => return push_state(found, receiver),
         "register" => return push_register(found, receiver, argument),
-        "end" => found.push_str(if receiver.has_ended() {
-            "\tended"
-        } else {
-            "\topen"
-        })?,
+        "end" => return push_end(found, receiver),
         "begin" => begin(alloc, receiver, settings(argument)?.0),
         "abort" => receiver.abort(),
         "release" => receiver.release_rows(argument.parse::<usize>()?)?,
@@ -119,6 +115,7 @@ fn set(receiver: &mut SixelReceiver, word: &str, argument: &str) -> Result<()> {
     match word {
         "reset" => receiver.reset_palette(),
         "crop" => receiver.set_raster_crop(argument == "on"),
+        "lenient" => receiver.set_lenient(argument == "on"),
         "limit" => receiver.set_pixel_limit(argument.parse::<usize>()?),
         "clip" => {
             let (width, height) = clip(argument)?;
@@ -197,6 +194,12 @@ fn copied(alloc: Global, image: &ReceivedImage, order: ChannelOrder) -> Result<V
     let count = image.height.saturating_sub(image.first_row);
     image.copy_rows(image.first_row, count, layout, &mut rows)?;
     Ok(rows)
+}
+
+/// Writes whether the end of the open image was fed.
+fn push_end(found: &mut String, receiver: &SixelReceiver) -> Result<()> {
+    let has_ended = receiver.has_ended();
+    Ok(found.push_str(if has_ended { "\tended" } else { "\topen" })?)
 }
 
 /// Writes whether an image is open, and its size so far.
