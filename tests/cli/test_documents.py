@@ -12,7 +12,6 @@ from build import ROOT, needs, run
 # The sources that tests run, by the language of a block.
 EXAMPLES = {
     "rust": [*ROOT.glob("crates/sixel_examples/src/**/*.rt"), ROOT / "rust/icy_sixel/README.md"],
-    "rattle": [*ROOT.glob("crates/*/src/**/*.rt")],
     "c": [*ROOT.glob("examples/*.c")],
 }
 DOCUMENTS = [*ROOT.glob("*.md"), *sorted(ROOT.glob("docs/*.md"))]
@@ -29,7 +28,7 @@ def blocks():
     for source in sorted(ROOT.glob("crates/*/src/**/*.rt")):
         pages.append((source, "\n".join(comments.findall(source.read_text()))))
     for page, text in pages:
-        for language, block in re.findall(r"^```(rust|rattle|c)\n(.*?)^```", text, re.M | re.S):
+        for language, block in re.findall(r"^```(rust|c)\n(.*?)^```", text, re.M | re.S):
             yield page.relative_to(ROOT), language, block
 
 
