@@ -13,7 +13,7 @@ STATUSES = ["more", "complete", "cancelled", "interrupted", "rejected"]
 # The end of a payload: CAN, SUB, ESC or a C1 control.
 TERMINATOR = re.compile(rb"[\x18\x1a\x1b\x80-\x9f]")
 # The struct of c/vectors.c, and its members after the shape, with what they are by default.
-STRUCT = "32s6Q6Q2H3Bx3i4?6QIB3x"
+STRUCT = "32s6Q8Q2H4B3i4?6QIB3x"
 MEMBERS = dict.fromkeys(("p1", "p2", "colors"), -1)
 MEMBERS |= {"payload": False, "crop": False, "at_once": True, "sessions": False}
 MEMBERS |= dict.fromkeys(("limit", "columns", "rows", "ends_after", "fails_at"), 2**64 - 1)
@@ -54,7 +54,9 @@ def packed(place, data, result, **members):
     # In a transparent image the pixels that are set are the opaque ones. Crop can remove some.
     is_drawn = p2 == 1 and not members["crop"]
     drawn = -(-len(pixels[3::4].rstrip(b"\0")) // max(width, 1)) if is_drawn else 2**64 - 1
-    shape = width, height, drawn, 0, len(pixels), 0, 1, {9: 1, 0: 2, 3: 3, 2: 5}[p1], p1, p2, 0
+    heights = height, drawn, 2**64 - 1, 0, 0  # the size in raster attributes is not known
+    ratio = 1, {9: 1, 0: 2, 3: 3, 2: 5}[p1]
+    shape = width, *heights, len(pixels), 0, *ratio, p1, p2, 0, 0
     values = place.encode(), *lengths, *shape, *members.values()
     return struct.pack(STRUCT, *values) + b"".join(blocks)
 

@@ -9,10 +9,11 @@ class Handle(c.Structure):
 
 
 class Shape(c.Structure):
-    _fields_ = [(name, c.c_size_t) for name in ("width", "height", "drawn_height", "first_row")]
+    _fields_ = [(name, c.c_size_t) for name in ("width", "height", "drawn_height")]
+    _fields_ += [(name, c.c_size_t) for name in ("raster_width", "raster_height", "first_row")]
     _fields_ += [("bytes", c.c_size_t), ("ignored", c.c_uint64)]
     _fields_ += [(name, c.c_uint16) for name in ("pixel_width", "pixel_height")]
-    _fields_ += [(name, c.c_uint8) for name in ("p1", "p2", "is_complete")]
+    _fields_ += [(name, c.c_uint8) for name in ("p1", "p2", "is_complete", "is_empty")]
 
 
 class Layout(c.Structure):

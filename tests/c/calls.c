@@ -2,7 +2,7 @@
 #include "checks.h"
 
 _Static_assert(sizeof(icysixel) == 16 && sizeof(icysixel_fed) == 16 && sizeof(icysixel_size) == 16
-    && sizeof(icysixel_shape) == 56 && sizeof(icysixel_color) == 3 && sizeof(icysixel_bytes) == 24
+    && sizeof(icysixel_shape) == 72 && sizeof(icysixel_color) == 3 && sizeof(icysixel_bytes) == 24
     && sizeof(icysixel_palette) == 24 && sizeof(icysixel_refined) == 32
     && sizeof(icysixel_dithering) == 2 && sizeof(icysixel_encoding) == 40
     && sizeof(icysixel_layout) == 24, "the sizes of the structs");
@@ -258,7 +258,7 @@ static void test_lenient(void)
         CHECK(shape.width == image->width && shape.ignored == 1);
         CHECK(shape.is_complete == image->is_complete);
     }
-    CHECK(DECODE("~!65536~~") == OK && shape.width == 3 && shape.ignored == 0);
+    CHECK(DECODE("~!65536~~") == OK && shape.width == 3 && shape.ignored == 1);
     icysixel_begin_dcs(h);
     CHECK(FEED("\033P") == OK && icysixel_finish(h, &shape) == ICYSIXEL_INCOMPLETE);
     icysixel_begin_payload(h, 9, 1), icysixel_set_lenient(h, 0);
@@ -380,6 +380,36 @@ static void test_drawn_height(void)
         }
     }
     icysixel_set_crop(h, 0), icysixel_set_clip(h, SIZE_MAX, SIZE_MAX);
+}
+
+/* The size in raster attributes, as the data have it, and whether an image is empty, so that a
+ * terminal does not move its cursor. */
+static void test_raster_size(void)
+{
+    static const struct { const char *data; size_t width, height; uint8_t is_empty; } images[] = {
+        {"", 0, 0, 1}, {"#1;2;100;0;0", 0, 0, 1}, {"?-!9?", 0, 0, 1}, {"@", 0, 0, 0},
+        {"\"1;1;7;3", 7, 3, 0}, {"\"1;1;7", 7, 0, 1}, {"\"2", 0, 0, 1}, {"\"1;1;9;9@", 9, 9, 0},
+        {"\"1;1;7;3~\"1;1;0;9\"1;1;2", 2, 9, 0},
+    };
+    EACH(row, images) {
+        for (int call = 0; call < 3; call++) {
+            icysixel_begin_payload(h, 9, 1);
+            RETURNS(OK, FEED(row->data));
+            const uint32_t code = call == 0 ? DECODE(row->data)
+                : call == 1 ? icysixel_decode_payload(h, BYTES(row->data), 9, 1, &shape)
+                : icysixel_finish(h, &shape);
+            CHECK(code == OK && shape.raster_width == row->width);
+            CHECK(shape.raster_height == row->height && shape.is_empty == row->is_empty);
+            shape = (icysixel_shape){0};
+        }
+    }
+    icysixel_begin_dcs(h);
+    CHECK(FEED("\033Pq\033\\") == OK && icysixel_finish(h, &shape) == OK);
+    CHECK(shape.is_empty == 1 && shape.width == 1 && shape.height == 1);
+    icysixel_set_clip(h, 4, 4);
+    CHECK(DECODE("\"1;1;9;9!5?@") == OK && shape.width == 4 && shape.height == 4);
+    CHECK(shape.raster_width == 9 && shape.raster_height == 9);
+    icysixel_set_clip(h, SIZE_MAX, SIZE_MAX);
 }
 
 /* Registers are set and read together: not past the last one, and not past the buffer. */
@@ -634,9 +664,9 @@ int main(void)
     static const struct { const char *name; void (*test)(void); } tests[] = {
         TEST(empty_handle), TEST(new_on_full_handle), TEST(progress), TEST(canvas_paints),
         TEST(bands), TEST(copied_rows), TEST(wider_end), TEST(lenient), TEST(cropped_rows),
-        TEST(pixels), TEST(errors), TEST(drawn_height), TEST(take_pixels), TEST(new_on_full_handle),
-        TEST(registers), TEST(settings), TEST(encode), TEST(encodings), TEST(widest),
-        TEST(palettes), TEST(indices), TEST(code_texts), TEST(version),
+        TEST(pixels), TEST(errors), TEST(drawn_height), TEST(raster_size), TEST(take_pixels),
+        TEST(new_on_full_handle), TEST(registers), TEST(settings), TEST(encode), TEST(encodings),
+        TEST(widest), TEST(palettes), TEST(indices), TEST(code_texts), TEST(version),
     };
     for (size_t i = 0; i < COUNT_OF(tests); i++) subject = tests[i].name, tests[i].test();
     icysixel_free(h);

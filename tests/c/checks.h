@@ -107,7 +107,8 @@ static inline struct outcome outcome_of(icysixel *decoder, uint32_t code, icysix
     return outcome;
 }
 
-/* Whether two outcomes are the same. A drawn height of SIZE_MAX in the second one is unknown. */
+/* Whether two outcomes are the same. In the second one a drawn height and a raster width of
+ * SIZE_MAX are unknown. */
 static inline bool is_same(const struct outcome *one, const struct outcome *other)
 {
     const icysixel_shape *a = &one->shape, *b = &other->shape;
@@ -115,6 +116,9 @@ static inline bool is_same(const struct outcome *one, const struct outcome *othe
     return a->width == b->width && a->height == b->height && a->pixel_width == b->pixel_width
         && a->pixel_height == b->pixel_height && a->p1 == b->p1 && a->p2 == b->p2
         && (a->drawn_height == b->drawn_height || b->drawn_height == SIZE_MAX)
+        && (b->raster_width == SIZE_MAX
+            || (a->raster_width == b->raster_width && a->raster_height == b->raster_height
+                && a->is_empty == b->is_empty))
         && a->bytes == b->bytes && memcmp(one->pixels, other->pixels, a->bytes) == 0;
 }
 

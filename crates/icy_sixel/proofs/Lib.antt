@@ -2,6 +2,7 @@ pub mod Bands
 pub mod Chunks
 pub mod ClippedImages
 pub mod FinalRows
+pub mod OneShotImages
 pub mod Outcomes
 pub mod RegisterRange
 pub mod Steps

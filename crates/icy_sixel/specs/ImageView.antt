@@ -1,9 +1,6 @@
 -- The image that a decoder returns, apart from where its bytes are stored: pixels, sizes, pixel
 -- shape and background mode. Which image that is, by DEC's manual, is in Payload of sixel_base.
-use Rattle.std.specs.Prelude.{Result, Ok, Err}
 use Rattle.sixel_base.specs.Payload.{Image}
-use Rattle.sixel_base.specs.declared.error.SixelError.{SixelError}
-use Rattle.icy_sixel.specs.declared.decoder.drawn.DrawnImage.{DrawnImage}
 use Rattle.icy_sixel.specs.declared.sixel_image.SixelImage.{SixelImage}
 
 -- an image apart from where its bytes are stored
@@ -15,8 +12,3 @@ image_value image = record {
   aspect_ratio = image.aspect_ratio;
   background_mode = image.background_mode;
 }
-
--- a result without its drawn height
-abbrev pub image_result : Result DrawnImage SixelError → Result SixelImage SixelError
-image_result (Ok drawn) = Ok drawn.image
-image_result (Err error) = Err error

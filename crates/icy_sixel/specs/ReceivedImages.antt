@@ -1,13 +1,15 @@
 -- An image that a receiver has finished. Rows that were released are the caller's: the pixels are
 -- those of the rows below them. Which image that is, by DEC's manual, is in Payload of sixel_base.
-use Rattle.std.specs.Prelude.{ℕ, ◌+◌, ◌-◌, ◌==◌, max, nat_lt, if◌then◌else◌, List, [], ◌∷◌, ◌++◌}
-use Rattle.std.specs.Prelude.{Option, Some}
+use Rattle.std.specs.Prelude.{ℕ, ◌+◌, ◌-◌, ◌==◌, max, nat_lt, Bool, ◌&&◌, if◌then◌else◌}
+use Rattle.std.specs.Prelude.{List, [], ◌∷◌, ◌++◌, Option, Some}
 use Rattle.sixel_base.specs.CallFault.{CallFault, RowsNotFinal, RowsReleased}
 use Rattle.sixel_base.specs.Payload.{Image}
 use Rattle.sixel_base.specs.Picture.{picture}
 use Rattle.sixel_canvas.specs.Layout.{stored_pixel}
 use Rattle.sixel_canvas.specs.declared.channels.RowLayout.{RowLayout}
+use Rattle.sixel_decoder.specs.Report.{Report}
 use Rattle.icy_sixel.specs.FinalRows.{layout_fault}
+use Rattle.icy_sixel.specs.ImageView.{image_value}
 use Rattle.icy_sixel.specs.declared.receiver.received_image.Height.{Height}
 use Rattle.icy_sixel.specs.declared.receiver.received_image.Height.TheVariants.{Bands, Raster}
 use Rattle.icy_sixel.specs.declared.receiver.received_image.Height.TheVariants.{Drawn}
@@ -33,6 +35,21 @@ left_image image = record {
   aspect_ratio = image.aspect_ratio;
   background_mode = image.background_mode;
 }
+
+abbrev pub left_value : ReceivedImage → Image
+left_value image = image_value (left_image image)
+
+-- what is reported of the image beside its pixels
+abbrev pub received_report : ReceivedImage → Report
+received_report image = record {
+  drawn_height = image.drawn_height;
+  raster = (image.raster_width, image.raster_height);
+  ignored = image.ignored_commands;
+}
+
+-- whether no pixel is set and no raster attributes name a height
+abbrev pub is_empty : ReceivedImage → Bool
+is_empty image = (image.drawn_height == 0) && (image.raster_height == 0)
 
 -- the pixel at this place of the rows that are left, and a transparent one right of the image
 abbrev pub received_pixel : ReceivedImage → ℕ → ℕ → List ℕ

@@ -5,7 +5,6 @@ use Rattle.std.specs.Prelude.{None, is_none}
 use Rattle.sixel_base.specs.Bytes.{first_terminator, is_terminated}
 use Rattle.sixel_base.specs.DrawnHeight.{dcs_drawn_height, payload_drawn_height}
 use Rattle.sixel_base.specs.Fault.{Fault, StreamFailed, DcsStreamFailed}
-use Rattle.sixel_base.specs.IgnoredCommands.{dcs_ignored, payload_ignored}
 use Rattle.sixel_base.specs.Payload.{fed_fault, payload_fault, settled}
 use Rattle.sixel_base.specs.Bytes as own
 use Rattle.sixel_base.specs.Payload as payloads
@@ -156,12 +155,6 @@ abbrev pub drawn_height : Limit → Form → List ℕ → ℕ
 drawn_height limit Nothing bytes = 0
 drawn_height limit (OfPayload settings) bytes = payload_drawn_height limit bytes
 drawn_height limit OfString bytes = dcs_drawn_height limit bytes
-
--- how many commands are ignored if the image ends now
-abbrev pub ignored : Limit → Form → List ℕ → ℕ
-ignored limit Nothing bytes = 0
-ignored limit (OfPayload settings) bytes = payload_ignored limit bytes
-ignored limit OfString bytes = dcs_ignored limit bytes
 
 -- the payload that is drawn
 abbrev pub found : Form → List ℕ → Found

@@ -25,7 +25,6 @@ mod stream;
 
 use crate::sixel_image::SixelImage;
 pub use dcs_session::SixelDcsStreamDecoder;
-pub use drawn::DrawnImage;
 use sixel_base::Result;
 use sixel_base::registers::{REGISTERS, Registers};
 pub use sixel_base::settings::DcsSettings;
@@ -229,8 +228,10 @@ impl SixelDecoder {
         ensures set { IsSetAs self.old self.new }
         ensures kept { OnErr result (self.new ≡ self.old) }
     {
-        let DrawnImage { image, .. } = self.decode_drawn(alloc, bytes)?;
-        Ok(image)
+        match self.decode_drawn(alloc, bytes) {
+            Ok(image) => image.into_image(),
+            Err(error) => Err(error),
+        }
     }
 
     /// Begins a payload that is decoded in chunks.
@@ -307,8 +308,10 @@ impl SixelDecoder {
         ensures set { IsSetAs self.old self.new }
         ensures kept { OnErr result (self.new ≡ self.old) }
     {
-        let DrawnImage { image, .. } = self.decode_from_dcs_drawn(alloc, bytes, settings)?;
-        Ok(image)
+        match self.decode_from_dcs_drawn(alloc, bytes, settings) {
+            Ok(image) => image.into_image(),
+            Err(error) => Err(error),
+        }
     }
 }
 

@@ -6,10 +6,10 @@ ghost use Rattle.std.specs.Prelude.{◌≡◌, ◌*◌, ◌<◌, ◌∷◌, [], 
 ghost use Rattle.std.specs.Prelude.{IfOk, IfSome, None, Ok, Some};
 ghost use Rattle.sixel_base.specs.CallFault.{FailsBy, RowsReleased};
 ghost use Rattle.sixel_base.specs.Decoder.{new_decoder};
-ghost use Rattle.sixel_base.specs.DrawnHeight.{found_drawn_height};
-ghost use Rattle.sixel_decoder.specs.PictureView.{found_raster_height};
+ghost use Rattle.sixel_decoder.specs.Report.{found_report};
 ghost use Rattle.icy_sixel.specs.ImageView.{image_value};
-ghost use Rattle.icy_sixel.specs.Receiver.{OfPayload, OfString, found, idle, ignored};
+ghost use Rattle.icy_sixel.specs.ReceivedImages.{received_report};
+ghost use Rattle.icy_sixel.specs.Receiver.{OfPayload, OfString, found, idle};
 ghost use Rattle.icy_sixel.specs.Receiver.{in_payload, is_open, is_over};
 ghost use Rattle.icy_sixel.specs.ReceiverCalls.{IsAborted, IsBegun, IsDrawnHeight, IsFed};
 ghost use Rattle.icy_sixel.specs.ReceiverCalls.{IsFinished, IsPaintCount, IsSizeSoFar};
@@ -205,12 +205,8 @@ impl SixelReceiver {
         ensures finished { IsFinished (whole_of self.old.image) self.old self.new result }
         ensures first { IfOk result (λ image.
             image.first_row ≡ min self.old.image.released image.height) }
-        ensures drawn { IfOk result (λ image. image.drawn_height ≡ found_drawn_height
+        ensures report { IfOk result (λ image. received_report image ≡ found_report
             self.old.image.start (found self.old.image.form self.old.image.bytes)) }
-        ensures raster { IfOk result (λ image. image.raster_height ≡ found_raster_height
-            self.old.image.start (found self.old.image.form self.old.image.bytes)) }
-        ensures ignored { IfOk result (λ image. image.ignored_commands ≡ ignored
-            self.old.image.start.pixel_limit self.old.image.form self.old.image.bytes) }
     {
         let open = mem::replace(&mut self.open, Open::Nothing);
         let picture = match open {

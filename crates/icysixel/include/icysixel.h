@@ -90,6 +90,8 @@ typedef struct {
     size_t width;          /* pixels in a row */
     size_t height;         /* rows, with those that were released */
     size_t drawn_height;   /* rows down to the last one with a set pixel, at most height; or 0 */
+    size_t raster_width;   /* the last width above 0 in raster attributes, or 0 */
+    size_t raster_height;  /* the last height above 0 in raster attributes, or 0 */
     size_t first_row;      /* rows from the top that were released, at most height */
     size_t bytes;          /* 4 * width * (height - first_row), the size of the stored rows */
     uint64_t ignored;      /* commands that were ignored, if the image is lenient; it saturates */
@@ -98,6 +100,7 @@ typedef struct {
     uint8_t p1;            /* the DCS parameter P1 for this shape of a pixel: 9, 0, 3 or 2 */
     uint8_t p2;            /* the background: 1 is transparent, 0 is the color of register 0 */
     uint8_t is_complete;   /* 1 if the end of the image was fed, and 0 if not */
+    uint8_t is_empty;      /* 1 if drawn_height and raster_height are 0: the cursor stays */
 } icysixel_shape;
 
 /* A color, one byte for each channel. */
@@ -318,9 +321,8 @@ void icysixel_abort(icysixel *handle);
 
 /* Decodes the first DCS sequence in the bytes, or all of them as a payload if there is none. It
  * stores the image and writes its properties, as icysixel_finish does. The sequence needs no
- * terminator. All bytes are given, so `is_complete` is 1. Ignored commands are not counted, so
- * `ignored` is 0. The errors are those of the data and ICYSIXEL_OUT_OF_MEMORY. An open image is
- * aborted. */
+ * terminator. All bytes are given, so `is_complete` is 1. The errors are those of the data and
+ * ICYSIXEL_OUT_OF_MEMORY. An open image is aborted. */
 uint32_t icysixel_decode(icysixel *handle, const uint8_t *bytes, size_t length,
                          icysixel_shape *shape);
 

@@ -3,14 +3,14 @@
 use Rattle.std.specs.Prelude.{ℕ, ◌≡◌, ◌≢◌, ◌-◌, ◌*◌, ◌≤◌, List, true, false, Some, None, is_some}
 use Rattle.std.specs.Prelude.{min}
 use Rattle.sixel_base.specs.Decoder.{IsSetAs}
-use Rattle.sixel_base.specs.DrawnHeight.{found_drawn_height}
 use Rattle.sixel_base.specs.OneShot.{IsFoundImage, AreFoundRegisters, IsDecodedAs}
-use Rattle.icy_sixel.specs.Receiver.{end_fault, end_wants, ignored, is_open, is_over, no_image}
+use Rattle.sixel_decoder.specs.Report.{found_report}
+use Rattle.icy_sixel.specs.ReceivedImages.{received_report}
+use Rattle.icy_sixel.specs.Receiver.{end_fault, end_wants, is_open, is_over, no_image}
 use Rattle.icy_sixel.specs.Receiver as receivers
 use Rattle.icy_sixel.specs.ReceiverCalls.{whole_of}
 use Rattle.icy_sixel.specs.declared.receiver.received_image.ReceivedImage.{ReceivedImage}
 use Rattle.icysixel.specs.Code.{IsTold, fault_code}
-use Rattle.icysixel.specs.Kept.{image_left}
 use Rattle.icysixel.specs.Shape.{shape_of}
 use Rattle.icysixel.specs.declared.shape.Shape.{Shape}
 use Rattle.icysixel.specs.declared.state.State.{State}
@@ -28,12 +28,10 @@ pub record IsFinished (before after : State) (now : Shape) (code : ℕ) : Type 0
       (whole_of before.receiver.image image)
   pub first : (image : ReceivedImage) → after.image ≡ Some image
       → image.first_row ≡ min before.receiver.image.released image.height
-  pub shape : (image : ReceivedImage) → after.image ≡ Some image
-      → now ≡ shape_of (image_left image) image.first_row
-      (found_drawn_height before.receiver.image.start
-      (receivers.found before.receiver.image.form before.receiver.image.bytes))
-      (ignored before.receiver.image.start.pixel_limit before.receiver.image.form
-      before.receiver.image.bytes)
+  pub report : (image : ReceivedImage) → after.image ≡ Some image
+      → received_report image ≡ found_report before.receiver.image.start
+      (receivers.found before.receiver.image.form before.receiver.image.bytes)
+  pub shape : (image : ReceivedImage) → after.image ≡ Some image → now ≡ shape_of image
       (is_over before.receiver.image.form before.receiver.image.bytes)
   pub bytes : code ≡ 0 → now.bytes ≡ 4 * (now.width * (now.height - now.first_row))
   pub area : code ≡ 0 → now.width * now.height ≤ before.receiver.image.start.pixel_limit.pixels

@@ -2,15 +2,15 @@
 
 ghost use Rattle.std.specs.Prelude.{◌≡◌, ◌≢◌, ◌*◌, ◌≤◌, Some, None, is_some, true};
 ghost use Rattle.sixel_base.specs.Decoder.{IsSetAs, origin_of};
-ghost use Rattle.sixel_base.specs.DrawnHeight.{found_drawn_height};
 ghost use Rattle.sixel_base.specs.OneShot.{IsFoundImage, AreFoundRegisters, Payload};
 ghost use Rattle.sixel_base.specs.OneShot.{found, found_fault, found_wants};
 ghost use Rattle.sixel_base.specs.Payload.{payload_fault, payload_image};
 ghost use Rattle.sixel_base.specs.Payload.{payload_registers, payload_wants};
+ghost use Rattle.sixel_decoder.specs.Report.{found_report};
+ghost use Rattle.icy_sixel.specs.ReceivedImages.{left_value, received_report};
 ghost use Rattle.icy_sixel.specs.Receiver.{no_image};
 ghost use Rattle.icy_sixel.specs.declared.receiver.received_image.ReceivedImage.{ReceivedImage};
 ghost use Rattle.icysixel.specs.Code.{IsTold, settings_of};
-ghost use Rattle.icysixel.specs.Kept.{image_left};
 ghost use Rattle.icysixel.specs.Shape.{shape_of};
 ghost use Rattle.icysixel.specs.declared.state.State.{State};
 
@@ -40,11 +40,14 @@ pub extern "C" fn icysixel_decode(
     ensures image { (before after : State) (image : ReceivedImage)
         → slot.old.handle.state ≡ Some before → slot.new.handle.state ≡ Some after
         → after.image ≡ Some image
-        → IsFoundImage before.receiver.decoder (found bytes.now) (image_left image) }
-    ensures shape { (before after : State) (image : ReceivedImage)
+        → IsFoundImage before.receiver.decoder (found bytes.now) (left_value image) }
+    ensures report { (before after : State) (image : ReceivedImage)
         → slot.old.handle.state ≡ Some before → slot.new.handle.state ≡ Some after
-        → after.image ≡ Some image → shape.new ≡ shape_of (image_left image) 0
-        (found_drawn_height before.receiver.decoder (found bytes.now)) 0 true }
+        → after.image ≡ Some image
+        → received_report image ≡ found_report before.receiver.decoder (found bytes.now) }
+    ensures shape { (after : State) (image : ReceivedImage)
+        → slot.new.handle.state ≡ Some after → after.image ≡ Some image
+        → shape.new ≡ shape_of image true }
     ensures first { (after : State) (image : ReceivedImage)
         → slot.new.handle.state ≡ Some after → after.image ≡ Some image
         → image.first_row ≡ 0 }
@@ -100,13 +103,15 @@ pub extern "C" fn icysixel_decode_payload(
         → is_some after.image ≡ true }
     ensures image { (before after : State) (image : ReceivedImage)
         → slot.old.handle.state ≡ Some before → slot.new.handle.state ≡ Some after
-        → after.image ≡ Some image → image_left image
+        → after.image ≡ Some image → left_value image
         ≡ payload_image (origin_of before.receiver.decoder (settings_of p1 p2)) bytes.now }
-    ensures shape { (before after : State) (image : ReceivedImage)
+    ensures report { (before after : State) (image : ReceivedImage)
         → slot.old.handle.state ≡ Some before → slot.new.handle.state ≡ Some after
-        → after.image ≡ Some image → shape.new ≡ shape_of (image_left image) 0
-        (found_drawn_height before.receiver.decoder (Payload (settings_of p1 p2) bytes.now))
-        0 true }
+        → after.image ≡ Some image → received_report image
+        ≡ found_report before.receiver.decoder (Payload (settings_of p1 p2) bytes.now) }
+    ensures shape { (after : State) (image : ReceivedImage)
+        → slot.new.handle.state ≡ Some after → after.image ≡ Some image
+        → shape.new ≡ shape_of image true }
     ensures first { (after : State) (image : ReceivedImage)
         → slot.new.handle.state ≡ Some after → after.image ≡ Some image
         → image.first_row ≡ 0 }

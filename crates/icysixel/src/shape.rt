@@ -1,7 +1,6 @@
 //! The properties of an image that C receives: `icysixel_shape` of the header.
 
 ghost use Rattle.std.specs.Prelude.{◌≡◌};
-ghost use Rattle.icysixel.specs.Kept.{image_left};
 ghost use Rattle.icysixel.specs.Shape.{shape_of};
 
 use icy_sixel::ReceivedImage;
@@ -13,6 +12,8 @@ pub struct Shape {
     pub width: usize,
     pub height: usize,
     pub drawn_height: usize,
+    pub raster_width: usize,
+    pub raster_height: usize,
     pub first_row: usize,
     pub bytes: usize,
     pub ignored: u64,
@@ -21,18 +22,20 @@ pub struct Shape {
     pub p1: u8,
     pub p2: u8,
     pub is_complete: u8,
+    pub is_empty: u8,
 }
 
 impl Shape {
     /// The properties of an image, of which the end was read or not.
     pub fn of(image: &ReceivedImage, is_complete: bool) -> Shape
-        ensures { result ≡ shape_of (image_left image.now) image.now.first_row
-            image.now.drawn_height image.now.ignored_commands is_complete }
+        ensures { result ≡ shape_of image.now is_complete }
     {
         Shape {
             width: image.width,
             height: image.height,
             drawn_height: image.drawn_height,
+            raster_width: image.raster_width,
+            raster_height: image.raster_height,
             first_row: image.first_row,
             bytes: image.pixels.len(),
             ignored: image.ignored_commands,
@@ -41,6 +44,7 @@ impl Shape {
             p1: image.aspect_ratio.to_p1_value(),
             p2: image.background_mode.to_p2_value(),
             is_complete: u8::from(is_complete),
+            is_empty: u8::from(image.is_empty()),
         }
     }
 }

@@ -4,18 +4,14 @@ ghost use Rattle.std.specs.Prelude.{◌≡◌, ◌≢◌, ◌*◌, ◌≤◌, �
 ghost use Rattle.std.specs.Prelude.{OnOk, OnErr, IfOk, IfErr, is_some, string_bytes, true};
 ghost use Rattle.sixel_base.specs.Decoder.{new_decoder};
 ghost use Rattle.sixel_base.specs.Fault.{Fault, Faults, IsFault};
-ghost use Rattle.icy_sixel.specs.ImageView.{image_result};
-ghost use Rattle.icy_sixel.specs.ReceivedImages.{left_image};
 ghost use Rattle.icy_sixel.specs.Receiver.{idle};
-ghost use Rattle.icy_sixel.specs.declared.receiver.received_image.ReceivedImage.{ReceivedImage};
 ghost use Rattle.icysixel.specs.Code.{IsKnown, IsTold, fault_code};
-ghost use Rattle.icysixel.specs.Kept.{image_left};
 ghost use Rattle.icysixel.specs.Shape.{shape_of};
 
 use crate::code::{Code, code_of};
 use crate::shape::Shape;
 use icy_sixel::receiver::SixelReceiver;
-use icy_sixel::{DrawnImage, ReceivedImage, SixelDecoder, SixelError};
+use icy_sixel::{ReceivedImage, SixelDecoder, SixelError};
 use std::mem;
 
 /// A receiver, and the last image and the last text until the caller takes them.
@@ -61,40 +57,33 @@ impl State {
 
     /// Stores a decoded image and writes its properties, or stores none.
     ///
-    /// All bytes were decoded, so the image is complete. Ignored commands were not counted.
+    /// All bytes were decoded, so the image is complete.
     pub fn store_decoded(
         &mut self,
-        answer: Result<DrawnImage, SixelError>,
+        answer: Result<ReceivedImage, SixelError>,
         shape: &mut Shape,
     ) -> u32
-        requires pixels { IfOk (image_result answer)
-            (λ i. length i.pixels.items ≡ 4 * (i.width * i.height)) }
-        requires known { IfErr (image_result answer) IsKnown }
-        ensures done { OnOk (image_result answer) (result ≡ 0) }
-        ensures found { result ≡ 0 → is_some self.new.image ≡ true }
-        ensures image { (image : ReceivedImage) → self.new.image ≡ Some image
-            → IfOk (image_result answer) (λ decoded. left_image image ≡ decoded) }
-        ensures first { (image : ReceivedImage) → self.new.image ≡ Some image
-            → image.first_row ≡ 0 }
-        ensures shape { (rows : ℕ) (image : ReceivedImage) → self.new.image ≡ Some image
-            → IfOk answer (λ drawn. drawn.drawn_height ≡ rows)
-            → shape.new ≡ shape_of (image_left image) 0 rows 0 true }
+        requires whole { IfOk answer (λ image. image.first_row ≡ 0) }
+        requires known { IfErr answer IsKnown }
+        ensures done { OnOk answer (result ≡ 0) }
+        ensures found { IfOk answer (λ image. self.new.image ≡ Some image) }
+        ensures some { result ≡ 0 → is_some self.new.image ≡ true }
+        ensures shape { IfOk answer (λ image. shape.new ≡ shape_of image true) }
         ensures bytes { result ≡ 0 → shape.new.bytes ≡ 4 * (shape.new.width * shape.new.height) }
         ensures area { (limit : ℕ) → result ≡ 0
-            → IfOk (image_result answer) (λ i. i.width * i.height ≤ limit)
+            → IfOk answer (λ image. image.width * image.height ≤ limit)
             → shape.new.width * shape.new.height ≤ limit }
-        ensures refused { OnErr (image_result answer) (result ≢ 0) }
-        ensures dropped { OnErr (image_result answer) (self.new.image ≡ None) }
-        ensures told { OnErr (image_result answer) (shape.new ≡ shape.old) }
+        ensures refused { OnErr answer (result ≢ 0) }
+        ensures dropped { OnErr answer (self.new.image ≡ None) }
+        ensures told { OnErr answer (shape.new ≡ shape.old) }
         ensures code { (may_want : Bool) (found : Option Fault) → result ≢ 0
-            → IfErr (image_result answer) (λ error. Faults error may_want found)
+            → IfErr answer (λ error. Faults error may_want found)
             → IsTold result may_want found }
         ensures receiver { self.new.receiver ≡ self.old.receiver }
         ensures text { self.new.text ≡ self.old.text }
     {
         match answer {
-            Ok(drawn) => {
-                let image = whole_image(drawn);
+            Ok(image) => {
                 *shape = Shape::of(&image, true);
                 self.store_image(Some(image));
                 Code::Success as u32
@@ -170,30 +159,5 @@ impl State {
         if code == Code::Success as u32 {
             self.store_text(None);
         }
-    }
-}
-
-/// The image of a decoding in one call: no row was released.
-fn whole_image(drawn: DrawnImage) -> ReceivedImage
-    requires { length drawn.image.pixels.items ≡ 4 * (drawn.image.width * drawn.image.height) }
-    ensures image { left_image result ≡ drawn.image }
-    ensures first { result.first_row ≡ 0 }
-    ensures drawn { result.drawn_height ≡ drawn.drawn_height }
-    ensures ignored { result.ignored_commands ≡ 0 }
-{
-    let DrawnImage {
-        image,
-        drawn_height,
-    } = drawn;
-    ReceivedImage {
-        pixels: image.pixels,
-        width: image.width,
-        height: image.height,
-        first_row: 0,
-        drawn_height,
-        raster_height: 0,
-        ignored_commands: 0,
-        aspect_ratio: image.aspect_ratio,
-        background_mode: image.background_mode,
     }
 }

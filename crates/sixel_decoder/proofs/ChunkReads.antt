@@ -13,6 +13,7 @@ use Rattle.sixel_base.specs.Bytes.{is_terminator, is_ignored, is_sixel, before_t
 use Rattle.sixel_base.specs.Bytes.{front, count, first_terminator, is_terminated}
 use Rattle.sixel_base.specs.History.{Token, Sixel, Repeat, Raster, Color, Return, Newline, Skip}
 use Rattle.sixel_base.specs.History.{History, begun, longer, goes_on, read, history_of}
+use Rattle.sixel_base.specs.IgnoredCommands.{payload_ignored}
 use Rattle.sixel_base.specs.Lenient.{fault, effective}
 use Rattle.sixel_base.specs.Limits.{Limit}
 use Rattle.sixel_base.specs.Stroke.{Origin}
@@ -474,14 +475,15 @@ payload_refused e limit bytes refused =
 
 -- what is rejected at the end of a payload
 pub payload_ends : (result : Result DecodedPayload SixelError) (o : Origin) (bytes : List ℕ)
-    → Ends result o (effective o.pixel_limit (history_of (front bytes))) → Decodes result o bytes
+    → Ends result o (effective o.pixel_limit (history_of (front bytes)))
+    (payload_ignored o.pixel_limit bytes)
+    → Decodes result o bytes
 payload_ends (Ok picture) o bytes is = (
   sym (effective-fault o.pixel_limit (history_of (front bytes))) ∙ is.0,
   is.1,
   is.2,
   is.3,
   is.4,
-  is.5,
 )
 payload_ends (Err e) o bytes refused =
     Faults-along e (is_none (payload_fault o.pixel_limit bytes)) (payload_wants o.pixel_limit bytes)

@@ -3,8 +3,6 @@ use Rattle.std.proofs.Common.{◌≡◌, ℕ, true, false, cond, List, [], ◌�
 use Rattle.std.proofs.Common.{Option, Some, Result, Ok, Err}
 use Rattle.std.specs.Prelude.{◌==◌, ◌&&◌, IfOk}
 use Rattle.sixel_base.specs.declared.error.SixelError.{SixelError}
-use Rattle.sixel_base.specs.DrawnHeight.{found_drawn_height}
-use Rattle.sixel_base.specs.IgnoredCommands.{dcs_ignored, payload_ignored, stage_ignored}
 use Rattle.sixel_base.specs.Settings.{Settings}
 use Rattle.sixel_base.specs.declared.state.DecoderState.{DecoderState}
 use Rattle.sixel_base.specs.Stroke.{Origin}
@@ -16,8 +14,9 @@ use Rattle.sixel_base.specs.OneShot.{found_in, found_by, Found, Payload, IsFound
 use Rattle.sixel_base.specs.OneShot.{AreFoundRegisters}
 use Rattle.sixel_base.specs.Dcs.{Introduced, Waiting, Absent, Entered, introduced, escaped, Reading}
 use Rattle.sixel_base.specs.Dcs.{stage_after, stage_by, stage}
-use Rattle.sixel_decoder.specs.PictureView.{found_raster_height}
-use Rattle.sixel_decoder.specs.Session.{Session, decoder_of}
+use Rattle.sixel_decoder.specs.PictureView.{picture_report}
+use Rattle.sixel_decoder.specs.Report.{found_report, payload_report}
+use Rattle.sixel_decoder.specs.Session.{Session}
 use Rattle.sixel_decoder.specs.inside.DcsParser.{IsInPayload}
 use Rattle.sixel_decoder.specs.declared.decoded_payload.DecodedPayload.{DecodedPayload}
 
@@ -96,42 +95,13 @@ found_registers (Ok picture) reader decoder ended bytes is defined =
     (defined ∙ ap (λ (o : Origin). payload_registers o reader.bytes) is.start)
 found_registers (Err e) reader decoder ended bytes is defined = tt
 
-pub found_drawn : (result : Result DecodedPayload SixelError) (reader : Session)
+pub found_reported : (result : Result DecodedPayload SixelError) (reader : Session)
     (decoder : DecoderState) (ended : Option SixelDcsFeedStatus) (bytes : List ℕ)
     → IsInPayload reader decoder ended bytes
-    → IfOk result (λ picture. picture.drawn_height
-    ≡ found_drawn_height (decoder_of reader.origin) (Payload reader.origin.settings reader.bytes))
-    → IfOk result (λ picture. picture.drawn_height ≡ found_drawn_height decoder (found bytes))
-found_drawn (Ok picture) reader decoder ended bytes is drawn =
-    subst (λ (w : Found). picture.drawn_height ≡ found_drawn_height decoder w)
+    → IfOk result (λ picture. picture_report picture ≡ payload_report reader.origin reader.bytes)
+    → IfOk result (λ picture. picture_report picture ≡ found_report decoder (found bytes))
+found_reported (Ok picture) reader decoder ended bytes is reported =
+    subst (λ (w : Found). picture_report picture ≡ found_report decoder w)
     (sym (found_reading bytes reader.origin.settings reader.bytes is.reading))
-    (drawn ∙ ap (λ (o : Origin).
-    found_drawn_height (decoder_of o) (Payload reader.origin.settings reader.bytes)) is.start)
-found_drawn (Err e) reader decoder ended bytes is drawn = tt
-
--- how many of its commands are ignored
-pub found_ignored : (result : Result DecodedPayload SixelError) (reader : Session)
-    (decoder : DecoderState) (ended : Option SixelDcsFeedStatus) (bytes : List ℕ)
-    → IsInPayload reader decoder ended bytes
-    → IfOk result (λ picture.
-    picture.ignored ≡ payload_ignored reader.origin.pixel_limit reader.bytes)
-    → IfOk result (λ picture. picture.ignored ≡ dcs_ignored decoder.pixel_limit bytes)
-found_ignored (Ok picture) reader decoder ended bytes is counted =
-    counted
-    ∙ ap (λ (o : Origin). payload_ignored o.pixel_limit reader.bytes) is.start
-    ∙ ap (stage_ignored decoder.pixel_limit) (sym is.reading)
-found_ignored (Err e) reader decoder ended bytes is counted = tt
-
--- the height that its raster attributes name
-pub found_raster : (result : Result DecodedPayload SixelError) (reader : Session)
-    (decoder : DecoderState) (ended : Option SixelDcsFeedStatus) (bytes : List ℕ)
-    → IsInPayload reader decoder ended bytes
-    → IfOk result (λ picture. picture.raster_height
-    ≡ found_raster_height (decoder_of reader.origin) (Payload reader.origin.settings reader.bytes))
-    → IfOk result (λ picture. picture.raster_height ≡ found_raster_height decoder (found bytes))
-found_raster (Ok picture) reader decoder ended bytes is named =
-    subst (λ (w : Found). picture.raster_height ≡ found_raster_height decoder w)
-    (sym (found_reading bytes reader.origin.settings reader.bytes is.reading))
-    (named ∙ ap (λ (o : Origin).
-    found_raster_height (decoder_of o) (Payload reader.origin.settings reader.bytes)) is.start)
-found_raster (Err e) reader decoder ended bytes is named = tt
+    (reported ∙ ap (λ (o : Origin). payload_report o reader.bytes) is.start)
+found_reported (Err e) reader decoder ended bytes is reported = tt

@@ -7,13 +7,13 @@ use Rattle.sixel_decoder.specs.declared.painter.Painter.{Painter}
 -- the height with crop
 pub low : {C : Type 0} {canvas : Ghosts C} (painter : Painter C canvas) (height : ℕ)
     → height
-    ≡ min (if painter.raster_crop && nat_lt 0 painter.raster_height then painter.raster_height
+    ≡ min (if painter.raster_crop && nat_lt 0 painter.raster.1 then painter.raster.1
     else painter.height) painter.pixel_limit.rows
     → height ≤ painter.clipped_height
 low painter height is =
-    (elim (painter.raster_crop && nat_lt 0 painter.raster_height) as
+    (elim (painter.raster_crop && nat_lt 0 painter.raster.1) as
     (λ t.
-    height ≡ min (cond t painter.raster_height painter.height) painter.pixel_limit.rows
+    height ≡ min (cond t painter.raster.1 painter.height) painter.pixel_limit.rows
     → height ≤ painter.clipped_height) [
       | true ↦ λ cropped. omega (arith, cropped, painter.raster_fits, painter.clipped_height_is)
       | false ↦ λ whole. omega (arith, whole, painter.clipped_height_is)

@@ -252,7 +252,7 @@ Shows-sixels : {C : Type 0} {canvas : Ghosts C} (o : Origin) (h : History)
     → drawn_rows new.drawn row ≡ lowered (drawn_rows old.drawn row) row (most_rows sixels))
     → new.registers ≡ old.registers → new.color ≡ old.color → new.repeat ≡ old.repeat
     → new.column ≡ old.column + length sixels
-    → new.width ≡ old.width → new.height ≡ old.height → new.raster_height ≡ old.raster_height
+    → new.width ≡ old.width → new.height ≡ old.height → new.raster ≡ old.raster
     → new.ratio ≡ old.ratio → new.settings ≡ old.settings
     → new.raster_crop ≡ old.raster_crop → new.pixel_limit ≡ old.pixel_limit
     → Shows o new (with_sixels h sixels)
@@ -269,7 +269,7 @@ Shows-sixels o h old new sixels shows inside drawn paid' top' lower' registers' 
       top = top' ∙ shows.top ∙ sym passed.down;
       width = width' ∙ shows.width ∙ sym passed.width;
       height = height' ∙ shows.height ∙ sym passed.height;
-      raster_height = raster' ∙ shows.raster_height ∙ sym passed.raster_height;
+      raster = raster' ∙ shows.raster ∙ sym passed.raster;
       drawn =
           ap (drawn_rows new.drawn) passed.down ∙ lower' (down h)
           ∙ ap (λ (rows : ℕ). lowered rows (down h) (most_rows sixels)) shows.drawn
@@ -301,7 +301,7 @@ pub Shows-block : {C : Type 0} {canvas : Ghosts C} (o : Origin) (h after : Histo
     → drawn_rows new.drawn row ≡ lowered (drawn_rows old.drawn row) row (most_rows eight))
     → new.registers ≡ old.registers → new.color ≡ old.color → new.repeat ≡ old.repeat
     → new.column ≡ old.column + length sixels
-    → new.width ≡ old.width → new.height ≡ old.height → new.raster_height ≡ old.raster_height
+    → new.width ≡ old.width → new.height ≡ old.height → new.raster ≡ old.raster
     → new.ratio ≡ old.ratio → new.settings ≡ old.settings
     → new.raster_crop ≡ old.raster_crop → new.pixel_limit ≡ old.pixel_limit
     → Shows o new after
@@ -363,7 +363,7 @@ pub Shows-column : {C : Type 0} {canvas : Ghosts C} (o : Origin) (h : History)
     → drawn_rows new.drawn row ≡ lowered (drawn_rows old.drawn row) row (set_rows bits))
     → new.registers ≡ old.registers → new.color ≡ old.color → new.repeat ≡ old.repeat
     → new.column ≡ old.column + 1
-    → new.width ≡ old.width → new.height ≡ old.height → new.raster_height ≡ old.raster_height
+    → new.width ≡ old.width → new.height ≡ old.height → new.raster ≡ old.raster
     → new.ratio ≡ old.ratio → new.settings ≡ old.settings
     → new.raster_crop ≡ old.raster_crop → new.pixel_limit ≡ old.pixel_limit
     → Shows o new (Sixel bits ∷ h)

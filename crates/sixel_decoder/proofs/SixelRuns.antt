@@ -13,12 +13,13 @@ use Rattle.sixel_base.specs.Clip.{clipped_height, clipped_width}
 use Rattle.sixel_base.specs.Fault.{Faults}
 use Rattle.sixel_base.specs.Limits.{Limit}
 use Rattle.sixel_base.specs.declared.error.SixelError.{SixelError}
-use Rattle.sixel_base.specs.Place.{span, across, down, width, height, raster_height}
+use Rattle.sixel_base.specs.Place.{span, across, down, width, height}
 use Rattle.sixel_base.specs.Settings.{ratio_of}
 use Rattle.sixel_base.specs.Lenient.{fault}
 use Rattle.sixel_base.specs.Stroke.{Origin, registers, color, ratio}
 use Rattle.sixel_base.proofs.Histories.{fold-spelling}
 use Rattle.sixel_canvas.specs.declared.drawing.Canvas.{Ghosts}
+use Rattle.sixel_decoder.specs.Report.{raster_size}
 use Rattle.sixel_decoder.specs.inside.Lenient.{HasDrawn}
 use Rattle.sixel_decoder.specs.declared.payload_parser.PayloadParser.{PayloadParser}
 use Rattle.sixel_decoder.specs.declared.payload_parser.OpenCommand.{OpenCommand}
@@ -128,7 +129,7 @@ pub record IsPassed (limit : Limit) (o : Origin) (n : ℕ) (h after : History) :
   pub down : down after ≡ down h
   pub width : width after ≡ width h
   pub height : height after ≡ height h
-  pub raster_height : raster_height after ≡ raster_height h
+  pub raster : raster_size after ≡ raster_size h
   pub ratio : ratio (ratio_of o.settings) after ≡ ratio (ratio_of o.settings) h
   pub faultless : first_fault limit after ≡ None
 
@@ -142,7 +143,7 @@ IsPassed-sixels limit o h [] inside = record {
   down = refl;
   width = refl;
   height = refl;
-  raster_height = refl;
+  raster = refl;
   ratio = refl;
   faultless = inside.faultless;
 }
@@ -158,7 +159,7 @@ IsPassed-sixels limit o h (bits ∷ more) inside =
       down = rest.down;
       width = rest.width ∙ width-inside limit (length more) bits h inside;
       height = rest.height ∙ height-inside limit (length more) bits h inside;
-      raster_height = rest.raster_height;
+      raster = rest.raster;
       ratio = rest.ratio;
       faultless = rest.faultless;
     }

@@ -4,5 +4,6 @@ pub mod OneShotCalls
 pub mod Paints
 pub mod PayloadCalls
 pub mod PictureView
+pub mod Report
 pub mod Session
 pub mod inside

@@ -1,11 +1,9 @@
 -- The image of a decoded payload, apart from where its bytes are stored: pixels, sizes, pixel shape
 -- and background mode. Which image that is, by DEC's manual, is in Payload of sixel_base.
 use Rattle.std.specs.Prelude.{ℕ, List, ◌++◌}
-use Rattle.sixel_base.specs.OneShot.{Found, Payload, NoPayload}
-use Rattle.sixel_base.specs.Payload.{Image, tokens}
+use Rattle.sixel_base.specs.Payload.{Image}
 use Rattle.sixel_base.specs.Picture.{picture}
-use Rattle.sixel_base.specs.Place.{raster_height}
-use Rattle.sixel_base.specs.declared.state.DecoderState.{DecoderState}
+use Rattle.sixel_decoder.specs.Report.{Report}
 use Rattle.sixel_decoder.specs.declared.decoded_payload.DecodedPayload.{DecodedPayload}
 
 -- the image of the rows that are left
@@ -29,8 +27,10 @@ whole_image shown decoded = record {
   background_mode = decoded.background_mode;
 }
 
--- the last height above 0 that the raster attributes of a payload name, or 0 if there is none
-abbrev pub found_raster_height : DecoderState → Found → ℕ
-found_raster_height decoder (Payload settings payload) =
-    raster_height (tokens decoder.pixel_limit payload)
-found_raster_height decoder (NoPayload fault) = 0
+-- what is reported of it
+abbrev pub picture_report : DecodedPayload → Report
+picture_report picture = record {
+  drawn_height = picture.drawn_height;
+  raster = (picture.raster_width, picture.raster_height);
+  ignored = picture.ignored;
+}

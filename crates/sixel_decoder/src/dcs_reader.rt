@@ -4,15 +4,14 @@
 
 ghost use Rattle.std.specs.Prelude.{◌≡◌, ◌∷◌, [], true, false, min, IsTrue, IfOk};
 ghost use Rattle.sixel_base.specs.Dcs.{dcs_in_payload, dcs_status, has_ended};
-ghost use Rattle.sixel_base.specs.DrawnHeight.{found_drawn_height};
-ghost use Rattle.sixel_base.specs.IgnoredCommands.{dcs_ignored};
 ghost use Rattle.sixel_base.specs.OneShot.{found};
 ghost use Rattle.sixel_decoder.specs.FinalRows.{found_pixel};
 ghost use Rattle.sixel_decoder.specs.DcsCalls.{begun, byte_read, IsFed, IsFinished};
 ghost use Rattle.sixel_decoder.specs.DcsCalls.{IsSizeSoFar, IsDrawnHeight};
 ghost use Rattle.sixel_decoder.specs.DcsCalls.{IsWriteCount, IsPaintCount, IsBandPaintCount};
 ghost use Rattle.sixel_decoder.specs.DcsCalls.{IsBandWriteCount};
-ghost use Rattle.sixel_decoder.specs.PictureView.{found_raster_height, whole_image};
+ghost use Rattle.sixel_decoder.specs.PictureView.{picture_report, whole_image};
+ghost use Rattle.sixel_decoder.specs.Report.{found_report};
 
 mod final_rows;
 
@@ -139,12 +138,8 @@ impl<C: Canvas + Drop> DcsReader<C> {
             (λ picture. picture.registers) self result }
         ensures first { IfOk result (λ picture.
             picture.first_row ≡ min self.released picture.height) }
-        ensures raster { IfOk result (λ picture.
-            picture.raster_height ≡ found_raster_height self.decoder (found self.bytes)) }
-        ensures ignored { IfOk result (λ picture.
-            picture.ignored ≡ dcs_ignored self.decoder.pixel_limit self.bytes) }
-        ensures drawn { IfOk result (λ picture.
-            picture.drawn_height ≡ found_drawn_height self.decoder (found self.bytes)) }
+        ensures report { IfOk result (λ picture.
+            picture_report picture ≡ found_report self.decoder (found self.bytes)) }
     {
         let DcsReader { parser, .. } = self;
         let can_finish = parser.can_finish();

@@ -16,7 +16,9 @@ pub struct DecodedPayload {
     pub first_row: usize,
     /// Rows down to the last one with a set pixel, at most the height.
     pub drawn_height: usize,
-    /// The last height above 0 that raster attributes name, or 0 if there is none.
+    /// The last width above 0 that raster attributes name, or 0 if there is none.
+    pub raster_width: usize,
+    /// The last such height.
     pub raster_height: usize,
     /// How many commands were ignored. The number saturates.
     pub ignored: u64,

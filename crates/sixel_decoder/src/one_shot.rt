@@ -1,15 +1,15 @@
 //! The decoding of a payload, or of the first DCS sequence in bytes, in one call.
 //!
-//! The contracts of both calls are the record of `OneShotCalls`, registers and drawn height.
+//! The contracts of both calls are the record of `OneShotCalls`, registers, report and first row.
 
 ghost use Rattle.std.specs.Prelude.{◌≡◌, IfOk, []};
 ghost use Rattle.sixel_base.specs.Decoder.{origin_of};
-ghost use Rattle.sixel_base.specs.DrawnHeight.{found_drawn_height};
 ghost use Rattle.sixel_base.specs.OneShot.{found, Payload, AreFoundRegisters};
 ghost use Rattle.sixel_base.specs.Payload.{payload_registers};
 ghost use Rattle.sixel_base.specs.Stroke.{Origin};
 ghost use Rattle.sixel_decoder.specs.OneShotCalls.{IsDecoded};
-ghost use Rattle.sixel_decoder.specs.PictureView.{picture_value};
+ghost use Rattle.sixel_decoder.specs.PictureView.{picture_report, picture_value};
+ghost use Rattle.sixel_decoder.specs.Report.{found_report};
 ghost use Rattle.sixel_decoder.specs.inside.PayloadParser.{Stands, Decodes};
 
 use crate::bytes::tail;
@@ -27,8 +27,9 @@ pub fn decode_found(alloc: Global, decoder: DecoderState, bytes: &[u8]) -> Resul
     ensures decoded { IsDecoded picture_value decoder (found bytes.now) result }
     ensures registers { IfOk result (λ picture.
         AreFoundRegisters decoder (found bytes.now) picture.registers) }
-    ensures drawn { IfOk result (λ picture.
-        picture.drawn_height ≡ found_drawn_height decoder (found bytes.now)) }
+    ensures report { IfOk result (λ picture.
+        picture_report picture ≡ found_report decoder (found bytes.now)) }
+    ensures first { IfOk result (λ picture. picture.first_row ≡ 0) }
 {
     let Some(start) = introducer_end(bytes) else {
         return decode_payload(alloc, decoder, bytes, DcsSettings::default());
@@ -50,8 +51,9 @@ pub fn decode_payload(
     ensures decoded { IsDecoded picture_value decoder (Payload settings bytes.now) result }
     ensures registers { IfOk result (λ picture. picture.registers ≡ payload_registers
         (origin_of decoder settings) bytes.now) }
-    ensures drawn { IfOk result (λ picture.
-        picture.drawn_height ≡ found_drawn_height decoder (Payload settings bytes.now)) }
+    ensures report { IfOk result (λ picture.
+        picture_report picture ≡ found_report decoder (Payload settings bytes.now)) }
+    ensures first { IfOk result (λ picture. picture.first_row ≡ 0) }
 {
     read_whole(PayloadParser::new(alloc, decoder, settings), bytes)
 }

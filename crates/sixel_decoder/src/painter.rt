@@ -24,7 +24,7 @@ use crate::colors::{background, define, opaque};
 use crate::decoded_payload::DecodedPayload;
 use crate::drawn_rows::DrawnRows;
 use crate::front_sixels::FrontSixels;
-use crate::raster::{check_size, last_height, shape};
+use crate::raster::{check_size, last_side, shape};
 use sixel_base::limits::MAX_REPEAT;
 use sixel_base::parameters::Parameters;
 use sixel_base::registers::Registers;
@@ -54,7 +54,8 @@ pub struct Painter<C: Canvas + Drop> {
     pub clipped_width: usize,
     /// The rows of the height that are inside the clip.
     pub clipped_height: usize,
-    pub raster_height: usize,
+    /// The last width and the last height above 0 that raster attributes name, or 0.
+    pub raster: (usize, usize),
     /// The rows down to the last one with a set pixel.
     pub drawn: DrawnRows,
     /// Left of this column, drawing the next sixel cannot fail. It is 0 until it is found.
@@ -65,7 +66,7 @@ pub struct Painter<C: Canvas + Drop> {
     ghost column_fits: { column ≤ side_limit },
     ghost width_fits: { width ≤ side_limit },
     ghost height_fits: { height ≤ side_limit },
-    ghost raster_fits: { raster_height ≤ height },
+    ghost raster_fits: { raster.1 ≤ height },
     ghost clipped_width_is: { clipped_width ≡ min width pixel_limit.columns },
     ghost clipped_height_is: { clipped_height ≡ min height pixel_limit.rows },
     ghost area_fits: { clipped_width * clipped_height ≤ pixel_limit.pixels },
@@ -98,7 +99,7 @@ impl<C: Canvas + Drop> Painter<C> {
             height: 1,
             clipped_width: 1,
             clipped_height: 1,
-            raster_height: 0,
+            raster: (0, 0),
             drawn: DrawnRows::new(),
             ready: 0,
         }
@@ -301,7 +302,10 @@ impl<C: Canvas + Drop> Painter<C> {
         match self.extend(wide, high) {
             Ok(()) => {
                 self.canvas.expect_width(self.clipped_width);
-                self.raster_height = last_height(self.raster_height, high);
+                self.raster = (
+                    last_side(self.raster.0, wide),
+                    last_side(self.raster.1, high),
+                );
                 self.ratio = shape(parameters, self.ratio, self.settings.pixel_aspect_ratio());
                 Ok(())
             }
@@ -375,10 +379,10 @@ impl<C: Canvas + Drop> Painter<C> {
     ///
     /// The number is how many commands were ignored.
     pub fn take_image(&mut self, ignored: u64) -> Result<DecodedPayload>
-        ensures ends { (o : Origin) (h : History) → Shows o self.old h → Ends result o h }
+        ensures ends { (o : Origin) (h : History) → Shows o self.old h
+            → Ends result o h ignored }
         ensures first { IfOk result (λ picture.
             picture.first_row ≡ min (C.released self.old.canvas) picture.height) }
-        ensures ignored { IfOk result (λ picture. picture.ignored ≡ ignored) }
     {
         let height = self.image_height();
         let first_row = self.canvas.released().min(height);
@@ -391,7 +395,8 @@ impl<C: Canvas + Drop> Painter<C> {
             height,
             first_row,
             drawn_height,
-            raster_height: self.raster_height,
+            raster_width: self.raster.0,
+            raster_height: self.raster.1,
             ignored,
             aspect_ratio: self.ratio,
             background_mode: self.settings.background_mode(),
@@ -403,11 +408,11 @@ impl<C: Canvas + Drop> Painter<C> {
     ///
     /// With crop it is the last positive raster height.
     fn image_height(&self) -> usize
-        ensures { result ≡ min (if self.now.raster_crop && nat_lt 0 self.now.raster_height
-            then self.now.raster_height else self.now.height) self.now.pixel_limit.rows }
+        ensures { result ≡ min (if self.now.raster_crop && nat_lt 0 self.now.raster.1
+            then self.now.raster.1 else self.now.height) self.now.pixel_limit.rows }
     {
-        if self.raster_crop && self.raster_height > 0 {
-            self.raster_height.min(self.pixel_limit.rows())
+        if self.raster_crop && self.raster.1 > 0 {
+            self.raster.1.min(self.pixel_limit.rows())
         } else {
             self.clipped_height
         }

@@ -321,11 +321,9 @@ impl<C: Canvas + Drop> PayloadParser<C> {
     /// Closes the open command, and returns the rows that are left with the registers.
     pub fn finish(mut self) -> Result<DecodedPayload>
         ensures ends { (o : Origin) (h : History) (ended : Bool) → StandsAfter ended o self h
-            → Ends result o (effective o.pixel_limit h) }
+            → Ends result o (effective o.pixel_limit h) (ignored_count o.pixel_limit h) }
         ensures first { IfOk result (λ picture.
             picture.first_row ≡ min (C.released self.painter.canvas) picture.height) }
-        ensures ignored { (o : Origin) (h : History) (ended : Bool) → StandsAfter ended o self h
-            → IfOk result (λ picture. picture.ignored ≡ ignored_count o.pixel_limit h) }
     {
         match self.close() {
             Ok(()) => self.painter.take_image(self.ignored),

@@ -5,15 +5,14 @@
 ghost use Rattle.std.specs.Prelude.{◌≡◌, ◌∷◌, [], true, false, min, IsTrue, IfOk};
 ghost use Rattle.sixel_base.specs.Bytes.{is_terminated};
 ghost use Rattle.sixel_base.specs.Decoder.{origin_of};
-ghost use Rattle.sixel_base.specs.DrawnHeight.{found_drawn_height};
-ghost use Rattle.sixel_base.specs.IgnoredCommands.{payload_ignored};
 ghost use Rattle.sixel_base.specs.OneShot.{Payload};
 ghost use Rattle.sixel_decoder.specs.FinalRows.{found_pixel};
 ghost use Rattle.sixel_decoder.specs.PayloadCalls.{begun, byte_read, IsFed, IsFinished};
 ghost use Rattle.sixel_decoder.specs.PayloadCalls.{IsSizeSoFar, IsDrawnHeight};
 ghost use Rattle.sixel_decoder.specs.PayloadCalls.{IsWriteCount, IsPaintCount, IsBandPaintCount};
 ghost use Rattle.sixel_decoder.specs.PayloadCalls.{IsBandWriteCount};
-ghost use Rattle.sixel_decoder.specs.PictureView.{found_raster_height, whole_image};
+ghost use Rattle.sixel_decoder.specs.PictureView.{picture_report, whole_image};
+ghost use Rattle.sixel_decoder.specs.Report.{payload_report};
 ghost use Rattle.sixel_decoder.specs.Session.{decoder_of};
 ghost use Rattle.sixel_decoder.specs.declared.payload_reader.PayloadState.TheVariants.{Failed};
 
@@ -178,14 +177,8 @@ impl<C: Canvas + Drop> PayloadReader<C> {
             (λ picture. picture.registers) self result }
         ensures first { IfOk result (λ picture.
             picture.first_row ≡ min self.released picture.height) }
-        ensures raster { IfOk result (λ picture. picture.raster_height
-            ≡ found_raster_height (decoder_of self.origin)
-            (Payload self.origin.settings self.bytes)) }
-        ensures ignored { IfOk result (λ picture.
-            picture.ignored ≡ payload_ignored self.origin.pixel_limit self.bytes) }
-        ensures drawn { IfOk result (λ picture. picture.drawn_height
-            ≡ found_drawn_height (decoder_of self.origin)
-            (Payload self.origin.settings self.bytes)) }
+        ensures report { IfOk result (λ picture.
+            picture_report picture ≡ payload_report self.origin self.bytes) }
     {
         let PayloadReader { state, .. } = self;
         match state {

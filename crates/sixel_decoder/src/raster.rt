@@ -1,4 +1,4 @@
-//! Raster attributes: pixel aspect ratio, height to crop to, and extent.
+//! Raster attributes: pixel aspect ratio, sizes that they name, and extent.
 
 ghost use Rattle.std.specs.Prelude.{◌≡◌, ◌*◌, ◌≤◌, List, ℕ, length, max, min};
 ghost use Rattle.std.specs.Prelude.{nat_le, nat_lt, if◌then◌else◌, MatchResult};
@@ -52,11 +52,11 @@ fn ratio_from(other: PixelAspectRatio, vertical: u32, horizontal: u32) -> PixelA
     }
 }
 
-/// Returns the last height that raster attributes name, where 0 names none.
-pub fn last_height(before: usize, high: usize) -> usize
-    ensures { result ≡ (if nat_lt 0 high then high else before) }
+/// Returns the last width or height that raster attributes name, where 0 names none.
+pub fn last_side(before: usize, side: usize) -> usize
+    ensures { result ≡ (if nat_lt 0 side then side else before) }
 {
-    if high > 0 { high } else { before }
+    if side > 0 { side } else { before }
 }
 
 /// Rejects an extent with a side or an area inside the clip above its limit.

@@ -14,7 +14,6 @@ use crate::sixel_image::SixelImage;
 pub use crate::status::{SixelDcsFeedResult, SixelDcsFeedStatus, SixelFeedResult, SixelFeedStatus};
 pub use dcs_session::SixelDcsStreamDecoder;
 pub(crate) use dcs_session::string_status;
-pub use drawn::DrawnImage;
 use std::alloc::{Layout, handle_alloc_error};
 use std::fmt;
 use std::sync::{Mutex, MutexGuard, PoisonError};
@@ -206,7 +205,7 @@ impl SixelDecoder {
     /// [`InvalidData`](crate::SixelError::InvalidData) for a header that is invalid or does not
     /// end. After an error the registers are unchanged.
     pub fn decode(&mut self, bytes: &[u8]) -> Result<SixelImage> {
-        Ok(self.decode_drawn(bytes)?.image)
+        self.decode_drawn(bytes)?.into_image()
     }
 
     /// Decodes one payload: the data between a DCS sequence's `q` and its terminator.
@@ -232,7 +231,7 @@ impl SixelDecoder {
     /// - `IntegerOverflow` for more new lines than a row number can count
     /// - `OutOfMemory` if an allocation fails
     pub fn decode_from_dcs(&mut self, bytes: &[u8], settings: DcsSettings) -> Result<SixelImage> {
-        Ok(self.decode_from_dcs_drawn(bytes, settings)?.image)
+        self.decode_from_dcs_drawn(bytes, settings)?.into_image()
     }
 
     /// Decodes by a copy, which replaces the decoder if it succeeds.
@@ -240,12 +239,12 @@ impl SixelDecoder {
     /// So an error leaves the registers unchanged, also if the caller's pixels cannot be allocated.
     fn by_copy(
         &mut self,
-        decode: impl FnOnce(&mut Handle) -> Result<DrawnImage>,
-    ) -> Result<DrawnImage> {
+        decode: impl FnOnce(&mut Handle) -> Result<ReceivedImage>,
+    ) -> Result<ReceivedImage> {
         let mut copy = self.handle().copy()?;
-        let drawn = decode(&mut copy)?;
+        let image = decode(&mut copy)?;
         *self.handle() = copy;
-        Ok(drawn)
+        Ok(image)
     }
 
     /// Begins a payload that is decoded in chunks.

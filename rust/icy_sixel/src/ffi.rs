@@ -39,6 +39,8 @@ pub(crate) struct Shape {
     pub(crate) width: usize,
     pub(crate) height: usize,
     pub(crate) drawn_height: usize,
+    pub(crate) raster_width: usize,
+    pub(crate) raster_height: usize,
     pub(crate) first_row: usize,
     pub(crate) bytes: usize,
     pub(crate) ignored: u64,
@@ -47,6 +49,7 @@ pub(crate) struct Shape {
     pub(crate) p1: u8,
     pub(crate) p2: u8,
     pub(crate) is_complete: u8,
+    pub(crate) is_empty: u8,
 }
 
 /// A color.

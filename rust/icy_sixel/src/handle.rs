@@ -1,17 +1,15 @@
 //! Images out of a handle.
 
 use crate::codes::error_of;
-use crate::decoder::DrawnImage;
 use crate::error::Result;
 use crate::ffi::{Handle, Shape};
 use crate::receiver::ReceivedImage;
 use crate::settings::{BackgroundMode, DcsSettings, PixelAspectRatio};
-use crate::sixel_image::SixelImage;
 
 impl Handle {
     /// Decodes the first DCS sequence in the bytes, or all of them as a payload.
-    pub(crate) fn decode(&mut self, bytes: &[u8]) -> Result<DrawnImage> {
-        self.read(bytes).map(drawn_image).map_err(error_of)
+    pub(crate) fn decode(&mut self, bytes: &[u8]) -> Result<ReceivedImage> {
+        self.read(bytes).map(received_image).map_err(error_of)
     }
 
     /// Decodes one payload.
@@ -19,8 +17,8 @@ impl Handle {
         &mut self,
         bytes: &[u8],
         settings: DcsSettings,
-    ) -> Result<DrawnImage> {
-        self.read_payload(bytes, settings.parameters()).map(drawn_image).map_err(error_of)
+    ) -> Result<ReceivedImage> {
+        self.read_payload(bytes, settings.parameters()).map(received_image).map_err(error_of)
     }
 
     /// Closes the open image, and returns it.
@@ -41,18 +39,6 @@ impl Handle {
     }
 }
 
-/// The whole image of this shape with these pixels.
-fn drawn_image((shape, pixels): (Shape, Vec<u8>)) -> DrawnImage {
-    let image = SixelImage {
-        pixels,
-        width: shape.width,
-        height: shape.height,
-        aspect_ratio: PixelAspectRatio::from_p1(u16::from(shape.p1)),
-        background_mode: BackgroundMode::from_p2(u16::from(shape.p2)),
-    };
-    DrawnImage { image, drawn_height: shape.drawn_height }
-}
-
 /// The image of this shape with the pixels of the rows that are left.
 fn received_image((shape, pixels): (Shape, Vec<u8>)) -> ReceivedImage {
     ReceivedImage {
@@ -61,6 +47,8 @@ fn received_image((shape, pixels): (Shape, Vec<u8>)) -> ReceivedImage {
         height: shape.height,
         first_row: shape.first_row,
         drawn_height: shape.drawn_height,
+        raster_width: shape.raster_width,
+        raster_height: shape.raster_height,
         ignored_commands: shape.ignored,
         is_complete: shape.is_complete != 0,
         aspect_ratio: PixelAspectRatio::from_p1(u16::from(shape.p1)),

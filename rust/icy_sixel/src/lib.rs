@@ -16,9 +16,8 @@ mod size;
 mod status;
 
 pub use decoder::{
-    DcsSettings, DrawnImage, SixelDcsFeedResult, SixelDcsFeedStatus, SixelDcsStreamDecoder,
-    SixelDecoder, SixelFeedResult, SixelFeedStatus, SixelStreamDecoder, sixel_decode,
-    sixel_decode_from_dcs,
+    DcsSettings, SixelDcsFeedResult, SixelDcsFeedStatus, SixelDcsStreamDecoder, SixelDecoder,
+    SixelFeedResult, SixelFeedStatus, SixelStreamDecoder, sixel_decode, sixel_decode_from_dcs,
 };
 pub use encoder::{
     Dither, EncodeOptions, TextForm, palette_indices, sixel_encode, sixel_encode_default,

@@ -4,8 +4,8 @@ mod common;
 
 use common::*;
 use icy_sixel::{
-    BackgroundMode, DcsSettings, DrawnImage, PixelAspectRatio, SixelDecoder, SixelError,
-    SixelImage, SixelReceiver,
+    BackgroundMode, DcsSettings, PixelAspectRatio, SixelDecoder, SixelError, SixelImage,
+    SixelReceiver,
 };
 
 #[test]
@@ -121,11 +121,6 @@ fn errors_have_texts() {
     assert_eq!(SixelError::OutOfMemory.to_string(), "out of memory");
 }
 
-/// The height of an image, and the height that is drawn.
-fn heights(drawn: DrawnImage) -> (usize, usize) {
-    (drawn.image.height, drawn.drawn_height)
-}
-
 #[test]
 fn finished_images_have_a_drawn_height() {
     let settings = DcsSettings::default;
@@ -144,14 +139,32 @@ fn finished_images_have_a_drawn_height() {
         decoder.set_raster_crop(crop);
         decoder.set_clip(9, rows);
         let bytes = payload.as_bytes();
-        assert_eq!(heights(decoder.decode_drawn(bytes).unwrap()), expected, "{payload}");
-        let drawn = decoder.decode_from_dcs_drawn(bytes, settings()).unwrap();
-        assert_eq!(heights(drawn), expected, "{payload}");
+        let found = decoder.decode_drawn(bytes).unwrap();
+        let decoded = decoder.decode_from_dcs_drawn(bytes, settings()).unwrap();
 
         let mut receiver = SixelReceiver::with_decoder(decoder);
         receiver.begin_frame(settings());
         assert!(receiver.feed(bytes).is_ok());
-        let image = receiver.finish().unwrap();
-        assert_eq!((image.height, image.drawn_height), expected, "{payload}");
+        for image in [found, decoded, receiver.finish().unwrap()] {
+            assert_eq!((image.height, image.drawn_height), expected, "{payload}");
+        }
+    }
+}
+
+/// The size that raster attributes name, and whether an image is empty.
+#[test]
+fn finished_images_have_a_raster_size() {
+    for (payload, raster, is_empty) in [
+        ("", (0, 0), true),
+        ("#1;2;100;0;0", (0, 0), true),
+        ("?-!9?", (0, 0), true),
+        ("@", (0, 0), false),
+        ("\"1;1;7;3", (7, 3), false),
+        ("\"1;1;7", (7, 0), true),
+        ("\"1;1;7;3~\"1;1;0;9\"1;1;2", (2, 9), false),
+    ] {
+        let image = SixelDecoder::new().decode_drawn(payload.as_bytes()).unwrap();
+        assert_eq!((image.raster_width, image.raster_height), raster, "{payload}");
+        assert_eq!(image.is_empty(), is_empty, "{payload}");
     }
 }

@@ -151,10 +151,9 @@ fn names_of_our_own() {
     let _: fn(&mut Receiver) -> Answer<Received> = Receiver::finish;
     let _: fn(&Received, usize, usize, Layout, &mut [u8]) -> Answer<()> = Received::copy_rows;
     let _: fn(Received) -> Answer<Image> = Received::into_image;
-    type Drawn = icy_sixel::DrawnImage;
-    let _: fn(&mut Decoder, &[u8]) -> Answer<Drawn> = Decoder::decode_drawn;
-    let _: fn(&mut Decoder, &[u8], Settings) -> Answer<decoder::DrawnImage> =
-        Decoder::decode_from_dcs_drawn;
+    let _: fn(&Received) -> bool = Received::is_empty;
+    let _: fn(&mut Decoder, &[u8]) -> Answer<Received> = Decoder::decode_drawn;
+    let _: fn(&mut Decoder, &[u8], Settings) -> Answer<Received> = Decoder::decode_from_dcs_drawn;
     is_value::<Layout>();
     is_value::<icy_sixel::ChannelOrder>();
     is_value::<icy_sixel::Status>();

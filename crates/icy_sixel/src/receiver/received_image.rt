@@ -1,11 +1,11 @@
-//! An image that a receiver has finished, and copies of its rows.
+//! An image that a decoder has finished, and copies of its rows.
 
 ghost use Rattle.std.specs.Prelude.{◌≡◌, ℕ, ◌-◌, ◌*◌, ◌/◌, ◌%◌, ◌<◌, List, length, slice_index};
-ghost use Rattle.std.specs.Prelude.{◌==◌, ◌&&◌, min, take, Some, Ok, IfOk};
+ghost use Rattle.std.specs.Prelude.{min, take, Some, Ok, IfOk};
 ghost use Rattle.sixel_base.specs.CallFault.{FailsBy, RowsReleased};
 ghost use Rattle.sixel_canvas.specs.Layout.{in_order};
 ghost use Rattle.sixel_canvas.specs.inside.FinalRows.{pixel_at};
-ghost use Rattle.sixel_decoder.specs.PictureView.{whole_image};
+ghost use Rattle.sixel_decoder.specs.PictureView.{picture_report, picture_value, whole_image};
 
 use crate::receiver::row_buffer::check_rows;
 use crate::sixel_image::{BackgroundMode, PixelAspectRatio, SixelImage};
@@ -25,7 +25,7 @@ pub enum Height {
     Drawn,
 }
 
-/// An image that was received, without the rows that were released.
+/// An image that was decoded, without the rows that were released.
 #[derive(Debug, Drop)]
 pub struct ReceivedImage {
     /// The pixels of the rows from `first_row` on: red, green, blue, alpha.
@@ -40,6 +40,8 @@ pub struct ReceivedImage {
     ///
     /// It is at most the height, because crop can end an image above that row.
     pub drawn_height: usize,
+    /// The last width above 0 that raster attributes name, or 0 if there is none.
+    pub raster_width: usize,
     /// The last height above 0 that raster attributes name, or 0 if there is none.
     pub raster_height: usize,
     /// How many commands were ignored, if the image is lenient. The number saturates.
@@ -53,17 +55,18 @@ pub struct ReceivedImage {
 
 impl ReceivedImage {
     ghost use Rattle.icy_sixel.specs.FinalRows.{IsRowCopy};
-    ghost use Rattle.icy_sixel.specs.ReceivedImages.{end_of, left_image, received_fault};
-    ghost use Rattle.icy_sixel.specs.ReceivedImages.{received_pixel, whole_value};
+    ghost use Rattle.icy_sixel.specs.ReceivedImages.{end_of, is_empty, left_image};
+    ghost use Rattle.icy_sixel.specs.ReceivedImages.{left_value, received_fault};
+    ghost use Rattle.icy_sixel.specs.ReceivedImages.{received_pixel, received_report};
+    ghost use Rattle.icy_sixel.specs.ReceivedImages.{whole_value};
 
     /// Creates the image of a decoded payload.
     pub(crate) fn from_picture(picture: DecodedPayload) -> Self
         ensures image { (shown : ℕ → ℕ → List ℕ)
             → whole_value shown result ≡ whole_image shown picture }
         ensures first { result.first_row ≡ picture.first_row }
-        ensures drawn { result.drawn_height ≡ picture.drawn_height }
-        ensures raster { result.raster_height ≡ picture.raster_height }
-        ensures ignored { result.ignored_commands ≡ picture.ignored }
+        ensures left { left_value result ≡ picture_value picture }
+        ensures report { received_report result ≡ picture_report picture }
     {
         Self {
             pixels: picture.pixels,
@@ -71,6 +74,7 @@ impl ReceivedImage {
             height: picture.height,
             first_row: picture.first_row,
             drawn_height: picture.drawn_height,
+            raster_width: picture.raster_width,
             raster_height: picture.raster_height,
             ignored_commands: picture.ignored,
             aspect_ratio: picture.aspect_ratio,
@@ -82,7 +86,7 @@ impl ReceivedImage {
     ///
     /// Terminals do not move their cursor for such an image.
     pub fn is_empty(&self) -> bool
-        ensures { result ≡ (self.now.drawn_height == 0 && self.now.raster_height == 0) }
+        ensures { result ≡ is_empty self.now }
     {
         self.drawn_height == 0 && self.raster_height == 0
     }

@@ -6,18 +6,19 @@ use Rattle.std.specs.Prelude.{None, is_none, [], ◌∷◌, ◌++◌, List, max,
 use Rattle.std.specs.Prelude.{min, ◌&&◌, if◌then◌else◌}
 use Rattle.sixel_base.specs.declared.error.SixelError.{SixelError}
 use Rattle.sixel_base.specs.Clip.{clipped_bits, clipped_pixel, is_pixel_inside}
-use Rattle.sixel_base.specs.DrawnHeight.{drawn_height, image_drawn_height, lowered, set_rows}
+use Rattle.sixel_base.specs.DrawnHeight.{drawn_height, lowered, set_rows}
 use Rattle.sixel_base.specs.Fault.{Faults}
 use Rattle.sixel_base.specs.History.{History, Sixel, read}
 use Rattle.sixel_base.specs.Limits.{side_limit}
 use Rattle.sixel_base.specs.Payload.{first_fault, image_of}
-use Rattle.sixel_base.specs.Place.{span, across, down, width, height, raster_height}
+use Rattle.sixel_base.specs.Place.{span, across, down, width, height}
 use Rattle.sixel_base.specs.Settings.{ratio_of}
 use Rattle.sixel_base.specs.Stroke.{Origin, registers, color, ratio}
 use Rattle.sixel_base.specs.Picture.{covers}
 use Rattle.sixel_canvas.specs.declared.drawing.Canvas.{Ghosts}
 use Rattle.sixel_canvas.specs.inside.Drawn.{Run, run}
-use Rattle.sixel_decoder.specs.PictureView.{whole_image}
+use Rattle.sixel_decoder.specs.PictureView.{picture_report, whole_image}
+use Rattle.sixel_decoder.specs.Report.{raster_size, report_of}
 use Rattle.sixel_decoder.specs.declared.decoded_payload.DecodedPayload.{DecodedPayload}
 use Rattle.sixel_decoder.specs.declared.painter.Painter.{Painter}
 use Rattle.sixel_decoder.specs.inside.DrawnRows.{drawn_rows}
@@ -37,7 +38,7 @@ pub record Shows {C : Type 0} {canvas : Ghosts C} (origin : Origin) (painter : P
   pub top : canvas.top painter.canvas ≡ down history
   pub width : painter.width ≡ width history
   pub height : painter.height ≡ height history
-  pub raster_height : painter.raster_height ≡ raster_height history
+  pub raster : painter.raster ≡ raster_size history
   pub drawn : drawn_rows painter.drawn (down history) ≡ drawn_height origin.pixel_limit history
   pub ratio : painter.ratio ≡ ratio (ratio_of origin.settings) history
   pub settings : painter.settings ≡ origin.settings
@@ -79,7 +80,7 @@ pub record IsExtended {C : Type 0} {members : Ghosts C} (old new : Painter C mem
   pub color : new.color ≡ old.color
   pub repeat : new.repeat ≡ old.repeat
   pub column : new.column ≡ old.column
-  pub raster_height : new.raster_height ≡ old.raster_height
+  pub raster : new.raster ≡ old.raster
   pub drawn : new.drawn ≡ old.drawn
 
 -- The second painter is the first once the part of a run inside the clip was drawn, over the
@@ -113,21 +114,19 @@ pub record IsDrawnInside {C : Type 0} {canvas : Ghosts C} (old new : Painter C c
   pub column : new.column ≡ old.column
   pub width : new.width ≡ old.width
   pub height : new.height ≡ old.height
-  pub raster_height : new.raster_height ≡ old.raster_height
+  pub raster : new.raster ≡ old.raster
 
 -- The history has no fault, and this is its image, within the limit, with the registers after it
--- and its drawn height; or it is rejected by its first fault, and by a failed allocation only if it
+-- and its report; or it is rejected by its first fault, and by a failed allocation only if it
 -- has an image.
-abbrev pub Ends : Result DecodedPayload SixelError → Origin → History → Type 0
-Ends result origin history =
+abbrev pub Ends : Result DecodedPayload SixelError → Origin → History → ℕ → Type 0
+Ends result origin history ignored =
     MatchResult result
     (λ picture. (first_fault origin.pixel_limit history ≡ None)
     × (whole_image (clipped_pixel origin history) picture ≡ image_of origin history)
     × (picture.registers ≡ registers origin.registers history)
     × (picture.width * picture.height ≤ origin.pixel_limit.pixels)
-    × (picture.drawn_height
-    ≡ image_drawn_height origin.pixel_limit origin.raster_crop history)
-    × (picture.raster_height ≡ raster_height history))
+    × (picture_report picture ≡ report_of origin history ignored))
     (λ error.
     Faults error (is_none (first_fault origin.pixel_limit history))
     (first_fault origin.pixel_limit history))

@@ -7,7 +7,6 @@ use Rattle.sixel_base.specs.Status.{status_of}
 use Rattle.sixel_base.specs.declared.status.SixelFeedResult.{SixelFeedResult}
 use Rattle.sixel_base.specs.Bytes.{front, count, first_terminator, is_terminated}
 use Rattle.sixel_base.specs.Clip.{clipped_pixel}
-use Rattle.sixel_base.specs.DrawnHeight.{image_drawn_height}
 use Rattle.sixel_base.specs.declared.error.SixelError.{SixelError}
 use Rattle.sixel_decoder.specs.declared.payload_parser.PayloadParser.{PayloadParser}
 use Rattle.sixel_decoder.specs.declared.payload_parser.OpenCommand.{OpenCommand}
@@ -17,13 +16,13 @@ use Rattle.sixel_base.specs.Fault.{Faults}
 use Rattle.sixel_base.specs.inside.Parameters.{Keeps}
 use Rattle.sixel_base.specs.History.{Token, Repeat, Raster, Color, History, goes_on, read}
 use Rattle.sixel_base.specs.Lenient.{fault}
-use Rattle.sixel_base.specs.Place.{raster_height}
 use Rattle.sixel_base.specs.Stroke.{Origin}
 use Rattle.sixel_base.specs.Payload.{closed, growths, payload_fault, payload_image}
 use Rattle.sixel_base.specs.Payload.{payload_registers, payload_wants, tokens}
 use Rattle.sixel_canvas.specs.declared.drawing.Canvas.{Ghosts}
 use Rattle.sixel_decoder.specs.inside.Lenient.{HasDrawn}
-use Rattle.sixel_decoder.specs.PictureView.{whole_image}
+use Rattle.sixel_decoder.specs.PictureView.{picture_report, whole_image}
+use Rattle.sixel_decoder.specs.Report.{payload_report}
 use Rattle.sixel_decoder.specs.declared.decoded_payload.DecodedPayload.{DecodedPayload}
 
 -- the newest token is a command that is open, and the parameters are those of its text so far
@@ -99,8 +98,6 @@ Decodes result origin bytes =
     ≡ payload_image origin bytes)
     × (picture.registers ≡ payload_registers origin bytes)
     × (picture.width * picture.height ≤ origin.pixel_limit.pixels)
-    × (picture.drawn_height
-    ≡ image_drawn_height origin.pixel_limit origin.raster_crop (tokens origin.pixel_limit bytes))
-    × (picture.raster_height ≡ raster_height (tokens origin.pixel_limit bytes)))
+    × (picture_report picture ≡ payload_report origin bytes))
     (λ error.
     Faults error (payload_wants origin.pixel_limit bytes) (payload_fault origin.pixel_limit bytes))

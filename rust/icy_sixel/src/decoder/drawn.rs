@@ -1,43 +1,30 @@
-//! Images that are decoded in one call, with their drawn height.
+//! Images that are decoded in one call, with what is reported of them beside their pixels.
 
 use super::SixelDecoder;
 use crate::error::Result;
+use crate::receiver::ReceivedImage;
 use crate::settings::DcsSettings;
-use crate::sixel_image::SixelImage;
-
-/// An image and its drawn height.
-///
-/// Without raster attributes an image is a whole number of bands high: of 24 rows, 20 may be drawn.
-#[derive(Clone, Debug, PartialEq, Eq)]
-pub struct DrawnImage {
-    /// The image.
-    pub image: SixelImage,
-    /// Rows down to the last one with a set pixel, or 0 if there is none.
-    ///
-    /// It is at most the height, because crop can end an image above that row.
-    pub drawn_height: usize,
-}
 
 impl SixelDecoder {
-    /// Decodes as [`decode`](Self::decode) does, and returns the drawn height too.
+    /// Decodes as [`decode`](Self::decode) does, and returns what a finished image reports too.
     ///
     /// ```
     /// use icy_sixel::SixelDecoder;
     ///
-    /// let drawn = SixelDecoder::new().decode_drawn(b"\x1bPq~-@\x1b\\")?;
-    /// assert_eq!(drawn.image.dimensions(), (1, 12));
-    /// assert_eq!(drawn.drawn_height, 7); // the rows below are blank
+    /// let image = SixelDecoder::new().decode_drawn(b"\x1bPq~-@\x1b\\")?;
+    /// assert_eq!((image.width, image.height), (1, 12));
+    /// assert_eq!(image.drawn_height, 7); // the rows below are blank
     /// # Ok::<(), icy_sixel::SixelError>(())
     /// ```
     ///
     /// # Errors
     ///
     /// Those of `decode`.
-    pub fn decode_drawn(&mut self, bytes: &[u8]) -> Result<DrawnImage> {
+    pub fn decode_drawn(&mut self, bytes: &[u8]) -> Result<ReceivedImage> {
         self.by_copy(|copy| copy.decode(bytes))
     }
 
-    /// Decodes as [`decode_from_dcs`](Self::decode_from_dcs) does, with the drawn height.
+    /// Decodes as [`decode_from_dcs`](Self::decode_from_dcs) does, and returns the same.
     ///
     /// # Errors
     ///
@@ -46,7 +33,7 @@ impl SixelDecoder {
         &mut self,
         bytes: &[u8],
         settings: DcsSettings,
-    ) -> Result<DrawnImage> {
+    ) -> Result<ReceivedImage> {
         self.by_copy(|copy| copy.decode_payload(bytes, settings))
     }
 }

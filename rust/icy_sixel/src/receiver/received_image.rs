@@ -1,4 +1,4 @@
-//! An image that a receiver has finished, and copies of its rows.
+//! An image that a decoder has finished, and copies of its rows.
 
 use super::rows::{ChannelOrder, RowLayout};
 use crate::codes::{ROWS_NOT_FINAL, ROWS_RELEASED, error_of};
@@ -6,7 +6,7 @@ use crate::error::Result;
 use crate::settings::{BackgroundMode, PixelAspectRatio};
 use crate::sixel_image::SixelImage;
 
-/// An image that was received, without the rows that were released.
+/// An image that was decoded, without the rows that were released.
 #[derive(Clone, Debug, PartialEq, Eq)]
 pub struct ReceivedImage {
     /// The pixels of the rows from `first_row` on: red, green, blue, alpha.
@@ -21,6 +21,10 @@ pub struct ReceivedImage {
     ///
     /// It is at most the height, because crop can end an image above that row.
     pub drawn_height: usize,
+    /// The last width above 0 that raster attributes name, or 0 if there is none.
+    pub raster_width: usize,
+    /// The last height above 0 that raster attributes name, or 0 if there is none.
+    pub raster_height: usize,
     /// How many commands were ignored, if the image is lenient. The number saturates.
     pub ignored_commands: u64,
     /// Whether the end of the image was fed: the terminator of a payload or of a DCS sequence.
@@ -32,6 +36,14 @@ pub struct ReceivedImage {
 }
 
 impl ReceivedImage {
+    /// Whether no pixel is set and no raster attributes name a height.
+    ///
+    /// Terminals do not move their cursor for such an image.
+    #[must_use]
+    pub fn is_empty(&self) -> bool {
+        self.drawn_height == 0 && self.raster_height == 0
+    }
+
     /// Copies rows of the image to the caller's memory, as often as the caller calls it.
     ///
     /// The rows are `first` up to before `first + rows`. They lie as those of

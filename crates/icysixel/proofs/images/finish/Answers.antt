@@ -1,13 +1,11 @@
 use Rattle.std.proofs.Common.{◌≡◌, ◌∙◌, Some, Ok, Err, true, false, refl, ap, subst, arith}
 use Rattle.std.specs.Prelude.{MatchBool, is_some}
-use Rattle.sixel_base.specs.DrawnHeight.{found_drawn_height}
 use Rattle.sixel_base.specs.Fault.{Faults, IsFault}
 use Rattle.sixel_base.specs.OneShot.{IsDecodedAs, IsFoundImage}
 use Rattle.icy_sixel.specs.Receiver.{end_fault, end_wants, failed, found, found_followed}
-use Rattle.icy_sixel.specs.Receiver.{ignored, is_open, is_over}
+use Rattle.icy_sixel.specs.Receiver.{is_open, is_over}
 use Rattle.icy_sixel.specs.ReceiverCalls.{IsFinished, whole_of}
 use Rattle.icy_sixel.specs.declared.receiver.received_image.ReceivedImage.{ReceivedImage}
-use Rattle.icysixel.specs.Kept.{image_left}
 use Rattle.icysixel.specs.Shape.{shape_of}
 use Rattle.icysixel.proofs.Known.{received_known}
 use Rattle.icysixel.proofs.images.finish.Goals as goal
@@ -30,24 +28,11 @@ returns-in-Ok-clause-finished c =
     let done : IsFinished (whole_of old.image) old new.receiver (Ok c.in-Ok.image) =
     rw (kept, ← c.store_image.ensures.receiver) c.in-Ok.ensures.finished in
     let opened : is_open old.image.form ≡ true = grind arith in
-    let left = image_left c.in-Ok.image in
-    let first = c.in-Ok.image.first_row in
-    let rows = found_drawn_height old.image.start (found old.image.form old.image.bytes) in
-    let drawn : c.in-Ok.image.drawn_height ≡ rows =
-    rw (← c.store_image.ensures.receiver) c.in-Ok.ensures.drawn in
-    let count = ignored old.image.start.pixel_limit old.image.form old.image.bytes in
-    let counted : c.in-Ok.image.ignored_commands ≡ count =
-    rw (← c.store_image.ensures.receiver) c.in-Ok.ensures.ignored in
     let over : old.image.is_refused ≡ false
     → c.has_ended-is_complete.result ≡ is_over old.image.form old.image.bytes =
     rw (← c.store_image.ensures.receiver) c.has_ended-is_complete.ensures.accepted in
-    let shape : c.of.result
-    ≡ shape_of left first rows count (is_over old.image.form old.image.bytes) =
-    c.of.ensures
-    ∙ (ap (λ n. shape_of left first n c.in-Ok.image.ignored_commands
-    c.has_ended-is_complete.result) drawn
-    ∙ (ap (λ n. shape_of left first rows n c.has_ended-is_complete.result) counted
-    ∙ ap (shape_of left first rows count) (over done.accepted))) in
+    let shape : c.of.result ≡ shape_of c.in-Ok.image (is_over old.image.form old.image.bytes) =
+    c.of.ensures ∙ ap (shape_of c.in-Ok.image) (over done.accepted) in
     record {
       unopened = λ closed. absurd (grind (arith, closed, opened));
       closed = done.closed;
@@ -57,6 +42,8 @@ returns-in-Ok-clause-finished c =
           (whole_of old.image i)) (one image is) done.image;
       first = λ image is.
           rw (← one image is, ← c.store_image.ensures.receiver) c.in-Ok.ensures.first;
+      report = λ image is.
+          rw (← one image is, ← c.store_image.ensures.receiver) c.in-Ok.ensures.report;
       shape = λ image is. rw (← one image is) shape;
       bytes = λ _. rw c.of.ensures c.in-Ok.image.rows;
       area = λ _. rw c.of.ensures done.area;
@@ -91,6 +78,7 @@ returns-in-Err-clause-finished c =
       found = λ ok. absurd (code.refused ok);
       image = λ stored is. absurd (grind (arith, is));
       first = λ stored is. absurd (grind (arith, is));
+      report = λ stored is. absurd (grind (arith, is));
       shape = λ stored is. absurd (grind (arith, is));
       bytes = λ ok. absurd (code.refused ok);
       area = λ ok. absurd (code.refused ok);

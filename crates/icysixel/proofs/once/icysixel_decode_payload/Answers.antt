@@ -1,10 +1,13 @@
-use Rattle.std.proofs.Common.{◌≡◌, Some, ap, ◌∙◌, arith, rules}
+use Rattle.std.proofs.Common.{◌≡◌, Some, true, arith, rules}
 use Rattle.sixel_base.specs.Decoder.{origin_of}
 use Rattle.sixel_base.specs.Fault.{Faults}
+use Rattle.sixel_base.specs.OneShot.{Payload}
 use Rattle.sixel_base.specs.Payload.{payload_fault, payload_image, payload_wants}
-use Rattle.icy_sixel.specs.ImageView.{image_result, image_value}
+use Rattle.sixel_decoder.specs.Report.{found_report}
+use Rattle.icy_sixel.specs.ReceivedImages.{left_value, received_report}
 use Rattle.icysixel.specs.Code.{settings_of}
 use Rattle.icysixel.proofs.Known.{found_known, result_known}
+use Rattle.icysixel.specs.Shape.{shape_of}
 use Rattle.icysixel.proofs.Stored.{of_stored}
 use Rattle.icysixel.proofs.once.icysixel_decode_payload.Goals as goal
 
@@ -14,15 +17,15 @@ returns-then-not-is_held c = grind arith
 pub state-state-requires : goal.state-state-requires
 state-state-requires c = grind arith
 
-pub store_decoded-requires-clause-pixels : goal.store_decoded-requires-clause-pixels
-store_decoded-requires-clause-pixels c = grind arith
+pub store_decoded-requires-clause-whole : goal.store_decoded-requires-clause-whole
+store_decoded-requires-clause-whole c = grind arith
 
 pub store_decoded-requires-clause-known : goal.store_decoded-requires-clause-known
 store_decoded-requires-clause-known c =
     let limit = c.replace_decoder-decoder.result.pixel_limit in
     let wants = payload_wants limit c.args.bytes.now in
     let fault = payload_fault limit c.args.bytes.now in
-    result_known (image_result c.decode_from_dcs_drawn-answer.result)
+    result_known c.decode_from_dcs_drawn-answer.result
     (λ error. Faults error wants fault)
     (λ error. found_known error wants fault)
     c.decode_from_dcs_drawn-answer.ensures.decoded.refused
@@ -55,23 +58,39 @@ returns-clause-image c = λ before after image is is_now kept.
     grind (arith, c.state-state.ensures.value) in
     let now : c.store_decoded.new.self.image ≡ Some image = grind arith in
     let settings : c.settings.result ≡ settings_of c.args.p1 c.args.p2 = search rules in
-    let bytes = c.args.bytes.now in
-    of_stored (image_result c.decode_from_dcs_drawn-answer.result) c.store_decoded.new.self.image
-    (λ image.
-    image_value image
-    ≡ payload_image (origin_of c.replace_decoder-decoder.result c.settings.result) bytes)
-    c.decode_from_dcs_drawn-answer.ensures.decoded.image c.store_decoded.ensures.image
-    c.store_decoded.ensures.dropped image now
-    ∙ (ap (λ decoder. payload_image (origin_of decoder c.settings.result) bytes) same
-    ∙ ap (λ settings. payload_image (origin_of before.receiver.decoder settings) bytes) settings)
+    rw (← same, ← settings)
+    (of_stored c.decode_from_dcs_drawn-answer.result c.store_decoded.new.self.image
+    (λ image. left_value image ≡ payload_image (origin_of c.replace_decoder-decoder.result c.settings.result)
+    c.args.bytes.now)
+    c.decode_from_dcs_drawn-answer.ensures.decoded.image c.store_decoded.ensures.found
+    c.store_decoded.ensures.dropped image now)
 
-pub returns-clause-shape : goal.returns-clause-shape
-returns-clause-shape c = λ before after image is is_now kept.
+pub returns-clause-report : goal.returns-clause-report
+returns-clause-report c = λ before after image is is_now kept.
     let same : c.replace_decoder-decoder.result ≡ before.receiver.decoder =
     grind (arith, c.state-state.ensures.value) in
     let now : c.store_decoded.new.self.image ≡ Some image = grind arith in
-    rw (← same)
-    (c.store_decoded.ensures.shape _ image now c.decode_from_dcs_drawn-answer.ensures.drawn)
+    let settings : c.settings.result ≡ settings_of c.args.p1 c.args.p2 = search rules in
+    rw (← same, ← settings)
+    (of_stored c.decode_from_dcs_drawn-answer.result c.store_decoded.new.self.image
+    (λ image. received_report image
+    ≡ found_report c.replace_decoder-decoder.result (Payload c.settings.result c.args.bytes.now))
+    c.decode_from_dcs_drawn-answer.ensures.report c.store_decoded.ensures.found
+    c.store_decoded.ensures.dropped image now)
+
+pub returns-clause-shape : goal.returns-clause-shape
+returns-clause-shape c = λ after image is_now kept.
+    of_stored c.decode_from_dcs_drawn-answer.result c.store_decoded.new.self.image
+    (λ image. c.store_decoded.new.shape ≡ shape_of image true)
+    c.store_decoded.ensures.shape c.store_decoded.ensures.found
+    c.store_decoded.ensures.dropped image (grind arith)
+
+pub returns-clause-first : goal.returns-clause-first
+returns-clause-first c = λ after image is_now kept.
+    of_stored c.decode_from_dcs_drawn-answer.result c.store_decoded.new.self.image
+    (λ image. image.first_row ≡ 0)
+    c.decode_from_dcs_drawn-answer.ensures.first c.store_decoded.ensures.found
+    c.store_decoded.ensures.dropped image (grind arith)
 
 pub returns-clause-area : goal.returns-clause-area
 returns-clause-area c = λ before is done.

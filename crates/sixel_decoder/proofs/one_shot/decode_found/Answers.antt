@@ -1,9 +1,9 @@
 use Rattle.std.proofs.Common.{◌≡◌, Some, sym, ◌∙◌, ap, subst}
 use Rattle.std.specs.Prelude.{IfOk}
-use Rattle.sixel_base.specs.DrawnHeight.{found_drawn_height}
 use Rattle.sixel_base.specs.Header.{Begun, headed}
 use Rattle.sixel_decoder.specs.OneShotCalls.{IsDecoded}
-use Rattle.sixel_decoder.specs.PictureView.{picture_value}
+use Rattle.sixel_decoder.specs.PictureView.{picture_report, picture_value}
+use Rattle.sixel_decoder.specs.Report.{found_report}
 use Rattle.sixel_base.specs.OneShot.{Found, Payload, AreFoundRegisters, after_introducer, found}
 use Rattle.sixel_decoder.proofs.FoundPayloads.{found_refused, found_payload}
 use Rattle.sixel_decoder.proofs.one_shot.decode_found.Goals as goal
@@ -32,11 +32,11 @@ returns-in-Ok-clause-registers c =
     (λ picture. AreFoundRegisters c.args.decoder w picture.registers))
     (sym (is_payload c)) c.decode_payload-in-Ok.ensures.registers
 
-pub returns-in-Ok-clause-drawn : goal.returns-in-Ok-clause-drawn
-returns-in-Ok-clause-drawn c =
+pub returns-in-Ok-clause-report : goal.returns-in-Ok-clause-report
+returns-in-Ok-clause-report c =
     subst (λ (w : Found).
     IfOk c.decode_payload-in-Ok.result
-    (λ picture. picture.drawn_height ≡ found_drawn_height c.args.decoder w))
+    (λ picture. picture_report picture ≡ found_report c.args.decoder w))
     (sym (is_payload c)) c.decode_payload-in-Ok.ensures.drawn
 
 pub returns-in-Err-clause-decoded : goal.returns-in-Err-clause-decoded

@@ -4,8 +4,6 @@ use Rattle.std.proofs.Common.{Result, Ok, Err, rules}
 use Rattle.std.specs.Prelude.{IfOk, if◌then◌else◌}
 use Rattle.sixel_base.specs.declared.error.SixelError.{SixelError}
 use Rattle.sixel_base.specs.Dcs.{dcs_status, has_ended}
-use Rattle.sixel_base.specs.DrawnHeight.{found_drawn_height}
-use Rattle.sixel_base.specs.IgnoredCommands.{dcs_ignored, payload_ignored}
 use Rattle.sixel_base.specs.Payload.{Image}
 use Rattle.sixel_base.specs.OneShot.{Payload, found_fault, IsDecodedAs, IsFoundImage}
 use Rattle.sixel_base.specs.OneShot.{AreFoundRegisters}
@@ -15,9 +13,10 @@ use Rattle.sixel_decoder.specs.PayloadCalls as payloads
 use Rattle.sixel_decoder.specs.Session.{Session, DcsSession, decoder_of}
 use Rattle.sixel_decoder.specs.declared.decoded_payload.DecodedPayload.{DecodedPayload}
 use Rattle.sixel_decoder.specs.FinalRows.{found_pixel}
-use Rattle.sixel_decoder.specs.PictureView.{found_raster_height, whole_image}
+use Rattle.sixel_decoder.specs.PictureView.{picture_report, whole_image}
+use Rattle.sixel_decoder.specs.Report.{found_report, payload_report}
 use Rattle.icy_sixel.specs.FinalRows.{pixel_so_far}
-use Rattle.icy_sixel.specs.Receiver.{Receiver, Reception, found, found_followed, end_fault, ignored}
+use Rattle.icy_sixel.specs.Receiver.{Receiver, Reception, found, found_followed, end_fault}
 use Rattle.icy_sixel.specs.inside.Receiving.{reception_of}
 use Rattle.icy_sixel.specs.declared.receiver.Open.TheVariants as opened
 use Rattle.icy_sixel.specs.declared.receiver.SixelReceiver.TheInside.{Inside}
@@ -37,19 +36,11 @@ record IsPictureOf (image : Reception) (picture : DecodedPayload) : Type 0 where
       → IsDecodedAs image.start (found_followed image.form image.bytes more)
       (shown_whole image picture) picture.registers
   first : picture.first_row ≡ min image.released picture.height
-  raster : picture.raster_height
-      ≡ found_raster_height image.start (found image.form image.bytes)
-  ignored : picture.ignored ≡ ignored image.start.pixel_limit image.form image.bytes
-  drawn : picture.drawn_height ≡ found_drawn_height image.start (found image.form image.bytes)
+  report : picture_report picture ≡ found_report image.start (found image.form image.bytes)
   area : picture.width * picture.height ≤ image.start.pixel_limit.pixels
   faultless : found_fault image.start.pixel_limit (found image.form image.bytes) ≡ None
   accepted : image.is_refused ≡ false
   ended : end_fault image.start.pixel_limit image.form image.bytes ≡ None
-
-both : {A : Type 0} (result : Result A SixelError) (P Q : A → Type 0) → IfOk result P
-    → IfOk result Q → IfOk result (λ a. P a × Q a)
-both (Ok a) P Q p q = (p, q)
-both (Err e) P Q p q = tt
 
 abbrev Finished : Result DecodedPayload SixelError → Reception → Type 0
 Finished result image = IfOk result (IsPictureOf image)
@@ -59,42 +50,31 @@ payload_finished : (result : Result DecodedPayload SixelError) (session : Sessio
     (whole_image (found_pixel (decoder_of session.origin)
     (Payload session.origin.settings session.bytes)))
     (λ picture. picture.registers) session result
-    → IfOk result (λ picture. picture.drawn_height
-    ≡ found_drawn_height (decoder_of session.origin)
-    (Payload session.origin.settings session.bytes))
-    → IfOk result (λ picture. (picture.first_row ≡ min session.released picture.height)
-    × (picture.ignored ≡ payload_ignored session.origin.pixel_limit session.bytes))
-    → IfOk result (λ picture. picture.raster_height
-    ≡ found_raster_height (decoder_of session.origin)
-    (Payload session.origin.settings session.bytes))
+    → IfOk result (λ picture. picture.first_row ≡ min session.released picture.height)
+    → IfOk result (λ picture. picture_report picture ≡ payload_report session.origin session.bytes)
     → Finished result (reception_of (opened.Payload session))
-payload_finished (Ok picture) session is drawn more raster = record {
+payload_finished (Ok picture) session is first report = record {
   shows = is.image;
   registers = is.registers;
   decoded = λ left. (is.faultless, is.image, is.registers);
-  drawn = drawn;
   area = is.area;
   faultless = is.faultless;
   accepted = is.accepted;
-  first = more.0;
-  ignored = more.1;
-  raster = raster;
+  first = first;
+  report = report;
   ended = is.faultless;
 }
-payload_finished (Err e) session is drawn more raster = tt
+payload_finished (Err e) session is first report = tt
 
 string_finished : (result : Result DecodedPayload SixelError) (session : DcsSession)
     → strings.IsFinished
     (whole_image (found_pixel session.decoder (one_shot.found session.bytes)))
     (λ picture. picture.registers) session result
+    → IfOk result (λ picture. picture.first_row ≡ min session.released picture.height)
     → IfOk result (λ picture.
-    picture.drawn_height ≡ found_drawn_height session.decoder (one_shot.found session.bytes))
-    → IfOk result (λ picture. (picture.first_row ≡ min session.released picture.height)
-    × (picture.ignored ≡ dcs_ignored session.decoder.pixel_limit session.bytes))
-    → IfOk result (λ picture.
-    picture.raster_height ≡ found_raster_height session.decoder (one_shot.found session.bytes))
+    picture_report picture ≡ found_report session.decoder (one_shot.found session.bytes))
     → Finished result (reception_of (opened.ControlString session))
-string_finished (Ok picture) session is drawn more raster = record {
+string_finished (Ok picture) session is first report = record {
   shows = is.found_image;
   registers = is.found_registers;
   decoded = λ left.
@@ -107,16 +87,14 @@ string_finished (Ok picture) session is drawn more raster = record {
         | true ↦ λ over. is.as_decoded left over
         | false ↦ λ on. (is.faultless, is.found_image, is.found_registers)
       ]) refl;
-  drawn = drawn;
   area = is.area;
   faultless = is.faultless;
   accepted = is.accepted;
-  first = more.0;
-  ignored = more.1;
-  raster = raster;
+  first = first;
+  report = report;
   ended = rw is.ended refl;
 }
-string_finished (Err e) session is drawn more raster = tt
+string_finished (Err e) session is first report = tt
 
 -- the picture is that of the image that was open
 is_picture : (c : goal.After-from_picture)
@@ -135,17 +113,13 @@ is_picture c =
           rw w.branch'-is
           (subst (Finished w.finish.result) (sym (ap reception_of w.in-Payload.is) ∙ held)
           (payload_finished w.finish.result w.in-Payload.reader w.finish.ensures.finished
-          w.finish.ensures.drawn
-          (both w.finish.result _ _ w.finish.ensures.first w.finish.ensures.ignored)
-          w.finish.ensures.raster))
+          w.finish.ensures.first w.finish.ensures.report))
       | in-ControlString w ↦
           let done = w.finish-in-ControlString in
           rw w.branch'-is
           (subst (Finished done.result) (sym (ap reception_of w.in-ControlString.is) ∙ held)
           (string_finished done.result w.in-ControlString.reader done.ensures.finished
-          done.ensures.drawn
-          (both done.result _ _ done.ensures.first done.ensures.ignored)
-          done.ensures.raster))
+          done.ensures.first done.ensures.report))
     ] in
     subst (λ r. Finished r image) was finished
 
@@ -157,14 +131,8 @@ returns-clause-first c =
     done.first ∙ (is_picture c).first
     ∙ ap (λ (i : Image). min image.released i.height) (sym shown)
 
-pub returns-clause-drawn : goal.returns-clause-drawn
-returns-clause-drawn c = c.from_picture.ensures.drawn ∙ (is_picture c).drawn
-
-pub returns-clause-raster : goal.returns-clause-raster
-returns-clause-raster c = c.from_picture.ensures.raster ∙ (is_picture c).raster
-
-pub returns-clause-ignored : goal.returns-clause-ignored
-returns-clause-ignored c = c.from_picture.ensures.ignored ∙ (is_picture c).ignored
+pub returns-clause-report : goal.returns-clause-report
+returns-clause-report c = c.from_picture.ensures.report ∙ (is_picture c).report
 
 pub returns-clause-finished : goal.returns-clause-finished
 returns-clause-finished c =

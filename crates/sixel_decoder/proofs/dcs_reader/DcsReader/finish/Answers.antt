@@ -12,8 +12,8 @@ use Rattle.sixel_decoder.specs.PictureView.{whole_image}
 use Rattle.sixel_decoder.specs.Session.{decoder_of}
 use Rattle.sixel_decoder.specs.inside.DcsParser.{HasFollowed, IsInPayload}
 use Rattle.sixel_decoder.specs.declared.dcs_parser.DcsState.{DcsState}
-use Rattle.sixel_decoder.proofs.DcsPayloads.{found_drawn, found_image, found_reading}
-use Rattle.sixel_decoder.proofs.DcsPayloads.{found_ignored, found_raster, found_registers}
+use Rattle.sixel_decoder.proofs.DcsPayloads.{found_image, found_reading, found_registers}
+use Rattle.sixel_decoder.proofs.DcsPayloads.{found_reported}
 use Rattle.sixel_decoder.proofs.DcsFinishes.{finish_told, string_decoded, string_image}
 use Rattle.sixel_decoder.proofs.DcsFinishes.{string_refused_at_end, string_registers}
 use Rattle.sixel_decoder.proofs.dcs_reader.DcsReader.finish.Goals as goal
@@ -66,8 +66,8 @@ returns-then-can_finish-clause-finished g c =
           (string_refused_at_end result reader _ _ _ is finishes told.error);
     }
 
-pub returns-then-can_finish-clause-drawn : goal.returns-then-can_finish-clause-drawn
-returns-then-can_finish-clause-drawn g c =
+pub returns-then-can_finish-clause-report : goal.returns-then-can_finish-clause-report
+returns-then-can_finish-clause-report g c =
     let inside = c.self.inside in
     let is : IsInPayload c.in-Payload.reader inside.parser.decoder inside.parser.ended
     inside.log.bytes =
@@ -75,26 +75,4 @@ returns-then-can_finish-clause-drawn g c =
     HasFollowed p inside.parser.decoder inside.parser.ended inside.log.bytes)
     c.in-Payload.is c.self.invariant in
     rw (← c.self.view_is)
-    (found_drawn c.finish.result c.in-Payload.reader _ _ _ is c.finish.ensures.drawn)
-
-pub returns-then-can_finish-clause-ignored : goal.returns-then-can_finish-clause-ignored
-returns-then-can_finish-clause-ignored g c =
-    let inside = c.self.inside in
-    let is : IsInPayload c.in-Payload.reader inside.parser.decoder inside.parser.ended
-    inside.log.bytes =
-    subst (λ (p : DcsState _).
-    HasFollowed p inside.parser.decoder inside.parser.ended inside.log.bytes)
-    c.in-Payload.is c.self.invariant in
-    rw (← c.self.view_is)
-    (found_ignored c.finish.result c.in-Payload.reader _ _ _ is c.finish.ensures.ignored)
-
-pub returns-then-can_finish-clause-raster : goal.returns-then-can_finish-clause-raster
-returns-then-can_finish-clause-raster g c =
-    let inside = c.self.inside in
-    let is : IsInPayload c.in-Payload.reader inside.parser.decoder inside.parser.ended
-    inside.log.bytes =
-    subst (λ (p : DcsState _).
-    HasFollowed p inside.parser.decoder inside.parser.ended inside.log.bytes)
-    c.in-Payload.is c.self.invariant in
-    rw (← c.self.view_is)
-    (found_raster c.finish.result c.in-Payload.reader _ _ _ is c.finish.ensures.raster)
+    (found_reported c.finish.result c.in-Payload.reader _ _ _ is c.finish.ensures.report)

@@ -59,7 +59,7 @@ returns g c =
             column = refl;
             width = refl;
             height = refl;
-            raster_height = refl;
+            raster = refl;
           })
       | else-from-columns w ↦
           let outside : is_pixel_inside limit c.args.from top ≡ false =
@@ -91,6 +91,6 @@ returns g c =
             column = refl;
             width = refl;
             height = refl;
-            raster_height = refl;
+            raster = refl;
           })
     ]

@@ -17,7 +17,7 @@ returns-in-Ok-clause-extended g c =
       color = refl;
       repeat = refl;
       column = refl;
-      raster_height = refl;
+      raster = refl;
       drawn = refl;
     }
 

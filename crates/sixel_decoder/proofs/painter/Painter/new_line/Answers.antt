@@ -20,7 +20,7 @@ returns-clause-draws g c = λ o h shows.
       top = is.top ∙ ap (λ n. n + 6) shows.top;
       width = shows.width;
       height = shows.height;
-      raster_height = shows.raster_height;
+      raster = shows.raster;
       drawn =
           c.end_band.ensures (down h + 6) (rw top (drawn_fits o painter h shows))
           ∙ ap (drawn_rows painter.drawn) top ∙ shown_drawn o painter h shows;

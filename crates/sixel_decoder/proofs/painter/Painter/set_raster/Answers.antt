@@ -31,8 +31,8 @@ returns-in-Ok-clause-draws g c = λ o h text keeps shows.
       top = told.top ∙ rw is.canvas shows.top;
       width = is.width ∙ rw (shows.width, wide) refl;
       height = is.height ∙ rw (shows.height, high) refl;
-      raster_height =
-          c.last_height-self.ensures ∙ rw (high, is.raster_height, shows.raster_height) refl;
+      raster = rw (c.last_side.ensures, c.last_side-2.ensures, wide, high, is.raster, shows.raster)
+          refl;
       drawn = ap (λ (w : DrawnRows). drawn_rows w (down h)) is.drawn ∙ shows.drawn;
       ratio =
           c.shape-self.ensures text keeps

@@ -4,9 +4,11 @@ use Rattle.std.proofs.Math.Nat.{mul-le-mul_left}
 use Rattle.std.proofs.lemmas.Bool.{cases_lt}
 use Rattle.std.proofs.lemmas.Result.{err_from_is_err_and}
 use Rattle.sixel_base.specs.Clip.{clipped_pixel, clipped_width}
+use Rattle.sixel_base.specs.DrawnHeight.{image_drawn_height}
 use Rattle.sixel_base.specs.Limits.{Limit}
 use Rattle.sixel_base.specs.Payload.{Image, image_height}
 use Rattle.sixel_base.specs.Picture.{joined, picture}
+use Rattle.sixel_base.specs.Place.{raster_height}
 use Rattle.sixel_base.specs.Settings.{mode_of, ratio_of}
 use Rattle.sixel_base.specs.declared.settings.BackgroundMode.{BackgroundMode}
 use Rattle.sixel_base.specs.declared.settings.PixelAspectRatio.{PixelAspectRatio}
@@ -76,9 +78,12 @@ returns-clause-ends g c = λ o h shows.
     let painter = c.args.self.now in
     let height = c.image_height-height.result in
     let limit : Limit = o.pixel_limit in
+    let high : painter.raster.1 ≡ raster_height h = ap (λ (p : ℕ × ℕ). p.1) shows.raster in
     let tall : height ≡ image_height limit o.raster_crop h =
     c.image_height-height.ensures
-    ∙ rw (shows.crop, shows.raster_height, shows.height, shows.limit) refl in
+    ∙ rw (shows.crop, high, shows.height, shows.limit) refl in
+    let drawn : c.min-drawn_height.result ≡ image_drawn_height limit o.raster_crop h =
+    c.min-drawn_height.ensures ∙ rw (c.drawn_height.ensures o h shows, tall) refl in
     let wide : painter.clipped_width ≡ clipped_width limit h =
     painter.clipped_width_is ∙ rw (shows.width, shows.limit) refl in
     let area_fits : painter.clipped_width * painter.clipped_height ≤ limit.pixels =
@@ -108,8 +113,16 @@ returns-clause-ends g c = λ o h shows.
         mul-le-mul_left painter.clipped_width (low painter height c.image_height-height.ensures),
         area_fits,
       ),
-      c.min-drawn_height.ensures ∙ rw (c.drawn_height.ensures o h shows, tall) refl,
-      shows.raster_height,
+      ap (λ (n : ℕ). record {
+        drawn_height = n;
+        raster = painter.raster;
+        ignored = c.args.ignored;
+      }) drawn
+      ∙ ap (λ (p : ℕ × ℕ). record {
+        drawn_height = image_drawn_height limit o.raster_crop h;
+        raster = p;
+        ignored = c.args.ignored;
+      }) shows.raster,
     )
 
 pub returns-in_err-pixels-clause-ends : goal.returns-in_err-pixels-clause-ends

@@ -3,9 +3,9 @@ use Rattle.std.proofs.Common.{rules, sym}
 use Rattle.std.specs.Prelude.{is_none, is_some, IfOk}
 use Rattle.sixel_base.specs.declared.error.SixelError.{SixelError}
 use Rattle.sixel_base.specs.Bytes.{front}
-use Rattle.sixel_base.specs.DrawnHeight.{found_drawn_height}
 use Rattle.sixel_base.specs.History.{history_of}
 use Rattle.sixel_base.specs.Fault.{Fault, Faults}
+use Rattle.sixel_base.specs.IgnoredCommands.{payload_ignored}
 use Rattle.sixel_base.specs.Limits.{Limit}
 use Rattle.sixel_base.specs.OneShot.{Payload}
 use Rattle.sixel_base.specs.Payload.{payload_fault, tokens}
@@ -14,7 +14,8 @@ use Rattle.sixel_base.specs.Stroke.{Origin}
 use Rattle.sixel_canvas.specs.declared.drawing.Canvas.{Ghosts}
 use Rattle.sixel_decoder.specs.FinalRows.{found_pixel}
 use Rattle.sixel_decoder.specs.PayloadCalls.{IsFinished}
-use Rattle.sixel_decoder.specs.PictureView.{found_raster_height, whole_image}
+use Rattle.sixel_decoder.specs.PictureView.{picture_report, whole_image}
+use Rattle.sixel_decoder.specs.Report.{payload_report}
 use Rattle.sixel_decoder.specs.Session.{Session, decoder_of}
 use Rattle.sixel_decoder.specs.inside.Painter.{Ends}
 use Rattle.sixel_decoder.specs.inside.PayloadParser.{Decodes, StandsAfter}
@@ -29,6 +30,7 @@ use Rattle.sixel_decoder.proofs.payload_reader.PayloadReader.finish.Goals as goa
 -- how a session is finished whose parser ended its history
 finished_by : (result : Result DecodedPayload SixelError) (s : Session) → s.is_refused ≡ false
     → Ends result s.origin (tokens s.origin.pixel_limit s.bytes)
+    (payload_ignored s.origin.pixel_limit s.bytes)
     → IsFinished
     (whole_image (found_pixel (decoder_of s.origin) (Payload s.origin.settings s.bytes)))
     (λ picture. picture.registers) s result
@@ -57,21 +59,13 @@ finished_by (Err e) s accepted ends =
       refused = λ error is sound. search (rules, decodes, is);
     }
 
--- and its drawn height
-drawn_by : (result : Result DecodedPayload SixelError) (s : Session)
+-- and its report
+reported_by : (result : Result DecodedPayload SixelError) (s : Session)
     → Ends result s.origin (tokens s.origin.pixel_limit s.bytes)
-    → IfOk result (λ picture. picture.drawn_height
-    ≡ found_drawn_height (decoder_of s.origin) (Payload s.origin.settings s.bytes))
-drawn_by (Ok picture) s ends = ends.4
-drawn_by (Err e) s ends = tt
-
--- and the height that its raster attributes name
-raster_by : (result : Result DecodedPayload SixelError) (s : Session)
-    → Ends result s.origin (tokens s.origin.pixel_limit s.bytes)
-    → IfOk result (λ picture. picture.raster_height
-    ≡ found_raster_height (decoder_of s.origin) (Payload s.origin.settings s.bytes))
-raster_by (Ok picture) s ends = ends.5
-raster_by (Err e) s ends = tt
+    (payload_ignored s.origin.pixel_limit s.bytes)
+    → IfOk result (λ picture. picture_report picture ≡ payload_report s.origin s.bytes)
+reported_by (Ok picture) s ends = ends.4
+reported_by (Err e) s ends = tt
 
 -- the parser of a reader without an error has read its bytes
 reading : {C : Type 0} {canvas : Ghosts C} (state : PayloadState C canvas)
@@ -92,35 +86,13 @@ returns-in-Reading-clause-finished g c =
     (finished_by c.finish.result (session_of inside) (rw c.in-Reading.is refl)
     (c.finish.ensures.ends o _ (is_some inside.terminator) read))
 
-pub returns-in-Reading-clause-drawn : goal.returns-in-Reading-clause-drawn
-returns-in-Reading-clause-drawn g c =
+pub returns-in-Reading-clause-report : goal.returns-in-Reading-clause-report
+returns-in-Reading-clause-report g c =
     let inside = c.self.inside in
     let o : Origin = (session_of inside).origin in
     let read =
     reading inside.state c.in-Reading.parser o inside.terminator inside.log.bytes
     c.in-Reading.is c.self.invariant in
     rw (← c.self.view_is)
-    (drawn_by c.finish.result (session_of inside)
-    (c.finish.ensures.ends o _ (is_some inside.terminator) read))
-
-pub returns-in-Reading-clause-ignored : goal.returns-in-Reading-clause-ignored
-returns-in-Reading-clause-ignored g c =
-    let inside = c.self.inside in
-    let o : Origin = (session_of inside).origin in
-    let read =
-    reading inside.state c.in-Reading.parser o inside.terminator inside.log.bytes
-    c.in-Reading.is c.self.invariant in
-    rw (← c.self.view_is)
-    (c.finish.ensures.ignored o (history_of (front inside.log.bytes)) (is_some inside.terminator)
-    read)
-
-pub returns-in-Reading-clause-raster : goal.returns-in-Reading-clause-raster
-returns-in-Reading-clause-raster g c =
-    let inside = c.self.inside in
-    let o : Origin = (session_of inside).origin in
-    let read =
-    reading inside.state c.in-Reading.parser o inside.terminator inside.log.bytes
-    c.in-Reading.is c.self.invariant in
-    rw (← c.self.view_is)
-    (raster_by c.finish.result (session_of inside)
+    (reported_by c.finish.result (session_of inside)
     (c.finish.ensures.ends o _ (is_some inside.terminator) read))
