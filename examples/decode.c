@@ -12,7 +12,7 @@ int main(void)
     size_t length;
 
     uint32_t code = icysixel_new(&decoder);
-    icysixel_set_crop(&decoder, 1);
+    icysixel_set_height(&decoder, ICYSIXEL_HEIGHT_RASTER);
     icysixel_begin_dcs(&decoder);
     while (code == ICYSIXEL_OK && fed.status == ICYSIXEL_MORE
            && (length = fread(chunk, 1, sizeof chunk, stdin)) > 0)

@@ -24,7 +24,7 @@ static uint32_t begin_image(struct terminal *term)
     if (icysixel_is_empty(&term->sixel)) {
         uint32_t code = icysixel_new(&term->sixel);
         if (code != ICYSIXEL_OK) return code;
-        icysixel_set_crop(&term->sixel, 1);
+        icysixel_set_height(&term->sixel, ICYSIXEL_HEIGHT_DRAWN);
         icysixel_set_lenient(&term->sixel, 1);
         icysixel_set_registers(&term->sixel, 0, palette, sizeof palette / sizeof *palette);
         icysixel_set_limit(&term->sixel, SCREEN_WIDTH * SCREEN_HEIGHT);
@@ -34,15 +34,22 @@ static uint32_t begin_image(struct terminal *term)
     return ICYSIXEL_OK;
 }
 
-/* Finishes the image and draws it. */
+/* Reserves the rows of cells for an image that is so high, and scrolls. */
+static void reserve_rows(struct terminal *term, size_t height)
+{
+    for (; term->rows * CELL_HEIGHT < height; term->rows++) putchar('\n');
+}
+
+/* Finishes the image and draws it. The cursor stays where it is if the image is empty. */
 static uint32_t end_image(struct terminal *term)
 {
     icysixel_shape shape;
     icysixel_bytes pixels = {0};
     uint32_t code = icysixel_finish(&term->sixel, &shape);
-    if (code == ICYSIXEL_OK)
-        code = icysixel_take_pixels(&term->sixel, ICYSIXEL_ORDER_RGBA, &pixels);
+    if (code != ICYSIXEL_OK || shape.is_empty) return code;
+    code = icysixel_take_pixels(&term->sixel, ICYSIXEL_ORDER_RGBA, &pixels);
     if (code != ICYSIXEL_OK) return code;
+    reserve_rows(term, shape.height);
     const uint8_t *last = pixels.data + pixels.length - 4;
     printf("[%zu x %zu pixels on %zu rows, the last pixel is %02x%02x%02x]", shape.width,
            shape.height, term->rows, last[0], last[1], last[2]);
@@ -64,10 +71,8 @@ static void reject_image(struct terminal *term, uint32_t code)
 static size_t read_payload(struct terminal *term, const uint8_t *bytes, size_t length)
 {
     icysixel_fed fed = {0};
-    icysixel_size size;
     uint32_t code = icysixel_feed(&term->sixel, bytes, length, &fed);
-    if (icysixel_get_size_so_far(&term->sixel, &size) == ICYSIXEL_OK)
-        for (; term->rows * CELL_HEIGHT < size.height; term->rows++) putchar('\n');
+    reserve_rows(term, icysixel_get_drawn_height(&term->sixel));
     if (code == ICYSIXEL_OK && fed.status == ICYSIXEL_COMPLETE) {
         code = end_image(term);
         term->state = TEXT; /* the terminator is not consumed: the parser reads it */

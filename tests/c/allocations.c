@@ -263,8 +263,8 @@ static void test_no_allocation(void)
     icysixel_set_register(&h, 1, 1, 2, 3);
     OK(icysixel_get_register(&h, 1, &color));
     icysixel_reset_registers(&h), icysixel_set_registers(&h, 2, &color, 1);
-    icysixel_set_crop(&h, 1), icysixel_set_limit(&h, 99), icysixel_set_clip(&h, 9, 8);
-    CHECK(color.green == 2 && icysixel_get_crop(&h) == 1 && icysixel_get_limit(&h) == 99);
+    icysixel_set_height(&h, 1), icysixel_set_limit(&h, 99), icysixel_set_clip(&h, 9, 8);
+    CHECK(color.green == 2 && icysixel_get_height(&h) == 1 && icysixel_get_limit(&h) == 99);
     OK(icysixel_get_clip(&h, &size));
     icysixel_begin_dcs(&h);
     OK(icysixel_feed(&h, (const uint8_t *)"\033P9;1q#1;2;9;9;9$-!", 19, &fed));

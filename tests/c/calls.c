@@ -64,7 +64,7 @@ static void make_silent_calls(void)
 {
     icysixel_begin_dcs(h), icysixel_begin_payload(h, 9, 1), icysixel_abort(h);
     icysixel_discard_image(h), icysixel_set_register(h, 1, 2, 3, 4);
-    icysixel_set_registers(h, 1, &color, 1), icysixel_reset_registers(h), icysixel_set_crop(h, 1);
+    icysixel_set_registers(h, 1, &color, 1), icysixel_reset_registers(h), icysixel_set_height(h, 1);
     icysixel_set_lenient(h, 1), icysixel_set_limit(h, 1), icysixel_set_clip(h, 1, 1);
 }
 
@@ -97,7 +97,7 @@ static void test_empty_handle(void)
     CHECK(block.length == 7 && color.red == 7 && length == 7 && memcmp(buffer, "\7\7\7\7", 4) == 0);
     CHECK(icysixel_copy_text(h, NULL, 0, &length) == ICYSIXEL_NO_HANDLE && length == 0);
     CHECK((icysixel_is_receiving(h) | icysixel_in_payload(h) | icysixel_get_canvas_paints(h)
-           | icysixel_get_drawn_height(h) | icysixel_get_rows_so_far(h) | icysixel_get_crop(h)
+           | icysixel_get_drawn_height(h) | icysixel_get_rows_so_far(h) | icysixel_get_height(h)
            | icysixel_get_lenient(h) | icysixel_get_limit(h)) == 0);
     icysixel_free(h);
 }
@@ -267,18 +267,25 @@ static void test_lenient(void)
     RETURNS(MALFORMED, FEED("!65536~"));
 }
 
-/* Rows that crop cuts off are not stored, whether they were released or not. */
+/* Rows below the end of an image are not stored, whether they were released or not. */
 static void test_cropped_rows(void)
 {
-    static const char *const chunks[] = {"\"1;1;1;3~-~", "\"1;1;1;9~-~"};
-    EACH(chunk, chunks) {
-        size_t height = line_number == 0 ? 3 : 9, first = line_number == 0 ? 3 : 6;
-        icysixel_set_crop(h, 1), icysixel_begin_payload(h, 9, 1), icysixel_set_crop(h, 0);
-        CHECK(FEED(*chunk) == OK && icysixel_release_rows(h, 6) == OK);
+    static const struct { const char *data; uint8_t end; size_t height, first; } images[] = {
+        {"\"1;1;1;3~-~", 1, 3, 3}, {"\"1;1;1;9~-~", 1, 9, 6}, {"\"1;1;1;3~-@", 2, 7, 6},
+        {"\"1;1;1;3A-?", 2, 3, 3}, {"A-?", 2, 2, 2}, {"?-?", 2, 0, 0}, {"A-?", 1, 12, 6},
+    };
+    EACH(row, images) {
+        icysixel_bytes pixels = {0};
+        icysixel_begin_payload(h, 9, 1), icysixel_set_height(h, row->end);
+        CHECK(FEED(row->data) == OK && icysixel_release_rows(h, 6) == OK);
         RETURNS(OK, icysixel_finish(h, &shape));
-        CHECK(shape.height == height && shape.first_row == first);
-        CHECK(shape.bytes == 4 * (height - first) && HAS_IMAGE);
+        CHECK(shape.height == row->height && shape.first_row == row->first);
+        CHECK(shape.bytes == 4 * (row->height - row->first) && HAS_IMAGE);
+        RETURNS(OK, icysixel_take_pixels(h, 0, &pixels));
+        CHECK(pixels.length == shape.bytes);
+        icysixel_free_bytes(&pixels);
     }
+    icysixel_set_height(h, ICYSIXEL_HEIGHT_BANDS);
 }
 
 /* Stored pixels are copied row by row with a stride, as often as wanted. */
@@ -328,10 +335,10 @@ static void test_new_on_full_handle(void)
         CHECK(icysixel_new(h) == OK && icysixel_is_empty(h) == 0 && red_of_1() == 51);
         CHECK(icysixel_is_receiving(h) == 0);
         RETURNS(NO_TEXT, icysixel_copy_text(h, NULL, 0, &wanted));
-        CHECK(!HAS_IMAGE && icysixel_get_limit(h) == 67108864 && icysixel_get_crop(h) == 0);
+        CHECK(!HAS_IMAGE && icysixel_get_limit(h) == 67108864 && icysixel_get_height(h) == 0);
         CHECK(DECODE(red) == OK && red_of_1() == 255);
         RETURNS(OK, icysixel_encode(h, BYTES("rgb\377"), 0, 1, 1, 9, 1, 256, &length));
-        icysixel_set_limit(h, 99), icysixel_set_crop(h, 1);
+        icysixel_set_limit(h, 99), icysixel_set_height(h, 1);
         icysixel_begin_payload(h, 9, 1);
         if (line_number > 0) RETURNS(OK, FEED("!7~"));
         if (line_number > 1) RETURNS(MALFORMED, FEED("!65536~"));
@@ -355,7 +362,7 @@ static void test_errors(void)
  * where it is at most the height. */
 static void test_drawn_height(void)
 {
-    static const struct { const char *data; uint8_t crop; size_t rows, height, drawn; } images[] = {
+    static const struct { const char *data; uint8_t end; size_t rows, height, drawn; } images[] = {
         {"", 0, 99, 1, 0}, {"?", 0, 99, 6, 0}, {"~-@", 0, 99, 12, 7}, {"~-B", 0, 2, 2, 2},
         {"~-B", 0, 8, 8, 8}, {"~-B", 0, 11, 11, 8}, {"\"1;1;1;3~", 0, 99, 6, 6},
         {"\"1;1;1;3~", 1, 99, 3, 3}, {"\"1;1;1;9~", 1, 99, 9, 6}, {"\"1;1;1;2@-@", 1, 99, 2, 2},
@@ -365,13 +372,16 @@ static void test_drawn_height(void)
         {"B-!9?$#1A", 0, 99, 12, 8}, {"!300A-!300@", 0, 99, 12, 7}, {"\"1;1;5;20B", 0, 99, 20, 2},
         {"\"1;1;20;12@@@@@@@@@@A@@@@", 0, 99, 12, 2}, {"@-B!5", 0, 99, 12, 8},
         {"\"1;1;20;12AAAAAAAAAA-@@@@@@@@@@", 0, 99, 12, 7}, {"@", 0, 99, 6, 1},
+        {"", 2, 99, 0, 0}, {"?-???", 2, 99, 0, 0}, {"~-B", 2, 99, 8, 8}, {"~-B", 2, 7, 7, 6},
+        {"\"1;1;1;3~", 2, 99, 6, 6}, {"\"1;1;1;9~", 2, 99, 9, 6}, {"\"1;1;1;9", 2, 4, 4, 0},
+        {"\"1;1;1;9~-?", 2, 99, 9, 6}, {"~\"1;1;1;3", 3, 99, 6, 6}, {"?-", 1, 99, 6, 0},
     };
     EACH(row, images) {
-        icysixel_set_crop(h, row->crop), icysixel_set_clip(h, 999, row->rows);
+        icysixel_set_height(h, row->end), icysixel_set_clip(h, 999, row->rows);
         for (int call = 0; call < 3; call++) {
             icysixel_begin_payload(h, 9, 1);
             RETURNS(OK, FEED(row->data));
-            CHECK(row->crop == 1 || icysixel_get_drawn_height(h) == row->drawn);
+            CHECK(row->end == 1 || icysixel_get_drawn_height(h) == row->drawn);
             const uint32_t code = call == 0 ? DECODE(row->data)
                 : call == 1 ? icysixel_decode_payload(h, BYTES(row->data), 9, 1, &shape)
                 : icysixel_finish(h, &shape);
@@ -379,7 +389,7 @@ static void test_drawn_height(void)
             shape = (icysixel_shape){0};
         }
     }
-    icysixel_set_crop(h, 0), icysixel_set_clip(h, SIZE_MAX, SIZE_MAX);
+    icysixel_set_height(h, 0), icysixel_set_clip(h, SIZE_MAX, SIZE_MAX);
 }
 
 /* The size in raster attributes, as the data have it, and whether an image is empty, so that a
@@ -441,14 +451,15 @@ static void test_registers(void)
     CHECK(red_of_1() == 51);
 }
 
-/* Crop, lenience, limit and clip are set and reported. */
+/* Height, lenience, limit and clip are set and reported. */
 static void test_settings(void)
 {
     static const size_t limits[][2] = {{71, 71}, {0, 1}, {SIZE_MAX, 67108864}};
-    icysixel_set_crop(h, 2);
-    CHECK(icysixel_get_crop(h) == 1);
-    icysixel_set_crop(h, 0);
-    CHECK(icysixel_get_crop(h) == 0 && icysixel_get_lenient(h) == 0);
+    for (int height = 3; height >= 0; height--) {
+        icysixel_set_height(h, (uint8_t)height);
+        CHECK(icysixel_get_height(h) == (height > 2 ? 2 : height));
+    }
+    CHECK(icysixel_get_lenient(h) == 0);
     EACH(row, limits) {
         icysixel_set_limit(h, (*row)[0]);
         CHECK(icysixel_get_limit(h) == (*row)[1]);

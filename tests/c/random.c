@@ -63,13 +63,13 @@ static struct bytes random_data(bool is_string)
     return data;
 }
 
-/* How data are decoded: the parameters of a payload, the crop, and whether they are a sequence. */
-static _Thread_local struct { bool is_string; uint8_t crop; int32_t p1, p2; } settings;
+/* How data are decoded: a payload's parameters, the height, and whether they are a sequence. */
+static _Thread_local struct { bool is_string; uint8_t height; int32_t p1, p2; } settings;
 
 static icysixel new_decoder(void)
 {
     icysixel decoder = new_handle();
-    icysixel_set_limit(&decoder, 20000), icysixel_set_crop(&decoder, settings.crop);
+    icysixel_set_limit(&decoder, 20000), icysixel_set_height(&decoder, settings.height);
     if (settings.is_string) icysixel_begin_dcs(&decoder);
     else icysixel_begin_payload(&decoder, settings.p1, settings.p2);
     return decoder;
@@ -116,7 +116,7 @@ static void try_rows(struct bytes data, const struct outcome *image)
 static void try_data(bool is_string)
 {
     struct bytes data = random_data(is_string);
-    settings.is_string = is_string, settings.crop = (uint8_t)below(2);
+    settings.is_string = is_string, settings.height = (uint8_t)below(3);
     settings.p1 = (int32_t)below(12) - 1, settings.p2 = (int32_t)below(4) - 1;
     icysixel whole = new_decoder(), parts = new_decoder();
     icysixel_shape shape = {0};

@@ -48,7 +48,7 @@ static void check_outcome(icysixel *decoder, uint32_t code, icysixel_shape shape
 static icysixel decoder_of(const struct vector *vector)
 {
     icysixel decoder = new_handle();
-    icysixel_set_crop(&decoder, vector->is_cropped);
+    icysixel_set_height(&decoder, vector->is_cropped);
     icysixel_set_limit(&decoder, vector->limit);
     icysixel_set_clip(&decoder, vector->clip.width, vector->clip.height);
     return decoder;

@@ -1,7 +1,7 @@
 -- An image that a receiver has finished. Rows that were released are the caller's: the pixels are
 -- those of the rows below them. Which image that is, by DEC's manual, is in Payload of sixel_base.
-use Rattle.std.specs.Prelude.{ℕ, ◌+◌, ◌-◌, ◌==◌, max, nat_lt, Bool, ◌&&◌, if◌then◌else◌}
-use Rattle.std.specs.Prelude.{List, [], ◌∷◌, ◌++◌, Option, Some}
+use Rattle.std.specs.Prelude.{ℕ, ◌≡◌, ◌+◌, ◌-◌, ◌*◌, ◌==◌, max, min, nat_lt, Bool, ◌&&◌}
+use Rattle.std.specs.Prelude.{if◌then◌else◌, List, [], ◌∷◌, ◌++◌, take, Option, Some}
 use Rattle.sixel_base.specs.CallFault.{CallFault, RowsNotFinal, RowsReleased}
 use Rattle.sixel_base.specs.Payload.{Image}
 use Rattle.sixel_base.specs.Picture.{picture}
@@ -69,3 +69,19 @@ abbrev pub end_of : ReceivedImage → Height → ℕ
 end_of image Bands = image.height
 end_of image Raster = if image.raster_height == 0 then image.height else image.raster_height
 end_of image Drawn = max image.raster_height image.drawn_height
+
+-- The second image is the first one, ended at this height if it is higher.
+pub record IsCropped (whole image : ReceivedImage) (end : Height) : Type 0 where
+  pub height : image.height ≡ min whole.height (end_of whole end)
+  -- the rows that were released and those that are left
+  pub first : image.first_row ≡ min whole.first_row image.height
+  pub pixels : image.pixels.items
+      ≡ take (4 * (image.width * (image.height - image.first_row))) whole.pixels.items
+  pub drawn : image.drawn_height ≡ min whole.drawn_height image.height
+  -- the rest stays
+  pub width : image.width ≡ whole.width
+  pub raster_width : image.raster_width ≡ whole.raster_width
+  pub raster_height : image.raster_height ≡ whole.raster_height
+  pub ignored : image.ignored_commands ≡ whole.ignored_commands
+  pub aspect_ratio : image.aspect_ratio ≡ whole.aspect_ratio
+  pub background_mode : image.background_mode ≡ whole.background_mode

@@ -196,6 +196,13 @@ enum icysixel_order {
     ICYSIXEL_ORDER_BGRA = 1  /* blue, green, red, alpha, as most window systems have them */
 };
 
+/* Where images end. */
+enum icysixel_height {
+    ICYSIXEL_HEIGHT_BANDS = 0,  /* at the last band of six rows, or below at the raster height */
+    ICYSIXEL_HEIGHT_RASTER = 1, /* at the raster height if it is above 0, else as above */
+    ICYSIXEL_HEIGHT_DRAWN = 2   /* at the raster height, or below at the last row drawn */
+};
+
 /* Kinds of dithering. */
 enum icysixel_dither {
     ICYSIXEL_DITHER_OFF = 0,       /* none: each pixel gets its nearest entry */
@@ -220,9 +227,9 @@ enum icysixel_status {
 
 /* -- Handles -- */
 
-/* Creates a decoder with default registers, no crop, no clip and a limit of 67,108,864 pixels. Its
- * images are not lenient. What the handle contained is freed first. With ICYSIXEL_OUT_OF_MEMORY the
- * handle is empty. */
+/* Creates a decoder with default registers, no clip and a limit of 67,108,864 pixels. Its images
+ * end at their last band, and are not lenient. What the handle contained is freed first. With
+ * ICYSIXEL_OUT_OF_MEMORY the handle is empty. */
 uint32_t icysixel_new(icysixel *handle);
 
 /* Frees the decoder and all that it stores, and empties the handle. */
@@ -269,14 +276,14 @@ uint32_t icysixel_get_size_so_far(icysixel *handle, icysixel_size *size);
 /* Returns the last row of the open image with a set pixel, plus one. It is 0 if there is none, if
  * no image is open, and after an error. The height of an image with sixels and without raster
  * attributes is a multiple of six, and this number can be less. The shape of the finished image
- * has it too, or the height if crop ends the image above that row. It does not allocate. */
+ * has it too, or the height if the image ends above that row. It does not allocate. */
 size_t icysixel_get_drawn_height(icysixel *handle);
 
 /* Returns how many rows from the top of the open image are final. No byte that follows changes a
  * pixel of these rows, and the number never becomes smaller while the image is open and no feed
  * fails. The image may still become wider, and then these rows show the background on the right.
- * With crop the image may end above them. It is 0 before the payload, after an error, and if no
- * image is open. It does not allocate. */
+ * The finished image may end above them, by icysixel_set_height. The number is 0 before the
+ * payload, after an error, and if no image is open. It does not allocate. */
 size_t icysixel_get_rows_so_far(icysixel *handle);
 
 /* Returns the work of painting: how many columns of six pixels were written so far. A wide sixel
@@ -383,11 +390,16 @@ void icysixel_set_registers(icysixel *handle, uint8_t first, const icysixel_colo
 /* Resets all registers to those of a new decoder, for images that are begun afterwards. */
 void icysixel_reset_registers(icysixel *handle);
 
-/* Returns 1 if images are cropped to the height in their raster attributes. */
-uint8_t icysixel_get_crop(icysixel *handle);
+/* Returns where images end, an enum icysixel_height. */
+uint8_t icysixel_get_height(icysixel *handle);
 
-/* Sets whether images that are begun afterwards are cropped: 0 is off, any other number is on. */
-void icysixel_set_crop(icysixel *handle, uint8_t on);
+/* Sets where images end that are finished or decoded afterwards. `height` is an enum
+ * icysixel_height, and numbers above 2 are ICYSIXEL_HEIGHT_DRAWN, too. Most images have a height
+ * that is no multiple of six. With ICYSIXEL_HEIGHT_BANDS they have background rows at the bottom.
+ * ICYSIXEL_HEIGHT_DRAWN is the height of foot, xterm and libsixel: the greater of the raster height
+ * and the drawn height. It is 0 for an empty image, which then has no rows. No row is added to an
+ * image, and a clip ends it first. icysixel_get_size_so_far does not depend on this setting. */
+void icysixel_set_height(icysixel *handle, uint8_t height);
 
 /* Returns 1 if images are lenient. */
 uint8_t icysixel_get_lenient(icysixel *handle);

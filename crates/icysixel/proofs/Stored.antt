@@ -1,15 +1,46 @@
--- The image that a call stored is the one that it decoded.
-use Rattle.std.proofs.Common.{◌≡◌, Option, Some, None, Result, Ok, Err, OnErr, IfOk, subst, arith}
+-- The image that a call stored is the one that it decoded, ended at the height that is set.
+use Rattle.std.proofs.Common.{◌≡◌, Option, Some, None, Result, Ok, Err, OnErr, IfOk, arith}
+use Rattle.sixel_base.specs.OneShot.{Found}
 use Rattle.sixel_base.specs.declared.error.SixelError.{SixelError}
+use Rattle.sixel_base.specs.declared.state.DecoderState.{DecoderState}
+use Rattle.sixel_decoder.specs.OneShotCalls.{IsDecoded}
+use Rattle.sixel_decoder.specs.Report.{found_report}
+use Rattle.icy_sixel.specs.ReceivedImages.{IsCropped, left_value, received_report}
+use Rattle.icy_sixel.specs.declared.receiver.received_image.Height.{Height}
 use Rattle.icy_sixel.specs.declared.receiver.received_image.ReceivedImage.{ReceivedImage}
+use Rattle.icysixel.specs.Heights.{IsDecodedWhole, IsEnded}
 
--- what holds of the image that was decoded holds of the one that is stored
-pub of_stored :
-    (answer : Result ReceivedImage SixelError) (stored : Option ReceivedImage)
-    (P : ReceivedImage → Type 0) → IfOk answer P → IfOk answer (λ found. stored ≡ Some found)
+whole : (answer : Result ReceivedImage SixelError) (decoder : DecoderState) (payload : Found)
+    → IsDecoded left_value decoder payload answer
+    → IfOk answer (λ image. image.first_row ≡ 0)
+    → IfOk answer (λ image. received_report image ≡ found_report decoder payload)
+    → IfOk answer (IsDecodedWhole decoder payload)
+whole (Ok image) decoder payload is first report =
+    record { first = first; image = is.image; report = report }
+whole (Err error) decoder payload is first report = tt
+
+ended : (answer : Result ReceivedImage SixelError) (stored : Option ReceivedImage)
+    (height : Height) (IsWhole : ReceivedImage → Type 0) → IfOk answer IsWhole
+    → ((image : ReceivedImage) → stored ≡ Some image
+    → IfOk answer (λ whole. IsCropped whole image height))
     → OnErr answer (stored ≡ None)
-    → (image : ReceivedImage) → stored ≡ Some image → P image
-of_stored (Ok found) stored P holds is none image stored_is =
-    subst P (grind (arith, is, stored_is)) holds
-of_stored (Err error) stored P holds is none image stored_is =
+    → (image : ReceivedImage) → stored ≡ Some image → IsEnded height IsWhole image
+ended (Ok found) stored height IsWhole holds is none image stored_is =
+    record { whole = found; is_whole = holds; is_cropped = is image stored_is }
+ended (Err error) stored height IsWhole holds is none image stored_is =
     absurd (grind (arith, none, stored_is))
+
+-- the image of a payload that was decoded
+pub of_stored : (answer : Result ReceivedImage SixelError) (stored : Option ReceivedImage)
+    (height : Height) (decoder : DecoderState) (payload : Found)
+    → IsDecoded left_value decoder payload answer
+    → IfOk answer (λ image. image.first_row ≡ 0)
+    → IfOk answer (λ image. received_report image ≡ found_report decoder payload)
+    → ((image : ReceivedImage) → stored ≡ Some image
+    → IfOk answer (λ whole. IsCropped whole image height))
+    → OnErr answer (stored ≡ None)
+    → (image : ReceivedImage) → stored ≡ Some image
+    → IsEnded height (IsDecodedWhole decoder payload) image
+of_stored answer stored height decoder payload is first report cropped none =
+    ended answer stored height (IsDecodedWhole decoder payload)
+    (whole answer decoder payload is first report) cropped none

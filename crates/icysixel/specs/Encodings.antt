@@ -12,7 +12,7 @@ use Rattle.sixel_encoder.specs.declared.form.TextForm.{TextForm}
 use Rattle.sixel_encoder.specs.declared.form.TextForm.TheVariants.{Plain, Compact}
 use Rattle.icysixel.specs.Code.{IsCodeOf, ReturnsBy}
 use Rattle.icysixel.specs.Drawn.{image_of}
-use Rattle.icysixel.specs.Kept.{kept_text}
+use Rattle.icysixel.specs.Kept.{IsImageKept, kept_text}
 use Rattle.icysixel.specs.Rows.{bytes_of, has_gaps, stride_of}
 use Rattle.icysixel.specs.declared.encoding.Dithering.{Dithering}
 use Rattle.icysixel.specs.declared.encoding.Encoding.{Encoding}
@@ -63,5 +63,4 @@ pub record IsEncodeCall (before after : Option State) (stride : ℕ) (image : Im
   pub same_length : code ≢ 0 → new_length ≡ old_length
   pub decoder : (old new : State) → before ≡ Some old → after ≡ Some new
       → new.receiver ≡ old.receiver
-  pub same_image : (old new : State) → before ≡ Some old → after ≡ Some new
-      → new.image ≡ old.image
+  pub same_image : (old new : State) → before ≡ Some old → after ≡ Some new → IsImageKept old new

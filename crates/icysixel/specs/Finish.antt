@@ -6,14 +6,26 @@ use Rattle.sixel_base.specs.Decoder.{IsSetAs}
 use Rattle.sixel_base.specs.OneShot.{IsFoundImage, AreFoundRegisters, IsDecodedAs}
 use Rattle.sixel_decoder.specs.Report.{found_report}
 use Rattle.icy_sixel.specs.ReceivedImages.{received_report}
-use Rattle.icy_sixel.specs.Receiver.{end_fault, end_wants, is_open, is_over, no_image}
+use Rattle.icy_sixel.specs.Receiver.{Reception, end_fault, end_wants, is_open, is_over, no_image}
 use Rattle.icy_sixel.specs.Receiver as receivers
 use Rattle.icy_sixel.specs.ReceiverCalls.{whole_of}
 use Rattle.icy_sixel.specs.declared.receiver.received_image.ReceivedImage.{ReceivedImage}
 use Rattle.icysixel.specs.Code.{IsTold, fault_code}
+use Rattle.icysixel.specs.Heights.{IsEnded}
 use Rattle.icysixel.specs.Shape.{shape_of}
 use Rattle.icysixel.specs.declared.shape.Shape.{Shape}
 use Rattle.icysixel.specs.declared.state.State.{State}
+
+-- the image that was received, and these registers after it
+pub record IsReceived (open : Reception) (registers : List (List ℕ)) (image : ReceivedImage)
+    : Type 0 where
+  -- with the rows that were released above those that are left it is that of its bytes
+  pub image : IsFoundImage open.start (receivers.found open.form open.bytes) (whole_of open image)
+  pub report : received_report image
+      ≡ found_report open.start (receivers.found open.form open.bytes)
+  -- it is what decoding in one call finds, whatever bytes follow a DCS sequence
+  pub as_decoded : (more : List ℕ) → IsDecodedAs open.start
+      (receivers.found_followed open.form open.bytes more) (whole_of open image) registers
 
 -- the open image was closed; code 0 stores it and reports its shape, another one is an error
 pub record IsFinished (before after : State) (now : Shape) (code : ℕ) : Type 0 where
@@ -21,16 +33,11 @@ pub record IsFinished (before after : State) (now : Shape) (code : ℕ) : Type 0
   pub closed : after.receiver.image ≡ no_image
   -- the image and its shape, with code 0
   pub found : code ≡ 0 → is_some after.image ≡ true
-  -- with the rows that were released above those that are left it is that of its bytes
-  pub image : (image : ReceivedImage) → after.image ≡ Some image
-      → IsFoundImage before.receiver.image.start
-      (receivers.found before.receiver.image.form before.receiver.image.bytes)
-      (whole_of before.receiver.image image)
+  -- it is the one that was received, ended at the height that is set
+  pub image : (image : ReceivedImage) → after.image ≡ Some image → IsEnded before.height
+      (IsReceived before.receiver.image after.receiver.decoder.registers) image
   pub first : (image : ReceivedImage) → after.image ≡ Some image
       → image.first_row ≡ min before.receiver.image.released image.height
-  pub report : (image : ReceivedImage) → after.image ≡ Some image
-      → received_report image ≡ found_report before.receiver.image.start
-      (receivers.found before.receiver.image.form before.receiver.image.bytes)
   pub shape : (image : ReceivedImage) → after.image ≡ Some image → now ≡ shape_of image
       (is_over before.receiver.image.form before.receiver.image.bytes)
   pub bytes : code ≡ 0 → now.bytes ≡ 4 * (now.width * (now.height - now.first_row))
@@ -38,17 +45,13 @@ pub record IsFinished (before after : State) (now : Shape) (code : ℕ) : Type 0
   pub registers : code ≡ 0 → AreFoundRegisters before.receiver.image.start
       (receivers.found before.receiver.image.form before.receiver.image.bytes)
       after.receiver.decoder.registers
-  -- it is what decoding in one call finds, whatever bytes follow a DCS sequence
-  pub as_decoded : (image : ReceivedImage) (more : List ℕ) → after.image ≡ Some image
-      → IsDecodedAs before.receiver.image.start
-      (receivers.found_followed before.receiver.image.form before.receiver.image.bytes more)
-      (whole_of before.receiver.image image) after.receiver.decoder.registers
   pub accepted : code ≡ 0 → before.receiver.image.is_refused ≡ false
   pub faultless : code ≡ 0 → end_fault before.receiver.image.start.pixel_limit
       before.receiver.image.form before.receiver.image.bytes ≡ None
   -- what stays
   pub set : IsSetAs before.receiver.decoder after.receiver.decoder
   pub text : after.text ≡ before.text
+  pub height : after.height ≡ before.height
   pub kept : code ≢ 0 → after.receiver.decoder ≡ before.receiver.decoder
   pub dropped : code ≢ 0 → after.image ≡ None
   -- an error is that of the bytes

@@ -8,6 +8,10 @@ use Rattle.icysixel.specs.declared.state.State.{State}
 abbrev pub kept_text : State → Option (List ℕ)
 kept_text state = option_map string_bytes state.text
 
--- a call changes neither
+-- a call changes neither the image nor where images end
+abbrev pub IsImageKept : State → State → Type 0
+IsImageKept before after = (after.image ≡ before.image) × (after.height ≡ before.height)
+
+-- nor the text
 abbrev pub AreKept : State → State → Type 0
-AreKept before after = (after.image ≡ before.image) × (after.text ≡ before.text)
+AreKept before after = IsImageKept before after × (after.text ≡ before.text)

@@ -6,6 +6,7 @@ pub mod Encodings
 pub mod Feed
 pub mod FinalRows
 pub mod Finish
+pub mod Heights
 pub mod Kept
 pub mod RefinedOutput
 pub mod Rows

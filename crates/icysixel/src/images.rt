@@ -45,8 +45,7 @@ fn finish(state: &mut State, shape: &mut Shape) -> u32
     let is_complete = state.receiver.has_ended();
     match state.receiver.finish() {
         Ok(image) => {
-            *shape = Shape::of(&image, is_complete);
-            state.store_image(Some(image));
+            state.store_ended(image, is_complete, shape);
             Code::Success as u32
         }
         Err(error) => code_of(&error),
@@ -119,6 +118,8 @@ pub extern "C" fn icysixel_take_pixels(
         → slot.new.handle.state ≡ Some after → after.receiver ≡ before.receiver }
     ensures text { (before after : State) → slot.old.handle.state ≡ Some before
         → slot.new.handle.state ≡ Some after → after.text ≡ before.text }
+    ensures height { (before after : State) → slot.old.handle.state ≡ Some before
+        → slot.new.handle.state ≡ Some after → after.height ≡ before.height }
 {
     if !slot.is_held() {
         return Code::NoHandle as u32;
@@ -137,6 +138,7 @@ fn transfer(alloc: Global, state: &mut State, order: u8, bytes: &mut Bytes) -> u
     ensures same { result ≢ 0 → state.new ≡ state.old }
     ensures receiver { state.new.receiver ≡ state.old.receiver }
     ensures text { state.new.text ≡ state.old.text }
+    ensures height { state.new.height ≡ state.old.height }
 {
     let Some(image) = state.take_image() else {
         return Code::NoImage as u32;
@@ -159,7 +161,8 @@ pub extern "C" fn icysixel_free_bytes(alloc: Global, bytes: &mut Bytes)
 #[unsafe(no_mangle)]
 pub extern "C" fn icysixel_discard_image(slot: &mut Slot)
     ensures { Acts (λ old new.
-        (new.image ≡ None) × ((new.text ≡ None) × (new.receiver ≡ old.receiver)))
+        (new.image ≡ None) × ((new.text ≡ None)
+        × ((new.receiver ≡ old.receiver) × (new.height ≡ old.height))))
         slot.old.handle.state slot.new.handle.state }
 {
     if slot.is_held() {

@@ -1,36 +1,46 @@
-//! The calls that read and set crop, lenience, the limit of pixels and the clip.
+//! The calls that read and set where images end, lenience, the limit of pixels and the clip.
 
 ghost use Rattle.std.specs.Prelude.{◌≡◌, ◌≢◌, ◌==◌, Some, None, is_some, true, not, cond};
 ghost use Rattle.sixel_base.specs.Decoder.{with_clip, with_lenient, with_pixel_limit};
-ghost use Rattle.icysixel.specs.Changes.{IsSet};
+ghost use Rattle.icysixel.specs.Changes.{Acts, IsSet};
+ghost use Rattle.icysixel.specs.Heights.{height_of, number_of};
 ghost use Rattle.icysixel.specs.declared.state.State.{State};
 
 use crate::code::Code;
 use crate::progress::Size;
 use crate::slot::Slot;
+use icy_sixel::Height;
 
-/// Returns 1 if images are cropped to their raster attributes, and 0 if not.
+/// Returns where images end, as [`icysixel_set_height`] has it.
 #[unsafe(no_mangle)]
-pub extern "C" fn icysixel_get_crop(slot: &mut Slot) -> u8
+pub extern "C" fn icysixel_get_height(slot: &mut Slot) -> u8
     ensures same { slot.new.handle.state ≡ slot.old.handle.state }
     ensures none { slot.old.handle.state ≡ None → result ≡ 0 }
     ensures value { (state : State) → slot.old.handle.state ≡ Some state
-        → result ≡ cond state.receiver.decoder.raster_crop 1 0 }
+        → result ≡ number_of state.height }
 {
     if !slot.is_held() {
         return 0;
     }
-    u8::from(slot.state().receiver.decoder().raster_crop())
+    match slot.state().height {
+        Height::Bands => 0,
+        Height::Raster => 1,
+        Height::Drawn => 2,
+    }
 }
 
-/// Sets whether images are cropped: 0 is off, any other number is on.
+/// Sets where images end: 0 is the last band, 1 the raster height, any other number both heights.
 #[unsafe(no_mangle)]
-pub extern "C" fn icysixel_set_crop(slot: &mut Slot, on: u8)
-    ensures { IsSet (λ decoder. record decoder { raster_crop = not (on == 0) })
+pub extern "C" fn icysixel_set_height(slot: &mut Slot, height: u8)
+    ensures { Acts (λ old new. new ≡ record old { height = height_of height })
         slot.old.handle.state slot.new.handle.state }
 {
     if slot.is_held() {
-        slot.state().receiver.set_raster_crop(on != 0);
+        slot.state().height = match height {
+            0 => Height::Bands,
+            1 => Height::Raster,
+            _ => Height::Drawn,
+        };
     }
 }
 

@@ -2,15 +2,14 @@
 
 ghost use Rattle.std.specs.Prelude.{◌≡◌, ◌≢◌, ◌*◌, ◌≤◌, Some, None, is_some, true};
 ghost use Rattle.sixel_base.specs.Decoder.{IsSetAs, origin_of};
-ghost use Rattle.sixel_base.specs.OneShot.{IsFoundImage, AreFoundRegisters, Payload};
+ghost use Rattle.sixel_base.specs.OneShot.{AreFoundRegisters, Payload};
 ghost use Rattle.sixel_base.specs.OneShot.{found, found_fault, found_wants};
-ghost use Rattle.sixel_base.specs.Payload.{payload_fault, payload_image};
+ghost use Rattle.sixel_base.specs.Payload.{payload_fault};
 ghost use Rattle.sixel_base.specs.Payload.{payload_registers, payload_wants};
-ghost use Rattle.sixel_decoder.specs.Report.{found_report};
-ghost use Rattle.icy_sixel.specs.ReceivedImages.{left_value, received_report};
 ghost use Rattle.icy_sixel.specs.Receiver.{no_image};
 ghost use Rattle.icy_sixel.specs.declared.receiver.received_image.ReceivedImage.{ReceivedImage};
 ghost use Rattle.icysixel.specs.Code.{IsTold, settings_of};
+ghost use Rattle.icysixel.specs.Heights.{IsDecodedWhole, IsEnded};
 ghost use Rattle.icysixel.specs.Shape.{shape_of};
 ghost use Rattle.icysixel.specs.declared.state.State.{State};
 
@@ -39,12 +38,8 @@ pub extern "C" fn icysixel_decode(
         → is_some after.image ≡ true }
     ensures image { (before after : State) (image : ReceivedImage)
         → slot.old.handle.state ≡ Some before → slot.new.handle.state ≡ Some after
-        → after.image ≡ Some image
-        → IsFoundImage before.receiver.decoder (found bytes.now) (left_value image) }
-    ensures report { (before after : State) (image : ReceivedImage)
-        → slot.old.handle.state ≡ Some before → slot.new.handle.state ≡ Some after
-        → after.image ≡ Some image
-        → received_report image ≡ found_report before.receiver.decoder (found bytes.now) }
+        → after.image ≡ Some image → IsEnded before.height
+        (IsDecodedWhole before.receiver.decoder (found bytes.now)) image }
     ensures shape { (after : State) (image : ReceivedImage)
         → slot.new.handle.state ≡ Some after → after.image ≡ Some image
         → shape.new ≡ shape_of image true }
@@ -65,6 +60,8 @@ pub extern "C" fn icysixel_decode(
         → IsSetAs before.receiver.decoder after.receiver.decoder }
     ensures text { (before after : State) → slot.old.handle.state ≡ Some before
         → slot.new.handle.state ≡ Some after → after.text ≡ before.text }
+    ensures height { (before after : State) → slot.old.handle.state ≡ Some before
+        → slot.new.handle.state ≡ Some after → after.height ≡ before.height }
     ensures kept { (before after : State) → slot.old.handle.state ≡ Some before
         → slot.new.handle.state ≡ Some after → result ≢ 0
         → after.receiver.decoder ≡ before.receiver.decoder }
@@ -103,12 +100,8 @@ pub extern "C" fn icysixel_decode_payload(
         → is_some after.image ≡ true }
     ensures image { (before after : State) (image : ReceivedImage)
         → slot.old.handle.state ≡ Some before → slot.new.handle.state ≡ Some after
-        → after.image ≡ Some image → left_value image
-        ≡ payload_image (origin_of before.receiver.decoder (settings_of p1 p2)) bytes.now }
-    ensures report { (before after : State) (image : ReceivedImage)
-        → slot.old.handle.state ≡ Some before → slot.new.handle.state ≡ Some after
-        → after.image ≡ Some image → received_report image
-        ≡ found_report before.receiver.decoder (Payload (settings_of p1 p2) bytes.now) }
+        → after.image ≡ Some image → IsEnded before.height
+        (IsDecodedWhole before.receiver.decoder (Payload (settings_of p1 p2) bytes.now)) image }
     ensures shape { (after : State) (image : ReceivedImage)
         → slot.new.handle.state ≡ Some after → after.image ≡ Some image
         → shape.new ≡ shape_of image true }
@@ -128,6 +121,8 @@ pub extern "C" fn icysixel_decode_payload(
         → IsSetAs before.receiver.decoder after.receiver.decoder }
     ensures text { (before after : State) → slot.old.handle.state ≡ Some before
         → slot.new.handle.state ≡ Some after → after.text ≡ before.text }
+    ensures height { (before after : State) → slot.old.handle.state ≡ Some before
+        → slot.new.handle.state ≡ Some after → after.height ≡ before.height }
     ensures kept { (before after : State) → slot.old.handle.state ≡ Some before
         → slot.new.handle.state ≡ Some after → result ≢ 0
         → after.receiver.decoder ≡ before.receiver.decoder }

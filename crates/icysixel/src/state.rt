@@ -1,23 +1,28 @@
 //! The state behind a handle: a receiver, the stored image and the stored text.
 
-ghost use Rattle.std.specs.Prelude.{◌≡◌, ◌≢◌, ◌*◌, ◌≤◌, ℕ, Bool, Option, Some, None, length};
+ghost use Rattle.std.specs.Prelude.{◌≡◌, ◌≢◌, ◌-◌, ◌*◌, ◌≤◌, ℕ, Bool, Option, Some, None, length};
 ghost use Rattle.std.specs.Prelude.{OnOk, OnErr, IfOk, IfErr, is_some, string_bytes, true};
 ghost use Rattle.sixel_base.specs.Decoder.{new_decoder};
 ghost use Rattle.sixel_base.specs.Fault.{Fault, Faults, IsFault};
+ghost use Rattle.icy_sixel.specs.ReceivedImages.{IsCropped};
 ghost use Rattle.icy_sixel.specs.Receiver.{idle};
+ghost use Rattle.icy_sixel.specs.declared.receiver.received_image.Height.TheVariants.{Bands};
+ghost use Rattle.icy_sixel.specs.declared.receiver.received_image.ReceivedImage.{ReceivedImage};
 ghost use Rattle.icysixel.specs.Code.{IsKnown, IsTold, fault_code};
 ghost use Rattle.icysixel.specs.Shape.{shape_of};
 
 use crate::code::{Code, code_of};
 use crate::shape::Shape;
 use icy_sixel::receiver::SixelReceiver;
-use icy_sixel::{ReceivedImage, SixelDecoder, SixelError};
+use icy_sixel::{Height, ReceivedImage, SixelDecoder, SixelError};
 use std::mem;
 
 /// A receiver, and the last image and the last text until the caller takes them.
 #[derive(Drop)]
 pub struct State {
     pub receiver: SixelReceiver,
+    /// Where images end that are finished or decoded.
+    pub height: Height,
     pub image: Option<ReceivedImage>,
     pub text: Option<String>,
 }
@@ -26,11 +31,13 @@ impl State {
     /// A new decoder, with nothing stored.
     pub fn new() -> State
         ensures receiver { result.receiver ≡ idle new_decoder }
+        ensures height { result.height ≡ Bands }
         ensures image { result.image ≡ None }
         ensures text { result.text ≡ None }
     {
         State {
             receiver: SixelReceiver::new(),
+            height: Height::Bands,
             image: None,
             text: None,
         }
@@ -42,6 +49,7 @@ impl State {
         ensures receiver { self.new.receiver ≡ idle decoder }
         ensures image { self.new.image ≡ self.old.image }
         ensures text { self.new.text ≡ self.old.text }
+        ensures height { self.new.height ≡ self.old.height }
     {
         mem::replace(&mut self.receiver, SixelReceiver::with_decoder(decoder)).into_decoder()
     }
@@ -51,6 +59,7 @@ impl State {
         ensures image { self.new.image ≡ image }
         ensures receiver { self.new.receiver ≡ self.old.receiver }
         ensures text { self.new.text ≡ self.old.text }
+        ensures height { self.new.height ≡ self.old.height }
     {
         self.image = image;
     }
@@ -63,15 +72,19 @@ impl State {
         answer: Result<ReceivedImage, SixelError>,
         shape: &mut Shape,
     ) -> u32
-        requires whole { IfOk answer (λ image. image.first_row ≡ 0) }
+        requires whole { IfOk answer (λ whole. whole.first_row ≡ 0) }
         requires known { IfErr answer IsKnown }
         ensures done { OnOk answer (result ≡ 0) }
-        ensures found { IfOk answer (λ image. self.new.image ≡ Some image) }
-        ensures some { result ≡ 0 → is_some self.new.image ≡ true }
-        ensures shape { IfOk answer (λ image. shape.new ≡ shape_of image true) }
+        ensures found { result ≡ 0 → is_some self.new.image ≡ true }
+        ensures image { (image : ReceivedImage) → self.new.image ≡ Some image
+            → IfOk answer (λ whole. IsCropped whole image self.old.height) }
+        ensures first { (image : ReceivedImage) → self.new.image ≡ Some image
+            → image.first_row ≡ 0 }
+        ensures shape { (image : ReceivedImage) → self.new.image ≡ Some image
+            → shape.new ≡ shape_of image true }
         ensures bytes { result ≡ 0 → shape.new.bytes ≡ 4 * (shape.new.width * shape.new.height) }
         ensures area { (limit : ℕ) → result ≡ 0
-            → IfOk answer (λ image. image.width * image.height ≤ limit)
+            → IfOk answer (λ whole. whole.width * whole.height ≤ limit)
             → shape.new.width * shape.new.height ≤ limit }
         ensures refused { OnErr answer (result ≢ 0) }
         ensures dropped { OnErr answer (self.new.image ≡ None) }
@@ -81,11 +94,11 @@ impl State {
             → IsTold result may_want found }
         ensures receiver { self.new.receiver ≡ self.old.receiver }
         ensures text { self.new.text ≡ self.old.text }
+        ensures height { self.new.height ≡ self.old.height }
     {
         match answer {
             Ok(image) => {
-                *shape = Shape::of(&image, true);
-                self.store_image(Some(image));
+                self.store_ended(image, true, shape);
                 Code::Success as u32
             }
             Err(error) => {
@@ -93,6 +106,26 @@ impl State {
                 code_of(&error)
             }
         }
+    }
+
+    /// Ends an image at the height that is set, stores it and writes its properties.
+    pub fn store_ended(&mut self, mut image: ReceivedImage, is_complete: bool, shape: &mut Shape)
+        ensures image { (ended : ReceivedImage) → self.new.image ≡ Some ended
+            → IsCropped image ended self.old.height }
+        ensures shape { (ended : ReceivedImage) → self.new.image ≡ Some ended
+            → shape.new ≡ shape_of ended is_complete }
+        ensures bytes { shape.new.bytes
+            ≡ 4 * (shape.new.width * (shape.new.height - shape.new.first_row)) }
+        ensures area { (limit : ℕ) → image.width * image.height ≤ limit
+            → shape.new.width * shape.new.height ≤ limit }
+        ensures found { is_some self.new.image ≡ true }
+        ensures receiver { self.new.receiver ≡ self.old.receiver }
+        ensures text { self.new.text ≡ self.old.text }
+        ensures height { self.new.height ≡ self.old.height }
+    {
+        image.crop(self.height);
+        *shape = Shape::of(&image, is_complete);
+        self.store_image(Some(image));
     }
 
     /// Stores an encoded text and writes its length, or returns the error.
@@ -105,6 +138,7 @@ impl State {
         ensures told { OnErr encoded (bytes.new ≡ bytes.old) }
         ensures receiver { self.new.receiver ≡ self.old.receiver }
         ensures image { self.new.image ≡ self.old.image }
+        ensures height { self.new.height ≡ self.old.height }
     {
         match encoded {
             Ok(text) => {
@@ -124,6 +158,7 @@ impl State {
         ensures text { self.new.text ≡ text }
         ensures receiver { self.new.receiver ≡ self.old.receiver }
         ensures image { self.new.image ≡ self.old.image }
+        ensures height { self.new.height ≡ self.old.height }
     {
         self.text = text;
     }
@@ -133,6 +168,7 @@ impl State {
         ensures image { self.new.image ≡ None }
         ensures text { self.new.text ≡ None }
         ensures receiver { self.new.receiver ≡ self.old.receiver }
+        ensures height { self.new.height ≡ self.old.height }
     {
         self.store_image(None);
         self.store_text(None);
@@ -145,6 +181,7 @@ impl State {
         ensures same { result ≡ None → self.new ≡ self.old }
         ensures receiver { self.new.receiver ≡ self.old.receiver }
         ensures text { self.new.text ≡ self.old.text }
+        ensures height { self.new.height ≡ self.old.height }
     {
         self.image.take()
     }
@@ -155,6 +192,7 @@ impl State {
         ensures same { code ≢ 0 → self.new ≡ self.old }
         ensures receiver { self.new.receiver ≡ self.old.receiver }
         ensures image { self.new.image ≡ self.old.image }
+        ensures height { self.new.height ≡ self.old.height }
     {
         if code == Code::Success as u32 {
             self.store_text(None);

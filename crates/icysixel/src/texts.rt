@@ -15,7 +15,7 @@ ghost use Rattle.icysixel.specs.Encodings.{IsEncodeCall, dither_of, encoded_imag
 ghost use Rattle.icysixel.specs.inside.Encoded.{IsOutputOf, output_fault};
 ghost use Rattle.icysixel.specs.Code.{IsCodeOf};
 ghost use Rattle.icysixel.specs.Drawn.{image_of};
-ghost use Rattle.icysixel.specs.Kept.{kept_text};
+ghost use Rattle.icysixel.specs.Kept.{IsImageKept, kept_text};
 ghost use Rattle.icysixel.specs.Rows.{bytes_of};
 ghost use Rattle.icysixel.specs.declared.state.State.{State};
 
@@ -69,7 +69,7 @@ pub extern "C" fn icysixel_encode(
     ensures decoder { (before after : State) → slot.old.handle.state ≡ Some before
         → slot.new.handle.state ≡ Some after → after.receiver ≡ before.receiver }
     ensures image { (before after : State) → slot.old.handle.state ≡ Some before
-        → slot.new.handle.state ≡ Some after → after.image ≡ before.image }
+        → slot.new.handle.state ≡ Some after → IsImageKept before after }
 {
     if !slot.is_held() {
         return Code::NoHandle as u32;
@@ -246,7 +246,7 @@ pub extern "C" fn icysixel_copy_text(slot: &mut Slot, buf: &mut [u8], bytes: &mu
     ensures decoder { (before after : State) → slot.old.handle.state ≡ Some before
         → slot.new.handle.state ≡ Some after → after.receiver ≡ before.receiver }
     ensures image { (before after : State) → slot.old.handle.state ≡ Some before
-        → slot.new.handle.state ≡ Some after → after.image ≡ before.image }
+        → slot.new.handle.state ≡ Some after → IsImageKept before after }
 {
     *bytes = 0;
     if !slot.is_held() {

@@ -9,6 +9,7 @@ mod stream;
 use crate::codes::error_of;
 use crate::error::Result;
 use crate::ffi::Handle;
+use crate::receiver::{Height, ReceivedImage};
 pub use crate::settings::DcsSettings;
 use crate::sixel_image::SixelImage;
 pub use crate::status::{SixelDcsFeedResult, SixelDcsFeedStatus, SixelFeedResult, SixelFeedStatus};
@@ -113,7 +114,7 @@ impl SixelDecoder {
     /// Whether images are cropped to their raster attributes; off in a new decoder.
     #[must_use]
     pub fn raster_crop(&self) -> bool {
-        self.shared().crop()
+        self.shared().height() == Height::Raster as u8
     }
 
     /// Sets whether images are cropped to their raster attributes.
@@ -123,7 +124,12 @@ impl SixelDecoder {
     /// they have one. Crop does not change the width, the pixels of the remaining rows, the
     /// registers and the errors.
     pub fn set_raster_crop(&mut self, on: bool) {
-        self.handle().set_crop(on);
+        self.set_height(if on { Height::Raster } else { Height::Bands });
+    }
+
+    /// Sets where images end.
+    pub(crate) fn set_height(&mut self, height: Height) {
+        self.handle().set_height(height as u8);
     }
 
     /// Whether images are lenient; off in a new decoder.

@@ -130,8 +130,8 @@ unsafe extern "C" {
     safe fn icysixel_get_register(handle: &mut Raw, number: u8, color: &mut Color) -> u32;
     safe fn icysixel_set_register(handle: &mut Raw, number: u8, red: u8, green: u8, blue: u8);
     safe fn icysixel_reset_registers(handle: &mut Raw);
-    safe fn icysixel_get_crop(handle: &mut Raw) -> u8;
-    safe fn icysixel_set_crop(handle: &mut Raw, on: u8);
+    safe fn icysixel_get_height(handle: &mut Raw) -> u8;
+    safe fn icysixel_set_height(handle: &mut Raw, height: u8);
     safe fn icysixel_get_lenient(handle: &mut Raw) -> u8;
     safe fn icysixel_set_lenient(handle: &mut Raw, on: u8);
     safe fn icysixel_get_limit(handle: &mut Raw) -> usize;
@@ -477,12 +477,12 @@ impl Handle {
         icysixel_reset_registers(&mut self.0);
     }
 
-    pub(crate) fn crop(&mut self) -> bool {
-        icysixel_get_crop(&mut self.0) != 0
+    pub(crate) fn height(&mut self) -> u8 {
+        icysixel_get_height(&mut self.0)
     }
 
-    pub(crate) fn set_crop(&mut self, on: bool) {
-        icysixel_set_crop(&mut self.0, u8::from(on));
+    pub(crate) fn set_height(&mut self, height: u8) {
+        icysixel_set_height(&mut self.0, height);
     }
 
     pub(crate) fn lenient(&mut self) -> bool {

@@ -30,7 +30,7 @@ impl Handle {
     pub(crate) fn copy(&mut self) -> Result<Self> {
         let mut copy = Self::new().map_err(error_of)?;
         copy.set_registers(0, &self.registers());
-        copy.set_crop(self.crop());
+        copy.set_height(self.height());
         copy.set_lenient(self.lenient());
         copy.set_limit(self.limit());
         let (width, height) = self.clip();

@@ -25,7 +25,8 @@ pub use encoder::{
 pub use error::{Result, SixelError};
 pub use palette::{PaletteChoice, RefinedPalette, choose_palette, refine_palette, witnesses_hold};
 pub use receiver::{
-    BandStatus, ChannelOrder, Received, ReceivedBand, ReceivedImage, RowLayout, SixelReceiver,
+    BandStatus, ChannelOrder, Height, Received, ReceivedBand, ReceivedImage, RowLayout,
+    SixelReceiver,
 };
 pub use script::Status;
 pub use sixel_image::{BackgroundMode, PixelAspectRatio, SixelImage};

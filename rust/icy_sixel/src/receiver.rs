@@ -9,7 +9,7 @@ use crate::decoder::{payload_status, string_status};
 use crate::error::Result;
 use crate::ffi::Fed;
 use crate::script::Status;
-pub use received_image::ReceivedImage;
+pub use received_image::{Height, ReceivedImage};
 pub use rows::{BandStatus, ChannelOrder, ReceivedBand, RowLayout};
 
 /// The result of a feed of a receiver.
@@ -192,7 +192,8 @@ impl SixelReceiver {
     ///
     /// - It is 0 before the payload, after an error, and if no image is open.
     /// - The image may still become wider. New pixels on the right of a final row are background.
-    /// - With crop the image may end above rows that are final.
+    /// - The finished image may end above rows that are final, by
+    ///   [`set_height`](Self::set_height).
     #[must_use]
     pub fn rows_so_far(&self) -> usize {
         self.decoder.shared().rows_so_far()
@@ -234,11 +235,12 @@ impl SixelReceiver {
         self.decoder.reset_palette();
     }
 
-    /// Sets whether images are cropped, as [`SixelDecoder::set_raster_crop`] does.
+    /// Sets where images end that are finished afterwards: [`Height::Bands`] in a new decoder.
     ///
-    /// An open image keeps the crop that it began with.
-    pub fn set_raster_crop(&mut self, on: bool) {
-        self.decoder.set_raster_crop(on);
+    /// No row is added to an image, and a clip ends it first. [`into_decoder`](Self::into_decoder)
+    /// returns a decoder with the same setting.
+    pub fn set_height(&mut self, height: Height) {
+        self.decoder.set_height(height);
     }
 
     /// Sets whether a command with a fault is ignored, in place of rejecting the image.

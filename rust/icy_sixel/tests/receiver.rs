@@ -6,7 +6,7 @@ use common::*;
 use icy_sixel::receiver::{Received, SixelReceiver};
 use icy_sixel::script::Status;
 use icy_sixel::{
-    BandStatus, ChannelOrder, DcsSettings, ReceivedImage, Result, RowLayout,
+    BandStatus, ChannelOrder, DcsSettings, Height, ReceivedImage, Result, RowLayout,
     SixelDcsFeedStatus as Dcs, SixelDecoder, SixelError, SixelFeedStatus as Payload, SixelImage,
 };
 use std::sync::{Arc, Mutex, RwLock, mpsc};
@@ -58,7 +58,7 @@ fn a_host_reads_chunks_of_any_length() {
 fn a_payload_is_received() {
     let mut receiver = SixelReceiver::new();
     receiver.set_registers(0, &[[1, 2, 3], [4, 5, 6]]);
-    receiver.set_raster_crop(true);
+    receiver.set_height(Height::Raster);
     receiver.begin_frame(DcsSettings::default());
     assert!(receiver.is_receiving() && receiver.in_payload());
     assert_eq!(receiver.size_so_far(), Some((1, 1)));
@@ -71,6 +71,26 @@ fn a_payload_is_received() {
     assert_filled(receiver.finish().and_then(ReceivedImage::into_image), (2, 3), [1, 2, 3, 255]);
     assert_eq!(receiver.register(0), [1, 2, 3]);
     assert!(!receiver.is_receiving());
+}
+
+#[test]
+fn images_end_where_the_receiver_sets_it() {
+    let mut receiver = SixelReceiver::new();
+    for (height, payload, rows) in [
+        (Height::Bands, "\"1;1;1;7A", 7),
+        (Height::Bands, "\"1;1;1;3~-@", 12),
+        (Height::Raster, "\"1;1;1;3~-@", 3),
+        (Height::Drawn, "\"1;1;1;3~-@", 7),
+        (Height::Drawn, "\"1;1;1;9~-@", 9),
+        (Height::Drawn, "?-?", 0),
+    ] {
+        receiver.begin_frame(DcsSettings::default());
+        receiver.set_height(height);
+        assert!(receiver.feed(payload.as_bytes()).is_ok());
+        let image = receiver.finish().unwrap();
+        assert_eq!((image.height, image.pixels.len()), (rows, 4 * rows), "{payload}");
+    }
+    assert!(!receiver.into_decoder().raster_crop());
 }
 
 #[test]

@@ -146,6 +146,7 @@ fn names_of_our_own() {
     let _: fn(&Receiver, usize, usize, Layout, &mut [u8]) -> Answer<()> = Receiver::copy_rows;
     let _: fn(&mut Receiver, usize) -> Answer<()> = Receiver::release_rows;
     let _: fn(&mut Receiver, bool) = Receiver::set_lenient;
+    let _: fn(&mut Receiver, icy_sixel::Height) = Receiver::set_height;
     let _: fn(&Decoder) -> bool = Decoder::is_lenient;
     type Received = receiver::ReceivedImage;
     let _: fn(&mut Receiver) -> Answer<Received> = Receiver::finish;

@@ -1,7 +1,7 @@
 //! An image that a decoder has finished, and copies of its rows.
 
 ghost use Rattle.std.specs.Prelude.{◌≡◌, ℕ, ◌-◌, ◌*◌, ◌/◌, ◌%◌, ◌<◌, List, length, slice_index};
-ghost use Rattle.std.specs.Prelude.{min, take, Some, Ok, IfOk};
+ghost use Rattle.std.specs.Prelude.{Some, Ok, IfOk};
 ghost use Rattle.sixel_base.specs.CallFault.{FailsBy, RowsReleased};
 ghost use Rattle.sixel_canvas.specs.Layout.{in_order};
 ghost use Rattle.sixel_canvas.specs.inside.FinalRows.{pixel_at};
@@ -55,7 +55,7 @@ pub struct ReceivedImage {
 
 impl ReceivedImage {
     ghost use Rattle.icy_sixel.specs.FinalRows.{IsRowCopy};
-    ghost use Rattle.icy_sixel.specs.ReceivedImages.{end_of, is_empty, left_image};
+    ghost use Rattle.icy_sixel.specs.ReceivedImages.{IsCropped, end_of, is_empty, left_image};
     ghost use Rattle.icy_sixel.specs.ReceivedImages.{left_value, received_fault};
     ghost use Rattle.icy_sixel.specs.ReceivedImages.{received_pixel, received_report};
     ghost use Rattle.icy_sixel.specs.ReceivedImages.{whole_value};
@@ -95,12 +95,7 @@ impl ReceivedImage {
     ///
     /// The decoder must not have cropped the image.
     pub fn crop(&mut self, height: Height)
-        ensures height { self.new.height ≡ min self.old.height (end_of self.old height) }
-        ensures first { self.new.first_row ≡ min self.old.first_row self.new.height }
-        ensures pixels { self.new.pixels.items ≡ take
-            (4 * (self.old.width * (self.new.height - self.new.first_row))) self.old.pixels.items }
-        ensures drawn { self.new.drawn_height ≡ min self.old.drawn_height self.new.height }
-        ensures width { self.new.width ≡ self.old.width }
+        ensures { IsCropped self.old self.new height }
     {
         let end = match height {
             Height::Bands => self.height,

@@ -6,6 +6,17 @@ use crate::error::Result;
 use crate::settings::{BackgroundMode, PixelAspectRatio};
 use crate::sixel_image::SixelImage;
 
+/// Where an image ends.
+#[derive(Clone, Copy, Debug, PartialEq, Eq)]
+pub enum Height {
+    /// At the end of its last band, or lower if raster attributes name a greater height.
+    Bands = 0,
+    /// At the last height that raster attributes name, if there is one.
+    Raster = 1,
+    /// At that height, or lower if a pixel below it is set, as other terminals do.
+    Drawn = 2,
+}
+
 /// An image that was decoded, without the rows that were released.
 #[derive(Clone, Debug, PartialEq, Eq)]
 pub struct ReceivedImage {
@@ -19,7 +30,7 @@ pub struct ReceivedImage {
     pub first_row: usize,
     /// Rows down to the last one with a set pixel, or 0 if there is none.
     ///
-    /// It is at most the height, because crop can end an image above that row.
+    /// It is at most the height, because an image can end above that row.
     pub drawn_height: usize,
     /// The last width above 0 that raster attributes name, or 0 if there is none.
     pub raster_width: usize,

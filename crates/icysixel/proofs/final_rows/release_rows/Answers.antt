@@ -19,6 +19,6 @@ returns-in-Err c =
           })
           c.in-Err.ensures.verdict;
       released = λ done. absurd (code.refused done);
-      kept = (refl, refl);
+      kept = ((refl, refl), refl);
       unchanged = λ _. c.in-Err.ensures.unchanged;
     }

@@ -1,11 +1,11 @@
-use Rattle.std.proofs.Common.{◌≡◌, ◌∙◌, Some, Ok, Err, true, false, refl, ap, subst, arith}
-use Rattle.std.specs.Prelude.{MatchBool, is_some}
+use Rattle.std.proofs.Common.{◌≡◌, ◌∙◌, Some, Ok, Err, true, false, min, refl, ap, subst, arith}
+use Rattle.std.specs.Prelude.{MatchBool}
 use Rattle.sixel_base.specs.Fault.{Faults, IsFault}
-use Rattle.sixel_base.specs.OneShot.{IsDecodedAs, IsFoundImage}
-use Rattle.icy_sixel.specs.Receiver.{end_fault, end_wants, failed, found, found_followed}
-use Rattle.icy_sixel.specs.Receiver.{is_open, is_over}
+use Rattle.icy_sixel.specs.ReceivedImages.{IsCropped}
+use Rattle.icy_sixel.specs.Receiver.{end_fault, end_wants, failed, is_open, is_over}
 use Rattle.icy_sixel.specs.ReceiverCalls.{IsFinished, whole_of}
 use Rattle.icy_sixel.specs.declared.receiver.received_image.ReceivedImage.{ReceivedImage}
+use Rattle.icysixel.specs.Finish.{IsReceived}
 use Rattle.icysixel.specs.Shape.{shape_of}
 use Rattle.icysixel.proofs.Known.{received_known}
 use Rattle.icysixel.proofs.images.finish.Goals as goal
@@ -20,42 +20,43 @@ code_of-requires c =
 pub returns-in-Ok-clause-finished : goal.returns-in-Ok-clause-finished
 returns-in-Ok-clause-finished c =
     let old = c.args.state.now.receiver in
-    let new = c.store_image-in-Ok.new.self in
-    let kept : new.receiver ≡ c.finish.new.self = c.store_image-in-Ok.ensures.receiver in
-    let stored : new.image ≡ Some c.in-Ok.image = c.store_image-in-Ok.ensures.image in
-    let one : (image : ReceivedImage) → new.image ≡ Some image → c.in-Ok.image ≡ image =
-    λ image is. grind (arith, stored, is) in
-    let done : IsFinished (whole_of old.image) old new.receiver (Ok c.in-Ok.image) =
+    let whole = c.in-Ok.image in
+    let stored = c.store_ended.ensures in
+    let new = c.store_ended.new.self in
+    let kept : new.receiver ≡ c.finish.new.self = stored.receiver in
+    let done : IsFinished (whole_of old.image) old new.receiver (Ok whole) =
     rw (kept, ← c.store_image.ensures.receiver) c.in-Ok.ensures.finished in
     let opened : is_open old.image.form ≡ true = grind arith in
+    let first : whole.first_row ≡ min old.image.released whole.height =
+    rw (← c.store_image.ensures.receiver) c.in-Ok.ensures.first in
+    let received : IsReceived old.image new.receiver.decoder.registers whole = record {
+      image = done.image;
+      report = rw (← c.store_image.ensures.receiver) c.in-Ok.ensures.report;
+      as_decoded = done.as_decoded;
+    } in
+    let cropped : (image : ReceivedImage) → new.image ≡ Some image
+    → IsCropped whole image c.args.state.now.height =
+    rw (← c.store_image.ensures.height) stored.image in
     let over : old.image.is_refused ≡ false
     → c.has_ended-is_complete.result ≡ is_over old.image.form old.image.bytes =
     rw (← c.store_image.ensures.receiver) c.has_ended-is_complete.ensures.accepted in
-    let shape : c.of.result ≡ shape_of c.in-Ok.image (is_over old.image.form old.image.bytes) =
-    c.of.ensures ∙ ap (shape_of c.in-Ok.image) (over done.accepted) in
     record {
       unopened = λ closed. absurd (grind (arith, closed, opened));
       closed = done.closed;
-      found = λ _. ap is_some stored;
+      found = λ _. stored.found;
       image = λ image is.
-          subst (λ i. IsFoundImage old.image.start (found old.image.form old.image.bytes)
-          (whole_of old.image i)) (one image is) done.image;
+          record { whole = whole; is_whole = received; is_cropped = cropped image is };
       first = λ image is.
-          rw (← one image is, ← c.store_image.ensures.receiver) c.in-Ok.ensures.first;
-      report = λ image is.
-          rw (← one image is, ← c.store_image.ensures.receiver) c.in-Ok.ensures.report;
-      shape = λ image is. rw (← one image is) shape;
-      bytes = λ _. rw c.of.ensures c.in-Ok.image.rows;
-      area = λ _. rw c.of.ensures done.area;
+          omega (arith, first, (cropped image is).first, (cropped image is).height);
+      shape = λ image is. stored.shape image is ∙ ap (shape_of image) (over done.accepted);
+      bytes = λ _. stored.bytes;
+      area = λ _. stored.area old.image.start.pixel_limit.pixels done.area;
       registers = λ _. done.registers;
-      as_decoded = λ image more is.
-          subst (λ i. IsDecodedAs old.image.start
-          (found_followed old.image.form old.image.bytes more) (whole_of old.image i)
-          new.receiver.decoder.registers) (one image is) (done.as_decoded more);
       accepted = λ _. done.accepted;
       faultless = λ _. done.ended;
       set = done.set;
       text = grind arith;
+      height = grind arith;
       kept = λ error. absurd (error refl);
       dropped = λ error. absurd (error refl);
       refused = λ _ _ error. absurd (error refl);
@@ -78,16 +79,15 @@ returns-in-Err-clause-finished c =
       found = λ ok. absurd (code.refused ok);
       image = λ stored is. absurd (grind (arith, is));
       first = λ stored is. absurd (grind (arith, is));
-      report = λ stored is. absurd (grind (arith, is));
       shape = λ stored is. absurd (grind (arith, is));
       bytes = λ ok. absurd (code.refused ok);
       area = λ ok. absurd (code.refused ok);
       registers = λ ok. absurd (code.refused ok);
-      as_decoded = λ stored more is. absurd (grind (arith, is));
       accepted = λ ok. absurd (code.refused ok);
       faultless = λ ok. absurd (code.refused ok);
       set = done.set;
       text = grind arith;
+      height = grind arith;
       kept = λ _. done.kept;
       dropped = λ _. c.store_image.ensures.image;
       refused = λ _ accepted _.

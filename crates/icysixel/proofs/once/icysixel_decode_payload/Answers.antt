@@ -1,13 +1,9 @@
-use Rattle.std.proofs.Common.{◌≡◌, Some, true, arith, rules}
-use Rattle.sixel_base.specs.Decoder.{origin_of}
+use Rattle.std.proofs.Common.{◌≡◌, Some, arith, rules}
 use Rattle.sixel_base.specs.Fault.{Faults}
 use Rattle.sixel_base.specs.OneShot.{Payload}
-use Rattle.sixel_base.specs.Payload.{payload_fault, payload_image, payload_wants}
-use Rattle.sixel_decoder.specs.Report.{found_report}
-use Rattle.icy_sixel.specs.ReceivedImages.{left_value, received_report}
+use Rattle.sixel_base.specs.Payload.{payload_fault, payload_wants}
 use Rattle.icysixel.specs.Code.{settings_of}
 use Rattle.icysixel.proofs.Known.{found_known, result_known}
-use Rattle.icysixel.specs.Shape.{shape_of}
 use Rattle.icysixel.proofs.Stored.{of_stored}
 use Rattle.icysixel.proofs.once.icysixel_decode_payload.Goals as goal
 
@@ -56,41 +52,25 @@ pub returns-clause-image : goal.returns-clause-image
 returns-clause-image c = λ before after image is is_now kept.
     let same : c.replace_decoder-decoder.result ≡ before.receiver.decoder =
     grind (arith, c.state-state.ensures.value) in
-    let now : c.store_decoded.new.self.image ≡ Some image = grind arith in
-    let settings : c.settings.result ≡ settings_of c.args.p1 c.args.p2 = search rules in
-    rw (← same, ← settings)
-    (of_stored c.decode_from_dcs_drawn-answer.result c.store_decoded.new.self.image
-    (λ image. left_value image ≡ payload_image (origin_of c.replace_decoder-decoder.result c.settings.result)
-    c.args.bytes.now)
-    c.decode_from_dcs_drawn-answer.ensures.decoded.image c.store_decoded.ensures.found
-    c.store_decoded.ensures.dropped image now)
-
-pub returns-clause-report : goal.returns-clause-report
-returns-clause-report c = λ before after image is is_now kept.
-    let same : c.replace_decoder-decoder.result ≡ before.receiver.decoder =
+    let height : c.replace_decoder.new.self.height ≡ before.height =
     grind (arith, c.state-state.ensures.value) in
     let now : c.store_decoded.new.self.image ≡ Some image = grind arith in
     let settings : c.settings.result ≡ settings_of c.args.p1 c.args.p2 = search rules in
-    rw (← same, ← settings)
-    (of_stored c.decode_from_dcs_drawn-answer.result c.store_decoded.new.self.image
-    (λ image. received_report image
-    ≡ found_report c.replace_decoder-decoder.result (Payload c.settings.result c.args.bytes.now))
-    c.decode_from_dcs_drawn-answer.ensures.report c.store_decoded.ensures.found
-    c.store_decoded.ensures.dropped image now)
+    let answer = c.decode_from_dcs_drawn-answer in
+    let stored = c.store_decoded in
+    rw (← same, ← settings, ← height)
+    (of_stored answer.result stored.new.self.image c.replace_decoder.new.self.height
+    c.replace_decoder-decoder.result (Payload c.settings.result c.args.bytes.now) answer.ensures.decoded answer.ensures.first
+    answer.ensures.report stored.ensures.image stored.ensures.dropped image now)
 
 pub returns-clause-shape : goal.returns-clause-shape
-returns-clause-shape c = λ after image is_now kept.
-    of_stored c.decode_from_dcs_drawn-answer.result c.store_decoded.new.self.image
-    (λ image. c.store_decoded.new.shape ≡ shape_of image true)
-    c.store_decoded.ensures.shape c.store_decoded.ensures.found
-    c.store_decoded.ensures.dropped image (grind arith)
+returns-clause-shape c = grind arith
 
 pub returns-clause-first : goal.returns-clause-first
-returns-clause-first c = λ after image is_now kept.
-    of_stored c.decode_from_dcs_drawn-answer.result c.store_decoded.new.self.image
-    (λ image. image.first_row ≡ 0)
-    c.decode_from_dcs_drawn-answer.ensures.first c.store_decoded.ensures.found
-    c.store_decoded.ensures.dropped image (grind arith)
+returns-clause-first c = grind arith
+
+pub returns-clause-height : goal.returns-clause-height
+returns-clause-height c = grind arith
 
 pub returns-clause-area : goal.returns-clause-area
 returns-clause-area c = λ before is done.

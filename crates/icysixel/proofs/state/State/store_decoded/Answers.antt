@@ -1,4 +1,4 @@
-use Rattle.std.proofs.Common.{arith}
+use Rattle.std.proofs.Common.{◌≡◌, arith}
 use Rattle.icysixel.proofs.state.State.store_decoded.Goals as goal
 
 pub returns-in-Ok : goal.returns-in-Ok

@@ -1,5 +1,5 @@
 use Rattle.std.proofs.Common.{arith}
-use Rattle.icysixel.proofs.limits.icysixel_get_crop.Goals as goal
+use Rattle.icysixel.proofs.limits.icysixel_get_height.Goals as goal
 
 pub returns-then-not-is_held : goal.returns-then-not-is_held
 returns-then-not-is_held c = grind arith
