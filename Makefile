@@ -7,6 +7,7 @@
 #   make mutants      tries all mutants, before a release
 #   make verdict      proves everything anew by `rt ci`, before a release
 #   make bench        times the program and the library
+#   make abi          renews abi/icysixel.txt, the library's binary interface
 #   make install      copies all to DESTDIR/PREFIX; PREFIX is /usr/local by default
 #   make uninstall    removes what `make install` has copied
 #   make clean        removes what is built
@@ -20,6 +21,7 @@ MAKEFLAGS += --no-builtin-rules
 crate = crates/icysixel
 header = $(crate)/include/icysixel.h
 hooks = $(crate)/memory/icysixel_memory.c
+map = $(crate)/icysixel.map
 program = crates/sixel/out/sixel
 programs = $(foreach path,$(wildcard crates/*/src/main.rt),$(path:%/src/main.rt=%/out/)$(word 2,\
 	$(subst /, ,$(path))))
@@ -29,8 +31,9 @@ archive = $(crate)/out/libicysixel.a
 archive_by_rattle = $(crate)/out/libicysixel.by-rattle.a
 # The shared library has a folder of its own, so that `-L out -licysixel` links the archive.
 shared = out/shared/libicysixel.so
+# The header has the version, and the map the number of the soname.
 version = $(shell sed -n 's/^.define ICYSIXEL_VERSION "\(.*\)"/\1/p' $(header))
-soname = libicysixel.so.$(firstword $(subst ., ,$(version)))
+soname = libicysixel.so.$(shell sed -n 's/^ICYSIXEL_\([0-9]*\) {/\1/p' $(map))
 
 # What is installed below PREFIX: mode, source and place of each file, and links to the library.
 prefix = $(or $(PREFIX),/usr/local)
@@ -68,6 +71,9 @@ verdict:
 bench: all
 	python3 bench
 
+abi: $(shared)
+	scripts/abi $(header) $(shared) abi/icysixel.txt
+
 install: install-program install-lib
 
 install-program: program
@@ -87,8 +93,8 @@ uninstall:
 clean:
 	rm -rf out crates/*/out
 
-.PHONY: all program lib check built unit test mutants verdict bench install install-program install-lib \
-	uninstall clean
+.PHONY: all program lib check built unit test mutants verdict bench abi install install-program \
+	install-lib uninstall clean
 
 # A part of the description of a file.
 part = $(word $1,$(subst :, ,$(file)))
@@ -214,9 +220,9 @@ out/libicysixel.a: $(archive) out/icysixel_memory.o
 	ar rs $@ out/icysixel_memory.o
 
 # The map lets only the calls of the header out.
-$(shared): out/libicysixel.a $(crate)/icysixel.map
+$(shared): out/libicysixel.a $(map)
 	mkdir -p out/shared
-	$(cc) $(LDFLAGS) -shared -Wl,-soname,$(soname) -Wl,--version-script,$(crate)/icysixel.map \
+	$(cc) $(LDFLAGS) -shared -Wl,-soname,$(soname) -Wl,--version-script,$(map) \
 		-Wl,-z,noexecstack,-z,relro,-z,now,-z,defs \
 		-Wl,--whole-archive,out/libicysixel.a,--no-whole-archive -o $@
 
