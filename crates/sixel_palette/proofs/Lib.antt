@@ -2,7 +2,6 @@ pub mod PaletteApart
 pub mod PaletteBins
 pub mod PaletteBits
 pub mod PaletteBoxes
-pub mod PaletteCandidates
 pub mod PaletteCells
 pub mod PaletteChoices
 pub mod PaletteColors

@@ -1,14 +1,14 @@
 -- The least key of some entries, and lists of entries of a search.
-use Rattle.std.proofs.Common.{◌≡◌, ◌≢◌, ℕ, zero, suc, ◌+◌, ◌-◌, ◌*◌, ◌/◌, ◌%◌, ◌<◌, ◌≤◌, min}
+use Rattle.std.proofs.Common.{◌≡◌, ℕ, zero, suc, ◌+◌, ◌-◌, ◌*◌, ◌/◌, ◌%◌, ◌<◌, ◌≤◌, min}
 use Rattle.std.proofs.Common.{List, [], ◌∷◌, ◌++◌, length, get_or, take, drop, set, refl, ap, sym}
-use Rattle.std.proofs.Common.{◌∙◌, append-nil, append_assoc, ⊎_elim, arith}
-use Rattle.std.proofs.lemmas.Bool.{cases_lt}
+use Rattle.std.proofs.Common.{◌∙◌, append-nil, append_assoc, ⊎_elim, arith, inl, inr}
+use Rattle.std.proofs.lemmas.Bool.{cases_eq, cases_lt}
 use Rattle.std.proofs.lemmas.List.{take_more, take_all, drop_at, drop-append-le}
 use Rattle.std.proofs.lemmas.List.{take-append-le, length-append, length-drop, get_or-set_same}
 use Rattle.std.proofs.lemmas.List.{get_or-set_other, length-take-le}
-use Rattle.sixel_palette.specs.declared.palette.cube.Cube.{Cube}
-use Rattle.sixel_palette.specs.declared.palette.cubes.Lists.{Lists}
-use Rattle.sixel_palette.specs.declared.palette.cubes.Span.{Span}
+use Rattle.sixel_palette.specs.declared.palette.nearest.cube.Cube.{Cube}
+use Rattle.sixel_palette.specs.declared.palette.nearest.Lists.{Lists}
+use Rattle.sixel_palette.specs.declared.palette.nearest.Span.{Span}
 use Rattle.sixel_palette.specs.declared.palette.nearest_entry.Entry.{Entry}
 use Rattle.sixel_palette.specs.declared.palette.nearest_entry.NearestEntry.{NearestEntry}
 use Rattle.sixel_palette.specs.Palette.{distance, no_entry}
@@ -111,7 +111,7 @@ pub record ArePushed (cube : Cube) (greatest : ℕ) (before old new : List Entry
   pub least : (c : List ℕ) → IsInCube cube c
       → min (least_key some c) (greatest + 1) ≡ min (least_key before c) (greatest + 1)
 
--- the keys are at most those of the entries of a block that begins at a position
+-- the keys are at most those of the next 64 entries from a position on
 pub record AreLeastKeys (cube : Cube) (entries : List Entry) (from : ℕ) (keys : List ℕ)
     : Type 0 where
   pub least : (k : ℕ) → k < 64 → from + k < length entries → (c : List ℕ) → IsInCube cube c
@@ -217,26 +217,22 @@ lists_filled place all entries cube old new position span l e h start end inside
       each = λ code small filled.
           let c = color_of code in
           let k = place code in
-          let apart : k ≢ position → HasNearest all c new (span_at new k) = λ other.
-          let at : span_at new k ≡ span_at old k =
-          rw e (get_or-set_other old.spans.items position k span no_span other) in
-          rw at (span_kept entries all cube c old new (span_at old k) h
-          (lists.each code small (rw at at filled))) in
-          ⊎_elim (λ (m : k < position). apart (omega arith))
-          (λ (m : position ≤ k).
-          ⊎_elim (λ (n : position < k). apart (omega arith))
-          (λ (n : k ≤ position).
-          let here : k ≡ position = omega arith in
-          let at : span_at new k ≡ span =
-          rw (e, here) (get_or-set_same old.spans.items position span no_span l) in
-          let near =
-          span_filled entries cube old.entries.items new span h start end c
-          (inside code small here) in
-          rw at (record {
-            order = near.order;
-            within = near.within;
-            nearest = near.nearest ∙ same code small here;
-          }))
-          (cases_lt position k))
-          (cases_lt k position);
+          elim (cases_eq k position) [
+            | inl here ↦
+                let at : span_at new k ≡ span =
+                rw (e, here) (get_or-set_same old.spans.items position span no_span l) in
+                let near =
+                span_filled entries cube old.entries.items new span h start end c
+                (inside code small here) in
+                rw at (record {
+                  order = near.order;
+                  within = near.within;
+                  nearest = near.nearest ∙ same code small here;
+                })
+            | inr apart ↦
+                let at : span_at new k ≡ span_at old k =
+                rw e (get_or-set_other old.spans.items position k span no_span apart) in
+                rw at (span_kept entries all cube c old new (span_at old k) h
+                (lists.each code small (rw at at filled)))
+          ];
     }

@@ -9,7 +9,6 @@ pub mod PaletteTraversal
 pub mod PaletteCounts
 pub mod PaletteKeys
 pub mod PaletteAssignment
-pub mod PaletteCandidates
 pub mod PaletteBoxes
 pub mod PaletteSums
 pub mod PaletteBins

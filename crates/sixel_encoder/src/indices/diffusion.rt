@@ -5,7 +5,7 @@
 
 ghost use Rattle.std.specs.Prelude.{◌≡◌, ℕ, ◌<◌, ◌≤◌, ◌+◌, ◌*◌, ◌/◌, IfOk, List, OnOk, length};
 ghost use Rattle.std.specs.Prelude.{slice_index};
-ghost use Rattle.sixel_palette.specs.inside.PaletteCandidates.{AreCandidates};
+ghost use Rattle.sixel_palette.specs.inside.PaletteKeys.{IsSearchOf};
 ghost use Rattle.sixel_encoder.specs.Dithering.{AreNearestTo, column_of_step, diffused_color};
 ghost use Rattle.sixel_encoder.specs.Dithering.{errors_of, no_error, passed_on, serpentine};
 ghost use Rattle.sixel_encoder.specs.Dithering.{next_share, before_share, below_share, rest_share};
@@ -17,7 +17,7 @@ ghost use Rattle.sixel_encoder.specs.inside.Diffusion.{IsBeyond, color_error, re
 ghost use Rattle.sixel_encoder.specs.inside.Diffusion.{rounded_color};
 
 use crate::band::is_opaque;
-use sixel_palette::palette::candidates::Candidates;
+use sixel_palette::palette::nearest::Search;
 use std::alloc::{AllocError, Global};
 
 /// An image whose errors are diffused.
@@ -42,9 +42,9 @@ pub fn diffused_indices(alloc: Global, image: &DiffusedImage<'_>) -> Result<Vec<
     }
     let mut indices = vec![in alloc; 0; image.pixels.len() / 4]?;
     let mut line = vec![in alloc; image.no_error(); image.width]?;
-    let mut candidates = Candidates::new(alloc)?;
+    let mut search = Search::new(alloc, image.colors)?;
     for row in 0..image.pixels.len() / 4 / image.width {
-        image.diffuse_row(&mut indices, &mut line, &mut candidates, row)?;
+        image.diffuse_row(&mut indices, &mut line, &mut search, row)?;
     }
     Ok(indices)
 }
@@ -61,7 +61,7 @@ impl DiffusedImage<'_> {
         &self,
         indices: &mut [u8],
         line: &mut [PixelError],
-        candidates: &mut Candidates,
+        search: &mut Search,
         row: usize,
     ) -> Result<(), AllocError>
         requires image { IsDiffusable self.now }
@@ -70,14 +70,14 @@ impl DiffusedImage<'_> {
         requires visited { AreVisited (diffused_of self.now) indices.old (row * self.now.width) }
         requires line { IsLine (diffused_of self.now)
             (errors_of (diffused_of self.now) indices.old (row * self.now.width)) row 0 line.old }
-        requires candidates { AreCandidates self.now.colors.now candidates.old }
+        requires search { IsSearchOf self.now.colors.now search.old }
         ensures indices { OnOk result (length indices.new ≡ length self.now.pixels.now / 4) }
         ensures visited { OnOk result (AreVisited (diffused_of self.now) indices.new
             (row * self.now.width + self.now.width)) }
         ensures line { OnOk result (IsLine (diffused_of self.now)
             (errors_of (diffused_of self.now) indices.new (row * self.now.width + self.now.width))
             (row + 1) 0 line.new) }
-        ensures candidates { OnOk result (AreCandidates self.now.colors.now candidates.new) }
+        ensures search { OnOk result (IsSearchOf self.now.colors.now search.new) }
     {
         let mut before = self.no_error();
         let mut behind = self.no_error();
@@ -91,7 +91,7 @@ impl DiffusedImage<'_> {
                 beyond: self.error_beyond(line, row, step),
             };
             let pixel = row * self.width + column;
-            let error = self.visit(indices, candidates, pixel, neighbors.received())?;
+            let error = self.visit(indices, search, pixel, neighbors.received())?;
             line[column] = error;
             before = error;
             behind = above;
@@ -119,7 +119,7 @@ impl DiffusedImage<'_> {
     fn visit(
         &self,
         indices: &mut [u8],
-        candidates: &mut Candidates,
+        search: &mut Search,
         pixel: usize,
         received: [u32; 3],
     ) -> Result<PixelError, AllocError>
@@ -127,20 +127,20 @@ impl DiffusedImage<'_> {
         requires indices { length indices.old ≡ length self.now.pixels.now / 4 }
         requires pixel { pixel < length self.now.pixels.now / 4 }
         requires small { (k : ℕ) → k < 3 → slice_index received k ≤ received_limit }
-        requires candidates { AreCandidates self.now.colors.now candidates.old }
+        requires search { IsSearchOf self.now.colors.now search.old }
         ensures indices { OnOk result (length indices.new ≡ length self.now.pixels.now / 4) }
         ensures visit { IfOk result (λ error. (errors : List (List ℕ)) (n : ℕ)
             → serpentine self.now.width n ≡ pixel
             → AreReceived (diffused_of self.now) errors n received
             → IsVisit (diffused_of self.now) errors n indices.old indices.new error) }
-        ensures candidates { OnOk result (AreCandidates self.now.colors.now candidates.new) }
+        ensures search { OnOk result (IsSearchOf self.now.colors.now search.new) }
     {
         if !is_opaque(self.pixels, pixel) {
             indices[pixel] = 0;
             return Ok(self.no_error());
         }
         let values = self.sixteenths(pixel, received);
-        let index = candidates.nearest(self.colors, rounded(values))?;
+        let index = search.index_of(rounded(values))?;
         indices[pixel] = index;
         Ok(self.error(values, self.colors[usize::from(index)]))
     }

@@ -1,12 +1,12 @@
 //! Ordered dithering by the pattern of Ø. Kolås, "a dither" (2013).
 
 ghost use Rattle.std.specs.Prelude.{◌≡◌, ℕ, ◌<◌, ◌≤◌, ◌+◌, ◌*◌, ◌/◌, ◌%◌, IfOk, OnOk, length};
-ghost use Rattle.sixel_palette.specs.inside.PaletteCandidates.{AreCandidates};
+ghost use Rattle.sixel_palette.specs.inside.PaletteKeys.{IsSearchOf};
 ghost use Rattle.sixel_encoder.specs.Dithering.{AreNearestTo, HasTarget, moved_channel};
 ghost use Rattle.sixel_encoder.specs.Dithering.{ordered_color, threshold};
 
 use crate::band::is_opaque;
-use sixel_palette::palette::candidates::Candidates;
+use sixel_palette::palette::nearest::Search;
 use std::alloc::{AllocError, Global};
 
 /// An image whose pixels are moved by the pattern.
@@ -29,9 +29,9 @@ pub fn ordered_indices(alloc: Global, image: &OrderedImage<'_>) -> Result<Vec<u8
         image.now.pixels.now image.now.colors.now indices.items) }
 {
     let mut indices = vec![in alloc; 0; image.pixels.len() / 4]?;
-    let mut candidates = Candidates::new(alloc)?;
+    let mut search = Search::new(alloc, image.colors)?;
     for pixel in 0..image.pixels.len() / 4 {
-        let index = image.palette_index(&mut candidates, pixel)?;
+        let index = image.palette_index(&mut search, pixel)?;
         indices[pixel] = index;
     }
     Ok(indices)
@@ -40,21 +40,21 @@ pub fn ordered_indices(alloc: Global, image: &OrderedImage<'_>) -> Result<Vec<u8
 impl OrderedImage<'_> {
     /// Returns the palette index of a pixel, 0 if it is transparent.
     #[inline(always)]
-    fn palette_index(&self, candidates: &mut Candidates, pixel: usize) -> Result<u8, AllocError>
+    fn palette_index(&self, search: &mut Search, pixel: usize) -> Result<u8, AllocError>
         requires width { 0 < self.now.width }
         requires pixel { pixel < length self.now.pixels.now / 4 }
         requires some { 0 < length self.now.colors.now }
-        requires few { length self.now.colors.now ≤ 256 }
-        requires candidates { AreCandidates self.now.colors.now candidates.old }
+        requires search { IsSearchOf self.now.colors.now search.old }
         ensures target { IfOk result (HasTarget
             (ordered_color self.now.amplitude self.now.width self.now.pixels.now pixel)
             self.now.pixels.now self.now.colors.now pixel) }
-        ensures candidates { OnOk result (AreCandidates self.now.colors.now candidates.new) }
+        ensures search { OnOk result (IsSearchOf self.now.colors.now search.new) }
     {
         if !is_opaque(self.pixels, pixel) {
             return Ok(0);
         }
-        candidates.nearest(self.colors, self.moved_color(pixel))
+        let index = search.index_of(self.moved_color(pixel))?;
+        Ok(index)
     }
 
     /// Returns the color of a pixel, moved by the pattern.

@@ -3,12 +3,12 @@
 -- first of those.
 use Rattle.std.specs.Prelude.{◌≡◌, ℕ, ◌+◌, ◌-◌, ◌*◌, ◌/◌, ◌%◌, ◌<◌, ◌≤◌, min, List, [], ◌∷◌, ◌++◌}
 use Rattle.std.specs.Prelude.{length, take, drop, slice_index, slice_index_or}
-use Rattle.sixel_palette.specs.declared.palette.cube.Cube.{Cube}
-use Rattle.sixel_palette.specs.declared.palette.cubes.Lists.{Lists}
-use Rattle.sixel_palette.specs.declared.palette.cubes.Search.{Search}
-use Rattle.sixel_palette.specs.declared.palette.cubes.Span.{Span}
+use Rattle.sixel_palette.specs.declared.palette.nearest.cube.Cube.{Cube}
+use Rattle.sixel_palette.specs.declared.palette.nearest.Lists.{Lists}
+use Rattle.sixel_palette.specs.declared.palette.nearest.Search.{Search}
+use Rattle.sixel_palette.specs.declared.palette.nearest.Span.{Span}
 use Rattle.sixel_palette.specs.declared.palette.nearest_entry.Entry.{Entry}
-use Rattle.sixel_palette.specs.Palette.{distance, no_entry}
+use Rattle.sixel_palette.specs.Palette.{distance, nearest, no_entry}
 use Rattle.sixel_palette.specs.inside.PaletteCells.{IsInInterval}
 use Rattle.sixel_palette.specs.inside.PaletteCodes.{color_of, code_count}
 
@@ -80,3 +80,10 @@ pub record IsSearch (search : Search) : Type 0 where
   pub cube_count : length search.cubes.spans.items ≡ 32768
   pub groups : AreLists group_position search.entries.items search.groups
   pub cubes : AreLists cube_position search.entries.items search.cubes
+
+-- it is a search among these colors, and some of them is nearest to each color
+pub record IsSearchOf (colors : List (List ℕ)) (search : Search) : Type 0 where
+  pub lists : IsSearch search
+  pub numbered : AreNumbered colors search.entries.items
+  pub some : 0 < length colors → (code : ℕ) → code < code_count
+      → nearest colors (color_of code) < no_entry

@@ -8,8 +8,8 @@ ghost use Rattle.sixel_palette.specs.inside.PaletteKeys.{AreNumbered, IsSearch};
 ghost use Rattle.sixel_palette.specs.inside.PaletteNearest.{AreNearest};
 ghost use Rattle.sixel_palette.specs.inside.PaletteTraversal.{IsTraversal, HasRelaxed};
 
-use crate::palette::cubes::{CUBES, Search};
 use crate::palette::farthest::Traversal;
+use crate::palette::nearest::{CUBES, Search};
 use std::alloc::{AllocError, Global};
 
 /// How many entries are always relaxed one after the other.

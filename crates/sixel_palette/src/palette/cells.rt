@@ -58,15 +58,6 @@ impl Cell {
     {
         self.red.gap(color[0]) + self.green.gap(color[1]) + self.blue.gap(color[2])
     }
-
-    /// The squared distance of a color to the farthest corner of the box.
-    #[inline(always)]
-    pub fn reach(&self, color: [u8; 3]) -> u32
-        ensures most { (c : List ℕ) → IsInBox self.now c → distance color c ≤ result }
-        ensures small { result < no_entry }
-    {
-        self.red.reach(color[0]) + self.green.reach(color[1]) + self.blue.reach(color[2])
-    }
 }
 
 impl Interval {

@@ -1,15 +1,13 @@
 //! The palette index of each pixel in a given palette.
 
 ghost use Rattle.std.specs.Prelude.{◌≡◌, ℕ, ◌<◌, ◌≤◌, List, length, All, IfOk, slice_index};
-ghost use Rattle.sixel_palette.specs.Palette.{AreIndices, IsNearest};
+ghost use Rattle.sixel_palette.specs.Palette.{AreIndices};
 ghost use Rattle.sixel_palette.specs.inside.PaletteCodes.{AreColorCodes};
 ghost use Rattle.sixel_palette.specs.inside.PaletteNearest.{AreNearest};
 
 use crate::palette::colors::shown_codes;
-use crate::palette::distance::distance;
 use crate::palette::farthest::Traversal;
 use crate::palette::indices::indices_of;
-use crate::palette::nearest_entry::{NO_ENTRY, NearestEntry};
 use std::alloc::{AllocError, Global};
 
 /// Returns the palette index of each pixel: its nearest entry, the first of equals.
@@ -40,22 +38,6 @@ fn color_indices_of(alloc: Global, codes: &[u32], colors: &[[u8; 3]]) -> Result<
 {
     let traversal = Traversal::among(alloc, codes, colors)?;
     Ok(traversal.indices)
-}
-
-/// Returns the palette index of the entry nearest to a color, the first of equals.
-pub fn nearest_index(colors: &[[u8; 3]], color: [u8; 3]) -> u8
-    requires some { 0 < length colors.now }
-    requires few { length colors.now ≤ 256 }
-    ensures { IsNearest colors.now color result }
-{
-    let mut near = NearestEntry {
-        squared: NO_ENTRY,
-        index: 0,
-    };
-    for index in 0..colors.len() {
-        near = near.with(distance(colors[index], color), index as u8);
-    }
-    near.index
 }
 
 /// States that the channels of colors are bytes. It does nothing.

@@ -26,7 +26,7 @@ loop-row-init c =
           same_number_lists error c.no_error.result
           (clone.long ∙ sym (ap length c.no_error.ensures))
           (λ k l. clone.at k 0 0 (omega (arith, clone.long, l)))))));
-      candidates = c.in_ok-candidates.ensures c.args.image.now.colors.now;
+      search = c.in_ok-search.ensures;
     }
 
 pub diffuse_row-requires-clause-visited : goal.diffuse_row-requires-clause-visited
@@ -48,7 +48,7 @@ loop-row-preserved c =
       size = rw indices told.indices;
       visited = rw (indices, next) told.visited;
       line = rw (indices, line, next) told.line;
-      candidates = told.candidates;
+      search = told.search;
     }
 
 pub returns : goal.returns

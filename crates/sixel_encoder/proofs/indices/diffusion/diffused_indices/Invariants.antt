@@ -1,6 +1,6 @@
 use Rattle.std.proofs.Common.{◌≡◌, ◌*◌, length}
 use Rattle.std.specs.Prelude.{◌/◌}
-use Rattle.sixel_palette.specs.inside.PaletteCandidates.{AreCandidates}
+use Rattle.sixel_palette.specs.inside.PaletteKeys.{IsSearchOf}
 use Rattle.sixel_encoder.specs.Dithering.{errors_of}
 use Rattle.sixel_encoder.specs.inside.Diffusion.{AreVisited, IsLine, diffused_of}
 use Rattle.sixel_encoder.proofs.indices.diffusion.diffused_indices.Given as goal
@@ -12,5 +12,5 @@ invariant-loop-row l = record {
   line : IsLine (diffused_of l.image)
       (errors_of (diffused_of l.image) l.indices.items (l.row * l.image.width)) l.row 0
       l.line.items;
-  candidates : AreCandidates l.image.colors.now l.candidates;
+  search : IsSearchOf l.image.colors.now l.search;
 }

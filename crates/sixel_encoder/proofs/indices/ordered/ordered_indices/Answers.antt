@@ -17,5 +17,11 @@ loop-pixel-preserved c =
           HasTarget-set (ordered_color image.amplitude image.width image.pixels.now)
           image.pixels.now image.colors.now indices pixel index k (omega (arith, h.size)) h.each
           c.in_ok-index.ensures.target l;
-      candidates = c.in_ok-index.ensures.candidates;
+      search = c.in_ok-index.ensures.search;
     }
+
+pub returns : goal.returns
+returns c = record {
+  one_each = c.loop-pixel.invariant.size;
+  each = λ pixel l. c.loop-pixel.invariant.each pixel (omega arith);
+}

@@ -1,6 +1,6 @@
 use Rattle.std.proofs.Common.{◌≡◌, ◌<◌, ℕ, length, get_or}
 use Rattle.std.specs.Prelude.{◌/◌}
-use Rattle.sixel_palette.specs.inside.PaletteCandidates.{AreCandidates}
+use Rattle.sixel_palette.specs.inside.PaletteKeys.{IsSearchOf}
 use Rattle.sixel_encoder.specs.Dithering.{HasTarget, ordered_color}
 use Rattle.sixel_encoder.proofs.indices.ordered.ordered_indices.Given as goal
 
@@ -10,5 +10,5 @@ invariant-loop-pixel l = record {
   each : (k : ℕ) → k < l.pixel
       → HasTarget (ordered_color l.image.amplitude l.image.width l.image.pixels.now k)
       l.image.pixels.now l.image.colors.now k (get_or l.indices.items k 0);
-  candidates : AreCandidates l.image.colors.now l.candidates;
+  search : IsSearchOf l.image.colors.now l.search;
 }

@@ -22,7 +22,7 @@ loop-step-init c =
       line = rw none c.requires.line;
       before = c.no_error-before.ensures;
       behind = c.no_error-behind.ensures;
-      candidates = c.requires.candidates;
+      search = c.requires.search;
     }
 
 pub loop-step-preserved : goal.loop-step-preserved
@@ -70,7 +70,7 @@ loop-step-preserved c =
       line = rw (more, place) (IsLine-more d errors line row step error inside h.line);
       before = rw more (before-more d errors step error);
       behind = rw more (above ∙ behind-more d errors step error);
-      candidates = c.in_ok-error.ensures.candidates;
+      search = c.in_ok-error.ensures.search;
     }
 
 pub returns-clause-line : goal.returns-clause-line
@@ -96,8 +96,8 @@ returns-clause-visited c =
     (omega (arith, c.loop-step.auto.step-end, c.loop-step-test.false))
     c.loop-step.invariant.visited
 
-pub returns-clause-candidates : goal.returns-clause-candidates
-returns-clause-candidates c = c.loop-step.invariant.candidates
+pub returns-clause-search : goal.returns-clause-search
+returns-clause-search c = c.loop-step.invariant.search
 
 pub error_beyond-requires-clause-image : goal.error_beyond-requires-clause-image
 error_beyond-requires-clause-image c = c.requires.image
@@ -118,5 +118,5 @@ visit-requires-clause-pixel c =
 pub visit-requires-clause-small : goal.visit-requires-clause-small
 visit-requires-clause-small c = c.received.ensures.small
 
-pub visit-requires-clause-candidates : goal.visit-requires-clause-candidates
-visit-requires-clause-candidates c = c.loop-step.invariant.candidates
+pub visit-requires-clause-search : goal.visit-requires-clause-search
+visit-requires-clause-search c = c.loop-step.invariant.search

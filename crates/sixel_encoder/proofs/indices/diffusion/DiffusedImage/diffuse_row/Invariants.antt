@@ -1,6 +1,6 @@
 use Rattle.std.proofs.Common.{◌≡◌, ◌+◌, ◌*◌, length}
 use Rattle.std.specs.Prelude.{◌/◌}
-use Rattle.sixel_palette.specs.inside.PaletteCandidates.{AreCandidates}
+use Rattle.sixel_palette.specs.inside.PaletteKeys.{IsSearchOf}
 use Rattle.sixel_encoder.specs.Dithering.{error_before, error_behind, errors_of}
 use Rattle.sixel_encoder.specs.inside.Diffusion.{AreVisited, IsLine, diffused_of}
 use Rattle.sixel_encoder.proofs.indices.diffusion.DiffusedImage.diffuse_row.Given as goal
@@ -18,5 +18,5 @@ invariant-loop-step l = record {
   behind : l.behind
       ≡ error_behind (diffused_of l.self)
       (errors_of (diffused_of l.self) l.indices (l.row * l.self.width + l.step)) l.step;
-  candidates : AreCandidates l.self.colors.now l.candidates;
+  search : IsSearchOf l.self.colors.now l.search;
 }

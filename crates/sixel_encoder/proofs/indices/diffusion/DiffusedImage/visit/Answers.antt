@@ -24,10 +24,17 @@ returns-clause-visit c = λ errors n at received.
     (c.is_opaque.ensures.opaque c.if-not-is_opaque.false)
     (subst (λ (target : List ℕ). IsNearest image.colors.now target index)
     (c.rounded.ensures ∙ target-visit image errors n c.args.pixel numbers values at received are)
-    c.in_ok-index.ensures.nearest)
+    (c.in_ok-index.ensures.nearest image.colors.now c.requires.image.some c.requires.search))
     (c.error.ensures
     ∙ (ap
     (λ k. color_error image.strength values (slice_index_or image.colors.now k []))
     c.from.ensures
     ∙ error-visit image errors n c.args.pixel numbers values
     (slice_index_or image.colors.now index []) at received are))
+
+pub returns-clause-search : goal.returns-clause-search
+returns-clause-search c =
+    c.in_ok-index.ensures.search c.args.self.now.colors.now c.requires.search
+
+pub index_of-requires : goal.index_of-requires
+index_of-requires c = c.requires.search.lists
