@@ -294,8 +294,8 @@ size_t icysixel_get_rows_so_far(icysixel *handle);
 uint64_t icysixel_get_canvas_paints(icysixel *handle);
 
 /* Copies `rows` final rows of the open image, from row `first` on, to `buf`. The first of them
- * starts at buf[0]. Columns on the right of the image so far are background. A later error takes no
- * row back. It does not allocate. The errors, in this order, are:
+ * starts at buf[0]. Columns on the right of the image so far are background. Rows already copied
+ * stay valid after a later error. It does not allocate. The errors, in this order, are:
  *
  * - ICYSIXEL_NO_SESSION if no image is open;
  * - ICYSIXEL_ROWS_NOT_FINAL if first + rows is above icysixel_get_rows_so_far;
@@ -306,11 +306,10 @@ uint64_t icysixel_get_canvas_paints(icysixel *handle);
 uint32_t icysixel_copy_rows(icysixel *handle, size_t first, size_t rows,
                             const icysixel_layout *layout, uint8_t *buf, size_t size);
 
-/* Releases the final rows above row `rows` of the open image, which were copied. So an image that
- * is shown while it comes takes the memory of one band: copy the final rows and release them after
- * each band. icysixel_finish stores the rows that are left. The call does not allocate. The errors
- * are ICYSIXEL_NO_SESSION if no image is open, and ICYSIXEL_ROWS_NOT_FINAL if `rows` is
- * above icysixel_get_rows_so_far. */
+/* Frees rows 0 to `rows` - 1 of the open image. Copy them first. A host that copies and frees after
+ * each band needs memory for one band only. icysixel_finish stores the rows that are left. The call
+ * does not allocate. The errors are ICYSIXEL_NO_SESSION if no image is open, and
+ * ICYSIXEL_ROWS_NOT_FINAL if `rows` is above icysixel_get_rows_so_far. */
 uint32_t icysixel_release_rows(icysixel *handle, size_t rows);
 
 /* Closes the open image, stores it and writes its properties. It replaces an image that is stored.
@@ -531,8 +530,8 @@ uint32_t icysixel_choose_palette(const uint8_t *pixels, size_t length, uint16_t 
  * The buffers receive what those of icysixel_choose_palette receive. A buffer is too small if
  * `colors` has fewer than max_colors, `witnesses` fewer than max_colors + 1, or `indices` fewer
  * than one byte for each pixel. For more than 256 colors 256 and 257 are enough. The witnesses are
- * for the last entries. In any palette with fewer entries than there are witnesses, some witness
- * has a squared distance of at least a fourth of `apart` to its nearest entry.
+ * a certificate for the last entries: for any palette with fewer entries than witnesses, some
+ * witness is at a squared distance of at least `apart` / 4 from every entry.
  *
  * The errors, in this order, are:
  *
