@@ -7,10 +7,11 @@ import unittest
 from pathlib import Path
 
 from build import HEADERS, ROOT, needs, run
+from library import SHARED
 from rust.declared import of_header
 
 HERE = ROOT / "tests/install"
-HEADER = (HEADERS / "icysixel.h").read_text()
+HEADER, README = (HEADERS / "icysixel.h").read_text(), (ROOT / "README.md").read_text()
 # The result and the parameters of each function.
 CALLS = {name: it for name, it in of_header(HEADER).items() if f" {name}(" in HEADER}
 RED = b"\x1bP9;1q#1;2;100;0;0@\x1b\\"
@@ -71,16 +72,28 @@ class TestInstall(unittest.TestCase):
                 ended = run("sh", "-c", command, env=os.environ | variables, **options)
                 self.assertEqual(ended[:2], (0, output), ended[2].decode())
 
-    @needs("readelf", "nm")
+    @needs("readelf")
     def test_shared_library(self):
-        """It exports the calls of the header alone, and has no executable stack."""
-        library = self.folder / "lib/libicysixel.so.0"
-        names = re.findall(r" T (\w+)", run("nm", "-D", library)[1].decode())
+        """It exports the calls of the header alone, needs libc alone, and is hardened."""
+        words = "--wide", "--dynamic", "--dyn-syms", "--segments", "--sections"
+        told = run("readelf", *words, self.folder / "lib/libicysixel.so.0")[1].decode()
+        names = re.findall(r" (\w+)@@ICYSIXEL_0$", told, re.M)
         self.assertEqual(sorted(names), sorted(CALLS))
-        told = run("readelf", "--wide", "--dynamic", "--segments", library)[1].decode()
-        self.assertIn("Library soname: [libicysixel.so.0]", told)
-        self.assertRegex(told, r"GNU_STACK .* RW ")
-        self.assertNotIn("TEXTREL", told)
+        self.assertEqual(re.findall(r"\(NEEDED\).*\[(.*)\]", told), ["libc.so.6"])
+        self.assertIn("soname: [libicysixel.so.0]", told)
+        self.assertNotRegex(told, "TEXTREL|RPATH|RUNPATH")
+        # All relocations are done before the library is used, and are read-only then.
+        self.assertRegex(told, r"\(FLAGS\) +.*BIND_NOW")
+        self.assertIn(" GNU_RELRO ", told)
+        segments = re.findall(r"^ +(LOAD|GNU_STACK) .* ([R ][W ][E ]) 0x", told, re.M)
+        self.assertIn(("GNU_STACK", "RW "), segments)
+        self.assertNotIn("RWE", [flags for _, flags in segments])
+        # What can be written is the start-up code's, and the byte of a failed allocation.
+        sizes = re.findall(r" \.(?:data|bss) +\w+ +\w+ +\w+ (\w+)", told)
+        self.assertLessEqual(sum(int(it, 16) for it in sizes), 64)
+        calls, size = map(int, re.search(r"(\d+) calls in (\d+) KB", README).groups())
+        self.assertEqual(calls, len(CALLS))
+        self.assertAlmostEqual(SHARED.stat().st_size / 1000, size, delta=10)
 
     @needs("gcc", "nm")
     def test_memory_hooks(self):
