@@ -7,6 +7,7 @@
 #   make mutants      tries all mutants, before a release
 #   make verdict      proves everything anew by `rt ci`, before a release
 #   make bench        times the program and the library
+#   make lib-aarch64  builds the library for aarch64 in out/aarch64, by Debian's cross compiler
 #   make abi          renews abi/icysixel.txt, the library's binary interface
 #   make install      copies all to DESTDIR/PREFIX; PREFIX is /usr/local by default
 #   make uninstall    removes what `make install` has copied
@@ -29,6 +30,7 @@ tests = crates/sixel_tests/out/sixel_tests
 tests_by_rattle = $(tests).by-rattle
 archive = $(crate)/out/libicysixel.a
 archive_by_rattle = $(crate)/out/libicysixel.by-rattle.a
+archive_for_aarch64 = $(crate)/out/libicysixel.aarch64.a
 # The shared library has a folder of its own, so that `-L out -licysixel` links the archive.
 shared = out/shared/libicysixel.so
 # The header has the version, and the map the number of the soname.
@@ -50,6 +52,8 @@ all: program lib
 program: $(program)
 
 lib: out/libicysixel.a $(shared) out/icysixel.h out/icysixel.pc out/icysixel.3
+
+lib-aarch64: out/aarch64/libicysixel.a out/aarch64/shared/libicysixel.so
 
 check:
 	./check
@@ -93,8 +97,8 @@ uninstall:
 clean:
 	rm -rf out crates/*/out
 
-.PHONY: all program lib check built unit test mutants verdict bench abi install install-program \
-	install-lib uninstall clean
+.PHONY: all program lib lib-aarch64 check built unit test mutants verdict bench abi install \
+	install-program install-lib uninstall clean
 
 # A part of the description of a file.
 part = $(word $1,$(subst :, ,$(file)))
@@ -211,20 +215,35 @@ $(archive): $(archive_by_rattle)
 	$(call rt,$(crate),lib --jobs $(jobs) $(cpu))
 	$(end)
 
-out/icysixel_memory.o: $(hooks)
-	mkdir -p out
+# So does `rt lib` for another processor. The archive of this one is moved away meanwhile.
+$(archive_for_aarch64): $$(call sources,icysixel) $$(call proofs,icysixel) | out/libicysixel.a
+	$(call report,building for aarch64,icysixel)
+	$(start)
+	@mv $(archive) $(begun).other
+	$(call rt,$(crate),lib --jobs $(jobs) --target aarch64-unknown-linux-gnu)
+	@mv $(archive) $@ && mv $(begun).other $(archive)
+	$(end)
+
+# Debian's compiler for aarch64.
+out/aarch64/%: override CC = aarch64-linux-gnu-gcc
+out/aarch64/%: override AR = aarch64-linux-gnu-ar
+
+out/icysixel_memory.o out/aarch64/icysixel_memory.o: $(hooks)
+	mkdir -p $(@D)
 	$(cc) -c $(hooks) -o $@
 
-out/libicysixel.a: $(archive) out/icysixel_memory.o
-	cp $(archive) $@
-	ar rs $@ out/icysixel_memory.o
+out/libicysixel.a: $(archive)
+out/aarch64/libicysixel.a: $(archive_for_aarch64)
+out/libicysixel.a out/aarch64/libicysixel.a: $$(@D)/icysixel_memory.o
+	cp $(filter %.a,$^) $@
+	$(AR) rs $@ $(@D)/icysixel_memory.o
 
 # The map lets only the calls of the header out.
-$(shared): out/libicysixel.a $(map)
-	mkdir -p out/shared
+%/shared/libicysixel.so: %/libicysixel.a $(map)
+	mkdir -p $(@D)
 	$(cc) $(LDFLAGS) -shared -Wl,-soname,$(soname) -Wl,--version-script,$(map) \
 		-Wl,-z,noexecstack,-z,relro,-z,now,-z,defs \
-		-Wl,--whole-archive,out/libicysixel.a,--no-whole-archive -o $@
+		-Wl,--whole-archive,$<,--no-whole-archive -o $@
 
 out/icysixel.h: $(header)
 	install -D -m 644 $(header) $@

@@ -162,8 +162,9 @@ static void try_pixels(icysixel *h)
     add(entries, 3 * palette.colors), add(witnesses, 3 * palette.witnesses);
     add(&palette.error, 4), add(indices.at, indices.length);
     CHECK(icysixel_new(h) == ICYSIXEL_OK);
-    CHECK(icysixel_encode(h, pixels.at, pixels.length, 0, width, height, (int32_t)below(10),
-                          (int32_t)below(2), colors, &length) == ICYSIXEL_OK);
+    int32_t p1 = (int32_t)below(10), p2 = (int32_t)below(2);
+    CHECK(icysixel_encode(h, pixels.at, pixels.length, 0, width, height, p1, p2, colors, &length)
+          == ICYSIXEL_OK);
     struct bytes text = text_of(h, length);
     add(text.at, text.length);
     CHECK(icysixel_decode(h, text.at, text.length, &shape) == ICYSIXEL_OK);
