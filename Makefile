@@ -9,7 +9,8 @@
 #   make bench        times the program and the library
 #   make lib-aarch64  builds the library for aarch64 in out/aarch64, by Debian's cross compiler
 #   make abi          renews abi/icysixel.txt, the library's binary interface
-#   make install      copies all to DESTDIR/PREFIX; PREFIX is /usr/local by default
+#   make install      copies all to DESTDIR/PREFIX, which is /usr/local by default, and the library
+#                     to LIBDIR below it, which is lib
 #   make uninstall    removes what `make install` has copied
 #   make clean        removes what is built
 #
@@ -37,15 +38,19 @@ shared = out/shared/libicysixel.so
 version = $(shell sed -n 's/^.define ICYSIXEL_VERSION "\(.*\)"/\1/p' $(header))
 soname = libicysixel.so.$(shell sed -n 's/^ICYSIXEL_\([0-9]*\) {/\1/p' $(map))
 
-# What is installed below PREFIX: mode, source and place of each file, and links to the library.
+# What is installed below PREFIX: mode, source and place of each file, links to the library, and
+# files that describe it, which are made of templates.
 prefix = $(or $(PREFIX),/usr/local)
+libdir = $(or $(LIBDIR),lib)
 installed = $(DESTDIR)$(prefix)
 program_files = 755:$(program):bin/sixel 644:man/sixel.1:share/man/man1/sixel.1
-library_files = 644:out/libicysixel.a:lib/libicysixel.a 644:out/icysixel.h:include/icysixel.h \
-	755:$(shared):lib/libicysixel.so.$(version) 644:out/icysixel.3:share/man/man3/icysixel.3 \
-	$(foreach path,$(wildcard examples/*.c examples/python/*),644:$(path):share/doc/icysixel/$(path))
-links = lib/$(soname) lib/libicysixel.so
-described = lib/pkgconfig/icysixel.pc
+library_files = 644:out/libicysixel.a:$(libdir)/libicysixel.a 644:out/icysixel.h:include/icysixel.h \
+	755:$(shared):$(libdir)/libicysixel.so.$(version) 644:out/icysixel.3:share/man/man3/icysixel.3 \
+	$(foreach path,LICENSE-MIT LICENSE-APACHE $(wildcard examples/*.c examples/python/*),\
+		644:$(path):share/doc/icysixel/$(path))
+links = $(libdir)/$(soname) $(libdir)/libicysixel.so
+described = $(addprefix $(libdir)/,pkgconfig/icysixel.pc cmake/icysixel/icysixelConfig.cmake \
+	cmake/icysixel/icysixelConfigVersion.cmake)
 
 all: program lib
 
@@ -86,13 +91,12 @@ install-program: program
 install-lib: lib
 	$(call copy,$(library_files))
 	$(foreach link,$(links),ln -sf libicysixel.so.$(version) "$(installed)/$(link)" &&) :
-	mkdir -p "$(installed)/lib/pkgconfig"
-	$(call describe,$(prefix),/lib,/include) >"$(installed)/$(described)"
+	$(foreach file,$(described),$(description))
 
 uninstall:
 	rm -f $(foreach file,$(program_files) $(library_files),"$(installed)/$(call part,3)")
 	rm -f $(foreach file,$(links) $(described),"$(installed)/$(file)")
-	rm -rf "$(installed)/share/doc/icysixel"
+	rm -rf "$(installed)/share/doc/icysixel" "$(installed)/$(libdir)/cmake/icysixel"
 
 clean:
 	rm -rf out crates/*/out
@@ -110,9 +114,13 @@ install -D -m $(call part,1) $(call part,2) "$(installed)/$(call part,3)"
 endef
 copy = $(foreach file,$1,$(copied))
 
-# Describes the library for pkg-config in this prefix, with these folders below it.
-describe = sed 's|@prefix@|$1|; s|@lib@|$2|; s|@include@|$3|; s|@version@|$(version)|' \
-	$(crate)/icysixel.pc.in
+# Fills in a template, of a library in this prefix with these folders below it.
+describe = sed 's|@prefix@|$2|; s|@lib@|$3|; s|@include@|$4|; s|@version@|$(version)|' $(crate)/$1.in
+define description
+mkdir -p "$(installed)/$(dir $(file))"
+$(call describe,$(notdir $(file)),$(prefix),/$(libdir),/include) >"$(installed)/$(file)"
+
+endef
 
 # The crates of crates.txt, lowest first, and those that a crate uses.
 crates := $(shell sed -n 's/^\([a-z_]*\).*:.*/\1/p' crates.txt)
@@ -255,4 +263,4 @@ out/icysixel.3: $(header) scripts/manual
 # In out/, icysixel.pc names its own folder.
 out/icysixel.pc: $(header) $(crate)/icysixel.pc.in
 	mkdir -p out
-	$(call describe,$${pcfiledir}) >$@
+	$(call describe,icysixel.pc,$${pcfiledir}) >$@

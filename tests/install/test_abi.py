@@ -30,7 +30,7 @@ class TestAbi(unittest.TestCase):
         self.assertEqual(found.decode().splitlines(), ABI.read_text().splitlines())
 
     def test_release(self):
-        """Once a version is released, a changed line needs another soname, and a new line does not."""
+        """Once a version is released, a changed line needs another soname. A new line does not."""
         first, *lines = ABI.read_text().splitlines()
         series = first.split()[-1]
         changed = [first, *lines, "icysixel_size: 12 bytes"]

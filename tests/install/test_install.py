@@ -1,32 +1,17 @@
 """Tests what `make install` copies: programs, man pages, and the library for several languages."""
-import os
 import re
-import shutil
 import tempfile
 import unittest
 from pathlib import Path
 
-from build import HEADERS, ROOT, needs, run
+from build import AARCH64, HEADERS, ROOT, needs, run
+from install.users import UsersTest, variables
 from library import SHARED
 from rust.declared import of_header
 
-HERE = ROOT / "tests/install"
 HEADER, README = (HEADERS / "icysixel.h").read_text(), (ROOT / "README.md").read_text()
 # The result and the parameters of each function.
 CALLS = {name: it for name, it in of_header(HEADER).items() if f" {name}(" in HEADER}
-RED = b"\x1bP9;1q#1;2;100;0;0@\x1b\\"
-PIXELS, PPM = b"\xff\0\0\xff" + bytes(20), b"P6\n1 6\n255\n\xff\0\0" + bytes(15)
-FLAGS = "$(pkg-config --cflags --libs icysixel)"
-WARNINGS = "-pedantic -Wall -Wextra -Werror"
-# A tool, a command of the shell that reads a DCS sequence, and what it writes.
-USERS = [
-    ("gcc", f"gcc -static decode.c {FLAGS} -o ../c && ../c", PIXELS),
-    ("gcc", f"gcc -rdynamic decode.c {HERE}/hooks.c {FLAGS} -o ../c && ../c", PIXELS),
-    ("g++", f"g++ {WARNINGS} {HERE}/user.cpp {FLAGS} -o ../cpp && ../cpp", b""),
-    ("python3", "s='python3 python/sixel.py'; $s decode | $s encode | $s decode", PPM),
-    ("go", f"go run {HERE}/user.go", b""),
-    ("lua5.4", """lua5.4 -e 'assert(package.loadlib("libicysixel.so.0", "*"))'""", b""),
-]
 
 
 def make(*words):
@@ -37,7 +22,7 @@ def files_in(folder):
     return [it for it in Path(folder).rglob("*") if not it.is_dir()]
 
 
-class TestInstall(unittest.TestCase):
+class TestInstall(UsersTest):
     """The tests share a folder, in which all is installed."""
 
     @classmethod
@@ -59,38 +44,32 @@ class TestInstall(unittest.TestCase):
 
     @needs("pkg-config")
     def test_users(self):
-        """The library can be used from C, C++, Python, Go and Lua."""
-        room = Path(self.enterContext(tempfile.TemporaryDirectory()))
-        shutil.copytree(self.folder / "share/doc/icysixel/examples", room / "examples")
-        variables = {"LD_LIBRARY_PATH": f"{self.folder}/lib", "GOCACHE": f"{room}/go"}
-        variables |= {"PKG_CONFIG_PATH": f"{self.folder}/lib/pkgconfig"}
-        options = {"stdin": RED, "cwd": room / "examples", "timeout": 300}
-        for tool, command, output in USERS:
-            with self.subTest(command=command):
-                if not shutil.which(tool):
-                    self.skipTest(f"not installed: {tool}")
-                ended = run("sh", "-c", command, env=os.environ | variables, **options)
-                self.assertEqual(ended[:2], (0, output), ended[2].decode())
+        """The library can be used from C, C++, CMake, Python, Go and Lua."""
+        self.works(self.folder / "share/doc/icysixel/examples", variables(self.folder))
 
     @needs("readelf")
     def test_shared_library(self):
         """It exports the calls of the header alone, needs libc alone, and is hardened."""
-        words = "--wide", "--dynamic", "--dyn-syms", "--segments", "--sections"
-        told = run("readelf", *words, self.folder / "lib/libicysixel.so.0")[1].decode()
-        names = re.findall(r" (\w+)@@ICYSIXEL_0$", told, re.M)
-        self.assertEqual(sorted(names), sorted(CALLS))
-        self.assertEqual(re.findall(r"\(NEEDED\).*\[(.*)\]", told), ["libc.so.6"])
-        self.assertIn("soname: [libicysixel.so.0]", told)
-        self.assertNotRegex(told, "TEXTREL|RPATH|RUNPATH")
-        # All relocations are done before the library is used, and are read-only then.
-        self.assertRegex(told, r"\(FLAGS\) +.*BIND_NOW")
-        self.assertIn(" GNU_RELRO ", told)
-        segments = re.findall(r"^ +(LOAD|GNU_STACK) .* ([R ][W ][E ]) 0x", told, re.M)
-        self.assertIn(("GNU_STACK", "RW "), segments)
-        self.assertNotIn("RWE", [flags for _, flags in segments])
-        # What can be written is the start-up code's, and the byte of a failed allocation.
-        sizes = re.findall(r" \.(?:data|bss) +\w+ +\w+ +\w+ (\w+)", told)
-        self.assertLessEqual(sum(int(it, 16) for it in sizes), 64)
+        for library in self.folder / "lib/libicysixel.so.0", AARCH64 / "shared/libicysixel.so":
+            with self.subTest(library=library):
+                if not library.exists():
+                    self.skipTest("not built: make lib-aarch64")
+                words = "--wide", "--dynamic", "--dyn-syms", "--segments", "--sections"
+                told = run("readelf", *words, library)[1].decode()
+                names = re.findall(r" (\w+)@@ICYSIXEL_0$", told, re.M)
+                self.assertEqual(sorted(names), sorted(CALLS))
+                self.assertEqual(re.findall(r"\(NEEDED\).*\[(.*)\]", told), ["libc.so.6"])
+                self.assertIn("soname: [libicysixel.so.0]", told)
+                self.assertNotRegex(told, "TEXTREL|RPATH|RUNPATH")
+                # All relocations are done before the library is used, and are read-only then.
+                self.assertRegex(told, r"\(FLAGS\) +.*BIND_NOW")
+                self.assertIn(" GNU_RELRO ", told)
+                segments = re.findall(r"^ +(LOAD|GNU_STACK) .* ([R ][W ][E ]) 0x", told, re.M)
+                self.assertIn(("GNU_STACK", "RW "), segments)
+                self.assertNotIn("RWE", [flags for _, flags in segments])
+                # What can be written is the start-up code's, and the byte of a failed allocation.
+                sizes = re.findall(r" \.(?:data|bss) +\w+ +\w+ +\w+ (\w+)", told)
+                self.assertLessEqual(sum(int(it, 16) for it in sizes), 64)
         calls, size = map(int, re.search(r"(\d+) calls in (\d+) KB", README).groups())
         self.assertEqual(calls, len(CALLS))
         self.assertAlmostEqual(SHARED.stat().st_size / 1000, size, delta=10)
