@@ -25,10 +25,12 @@ HELGRIND = ["valgrind", "-q", "--tool=helgrind", "--error-exitcode=9"]
 
 NEEDED = {*"memcpy memmove memset rattle_alloc rattle_dealloc rattle_realloc".split()}
 # Payloads that are fed in chunks of a length, and the most instructions, a tenth more than they took:
-# sixels over what is drawn, and short runs, in single bytes; runs over a whole row; and bands, each
-# twice as wide as the one before.
+# sixels over what is drawn, in one byte and in two; short runs, in single bytes; runs over a whole
+# row; and bands, each twice as wide as the one before.
+SIXELS = b"!200~$" + 200 * (20 * b"?@A~]^Zo" + b"$")
 FEEDS = [
-    (1, b"!200~$" + 200 * (20 * b"?@A~]^Zo" + b"$"), 3_520_000),
+    (1, SIXELS, 3_520_000),
+    (2, SIXELS, 3_930_000),
     (1, 500 * b"#1!9~$", 710_000),
     (4096, 500 * b"!65535~$", 6_810_000),
     (4096, 500 * b"~-" + b"".join(b"!%d~-" % (2**it) for it in range(1, 12)), 27_300_000),

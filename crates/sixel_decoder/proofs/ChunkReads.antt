@@ -25,7 +25,7 @@ use Rattle.sixel_decoder.specs.declared.payload_parser.PayloadParser.{PayloadPar
 use Rattle.sixel_decoder.specs.declared.payload_parser.OpenCommand.TheVariants.{Ground}
 use Rattle.sixel_base.specs.Status.{status_of}
 use Rattle.sixel_base.specs.declared.status.SixelFeedStatus.TheVariants.{NeedMoreData, Terminated}
-use Rattle.sixel_decoder.specs.inside.PayloadParser.{Stands, StandsAfter, Decodes, after}
+use Rattle.sixel_decoder.specs.inside.PayloadParser.{Reaches, Stands, StandsAfter, Decodes, after}
 use Rattle.sixel_decoder.specs.inside.PayloadParser.{settled_after}
 use Rattle.sixel_decoder.specs.inside.Lenient.{HasDrawn}
 use Rattle.sixel_decoder.specs.inside.Painter.{Ends}
@@ -107,17 +107,6 @@ growths-fold h (byte ∷ bytes) = omega (arith, growths-read h byte, growths-fol
 
 -- ---- how far a parser has come
 
--- The bytes of a chunk before this index were read, and the parser is in the history so far.
-pub record Reaches {C : Type 0} {canvas : Ghosts C} (o : Origin) (parser : PayloadParser C canvas)
-    (h : History) (index : ℕ) (piece : List ℕ)
-    : Type 0 where
-  pub now : History
-  pub stands : Stands o parser now
-  pub ahead : fold read now (front (drop index piece)) ≡ after h piece
-  pub terminator : first_terminator (drop index piece) ≡ first_terminator piece
-  pub counted : index + count (drop index piece) ≡ count piece
-  pub grown : growths (closed h) ≤ growths (closed now)
-
 -- the byte at an index, and the bytes after it
 pub splits_at : (piece : List ℕ) (index : ℕ) → index < length piece
     → drop index piece ≡ get_or piece index 0 ∷ drop (index + 1) piece
@@ -181,6 +170,19 @@ reaches_pushed o parser parser' h index piece byte splits ends is r stands =
       counted = omega (arith, r.counted, ap count splits, count-cons byte rest ends);
       grown = omega (arith, r.grown, growths-read r.now byte);
     }
+
+-- a byte that a parser reads at once is printable
+pub reaches_printable : {C : Type 0} {canvas : Ghosts C} (o : Origin)
+    (parser parser' : PayloadParser C canvas) (h : History) (index : ℕ) (piece : List ℕ)
+    → index < length piece → IsPrintable (get_or piece index 0)
+    → (r : Reaches o parser h index piece) → Stands o parser' (read r.now (get_or piece index 0))
+    → Reaches o parser' h (index + 1) piece
+reaches_printable o parser parser' h index piece lt is r stands =
+    let byte : ℕ = get_or piece index 0 in
+    let ends : is_terminator byte ≡ false = grind (arith, nat_tests, is.0, is.1) in
+    let carries : is_ignored byte ≡ false = grind (arith, nat_tests, is.0, is.1) in
+    reaches_pushed o parser parser' h index piece byte (splits_at piece index lt) ends carries r
+    stands
 
 -- a sixel is printable
 pub sixel_from_test : (byte : ℕ) → is_sixel byte ≡ true → IsSixelByte byte

@@ -66,7 +66,8 @@ pub struct PayloadParser<C: Canvas + Drop> {
 
 impl<C: Canvas + Drop> PayloadParser<C> {
     ghost use Rattle.sixel_decoder.specs.inside.Painter.{Ends, FitsColumn};
-    ghost use Rattle.sixel_decoder.specs.inside.PayloadParser.{Stands, Reads, Feeds, StandsAfter};
+    ghost use Rattle.sixel_decoder.specs.inside.PayloadParser.{Stands, Reads, Reaches, Feeds};
+    ghost use Rattle.sixel_decoder.specs.inside.PayloadParser.{StandsAfter};
     ghost use Rattle.sixel_decoder.specs.inside.Lenient.{Tolerates, HasDrawn};
 
     /// Creates a parser that has read nothing.
@@ -91,13 +92,35 @@ impl<C: Canvas + Drop> PayloadParser<C> {
         ensures released { OnOk result
             (C.released self.new.painter.canvas ≡ C.released self.old.painter.canvas) }
     {
-        if chunk.len() == 1 && self.try_byte(chunk[0]) {
+        let read = self.try_front(chunk);
+        if read == chunk.len() {
             return Ok(SixelFeedResult {
-                consumed: 1,
+                consumed: read,
                 status: SixelFeedStatus::NeedMoreData,
             });
         }
-        self.read_chunk(chunk)
+        self.read_chunk(chunk, read)
+    }
+
+    /// Reads bytes at the front of a short chunk that cannot fail, and returns how many.
+    ///
+    /// It reads none of eight bytes or more, because sixels are drawn eight at once.
+    #[inline(always)]
+    fn try_front(&mut self, chunk: &[u8]) -> usize
+        ensures reaches { (o : Origin) (h : History) → Stands o self.old h
+            → Reaches o self.new h result chunk.now }
+        ensures released { C.released self.new.painter.canvas
+            ≡ C.released self.old.painter.canvas }
+    {
+        if chunk.len() >= 8 {
+            return 0;
+        }
+        'front: for index in 0..chunk.len() {
+            if !self.try_byte(chunk[index]) {
+                return index;
+            }
+        }
+        chunk.len()
     }
 
     /// Reads a byte that cannot fail, and returns whether it is one.
@@ -185,15 +208,15 @@ impl<C: Canvas + Drop> PayloadParser<C> {
         }
     }
 
-    /// Reads a chunk of any bytes.
+    /// Reads the rest of a chunk, from this byte on.
     #[inline(never)]
-    fn read_chunk(&mut self, chunk: &[u8]) -> Result<SixelFeedResult>
-        ensures feeds { (o : Origin) (h : History) → Stands o self.old h
+    fn read_chunk(&mut self, chunk: &[u8], from: usize) -> Result<SixelFeedResult>
+        ensures feeds { (o : Origin) (h : History) → Reaches o self.old h from chunk.now
             → Feeds result o self.new h chunk.now }
         ensures released { OnOk result
             (C.released self.new.painter.canvas ≡ C.released self.old.painter.canvas) }
     {
-        let mut index = 0;
+        let mut index = from;
         'bytes: while index < chunk.len() {
             let byte = chunk[index];
             if is_sixel(byte) {

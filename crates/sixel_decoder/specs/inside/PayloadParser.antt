@@ -1,8 +1,8 @@
 -- What a payload parser has drawn of the history so far: every token but a newest one that can
 -- continue. An invariant of this library's own: what a payload means, by DEC's manual, is in
 -- Payload of sixel_base.
-use Rattle.std.specs.Prelude.{ℕ, ◌≤◌, ◌*◌, ◌≡◌, None, Bool, true, false, nat_lt, MatchResult}
-use Rattle.std.specs.Prelude.{Result, List, ◌∷◌, fold, if◌then◌else◌}
+use Rattle.std.specs.Prelude.{ℕ, ◌≤◌, ◌+◌, ◌*◌, ◌≡◌, None, Bool, true, false, nat_lt, MatchResult}
+use Rattle.std.specs.Prelude.{Result, List, ◌∷◌, drop, fold, if◌then◌else◌}
 use Rattle.sixel_base.specs.Status.{status_of}
 use Rattle.sixel_base.specs.declared.status.SixelFeedResult.{SixelFeedResult}
 use Rattle.sixel_base.specs.Bytes.{front, count, first_terminator, is_terminated}
@@ -69,6 +69,16 @@ after history piece = fold read history (front piece)
 abbrev pub settled_after : History → List ℕ → History
 settled_after history piece =
     if is_terminated piece then after history piece else closed (after history piece)
+
+-- The bytes of a chunk before this index were read, and the parser is in the history so far.
+pub record Reaches {C : Type 0} {canvas : Ghosts C} (o : Origin) (parser : PayloadParser C canvas)
+    (h : History) (index : ℕ) (piece : List ℕ) : Type 0 where
+  pub now : History
+  pub stands : Stands o parser now
+  pub ahead : fold read now (front (drop index piece)) ≡ after h piece
+  pub terminator : first_terminator (drop index piece) ≡ first_terminator piece
+  pub counted : index + count (drop index piece) ≡ count piece
+  pub grown : growths (closed h) ≤ growths (closed now)
 
 -- After a terminator every token was drawn; before one, all but an open command.
 abbrev pub StandsAfter : {C : Type 0} {canvas : Ghosts C} → Bool → Origin

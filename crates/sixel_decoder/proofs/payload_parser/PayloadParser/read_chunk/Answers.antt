@@ -1,5 +1,5 @@
-use Rattle.std.proofs.Common.{◌≡◌, ◌-◌, ◌∷◌, ℕ, List, true, false, get_or, inl, inr, ap, subst, sym}
-use Rattle.std.proofs.Common.{◌∙◌, arith, length, length-drop}
+use Rattle.std.proofs.Common.{◌≡◌, ◌-◌, ◌∷◌, ℕ, List, true, false, get_or, inl, inr, subst, sym}
+use Rattle.std.proofs.Common.{◌∙◌, arith}
 use Rattle.std.specs.Prelude.{◌⊎◌}
 use Rattle.std.proofs.lemmas.Result.{err_from_is_err_and}
 use Rattle.sixel_base.specs.Fault.{Faults}
@@ -40,12 +40,12 @@ draw_sixels-requires-clause-sixel g c =
     (sixel_from_test byte (sym c.is_sixel.ensures ∙ c.if-is_sixel.true))
 
 pub returns-in_err-close-clause-feeds : goal.returns-in_err-close-clause-feeds
-returns-in_err-close-clause-feeds g c = λ o h stands.
+returns-in_err-close-clause-feeds g c = λ o h reached.
     let piece = c.args.chunk.now in
     let index = c.bytes.index in
     let byte = get_or piece index 0 in
     let test : is_sixel byte ≡ true = sym c.is_sixel.ensures ∙ c.if-is_sixel.true in
-    let r = c.bytes.invariant.1 o h stands in
+    let r = c.bytes.invariant.0 o h reached in
     let p = err_from_is_err_and c.from_residual.result c.from_residual.ensures.1 in
     rw (p.1, p.2)
     (feeds_refused_printable _ o c.bytes.self h index piece c.bytes-test.true
@@ -54,12 +54,12 @@ returns-in_err-close-clause-feeds g c = λ o h stands.
     (c.in_err-close.ensures.drawn o r.now r.stands)))
 
 pub returns-in_err-drawn-clause-feeds : goal.returns-in_err-drawn-clause-feeds
-returns-in_err-drawn-clause-feeds g c = λ o h stands.
+returns-in_err-drawn-clause-feeds g c = λ o h reached.
     let piece = c.args.chunk.now in
     let index = c.bytes.index in
     let byte = get_or piece index 0 in
     let test : is_sixel byte ≡ true = sym c.is_sixel.ensures ∙ c.if-is_sixel.true in
-    let r = c.bytes.invariant.1 o h stands in
+    let r = c.bytes.invariant.0 o h reached in
     let e = c.in_err-drawn.field-0.0 in
     let refused =
     c.in_err-drawn.ensures.tolerates o r.now (c.in_ok-close.ensures.drawn o r.now r.stands) in
@@ -86,21 +86,14 @@ bytes-preserved-then-is_sixel g c =
       painter = c.draw_sixels.new.self;
       ignored = c.draw_sixels.new.ignored;
     } in (
-      omega (
-        arith,
-        is.within,
-        c.bytes.invariant.0,
-        ap length c.tail.ensures,
-        length-drop c.bytes.index piece,
-      ),
-      λ o h stands.
-          let r = c.bytes.invariant.1 o h stands in
+      λ o h reached.
+          let r = c.bytes.invariant.0 o h reached in
           let shows = is.tolerates o r.now (c.in_ok-close.ensures.drawn o r.now r.stands) in
           reaches_read o c.bytes.self new h c.bytes.index drawn piece rest c.tail.ensures
           (λ k lt. (omega (arith, is.sixels k lt), omega (arith, is.sixels k lt))) is.within r
           (Stands-run o new r.now drawn rest c.in_ok-close.ensures.ground is.some is.within
           is.sixels shows),
-      is.released ∙ c.in_ok-close.ensures.released ∙ c.bytes.invariant.2,
+      is.released ∙ c.in_ok-close.ensures.released ∙ c.bytes.invariant.1,
     )
 
 -- ---- a command with a number
@@ -116,12 +109,12 @@ open_numbered-read-requires-clause-numbered g c =
     (c.is_numbered.ensures.bytes c.if-is_numbered.true)
 
 pub returns-in_err-close-2-clause-feeds : goal.returns-in_err-close-2-clause-feeds
-returns-in_err-close-2-clause-feeds g c = λ o h stands.
+returns-in_err-close-2-clause-feeds g c = λ o h reached.
     let piece = c.args.chunk.now in
     let index = c.bytes.index in
     let byte = get_or piece index 0 in
     let numbered = c.is_numbered.ensures.bytes c.if-is_numbered.true in
-    let r = c.bytes.invariant.1 o h stands in
+    let r = c.bytes.invariant.0 o h reached in
     let p =
     err_from_is_err_and c.from_residual-in_err-close-2.result
     c.from_residual-in_err-close-2.ensures.1 in
@@ -137,32 +130,25 @@ bytes-preserved-then-is_numbered g c =
     let rest : List ℕ = c.tail-then-is_numbered.result.now in
     let read = c.open_numbered-read.result in
     let is = c.open_numbered-read.ensures in (
-      omega (
-        arith,
-        is.within,
-        c.bytes.invariant.0,
-        ap length c.tail-then-is_numbered.ensures,
-        length-drop c.bytes.index piece,
-      ),
-      λ o h stands.
-          let r = c.bytes.invariant.1 o h stands in
+      λ o h reached.
+          let r = c.bytes.invariant.0 o h reached in
           reaches_read o c.bytes.self c.open_numbered-read.new.self h c.bytes.index read piece rest
           c.tail-then-is_numbered.ensures is.printable is.within r
           (is.stands o r.now (c.in_ok-close-2.ensures.drawn o r.now r.stands)),
-      is.released ∙ c.in_ok-close-2.ensures.released ∙ c.bytes.invariant.2,
+      is.released ∙ c.in_ok-close-2.ensures.released ∙ c.bytes.invariant.1,
     )
 
 -- ---- a terminator
 
 pub returns-in_err-close-3-clause-feeds : goal.returns-in_err-close-3-clause-feeds
-returns-in_err-close-3-clause-feeds g c = λ o h stands.
+returns-in_err-close-3-clause-feeds g c = λ o h reached.
     let piece = c.args.chunk.now in
     let index = c.bytes.index in
     let byte = get_or piece index 0 in
     let ends : is_terminator byte ≡ true = sym c.is_terminator.ensures ∙ c.if-is_terminator.true in
     let read =
     reads_before o c.bytes.self h index piece byte (splits_at piece index c.bytes-test.true) ends
-    (c.bytes.invariant.1 o h stands) in
+    (c.bytes.invariant.0 o h reached) in
     let p =
     err_from_is_err_and c.from_residual-in_err-close-3.result
     c.from_residual-in_err-close-3.ensures.1 in
@@ -171,25 +157,25 @@ returns-in_err-close-3-clause-feeds g c = λ o h stands.
     (c.in_err-close-3.ensures.drawn o _ read.1))
 
 pub returns-then-is_terminator-clause-feeds : goal.returns-then-is_terminator-clause-feeds
-returns-then-is_terminator-clause-feeds g c = λ o h stands.
+returns-then-is_terminator-clause-feeds g c = λ o h reached.
     let piece = c.args.chunk.now in
     let index = c.bytes.index in
     let byte = get_or piece index 0 in
     let ends : is_terminator byte ≡ true = sym c.is_terminator.ensures ∙ c.if-is_terminator.true in
     let read =
     reads_before o c.bytes.self h index piece byte (splits_at piece index c.bytes-test.true) ends
-    (c.bytes.invariant.1 o h stands) in
+    (c.bytes.invariant.0 o h reached) in
     feeds_terminated o _ h index piece c.bytes-test.true read.0 c.in_ok-close-3.ensures.ground
     (c.in_ok-close-3.ensures.drawn o _ read.1)
 
 -- ---- any other byte, and the end of the chunk
 
 pub returns-in_err-push-clause-feeds : goal.returns-in_err-push-clause-feeds
-returns-in_err-push-clause-feeds g c = λ o h stands.
+returns-in_err-push-clause-feeds g c = λ o h reached.
     let piece = c.args.chunk.now in
     let index = c.bytes.index in
     let byte = get_or piece index 0 in
-    let r = c.bytes.invariant.1 o h stands in
+    let r = c.bytes.invariant.0 o h reached in
     let ends : is_terminator byte ≡ false =
     sym c.is_terminator.ensures ∙ c.if-is_terminator.false in
     let carries : is_ignored byte ≡ false = sym c.is_ignored.ensures ∙ c.if-not-is_ignored.true in
@@ -201,12 +187,11 @@ returns-in_err-push-clause-feeds g c = λ o h stands.
 
 pub bytes-preserved : goal.bytes-preserved
 bytes-preserved g c = (
-  omega (arith, c.bytes-test.true),
-  λ o h stands.
+  λ o h reached.
       let piece = c.args.chunk.now in
       let index = c.bytes.index in
       let byte = get_or piece index 0 in
-      let r = c.bytes.invariant.1 o h stands in
+      let r = c.bytes.invariant.0 o h reached in
       let splits = splits_at piece index c.bytes-test.true in
       let ends : is_terminator byte ≡ false =
       sym c.is_terminator.ensures ∙ c.if-is_terminator.false in
@@ -223,13 +208,13 @@ bytes-preserved g c = (
       ],
   elim c.if-not-is_ignored.branch [
     | then-not-is_ignored+in_ok-push w ↦
-        rw w.self-is (w.in_ok-push.ensures.released ∙ c.bytes.invariant.2)
-    | else-not-is_ignored w ↦ rw w.self-is c.bytes.invariant.2
+        rw w.self-is (w.in_ok-push.ensures.released ∙ c.bytes.invariant.1)
+    | else-not-is_ignored w ↦ rw w.self-is c.bytes.invariant.1
   ],
 )
 
 pub returns-clause-feeds : goal.returns-clause-feeds
-returns-clause-feeds g c = λ o h stands.
+returns-clause-feeds g c = λ o h reached.
     feeds_whole o c.bytes.self h c.bytes.index c.args.chunk.now (omega (arith, c.bytes-test.false))
     (reads_whole o c.bytes.self h c.bytes.index c.args.chunk.now (omega (arith, c.bytes-test.false))
-    (c.bytes.invariant.1 o h stands))
+    (c.bytes.invariant.0 o h reached))
