@@ -4,22 +4,12 @@ use Rattle.std.specs.Prelude.{nat_lt}
 use Rattle.std.proofs.Common.{Bool, arith, cond, false, length, refl, true, ◌≡◌, ◌≤◌}
 use Rattle.std.proofs.lemmas.Bool.Decides.{nat_tests}
 use Rattle.sixel_encoder.specs.Compact.{compact_marks, compact_text, marked_text}
-use Rattle.sixel_encoder.specs.Marks.{Draws, IsDrawnText}
-use Rattle.sixel_encoder.specs.Numbers.{number_of, numbered_definitions}
-use Rattle.sixel_encoder.specs.Segments.{drawn_segments}
+use Rattle.sixel_encoder.specs.Marks.{IsDrawnText}
+use Rattle.sixel_encoder.specs.Numbers.{numbered_definitions}
 use Rattle.sixel_encoder.specs.Text.{Drawing, text_of}
 use Rattle.sixel_encoder.specs.Trip.{IsWritable}
-use Rattle.sixel_encoder.proofs.PaintedMarks.{Draws-painted}
 use Rattle.sixel_encoder.proofs.PlainText.{IsDrawnText-plain}
-use Rattle.sixel_encoder.proofs.RegisterNumbers.{AreNumbers-numbered}
-use Rattle.sixel_encoder.proofs.SegmentOrder.{AreSegments-drawn}
-
--- the compact marks draw the drawing
-Draws-compact : (drawing : Drawing) → IsWritable drawing
-    → Draws drawing (numbered_definitions drawing) (compact_marks drawing)
-Draws-compact drawing is =
-    Draws-painted drawing (number_of drawing) (numbered_definitions drawing)
-    (drawn_segments drawing) is (AreNumbers-numbered drawing is) (AreSegments-drawn drawing is)
+use Rattle.sixel_encoder.proofs.BandMarks.{Draws-compact}
 
 -- the compact text is a text of marks that draw the drawing
 pub IsDrawnText-compact : (drawing : Drawing) → IsWritable drawing

@@ -7,9 +7,8 @@ use Rattle.std.proofs.Common.{◌≡◌, ◌≤◌}
 use Rattle.std.proofs.lemmas.Bool.{cases_eq}
 use Rattle.std.proofs.lemmas.Bool.Decides.{nat_tests}
 use Rattle.sixel_encoder.specs.declared.segments.Segment.{Segment}
-use Rattle.sixel_encoder.specs.Compact.{is_of}
 use Rattle.sixel_encoder.specs.Segments.{with_pixel}
-use Rattle.sixel_encoder.proofs.SegmentTallies.{one, tally}
+use Rattle.sixel_encoder.proofs.SegmentTallies.{is_of, one, tally}
 
 -- ---- segments that are cut at gaps
 

@@ -1,5 +1,5 @@
 -- The lanes of a column that have a value, as the bits of a number.
-use Rattle.std.specs.Prelude.{None, Option, Some, ◌==◌, ◌≢◌}
+use Rattle.std.specs.Prelude.{None, Option, Some, is_some, not, ◌==◌, ◌≢◌}
 use Rattle.std.proofs.Common.{Bool, List, [], ap, arith, cond, eqb, false, inl, inr, length, map}
 use Rattle.std.proofs.Common.{refl, replicate, suc, sym, true, w16, zero, ℕ, ◌%◌, ◌*◌, ◌+◌}
 use Rattle.std.proofs.Common.{◌<◌, ◌^◌, ◌∙◌, ◌∷◌, ◌≡◌, ◌≤◌, get_or}
@@ -11,7 +11,7 @@ use Rattle.std.proofs.lemmas.Simd.{bitmask_splat, get_or-chunk, length-chunk}
 use lib.Lanes.{chunk, mask_l, top, zip2}
 use Rattle.sixel_encoder.specs.declared.band_entries.BandEntries.{BandEntries}
 use Rattle.sixel_encoder.specs.declared.text.IndexedImage.{IndexedImage}
-use Rattle.sixel_encoder.specs.Compact.{blocked_sixel, is_blocked}
+use Rattle.sixel_encoder.specs.Compact.{transparent_sixel}
 use Rattle.sixel_encoder.specs.Text.{entry_at, is_entry, mask, sixel_of}
 use Rattle.sixel_encoder.specs.inside.Compact.{AreLanes, lane_of}
 use Rattle.sixel_encoder.specs.inside.Indexed.{IsIndexed, drawing_of}
@@ -140,10 +140,10 @@ lane-entry entry None l = grind (arith, nat_tests)
 lane-entry entry (Some other) l = refl
 
 -- whether a lane of a pixel is transparent
-lane-none : (column : ℕ) (place : Option ℕ) → ((e : ℕ) → place ≡ Some e → e < 256)
-    → (lane_of place == 256) ≡ is_blocked [] column place
-lane-none column None known = refl
-lane-none column (Some other) known = let l = known other refl in grind (arith, nat_tests)
+lane-none : (place : Option ℕ) → ((e : ℕ) → place ≡ Some e → e < 256)
+    → (lane_of place == 256) ≡ not (is_some place)
+lane-none None known = refl
+lane-none (Some other) known = let l = known other refl in grind (arith, nat_tests)
 
 -- the lanes with an entry are the sixel of the entry
 pub sixel-lanes : (entries : BandEntries) (column entry : ℕ) → AreLanes entries
@@ -195,7 +195,7 @@ same-lane entries column bit other are lc same =
 pub transparent-lanes : (entries : BandEntries) (column : ℕ) → AreLanes entries
     → column < entries.image.now.width
     → mask (λ bit. get_or entries.lanes.items (8 * column + bit) 0 == 256) 8
-    ≡ blocked_sixel (drawing_of entries.image.now) entries.band [] column + 192
+    ≡ transparent_sixel (drawing_of entries.image.now) entries.band column + 192
 transparent-lanes entries column are lc =
     let test : ℕ → Bool = λ bit. get_or entries.lanes.items (8 * column + bit) 0 == 256 in
     let six : get_or entries.lanes.items (8 * column + 6) 0 ≡ 256 =
@@ -211,10 +211,10 @@ transparent-lanes entries column are lc =
       ap {B = ℕ} (λ b. cond b 64 0) on6,
       ap {B = ℕ} (λ b. cond b 128 0) on7,
       mask-same test
-          (λ bit. is_blocked [] column
-          (entry_at (drawing_of entries.image.now) column (6 * entries.band + bit))) 6
+          (λ bit. not (is_some
+          (entry_at (drawing_of entries.image.now) column (6 * entries.band + bit)))) 6
           (λ k l. ap (λ x. x == 256) (are.pixels column k lc l)
-          ∙ lane-none column
+          ∙ lane-none
           (entry_at (drawing_of entries.image.now) column (6 * entries.band + k))
           (λ e at. known entries.image.now entries.band column k e are.indexed lc at)),
     )

@@ -1,18 +1,22 @@
--- One column of a greedy fill, and a fill of another part of the columns.
-use Rattle.std.specs.Int.Bits.{and_zero_l, bit_and, bit_or}
+-- One column more of a greedy fill, and the blocked pixels after a segment.
+use Rattle.std.specs.Int.Bits.{bit_and, bit_or}
 use Rattle.std.specs.List.{range_with_len}
-use Rattle.std.specs.Prelude.{All, slice_index, ◌==◌}
-use Rattle.std.proofs.Common.{Bool, List, [], ap, append_assoc, arith, cond, false}
-use Rattle.std.proofs.Common.{length, refl, replicate, suc, sym, take, true, zero, ℕ, ◌++◌, ◌+◌}
-use Rattle.std.proofs.Common.{◌-◌, ◌<◌, ◌∙◌, ◌∷◌, ◌≡◌, ◌≢◌, ◌≤◌}
+use Rattle.std.specs.Prelude.{All, nat_le, nat_lt, slice_index, ◌&&◌, ◌==◌}
+use Rattle.std.proofs.Common.{Bool, List, [], ap, append_assoc, arith, cond, false, inl, inr, length}
+use Rattle.std.proofs.Common.{refl, replicate, set, suc, sym, take, true, ℕ, ◌++◌, ◌+◌, ◌-◌, ◌<◌, ◌∙◌}
+use Rattle.std.proofs.Common.{◌∷◌, ◌≡◌, ◌≢◌, ◌≤◌, length-append}
+use Rattle.std.proofs.lemmas.Bool.{cases_eq, cases_lt}
 use Rattle.std.proofs.lemmas.Bool.Decides.{nat_tests}
-use Rattle.std.proofs.lemmas.List.{get_or-drop, length-replicate, take_all}
+use Rattle.std.proofs.lemmas.Grind.{get_or-set_at, same_number_lists}
+use Rattle.std.proofs.lemmas.List.{get_or-set_other, length-replicate, length-set, take_all}
 use Rattle.std.proofs.lemmas.List.Elements.{All-append, All-replicate}
+use Rattle.std.proofs.lemmas.List.FromFn.{get_or-map-range_with_len, length-map-range_with_len}
 use Rattle.std.proofs.lemmas.Nat.{or_lt}
-use Rattle.std.proofs.lemmas.Slice.{drop-put_mid, take-put_mid}
-use borrow.Rule.Slice.PartMut.{put_mid}
-use Rattle.sixel_encoder.specs.Compact.{fill_after}
-use Rattle.sixel_encoder.proofs.RowParts.{length-put}
+use Rattle.sixel_encoder.specs.declared.segments.Segment.{Segment}
+use Rattle.sixel_encoder.specs.Compact.{blocked_after, blocked_sixel, fill_after, union}
+use Rattle.sixel_encoder.specs.Text.{Drawing, sixel_of}
+
+-- ---- a column of a fill
 
 -- the columns from one on
 range-more : (column len : ℕ) → column < len
@@ -21,229 +25,110 @@ range-more : (column len : ℕ) → column < len
 range-more column len l =
     let e : len - column ≡ suc (len - (column + 1)) = omega arith in ap (range_with_len column) e
 
+-- the sixels that are written and the fill that is left, which is of the columns up to an end
+abbrev pub state : (ℕ → ℕ) → (ℕ → ℕ) → List ℕ → ℕ → ℕ → ℕ → ℕ → ℕ → List ℕ
+state own blocked row bits ban count column end =
+    row ++ fill_after own blocked bits ban count (range_with_len column (end - column))
+
 -- a column that the run goes on over
-fill-more : (own blocked : ℕ → ℕ) (bits ban count column len : ℕ) → column < len
-    → bit_and (bit_or bits (own column)) (bit_or ban (blocked column)) ≡ 0
-    → fill_after own blocked bits ban count (range_with_len column (len - column))
-    ≡ fill_after own blocked (bit_or bits (own column)) (bit_or ban (blocked column)) (count + 1)
-    (range_with_len (column + 1) (len - (column + 1)))
-fill-more own blocked bits ban count column len l none =
-    let rest : List ℕ = range_with_len (column + 1) (len - (column + 1)) in
+pub fill-more : (own blocked : ℕ → ℕ) (row : List ℕ) (bits ban count column end : ℕ)
+    → column < end → bit_and (bit_or bits (own column)) (bit_or ban (blocked column)) ≡ 0
+    → state own blocked row (bit_or bits (own column)) (bit_or ban (blocked column)) (count + 1)
+    (column + 1) end
+    ≡ state own blocked row bits ban count column end
+fill-more own blocked row bits ban count column end l none =
+    let rest : List ℕ = range_with_len (column + 1) (end - (column + 1)) in
     let test : bit_and (bit_or bits (own column)) (bit_or ban (blocked column)) == 0 ≡ true =
     grind (arith, nat_tests) in
-    ap (fill_after own blocked bits ban count) (range-more column len l)
+    sym (ap (λ cs. row ++ fill_after own blocked bits ban count cs) (range-more column end l)
     ∙ ap
-    (λ t. cond t
+    (λ t. row ++ cond t
     (fill_after own blocked (bit_or bits (own column)) (bit_or ban (blocked column)) (count + 1)
     rest)
-    (replicate count bits ++ fill_after own blocked (own column) (blocked column) 1 rest)) test
-
--- a blank column goes on with a run without own sixels
-pub fill-blank : (own blocked : ℕ → ℕ) (ban column len : ℕ) → column < len → own column ≡ 0
-    → fill_after own blocked 0 ban column (range_with_len column (len - column))
-    ≡ fill_after own blocked 0 (bit_or ban (blocked column)) (column + 1)
-    (range_with_len (column + 1) (len - (column + 1)))
-fill-blank own blocked ban column len l none =
-    let bits : bit_or 0 (own column) ≡ 0 = ap (bit_or 0) none in
-    let wider : ℕ = bit_or ban (blocked column) in
-    let apart : bit_and (bit_or 0 (own column)) wider ≡ 0 =
-    ap (λ b. bit_and b wider) bits ∙ and_zero_l wider in
-    fill-more own blocked 0 ban column column len l apart
-    ∙ ap
-    (λ b. fill_after own blocked b wider (column + 1)
-    (range_with_len (column + 1) (len - (column + 1)))) bits
+    (replicate count bits ++ fill_after own blocked (own column) (blocked column) 1 rest)) test)
 
 -- a column that begins a run
-fill-cut : (own blocked : ℕ → ℕ) (bits ban count column len : ℕ) → column < len
-    → bit_and (bit_or bits (own column)) (bit_or ban (blocked column)) ≢ 0
-    → fill_after own blocked bits ban count (range_with_len column (len - column))
-    ≡ replicate count bits
-    ++ fill_after own blocked (own column) (blocked column) 1
-    (range_with_len (column + 1) (len - (column + 1)))
-fill-cut own blocked bits ban count column len l some =
-    let rest : List ℕ = range_with_len (column + 1) (len - (column + 1)) in
+pub fill-cut : (own blocked : ℕ → ℕ) (row : List ℕ) (bits ban count column end : ℕ)
+    → column < end → bit_and (bit_or bits (own column)) (bit_or ban (blocked column)) ≢ 0
+    → state own blocked (row ++ replicate count bits) (own column) (blocked column) 1 (column + 1)
+    end
+    ≡ state own blocked row bits ban count column end
+fill-cut own blocked row bits ban count column end l some =
+    let rest : List ℕ = range_with_len (column + 1) (end - (column + 1)) in
     let test : bit_and (bit_or bits (own column)) (bit_or ban (blocked column)) == 0 ≡ false =
     grind (arith, nat_tests) in
-    ap (fill_after own blocked bits ban count) (range-more column len l)
+    append_assoc row (replicate count bits)
+    (fill_after own blocked (own column) (blocked column) 1 rest)
+    ∙ sym (ap (λ cs. row ++ fill_after own blocked bits ban count cs) (range-more column end l)
     ∙ ap
-    (λ t. cond t
+    (λ t. row ++ cond t
     (fill_after own blocked (bit_or bits (own column)) (bit_or ban (blocked column)) (count + 1)
     rest)
-    (replicate count bits ++ fill_after own blocked (own column) (blocked column) 1 rest)) test
+    (replicate count bits ++ fill_after own blocked (own column) (blocked column) 1 rest)) test)
 
--- a list of equal numbers
-pub same-replicate : (xs : List ℕ) (n b : ℕ) → length xs ≡ n
-    → ((k : ℕ) → k < n → slice_index xs k ≡ b) → xs ≡ replicate n b
-same-replicate [] zero b size same = refl
-same-replicate [] (suc n) b size same = absurd (omega arith)
-same-replicate (x ∷ xs) zero b size same = absurd (omega arith)
-same-replicate (x ∷ xs) (suc n) b size same =
-    ap (λ y. y ∷ xs) (same 0 (omega arith))
-    ∙ ap (λ ys. b ∷ ys)
-    (same-replicate xs n b (omega (arith, size)) (λ k l. same (suc k) (omega arith)))
+-- the sixels that are written up to a column
+filled-up : (row row1 : List ℕ) (bits from column n m : ℕ) → from + length row ≤ column
+    → n ≡ column - from → m ≡ length row → row1 ≡ take n row ++ replicate (n - m) bits
+    → row1 ≡ row ++ replicate (column - from - length row) bits
+filled-up row row1 bits from column n m l up long is =
+    let amount : n - m ≡ column - from - length row = omega (arith, up, long) in
+    is
+    ∙ (ap (λ r. r ++ replicate (n - m) bits) (take_all n row (omega (arith, up, l)))
+    ∙ ap (λ k. row ++ replicate k bits) amount)
 
--- what a fill has written, and what the rest of it is
-abbrev state : List ℕ → List ℕ → ℕ → List ℕ → ℕ → ℕ → ℕ → List ℕ
-state initial blocked column row start bits ban =
-    take start row
-    ++ fill_after (slice_index initial) (slice_index blocked) bits ban (column - start)
-    (range_with_len column (length initial - column))
+-- the loop goes on with a run
+pub fill-on : (own blocked : ℕ → ℕ) (row row1 whole : List ℕ)
+    (bits ban bits1 ban1 from column end : ℕ) → column < end → from + length row ≤ column
+    → row1 ≡ row → bits1 ≡ bit_or bits (own column) → ban1 ≡ bit_or ban (blocked column)
+    → bit_and (bit_or bits (own column)) (bit_or ban (blocked column)) ≡ 0
+    → state own blocked row bits ban (column - from - length row) column end ≡ whole
+    → state own blocked row1 bits1 ban1 (column + 1 - from - length row1) (column + 1) end ≡ whole
+fill-on own blocked row row1 whole bits ban bits1 ban1 from column end l short row_is bits_is ban_is
+    none was =
+    let count : column + 1 - from - length row ≡ column - from - length row + 1 = omega arith in
+    rw (row_is, bits_is, ban_is, count)
+    (fill-more own blocked row bits ban (column - from - length row) column end l none ∙ was)
 
--- the fill after a column that the run goes on over
-pub fill-stay :
-    (initial blocked row next whole : List ℕ) (column start start1 bits bits1 ban ban1 : ℕ)
-    → column < length initial → start ≤ column → slice_index row column ≡ slice_index initial column
-    → next ≡ row → start1 ≡ start → bits1 ≡ bit_or bits (slice_index row column)
-    → ban1 ≡ bit_or ban (slice_index blocked column)
-    → bit_and (bit_or bits (slice_index row column)) (bit_or ban (slice_index blocked column)) ≡ 0
-    → state initial blocked column row start bits ban ≡ whole
-    → state initial blocked (column + 1) next start1 bits1 ban1 ≡ whole
-fill-stay initial blocked row next whole column start start1 bits bits1 ban ban1 l within same
-    row_is start_is bits_is ban_is none was =
-    let own : bits1 ≡ bit_or bits (slice_index initial column) =
-    bits_is ∙ ap (bit_or bits) same in
-    let more : ℕ = bit_or bits (slice_index initial column) in
-    let wider : ℕ = bit_or ban (slice_index blocked column) in
-    let test : bit_and (bit_or bits (slice_index initial column))
-    (bit_or ban (slice_index blocked column)) ≡ 0 =
-    ap (λ b. bit_and (bit_or bits b) (bit_or ban (slice_index blocked column))) (sym same)
-    ∙ none in
-    let count : column + 1 - start ≡ column - start + 1 = omega arith in
-    ap (λ r. state initial blocked (column + 1) r start1 bits1 ban1) row_is
-    ∙ (ap (λ s. state initial blocked (column + 1) row s bits1 ban1) start_is
-    ∙ (ap (λ b. state initial blocked (column + 1) row start b ban1) own
-    ∙ (ap (λ n. state initial blocked (column + 1) row start more n) ban_is
+-- the loop begins a run
+pub fill-off : (own blocked : ℕ → ℕ) (row row1 whole : List ℕ)
+    (bits ban bits1 ban1 from column end n m : ℕ) → column < end → from + length row ≤ column
+    → n ≡ column - from → m ≡ length row → row1 ≡ take n row ++ replicate (n - m) bits
+    → bits1 ≡ own column → ban1 ≡ blocked column
+    → bit_and (bit_or bits (own column)) (bit_or ban (blocked column)) ≢ 0
+    → state own blocked row bits ban (column - from - length row) column end ≡ whole
+    → (state own blocked row1 bits1 ban1 (column + 1 - from - length row1) (column + 1) end ≡ whole)
+    × (from + length row1 ≡ column)
+fill-off own blocked row row1 whole bits ban bits1 ban1 from column end n m l short up long row_is
+    bits_is ban_is some was =
+    let count : ℕ = column - from - length row in
+    let made = filled-up row row1 bits from column n m short up long row_is in
+    let size : from + length row1 ≡ column =
+    omega (
+      arith,
+      ap length made,
+      length-append row (replicate count bits),
+      length-replicate count bits,
+      short,
+    ) in
+    let first : column + 1 - from - length row1 ≡ 1 = omega (arith, size) in (
+      rw first (rw (made, bits_is, ban_is)
+          (fill-cut own blocked row bits ban count column end l some ∙ was)),
+      size,
+    )
+
+-- the loop ends
+pub fill-end : (own blocked : ℕ → ℕ) (row row1 whole : List ℕ) (bits ban from column n m : ℕ)
+    → from + length row ≤ column → n ≡ column - from → m ≡ length row
+    → row1 ≡ take n row ++ replicate (n - m) bits
+    → state own blocked row bits ban (column - from - length row) column column ≡ whole
+    → row1 ≡ whole
+fill-end own blocked row row1 whole bits ban from column n m short up long row_is was =
+    let none : 0 ≡ column - column = omega arith in
+    filled-up row row1 bits from column n m short up long row_is
     ∙ (ap
-    (λ k. take start row
-    ++ fill_after (slice_index initial) (slice_index blocked) more wider k
-    (range_with_len (column + 1) (length initial - (column + 1)))) count
-    ∙ (ap (λ t. take start row ++ t)
-    (sym (fill-more (slice_index initial) (slice_index blocked) bits ban (column - start) column
-    (length initial) l test))
-    ∙ was)))))
-
--- the fill after a column that begins a run
-pub fill-go :
-    (initial blocked row next ys whole : List ℕ) (column start start1 bits bits1 ban ban1 : ℕ)
-    → column < length initial → length row ≡ length initial → start ≤ column
-    → slice_index row column ≡ slice_index initial column → ys ≡ replicate (column - start) bits
-    → next ≡ put_mid start (column - start) row ys → start1 ≡ column
-    → bits1 ≡ slice_index row column → ban1 ≡ slice_index blocked column
-    → bit_and (bit_or bits (slice_index row column)) (bit_or ban (slice_index blocked column)) ≢ 0
-    → state initial blocked column row start bits ban ≡ whole
-    → state initial blocked (column + 1) next start1 bits1 ban1 ≡ whole
-fill-go initial blocked row next ys whole column start start1 bits bits1 ban ban1 l size within same
-    ys_is row_is start_is bits_is ban_is some was =
-    let own : bits1 ≡ slice_index initial column = bits_is ∙ same in
-    let value : ℕ = slice_index initial column in
-    let block : ℕ = slice_index blocked column in
-    let rest : List ℕ = range_with_len (column + 1) (length initial - (column + 1)) in
-    let test : bit_and (bit_or bits (slice_index initial column))
-    (bit_or ban (slice_index blocked column)) ≢ 0 =
-    λ e. some (ap (λ b. bit_and (bit_or bits b) (bit_or ban (slice_index blocked column))) same
-    ∙ e) in
-    let count : column + 1 - column ≡ 1 = omega arith in
-    let long : length ys ≡ column - start =
-    ap length ys_is ∙ length-replicate (column - start) bits in
-    let front : take column next ≡ take start row ++ replicate (column - start) bits =
-    ap (take column) row_is
-    ∙ (take-put_mid start (column - start) row ys column (omega (arith, long)) (omega arith)
-    ∙ ap (λ t. take start row ++ t) ys_is) in
-    ap (λ s. state initial blocked (column + 1) next s bits1 ban1) start_is
-    ∙ (ap (λ b. state initial blocked (column + 1) next column b ban1) own
-    ∙ (ap (λ n. state initial blocked (column + 1) next column value n) ban_is
-    ∙ (ap
-    (λ k. take column next
-    ++ fill_after (slice_index initial) (slice_index blocked) value block k rest) count
-    ∙ (ap
-    (λ f. f ++ fill_after (slice_index initial) (slice_index blocked) value block 1 rest) front
-    ∙ (append_assoc (take start row) (replicate (column - start) bits)
-    (fill_after (slice_index initial) (slice_index blocked) value block 1 rest)
-    ∙ (ap (λ t. take start row ++ t)
-    (sym (fill-cut (slice_index initial) (slice_index blocked) bits ban (column - start) column
-    (length initial) l test))
-    ∙ was))))))
-
--- the last run ends the fill
-pub fill-end : (initial blocked row ys whole : List ℕ) (column start bits ban : ℕ)
-    → column ≡ length initial → start ≤ column → length row ≡ length initial
-    → ys ≡ replicate (length initial - start) bits
-    → state initial blocked column row start bits ban ≡ whole
-    → put_mid start (length initial - start) row ys ≡ whole
-fill-end initial blocked row ys whole column start bits ban all within size is was =
-    let n : ℕ = length initial - start in
-    let long : length ys ≡ n = ap length is ∙ length-replicate n bits in
-    let inside : start + n ≤ length row = omega (arith, size, within, all) in
-    let put = length-put row ys start n inside long in
-    let none : length initial - column ≡ 0 = omega (arith, all) in
-    let count : column - start ≡ n = omega (arith, all) in
-    let rest : fill_after (slice_index initial) (slice_index blocked) bits ban (column - start)
-    (range_with_len column (length initial - column)) ≡ replicate n bits =
-    ap
-    (λ (k : ℕ). fill_after (slice_index initial) (slice_index blocked) bits ban (column - start)
+    (λ k. row ++ fill_after own blocked bits ban (column - from - length row)
     (range_with_len column k)) none
-    ∙ ap (λ (k : ℕ). replicate k bits) count in
-    sym (take_all (length initial) (put_mid start n row ys) (omega (arith, put, size)))
-    ∙ (take-put_mid start n row ys (length initial) (omega (arith, long, within, all))
-    (omega (arith, size, within, all))
-    ∙ (ap (λ (t : List ℕ). take start row ++ t) (is ∙ sym rest) ∙ was))
-
--- behind what is written the row is as it was
-pub behind : (row ys : List ℕ) (start n k : ℕ) → start + n ≤ k → start ≤ length row
-    → length ys ≡ n → slice_index (put_mid start n row ys) k ≡ slice_index row k
-behind row ys start n k past l size =
-    let place : (start + n) + (k - (start + n)) ≡ k = omega arith in
-    ap (slice_index (put_mid start n row ys)) (sym place)
-    ∙ (sym (get_or-drop (start + n) (put_mid start n row ys) (k - (start + n)) 0)
-    ∙ (ap (λ zs. slice_index zs (k - (start + n)))
-    (drop-put_mid start n row ys (start + n) (omega arith) l size)
-    ∙ (get_or-drop (start + n) row (k - (start + n)) 0 ∙ ap (slice_index row) place)))
-
--- a fill depends on the sixels of its columns
-pub fill-same : (own own1 blocked blocked1 : ℕ → ℕ) (bits ban count from from1 n : ℕ)
-    → ((k : ℕ) → k < n → own (from + k) ≡ own1 (from1 + k))
-    → ((k : ℕ) → k < n → blocked (from + k) ≡ blocked1 (from1 + k))
-    → fill_after own blocked bits ban count (range_with_len from n)
-    ≡ fill_after own1 blocked1 bits ban count (range_with_len from1 n)
-fill-same own own1 blocked blocked1 bits ban count from from1 zero os bs = refl
-fill-same own own1 blocked blocked1 bits ban count from from1 (suc n) os bs =
-    go (own from) (blocked from)
-    (ap own (omega arith) ∙ (os 0 (omega arith) ∙ ap own1 (omega arith)))
-    (ap blocked (omega arith) ∙ (bs 0 (omega arith) ∙ ap blocked1 (omega arith)))
-    (λ b1 b2 b3.
-    fill-same own own1 blocked blocked1 b1 b2 b3 (from + 1) (from1 + 1) n later-own later-blocked)
-  where
-    later-own : (k : ℕ) → k < n → own (from + 1 + k) ≡ own1 (from1 + 1 + k)
-    later-own k l =
-        let e : from + 1 + k ≡ from + suc k = omega arith in
-        let e1 : from1 + suc k ≡ from1 + 1 + k = omega arith in
-        ap own e ∙ (os (suc k) (omega arith) ∙ ap own1 e1)
-
-    later-blocked : (k : ℕ) → k < n → blocked (from + 1 + k) ≡ blocked1 (from1 + 1 + k)
-    later-blocked k l =
-        let e : from + 1 + k ≡ from + suc k = omega arith in
-        let e1 : from1 + suc k ≡ from1 + 1 + k = omega arith in
-        ap blocked e ∙ (bs (suc k) (omega arith) ∙ ap blocked1 e1)
-
-    go : (o b : ℕ) → o ≡ own1 from1 → b ≡ blocked1 from1
-        → ((b1 b2 b3 : ℕ)
-        → fill_after own blocked b1 b2 b3 (range_with_len (from + 1) n)
-        ≡ fill_after own1 blocked1 b1 b2 b3 (range_with_len (from1 + 1) n))
-        → cond (bit_and (bit_or bits o) (bit_or ban b) == 0)
-        (fill_after own blocked (bit_or bits o) (bit_or ban b) (count + 1)
-        (range_with_len (from + 1) n))
-        (replicate count bits ++ fill_after own blocked o b 1 (range_with_len (from + 1) n))
-        ≡ cond (bit_and (bit_or bits (own1 from1)) (bit_or ban (blocked1 from1)) == 0)
-        (fill_after own1 blocked1 (bit_or bits (own1 from1)) (bit_or ban (blocked1 from1))
-        (count + 1) (range_with_len (from1 + 1) n))
-        (replicate count bits
-        ++ fill_after own1 blocked1 (own1 from1) (blocked1 from1) 1 (range_with_len (from1 + 1) n))
-    go o b eo eb rest =
-        rw (eo, eb)
-        (rw (
-          rest (bit_or bits (own1 from1)) (bit_or ban (blocked1 from1)) (count + 1),
-          rest (own1 from1) (blocked1 from1) 1,
-        ) refl)
+    ∙ was)
 
 -- a fill has six bits in each column, if each own sixel has
 pub All-fill : (own blocked : ℕ → ℕ) → ((column : ℕ) → own column < 64)
@@ -273,17 +158,80 @@ All-fill own blocked low bits ban count (column ∷ columns) small =
         (fill_after own blocked (own column) (blocked column) 1 columns)
         (All-replicate (λ b. b < 64) count bits small) fresh
 
--- a fill of the first sixels of two rows
-pub fill-part : (own part owns parts : List ℕ) (n : ℕ) → length own ≡ n
-    → ((k : ℕ) → k < n → slice_index own k ≡ slice_index owns k)
-    → ((k : ℕ) → k < n → slice_index part k ≡ slice_index parts k)
-    → fill_after (slice_index own) (slice_index part) 0 0 0 (range_with_len 0 (length own))
-    ≡ fill_after (slice_index owns) (slice_index parts) 0 0 0 (range_with_len 0 n)
-fill-part own part owns parts n long os ps =
-    ap (λ m. fill_after (slice_index own) (slice_index part) 0 0 0 (range_with_len 0 m)) long
-    ∙ fill-same (slice_index own) (slice_index owns) (slice_index part) (slice_index parts) 0 0 0 0
-    0 n
-    (λ k l. let e : 0 + k ≡ k = omega arith in
-    ap (slice_index own) e ∙ (os k l ∙ ap (slice_index owns) (sym e)))
-    (λ k l. let e : 0 + k ≡ k = omega arith in
-    ap (slice_index part) e ∙ (ps k l ∙ ap (slice_index parts) (sym e)))
+-- ---- a union
+
+-- of no sixel
+pub union-none : (sixels : List ℕ) (from : ℕ) → union sixels from 0 ≡ 0
+unfolding union
+union-none sixels from = refl
+
+-- of one more
+pub union-more : (sixels : List ℕ) (from n : ℕ)
+    → union sixels from (n + 1) ≡ bit_or (union sixels from n) (slice_index sixels (from + n))
+unfolding union
+union-more sixels from n = let e : n + 1 ≡ suc n = omega arith in ap (union sixels from) e
+
+-- ---- what may not be covered after a segment
+
+-- the own pixels of some columns may not be covered either
+pub record IsBlocking (old : List ℕ) (own : ℕ → ℕ) (first end : ℕ) (new : List ℕ) : Type 0 where
+  pub wide : length new ≡ length old
+  pub inside : (k : ℕ) → first ≤ k → k < end
+      → slice_index new k ≡ bit_or (slice_index old k) (own k)
+  pub before : (k : ℕ) → k < first → slice_index new k ≡ slice_index old k
+  pub past : (k : ℕ) → end ≤ k → slice_index new k ≡ slice_index old k
+
+-- one column more
+pub blocked-more : (old was : List ℕ) (own : ℕ → ℕ) (first column value : ℕ)
+    → column < length was → first ≤ column
+    → value ≡ bit_or (slice_index old column) (own column)
+    → IsBlocking old own first column was
+    → IsBlocking old own first (column + 1) (set was column value)
+blocked-more old was own first column value l low is are = record {
+  wide = length-set was column value ∙ are.wide;
+  inside = λ k f t. elim (cases_eq k column) [
+    | inl same ↦
+        get_or-set_at was column k value 0 same l
+        ∙ (is ∙ ap (λ c. bit_or (slice_index old c) (own c)) (sym same))
+    | inr apart ↦
+        get_or-set_other was column k value 0 apart ∙ are.inside k f (omega (arith, t, apart))
+  ];
+  before = λ k t.
+      get_or-set_other was column k value 0 (λ e. omega (arith, e, t, low)) ∙ are.before k t;
+  past = λ k f.
+      get_or-set_other was column k value 0 (λ e. omega (arith, e, f))
+      ∙ are.past k (omega (arith, f));
+}
+
+-- those of all columns of a segment
+pub blocked-after : (drawing : Drawing) (band : ℕ) (old new : List ℕ) (segment : Segment)
+    → IsBlocking old (sixel_of drawing band segment.entry) segment.first segment.end new
+    → new ≡ blocked_after drawing band old segment
+blocked-after drawing band old new segment are =
+    same_number_lists new (blocked_after drawing band old segment)
+    (are.wide ∙ sym (length-map-range_with_len test 0 (length old)))
+    (λ k l.
+    at k
+    ∙ sym (get_or-map-range_with_len test 0 (length old) k k 0 (omega (arith, are.wide, l))
+    (omega arith)))
+  where
+    test : ℕ → ℕ
+    test = blocked_sixel drawing band old segment
+
+    at : (k : ℕ) → slice_index new k ≡ blocked_sixel drawing band old segment k
+    at k = elim (cases_lt k segment.first) [
+      | inl low ↦
+          let off : nat_le segment.first k && nat_lt k segment.end ≡ false =
+          grind (arith, nat_tests) in
+          rw off (are.before k low)
+      | inr since ↦ elim (cases_lt k segment.end) [
+        | inl within ↦
+            let on : nat_le segment.first k && nat_lt k segment.end ≡ true =
+            grind (arith, nat_tests) in
+            rw on (are.inside k since within)
+        | inr after ↦
+            let off : nat_le segment.first k && nat_lt k segment.end ≡ false =
+            grind (arith, nat_tests) in
+            rw off (are.past k after)
+      ]
+    ]

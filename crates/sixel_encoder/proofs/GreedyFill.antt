@@ -2,14 +2,12 @@
 use Rattle.std.specs.Int.{bit_at}
 use Rattle.std.specs.Int.Bits.{bit_and, bit_or}
 use Rattle.std.specs.Prelude.{slice_index, ◌==◌}
-use Rattle.std.proofs.Common.{Bool, List, [], ap, arith, cond, false, inl, inr, length, refl}
-use Rattle.std.proofs.Common.{replicate, suc, sym, true, zero, ℕ, ◌+◌, ◌-◌, ◌<◌, ◌∙◌, ◌∷◌, ◌++◌}
+use Rattle.std.proofs.Common.{Bool, List, [], ap, arith, cond, false, length, refl}
+use Rattle.std.proofs.Common.{replicate, suc, sym, true, zero, ℕ, ◌+◌, ◌<◌, ◌∙◌, ◌∷◌, ◌++◌}
 use Rattle.std.proofs.Common.{◌≡◌, ◌≤◌, length-append}
-use Rattle.std.proofs.lemmas.Bool.{cases_lt}
 use Rattle.std.proofs.lemmas.Bool.Decides.{nat_tests}
 use Rattle.std.proofs.lemmas.List.{get_or-append-add, get_or-replicate, get_or_append_left}
-use Rattle.std.proofs.lemmas.List.{get_or_past, length-replicate}
-use Rattle.std.proofs.lemmas.Nat.{or_lt}
+use Rattle.std.proofs.lemmas.List.{length-replicate}
 use Rattle.std.proofs.lemmas.Nat.Bits.{bit_at-lt, bit_at-zero, bit_at_and, bit_at_or}
 use Rattle.sixel_encoder.specs.Compact.{fill_after}
 
@@ -59,37 +57,31 @@ pub record IsFill (own blocked : ℕ → ℕ) (bits ban count : ℕ) (columns ro
   pub then : (k : ℕ) → k < length columns
       → IsFilled (own (slice_index columns k)) (blocked (slice_index columns k))
       (slice_index row (count + k))
-  pub small : (k : ℕ) → slice_index row k < 64
 
--- a fill is one, if no column's own pixels are blocked
-pub IsFill-fill :
-    (own blocked : ℕ → ℕ) → ((column : ℕ) → AreApart (own column) (blocked column))
-    → ((column : ℕ) → own column < 64) → (bits ban count : ℕ) (columns : List ℕ)
-    → AreApart bits ban → bits < 64
+-- no column's own pixels are blocked
+abbrev pub AreFit : (ℕ → ℕ) → (ℕ → ℕ) → List ℕ → Type 0
+AreFit own blocked columns =
+    (k : ℕ) → k < length columns
+    → AreApart (own (slice_index columns k)) (blocked (slice_index columns k))
+
+-- then a fill is one
+pub IsFill-fill : (own blocked : ℕ → ℕ) (bits ban count : ℕ) (columns : List ℕ)
+    → AreFit own blocked columns → AreApart bits ban
     → IsFill own blocked bits ban count columns (fill_after own blocked bits ban count columns)
-IsFill-fill own blocked apart low bits ban count [] now small = record {
+IsFill-fill own blocked bits ban count [] fits now = record {
   size = omega (arith, length-replicate count bits);
   first = λ k l. at k l;
   then = λ k l. absurd (omega arith);
-  small = λ k. elim (cases_lt k count) [
-    | inl l ↦ omega (arith, get_or-replicate count k bits 0 l, small)
-    | inr past ↦ omega (arith, past_replicate count k past)
-  ];
 }
   where
     at : (k : ℕ) → k < count → IsFilled bits ban (slice_index (replicate count bits) k)
     at k l =
         let e : slice_index (replicate count bits) k ≡ bits = get_or-replicate count k bits 0 l in
         rw e (IsFilled-self bits ban now)
-
-    past_replicate : (n k : ℕ) → n ≤ k → slice_index (replicate n bits) k ≡ 0
-    past_replicate n k past =
-        get_or_past (replicate n bits) k 0 (omega (arith, length-replicate n bits))
-IsFill-fill own blocked apart low bits ban count (column ∷ columns) now small =
+IsFill-fill own blocked bits ban count (column ∷ columns) fits now =
     go (bit_and more wider == 0) refl
-    (λ a l. IsFill-fill own blocked apart low more wider (count + 1) columns a l)
-    (IsFill-fill own blocked apart low (own column) (blocked column) 1 columns (apart column)
-    (low column))
+    (λ a. IsFill-fill own blocked more wider (count + 1) columns rest a)
+    (IsFill-fill own blocked (own column) (blocked column) 1 columns rest (fits 0 (omega arith)))
   where
     more : ℕ
     more = bit_or bits (own column)
@@ -97,11 +89,14 @@ IsFill-fill own blocked apart low bits ban count (column ∷ columns) now small 
     wider : ℕ
     wider = bit_or ban (blocked column)
 
+    rest : AreFit own blocked columns
+    rest k l = fits (suc k) (omega (arith, l))
+
     next : List ℕ
     next = fill_after own blocked (own column) (blocked column) 1 columns
 
     go : (b : Bool) → bit_and more wider == 0 ≡ b
-        → (AreApart more wider → more < 64
+        → (AreApart more wider
         → IsFill own blocked more wider (count + 1) columns
         (fill_after own blocked more wider (count + 1) columns))
         → IsFill own blocked (own column) (blocked column) 1 columns
@@ -111,9 +106,7 @@ IsFill-fill own blocked apart low bits ban count (column ∷ columns) now small 
         (replicate count bits ++ fill_after own blocked (own column) (blocked column) 1 columns))
     go true e longer fresh =
         let none : bit_and more wider ≡ 0 = grind (arith, nat_tests) in
-        let rest =
-        longer (apart-and more wider none) (or_lt 6 bits (own column) small (low column)) in
-        goes rest
+        goes (longer (apart-and more wider none))
       where
         goes : IsFill own blocked more wider (count + 1) columns
             (fill_after own blocked more wider (count + 1) columns)
@@ -125,7 +118,6 @@ IsFill-fill own blocked apart low bits ban count (column ∷ columns) now small 
               IsFilled-less bits more ban wider _ (part-left bits (own column))
               (part-left ban (blocked column)) (rest.first k (omega arith));
           then = λ k l. later k l;
-          small = rest.small;
         }
           where
             later : (k : ℕ) → k < suc (length columns)
@@ -148,17 +140,6 @@ IsFill-fill own blocked apart low bits ban count (column ∷ columns) now small 
       );
       first = λ k l. let same = left k l in rw same (IsFilled-self bits ban now);
       then = λ k l. later k l;
-      small = λ k. elim (cases_lt k count) [
-        | inl l ↦ omega (arith, left k l, small)
-        | inr since ↦
-            let at = right (k - count) in
-            omega (
-              arith,
-              fresh.small (k - count),
-              at,
-              ap (slice_index (replicate count bits ++ next)) (back k since),
-            )
-      ];
     }
       where
         left : (k : ℕ) → k < count
@@ -168,9 +149,6 @@ IsFill-fill own blocked apart low bits ban count (column ∷ columns) now small 
             get_or_append_left (replicate count bits)
             (fill_after own blocked (own column) (blocked column) 1 columns) 0 k
             (omega (arith, length-replicate count bits)) ∙ get_or-replicate count k bits 0 l
-
-        back : (k : ℕ) → count ≤ k → count + (k - count) ≡ k
-        back k since = omega arith
 
         right : (k : ℕ)
             → slice_index (replicate count bits

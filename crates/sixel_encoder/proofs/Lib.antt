@@ -45,7 +45,9 @@ pub mod Tokens
 pub mod UsedBands
 pub mod EncodedText
 pub mod GreedyFill
-pub mod PaintedMarks
+pub mod FillSteps
+pub mod LeftSegments
+pub mod BandMarks
 pub mod RegisterNumbers
 pub mod SegmentOrder
 pub mod CompactText
@@ -59,15 +61,11 @@ pub mod DitheredIndices
 pub mod DiffusionVisit
 pub mod IndexedText
 pub mod Counts
-pub mod FillSteps
 pub mod SegmentSteps
-pub mod SixelBits
 pub mod CompactSteps
-pub mod PenStates
 pub mod FormText
 pub mod CutSegments
 pub mod PassSteps
-pub mod SegmentFill
 pub mod SegmentMarks
 pub mod SegmentTallies
 pub mod RefinedText

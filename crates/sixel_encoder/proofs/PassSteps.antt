@@ -1,15 +1,13 @@
 -- One pixel more of a band, and one segment more of a pass.
-use Rattle.std.specs.Prelude.{None, Option, Some, nat_le, slice_index_or, ◌/◌}
+use Rattle.std.specs.Prelude.{None, Option, Some, slice_index_or, ◌/◌}
 use Rattle.std.specs.Prelude.{◌%◌}
-use Rattle.std.proofs.Common.{Bool, List, [], ap, append_assoc, arith, cond, drop, false}
+use Rattle.std.proofs.Common.{Bool, List, [], ap, append_assoc, arith, cond, false}
 use Rattle.std.proofs.Common.{length, refl, replicate, suc, sym, true, zero, ℕ, ◌*◌}
 use Rattle.std.proofs.Common.{◌++◌, ◌+◌, ◌<◌}
-use Rattle.std.proofs.Common.{◌-◌, ◌∙◌, ◌∷◌, ◌≡◌, ◌≤◌}
+use Rattle.std.proofs.Common.{◌-◌, ◌∙◌, ◌∷◌, ◌≡◌}
 use Rattle.std.proofs.lemmas.Bool.Decides.{nat_tests}
-use Rattle.std.proofs.Math.Seq.{drop-cons}
 use Rattle.std.proofs.lemmas.List.{append-nil}
 use Rattle.sixel_encoder.specs.declared.segments.Segment.{Segment}
-use Rattle.sixel_encoder.specs.Compact.{nth}
 use Rattle.sixel_encoder.specs.Segments.{after_pass, gap_of, in_pass, passes, segments_up_to}
 use Rattle.sixel_encoder.specs.Segments.{with_pixel, with_place}
 use Rattle.sixel_encoder.specs.Text.{Drawing, entry_at}
@@ -30,80 +28,6 @@ pub segments_up_to-more : (drawing : Drawing) (band n : ℕ)
 unfolding segments_up_to
 segments_up_to-more drawing band n =
     let e : n + 1 ≡ suc n = omega arith in ap (segments_up_to drawing band) e
-
--- ---- a pass
-
--- what is drawn and what a pass still draws, after a segment that it draws
-pub pass-take : (segments drawn next whole : List Segment) (column k : ℕ) (segment : Segment)
-    → k < length segments → nth segments k ≡ segment → column ≤ segment.first
-    → next ≡ drawn ++ segment ∷ [] → drawn ++ in_pass column (drop k segments) ≡ whole
-    → next ++ in_pass segment.end (drop (k + 1) segments) ≡ whole
-pass-take segments drawn next whole column k segment l at low is was =
-    let test : nat_le column segment.first ≡ true = grind (arith, nat_tests) in
-    let e : k + 1 ≡ suc k = omega arith in
-    let rest : List Segment = drop (suc k) segments in
-    ap (λ n. n ++ in_pass segment.end (drop (k + 1) segments)) is
-    ∙ (ap (λ i. (drawn ++ segment ∷ []) ++ in_pass segment.end (drop i segments)) e
-    ∙ (append_assoc drawn (segment ∷ []) (in_pass segment.end rest)
-    ∙ (ap (λ s. drawn ++ s)
-    (sym (ap (in_pass column)
-    (drop-cons segments k record { entry = 0; first = 0; end = 0 } l
-    ∙ ap (λ s. s ∷ rest) at)
-    ∙ ap (λ t. cond t (segment ∷ in_pass segment.end rest) (in_pass column rest)) test))
-    ∙ was)))
-
--- after a segment that it leaves
-pub pass-leave : (segments drawn whole : List Segment) (column k : ℕ) (segment : Segment)
-    → k < length segments → nth segments k ≡ segment → segment.first < column
-    → drawn ++ in_pass column (drop k segments) ≡ whole
-    → drawn ++ in_pass column (drop (k + 1) segments) ≡ whole
-pass-leave segments drawn whole column k segment l at low was =
-    let test : nat_le column segment.first ≡ false = grind (arith, nat_tests) in
-    let e : k + 1 ≡ suc k = omega arith in
-    let rest : List Segment = drop (suc k) segments in
-    ap (λ i. drawn ++ in_pass column (drop i segments)) e
-    ∙ (ap (λ s. drawn ++ s)
-    (sym (ap (in_pass column)
-    (drop-cons segments k record { entry = 0; first = 0; end = 0 } l
-    ∙ ap (λ s. s ∷ rest) at)
-    ∙ ap (λ t. cond t (segment ∷ in_pass segment.end rest) (in_pass column rest)) test))
-    ∙ was)
-
--- what is left and what a pass still leaves, after a segment that it draws
-pub left-take : (segments left whole : List Segment) (column k : ℕ) (segment : Segment)
-    → k < length segments → nth segments k ≡ segment → column ≤ segment.first
-    → left ++ after_pass column (drop k segments) ≡ whole
-    → left ++ after_pass segment.end (drop (k + 1) segments) ≡ whole
-left-take segments left whole column k segment l at low was =
-    let test : nat_le column segment.first ≡ true = grind (arith, nat_tests) in
-    let e : k + 1 ≡ suc k = omega arith in
-    let rest : List Segment = drop (suc k) segments in
-    ap (λ i. left ++ after_pass segment.end (drop i segments)) e
-    ∙ (ap (λ s. left ++ s)
-    (sym (ap (after_pass column)
-    (drop-cons segments k record { entry = 0; first = 0; end = 0 } l
-    ∙ ap (λ s. s ∷ rest) at)
-    ∙ ap (λ t. cond t (after_pass segment.end rest) (segment ∷ after_pass column rest)) test))
-    ∙ was)
-
--- after a segment that it leaves
-pub left-leave : (segments left next whole : List Segment) (column k : ℕ) (segment : Segment)
-    → k < length segments → nth segments k ≡ segment → segment.first < column
-    → next ≡ left ++ segment ∷ [] → left ++ after_pass column (drop k segments) ≡ whole
-    → next ++ after_pass column (drop (k + 1) segments) ≡ whole
-left-leave segments left next whole column k segment l at low is was =
-    let test : nat_le column segment.first ≡ false = grind (arith, nat_tests) in
-    let e : k + 1 ≡ suc k = omega arith in
-    let rest : List Segment = drop (suc k) segments in
-    ap (λ n. n ++ after_pass column (drop (k + 1) segments)) is
-    ∙ (ap (λ i. (left ++ segment ∷ []) ++ after_pass column (drop i segments)) e
-    ∙ (append_assoc left (segment ∷ []) (after_pass column rest)
-    ∙ (ap (λ s. left ++ s)
-    (sym (ap (after_pass column)
-    (drop-cons segments k record { entry = 0; first = 0; end = 0 } l
-    ∙ ap (λ s. s ∷ rest) at)
-    ∙ ap (λ t. cond t (after_pass segment.end rest) (segment ∷ after_pass column rest)) test))
-    ∙ was)))
 
 -- ---- all passes
 

@@ -4,7 +4,7 @@ use Rattle.std.proofs.Common.{Bool, List, [], ap, arith, cond, false, length, re
 use Rattle.std.proofs.Common.{suc, sym, true, zero, ℕ, ◌++◌, ◌+◌, ◌-◌, ◌*◌, ◌<◌, ◌≤◌, ◌≡◌, ◌∙◌, ◌∷◌}
 use Rattle.std.proofs.lemmas.Bool.Decides.{nat_tests}
 use Rattle.sixel_encoder.specs.declared.segments.Segment.{Segment}
-use Rattle.sixel_encoder.specs.Compact.{nth}
+use Rattle.sixel_encoder.specs.inside.Compact.{nth}
 use Rattle.sixel_encoder.specs.Segments.{gap_of, segments_up_to, with_pixel}
 use Rattle.sixel_encoder.specs.Text.{Drawing, entry_at}
 use Rattle.sixel_encoder.specs.inside.Compact.{with_run}

@@ -1,242 +1,246 @@
--- The marks of a segment lead to the next segment of its band.
+-- The marks of a segment draw its pixels and cover none that may not be covered.
 use Rattle.std.specs.Int.{bit_at}
-use Rattle.std.specs.List.{list_any}
-use Rattle.std.specs.Prelude.{None, Option, Some, is_some, nat_le, slice_index}
-use Rattle.std.specs.Prelude.{◌||◌}
-use Rattle.std.proofs.Common.{Bool, List, [], ap, arith, cond, false, length}
-use Rattle.std.proofs.Common.{refl, subst, suc, sym, take, true, zero, ℕ, ◌*◌, ◌++◌, ◌+◌, ◌-◌}
-use Rattle.std.proofs.Common.{◌<◌, ◌∙◌, ◌∷◌, ◌≡◌, ◌≤◌}
+use Rattle.std.specs.Prelude.{None, Option, Some, is_some, nat_le, slice_index, ◌==◌}
+use Rattle.std.proofs.Common.{Bool, List, [], ap, arith, cond, false, inl, inr, length, refl, sym}
+use Rattle.std.proofs.Common.{true, ℕ, ◌*◌, ◌++◌, ◌+◌, ◌-◌, ◌<◌, ◌∙◌, ◌∷◌, ◌≡◌, ◌≤◌}
+use Rattle.std.proofs.lemmas.Bool.{both_ways, cases_eq, cases_lt, eq-eqb}
 use Rattle.std.proofs.lemmas.Bool.Decides.{nat_tests}
-use Rattle.std.proofs.lemmas.List.Elements.{All-from_get_or}
 use Rattle.std.proofs.lemmas.Nat.Bits.{bit_at-lt}
 use Rattle.sixel_encoder.specs.declared.segments.Segment.{Segment}
-use Rattle.sixel_encoder.specs.Compact.{blocked_sixel, is_blocked, is_of, is_selected, nth}
-use Rattle.sixel_encoder.specs.Compact.{own_sixel, segment_marks}
+use Rattle.sixel_encoder.specs.Compact.{Drawn, blocked_after, drawn_after, drawn_by, is_selected}
+use Rattle.sixel_encoder.specs.Compact.{segment_marks, segment_row, segments_marks, start_column}
 use Rattle.sixel_encoder.specs.Compact.{to_register, to_segment}
-use Rattle.sixel_encoder.specs.Marks.{Back, Draw, Mark}
-use Rattle.sixel_encoder.specs.Marks.{Pen, Pick, is_lit, moved, moved_by}
+use Rattle.sixel_encoder.specs.Marks.{Back, Draw, Mark, Pen, Pick, is_lit, moved, moved_by}
+use Rattle.sixel_encoder.specs.Numbers.{number_of}
 use Rattle.sixel_encoder.specs.Text.{Drawing, bands, entry_at}
 use Rattle.sixel_encoder.specs.Trip.{is_used}
 use Rattle.sixel_encoder.proofs.EntryRows.{IsInBand}
-use Rattle.sixel_encoder.proofs.MarkSteps.{Leads, Leads-append, Places}
-use Rattle.sixel_encoder.proofs.MarkSteps.{painted_all}
-use Rattle.sixel_encoder.proofs.SegmentFill.{AreSegments, IsLit, IsSegment, bit-mask, filled}
-use Rattle.sixel_encoder.proofs.SegmentFill.{is-lit, length-row, lit-is, none_there, row-at}
-use Rattle.sixel_encoder.proofs.SegmentFill.{row_from}
+use Rattle.sixel_encoder.proofs.LeftSegments.{AreLeft, AreLeft-after, IsSegment, IsSegmentRow}
+use Rattle.sixel_encoder.proofs.LeftSegments.{IsSegmentRow-left, first-left, is_of-entry, own-bit}
+use Rattle.sixel_encoder.proofs.LeftSegments.{row-small}
+use Rattle.sixel_encoder.proofs.MarkSteps.{Leads, Leads-append, Places, painted_all}
+use Rattle.sixel_encoder.proofs.RegisterNumbers.{AreNumbers}
+use Rattle.sixel_encoder.proofs.RowPixels.{is_lit-past}
+use Rattle.sixel_encoder.proofs.SegmentTallies.{is_of, one}
 
--- ---- between two segments of a band
+-- ---- within a band
 
--- The pen is in the band. No transparent pixel is set. The pixels of the bands above and, in this
--- band, of the segments before this one are drawn in their own registers.
-pub record InBand (drawing : Drawing) (number : ℕ → ℕ) (segments : ℕ → List Segment) (band k : ℕ)
-    (pen : Pen) (place : Places) : Type 0 where
+-- The pen is where it should be. No transparent pixel is set. The pixels of the bands above and, in
+-- this band, those that may not be covered are drawn in their own registers.
+pub record IsDrawn (drawing : Drawing) (band : ℕ) (drawn : Drawn) (pen : Pen) (place : Places)
+    : Type 0 where
+  pub column : pen.column ≡ drawn.column
+  pub register : pen.register ≡ drawn.register
   pub level : pen.band ≡ band
   pub transparent : (column line : ℕ) → column < drawing.width → entry_at drawing column line ≡ None
       → place column line ≡ None
   pub above : (column line entry : ℕ) → column < drawing.width → line < 6 * band
-      → entry_at drawing column line ≡ Some entry → place column line ≡ Some (number entry)
-  pub drawn : (column line entry : ℕ) → column < drawing.width → IsInBand band line
       → entry_at drawing column line ≡ Some entry
-      → list_any (is_of column (Some entry)) (take k (segments band)) ≡ true
-      → place column line ≡ Some (number entry)
+      → place column line ≡ Some (number_of drawing entry)
+  pub here : (column line entry : ℕ) → column < drawing.width → IsInBand band line
+      → entry_at drawing column line ≡ Some entry
+      → bit_at (slice_index drawn.blocked column) (line - 6 * band) ≡ 1
+      → place column line ≡ Some (number_of drawing entry)
 
--- the pen is also at the segment or to its left
-abbrev pub AtSegment :
-    Drawing → (ℕ → ℕ) → (ℕ → List Segment) → ℕ → ℕ → Pen → Places → Type 0
-AtSegment drawing number segments band k pen place =
-    (pen.column ≤ (nth (segments band) k).first) × InBand drawing number segments band k pen place
-
--- and has its register
-abbrev pub Ready : Drawing → (ℕ → ℕ) → (ℕ → List Segment) → ℕ → ℕ → Pen → Places → Type 0
-Ready drawing number segments band k pen place =
-    (pen.register ≡ Some (number (nth (segments band) k).entry))
-    × AtSegment drawing number segments band k pen place
-
--- the pen may move to another column and take another register
-pub InBand-pen : (drawing : Drawing) (number : ℕ → ℕ) (segments : ℕ → List Segment) (band k : ℕ)
-    (pen other : Pen) (place : Places) → other.band ≡ pen.band
-    → InBand drawing number segments band k pen place
-    → InBand drawing number segments band k other place
-InBand-pen drawing number segments band k pen other place same at = record {
+-- the pen moves and draws nothing
+IsDrawn-moved : (drawing : Drawing) (band : ℕ) (drawn next : Drawn) (pen other : Pen)
+    (place : Places) → other.column ≡ next.column → other.register ≡ next.register
+    → other.band ≡ pen.band → next.blocked ≡ drawn.blocked
+    → IsDrawn drawing band drawn pen place → IsDrawn drawing band next other place
+IsDrawn-moved drawing band drawn next pen other place column register same kept at = record {
+  column = column;
+  register = register;
   level = same ∙ at.level;
   transparent = at.transparent;
   above = at.above;
-  drawn = at.drawn;
+  here = λ x line entry lc inside e bit.
+      at.here x line entry lc inside e
+      (ap (λ b. bit_at (slice_index b x) (line - 6 * band)) (sym kept) ∙ bit);
 }
 
--- to the segment
-pub Leads-left : (drawing : Drawing) (number : ℕ → ℕ) (segments : ℕ → List Segment) (band k : ℕ)
-    (pen : Pen) (place : Places) → InBand drawing number segments band k pen place
-    → Leads drawing (AtSegment drawing number segments band k) pen place
-    (to_segment (nth (segments band) k) pen)
-Leads-left drawing number segments band k pen place at =
-    go (nat_le pen.column (nth (segments band) k).first) refl
+-- what is drawn when the row of a segment begins
+abbrev at_start : Drawn → Segment → Drawn
+at_start drawn segment = record {
+  column = start_column drawn.column segment;
+  register = drawn.register;
+  blocked = drawn.blocked;
+}
+
+-- to the left of the segment
+Leads-left : (drawing : Drawing) (band : ℕ) (drawn : Drawn) (segment : Segment) (pen : Pen)
+    (place : Places) → IsDrawn drawing band drawn pen place
+    → Leads drawing (IsDrawn drawing band (at_start drawn segment)) pen place
+    (to_segment drawn.column segment)
+Leads-left drawing band drawn segment pen place at = go (nat_le drawn.column segment.first)
   where
-    go : (b : Bool) → nat_le pen.column (nth (segments band) k).first ≡ b
-        → Leads drawing (AtSegment drawing number segments band k) pen place
-        (cond b [] (Back ∷ []))
-    go true e =
-        let left : pen.column ≤ (nth (segments band) k).first = grind (arith, nat_tests) in
-        record { allowed = tt; state = (left, at) }
-    go false e = record {
+    go : (b : Bool)
+        → Leads drawing
+        (IsDrawn drawing band record {
+          column = cond b drawn.column 0;
+          register = drawn.register;
+          blocked = drawn.blocked;
+        }) pen place (cond b [] (Back ∷ []))
+    go true = record { allowed = tt; state = at }
+    go false = record {
       allowed = (tt, tt);
-      state = (
-        omega arith,
-        InBand-pen drawing number segments band k pen (moved pen Back) place refl at,
-      );
+      state = IsDrawn-moved drawing band drawn _ pen (moved pen Back) place refl at.register refl
+          refl at;
     }
 
 -- a register that is selected
-pub selected-is : (register : ℕ) (place : Option ℕ) → is_selected register place ≡ true
+selected-is : (register : ℕ) (place : Option ℕ) → is_selected register place ≡ true
     → place ≡ Some register
 selected-is register None is = absurd cc
 selected-is register (Some other) is =
     let e : register ≡ other = grind (arith, nat_tests) in ap Some (sym e)
 
--- into its register
-pub Leads-register : (drawing : Drawing) (number : ℕ → ℕ) (segments : ℕ → List Segment) (band k : ℕ)
-    (pen : Pen) (place : Places) → number (nth (segments band) k).entry < 256
-    → AtSegment drawing number segments band k pen place
-    → Leads drawing (Ready drawing number segments band k) pen place
-    (to_register (number (nth (segments band) k).entry) pen.register)
-Leads-register drawing number segments band k pen place small at =
-    go (is_selected (number (nth (segments band) k).entry) pen.register) refl
-  where
-    register : ℕ
-    register = number (nth (segments band) k).entry
+-- what is drawn when a register is selected, too
+abbrev in_register : ℕ → Drawn → Drawn
+in_register register drawn = record {
+  column = drawn.column;
+  register = Some register;
+  blocked = drawn.blocked;
+}
 
-    go : (b : Bool) → is_selected (number (nth (segments band) k).entry) pen.register ≡ b
-        → Leads drawing (Ready drawing number segments band k) pen place
-        (cond b [] (Pick (number (nth (segments band) k).entry) ∷ []))
-    go true e = record { allowed = tt; state = (selected-is register pen.register e, at) }
+-- into a register
+Leads-register : (drawing : Drawing) (band : ℕ) (drawn : Drawn) (register : ℕ) (pen : Pen)
+    (place : Places) → register < 256 → IsDrawn drawing band drawn pen place
+    → Leads drawing (IsDrawn drawing band (in_register register drawn)) pen place
+    (to_register register drawn.register)
+Leads-register drawing band drawn register pen place small at =
+    go (is_selected register drawn.register) refl
+  where
+    go : (b : Bool) → is_selected register drawn.register ≡ b
+        → Leads drawing (IsDrawn drawing band (in_register register drawn)) pen place
+        (cond b [] (Pick register ∷ []))
+    go true e = record {
+      allowed = tt;
+      state = IsDrawn-moved drawing band drawn _ pen pen place at.column
+          (at.register ∙ selected-is register drawn.register e) refl refl at;
+    }
     go false e = record {
       allowed = (small, tt);
-      state = (
-        refl,
-        (
-          at.0,
-          InBand-pen drawing number segments band k pen (moved pen (Pick register)) place refl
-              at.1,
-        ),
-      );
+      state = IsDrawn-moved drawing band drawn _ pen (moved pen (Pick register)) place at.column
+          refl refl refl at;
     }
 
--- a test of some segments, and of one more
-pub any-take : (p : Segment → Bool) (xs : List Segment) (k : ℕ) → k < length xs
-    → list_any p (take (k + 1) xs) ≡ list_any p (take k xs) || p (nth xs k)
-any-take p [] k l = absurd (omega arith)
-any-take p (x ∷ xs) zero l = or_false (p x)
-  where
-    or_false : (b : Bool) → b || false ≡ b
-    or_false true = refl
-    or_false false = refl
-any-take p (x ∷ xs) (suc k) l =
-    let e : suc k + 1 ≡ suc (k + 1) = omega arith in
-    ap (λ n. list_any p (take n (x ∷ xs))) e
-    ∙ (ap (λ b. p x || b) (any-take p xs k (omega arith))
-    ∙ or_assoc (p x) (list_any p (take k xs)) (p (nth xs k)))
-  where
-    or_assoc : (a b c : Bool) → a || (b || c) ≡ (a || b) || c
-    or_assoc true b c = refl
-    or_assoc false b c = refl
+-- ---- where a row sets a pixel
 
--- a pixel that is one of a segment's
-pub is_of-entry : (column entry : ℕ) (segment : Segment) → is_of column (Some entry) segment ≡ true
-    → (entry ≡ segment.entry) × (segment.first ≤ column) × (column < segment.end)
-is_of-entry column entry segment is = (same, low, high)
-  where
-    same : entry ≡ segment.entry
-    same = grind (arith, nat_tests)
+-- a pixel that a row sets
+record IsLit (band from end column line value : ℕ) : Type 0 where
+  since : from ≤ column
+  before : column < end
+  inside : IsInBand band line
+  bit : bit_at value (line - 6 * band) ≡ 1
 
-    low : segment.first ≤ column
-    low = grind (arith, nat_tests)
+-- its column and its bit
+lit-is : (row : List ℕ) (band from end column line : ℕ) → length row ≡ end - from
+    → is_lit row from (6 * band) column line ≡ true
+    → IsLit band from end column line (slice_index row (column - from))
+lit-is row band from end column line size lit =
+    let since : from ≤ column = grind (arith, nat_tests) in
+    record {
+      since = since;
+      before = elim (cases_lt column end) [
+        | inl l ↦ l
+        | inr past ↦ absurd (both_ways (is_lit row from (6 * band) column line)
+            (is_lit-past row from (6 * band) column line (omega arith)) lit)
+      ];
+      inside = record {
+        since = grind (arith, nat_tests);
+        before = grind (arith, nat_tests);
+      };
+      bit = grind (arith, nat_tests);
+    }
 
-    high : column < segment.end
-    high = grind (arith, nat_tests)
+-- a row sets a pixel whose bit it has
+is-lit : (row : List ℕ) (band from column line : ℕ) → from ≤ column → IsInBand band line
+    → bit_at (slice_index row (column - from)) (line - 6 * band) ≡ 1
+    → is_lit row from (6 * band) column line ≡ true
+is-lit row band from column line since at bit =
+    let low = at.since in
+    let high = at.before in
+    grind (arith, nat_tests)
 
--- the row of a segment covers its own pixels and none that is blocked
-pub Leads-draw : (drawing : Drawing) (number : ℕ → ℕ) (segments : ℕ → List Segment) (band k : ℕ)
-    (pen : Pen) (place : Places) → AreSegments drawing segments → band < bands drawing.height
-    → k < length (segments band) → Ready drawing number segments band k pen place
-    → Leads drawing (InBand drawing number segments band (k + 1)) pen place
-    (Draw (row_from drawing segments band k pen.column) ∷ [])
-Leads-draw drawing number segments band k pen place are lower lk ready = record {
+-- ---- the row of a segment
+
+-- the row of a segment that is left
+Leads-row : (drawing : Drawing) (band : ℕ) (drawn : Drawn) (segment : Segment)
+    (segments : List Segment) (pen : Pen) (place : Places)
+    → AreLeft drawing band drawn.blocked (segment ∷ segments) → band < bands drawing.height
+    → is_used drawing band ≡ true → drawn.column ≤ segment.first
+    → IsDrawn drawing band (in_register (number_of drawing segment.entry) drawn) pen place
+    → Leads drawing (IsDrawn drawing band (drawn_after drawing band drawn segment)) pen place
+    (Draw (segment_row drawing band drawn.blocked segment drawn.column) ∷ [])
+Leads-row drawing band drawn segment segments pen place are lower used left at = record {
   allowed = (
     record {
-      small =
-          All-from_get_or (λ b. b < 64) row 0
-          (λ i l. (filled drawing segments band k pen.column are lk).small i);
-      inside = omega (arith, size, known.1, known.2, ready.1.0);
-      lower = omega (arith, level, lower);
-      used = ap (is_used drawing) level ∙ are.used band k lk;
-      selected = ap is_some ready.0;
+      small = row-small drawing band drawn.blocked segment drawn.column;
+      inside = omega (arith, is.size, known.wide, known.some, at.column, left);
+      lower = omega (arith, at.level, lower);
+      used = ap (is_used drawing) at.level ∙ used;
+      selected = ap is_some at.register;
     },
     tt,
   );
   state = record {
-    level = level;
-    transparent = λ column line lc none.
+    column = omega (arith, is.size, known.some, at.column, left);
+    register = at.register;
+    level = at.level;
+    transparent = λ column line lc e.
         keep column line (is_lit row pen.column (6 * pen.band) column line) refl
-        (λ lit. none-lit column line none lit) (at.transparent column line lc none);
+        (λ lit. let it = lit-here column line lit in
+        coverable column line lit
+        (are.transparent column (line - 6 * band) lc (bit-of line it.inside)
+        (at-bit column line it.inside ∙ e)))
+        (at.transparent column line lc e);
     above = λ column line entry lc over e.
         keep column line (is_lit row pen.column (6 * pen.band) column line) refl
-        (λ lit. let it = (lit-here column line lit).inside in absurd (omega (arith, it.since)))
+        (λ lit. let it = (lit-here column line lit).inside in absurd (omega (arith, it.since, over)))
         (at.above column line entry lc over e);
-    drawn = λ column line entry lc inside e any.
-        draws column line entry lc inside e
-        (list_any (is_of column (Some entry)) (take k (segments band))) refl
-        (sym (any-take (is_of column (Some entry)) (segments band) k lk) ∙ any)
+    here = λ column line entry lc inside e bit.
+        draws column line entry lc inside e bit
         (is_lit row pen.column (6 * pen.band) column line) refl;
   };
 }
   where
-    segment : Segment
-    segment = nth (segments band) k
-
     row : List ℕ
-    row = row_from drawing segments band k pen.column
-
-    at : InBand drawing number segments band k pen place
-    at = ready.1.1
-
-    level : pen.band ≡ band
-    level = at.level
+    row = segment_row drawing band drawn.blocked segment drawn.column
 
     known : IsSegment drawing segment
-    known = are.each band k none_there lk
+    known = first-left drawing band drawn.blocked segment segments are
 
-    size : length row ≡ segment.end - pen.column
-    size = length-row drawing segments band k pen.column are lk
+    is : IsSegmentRow drawing band drawn.blocked segment drawn.column row
+    is = IsSegmentRow-left drawing band drawn.blocked segment segments drawn.column are left
+
+    same : (column line : ℕ)
+        → is_lit row pen.column (6 * pen.band) column line
+        ≡ is_lit row drawn.column (6 * band) column line
+    same column line =
+        ap (λ c. is_lit row c (6 * pen.band) column line) at.column
+        ∙ ap (λ b. is_lit row drawn.column (6 * b) column line) at.level
 
     lit-here : (column line : ℕ) → is_lit row pen.column (6 * pen.band) column line ≡ true
-        → IsLit band pen.column segment.end column line (slice_index row (column - pen.column))
+        → IsLit band drawn.column segment.end column line
+        (slice_index row (column - drawn.column))
     lit-here column line lit =
-        lit-is row band pen.column segment.end column line size
-        (ap (λ n. is_lit row pen.column (6 * n) column line) (sym level) ∙ lit)
+        lit-is row band drawn.column segment.end column line is.size (sym (same column line) ∙ lit)
 
-    -- what is blocked is not lit
-    blocked-lit : (column line : ℕ)
-        → is_blocked (take k (segments band)) column (entry_at drawing column line) ≡ true
-        → is_lit row pen.column (6 * pen.band) column line ≡ true → ⊥
-    blocked-lit column line blocked lit =
+    bit-of : (line : ℕ) → IsInBand band line → line - 6 * band < 6
+    bit-of line inside = omega (arith, inside.since, inside.before)
+
+    at-bit : (column line : ℕ) → IsInBand band line
+        → entry_at drawing column (6 * band + (line - 6 * band)) ≡ entry_at drawing column line
+    at-bit column line inside =
+        let e : 6 * band + (line - 6 * band) ≡ line = omega (arith, inside.since) in
+        ap (entry_at drawing column) e
+
+    -- what the row sets could be covered
+    coverable : (column line : ℕ) → is_lit row pen.column (6 * pen.band) column line ≡ true
+        → bit_at (slice_index drawn.blocked column) (line - 6 * band) ≡ 1 → ⊥
+    coverable column line lit blocked =
         let it = lit-here column line lit in
-        let since = it.inside.since in
-        let before = it.inside.before in
-        let bit : 6 * band + (line - 6 * band) ≡ line = omega arith in
-        let value = row-at drawing segments band k pen.column column are lk it.since it.before in
-        let ban : bit_at (blocked_sixel drawing band (take k (segments band)) column)
-        (line - 6 * band) ≡ 1 =
-        bit-mask
-        (λ b. is_blocked (take k (segments band)) column (entry_at drawing column (6 * band + b)))
-        (line - 6 * band) (omega arith)
-        (ap (λ n. is_blocked (take k (segments band)) column (entry_at drawing column n)) bit
-        ∙ blocked) in
-        omega (arith, ban, it.bit, value.none (line - 6 * band))
-
-    none-lit : (column line : ℕ) → entry_at drawing column line ≡ None
-        → is_lit row pen.column (6 * pen.band) column line ≡ true → ⊥
-    none-lit column line none lit =
-        blocked-lit column line (ap (is_blocked (take k (segments band)) column) none) lit
+        omega (arith, it.bit, blocked, is.none column it.since it.before (line - 6 * band))
 
     keep : (column line : ℕ) (b : Bool)
         → is_lit row pen.column (6 * pen.band) column line ≡ b
@@ -245,103 +249,141 @@ Leads-draw drawing number segments band k pen place are lower lk ready = record 
     keep column line true lit never was = absurd (never lit)
     keep column line false lit never was = was
 
-    own-lit : (column line entry : ℕ) → IsInBand band line
-        → entry_at drawing column line ≡ Some entry → is_of column (Some entry) segment ≡ true
-        → is_lit row pen.column (6 * pen.band) column line ≡ true
-    own-lit column line entry inside e own =
-        let since = inside.since in
-        let before = inside.before in
-        let of = is_of-entry column entry segment own in
-        let left : pen.column ≤ column = omega (arith, ready.1.0, of.1) in
-        let bit : 6 * band + (line - 6 * band) ≡ line = omega arith in
-        let value = row-at drawing segments band k pen.column column are lk left of.2 in
-        let has : bit_at (own_sixel drawing band segment column) (line - 6 * band) ≡ 1 =
-        bit-mask (λ b. is_of column (entry_at drawing column (6 * band + b)) segment)
-        (line - 6 * band) (omega arith)
-        (ap (λ n. is_of column (entry_at drawing column n) segment) bit
-        ∙ (ap (λ p. is_of column p segment) e ∙ own)) in
-        let on : bit_at (slice_index row (column - pen.column)) (line - 6 * band) ≡ 1 =
-        omega (
-          arith,
-          has,
-          value.all (line - 6 * band),
-          bit_at-lt (slice_index row (column - pen.column)) (line - 6 * band),
-        ) in
-        ap (λ n. is_lit row pen.column (6 * n) column line) level
-        ∙ is-lit row band pen.column column line left inside on
+    -- a pixel that may not be covered since this segment is one of its own
+    owned : (column line entry : ℕ) → column < drawing.width → IsInBand band line
+        → entry_at drawing column line ≡ Some entry
+        → bit_at (slice_index (blocked_after drawing band drawn.blocked segment) column)
+        (line - 6 * band) ≡ 1
+        → (bit_at (slice_index drawn.blocked column) (line - 6 * band) ≡ 1 → ⊥)
+        → is_of column (Some entry) segment ≡ true
+    owned column line entry lc inside e bit never =
+        let i : ℕ = line - 6 * band in
+        let low = bit-of line inside in
+        let at_bit = at-bit column line inside ∙ e in
+        let old = are.once column i entry lc low at_bit in
+        let now =
+        (AreLeft-after drawing band drawn.blocked segment segments are).once column i entry lc low
+        at_bit in
+        let none : bit_at (slice_index drawn.blocked column) i ≡ 0 =
+        bit-none (bit_at (slice_index drawn.blocked column) i)
+        (bit_at-lt (slice_index drawn.blocked column) i) never in
+        one-is (is_of column (Some entry) segment) (omega (arith, old, now, none, bit))
+      where
+        bit-none : (n : ℕ) → n < 2 → (n ≡ 1 → ⊥) → n ≡ 0
+        bit-none n l other = elim (cases_eq n 1) [
+          | inl on ↦ absurd (other on)
+          | inr off ↦ omega (arith, l, off)
+        ]
+
+        one-is : (b : Bool) → one b ≡ 1 → b ≡ true
+        one-is true is_one = refl
+        one-is false is_one = absurd (omega (arith, is_one))
 
     draws : (column line entry : ℕ) → column < drawing.width → IsInBand band line
-        → entry_at drawing column line ≡ Some entry → (old : Bool)
-        → list_any (is_of column (Some entry)) (take k (segments band)) ≡ old
-        → list_any (is_of column (Some entry)) (take k (segments band))
-        || is_of column (Some entry) segment ≡ true → (b : Bool)
-        → is_lit row pen.column (6 * pen.band) column line ≡ b
-        → cond b pen.register (place column line) ≡ Some (number entry)
-    draws column line entry lc inside e true old any true lit =
-        absurd (blocked-lit column line
-        (ap (is_blocked (take k (segments band)) column) e ∙ old) lit)
-    draws column line entry lc inside e true old any false lit =
-        at.drawn column line entry lc inside e old
-    draws column line entry lc inside e false old any b lit =
-        let own : is_of column (Some entry) segment ≡ true =
-        ap (λ o. o || is_of column (Some entry) segment) (sym old) ∙ any in
-        let of = is_of-entry column entry segment own in
-        let on : b ≡ true = sym lit ∙ own-lit column line entry inside e own in
-        rw on (ready.0 ∙ ap (λ e. Some (number e)) (sym of.0))
+        → entry_at drawing column line ≡ Some entry
+        → bit_at (slice_index (blocked_after drawing band drawn.blocked segment) column)
+        (line - 6 * band) ≡ 1
+        → (b : Bool) → is_lit row pen.column (6 * pen.band) column line ≡ b
+        → cond b pen.register (place column line) ≡ Some (number_of drawing entry)
+    draws column line entry lc inside e bit true lit =
+        let own =
+        is_of-entry column entry segment
+        (owned column line entry lc inside e bit (coverable column line lit)) in
+        at.register ∙ ap (λ n. Some (number_of drawing n)) (sym own.0)
+    draws column line entry lc inside e bit false unlit =
+        elim (cases_eq (bit_at (slice_index drawn.blocked column) (line - 6 * band)) 1) [
+          | inl was ↦ at.here column line entry lc inside e was
+          | inr never ↦
+              let own =
+              is_of-entry column entry segment (owned column line entry lc inside e bit never) in
+              let i : ℕ = line - 6 * band in
+              let has =
+              own-bit drawing band segment.entry column i entry (bit-of line inside)
+              (at-bit column line inside ∙ e) in
+              let own_test : entry == segment.entry ≡ true = eq-eqb entry segment.entry own.0 in
+              let on : bit_at (slice_index row (column - drawn.column)) i ≡ 1 =
+              omega (
+                arith,
+                has,
+                ap one own_test,
+                is.all column own.1 own.2 i,
+                bit_at-lt (slice_index row (column - drawn.column)) i,
+              ) in
+              absurd (both_ways (is_lit row pen.column (6 * pen.band) column line) unlit
+              (same column line
+              ∙ is-lit row band drawn.column column line (omega (arith, left, own.1)) inside on))
+        ]
 
--- going to a segment keeps the register
-pub left-register : (segment : Segment) (pen : Pen)
-    → (moved_by (to_segment segment pen) pen).register ≡ pen.register
-left-register segment pen = go (nat_le pen.column segment.first)
-  where
-    go : (b : Bool) → (moved_by (cond b [] (Back ∷ [])) pen).register ≡ pen.register
-    go true = refl
-    go false = refl
+-- ---- some segments
 
--- selecting a register keeps the column
-pub register-column : (register : ℕ) (pen : Pen)
-    → (moved_by (to_register register pen.register) pen).column ≡ pen.column
-register-column register pen = go (is_selected register pen.register)
+-- the row begins at the segment or left of it
+start-left : (column : ℕ) (segment : Segment) → start_column column segment ≤ segment.first
+start-left column segment = go (nat_le column segment.first) refl
   where
-    go : (b : Bool) → (moved_by (cond b [] (Pick register ∷ [])) pen).column ≡ pen.column
-    go true = refl
-    go false = refl
+    go : (b : Bool) → nat_le column segment.first ≡ b → cond b column 0 ≤ segment.first
+    go true e = grind (arith, nat_tests)
+    go false e = omega arith
 
 -- a segment leads to the next
-pub Leads-segment : (drawing : Drawing) (number : ℕ → ℕ) (segments : ℕ → List Segment) (band k : ℕ)
-    (pen : Pen) (place : Places)
-    → ((entry : ℕ) → entry < length drawing.colors → number entry < 256)
-    → AreSegments drawing segments → band < bands drawing.height → k < length (segments band)
-    → InBand drawing number segments band k pen place
-    → Leads drawing (InBand drawing number segments band (k + 1)) pen place
-    (segment_marks drawing number band (segments band) k pen)
-Leads-segment drawing number segments band k pen place is are lower lk at =
-    let segment : Segment = nth (segments band) k in
-    let known = are.each band k none_there lk in
-    let left = Leads-left drawing number segments band k pen place at in
-    let back : List Mark = to_segment segment pen in
+Leads-segment : (drawing : Drawing) (band : ℕ) (drawn : Drawn) (segment : Segment)
+    (segments : List Segment) (pen : Pen) (place : Places) → AreNumbers drawing
+    → AreLeft drawing band drawn.blocked (segment ∷ segments) → band < bands drawing.height
+    → is_used drawing band ≡ true → IsDrawn drawing band drawn pen place
+    → Leads drawing (IsDrawn drawing band (drawn_after drawing band drawn segment)) pen place
+    (segment_marks drawing band drawn segment)
+Leads-segment drawing band drawn segment segments pen place numbers are lower used at =
+    let begun : Drawn = at_start drawn segment in
+    let register : ℕ = number_of drawing segment.entry in
+    let named : Drawn = in_register register begun in
+    let next : Drawn = drawn_after drawing band drawn segment in
+    let back : List Mark = to_segment drawn.column segment in
+    let pick : List Mark = to_register register drawn.register in
+    let row : List Mark =
+    Draw (segment_row drawing band drawn.blocked segment begun.column) ∷ [] in
     let pen1 : Pen = moved_by back pen in
     let place1 : Places = painted_all back pen place in
-    let pick : List Mark = to_register (number segment.entry) pen1.register in
-    let named =
-    Leads-register drawing number segments band k pen1 place1 (is segment.entry known.0)
-    left.state in
     let pen2 : Pen = moved_by pick pen1 in
     let place2 : Places = painted_all pick pen1 place1 in
-    let row : ℕ → List Mark = λ c. Draw (row_from drawing segments band k c) ∷ [] in
-    let drawn = Leads-draw drawing number segments band k pen2 place2 are lower lk named.state in
-    let same : pen2.column ≡ pen1.column = register-column (number segment.entry) pen1 in
-    let drawn1 : Leads drawing (InBand drawing number segments band (k + 1)) pen2 place2
-    (row pen1.column) =
-    subst
-    (λ (c : ℕ). Leads drawing (InBand drawing number segments band (k + 1)) pen2 place2 (row c))
-    same drawn in
-    subst
-    (λ (r : Option ℕ). Leads drawing (InBand drawing number segments band (k + 1)) pen place
-    (back ++ (to_register (number segment.entry) r ++ row pen1.column)))
-    (left-register segment pen)
-    (Leads-append drawing (AtSegment drawing number segments band k)
-    (InBand drawing number segments band (k + 1)) pen place back (pick ++ row pen1.column) left
-    (Leads-append drawing (Ready drawing number segments band k)
-    (InBand drawing number segments band (k + 1)) pen1 place1 pick (row pen1.column) named
-    drawn1))
+    let first = Leads-left drawing band drawn segment pen place at in
+    let known = first-left drawing band drawn.blocked segment segments are in
+    let second =
+    Leads-register drawing band begun register pen1 place1
+    (numbers.small segment.entry known.known) first.state in
+    let third =
+    Leads-row drawing band begun segment segments pen2 place2 are lower used
+    (start-left drawn.column segment) second.state in
+    Leads-append drawing (IsDrawn drawing band begun) (IsDrawn drawing band next) pen place back
+    (pick ++ row) first
+    (Leads-append drawing (IsDrawn drawing band named) (IsDrawn drawing band next) pen1 place1 pick
+    row second third)
+
+-- some segments lead to their end
+pub Leads-segments : (drawing : Drawing) (band : ℕ) (drawn : Drawn) (segments : List Segment)
+    (pen : Pen) (place : Places) → AreNumbers drawing
+    → AreLeft drawing band drawn.blocked segments → band < bands drawing.height
+    → (0 < length segments → is_used drawing band ≡ true) → IsDrawn drawing band drawn pen place
+    → Leads drawing (IsDrawn drawing band (drawn_by drawing band drawn segments)) pen place
+    (segments_marks drawing band drawn segments)
+Leads-segments drawing band drawn [] pen place numbers are lower used at =
+    record { allowed = tt; state = at }
+Leads-segments drawing band drawn (segment ∷ segments) pen place numbers are lower used at =
+    let next : Drawn = drawn_after drawing band drawn segment in
+    let marks : List Mark = segment_marks drawing band drawn segment in
+    let first =
+    Leads-segment drawing band drawn segment segments pen place numbers are lower
+    (used (omega arith)) at in
+    Leads-append drawing (IsDrawn drawing band next)
+    (IsDrawn drawing band (drawn_by drawing band next segments)) pen place marks
+    (segments_marks drawing band next segments) first
+    (Leads-segments drawing band next segments (moved_by marks pen) (painted_all marks pen place)
+    numbers (AreLeft-after drawing band drawn.blocked segment segments are) lower
+    (λ l. used (omega arith)) first.state)
+
+-- after them none is left
+pub AreLeft-by : (drawing : Drawing) (band : ℕ) (drawn : Drawn) (segments : List Segment)
+    → AreLeft drawing band drawn.blocked segments
+    → AreLeft drawing band (drawn_by drawing band drawn segments).blocked []
+AreLeft-by drawing band drawn [] are = are
+AreLeft-by drawing band drawn (segment ∷ segments) are =
+    AreLeft-by drawing band (drawn_after drawing band drawn segment) segments
+    (AreLeft-after drawing band drawn.blocked segment segments are)

@@ -1,23 +1,25 @@
 -- The segments that a compact text draws have each pixel of the drawing once.
-use Rattle.std.specs.Prelude.{All, None, Option, Some, is_some, nat_le, nat_lt, slice_index_or}
-use Rattle.std.specs.Prelude.{◌%◌, ◌&&◌, ◌/◌}
+use Rattle.std.specs.Int.{bit_at}
+use Rattle.std.specs.Prelude.{None, Option, Some, is_some, slice_index, slice_index_or, ◌%◌, ◌/◌}
 use Rattle.std.proofs.Common.{Bool, List, [], ap, arith, false, inl, inr, length, not, refl}
 use Rattle.std.proofs.Common.{subst, suc, sym, true, zero, ℕ, ◌*◌, ◌+◌, ◌<◌, ◌∙◌, ◌∷◌}
 use Rattle.std.proofs.Common.{◌≡◌, ◌≤◌}
 use Rattle.std.proofs.lemmas.Bool.{both_ways, cases_Bool, cases_eq}
 use Rattle.std.proofs.lemmas.Bool.Decides.{nat_tests}
-use Rattle.std.proofs.lemmas.List.Elements.{All-from_get_or}
+use Rattle.std.proofs.lemmas.List.FromFn.{get_or-map-range_with_len, length-map-range_with_len}
 use Rattle.sixel_encoder.specs.declared.segments.Segment.{Segment}
-use Rattle.sixel_encoder.specs.Compact.{is_of, nth}
-use Rattle.sixel_encoder.specs.Segments.{band_segments, drawn_segments, gap_of}
+use Rattle.sixel_encoder.specs.Compact.{band_register, register_after, transparent_row}
+use Rattle.sixel_encoder.specs.Compact.{transparent_sixel}
+use Rattle.sixel_encoder.specs.Segments.{band_segments, drawn_segments, gap_of, passes}
 use Rattle.sixel_encoder.specs.Segments.{segments_up_to, with_pixel, with_place}
-use Rattle.sixel_encoder.specs.Text.{Drawing, entry_at}
-use Rattle.sixel_encoder.specs.Trip.{IsWritable, is_used}
-use Rattle.sixel_encoder.proofs.SegmentFill.{AreSegments, IsSegment}
-use Rattle.sixel_encoder.proofs.PlainMarks.{known_place}
+use Rattle.sixel_encoder.specs.Text.{Drawing, entry_at, mask}
+use Rattle.sixel_encoder.specs.Trip.{is_used}
+use Rattle.sixel_encoder.specs.inside.Compact.{nth}
+use Rattle.sixel_encoder.proofs.LeftSegments.{AreLeft, IsSegment, bit-mask, is_segment}
+use Rattle.sixel_encoder.proofs.LeftSegments.{no_bit-mask, segment-is}
+use Rattle.sixel_encoder.proofs.PassSteps.{passes-none}
 use Rattle.sixel_encoder.proofs.UsedBands.{unused-places}
-use Rattle.sixel_encoder.proofs.SegmentTallies.{any-tally, apart-tally, each-tally, one, tally}
-use Rattle.sixel_encoder.proofs.SegmentTallies.{tally-drawn}
+use Rattle.sixel_encoder.proofs.SegmentTallies.{each-tally, is_of, one, tally, tally-drawn}
 use Rattle.sixel_encoder.proofs.CutSegments.{AreCut, AreCut-pixel, AreCut-wider, few-cut, own-pixel}
 use Rattle.sixel_encoder.proofs.CutSegments.{tally-pixel}
 
@@ -108,12 +110,6 @@ unused-segments drawing band (suc n) unused l =
 
 -- ---- the segments in the order in which they are drawn
 
--- whether a segment is one of the drawing's
-abbrev is_segment : Drawing → Segment → Bool
-is_segment drawing segment =
-    nat_lt segment.entry (length drawing.colors)
-    && (nat_lt segment.first segment.end && nat_le segment.end drawing.width)
-
 -- the segments that are cut are the drawing's
 known-cut : (drawing : Drawing) (gap bound : ℕ) (segments : List Segment)
     → bound ≤ drawing.width → AreCut gap (length drawing.colors) bound segments
@@ -130,71 +126,103 @@ known-cut drawing gap bound (segment ∷ segments) l are =
         → segment.end ≤ drawing.width → one (not (is_segment drawing segment)) ≡ 0
     here entry some within = grind (arith, nat_tests)
 
--- as many segments as pass a test that always does
-length-tally : (segments : List Segment) → tally (λ s. true) segments ≡ length segments
-length-tally [] = refl
-length-tally (s ∷ segments) = omega (arith, length-tally segments)
+-- a band that is drawn is used
+pub used-drawn : (drawing : Drawing) (band : ℕ) → 0 < length (drawn_segments drawing band)
+    → is_used drawing band ≡ true
+used-drawn drawing band some = elim (cases_Bool (is_used drawing band)) [
+  | inl used ↦ used
+  | inr unused ↦ absurd (omega (
+    arith,
+    some,
+    ap (λ segments. length (passes (length segments) segments))
+        (unused-segments drawing band (6 * drawing.width) unused (omega arith)),
+    ap length (passes-none []),
+  ))
+]
 
--- a segment that passes is one of the drawing's
-segment-is : (drawing : Drawing) (s : Segment) → is_segment drawing s ≡ true → IsSegment drawing s
-segment-is drawing s h =
-    (grind (arith, nat_tests), grind (arith, nat_tests), grind (arith, nat_tests))
+-- the bit of a transparent pixel when a band begins
+transparent-bit : (drawing : Drawing) (band column bit : ℕ) → column < drawing.width → bit < 6
+    → (b : Bool) → not (is_some (entry_at drawing column (6 * band + bit))) ≡ b
+    → bit_at (slice_index (transparent_row drawing band) column) bit ≡ one b
+transparent-bit drawing band column bit lc lb b is =
+    ap (λ v. bit_at v bit)
+    (get_or-map-range_with_len (transparent_sixel drawing band) 0 drawing.width column column 0 lc
+    (omega arith))
+    ∙ go b is
+  where
+    test : ℕ → Bool
+    test = λ k. not (is_some (entry_at drawing column (6 * band + k)))
 
--- each segment that is drawn is one of the drawing's
-pub each-drawn : (drawing : Drawing) → AreKnown drawing → (band : ℕ)
-    → All (IsSegment drawing) (drawn_segments drawing band)
-each-drawn drawing known band =
-    All-from_get_or (IsSegment drawing) (drawn_segments drawing band)
-    record { entry = 0; first = 0; end = 0 }
-    (λ k l. segment-is drawing (nth (drawn_segments drawing band) k)
-    (each-tally (is_segment drawing) (drawn_segments drawing band) k l
-    (tally-drawn (λ s. not (is_segment drawing s)) drawing band
-    ∙ known-cut drawing (gap_of drawing) ((6 * drawing.width + 5) / 6)
-    (band_segments drawing band) (omega arith)
-    (AreOf-band drawing band (6 * drawing.width) known).cut)))
+    go : (b : Bool) → test bit ≡ b → bit_at (mask test 6) bit ≡ one b
+    go true on = bit-mask test bit lb on
+    go false off = no_bit-mask test bit lb off
 
--- the segments that are drawn have each pixel once
-pub AreSegments-drawn : (drawing : Drawing) → IsWritable drawing
-    → AreSegments drawing (drawn_segments drawing)
-AreSegments-drawn drawing is = record {
-  each = λ band k d l. each-drawn drawing known band k d l;
-  apart = λ band k column entry l own.
-      apart-tally (is_of column (Some entry)) (drawn_segments drawing band) k l
-      (omega (
-        arith,
-        tally-drawn (is_of column (Some entry)) drawing band,
-        few-cut (gap_of drawing) (length drawing.colors) ((6 * drawing.width + 5) / 6) column
-            entry (band_segments drawing band) (of band).cut,
-      )) own;
-  used = λ band k l. elim (cases_Bool (is_used drawing band)) [
-    | inl used ↦ used
-    | inr unused ↦ absurd (omega (
-      arith,
-      l,
-      length-tally (drawn_segments drawing band),
-      tally-drawn (λ s. true) drawing band,
-      ap (tally (λ s. true))
-          (unused-segments drawing band (6 * drawing.width) unused (omega arith)),
-    ))
-  ];
-  whole = λ column line entry lc e.
-      let k : ℕ = 6 * column + line % 6 in
+-- and that of an opaque one
+pub opaque-bit : (drawing : Drawing) (band column bit entry : ℕ) → column < drawing.width → bit < 6
+    → entry_at drawing column (6 * band + bit) ≡ Some entry
+    → bit_at (slice_index (transparent_row drawing band) column) bit ≡ 0
+opaque-bit drawing band column bit entry lc lb e =
+    transparent-bit drawing band column bit lc lb false (ap (λ p. not (is_some p)) e)
+
+-- when a band begins all its segments are left
+pub AreLeft-drawn : (drawing : Drawing) (band : ℕ) → AreKnown drawing
+    → AreLeft drawing band (transparent_row drawing band) (drawn_segments drawing band)
+AreLeft-drawn drawing band known = record {
+  size = length-map-range_with_len (transparent_sixel drawing band) 0 drawing.width;
+  known =
+      tally-drawn (λ s. not (is_segment drawing s)) drawing band
+      ∙ known-cut drawing gap bound (band_segments drawing band) (omega arith) of.cut;
+  transparent = λ column bit lc lb e.
+      transparent-bit drawing band column bit lc lb true (ap (λ p. not (is_some p)) e);
+  once = λ column bit entry lc lb e.
+      let k : ℕ = 6 * column + bit in
       let at : k / 6 ≡ column = omega arith in
-      let row : 6 * (line / 6) + k % 6 ≡ line = omega arith in
-      let here : entry_at drawing (k / 6) (6 * (line / 6) + k % 6) ≡ Some entry =
-      ap (λ c. entry_at drawing c (6 * (line / 6) + k % 6)) at
-      ∙ (ap (entry_at drawing column) row ∙ e) in
-      let has : 1 ≤ tally (is_of column (Some entry)) (band_segments drawing (line / 6)) =
+      let rest : k % 6 ≡ bit = omega arith in
+      let here : entry_at drawing (k / 6) (6 * band + k % 6) ≡ Some entry =
+      ap (λ c. entry_at drawing c (6 * band + k % 6)) at
+      ∙ (ap (λ b. entry_at drawing column (6 * band + b)) rest ∙ e) in
+      let has : 1 ≤ tally (is_of column (Some entry)) (band_segments drawing band) =
       subst
-      (λ (c : ℕ). 1 ≤ tally (is_of c (Some entry)) (band_segments drawing (line / 6)))
-      at ((of (line / 6)).whole k entry (omega arith) here) in
-      any-tally (is_of column (Some entry)) (drawn_segments drawing (line / 6))
-      (omega (arith, tally-drawn (is_of column (Some entry)) drawing (line / 6), has));
+      (λ (c : ℕ). 1 ≤ tally (is_of c (Some entry)) (band_segments drawing band))
+      at (of.whole k entry (omega arith) here) in
+      omega (
+        arith,
+        opaque-bit drawing band column bit entry lc lb e,
+        has,
+        tally-drawn (is_of column (Some entry)) drawing band,
+        few-cut gap (length drawing.colors) bound column entry (band_segments drawing band) of.cut,
+      );
 }
   where
-    known : AreKnown drawing
-    known = λ place entry e. known_place drawing place entry is e
+    gap : ℕ
+    gap = gap_of drawing
 
-    of : (band : ℕ)
-        → AreOf drawing band (6 * drawing.width) (segments_up_to drawing band (6 * drawing.width))
-    of band = AreOf-band drawing band (6 * drawing.width) known
+    bound : ℕ
+    bound = (6 * drawing.width + 5) / 6
+
+    of : AreOf drawing band (6 * drawing.width) (band_segments drawing band)
+    of = AreOf-band drawing band (6 * drawing.width) known
+
+-- each segment that is drawn is one of the drawing's
+pub IsSegment-drawn : (drawing : Drawing) (band k : ℕ) → AreKnown drawing
+    → k < length (drawn_segments drawing band)
+    → IsSegment drawing (nth (drawn_segments drawing band) k)
+IsSegment-drawn drawing band k known l =
+    segment-is drawing (nth (drawn_segments drawing band) k)
+    (each-tally (is_segment drawing) (drawn_segments drawing band)
+    (AreLeft-drawn drawing band known).known k l)
+
+-- ---- the register that is selected
+
+-- before the first band
+pub register_after-none : (drawing : Drawing) → register_after drawing 0 ≡ None
+unfolding register_after
+register_after-none drawing = refl
+
+-- after one band more
+pub register_after-more : (drawing : Drawing) (band : ℕ)
+    → register_after drawing (band + 1)
+    ≡ band_register drawing band (register_after drawing band)
+unfolding register_after
+register_after-more drawing band =
+    let e : band + 1 ≡ suc band = omega arith in ap (register_after drawing) e

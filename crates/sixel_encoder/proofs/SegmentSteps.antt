@@ -9,7 +9,7 @@ use Rattle.std.proofs.lemmas.Bool.Decides.{nat_tests}
 use Rattle.std.proofs.lemmas.Grind.{get_or-set_at}
 use Rattle.std.proofs.lemmas.List.{get_or-set_other, get_or_append_left, get_or_push, length-set}
 use Rattle.sixel_encoder.specs.declared.segments.Segment.{Segment}
-use Rattle.sixel_encoder.specs.Compact.{nth}
+use Rattle.sixel_encoder.specs.inside.Compact.{nth}
 use Rattle.sixel_encoder.specs.inside.Compact.{AreLast}
 
 -- ---- the segment that a pixel joins

@@ -1,15 +1,17 @@
 -- How many segments pass a test, pass by pass.
-use Rattle.std.specs.List.{list_any}
-use Rattle.std.specs.Prelude.{nat_le}
-use Rattle.std.specs.Prelude.{◌||◌}
-use Rattle.std.proofs.Common.{Bool, List, [], ap, arith, cond, false, length, not, refl}
-use Rattle.std.proofs.Common.{suc, take, true, zero, ℕ, ◌++◌, ◌+◌, ◌<◌, ◌∷◌}
-use Rattle.std.proofs.Common.{◌≡◌, ◌≤◌}
+use Rattle.std.specs.Prelude.{Option, nat_le, nat_lt, ◌&&◌}
+use Rattle.std.proofs.Common.{Bool, List, [], arith, cond, false, length, not, refl}
+use Rattle.std.proofs.Common.{suc, true, zero, ℕ, ◌++◌, ◌+◌, ◌<◌, ◌∷◌, ◌≡◌}
 use Rattle.sixel_encoder.specs.declared.segments.Segment.{Segment}
-use Rattle.sixel_encoder.specs.Compact.{nth}
+use Rattle.sixel_encoder.specs.inside.Compact.{nth}
 use Rattle.sixel_encoder.specs.Segments.{after_pass, band_segments, drawn_segments, in_pass}
 use Rattle.sixel_encoder.specs.Segments.{passes}
-use Rattle.sixel_encoder.specs.Text.{Drawing}
+use Rattle.sixel_encoder.specs.Text.{Drawing, is_entry}
+
+-- whether a pixel in this column with this entry is one of the segment's
+abbrev pub is_of : ℕ → Option ℕ → Segment → Bool
+is_of column place segment =
+    is_entry segment.entry place && (nat_le segment.first column && nat_lt column segment.end)
 
 -- ---- how many segments pass a test
 
@@ -69,56 +71,15 @@ pub tally-drawn : (test : Segment → Bool) (drawing : Drawing) (band : ℕ)
 tally-drawn test drawing band =
     tally-passes test (length (band_segments drawing band)) (band_segments drawing band)
 
--- one that passes is found
-pub any-tally : (test : Segment → Bool) (segments : List Segment) → 1 ≤ tally test segments
-    → list_any test segments ≡ true
-any-tally test [] some = absurd (omega arith)
-any-tally test (segment ∷ segments) some =
-    go (test segment) refl (λ h. any-tally test segments h)
+-- if none fails each passes
+pub each-tally : (test : Segment → Bool) (segments : List Segment)
+    → tally (λ s. not (test s)) segments ≡ 0 → (k : ℕ) → k < length segments
+    → test (nth segments k) ≡ true
+each-tally test [] none k l = absurd (omega arith)
+each-tally test (segment ∷ segments) none zero l = go (test segment) none
   where
-    go : (b : Bool) → test segment ≡ b
-        → (1 ≤ tally test segments → list_any test segments ≡ true)
-        → b || list_any test segments ≡ true
-    go true e rest = refl
-    go false e rest = rest (omega (arith, some, ap one e))
-
--- if none passes none is found
-pub none-tally : (test : Segment → Bool) (segments : List Segment) → tally test segments ≡ 0
-    → list_any test segments ≡ false
-none-tally test [] none = refl
-none-tally test (segment ∷ segments) none =
-    go (test segment) refl (λ h. none-tally test segments h)
-  where
-    go : (b : Bool) → test segment ≡ b
-        → (tally test segments ≡ 0 → list_any test segments ≡ false)
-        → b || list_any test segments ≡ false
-    go true e rest = absurd (omega (arith, none, ap one e))
-    go false e rest = rest (omega (arith, none))
-
--- the segments before segment k, and segment k
-pub tally-take : (test : Segment → Bool) (segments : List Segment) (k : ℕ) → k < length segments
-    → tally test (take k segments) + one (test (nth segments k)) ≤ tally test segments
-tally-take test [] k l = absurd (omega arith)
-tally-take test (segment ∷ segments) zero l = omega arith
-tally-take test (segment ∷ segments) (suc k) l =
-    omega (arith, tally-take test segments k (omega arith))
-
--- if at most one passes and segment k does, none before it does
-pub apart-tally : (test : Segment → Bool) (segments : List Segment) (k : ℕ) → k < length segments
-    → tally test segments ≤ 1 → test (nth segments k) ≡ true
-    → list_any test (take k segments) ≡ false
-apart-tally test segments k l few is =
-    none-tally test (take k segments)
-    (omega (arith, tally-take test segments k l, few, ap one is))
-
--- if none fails segment k passes
-pub each-tally : (test : Segment → Bool) (segments : List Segment) (k : ℕ) → k < length segments
-    → tally (λ s. not (test s)) segments ≡ 0 → test (nth segments k) ≡ true
-each-tally test segments k l none =
-    let bound = tally-take (λ s. not (test s)) segments k l in
-    go (test (nth segments k)) refl (omega (arith, bound, none))
-  where
-    go : (b : Bool) → test (nth segments k) ≡ b → one (not (test (nth segments k))) ≡ 0
-        → test (nth segments k) ≡ true
-    go true e z = e
-    go false e z = absurd (omega (arith, z, ap (λ t. one (not t)) e))
+    go : (b : Bool) → one (not b) + tally (λ s. not (test s)) segments ≡ 0 → b ≡ true
+    go true e = refl
+    go false e = absurd (omega (arith, e))
+each-tally test (segment ∷ segments) none (suc k) l =
+    each-tally test segments (omega (arith, none)) k (omega (arith, l))

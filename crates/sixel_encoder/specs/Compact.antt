@@ -2,43 +2,49 @@
 -- that no pixel has are not defined. A run may cover pixels that a later segment of the band draws
 -- over. The rows of a band share passes, and no band follows the last that is used. Where the plain
 -- text is shorter, that is the text.
-use Rattle.std.specs.Prelude.{◌≡◌, ℕ, zero, suc, ◌+◌, ◌-◌, ◌*◌, ◌==◌, nat_le, nat_lt, Bool, true}
-use Rattle.std.specs.Prelude.{◌&&◌, if◌then◌else◌, List, [], ◌∷◌, ◌++◌, length, replicate, take}
-use Rattle.std.specs.Prelude.{codes, false, Option, Some, None, slice_index_or}
-use Rattle.std.specs.List.{range_with_len, list_any}
+use Rattle.std.specs.Prelude.{◌≡◌, ℕ, zero, suc, ◌+◌, ◌-◌, ◌*◌, ◌==◌, nat_le, nat_lt, Bool}
+use Rattle.std.specs.Prelude.{◌&&◌, if◌then◌else◌, List, [], ◌∷◌, ◌++◌, length, map, replicate}
+use Rattle.std.specs.Prelude.{codes, false, not, Option, Some, None, is_some, slice_index}
+use Rattle.std.specs.List.{range_with_len}
 use Rattle.std.specs.Int.Bits.{bit_or, bit_and}
 use Rattle.sixel_base.specs.Payload.{Image}
+use Rattle.sixel_base.specs.Picture.{joined}
 use Rattle.sixel_encoder.specs.declared.segments.Segment.{Segment}
 use Rattle.sixel_encoder.specs.Encoding.{IsDrawing}
-use Rattle.sixel_encoder.specs.Marks.{Mark, Pick, Draw, Back, Next, Pen, first_pen, moved_by}
-use Rattle.sixel_encoder.specs.Marks.{marks_payload}
+use Rattle.sixel_encoder.specs.Marks.{Mark, Pick, Draw, Back, Next, marks_payload}
 use Rattle.sixel_encoder.specs.Numbers.{number_of, numbered_definitions}
 use Rattle.sixel_encoder.specs.Segments.{drawn_segments}
-use Rattle.sixel_encoder.specs.Text.{Drawing, entry_at, mask, bands, is_entry, parameters_text}
+use Rattle.sixel_encoder.specs.Text.{Drawing, entry_at, mask, sixel_of, bands, parameters_text}
 use Rattle.sixel_encoder.specs.Text.{text_of}
 use Rattle.sixel_encoder.specs.Trip.{is_used, bands_up_to}
 
 -- ---- the row of a segment
 
--- whether a pixel in this column with this entry is one of the segment's
-abbrev pub is_of : ℕ → Option ℕ → Segment → Bool
-is_of column place segment =
-    is_entry segment.entry place && (nat_le segment.first column && nat_lt column segment.end)
+-- the transparent pixels of a column of a band
+abbrev pub transparent_sixel : Drawing → ℕ → ℕ → ℕ
+transparent_sixel drawing band column =
+    mask (λ bit. not (is_some (entry_at drawing column (6 * band + bit)))) 6
 
--- whether it is one of these segments', or transparent
-abbrev pub is_blocked : List Segment → ℕ → Option ℕ → Bool
-is_blocked segments column None = true
-is_blocked segments column (Some entry) = list_any (is_of column (Some entry)) segments
+-- of all its columns: what may not be covered when a band begins
+abbrev pub transparent_row : Drawing → ℕ → List ℕ
+transparent_row drawing band = map (transparent_sixel drawing band) (range_with_len 0 drawing.width)
 
--- the pixels of a column that are the segment's
-abbrev pub own_sixel : Drawing → ℕ → Segment → ℕ → ℕ
-own_sixel drawing band segment column =
-    mask (λ bit. is_of column (entry_at drawing column (6 * band + bit)) segment) 6
+-- what may not be covered in a column after a segment: the pixels of the segment, too
+abbrev pub blocked_sixel : Drawing → ℕ → List ℕ → Segment → ℕ → ℕ
+blocked_sixel drawing band blocked segment column =
+    if nat_le segment.first column && nat_lt column segment.end
+    then bit_or (slice_index blocked column) (sixel_of drawing band segment.entry column)
+    else slice_index blocked column
 
--- the pixels of a column that may not be covered once these segments are drawn
-abbrev pub blocked_sixel : Drawing → ℕ → List Segment → ℕ → ℕ
-blocked_sixel drawing band segments column =
-    mask (λ bit. is_blocked segments column (entry_at drawing column (6 * band + bit))) 6
+-- in all columns
+abbrev pub blocked_after : Drawing → ℕ → List ℕ → Segment → List ℕ
+blocked_after drawing band blocked segment =
+    map (blocked_sixel drawing band blocked segment) (range_with_len 0 (length blocked))
+
+-- the bits that some of a count of sixels from one on have
+unfoldable pub union : List ℕ → ℕ → ℕ → ℕ
+union sixels from zero = 0
+union sixels from (suc n) = bit_or (union sixels from n) (slice_index sixels (from + n))
 
 -- The sixels of a count of columns and of the columns after them: a run goes on as long as it
 -- covers all its own pixels and none that is blocked.
@@ -50,22 +56,29 @@ fill_after own blocked bits ban count (column ∷ columns) =
     columns
     else replicate count bits ++ fill_after own blocked (own column) (blocked column) 1 columns
 
--- the row of a segment from a column on, once these segments are drawn
-abbrev pub segment_row : Drawing → ℕ → List Segment → Segment → ℕ → List ℕ
-segment_row drawing band drawn segment from =
-    fill_after (own_sixel drawing band segment) (blocked_sixel drawing band drawn) 0 0 0
-    (range_with_len from (segment.end - from))
+-- the row of a segment from a column on
+abbrev pub segment_row : Drawing → ℕ → List ℕ → Segment → ℕ → List ℕ
+segment_row drawing band blocked segment from =
+    fill_after (sixel_of drawing band segment.entry) (slice_index blocked) 0
+    (union blocked from (segment.first - from)) (segment.first - from)
+    (range_with_len segment.first (segment.end - segment.first))
 
--- ---- the marks
+-- ---- the marks of a band
 
--- steps 0, 1, .. up to before n, each from where the steps before it leave the pen
-unfoldable pub follow : (ℕ → Pen → List Mark) → ℕ → Pen → List Mark
-follow step zero pen = []
-follow step (suc n) pen = follow step n pen ++ step n (moved_by (follow step n pen) pen)
+-- What is drawn of a band: the column of the pen, the register that is selected, and the pixels
+-- that may not be covered.
+pub record Drawn : Type 0 where
+  pub column : ℕ
+  pub register : Option ℕ
+  pub blocked : List ℕ
+
+-- where the row of a segment begins: at the pen, or at the left if the segment begins left of it
+abbrev pub start_column : ℕ → Segment → ℕ
+start_column column segment = if nat_le column segment.first then column else 0
 
 -- back to the left, if the segment begins left of the pen
-abbrev pub to_segment : Segment → Pen → List Mark
-to_segment segment pen = if nat_le pen.column segment.first then [] else Back ∷ []
+abbrev pub to_segment : ℕ → Segment → List Mark
+to_segment column segment = if nat_le column segment.first then [] else Back ∷ []
 
 -- whether the register is selected
 abbrev pub is_selected : ℕ → Option ℕ → Bool
@@ -77,47 +90,74 @@ abbrev pub to_register : ℕ → Option ℕ → List Mark
 to_register register selected =
     if is_selected register selected then [] else Pick register ∷ []
 
+-- the marks of a segment: to its left, into its register, and its row
+abbrev pub segment_marks : Drawing → ℕ → Drawn → Segment → List Mark
+segment_marks drawing band drawn segment =
+    to_segment drawn.column segment
+    ++ (to_register (number_of drawing segment.entry) drawn.register
+    ++ (Draw
+    (segment_row drawing band drawn.blocked segment (start_column drawn.column segment)) ∷ []))
+
+-- what is drawn after it
+abbrev pub drawn_after : Drawing → ℕ → Drawn → Segment → Drawn
+drawn_after drawing band drawn segment = record {
+  column = segment.end;
+  register = Some (number_of drawing segment.entry);
+  blocked = blocked_after drawing band drawn.blocked segment;
+}
+
+-- the marks of some segments
+abbrev pub segments_marks : Drawing → ℕ → Drawn → List Segment → List Mark
+segments_marks drawing band drawn [] = []
+segments_marks drawing band drawn (segment ∷ segments) =
+    segment_marks drawing band drawn segment
+    ++ segments_marks drawing band (drawn_after drawing band drawn segment) segments
+
+-- what is drawn after them
+abbrev pub drawn_by : Drawing → ℕ → Drawn → List Segment → Drawn
+drawn_by drawing band drawn [] = drawn
+drawn_by drawing band drawn (segment ∷ segments) =
+    drawn_by drawing band (drawn_after drawing band drawn segment) segments
+
+-- what is drawn when a band begins
+abbrev pub nothing_of : Drawing → ℕ → Option ℕ → Drawn
+nothing_of drawing band register = record {
+  column = 0;
+  register = register;
+  blocked = transparent_row drawing band;
+}
+
 -- down to a band from the one above
 abbrev pub to_band : ℕ → List Mark
 to_band zero = []
 to_band (suc band) = Next ∷ []
 
--- segment k of a band
-abbrev pub nth : List Segment → ℕ → Segment
-nth segments k = slice_index_or segments k record { entry = 0; first = 0; end = 0 }
-
--- the marks of a segment once others are drawn: to its register, and its row from the pen on
-abbrev pub marks_after : Drawing → (ℕ → ℕ) → ℕ → List Segment → Segment → Pen → List Mark
-marks_after drawing number band drawn segment pen =
-    to_segment segment pen
-    ++ (to_register (number segment.entry) pen.register
-    ++ (Draw
-    (segment_row drawing band drawn segment (moved_by (to_segment segment pen) pen).column)
-    ∷ []))
-
--- the marks of segment k
-abbrev pub segment_marks : Drawing → (ℕ → ℕ) → ℕ → List Segment → ℕ → Pen → List Mark
-segment_marks drawing number band segments k pen =
-    marks_after drawing number band (take k segments) (nth segments k) pen
-
--- the marks of a band
-abbrev pub segments_marks : Drawing → (ℕ → ℕ) → (ℕ → List Segment) → ℕ → Pen → List Mark
-segments_marks drawing number segments band pen =
+-- the marks of a band, if this register is selected before it
+abbrev pub band_marks : Drawing → ℕ → Option ℕ → List Mark
+band_marks drawing band register =
     to_band band
-    ++ follow (segment_marks drawing number band (segments band)) (length (segments band))
-    (moved_by (to_band band) pen)
+    ++ segments_marks drawing band (nothing_of drawing band register) (drawn_segments drawing band)
 
--- the marks of a drawing, in these registers and with these segments in each band
-abbrev pub painted_marks : Drawing → (ℕ → ℕ) → (ℕ → List Segment) → List Mark
-painted_marks drawing number segments =
-    follow (segments_marks drawing number segments)
-    (bands_up_to (is_used drawing) (bands drawing.height)) first_pen
+-- the register that is selected after the band
+abbrev pub band_register : Drawing → ℕ → Option ℕ → Option ℕ
+band_register drawing band register =
+    (drawn_by drawing band (nothing_of drawing band register) (drawn_segments drawing band)).register
+
+-- the register that is selected after n bands
+unfoldable pub register_after : Drawing → ℕ → Option ℕ
+register_after drawing zero = None
+register_after drawing (suc n) = band_register drawing n (register_after drawing n)
 
 -- ---- the text
 
+-- the marks of a band of the text
+abbrev pub compact_band : Drawing → ℕ → List Mark
+compact_band drawing band = band_marks drawing band (register_after drawing band)
+
 -- the marks of the compact text
 abbrev pub compact_marks : Drawing → List Mark
-compact_marks drawing = painted_marks drawing (number_of drawing) (drawn_segments drawing)
+compact_marks drawing =
+    joined (compact_band drawing) (bands_up_to (is_used drawing) (bands drawing.height))
 
 -- the text of these marks
 abbrev pub marked_text : Drawing → List ℕ

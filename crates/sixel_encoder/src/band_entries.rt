@@ -1,9 +1,9 @@
 //! The palette entries of a band's pixels, column by column.
 
-ghost use Rattle.std.specs.Prelude.{◌≡◌, ◌≢◌, ℕ, [], ◌+◌, ◌-◌, ◌*◌, ◌^◌};
+ghost use Rattle.std.specs.Prelude.{◌≡◌, ◌≢◌, ℕ, ◌+◌, ◌-◌, ◌*◌, ◌^◌};
 ghost use Rattle.std.specs.Prelude.{◌<◌, ◌≤◌, ◌==◌, IfOk, length};
 ghost use Rattle.std.specs.Prelude.{slice_index, true};
-ghost use Rattle.sixel_encoder.specs.Compact.{blocked_sixel};
+ghost use Rattle.sixel_encoder.specs.Compact.{transparent_sixel};
 ghost use Rattle.sixel_encoder.specs.Text.{entry_at, mask, sixel_of};
 ghost use Rattle.sixel_encoder.specs.inside.Compact.{AreLanes, AreSpare, lane_of};
 ghost use Rattle.sixel_encoder.specs.inside.Indexed.{IsIndexed, drawing_of};
@@ -134,7 +134,7 @@ impl<'a> BandEntries<'a> {
         requires entries { AreLanes self.now }
         requires column { column < self.now.image.now.width }
         ensures { result
-            ≡ blocked_sixel (drawing_of self.now.image.now) self.now.band [] column }
+            ≡ transparent_sixel (drawing_of self.now.image.now) self.now.band column }
     {
         equal_lanes(&self.lanes, 8 * column, TRANSPARENT) - 192
     }

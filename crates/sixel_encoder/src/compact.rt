@@ -1,18 +1,15 @@
 //! The compact SIXEL output of an image whose colors are chosen.
 
-ghost use Rattle.std.specs.Prelude.{◌≡◌, ℕ, List, ◌*◌, ◌<◌, ◌≤◌, ◌++◌, ◌∷◌, [], IfOk, OnOk};
-ghost use Rattle.std.specs.Prelude.{codes, length, string_bytes};
-ghost use Rattle.sixel_encoder.specs.declared.segments.Segment.{Segment};
-ghost use Rattle.sixel_encoder.specs.Compact.{compact_marks, compact_text, marked_text};
-ghost use Rattle.sixel_encoder.specs.Compact.{marks_after, segments_marks};
-ghost use Rattle.sixel_encoder.specs.Marks.{Pen as MarkPen, definitions_text, first_pen};
-ghost use Rattle.sixel_encoder.specs.Marks.{marks_text, moved_by};
-ghost use Rattle.sixel_encoder.specs.Numbers.{number_of, numbered_definitions};
-ghost use Rattle.sixel_encoder.specs.Segments.{drawn_segments};
+ghost use Rattle.std.specs.Prelude.{◌≡◌, ◌*◌, ◌<◌, ◌≤◌, ◌++◌, ◌∷◌, IfOk, None, OnOk, codes};
+ghost use Rattle.std.specs.Prelude.{length, string_bytes};
+ghost use Rattle.sixel_encoder.specs.Compact.{band_marks, band_register, compact_marks};
+ghost use Rattle.sixel_encoder.specs.Compact.{compact_text, drawn_after, marked_text};
+ghost use Rattle.sixel_encoder.specs.Compact.{segment_marks};
+ghost use Rattle.sixel_encoder.specs.Marks.{definitions_text, marks_text};
+ghost use Rattle.sixel_encoder.specs.Numbers.{numbered_definitions};
 ghost use Rattle.sixel_encoder.specs.Text.{parameters_text, raster_text, text_of};
-ghost use Rattle.sixel_encoder.specs.inside.Compact.{AreBlocked, AreLanes, AreNumbersOf};
-ghost use Rattle.sixel_encoder.specs.inside.Compact.{AreRanks, AreRuns, IsAtPen, IsWithin};
-ghost use Rattle.sixel_encoder.specs.inside.Compact.{IsWriter};
+ghost use Rattle.sixel_encoder.specs.inside.Compact.{AreLanes, AreNumbersOf, AreRanks, AreRuns};
+ghost use Rattle.sixel_encoder.specs.inside.Compact.{IsWithin, IsWriter, drawn_so_far};
 ghost use Rattle.sixel_encoder.specs.inside.Indexed.{IsIndexed, drawing_of};
 
 use crate::band_entries::BandEntries;
@@ -108,7 +105,7 @@ impl<'a> BandWriter<'a> {
         requires numbers { AreNumbersOf image.now numbers.now }
         ensures writer { IfOk result IsWriter }
         ensures image { IfOk result (λ writer. writer.entries.image.now ≡ image.now) }
-        ensures pen { IfOk result (λ writer. IsAtPen writer.pen first_pen) }
+        ensures register { IfOk result (λ writer. writer.pen.register ≡ None) }
     {
         let pen = Pen {
             column: 0,
@@ -129,7 +126,7 @@ impl<'a> BandWriter<'a> {
     /// Returns how many bytes the plain output takes at least.
     fn push_bands(&mut self, alloc: Global, text: &mut String) -> Result<usize, AllocError>
         requires writer { IsWriter self.old }
-        requires pen { IsAtPen self.old.pen first_pen }
+        requires register { self.old.pen.register ≡ None }
         ensures text { OnOk result (string_bytes text.new ≡ string_bytes text.old
             ++ marks_text (compact_marks (drawing_of self.old.entries.image.now))
             ++ 27 ∷ codes "\\") }
@@ -153,15 +150,10 @@ impl<'a> BandWriter<'a> {
         ensures image { self.new.entries.image ≡ self.old.entries.image }
         ensures entries { OnOk result (AreLanes self.new.entries) }
         ensures band { OnOk result (self.new.entries.band ≡ band) }
-        ensures text { OnOk result ((pen : MarkPen) → IsAtPen self.old.pen pen
-            → string_bytes text.new ≡ string_bytes text.old ++ marks_text
-            (segments_marks (drawing_of self.old.entries.image.now)
-            (number_of (drawing_of self.old.entries.image.now))
-            (drawn_segments (drawing_of self.old.entries.image.now)) band pen)) }
-        ensures pen { OnOk result ((pen : MarkPen) → IsAtPen self.old.pen pen → IsAtPen self.new.pen
-            (moved_by (segments_marks (drawing_of self.old.entries.image.now)
-            (number_of (drawing_of self.old.entries.image.now))
-            (drawn_segments (drawing_of self.old.entries.image.now)) band pen) pen)) }
+        ensures text { OnOk result (string_bytes text.new ≡ string_bytes text.old ++ marks_text
+            (band_marks (drawing_of self.old.entries.image.now) band self.old.pen.register)) }
+        ensures register { OnOk result (self.new.pen.register
+            ≡ band_register (drawing_of self.old.entries.image.now) band self.old.pen.register) }
     {
         self.pen.begin_band(text, band)?;
         self.entries.read(band);
@@ -180,24 +172,12 @@ impl<'a> BandWriter<'a> {
         requires within { IsWithin self.old.entries.image.now segment.now }
         ensures writer { OnOk result (IsWriter self.new) }
         ensures entries { self.new.entries ≡ self.old.entries }
-        ensures text { OnOk result ((drawn : List Segment) (pen : MarkPen)
-            → AreBlocked (drawing_of self.old.entries.image.now) self.old.entries.band drawn
-            self.old.rows.blocked.items
-            → IsAtPen self.old.pen pen
-            → string_bytes text.new ≡ string_bytes text.old ++ marks_text
-            (marks_after (drawing_of self.old.entries.image.now)
-            (number_of (drawing_of self.old.entries.image.now)) self.old.entries.band drawn
-            segment.now pen)) }
-        ensures pen { OnOk result ((drawn : List Segment) (pen : MarkPen)
-            → IsAtPen self.old.pen pen → IsAtPen self.new.pen (moved_by
-            (marks_after (drawing_of self.old.entries.image.now)
-            (number_of (drawing_of self.old.entries.image.now)) self.old.entries.band drawn
-            segment.now pen) pen)) }
-        ensures blocked { OnOk result ((drawn : List Segment)
-            → AreBlocked (drawing_of self.old.entries.image.now) self.old.entries.band drawn
-            self.old.rows.blocked.items
-            → AreBlocked (drawing_of self.old.entries.image.now) self.old.entries.band
-            (drawn ++ segment.now ∷ []) self.new.rows.blocked.items) }
+        ensures text { OnOk result (string_bytes text.new ≡ string_bytes text.old ++ marks_text
+            (segment_marks (drawing_of self.old.entries.image.now) self.old.entries.band
+            (drawn_so_far self.old) segment.now)) }
+        ensures drawn { OnOk result (drawn_so_far self.new ≡ drawn_after
+            (drawing_of self.old.entries.image.now) self.old.entries.band (drawn_so_far self.old)
+            segment.now) }
     {
         self.pen.go_to(text, segment)?;
         let numbers = self.numbers;

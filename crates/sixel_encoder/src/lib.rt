@@ -19,7 +19,6 @@ mod compact;
 mod decimal;
 mod dither;
 mod entries;
-mod fill;
 mod form;
 mod given_palette;
 mod indices;

@@ -1,9 +1,8 @@
 //! The pen of a compact output: the next column, and the register that is selected.
 
-ghost use Rattle.std.specs.Prelude.{◌≡◌, ◌≤◌, ◌++◌, OnOk, Some, string_bytes};
-ghost use Rattle.sixel_encoder.specs.Marks.{Pen as MarkPen, marks_text, moved_by};
-ghost use Rattle.sixel_encoder.specs.Compact.{to_band, to_register, to_segment};
-ghost use Rattle.sixel_encoder.specs.inside.Compact.{IsAtPen};
+ghost use Rattle.std.specs.Prelude.{◌≡◌, ◌++◌, OnOk, Some, string_bytes};
+ghost use Rattle.sixel_encoder.specs.Marks.{marks_text};
+ghost use Rattle.sixel_encoder.specs.Compact.{start_column, to_band, to_register, to_segment};
 
 use crate::decimal::push_number;
 use crate::segments::Segment;
@@ -23,25 +22,23 @@ impl Pen {
     pub fn begin_band(&mut self, text: &mut String, band: usize) -> Result<(), AllocError>
         ensures text { OnOk result
             (string_bytes text.new ≡ string_bytes text.old ++ marks_text (to_band band)) }
-        ensures pen { OnOk result ((pen : MarkPen) → IsAtPen self.old pen
-            → IsAtPen self.new (moved_by (to_band band) pen)) }
+        ensures column { self.new.column ≡ 0 }
+        ensures register { self.new.register ≡ self.old.register }
     {
+        self.column = 0;
         if band == 0 {
             return Ok(());
         }
-        text.push('-')?;
-        self.column = 0;
-        Ok(())
+        text.push('-')
     }
 
     /// Appends a graphics carriage return, if the segment begins left of the pen.
     pub fn go_to(&mut self, text: &mut String, segment: &Segment) -> Result<(), AllocError>
-        ensures text { OnOk result ((pen : MarkPen) → IsAtPen self.old pen
-            → string_bytes text.new
-            ≡ string_bytes text.old ++ marks_text (to_segment segment.now pen)) }
-        ensures pen { OnOk result ((pen : MarkPen) → IsAtPen self.old pen
-            → IsAtPen self.new (moved_by (to_segment segment.now pen) pen)) }
-        ensures left { OnOk result (self.new.column ≤ segment.now.first) }
+        ensures text { OnOk result (string_bytes text.new
+            ≡ string_bytes text.old ++ marks_text (to_segment self.old.column segment.now)) }
+        ensures column { OnOk result
+            (self.new.column ≡ start_column self.old.column segment.now) }
+        ensures register { self.new.register ≡ self.old.register }
     {
         if self.column <= segment.first {
             return Ok(());

@@ -5,15 +5,16 @@ use Rattle.std.specs.Prelude.{slice_index_or, Option, Some, None, [], ◌∷◌,
 use Rattle.std.specs.Prelude.{if◌then◌else◌}
 use Rattle.sixel_encoder.specs.declared.band_entries.BandEntries.{BandEntries}
 use Rattle.sixel_encoder.specs.declared.compact.BandWriter.{BandWriter}
-use Rattle.sixel_encoder.specs.declared.pen.Pen.{Pen as PenState}
-use Rattle.sixel_encoder.specs.declared.segment_rows.SegmentRows.{SegmentRows}
 use Rattle.sixel_encoder.specs.declared.segments.Segment.{Segment}
 use Rattle.sixel_encoder.specs.declared.text.IndexedImage.{IndexedImage}
-use Rattle.sixel_encoder.specs.Compact.{blocked_sixel, nth}
-use Rattle.sixel_encoder.specs.Marks.{Pen}
+use Rattle.sixel_encoder.specs.Compact.{Drawn}
 use Rattle.sixel_encoder.specs.Numbers.{number_of, rank, runs_of}
 use Rattle.sixel_encoder.specs.Text.{Drawing, entry_at}
 use Rattle.sixel_encoder.specs.inside.Indexed.{IsIndexed, drawing_of}
+
+-- segment k of a list
+abbrev pub nth : List Segment → ℕ → Segment
+nth segments k = slice_index_or segments k record { entry = 0; first = 0; end = 0 }
 
 -- how many runs each entry has
 pub record AreRuns (drawing : Drawing) (runs : List ℕ) : Type 0 where
@@ -46,12 +47,6 @@ pub record AreLast (segments : List Segment) (last : List (Option ℕ)) (gap col
       ⊎ ((nth segments k).end + gap ≤ column)
   pub ended : (k : ℕ) → k < length segments → (nth segments k).end ≤ column + 1
 
--- the pixels of a band that may not be covered once these segments are drawn
-abbrev pub AreBlocked : Drawing → ℕ → List Segment → List ℕ → Type 0
-AreBlocked drawing band segments blocked =
-    (column : ℕ) → column < drawing.width
-    → slice_index blocked column ≡ blocked_sixel drawing band segments column
-
 -- the lane of a pixel: its entry, or 256 if it is transparent
 abbrev pub lane_of : Option ℕ → ℕ
 lane_of None = 256
@@ -71,12 +66,6 @@ pub record AreLanes (entries : BandEntries) : Type 0 where
       → slice_index entries.lanes.items (8 * column + bit)
       ≡ lane_of (entry_at (drawing_of entries.image.now) column (6 * entries.band + bit))
 
--- the rows are this wide
-pub record AreWide (width : ℕ) (rows : SegmentRows) : Type 0 where
-  pub one : length rows.own.items ≡ width
-  pub two : length rows.drawn.items ≡ width
-  pub three : length rows.blocked.items ≡ width
-
 -- the segment has an entry and columns of the image
 pub record IsWithin (image : IndexedImage) (segment : Segment) : Type 0 where
   pub known : segment.entry < length image.colors.now
@@ -94,9 +83,12 @@ pub record IsWriter (writer : BandWriter) : Type 0 where
   pub indexed : IsIndexed writer.entries.image.now
   pub spare : AreSpare writer.entries.image.now writer.entries.lanes.items
   pub numbered : AreNumbersOf writer.entries.image.now writer.numbers.now
-  pub wide : AreWide writer.entries.image.now.width writer.rows
+  pub wide : length writer.rows.blocked.items ≡ writer.entries.image.now.width
 
--- the code's pen is at the column of a pen and has its register selected
-pub record IsAtPen (state : PenState) (pen : Pen) : Type 0 where
-  pub at : state.column ≡ pen.column
-  pub selected : state.register ≡ pen.register
+-- what the writer has drawn of a band
+abbrev pub drawn_so_far : BandWriter → Drawn
+drawn_so_far writer = record {
+  column = writer.pen.column;
+  register = writer.pen.register;
+  blocked = writer.rows.blocked.items;
+}

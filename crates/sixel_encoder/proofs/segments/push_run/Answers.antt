@@ -1,7 +1,7 @@
 use Rattle.std.proofs.Common.{◌≡◌, ℕ, ◌<◌, length, false, sym, ap, ◌∙◌, arith}
 use Rattle.std.proofs.lemmas.List.{get_or_default}
 use Rattle.sixel_encoder.specs.declared.segments.Segment.{Segment}
-use Rattle.sixel_encoder.specs.Compact.{nth}
+use Rattle.sixel_encoder.specs.inside.Compact.{nth}
 use Rattle.sixel_encoder.proofs.RunSegments.{AreLast-longer, AreLast-run, run-near, run-new}
 use Rattle.sixel_encoder.proofs.SegmentSteps.{is_near, last-far, near-own, none-near, others-far}
 use Rattle.sixel_encoder.proofs.segments.push_run.Goals as goal

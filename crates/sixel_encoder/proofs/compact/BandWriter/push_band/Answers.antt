@@ -1,35 +1,30 @@
-use Rattle.std.proofs.Common.{◌≡◌, length, take, ◌∙◌}
-use Rattle.std.proofs.Common.{arith}
+use Rattle.std.proofs.Common.{◌≤◌, ap, length, refl, ◌∙◌, arith}
 use Rattle.std.specs.Prelude.{string_bytes}
-use Rattle.sixel_encoder.specs.Compact.{follow, segment_marks, to_band}
-use Rattle.sixel_encoder.specs.Marks.{moved_by}
-use Rattle.sixel_encoder.specs.Numbers.{number_of}
-use Rattle.sixel_encoder.specs.Segments.{drawn_segments}
+use Rattle.std.proofs.lemmas.List.FromFn.{length-map-range_with_len}
+use Rattle.sixel_encoder.specs.Compact.{nothing_of, transparent_sixel}
+use Rattle.sixel_encoder.specs.inside.Compact.{drawn_so_far}
 use Rattle.sixel_encoder.specs.inside.Indexed.{drawing_of}
-use Rattle.sixel_encoder.proofs.CompactSteps.{IsWithin-drawn, band-pen, band-text, follow-pen}
-use Rattle.sixel_encoder.proofs.CompactSteps.{follow-pen_start, follow-text, follow-text_start}
-use Rattle.sixel_encoder.proofs.CompactSteps.{take-more}
+use Rattle.sixel_encoder.proofs.CompactSteps.{IsWithin-drawn, band-selected, band-text, drawn-end}
+use Rattle.sixel_encoder.proofs.CompactSteps.{drawn-made, drawn-more, text-end, text-more}
 use Rattle.sixel_encoder.proofs.compact.BandWriter.push_band.Goals as goal
 
 pub loop-segment-init : goal.loop-segment-init
-loop-segment-init c =
-    let image = c.read.new.self.image.now in
-    let step = segment_marks (drawing_of image) (number_of (drawing_of image)) c.args.band
-    c.deref-segment-items.result.now in
-    record {
-      writer = record {
-        indexed = c.read.ensures.entries.indexed;
-        spare = c.read.ensures.entries.spare;
-        numbered = rw c.read.ensures.image c.requires.writer.numbered;
-        wide = c.begin.ensures.wide;
-      };
-      entries = c.read.ensures.entries;
-      image = c.read.ensures.image;
-      band = c.read.ensures.band;
-      blocked = rw c.read.ensures.band at c.begin.ensures.blocked;
-      text = λ pen at. follow-text_start step pen (string_bytes c.begin_band.new.text);
-      pen = λ pen at. follow-pen_start step pen c.begin_band.new.self at;
-    }
+loop-segment-init c = record {
+  writer = record {
+    indexed = c.read.ensures.entries.indexed;
+    spare = c.read.ensures.entries.spare;
+    numbered = rw c.read.ensures.image c.requires.writer.numbered;
+    wide = ap length c.begin.ensures
+        ∙ length-map-range_with_len
+        (transparent_sixel (drawing_of c.read.new.self.image.now) c.read.new.self.band) 0
+        c.read.new.self.image.now.width;
+  };
+  entries = c.read.ensures.entries;
+  image = c.read.ensures.image;
+  band = c.read.ensures.band;
+  text = refl;
+  drawn = refl;
+}
 
 pub push_segment-requires-clause-within : goal.push_segment-requires-clause-within
 push_segment-requires-clause-within c =
@@ -45,53 +40,54 @@ loop-segment-preserved c =
     let told = c.in_ok-push_segment.ensures in
     let k = c.loop-segment.segment-index in
     let items = c.deref-segment-items.result.now in
-    let image = c.loop-segment.self.entries.image.now in
-    let blocked = rw is.band at told.blocked in
+    let drawing = drawing_of c.loop-segment.self.entries.image.now in
     let text = rw is.band at told.text in
-    let pen = rw is.band at told.pen in
-    let step = segment_marks (drawing_of image) (number_of (drawing_of image)) c.args.band items in
-    let more = take-more items k c.loop-segment-test.true in
+    let drawn = rw is.band at told.drawn in
     rw c.push_segment.ensures.entries record {
       writer = rw c.push_segment.ensures.entries at told.writer;
       entries = is.entries;
       image = is.image;
       band = is.band;
-      blocked = rw more (blocked (take k items) is.blocked);
-      text = λ pen at.
-          follow-text step k pen (string_bytes c.begin_band.new.text)
-          (string_bytes c.loop-segment.text) (string_bytes c.push_segment.new.text)
-          (is.text pen at)
-          (text (take k items) (moved_by (follow step k pen) pen) is.blocked
-          (is.pen pen at));
-      pen = λ start at.
-          follow-pen step k start c.push_segment.new.self.pen
-          (pen (take k items) (moved_by (follow step k start) start) (is.pen start at));
+      text =
+          text-more drawing c.args.band k (drawn_so_far c.loop-segment.self)
+          (drawn_so_far c.push_segment.new.self) items (string_bytes c.loop-segment.text)
+          (string_bytes c.push_segment.new.text) _ c.loop-segment-test.true drawn text is.text;
+      drawn =
+          drawn-more drawing c.args.band k (drawn_so_far c.loop-segment.self)
+          (drawn_so_far c.push_segment.new.self) _ items c.loop-segment-test.true drawn is.drawn;
     }
 
-pub returns-clause-pen : goal.returns-clause-pen
-returns-clause-pen c = λ pen at.
-    let image = c.args.self.now.entries.image.now in
+pub returns-clause-register : goal.returns-clause-register
+returns-clause-register c =
+    let drawing = drawing_of c.args.self.now.entries.image.now in
+    let band = c.args.band in
     let items = c.deref-segment-items.result.now in
     let drawn = rw (c.read.ensures.image, c.read.ensures.band) at c.in_ok-segments.ensures in
-    let all : c.loop-segment.segment-index ≡ length items =
-    omega (arith, c.loop-segment-test.false, c.loop-segment.auto.segment-index-end) in
-    band-pen (drawing_of image) (number_of (drawing_of image)) (drawn_segments (drawing_of image))
-    c.args.band c.loop-segment.segment-index pen items c.loop-segment.self.pen
-    (c.deref-segment-items.ensures.value ∙ drawn) all
-    (rw c.loop-segment.invariant.image at (c.loop-segment.invariant.pen
-    (moved_by (to_band c.args.band) pen) (c.in_ok-begin_band.ensures.pen pen at)))
+    let all : length items ≤ c.loop-segment.segment-index = omega (arith, c.loop-segment-test.false) in
+    band-selected drawing band c.args.self.now.pen.register _
+    (drawn_so_far c.loop-segment.self) items
+    (drawn-made _ (nothing_of drawing band c.args.self.now.pen.register)
+    c.begin_band.ensures.column c.begin_band.ensures.register
+    (rw (c.read.ensures.image, c.read.ensures.band) at c.begin.ensures))
+    (c.deref-segment-items.ensures.value ∙ drawn)
+    (drawn-end drawing band c.loop-segment.segment-index (drawn_so_far c.loop-segment.self) _ items
+    all (rw c.loop-segment.invariant.image at c.loop-segment.invariant.drawn))
 
 pub returns-clause-text : goal.returns-clause-text
-returns-clause-text c = λ pen at.
-    let image = c.args.self.now.entries.image.now in
+returns-clause-text c =
+    let drawing = drawing_of c.args.self.now.entries.image.now in
+    let band = c.args.band in
     let items = c.deref-segment-items.result.now in
     let drawn = rw (c.read.ensures.image, c.read.ensures.band) at c.in_ok-segments.ensures in
-    let all : c.loop-segment.segment-index ≡ length items =
-    omega (arith, c.loop-segment-test.false, c.loop-segment.auto.segment-index-end) in
-    band-text (drawing_of image) (number_of (drawing_of image)) (drawn_segments (drawing_of image))
-    c.args.band c.loop-segment.segment-index pen items (string_bytes c.args.text.now)
-    (string_bytes c.begin_band.new.text) (string_bytes c.loop-segment.text)
-    (c.deref-segment-items.ensures.value ∙ drawn) all
+    let all : length items ≤ c.loop-segment.segment-index = omega (arith, c.loop-segment-test.false) in
+    band-text drawing band c.args.self.now.pen.register _ items
+    (string_bytes c.args.text.now) (string_bytes c.begin_band.new.text)
+    (string_bytes c.loop-segment.text)
+    (drawn-made _ (nothing_of drawing band c.args.self.now.pen.register)
+    c.begin_band.ensures.column c.begin_band.ensures.register
+    (rw (c.read.ensures.image, c.read.ensures.band) at c.begin.ensures))
+    (c.deref-segment-items.ensures.value ∙ drawn)
     c.in_ok-begin_band.ensures.text
-    (rw c.loop-segment.invariant.image at (c.loop-segment.invariant.text
-    (moved_by (to_band c.args.band) pen) (c.in_ok-begin_band.ensures.pen pen at)))
+    (text-end drawing band c.loop-segment.segment-index (drawn_so_far c.loop-segment.self) items
+    (string_bytes c.loop-segment.text) _ all
+    (rw c.loop-segment.invariant.image at c.loop-segment.invariant.text))

@@ -1,28 +1,26 @@
-use Rattle.std.proofs.Common.{◌≡◌, ◌++◌, ◌∷◌, refl, ap, ◌∙◌, arith}
+use Rattle.std.proofs.Common.{◌≡◌, ◌++◌, ◌∷◌, refl, ap, sym, ◌∙◌, arith}
 use Rattle.std.specs.Prelude.{codes, string_bytes}
-use Rattle.sixel_encoder.specs.Compact.{follow, segments_marks}
-use Rattle.sixel_encoder.specs.Marks.{first_pen, marks_text, moved_by}
-use Rattle.sixel_encoder.specs.Numbers.{number_of}
-use Rattle.sixel_encoder.specs.Segments.{drawn_segments}
+use Rattle.sixel_base.specs.Picture.{joined}
+use Rattle.sixel_encoder.specs.Compact.{band_marks, band_register, compact_band}
+use Rattle.sixel_encoder.specs.Marks.{mark_text, marks_text}
 use Rattle.sixel_encoder.specs.Text.{bands}
 use Rattle.sixel_encoder.specs.Trip.{bands_up_to, is_used}
 use Rattle.sixel_encoder.specs.inside.Indexed.{drawing_of}
-use Rattle.sixel_encoder.proofs.CompactSteps.{follow-pen, follow-pen_start}
-use Rattle.sixel_encoder.proofs.CompactSteps.{follow-text, follow-text_start}
+use Rattle.sixel_encoder.proofs.Counts.{flat_map-more, flat_map-start}
 use Rattle.sixel_encoder.proofs.DrawnHeight.{bands_up_to-le}
+use Rattle.sixel_encoder.proofs.SegmentOrder.{register_after-more, register_after-none}
 use Rattle.sixel_encoder.proofs.TextLength.{length-band, length-bands}
 use Rattle.sixel_encoder.proofs.compact.BandWriter.push_bands.Goals as goal
 
 pub loop-band-init : goal.loop-band-init
 loop-band-init c =
     let drawing = drawing_of c.args.self.now.entries.image.now in
-    let step = segments_marks drawing (number_of drawing) (drawn_segments drawing) in
     record {
       writer = c.requires.writer;
       image = refl;
-      text = follow-text_start step first_pen _;
+      text = flat_map-start mark_text (compact_band drawing) (string_bytes c.args.text.now);
       plain = omega arith;
-      pen = follow-pen_start step first_pen _ c.requires.pen;
+      register = c.requires.register ∙ sym (register_after-none drawing);
     }
 
 pub push_band-requires-clause-band : goal.push_band-requires-clause-band
@@ -35,22 +33,22 @@ push_band-requires-clause-band c =
 pub loop-band-preserved : goal.loop-band-preserved
 loop-band-preserved c =
     let drawing = drawing_of c.args.self.now.entries.image.now in
-    let step = segments_marks drawing (number_of drawing) (drawn_segments drawing) in
     let band = c.loop-band.band in
     let is = c.loop-band.invariant in
     let told = c.in_ok-push_band.ensures in
-    let here = moved_by (follow step band first_pen) first_pen in
     record {
       writer = told.writer;
       image = ap (λ b. b.now) c.push_band.ensures.image ∙ is.image;
-      text = follow-text step band first_pen _ (string_bytes c.loop-band.text)
-          (string_bytes c.push_band.new.text) is.text (rw is.image at (told.text here is.pen));
+      text = flat_map-more mark_text (compact_band drawing) band (string_bytes c.args.text.now)
+          (string_bytes c.loop-band.text) (string_bytes c.push_band.new.text) _ is.text
+          (ap (λ r. marks_text (band_marks drawing band r)) is.register)
+          (rw is.image at told.text);
       plain = length-band drawing band c.loop-band.plain_bytes c.least_bytes.result
           c.saturating_add-plain_bytes.result is.plain
           (rw (c.push_band.ensures.image, is.image, told.band) at c.least_bytes.ensures)
           (omega (arith, c.saturating_add-plain_bytes.ensures));
-      pen = follow-pen step band first_pen c.push_band.new.self.pen
-          (rw is.image at (told.pen here is.pen));
+      register = (rw is.image at told.register)
+          ∙ (ap (band_register drawing band) is.register ∙ sym (register_after-more drawing band));
     }
 
 pub returns-clause-plain : goal.returns-clause-plain
@@ -73,11 +71,11 @@ returns-clause-plain c =
 pub returns-clause-text : goal.returns-clause-text
 returns-clause-text c =
     let drawing = drawing_of c.args.self.now.entries.image.now in
-    let step = segments_marks drawing (number_of drawing) (drawn_segments drawing) in
     let old = string_bytes c.args.text.now in
     let all : c.loop-band.band ≡ bands_up_to (is_used drawing) (bands drawing.height) =
     omega
     (arith, c.loop-band-test.false, c.loop-band.auto.band-end, c.used_bands-band-end.ensures) in
     c.in_ok-push_str.ensures.bytes
     ∙ ap (λ t. t ++ 27 ∷ codes "\\")
-    (c.loop-band.invariant.text ∙ ap (λ n. old ++ marks_text (follow step n first_pen)) all)
+    (c.loop-band.invariant.text
+    ∙ ap (λ n. old ++ marks_text (joined (compact_band drawing) n)) all)

@@ -1,59 +1,57 @@
-use Rattle.std.proofs.Common.{◌++◌, refl, ap, ◌∙◌, arith}
+use Rattle.std.proofs.Common.{◌++◌, length, refl, ap, ◌∙◌}
 use Rattle.std.specs.Prelude.{Some, string_bytes}
-use Rattle.sixel_encoder.specs.Compact.{segment_row, to_register}
+use Rattle.std.proofs.lemmas.List.FromFn.{length-map-range_with_len}
+use Rattle.sixel_encoder.specs.Compact.{blocked_sixel, segment_row, start_column, to_register}
+use Rattle.sixel_encoder.specs.Compact.{to_segment}
 use Rattle.sixel_encoder.specs.Marks.{marks_text}
 use Rattle.sixel_encoder.specs.RunTokens.{row_tokens, written}
-use Rattle.sixel_encoder.proofs.SegmentMarks.{left-register}
 use Rattle.sixel_encoder.specs.Numbers.{number_of}
 use Rattle.sixel_encoder.specs.inside.Indexed.{drawing_of}
-use Rattle.sixel_encoder.proofs.CompactSteps.{segment-pen, segment-text}
+use Rattle.sixel_encoder.proofs.CompactSteps.{drawn-made, segment-text}
 use Rattle.sixel_encoder.proofs.compact.BandWriter.push_segment.Goals as goal
 
 pub returns-clause-writer : goal.returns-clause-writer
 returns-clause-writer c =
     let was = c.requires.writer in
+    let entries = c.args.self.now.entries in
+    let blocked = c.args.self.now.rows.blocked.items in
     record {
       indexed = was.indexed;
       spare = was.spare;
       numbered = was.numbered;
-      wide = record {
-        one = c.push.ensures.own ∙ was.wide.one;
-        two = c.push.ensures.drawn ∙ was.wide.two;
-        three = c.in_ok-push.ensures.wide ∙ was.wide.three;
-      };
+      wide = ap length c.in_ok-push.ensures.blocked
+          ∙ (length-map-range_with_len
+          (blocked_sixel (drawing_of entries.image.now) entries.band blocked c.args.segment.now) 0
+          (length blocked) ∙ was.wide);
     }
 
-pub returns-clause-pen : goal.returns-clause-pen
-returns-clause-pen c = λ drawn pen at.
-    let image = c.args.self.now.entries.image.now in
-    let segment = c.args.segment.now in
-    let here = c.in_ok-go_to.ensures.pen pen at in
-    let low = c.in_ok-go_to.ensures.left in
-    let each = c.requires.writer.numbered.each segment.entry c.requires.within.known in
-    segment-pen (drawing_of image) (number_of (drawing_of image)) c.args.self.now.entries.band drawn
-    segment pen _
-    (omega (arith, here.at, low, c.requires.within.some)) refl
-    (c.in_ok-select.ensures.register ∙ ap Some each)
-
 pub returns-clause-text : goal.returns-clause-text
-returns-clause-text c = λ drawn pen are at.
-    let image = c.args.self.now.entries.image.now in
+returns-clause-text c =
+    let drawing = drawing_of c.args.self.now.entries.image.now in
+    let band = c.args.self.now.entries.band in
     let segment = c.args.segment.now in
-    let here = c.in_ok-go_to.ensures.pen pen at in
     let each = c.requires.writer.numbered.each segment.entry c.requires.within.known in
-    let number = number_of (drawing_of image) in
-    let left = string_bytes c.go_to.new.text in
-    let named = string_bytes c.select.new.text in
-    segment-text (drawing_of image) number c.args.self.now.entries.band drawn segment pen
-    (string_bytes c.args.text.now) left named (string_bytes c.push.new.text)
-    (c.in_ok-go_to.ensures.text pen at)
+    let blocked = c.args.self.now.rows.blocked.items in
+    let column = start_column c.args.self.now.pen.column segment in
+    segment-text (to_segment c.args.self.now.pen.column segment)
+    (to_register (number_of drawing segment.entry) c.args.self.now.pen.register)
+    (segment_row drawing band blocked segment column)
+    (string_bytes c.args.text.now) (string_bytes c.go_to.new.text)
+    (string_bytes c.select.new.text) (string_bytes c.push.new.text)
+    c.in_ok-go_to.ensures.text
     (c.in_ok-select.ensures.text
-    ∙ (ap (λ r. left ++ marks_text (to_register r c.go_to.new.self.register)) each
-    ∙ ap (λ r. left ++ marks_text (to_register (number segment.entry) r))
-    (here.selected ∙ left-register segment pen)))
-    (c.in_ok-push.ensures.text drawn are
+    ∙ (ap (λ r. string_bytes c.go_to.new.text ++ marks_text (to_register r c.go_to.new.self.register))
+    each
+    ∙ ap (λ r. string_bytes c.go_to.new.text
+    ++ marks_text (to_register (number_of drawing segment.entry) r)) c.go_to.ensures.register))
+    (c.in_ok-push.ensures.text
     ∙ ap
-    (λ f. named
-    ++ written
-    (row_tokens (segment_row (drawing_of image) c.args.self.now.entries.band drawn segment f)))
-    (c.select.ensures.column ∙ here.at))
+    (λ f. string_bytes c.select.new.text
+    ++ written (row_tokens (segment_row drawing band blocked segment f)))
+    (c.select.ensures.column ∙ c.in_ok-go_to.ensures.column))
+
+pub returns-clause-drawn : goal.returns-clause-drawn
+returns-clause-drawn c =
+    let segment = c.args.segment.now in
+    let each = c.requires.writer.numbered.each segment.entry c.requires.within.known in
+    drawn-made _ _ refl (c.in_ok-select.ensures.register ∙ ap Some each) c.in_ok-push.ensures.blocked

@@ -1,0 +1,167 @@
+-- The marks of a compact text draw the drawing, band by band.
+use Rattle.std.specs.Int.{bit_at}
+use Rattle.std.specs.Prelude.{None, Some, slice_index, ◌/◌}
+use Rattle.std.proofs.Common.{List, ap, arith, inl, inr, max, refl, suc, sym, zero, ℕ, ◌*◌, ◌+◌, ◌-◌}
+use Rattle.std.proofs.Common.{◌<◌, ◌∙◌, ◌≡◌}
+use Rattle.std.proofs.lemmas.Bool.{cases_lt}
+use Rattle.sixel_encoder.specs.declared.segments.Segment.{Segment}
+use Rattle.sixel_encoder.specs.Compact.{Drawn, compact_band, compact_marks, drawn_by, nothing_of}
+use Rattle.sixel_encoder.specs.Compact.{register_after, segments_marks, to_band, transparent_row}
+use Rattle.sixel_encoder.specs.Marks.{Draws, Mark, Pen, first_pen, moved_by}
+use Rattle.sixel_encoder.specs.Numbers.{number_of, numbered_definitions}
+use Rattle.sixel_encoder.specs.Segments.{drawn_segments}
+use Rattle.sixel_encoder.specs.Text.{Drawing, bands, entry_at}
+use Rattle.sixel_encoder.specs.Trip.{IsWritable, bands_up_to, is_used}
+use Rattle.sixel_encoder.proofs.DrawnHeight.{bands_up_to-le, bands_up_to-passed}
+use Rattle.sixel_encoder.proofs.EntryRows.{IsInBand}
+use Rattle.sixel_encoder.proofs.MarkSteps.{Leads, Leads-append, Leads-joined, Places, painted-place}
+use Rattle.sixel_encoder.proofs.MarkSteps.{painted_all}
+use Rattle.sixel_encoder.proofs.PlainMarks.{known_place, nothing_drawn}
+use Rattle.sixel_encoder.proofs.RegisterNumbers.{AreNumbers-numbered}
+use Rattle.sixel_encoder.proofs.SegmentMarks.{AreLeft-by, IsDrawn, Leads-segments}
+use Rattle.sixel_encoder.proofs.SegmentOrder.{AreLeft-drawn, opaque-bit, register_after-more}
+use Rattle.sixel_encoder.proofs.SegmentOrder.{register_after-none, used-drawn}
+use Rattle.sixel_encoder.proofs.UsedBands.{used-here}
+
+-- ---- between two bands
+
+-- The pen is in the band above, if there is one. No transparent pixel is set. The pixels of the
+-- bands above are drawn in their own registers.
+record Above (drawing : Drawing) (band : ℕ) (pen : Pen) (place : Places) : Type 0 where
+  left : band ≡ 0 → pen.column ≡ 0
+  level : pen.band + 1 ≡ max 1 band
+  register : pen.register ≡ register_after drawing band
+  transparent : (column line : ℕ) → column < drawing.width → entry_at drawing column line ≡ None
+      → place column line ≡ None
+  above : (column line entry : ℕ) → column < drawing.width → line < 6 * band
+      → entry_at drawing column line ≡ Some entry
+      → place column line ≡ Some (number_of drawing entry)
+
+-- no opaque pixel of the band is drawn when it begins
+nothing-here : (drawing : Drawing) (band : ℕ) (place : Places) (column line entry : ℕ)
+    → column < drawing.width → IsInBand band line → entry_at drawing column line ≡ Some entry
+    → bit_at (slice_index (transparent_row drawing band) column) (line - 6 * band) ≡ 1
+    → place column line ≡ Some (number_of drawing entry)
+nothing-here drawing band place column line entry lc inside e bit =
+    let i : ℕ = line - 6 * band in
+    let here : 6 * band + i ≡ line = omega (arith, inside.since) in
+    absurd (omega (
+      arith,
+      bit,
+      opaque-bit drawing band column i entry lc (omega (arith, inside.since, inside.before))
+          (ap (entry_at drawing column) here ∙ e),
+    ))
+
+-- down to the band
+Leads-to_band : (drawing : Drawing) (band : ℕ) (pen : Pen) (place : Places)
+    → band < bands drawing.height → Above drawing band pen place
+    → Leads drawing
+    (IsDrawn drawing band (nothing_of drawing band (register_after drawing band))) pen place
+    (to_band band)
+Leads-to_band drawing zero pen place lower at = record {
+  allowed = tt;
+  state = record {
+    column = at.left refl;
+    register = at.register;
+    level = omega (arith, at.level);
+    transparent = at.transparent;
+    above = at.above;
+    here = nothing-here drawing zero place;
+  };
+}
+Leads-to_band drawing (suc band) pen place lower at =
+    let level : pen.band + 1 ≡ suc band = omega (arith, at.level) in
+    record {
+      allowed = (omega arith, tt);
+      state = record {
+        column = refl;
+        register = at.register;
+        level = level;
+        transparent = at.transparent;
+        above = at.above;
+        here = nothing-here drawing (suc band) place;
+      };
+    }
+
+-- a band leads to the next
+Leads-band : (drawing : Drawing) (band : ℕ) (pen : Pen) (place : Places) → IsWritable drawing
+    → band < bands drawing.height → Above drawing band pen place
+    → Leads drawing (Above drawing (band + 1)) pen place (compact_band drawing band)
+Leads-band drawing band pen place is lower at =
+    let segments : List Segment = drawn_segments drawing band in
+    let start : Drawn = nothing_of drawing band (register_after drawing band) in
+    let end : Drawn = drawn_by drawing band start segments in
+    let marks : List Mark = segments_marks drawing band start segments in
+    let are = AreLeft-drawn drawing band (λ p e known. known_place drawing p e is known) in
+    let first = Leads-to_band drawing band pen place lower at in
+    let all =
+    Leads-append drawing (IsDrawn drawing band start) (IsDrawn drawing band end) pen place
+    (to_band band) marks first
+    (Leads-segments drawing band start segments (moved_by (to_band band) pen)
+    (painted_all (to_band band) pen place) (AreNumbers-numbered drawing is) are lower
+    (used-drawn drawing band) first.state) in
+    let state = all.state in
+    let whole = AreLeft-by drawing band start segments are in
+    record {
+      allowed = all.allowed;
+      state = record {
+        left = λ e. absurd (omega (arith, e));
+        level = omega (arith, state.level);
+        register = state.register ∙ sym (register_after-more drawing band);
+        transparent = state.transparent;
+        above = λ column line entry lc below e. elim (cases_lt line (6 * band)) [
+          | inl higher ↦ state.above column line entry lc higher e
+          | inr since ↦
+              let i : ℕ = line - 6 * band in
+              let here : 6 * band + i ≡ line = omega arith in
+              state.here column line entry lc
+              record {
+                since = since;
+                before = omega arith;
+              } e
+              (omega (
+                arith,
+                whole.once column i entry lc (omega arith)
+                    (ap (entry_at drawing column) here ∙ e),
+              ))
+        ];
+      };
+    }
+
+-- ---- they draw the drawing
+
+-- the compact marks draw the drawing
+pub Draws-compact : (drawing : Drawing) → IsWritable drawing
+    → Draws drawing (numbered_definitions drawing) (compact_marks drawing)
+Draws-compact drawing is =
+    let last : ℕ = bands_up_to (is_used drawing) (bands drawing.height) in
+    let most = bands_up_to-le (is_used drawing) (bands drawing.height) in
+    let marks : List Mark = compact_marks drawing in
+    let numbers = AreNumbers-numbered drawing is in
+    let leads : Leads drawing (Above drawing last) first_pen nothing_drawn marks =
+    Leads-joined drawing (Above drawing) (compact_band drawing) last
+    (λ k p d l at. Leads-band drawing k p d is (omega (arith, most, l)) at) first_pen nothing_drawn
+    record {
+      left = λ e. refl;
+      level = refl;
+      register = sym (register_after-none drawing);
+      transparent = λ column line lc none. refl;
+      above = λ column line entry lc above e. absurd (omega arith);
+    } in
+    record {
+      defined = numbers.defined;
+      allowed = leads.allowed;
+      transparent = λ column line lc e.
+          painted-place marks first_pen nothing_drawn column line
+          ∙ leads.state.transparent column line lc e;
+      opaque = λ column line entry lc ll e.
+          let used = used-here drawing column line entry is lc ll e in
+          let passed =
+          bands_up_to-passed (is_used drawing) (bands drawing.height) (line / 6) (omega arith)
+          used in (
+            number_of drawing entry,
+            painted-place marks first_pen nothing_drawn column line
+                ∙ leads.state.above column line entry lc (omega (arith, passed)) e,
+            numbers.known (line * drawing.width + column) entry e,
+          );
+    }

@@ -1,0 +1,340 @@
+-- The segments of a band that are left to draw, and the pixels that may not be covered.
+use Rattle.std.specs.Int.{bit_at}
+use Rattle.std.specs.Int.Bits.{bit_or}
+use Rattle.std.specs.List.{range_with_len}
+use Rattle.std.specs.Prelude.{All, None, Option, Some, nat_le, nat_lt, not, slice_index, ◌&&◌, ◌==◌}
+use Rattle.std.proofs.Common.{Bool, List, ap, arith, cond, false, inl, inr, length, refl, suc, zero}
+use Rattle.std.proofs.Common.{true, ℕ, ◌*◌, ◌+◌, ◌-◌, ◌<◌, ◌∙◌, ◌∷◌, ◌≡◌, ◌≤◌}
+use Rattle.std.proofs.lemmas.Bool.{cases_lt}
+use Rattle.std.proofs.lemmas.Bool.Decides.{nat_tests}
+use Rattle.std.proofs.lemmas.List.FromFn.{get_or-map-range_with_len, get_or-range_with_len}
+use Rattle.std.proofs.lemmas.List.FromFn.{length-map-range_with_len, length-range_with_len}
+use Rattle.std.proofs.lemmas.Nat.Bits.{bit_at-lt, bit_at-zero, bit_at_above, bit_at_or}
+use Rattle.sixel_base.specs.Picture.{is_set}
+use Rattle.sixel_encoder.specs.declared.segments.Segment.{Segment}
+use Rattle.sixel_encoder.specs.Compact.{blocked_after, blocked_sixel, segment_row, union}
+use Rattle.sixel_encoder.specs.Text.{Drawing, entry_at, is_entry, mask, sixel_of}
+use Rattle.sixel_encoder.proofs.FillSteps.{All-fill}
+use Rattle.sixel_encoder.proofs.GreedyFill.{AreApart, IsFill, IsFill-fill, IsPart}
+use Rattle.sixel_encoder.proofs.SegmentTallies.{is_of, one, tally}
+use Rattle.sixel_encoder.proofs.SixBits.{is_set-mask, mask-small}
+
+-- ---- bits of masks
+
+-- a bit of a mask whose test passes
+pub bit-mask : (test : ℕ → Bool) (i : ℕ) → i < 6 → test i ≡ true → bit_at (mask test 6) i ≡ 1
+bit-mask test i l on =
+    let set : is_set (mask test 6) i ≡ true = is_set-mask test i l ∙ on in grind (arith, nat_tests)
+
+-- a bit of a mask whose test fails
+pub no_bit-mask : (test : ℕ → Bool) (i : ℕ) → i < 6 → test i ≡ false → bit_at (mask test 6) i ≡ 0
+no_bit-mask test i l off =
+    let set : is_set (mask test 6) i ≡ false = is_set-mask test i l ∙ off in
+    low (bit_at (mask test 6) i) set (bit_at-lt (mask test 6) i)
+  where
+    low : (n : ℕ) → n == 1 ≡ false → n < 2 → n ≡ 0
+    low n e l = grind (arith, nat_tests)
+
+-- ---- what is left
+
+-- an entry of the drawing, and some of its columns
+abbrev pub is_segment : Drawing → Segment → Bool
+is_segment drawing segment =
+    nat_lt segment.entry (length drawing.colors)
+    && (nat_lt segment.first segment.end && nat_le segment.end drawing.width)
+
+-- Transparent pixels may not be covered. Each other pixel may not be covered either, or is in one
+-- of the segments that are left.
+pub record AreLeft (drawing : Drawing) (band : ℕ) (blocked : List ℕ) (segments : List Segment)
+    : Type 0 where
+  pub size : length blocked ≡ drawing.width
+  pub known : tally (λ s. not (is_segment drawing s)) segments ≡ 0
+  pub transparent : (column bit : ℕ) → column < drawing.width → bit < 6
+      → entry_at drawing column (6 * band + bit) ≡ None
+      → bit_at (slice_index blocked column) bit ≡ 1
+  pub once : (column bit entry : ℕ) → column < drawing.width → bit < 6
+      → entry_at drawing column (6 * band + bit) ≡ Some entry
+      → bit_at (slice_index blocked column) bit + tally (is_of column (Some entry)) segments ≡ 1
+
+-- a segment of the drawing
+pub record IsSegment (drawing : Drawing) (segment : Segment) : Type 0 where
+  pub known : segment.entry < length drawing.colors
+  pub some : segment.first < segment.end
+  pub wide : segment.end ≤ drawing.width
+
+-- a segment that passes the test is one
+pub segment-is : (drawing : Drawing) (s : Segment) → is_segment drawing s ≡ true → IsSegment drawing s
+segment-is drawing s h = record {
+  known = grind (arith, nat_tests);
+  some = grind (arith, nat_tests);
+  wide = grind (arith, nat_tests);
+}
+
+-- the first segment that is left is one
+pub first-left : (drawing : Drawing) (band : ℕ) (blocked : List ℕ) (segment : Segment)
+    (segments : List Segment) → AreLeft drawing band blocked (segment ∷ segments)
+    → IsSegment drawing segment
+first-left drawing band blocked segment segments are =
+    segment-is drawing segment (go (is_segment drawing segment) are.known)
+  where
+    go : (b : Bool)
+        → one (not b) + tally (λ s. not (is_segment drawing s)) segments ≡ 0 → b ≡ true
+    go true none = refl
+    go false none = absurd (omega (arith, none))
+
+-- whether a pixel of its columns is the segment's
+own-is : (column entry : ℕ) (segment : Segment) → segment.first ≤ column → column < segment.end
+    → one (is_of column (Some entry) segment) ≡ one (entry == segment.entry)
+own-is column entry segment low high =
+    let within : nat_le segment.first column && nat_lt column segment.end ≡ true =
+    grind (arith, nat_tests) in
+    ap (λ w. one (entry == segment.entry && w)) within ∙ and_true (entry == segment.entry)
+  where
+    and_true : (b : Bool) → one (b && true) ≡ one b
+    and_true true = refl
+    and_true false = refl
+
+-- whether a pixel of another column is
+other-is : (column entry : ℕ) (segment : Segment)
+    → nat_le segment.first column && nat_lt column segment.end ≡ false
+    → one (is_of column (Some entry) segment) ≡ 0
+other-is column entry segment out =
+    ap (λ w. one (entry == segment.entry && w)) out ∙ and_false (entry == segment.entry)
+  where
+    and_false : (b : Bool) → one (b && false) ≡ 0
+    and_false true = refl
+    and_false false = refl
+
+-- a pixel that is one of a segment's
+pub is_of-entry : (column entry : ℕ) (segment : Segment) → is_of column (Some entry) segment ≡ true
+    → (entry ≡ segment.entry) × (segment.first ≤ column) × (column < segment.end)
+is_of-entry column entry segment is =
+    (grind (arith, nat_tests), grind (arith, nat_tests), grind (arith, nat_tests))
+
+-- the bit of a pixel in the sixel of an entry
+pub own-bit : (drawing : Drawing) (band own column bit entry : ℕ) → bit < 6
+    → entry_at drawing column (6 * band + bit) ≡ Some entry
+    → bit_at (sixel_of drawing band own column) bit ≡ one (entry == own)
+own-bit drawing band own column bit entry l at =
+    go (entry == own) refl
+  where
+    test : ℕ → Bool
+    test = λ k. is_entry own (entry_at drawing column (6 * band + k))
+
+    go : (b : Bool) → entry == own ≡ b → bit_at (mask test 6) bit ≡ one b
+    go true e = bit-mask test bit l (ap (is_entry own) at ∙ e)
+    go false e = no_bit-mask test bit l (ap (is_entry own) at ∙ e)
+
+-- ---- one segment less
+
+-- what may not be covered in a column after a segment
+blocked-at : (drawing : Drawing) (band : ℕ) (blocked : List ℕ) (segment : Segment) (column : ℕ)
+    → column < length blocked
+    → slice_index (blocked_after drawing band blocked segment) column
+    ≡ blocked_sixel drawing band blocked segment column
+blocked-at drawing band blocked segment column l =
+    get_or-map-range_with_len (blocked_sixel drawing band blocked segment) 0 (length blocked)
+    column column 0 l (omega arith)
+
+-- the pixels of a segment that is drawn may not be covered
+pub AreLeft-after : (drawing : Drawing) (band : ℕ) (blocked : List ℕ) (segment : Segment)
+    (segments : List Segment) → AreLeft drawing band blocked (segment ∷ segments)
+    → AreLeft drawing band (blocked_after drawing band blocked segment) segments
+AreLeft-after drawing band blocked segment segments are = record {
+  size = length-map-range_with_len (blocked_sixel drawing band blocked segment) 0 (length blocked)
+      ∙ are.size;
+  known = omega (arith, are.known);
+  transparent = λ column bit lc lb at.
+      ap (λ v. bit_at v bit)
+      (blocked-at drawing band blocked segment column (omega (arith, lc, are.size)))
+      ∙ hidden column bit (within column) (are.transparent column bit lc lb at);
+  once = λ column bit entry lc lb at.
+      ap (λ v. bit_at v bit + tally (is_of column (Some entry)) segments)
+      (blocked-at drawing band blocked segment column (omega (arith, lc, are.size)))
+      ∙ left column bit entry lb at (within column) refl (are.once column bit entry lc lb at);
+}
+  where
+    within : ℕ → Bool
+    within column = nat_le segment.first column && nat_lt column segment.end
+
+    own : ℕ → ℕ
+    own = sixel_of drawing band segment.entry
+
+    hidden : (column bit : ℕ) (b : Bool) → bit_at (slice_index blocked column) bit ≡ 1
+        → bit_at (cond b (bit_or (slice_index blocked column) (own column))
+        (slice_index blocked column)) bit ≡ 1
+    hidden column bit true was =
+        omega (
+          arith,
+          was,
+          bit_at_or (slice_index blocked column) (own column) bit,
+          bit_at-lt (own column) bit,
+        )
+    hidden column bit false was = was
+
+    left : (column bit entry : ℕ) → bit < 6
+        → entry_at drawing column (6 * band + bit) ≡ Some entry
+        → (b : Bool) → within column ≡ b
+        → bit_at (slice_index blocked column) bit
+        + tally (is_of column (Some entry)) (segment ∷ segments) ≡ 1
+        → bit_at (cond b (bit_or (slice_index blocked column) (own column))
+        (slice_index blocked column)) bit + tally (is_of column (Some entry)) segments ≡ 1
+    left column bit entry lb at true e was =
+        let low : segment.first ≤ column = grind (arith, nat_tests) in
+        let high : column < segment.end = grind (arith, nat_tests) in
+        omega (
+          arith,
+          was,
+          own-is column entry segment low high,
+          own-bit drawing band segment.entry column bit entry lb at,
+          bit_at_or (slice_index blocked column) (own column) bit,
+        )
+    left column bit entry lb at false e was =
+        omega (arith, was, other-is column entry segment e)
+
+-- ---- the row of a segment
+
+-- the pixels of a segment that is left may be covered
+own-apart : (drawing : Drawing) (band : ℕ) (blocked : List ℕ) (segment : Segment)
+    (segments : List Segment) → AreLeft drawing band blocked (segment ∷ segments) → (column : ℕ)
+    → segment.first ≤ column → column < segment.end
+    → AreApart (sixel_of drawing band segment.entry column) (slice_index blocked column)
+own-apart drawing band blocked segment segments are column low high bit =
+    elim (cases_lt bit 6) [
+      | inr past ↦
+          omega (
+            arith,
+            bit_at_above own 6 bit
+                (mask-small (λ k. is_entry segment.entry (entry_at drawing column (6 * band + k))))
+                past,
+            bit_at-lt (slice_index blocked column) bit,
+          )
+      | inl l ↦ go l (entry_at drawing column (6 * band + bit)) refl
+    ]
+  where
+    own : ℕ
+    own = sixel_of drawing band segment.entry column
+
+    lc : column < drawing.width
+    lc = omega (arith, (first-left drawing band blocked segment segments are).wide, high)
+
+    go : bit < 6 → (place : Option ℕ) → entry_at drawing column (6 * band + bit) ≡ place
+        → bit_at own bit + bit_at (slice_index blocked column) bit ≤ 1
+    go l None at =
+        omega (
+          arith,
+          no_bit-mask (λ k. is_entry segment.entry (entry_at drawing column (6 * band + k))) bit l
+              (ap (is_entry segment.entry) at),
+          bit_at-lt (slice_index blocked column) bit,
+        )
+    go l (Some entry) at =
+        omega (
+          arith,
+          are.once column bit entry lc l at,
+          own-is column entry segment low high,
+          own-bit drawing band segment.entry column bit entry l at,
+        )
+
+-- a sixel has no bit that the union does not have
+union-part : (sixels : List ℕ) (from n k : ℕ) → k < n
+    → IsPart (slice_index sixels (from + k)) (union sixels from n)
+unfolding union
+union-part sixels from zero k l bit = absurd (omega arith)
+union-part sixels from (suc n) k l bit =
+    elim (cases_lt k n) [
+      | inl low ↦ omega (
+        arith,
+        union-part sixels from n k low bit,
+        bit_at_or (union sixels from n) (slice_index sixels (from + n)) bit,
+      )
+      | inr high ↦
+          let e : k ≡ n = omega arith in
+          omega (
+            arith,
+            ap (λ i. bit_at (slice_index sixels (from + i)) bit) e,
+            bit_at_or (union sixels from n) (slice_index sixels (from + n)) bit,
+          )
+    ]
+
+-- the sixels of a segment's row: they cover its own pixels, and none that may not be covered
+pub record IsSegmentRow (drawing : Drawing) (band : ℕ) (blocked : List ℕ) (segment : Segment)
+    (from : ℕ) (row : List ℕ) : Type 0 where
+  pub size : length row ≡ segment.end - from
+  pub all : (column : ℕ) → segment.first ≤ column → column < segment.end
+      → IsPart (sixel_of drawing band segment.entry column) (slice_index row (column - from))
+  pub none : (column : ℕ) → from ≤ column → column < segment.end
+      → AreApart (slice_index row (column - from)) (slice_index blocked column)
+
+-- the row of a segment that is left
+pub IsSegmentRow-left : (drawing : Drawing) (band : ℕ) (blocked : List ℕ) (segment : Segment)
+    (segments : List Segment) (from : ℕ) → AreLeft drawing band blocked (segment ∷ segments)
+    → from ≤ segment.first
+    → IsSegmentRow drawing band blocked segment from
+    (segment_row drawing band blocked segment from)
+IsSegmentRow-left drawing band blocked segment segments from are left = record {
+  size = omega (arith, fill.size, length-range_with_len segment.first own_columns, some);
+  all = λ column low high. (at column low high).0;
+  none = λ column since high. elim (cases_lt column segment.first) [
+    | inl before ↦ λ bit.
+        let k : ℕ = column - from in
+        let here : from + k ≡ column = omega arith in
+        omega (
+          arith,
+          (fill.first k (omega arith)).none bit,
+          union-part blocked from blank k (omega arith) bit,
+          ap (λ c. bit_at (slice_index blocked c) bit) here,
+        )
+    | inr low ↦ (at column low high).1
+  ];
+}
+  where
+    blank : ℕ
+    blank = segment.first - from
+
+    own_columns : ℕ
+    own_columns = segment.end - segment.first
+
+    row : List ℕ
+    row = segment_row drawing band blocked segment from
+
+    some : segment.first < segment.end
+    some = (first-left drawing band blocked segment segments are).some
+
+    column-of : (k : ℕ) → k < own_columns
+        → slice_index (range_with_len segment.first own_columns) k ≡ segment.first + k
+    column-of k l = get_or-range_with_len segment.first own_columns k 0 l
+
+    fill : IsFill (sixel_of drawing band segment.entry) (slice_index blocked) 0
+        (union blocked from blank) blank (range_with_len segment.first own_columns) row
+    fill =
+        IsFill-fill (sixel_of drawing band segment.entry) (slice_index blocked) 0
+        (union blocked from blank) blank (range_with_len segment.first own_columns)
+        (λ k l.
+        let low : k < own_columns =
+        omega (arith, l, length-range_with_len segment.first own_columns) in
+        let c = column-of k low in
+        rw c (own-apart drawing band blocked segment segments are (segment.first + k) (omega arith)
+        (omega arith)))
+        (λ bit. omega (arith, bit_at-zero bit, bit_at-lt (union blocked from blank) bit))
+
+    at : (column : ℕ) → segment.first ≤ column → column < segment.end
+        → IsPart (sixel_of drawing band segment.entry column) (slice_index row (column - from))
+        × AreApart (slice_index row (column - from)) (slice_index blocked column)
+    at column low high =
+        let k : ℕ = column - segment.first in
+        let l : k < own_columns = omega arith in
+        let here : slice_index (range_with_len segment.first own_columns) k ≡ column =
+        column-of k l ∙ omega arith in
+        let place : blank + k ≡ column - from = omega arith in
+        let is = fill.then k (omega (arith, l, length-range_with_len segment.first own_columns)) in
+        (rw (here, place) at is.all, rw (here, place) at is.none)
+
+-- it has six bits in each column
+pub row-small : (drawing : Drawing) (band : ℕ) (blocked : List ℕ) (segment : Segment) (from : ℕ)
+    → All (λ b. b < 64) (segment_row drawing band blocked segment from)
+row-small drawing band blocked segment from =
+    All-fill (sixel_of drawing band segment.entry) (slice_index blocked)
+    (λ column.
+    mask-small (λ bit. is_entry segment.entry (entry_at drawing column (6 * band + bit))))
+    0 (union blocked from (segment.first - from)) (segment.first - from)
+    (range_with_len segment.first (segment.end - segment.first)) (omega arith)
