@@ -8,6 +8,7 @@
 #   make verdict      proves everything anew by `rt ci`, before a release
 #   make bench        times the program and the library
 #   make lib-aarch64  builds the library for aarch64 in out/aarch64, by Debian's cross compiler
+#   make dist         makes the files of a release in out/dist
 #   make abi          renews abi/icysixel.txt, the library's binary interface
 #   make install      copies all to DESTDIR/PREFIX, which is /usr/local by default, and the library
 #                     to LIBDIR below it, which is lib
@@ -80,6 +81,11 @@ verdict:
 bench: all
 	python3 bench
 
+dist: all lib-aarch64
+	@test -z '$(filter-out --cpu x86-64-v2,$(cpu))' || \
+		$(call stop,a release is for all processors: run make dist CPU=x86-64-v2)
+	scripts/dist $(version) $(soname)
+
 abi: $(shared)
 	scripts/abi $(header) $(shared) abi/icysixel.txt
 
@@ -101,7 +107,7 @@ uninstall:
 clean:
 	rm -rf out crates/*/out
 
-.PHONY: all program lib lib-aarch64 check built unit test mutants verdict bench abi install \
+.PHONY: all program lib lib-aarch64 check built unit test mutants verdict bench dist abi install \
 	install-program install-lib uninstall clean
 
 # A part of the description of a file.
