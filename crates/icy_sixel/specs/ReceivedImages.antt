@@ -7,7 +7,7 @@ use Rattle.sixel_base.specs.Payload.{Image}
 use Rattle.sixel_base.specs.Picture.{picture}
 use Rattle.sixel_canvas.specs.Layout.{stored_pixel}
 use Rattle.sixel_canvas.specs.declared.channels.RowLayout.{RowLayout}
-use Rattle.sixel_decoder.specs.Report.{Report}
+pub use Rattle.sixel_decoder.specs.Report.{Report, found_report}
 use Rattle.icy_sixel.specs.FinalRows.{layout_fault}
 use Rattle.icy_sixel.specs.ImageView.{image_value}
 use Rattle.icy_sixel.specs.declared.receiver.received_image.Height.{Height}

@@ -1,22 +1,21 @@
 -- The image that a call stored is the one that it decoded, ended at the height that is set.
 use Rattle.std.proofs.Common.{◌≡◌, Option, Some, None, Result, Ok, Err, OnErr, IfOk, arith}
-use Rattle.sixel_base.specs.OneShot.{Found}
+use Rattle.sixel_base.specs.OneShot.{Found, IsFoundImage}
 use Rattle.sixel_base.specs.declared.error.SixelError.{SixelError}
 use Rattle.sixel_base.specs.declared.state.DecoderState.{DecoderState}
-use Rattle.sixel_decoder.specs.OneShotCalls.{IsDecoded}
-use Rattle.sixel_decoder.specs.Report.{found_report}
-use Rattle.icy_sixel.specs.ReceivedImages.{IsCropped, left_value, received_report}
+use Rattle.icy_sixel.specs.ReceivedImages.{IsCropped, found_report, left_value}
+use Rattle.icy_sixel.specs.ReceivedImages.{received_report}
 use Rattle.icy_sixel.specs.declared.receiver.received_image.Height.{Height}
 use Rattle.icy_sixel.specs.declared.receiver.received_image.ReceivedImage.{ReceivedImage}
 use Rattle.icysixel.specs.Heights.{IsDecodedWhole, IsEnded}
 
 whole : (answer : Result ReceivedImage SixelError) (decoder : DecoderState) (payload : Found)
-    → IsDecoded left_value decoder payload answer
+    → IfOk answer (λ image. IsFoundImage decoder payload (left_value image))
     → IfOk answer (λ image. image.first_row ≡ 0)
     → IfOk answer (λ image. received_report image ≡ found_report decoder payload)
     → IfOk answer (IsDecodedWhole decoder payload)
 whole (Ok image) decoder payload is first report =
-    record { first = first; image = is.image; report = report }
+    record { first = first; is_image = is; report = report }
 whole (Err error) decoder payload is first report = tt
 
 ended : (answer : Result ReceivedImage SixelError) (stored : Option ReceivedImage)
@@ -33,7 +32,7 @@ ended (Err error) stored height IsWhole holds is none image stored_is =
 -- the image of a payload that was decoded
 pub of_stored : (answer : Result ReceivedImage SixelError) (stored : Option ReceivedImage)
     (height : Height) (decoder : DecoderState) (payload : Found)
-    → IsDecoded left_value decoder payload answer
+    → IfOk answer (λ image. IsFoundImage decoder payload (left_value image))
     → IfOk answer (λ image. image.first_row ≡ 0)
     → IfOk answer (λ image. received_report image ≡ found_report decoder payload)
     → ((image : ReceivedImage) → stored ≡ Some image

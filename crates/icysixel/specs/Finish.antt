@@ -4,8 +4,7 @@ use Rattle.std.specs.Prelude.{ℕ, ◌≡◌, ◌≢◌, ◌-◌, ◌*◌, ◌�
 use Rattle.std.specs.Prelude.{min}
 use Rattle.sixel_base.specs.Decoder.{IsSetAs}
 use Rattle.sixel_base.specs.OneShot.{IsFoundImage, AreFoundRegisters, IsDecodedAs}
-use Rattle.sixel_decoder.specs.Report.{found_report}
-use Rattle.icy_sixel.specs.ReceivedImages.{received_report}
+use Rattle.icy_sixel.specs.ReceivedImages.{found_report, received_report}
 use Rattle.icy_sixel.specs.Receiver.{Reception, end_fault, end_wants, is_open, is_over, no_image}
 use Rattle.icy_sixel.specs.Receiver as receivers
 use Rattle.icy_sixel.specs.ReceiverCalls.{whole_of}
@@ -17,15 +16,17 @@ use Rattle.icysixel.specs.declared.shape.Shape.{Shape}
 use Rattle.icysixel.specs.declared.state.State.{State}
 
 -- the image that was received, and these registers after it
-pub record IsReceived (open : Reception) (registers : List (List ℕ)) (image : ReceivedImage)
+pub record IsReceived (reception : Reception) (registers : List (List ℕ)) (image : ReceivedImage)
     : Type 0 where
   -- with the rows that were released above those that are left it is that of its bytes
-  pub image : IsFoundImage open.start (receivers.found open.form open.bytes) (whole_of open image)
+  pub is_image : IsFoundImage reception.start
+      (receivers.found reception.form reception.bytes) (whole_of reception image)
   pub report : received_report image
-      ≡ found_report open.start (receivers.found open.form open.bytes)
+      ≡ found_report reception.start (receivers.found reception.form reception.bytes)
   -- it is what decoding in one call finds, whatever bytes follow a DCS sequence
-  pub as_decoded : (more : List ℕ) → IsDecodedAs open.start
-      (receivers.found_followed open.form open.bytes more) (whole_of open image) registers
+  pub as_decoded : (more : List ℕ) → IsDecodedAs reception.start
+      (receivers.found_followed reception.form reception.bytes more) (whole_of reception image)
+      registers
 
 -- the open image was closed; code 0 stores it and reports its shape, another one is an error
 pub record IsFinished (before after : State) (now : Shape) (code : ℕ) : Type 0 where

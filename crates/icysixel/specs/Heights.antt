@@ -3,8 +3,8 @@
 use Rattle.std.specs.Prelude.{ℕ, ◌≡◌, ◌==◌, if◌then◌else◌}
 use Rattle.sixel_base.specs.OneShot.{Found, IsFoundImage}
 use Rattle.sixel_base.specs.declared.state.DecoderState.{DecoderState}
-use Rattle.sixel_decoder.specs.Report.{found_report}
-use Rattle.icy_sixel.specs.ReceivedImages.{IsCropped, left_value, received_report}
+use Rattle.icy_sixel.specs.ReceivedImages.{IsCropped, found_report, left_value}
+use Rattle.icy_sixel.specs.ReceivedImages.{received_report}
 use Rattle.icy_sixel.specs.declared.receiver.received_image.Height.{Height}
 use Rattle.icy_sixel.specs.declared.receiver.received_image.Height.TheVariants.{Bands, Raster}
 use Rattle.icy_sixel.specs.declared.receiver.received_image.Height.TheVariants.{Drawn}
@@ -31,5 +31,5 @@ pub record IsEnded (height : Height) (IsWhole : ReceivedImage → Type 0) (image
 pub record IsDecodedWhole (decoder : DecoderState) (payload : Found) (image : ReceivedImage)
     : Type 0 where
   pub first : image.first_row ≡ 0
-  pub image : IsFoundImage decoder payload (left_value image)
+  pub is_image : IsFoundImage decoder payload (left_value image)
   pub report : received_report image ≡ found_report decoder payload

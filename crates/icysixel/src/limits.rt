@@ -22,7 +22,14 @@ pub extern "C" fn icysixel_get_height(slot: &mut Slot) -> u8
     if !slot.is_held() {
         return 0;
     }
-    match slot.state().height {
+    height_number(slot.state().height)
+}
+
+/// The number of a height.
+fn height_number(height: Height) -> u8
+    ensures { result ≡ number_of height }
+{
+    match height {
         Height::Bands => 0,
         Height::Raster => 1,
         Height::Drawn => 2,

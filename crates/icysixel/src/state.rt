@@ -1,7 +1,7 @@
 //! The state behind a handle: a receiver, the stored image and the stored text.
 
 ghost use Rattle.std.specs.Prelude.{◌≡◌, ◌≢◌, ◌-◌, ◌*◌, ◌≤◌, ℕ, Bool, Option, Some, None, length};
-ghost use Rattle.std.specs.Prelude.{OnOk, OnErr, IfOk, IfErr, is_some, string_bytes, true};
+ghost use Rattle.std.specs.Prelude.{OnOk, OnErr, IfOk, IfErr, is_some, min, string_bytes, true};
 ghost use Rattle.sixel_base.specs.Decoder.{new_decoder};
 ghost use Rattle.sixel_base.specs.Fault.{Fault, Faults, IsFault};
 ghost use Rattle.icy_sixel.specs.ReceivedImages.{IsCropped};
@@ -114,6 +114,7 @@ impl State {
             → IsCropped image ended self.old.height }
         ensures shape { (ended : ReceivedImage) → self.new.image ≡ Some ended
             → shape.new ≡ shape_of ended is_complete }
+        ensures first { shape.new.first_row ≡ min image.first_row shape.new.height }
         ensures bytes { shape.new.bytes
             ≡ 4 * (shape.new.width * (shape.new.height - shape.new.first_row)) }
         ensures area { (limit : ℕ) → image.width * image.height ≤ limit

@@ -46,7 +46,7 @@ impl SixelImage {
     ///
     /// Those of [`SixelDecoder::decode`](crate::SixelDecoder::decode).
     pub fn decode(bytes: &[u8]) -> Result<Self> {
-        Ok(Handle::new().map_err(error_of)?.decode(bytes)?.image)
+        Handle::new().map_err(error_of)?.decode(bytes)?.into_image()
     }
 
     /// Decodes one payload, as [`SixelDecoder::decode_from_dcs`] of a new decoder does.
@@ -57,7 +57,7 @@ impl SixelImage {
     ///
     /// [`SixelDecoder::decode_from_dcs`]: crate::SixelDecoder::decode_from_dcs
     pub fn decode_from_dcs(bytes: &[u8], settings: DcsSettings) -> Result<Self> {
-        Ok(Handle::new().map_err(error_of)?.decode_payload(bytes, settings)?.image)
+        Handle::new().map_err(error_of)?.decode_payload(bytes, settings)?.into_image()
     }
 
     /// Creates an image with square pixels and a transparent background.

@@ -30,7 +30,7 @@ returns-in-Ok-clause-finished c =
     let first : whole.first_row ≡ min old.image.released whole.height =
     rw (← c.store_image.ensures.receiver) c.in-Ok.ensures.first in
     let received : IsReceived old.image new.receiver.decoder.registers whole = record {
-      image = done.image;
+      is_image = done.image;
       report = rw (← c.store_image.ensures.receiver) c.in-Ok.ensures.report;
       as_decoded = done.as_decoded;
     } in

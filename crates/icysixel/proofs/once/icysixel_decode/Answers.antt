@@ -35,8 +35,9 @@ returns-clause-image c = λ before after image is is_now kept.
     let stored = c.store_decoded in
     rw (← same, ← height)
     (of_stored answer.result stored.new.self.image c.replace_decoder.new.self.height
-    c.replace_decoder-decoder.result (found c.args.bytes.now) answer.ensures.decoded answer.ensures.first
-    answer.ensures.report stored.ensures.image stored.ensures.dropped image now)
+    c.replace_decoder-decoder.result (found c.args.bytes.now)
+    answer.ensures.decoded.image answer.ensures.first answer.ensures.report stored.ensures.image
+    stored.ensures.dropped image now)
 
 pub returns-clause-shape : goal.returns-clause-shape
 returns-clause-shape c = grind arith

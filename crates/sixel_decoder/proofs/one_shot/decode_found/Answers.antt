@@ -37,7 +37,7 @@ returns-in-Ok-clause-report c =
     subst (λ (w : Found).
     IfOk c.decode_payload-in-Ok.result
     (λ picture. picture_report picture ≡ found_report c.args.decoder w))
-    (sym (is_payload c)) c.decode_payload-in-Ok.ensures.drawn
+    (sym (is_payload c)) c.decode_payload-in-Ok.ensures.report
 
 pub returns-in-Err-clause-decoded : goal.returns-in-Err-clause-decoded
 returns-in-Err-clause-decoded c =

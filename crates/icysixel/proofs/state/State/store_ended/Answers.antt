@@ -16,6 +16,9 @@ returns-clause-shape c = λ ended is.
     let one : c.crop.new.self ≡ ended = grind (arith, is, c.store_image.ensures.image) in
     subst (λ (i : ReceivedImage). c.of.result ≡ shape_of i c.args.is_complete) one c.of.ensures
 
+pub returns-clause-first : goal.returns-clause-first
+returns-clause-first c = rw c.of.ensures c.crop.ensures.first
+
 pub returns-clause-bytes : goal.returns-clause-bytes
 returns-clause-bytes c = rw c.of.ensures c.crop.new.self.rows
 

@@ -31,8 +31,14 @@ returns-in-Ok-clause-draws g c = λ o h text keeps shows.
       top = told.top ∙ rw is.canvas shows.top;
       width = is.width ∙ rw (shows.width, wide) refl;
       height = is.height ∙ rw (shows.height, high) refl;
-      raster = rw (c.last_side.ensures, c.last_side-2.ensures, wide, high, is.raster, shows.raster)
-          refl;
+      raster = rw (
+        c.last_side.ensures,
+        c.last_side-in-Ok.ensures,
+        wide,
+        high,
+        is.raster,
+        shows.raster,
+      ) refl;
       drawn = ap (λ (w : DrawnRows). drawn_rows w (down h)) is.drawn ∙ shows.drawn;
       ratio =
           c.shape-self.ensures text keeps

@@ -118,11 +118,11 @@ returns-clause-ends g c = λ o h shows.
         raster = painter.raster;
         ignored = c.args.ignored;
       }) drawn
-      ∙ ap (λ (p : ℕ × ℕ). record {
-        drawn_height = image_drawn_height limit o.raster_crop h;
-        raster = p;
-        ignored = c.args.ignored;
-      }) shows.raster,
+          ∙ ap (λ (p : ℕ × ℕ). record {
+            drawn_height = image_drawn_height limit o.raster_crop h;
+            raster = p;
+            ignored = c.args.ignored;
+          }) shows.raster,
     )
 
 pub returns-in_err-pixels-clause-ends : goal.returns-in_err-pixels-clause-ends
