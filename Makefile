@@ -8,6 +8,7 @@
 #   make verdict      proves everything anew by `rt ci`, before a release
 #   make bench        times the program and the library
 #   make lib-aarch64  builds the library for aarch64 in out/aarch64, by Debian's cross compiler
+#   make lib-v3       builds the shared library for x86-64-v3 in out/x86-64-v3
 #   make dist         makes the files of a release in out/dist
 #   make abi          renews abi/icysixel.txt, the library's binary interface
 #   make install      copies all to DESTDIR/PREFIX, which is /usr/local by default, and the library
@@ -32,7 +33,9 @@ tests = crates/sixel_tests/out/sixel_tests
 tests_by_rattle = $(tests).by-rattle
 archive = $(crate)/out/libicysixel.a
 archive_by_rattle = $(crate)/out/libicysixel.by-rattle.a
-archive_for_aarch64 = $(crate)/out/libicysixel.aarch64.a
+# The archives for other processors than this one.
+others = aarch64 x86-64-v3
+archives_for_others = $(others:%=$(crate)/out/libicysixel.%.a)
 # The shared library has a folder of its own, so that `-L out -licysixel` links the archive.
 shared = out/shared/libicysixel.so
 # The header has the version, and the map the number of the soname.
@@ -61,6 +64,8 @@ lib: out/libicysixel.a $(shared) out/icysixel.h out/icysixel.pc out/icysixel.3
 
 lib-aarch64: out/aarch64/libicysixel.a out/aarch64/shared/libicysixel.so
 
+lib-v3: out/x86-64-v3/shared/libicysixel.so
+
 check:
 	./check
 
@@ -81,7 +86,7 @@ verdict:
 bench: all
 	python3 bench
 
-dist: all lib-aarch64
+dist: all lib-aarch64 lib-v3
 	@test -z '$(filter-out --cpu x86-64-v2,$(cpu))' || \
 		$(call stop,a release is for all processors: run make dist CPU=x86-64-v2)
 	scripts/dist $(version) $(soname)
@@ -107,8 +112,8 @@ uninstall:
 clean:
 	rm -rf out crates/*/out
 
-.PHONY: all program lib lib-aarch64 check built unit test mutants verdict bench dist abi install \
-	install-program install-lib uninstall clean
+.PHONY: all program lib lib-aarch64 lib-v3 check built unit test mutants verdict bench dist abi \
+	install install-program install-lib uninstall clean
 
 # A part of the description of a file.
 part = $(word $1,$(subst :, ,$(file)))
@@ -229,26 +234,32 @@ $(archive): $(archive_by_rattle)
 	$(call rt,$(crate),lib --jobs $(jobs) $(cpu))
 	$(end)
 
-# So does `rt lib` for another processor. The archive of this one is moved away meanwhile.
-$(archive_for_aarch64): $$(call sources,icysixel) $$(call proofs,icysixel) | out/libicysixel.a
-	$(call report,building for aarch64,icysixel)
+# So does `rt lib` for another processor, one after the other. The archive of this one is moved away
+# meanwhile.
+aarch64 = --target aarch64-unknown-linux-gnu
+x86-64-v3 = --cpu x86-64-v3
+$(archives_for_others): $(crate)/out/libicysixel.%.a: $$(call sources,icysixel) \
+	$$(call proofs,icysixel) | out/libicysixel.a
+	$(call report,building for $*,icysixel)
 	$(start)
 	@mv $(archive) $(begun).other
-	$(call rt,$(crate),lib --jobs $(jobs) --target aarch64-unknown-linux-gnu)
+	$(call rt,$(crate),lib --jobs $(jobs) $($*))
 	@mv $(archive) $@ && mv $(begun).other $(archive)
 	$(end)
+
+$(lastword $(archives_for_others)): | $(firstword $(archives_for_others))
 
 # Debian's compiler for aarch64.
 out/aarch64/%: override CC = aarch64-linux-gnu-gcc
 out/aarch64/%: override AR = aarch64-linux-gnu-ar
 
-out/icysixel_memory.o out/aarch64/icysixel_memory.o: $(hooks)
+out/icysixel_memory.o $(others:%=out/%/icysixel_memory.o): $(hooks)
 	mkdir -p $(@D)
 	$(cc) -c $(hooks) -o $@
 
 out/libicysixel.a: $(archive)
-out/aarch64/libicysixel.a: $(archive_for_aarch64)
-out/libicysixel.a out/aarch64/libicysixel.a: $$(@D)/icysixel_memory.o
+$(others:%=out/%/libicysixel.a): out/%/libicysixel.a: $(crate)/out/libicysixel.%.a
+out/libicysixel.a $(others:%=out/%/libicysixel.a): $$(@D)/icysixel_memory.o
 	cp $(filter %.a,$^) $@
 	$(AR) rs $@ $(@D)/icysixel_memory.o
 

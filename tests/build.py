@@ -13,8 +13,6 @@ HEADERS = ROOT / "crates/icysixel/include"
 MEMORY = ROOT / "crates/icysixel/memory/icysixel_memory.c"
 # The library for C, as LLVM and as Rattle's own compiler build it.
 ARCHIVES = [ROOT / f"crates/icysixel/out/libicysixel{it}.a" for it in ("", ".by-rattle")]
-# The library for aarch64.
-AARCH64 = ROOT / "out/aarch64"
 
 
 def builds_of(program):

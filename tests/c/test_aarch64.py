@@ -4,7 +4,7 @@ import tempfile
 import unittest
 from pathlib import Path
 
-from build import AARCH64, ARCHIVES, HEADERS, MEMORY, ROOT, needs, run
+from build import ARCHIVES, HEADERS, MEMORY, ROOT, needs, run
 from vectors import packed_vectors
 
 COMPILER = "aarch64-linux-gnu-gcc"
@@ -24,7 +24,7 @@ class TestAarch64(unittest.TestCase):
         room = Path(self.enterContext(tempfile.TemporaryDirectory()))
         (room / "all").write_bytes(b"".join(packed_vectors()))
         arguments = {"vectors": [room / "all"], "random": ["600", "1"]}
-        linked = {"gcc": [MEMORY, ARCHIVES[0]], COMPILER: [AARCH64 / "libicysixel.a"]}
+        linked = {"gcc": [MEMORY, ARCHIVES[0]], COMPILER: [ROOT / "out/aarch64/libicysixel.a"]}
         env = os.environ | {"QEMU_LD_PREFIX": "/usr/aarch64-linux-gnu"}
         for name in PROGRAMS:
             with self.subTest(program=name):

@@ -9,10 +9,12 @@ import tempfile
 import unittest
 from pathlib import Path
 
-from build import ROOT, needs, run
+from build import HEADERS, ROOT, needs, run
 from install.users import HERE, PIXELS, RED, UsersTest, variables
+from vectors import packed_vectors
 
 DIST = ROOT / "out/dist"
+LOADER = "/lib64/ld-linux-x86-64.so.2"
 CROSS = "aarch64-linux-gnu"
 # A program for aarch64, as `gcc decode.c` in USERS.
 DECODE = f"{CROSS}-gcc decode.c $(pkg-config --cflags --libs icysixel) -o $room/decode"
@@ -76,6 +78,26 @@ class TestDist(UsersTest):
         """The tarball for this processor can be used where it was unpacked."""
         folder = self.folder("icysixel-*-x86_64-linux")
         self.works(folder / "share/doc/icysixel/examples", variables(folder))
+
+    def test_newer_processors(self):
+        """The loader takes the library for x86-64-v3 by itself. It writes what the other writes."""
+        if b"x86-64-v3 (supported" not in run(LOADER, "--help")[1]:
+            self.skipTest("not supported: x86-64-v3")
+        library = self.folder("icysixel-*-x86_64-linux") / "lib"
+        (self.room / "all").write_bytes(b"".join(packed_vectors()))
+        for name, *words in ("vectors", self.room / "all"), ("random", "600", "1"):
+            program = self.room / name
+            sources = [ROOT / f"tests/c/{name}.c", f"-I{HEADERS}", f"-L{library}", "-licysixel"]
+            ended = run("gcc", "-std=c11", "-O1", "-pthread", *sources, "-o", program)
+            self.assertEqual(ended[0], 0, ended[2].decode())
+            written = {}
+            for level in "x86-64-v3", "x86-64-v2":
+                load = LOADER, "--library-path", library, "--glibc-hwcaps-mask", level
+                listed = run(*load, "--list", program)[1]
+                self.assertEqual(b"glibc-hwcaps/x86-64-v3/" in listed, level == "x86-64-v3")
+                status, written[level], errors = run(*load, program, *words, timeout=300)
+                self.assertEqual(status, 0, errors.decode())
+            self.assertEqual(*written.values())
 
     def test_unpacked_packages(self):
         """The Debian packages for this processor can be used below a folder."""

@@ -4,7 +4,7 @@ import tempfile
 import unittest
 from pathlib import Path
 
-from build import AARCH64, HEADERS, ROOT, needs, run
+from build import HEADERS, ROOT, needs, run
 from install.users import UsersTest, variables
 from library import SHARED
 from rust.declared import of_header
@@ -50,10 +50,11 @@ class TestInstall(UsersTest):
     @needs("readelf")
     def test_shared_library(self):
         """It exports the calls of the header alone, needs libc alone, and is hardened."""
-        for library in self.folder / "lib/libicysixel.so.0", AARCH64 / "shared/libicysixel.so":
+        others = (ROOT / f"out/{it}/shared/libicysixel.so" for it in ("aarch64", "x86-64-v3"))
+        for library in self.folder / "lib/libicysixel.so.0", *others:
             with self.subTest(library=library):
                 if not library.exists():
-                    self.skipTest("not built: make lib-aarch64")
+                    self.skipTest("not built: make dist")
                 words = "--wide", "--dynamic", "--dyn-syms", "--segments", "--sections"
                 told = run("readelf", *words, library)[1].decode()
                 names = re.findall(r" (\w+)@@ICYSIXEL_0$", told, re.M)
