@@ -76,6 +76,18 @@ class TestPrograms(ProgramTest):
                     arguments = ["draw", "-p", "/missing", "-d", "none", "-p", file.name]
                     self.ends(arguments, b"P5 3 1 255\n\x10\xf0\x90", outcome(result))
 
+    def test_files(self):
+        """Each file is drawn, also after one that fails. Names follow the options."""
+        with tempfile.NamedTemporaryFile() as file:
+            Path(file.name).write_bytes(b"P6 1 1 255\n\xff\0\0")
+            sequence = b'\x1bP9;1;0q"1;1;1;1#0;2;100;0;0#0@\x1b\\'
+            missing = b"/missing: No such file or directory (os error 2)\n"
+            self.ends(["draw", file.name], b"P5 1 1 255\n\0", (0, sequence, b""))
+            words = ["draw", "-c", "2", file.name, "/missing", file.name]
+            self.ends(words, b"", (1, 2 * sequence, missing))
+            dashed = b"-d: No such file or directory (os error 2)\n"
+            self.ends([*words[:4], "-d"], b"", (1, sequence, dashed))
+
     def test_memory(self):
         for arguments, stdin, expected in MEMORY:
             self.ends(arguments.split(), stdin, expected, memory=200_000)

@@ -3,6 +3,7 @@ pub mod ByteCounts
 mod Chunks
 pub mod DcsSequences
 pub mod Drawings
+pub mod FileNames
 pub mod ImageSequences
 pub mod NetpbmLines
 pub mod NetpbmPixels

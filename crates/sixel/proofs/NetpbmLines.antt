@@ -1,6 +1,6 @@
 -- The lines of a PAM header, byte by byte.
 use Rattle.std.proofs.Common.{◌≡◌, ◌≢◌, ℕ, ◌+◌, ◌-◌, ◌<◌, ◌≤◌, List, [], ◌∷◌, ◌++◌, length, get_or}
-use Rattle.std.proofs.Common.{take, drop, sym, ap, ◌∙◌, arith, Some, Option, false, eqb, refl, true}
+use Rattle.std.proofs.Common.{take, drop, sym, ap, ◌∙◌, arith, Some, false, refl}
 use Rattle.std.proofs.lemmas.List.{at_drop_more, take_more, get_or-drop, length-drop}
 use Rattle.std.proofs.lemmas.Bool.Decides.{nat_tests}
 use Rattle.sixel.specs.declared.netpbm.pam.Fields.{Fields}

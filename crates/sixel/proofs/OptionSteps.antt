@@ -3,34 +3,66 @@ use Rattle.std.proofs.Common.{◌≡◌, ◌↔◌, ◌≤◌, ◌<◌, ◌-◌,
 use Rattle.std.proofs.Common.{◌∙◌}
 use Rattle.std.proofs.Common.{subst, arith, length, get_or, take, drop, string_bytes, String}
 use Rattle.std.proofs.Common.{Bor, IfNone, IfSome, Option, codes, option_map, inl, inr}
+use Rattle.std.proofs.Common.{Result, Ok, Err}
+use Rattle.std.specs.Result.{result_ok}
 use Rattle.std.specs.declared.alloc.Global.{Global}
 use Rattle.std.proofs.lemmas.List.{take_all}
 use Rattle.std.proofs.lemmas.Option.{none-some, same_Some}
-use Rattle.sixel.specs.Options.{AreOptions, IsLastPath, IsOption, default_options}
-use Rattle.sixel.specs.Words.{BeginsWithDraw, IsPalettePath, IsPictureAskedBy, words_of}
+use Rattle.sixel.specs.Options.{AreFaultyOptions, AreOptions, IsFaultyOption, IsLastPath}
+use Rattle.sixel.specs.Options.{IsOption, default_options, options_of}
+use Rattle.sixel.specs.Words.{IsPalettePath, words_of}
 use Rattle.sixel.specs.declared.draw_options.DrawOptions.{DrawOptions}
-use Rattle.sixel.specs.declared.picture_words.PictureWord.{PictureWord}
-use Rattle.sixel.specs.declared.picture_words.PictureWord.TheVariants.{Pam, Draw}
+use Rattle.sixel.specs.declared.option_fault.OptionFault.{OptionFault}
+
+-- options are read as they are stated
+abbrev pub IsRead : Result DrawOptions OptionFault → (DrawOptions → Type 0) → Type 0
+IsRead read IsStated = (options : DrawOptions) → IsStated options ↔ (read ≡ Ok options)
+
+-- the same of all arguments and of the rest
+abbrev pub IsRest : List (List ℕ) → DrawOptions → List (List ℕ) → Type 0
+IsRest all options rest =
+    ((stated : DrawOptions)
+    → AreOptions default_options all stated ↔ AreOptions options rest stated)
+    × ((fault : OptionFault)
+    → AreFaultyOptions options rest fault → AreFaultyOptions default_options all fault)
+
+not_read : (fault : OptionFault) (options : DrawOptions)
+    → ◌≡◌ {A = Result DrawOptions OptionFault} (Err fault) (Ok options) → ⊥
+not_read fault options is = absurd cc
+
+-- and what is there of a reading that succeeded is what it returned
+pub ok_read : (read : Result DrawOptions OptionFault) (options : DrawOptions)
+    → result_ok read ≡ Some options → read ≡ Ok options
+ok_read (Ok read) options is = ap Ok (same_Some read options is)
+ok_read (Err fault) options is = absurd (none-some options is)
+
+one_read : (read : Result DrawOptions OptionFault) (a b : DrawOptions) → read ≡ Ok a → read ≡ Ok b
+    → a ≡ b
+one_read read a b is also =
+    let both : ◌≡◌ {A = Result DrawOptions OptionFault} (Ok a) (Ok b) = sym is ∙ also in cc
 
 -- an option that is known leads to the options that the rest changes
-pub step_on : (options changed : DrawOptions) (name value : List ℕ) (rest : List (List ℕ))
-    → ((after : DrawOptions) → IsOption options name value after ↔ (Some changed ≡ Some after))
-    → (stated : DrawOptions)
-    → AreOptions options (name ∷ value ∷ rest) stated ↔ AreOptions changed rest stated
-step_on options changed name value rest is stated = (
-  λ (after, one, more).
-      subst (λ o. AreOptions o rest stated) (sym (same_Some changed after ((is after).0 one))) more,
-  λ more. (changed, (is changed).1 refl, more),
+pub step_on : (all rest : List (List ℕ)) (options changed : DrawOptions) (name value : List ℕ)
+    (read : Result DrawOptions OptionFault) → IsRead read (IsOption options name value)
+    → read ≡ Ok changed → IsRest all options (name ∷ value ∷ rest) → IsRest all changed rest
+step_on all rest options changed name value read is known (stated, faulty) = (
+  λ s. (
+    λ are. let (after, one, more) = (stated s).0 are in
+        subst (λ o. AreOptions o rest s) (one_read read after changed ((is after).0 one) known)
+        more,
+    λ more. (stated s).1 (changed, (is changed).1 known, more),
+  ),
+  λ fault more. faulty fault (inr (changed, (is changed).1 known, more)),
 )
 
 -- one that is not known leads to none
-pub step_off : (options : DrawOptions) (name value : List ℕ) (rest : List (List ℕ))
-    → ((after : DrawOptions) → IsOption options name value after ↔ (None ≡ Some after))
-    → (stated : DrawOptions)
-    → AreOptions options (name ∷ value ∷ rest) stated ↔ (None ≡ Some stated)
-step_off options name value rest is stated = (
-  λ (after, one, more). absurd (none-some after ((is after).0 one)),
-  λ none. absurd (none-some stated none),
+pub step_off : (all rest : List (List ℕ)) (options : DrawOptions) (name value : List ℕ)
+    (fault : OptionFault) → IsRead (Err fault) (IsOption options name value)
+    → IsRest all options (name ∷ value ∷ rest) → IsRead (Err fault) (AreOptions default_options all)
+step_off all rest options name value fault is (stated, faulty) s = (
+  λ are. let (after, one, more) = (stated s).0 are in
+      absurd (not_read fault after ((is after).0 one)),
+  λ ok. absurd (not_read fault s ok),
 )
 
 -- the first two arguments, and those after them
@@ -64,39 +96,32 @@ read_words words name value n v p =
     (sym p.name_read)
     ∙ ap (λ x. n ∷ x ∷ words_of (take (length words - 2) (drop 2 words))) (sym p.value_read)
 
--- all arguments lead to what the rest changes
+-- the first two arguments are an option that is known, or one that is not
 pub pair_on : (all : List (List ℕ)) (options changed : DrawOptions) (words : List (String Global))
-    (name value : String Global) (n v : List ℕ) → ReadPair words name value n v
-    → ((after : DrawOptions) → IsOption options n v after ↔ (Some changed ≡ Some after))
-    → ((stated : DrawOptions)
-    → AreOptions default_options all stated ↔ AreOptions options (words_of words) stated)
-    → (stated : DrawOptions) → AreOptions default_options all stated
-    ↔ AreOptions changed (words_of (take (length words - 2) (drop 2 words))) stated
-pair_on all options changed words name value n v p is so_far stated =
-    let rest = words_of (take (length words - 2) (drop 2 words)) in
-    let here = read_words words name value n v p in
-    let step = step_on options changed n v rest is stated in (
-      λ are. step.0
-          (subst (λ (w : List (List ℕ)). AreOptions options w stated) here ((so_far stated).0 are)),
-      λ are. (so_far stated).1
-          (subst (λ (w : List (List ℕ)). AreOptions options w stated) (sym here) (step.1 are)),
-    )
+    (name value : String Global) (n v : List ℕ) (read : Result DrawOptions OptionFault)
+    → ReadPair words name value n v → IsRead read (IsOption options n v) → read ≡ Ok changed
+    → IsRest all options (words_of words)
+    → IsRest all changed (words_of (take (length words - 2) (drop 2 words)))
+pair_on all options changed words name value n v read p is known so_far =
+    step_on all (words_of (take (length words - 2) (drop 2 words))) options changed n v read is
+    known
+    (subst (IsRest all options) (read_words words name value n v p) so_far)
 
--- all arguments lead to no options
 pub pair_off : (all : List (List ℕ)) (options : DrawOptions) (words : List (String Global))
-    (name value : String Global) (n v : List ℕ) → ReadPair words name value n v
-    → ((after : DrawOptions) → IsOption options n v after ↔ (None ≡ Some after))
-    → ((stated : DrawOptions)
-    → AreOptions default_options all stated ↔ AreOptions options (words_of words) stated)
-    → (stated : DrawOptions) → AreOptions default_options all stated ↔ (None ≡ Some stated)
-pair_off all options words name value n v p is so_far stated =
-    let rest = words_of (take (length words - 2) (drop 2 words)) in
-    let here = read_words words name value n v p in
-    let step = step_off options n v rest is stated in (
-      λ are. step.0
-          (subst (λ (w : List (List ℕ)). AreOptions options w stated) here ((so_far stated).0 are)),
-      λ none. absurd (none-some stated none),
-    )
+    (name value : String Global) (n v : List ℕ) (fault : OptionFault)
+    → ReadPair words name value n v → IsRead (Err fault) (IsOption options n v)
+    → IsRest all options (words_of words)
+    → IsRead (Err fault) (AreOptions default_options all)
+pair_off all options words name value n v fault p is so_far =
+    step_off all (words_of (take (length words - 2) (drop 2 words))) options n v fault is
+    (subst (IsRest all options) (read_words words name value n v p) so_far)
+
+pub pair_faulty : (all : List (List ℕ)) (options : DrawOptions) (words : List (String Global))
+    (name value : String Global) (n v : List ℕ) (fault : OptionFault)
+    → ReadPair words name value n v → IsFaultyOption options n v fault
+    → IsRest all options (words_of words) → AreFaultyOptions default_options all fault
+pair_faulty all options words name value n v fault p is so_far =
+    (subst (IsRest all options) (read_words words name value n v p) so_far).1 fault (inl is)
 
 -- the first argument, and those after it
 pub first_word : (words : List (String Global)) (word : String Global) (read : List ℕ)
@@ -111,8 +136,8 @@ first_word (w ∷ rest) word read many is_word is_read =
 
 -- the path that right arguments of `draw` name
 pub path_known : (words rest : List (List ℕ)) (options : DrawOptions) (path : Option (Bor (List ℕ)))
-    → words ≡ codes "draw" ∷ rest → AreOptions default_options rest options
-    → IsLastPath None rest (option_map (λ p. p.now) path)
+    → words ≡ codes "draw" ∷ rest → AreOptions default_options (options_of rest) options
+    → IsLastPath None (options_of rest) (option_map (λ p. p.now) path)
     → IfSome path (λ p. IsPalettePath words p.now)
 path_known words rest options None begins are last = tt
 path_known words rest options (Some path) begins are last =
@@ -131,28 +156,14 @@ one_path path (name ∷ value ∷ rest) last other (inr is) (inl also) = absurd 
 one_path path (name ∷ value ∷ rest) last other (inr is) (inr also) =
     one_path path rest last other is.1 also.1
 
--- other arguments name no path
-pub no_draw : (words : List (List ℕ)) → ¬ BeginsWithDraw words
-    → (path : List ℕ) → ¬ IsPalettePath words path
-no_draw [] begins path is = is
-no_draw (word ∷ rest) begins path is = begins is.0
-
--- nor do wrong options
-pub no_options : (words rest : List (List ℕ)) → words ≡ codes "draw" ∷ rest
-    → ((options : DrawOptions) → AreOptions default_options rest options ↔ (None ≡ Some options))
-    → (path : List ℕ) → ¬ IsPalettePath words path
-no_options words rest begins stated path is =
-    let (_, (options, are), _) = subst (λ (w : List (List ℕ)). IsPalettePath w path) begins is in
-    none-some options ((stated options).0 are)
-
--- nor do options without a path
+-- options without a path name none
 pub no_path : (words rest : List (List ℕ)) (last : Option (Bor (List ℕ)))
-    → words ≡ codes "draw" ∷ rest → IsLastPath None rest (option_map (λ p. p.now) last)
+    → words ≡ codes "draw" ∷ rest → IsLastPath None (options_of rest) (option_map (λ p. p.now) last)
     → IfNone last ((path : List ℕ) → ¬ IsPalettePath words path)
 no_path words rest (Some last) begins is = tt
 no_path words rest None begins is = λ path known.
     let (_, _, also) = subst (λ (w : List (List ℕ)). IsPalettePath w path) begins known in
-    none-some path (one_path None rest None (Some path) is also)
+    none-some path (one_path None (options_of rest) None (Some path) is also)
 
 -- the only argument
 pub only_word : (words : List (String Global)) (word : String Global) (read : List ℕ)
@@ -162,12 +173,3 @@ only_word [] word read some few is_word is_read = absurd (omega (arith, some))
 only_word (w ∷ []) word read some few is_word is_read =
     ap (λ x. string_bytes x ∷ []) (sym is_word) ∙ ap (λ x. x ∷ []) (sym is_read)
 only_word (w ∷ x ∷ rest) word read some few is_word is_read = absurd (omega (arith, few))
-
--- wrong options of `draw` ask for nothing
-pub no_picture : (words rest : List (List ℕ)) → words ≡ codes "draw" ∷ rest
-    → ((options : DrawOptions) → AreOptions default_options rest options ↔ (None ≡ Some options))
-    → (word : PictureWord) → ¬ IsPictureAskedBy words word
-no_picture words rest begins stated Pam asked = absurd cc
-no_picture words rest begins stated (Draw options) asked =
-    let here = subst (λ (w : List (List ℕ)). IsPictureAskedBy w (Draw options)) begins asked in
-    none-some options ((stated options).0 here.1)

@@ -12,7 +12,6 @@ use Rattle.sixel_base.specs.Decoder.{IsSetAs}
 use Rattle.sixel_base.specs.declared.state.DecoderState.{DecoderState}
 use Rattle.sixel_base.specs.declared.status.SixelDcsFeedStatus.{SixelDcsFeedStatus}
 use Rattle.sixel_base.specs.declared.status.SixelDcsFeedStatus.TheVariants.{NeedMoreData, Complete}
-use Rattle.sixel_base.specs.declared.status.SixelDcsFeedStatus.TheVariants.{Cancelled, Interrupted}
 use Rattle.sixel_base.specs.Dcs.{dcs_status, dcs_count, dcs_fault, end_fault}
 use Rattle.sixel_base.specs.Limits.{Limit}
 use Rattle.sixel_base.specs.OneShot.{found, IsFoundImage, AreFoundRegisters}

@@ -4,7 +4,7 @@ use Rattle.std.specs.Prelude.{◌≡◌, ◌^◌, ◌<◌, ◌∷◌, [], List, 
 use Rattle.std.specs.Prelude.{String, string_bytes}
 use Rattle.std.specs.declared.alloc.Global.{Global}
 use Rattle.sixel.specs.Number.{IsNumber}
-use Rattle.sixel.specs.Options.{AreOptions, IsLastPath, default_options}
+use Rattle.sixel.specs.Options.{AreOptions, IsLastPath, default_options, options_of}
 use Rattle.sixel.specs.declared.draw_options.DrawOptions.{DrawOptions}
 use Rattle.sixel.specs.declared.notice.Notice.{Notice}
 use Rattle.sixel.specs.declared.notice.Notice.TheVariants.{Help, Version}
@@ -59,7 +59,7 @@ abbrev pub IsPictureAskedBy : List (List ℕ) → PictureWord → Type 0
 IsPictureAskedBy words Pam = words ≡ codes "pam" ∷ []
 IsPictureAskedBy [] (Draw options) = ⊥
 IsPictureAskedBy (word ∷ words) (Draw options) =
-    (word ≡ codes "draw") × AreOptions default_options words options
+    (word ≡ codes "draw") × AreOptions default_options (options_of words) options
 
 -- the work that the arguments after the program's own name ask for
 abbrev pub IsAskedBy : List (List ℕ) → Work → Type 0
@@ -70,8 +70,9 @@ IsAskedBy words (Picture word) = IsPictureAskedBy words word
 abbrev pub IsPalettePath : List (List ℕ) → List ℕ → Type 0
 IsPalettePath [] path = ⊥
 IsPalettePath (word ∷ words) path =
-    (word ≡ codes "draw") × ((options : DrawOptions) × AreOptions default_options words options)
-    × IsLastPath None words (Some path)
+    (word ≡ codes "draw")
+    × ((options : DrawOptions) × AreOptions default_options (options_of words) options)
+    × IsLastPath None (options_of words) (Some path)
 
 -- the arguments after the program's own name ask for this notice, whatever the input is
 abbrev pub IsNoticeFor : List (List ℕ) → Notice → Type 0

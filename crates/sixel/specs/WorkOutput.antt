@@ -17,7 +17,7 @@ use Rattle.sixel.specs.Output.{Writes}
 use Rattle.sixel.specs.declared.words.Word.{Word}
 use Rattle.sixel.specs.declared.words.Word.TheVariants.{Payload, Decode, Frames, Encode}
 use Rattle.sixel.specs.declared.picture_fault.PictureFault.{PictureFault}
-use Rattle.sixel.specs.declared.picture_fault.PictureFault.TheVariants.{Shared, Netpbm, Palette}
+use Rattle.sixel.specs.declared.picture_fault.PictureFault.TheVariants.{Shared, Netpbm}
 use Rattle.sixel.specs.declared.picture_words.PictureWord.{PictureWord}
 use Rattle.sixel.specs.declared.picture_words.PictureWord.TheVariants.{Pam, Draw}
 use Rattle.sixel.specs.declared.work.Work.{Work}
@@ -94,7 +94,6 @@ ServesPicture (Ok _) IsText old new = Writes (λ text. IsText text Done) old new
 ServesPicture {A} (Err (Shared fault)) IsText old new = Serves {A = A} (Err fault) IsText old new
 ServesPicture (Err (Netpbm error)) IsText old new =
     Writes (λ text. IsText text (Unreadable error)) old new
-ServesPicture (Err Palette) IsText old new = ⊥
 
 -- An output was made: the whole of it, or none because of an error.
 abbrev pub Draws : Result (String Global) PictureFault → (List ℕ → Ending → Type 0) → Type 0

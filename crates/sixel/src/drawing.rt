@@ -32,7 +32,7 @@ pub fn draw(
     }
 }
 
-/// Returns the output in a refined palette of at most so many colors.
+/// Returns the output in a refined palette of at most `max_colors` colors.
 fn draw_refined(
     alloc: Global,
     max_colors: u16,

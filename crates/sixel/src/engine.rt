@@ -49,7 +49,7 @@ pub fn serve<R: Read, O: Write>(
     run(alloc, word, &bytes, output)
 }
 
-/// The number of bytes that the input is to have, or 0 if it can have any.
+/// The expected number of bytes of the input, or 0 if the input can have any number.
 ///
 /// Raw pixels have four bytes each.
 fn input_len(word: Word) -> usize {
@@ -98,7 +98,7 @@ fn decode<O: Write>(alloc: Global, bytes: &[u8], output: &mut O) -> Result<(), F
     write_image(alloc, &image, output)
 }
 
-/// Writes the SIXEL output of raw pixels in at most so many colors.
+/// Writes the SIXEL output of raw pixels in at most `max_colors` colors.
 fn encode<O: Write>(
     alloc: Global,
     pixels: &[u8],

@@ -1,4 +1,4 @@
-//! Images in netpbm's formats PAM, PPM and PGM, read to four bytes a pixel.
+//! Images in netpbm's formats PAM, PPM and PGM, read to four bytes per pixel.
 //!
 //! The rules are those of netpbm's manual pages pam(5), ppm(5) and pgm(5).
 

@@ -57,17 +57,18 @@ const VERSION: &str = "sixel 0.7.0\n";
 
 /// The text of [`Notice::Help`].
 const HELP: &str = "\
-usage: sixel payload | decode | pam | frames N | encode W H K | draw [OPTION VALUE ..]
+usage: sixel payload | decode | pam | frames N | encode W H K
+       sixel draw [OPTION VALUE ..] [FILE ..]
 
   payload       decode a payload, the data of a DCS sequence after its q
   decode        decode the first DCS sequence, or all bytes as a payload
   pam           the same, and write a PAM file
   frames N      decode DCS sequences one after another, in chunks of N bytes
   encode W H K  encode raw RGBA of W x H pixels in at most K colors
-  draw          encode a PAM, PPM or PGM file in a palette of its own
+  draw          encode PAM, PPM or PGM files, each in a palette of its own
     -c COLORS     of at most COLORS colors; 256 by default
     -p FILE       in the palette of the pixels of a PAM, PPM or PGM file
     -d DITHER     none, ordered or diffusion; diffusion by default
 
-Reads standard input and writes standard output. sixel(1) has the details.
+Reads standard input, or the files, and writes standard output. sixel(1) has the details.
 ";

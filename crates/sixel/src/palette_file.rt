@@ -7,7 +7,7 @@ ghost use Rattle.sixel.specs.Drawing.{colors_of, palette_of};
 ghost use Rattle.sixel.specs.Options.{IsLastPath};
 ghost use Rattle.sixel.specs.Words.{words_of, IsPalettePath};
 
-use crate::draw_options::read_options;
+use crate::draw_options::{read_options, split_files};
 use crate::netpbm::{NetpbmError, read_image};
 use crate::picture_words::after_draw;
 use std::alloc::{AllocError, Global};
@@ -19,8 +19,8 @@ pub fn palette_path(words: &[String]) -> Option<&str>
     ensures path { IfSome result (λ path. IsPalettePath (words_of words.now) path.now) }
     ensures none { IfNone result ((path : List ℕ) → ¬ IsPalettePath (words_of words.now) path) }
 {
-    let options = after_draw(words)?;
-    read_options(options)?;
+    let (options, _) = split_files(after_draw(words)?);
+    read_options(options).ok()?;
     last_path(options)
 }
 

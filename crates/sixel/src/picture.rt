@@ -1,12 +1,11 @@
 //! Work on images in netpbm's formats, from the first byte of the input to the output.
 
-ghost use Rattle.std.specs.Prelude.{◌≡◌, ◌≢◌, [], Err, OnOk, IfSome};
+ghost use Rattle.std.specs.Prelude.{◌≡◌, [], Err, OnOk, IfSome};
 ghost use Rattle.std.specs.Io.KnownBytes.{Keeps, IsAtEnd};
 ghost use Rattle.sixel_base.specs.declared.error.SixelError.{SixelError};
 ghost use Rattle.sixel.specs.declared.netpbm.error.NetpbmError.{NetpbmError};
 ghost use Rattle.sixel.specs.declared.fault.Fault.TheVariants.{Sixel, Input, Output};
 ghost use Rattle.sixel.specs.declared.picture_fault.PictureFault.TheVariants.{Shared, Netpbm};
-ghost use Rattle.sixel.specs.declared.picture_fault.PictureFault.TheVariants.{Palette};
 ghost use Rattle.sixel.specs.Ending.{Done, Refused, Unreadable};
 ghost use Rattle.sixel.specs.WorkOutput.{IsPictureOutput, Begins, Serves, ServesPicture};
 ghost use Rattle.sixel.specs.declared.picture_words.PictureWord.TheVariants.{Pam};
@@ -52,15 +51,16 @@ pub fn serve_picture<R: Read, O: Write>(
     ensures unwritten { result ≡ Err (Shared Output) → IfSome (R.remaining input.old) (λ bytes.
         Writes (Begins (IsPictureOutput word palette.now bytes))
         (O.contents output.old) (O.contents output.new)) }
-    ensures palette { result ≢ Err Palette }
     ensures at_end { OnOk result (IsAtEnd (R.remaining input.new)) }
 {
     let bytes = read_to_end(alloc, input, 0)?;
-    run(alloc, word, palette, &bytes, output)
+    write_picture(alloc, word, palette, &bytes, output)
 }
 
-/// Does the work on these bytes.
-fn run<O: Write>(
+/// Does the work on these bytes and writes the output.
+///
+/// The palette is the content of the palette file, if an option names one.
+pub fn write_picture<O: Write>(
     alloc: Global,
     word: PictureWord,
     palette: &[u8],

@@ -9,18 +9,15 @@ use crate::netpbm::NetpbmError;
 use icy_sixel::SixelError;
 use thiserror::Error;
 
-/// Why work stops that writes or reads an image in netpbm's formats.
+/// Why work on an image in netpbm's formats stops.
 #[derive(Debug, Drop, Error)]
 pub enum PictureFault {
-    /// One of those of SIXEL data, input and output.
+    /// An error of SIXEL data, of the input or of the output.
     #[error("{0}")]
     Shared(Fault),
     /// The input or the palette file is not an image in netpbm's formats.
     #[error("{0}")]
     Netpbm(NetpbmError),
-    /// The palette file can't be read.
-    #[error("palette fault")]
-    Palette,
 }
 
 impl From<Fault> for PictureFault {

@@ -3,7 +3,7 @@
 ghost use Rattle.std.specs.Prelude.{◌≡◌, ◌∷◌, IfSome, IfNone, MatchOption, codes};
 ghost use Rattle.sixel.specs.Words.{BeginsWithDraw, IsPictureAskedBy, words_of};
 
-use crate::draw_options::{DrawOptions, read_options};
+use crate::draw_options::{DrawOptions, read_options, split_files};
 
 /// Work that writes or reads an image in netpbm's formats.
 #[derive(Clone, Copy)]
@@ -14,7 +14,7 @@ pub enum PictureWord {
     Draw(DrawOptions),
 }
 
-/// Reads `pam`, or `draw` and its options.
+/// Reads `pam`, or `draw`, its options and the names of files.
 ///
 /// `None` means that the arguments ask for other work, or are wrong.
 pub fn read_picture_word(words: &[String]) -> Option<PictureWord>
@@ -24,7 +24,10 @@ pub fn read_picture_word(words: &[String]) -> Option<PictureWord>
 {
     match words {
         [word] if word.as_str() == "pam" => Some(PictureWord::Pam),
-        _ => Some(PictureWord::Draw(read_options(after_draw(words)?)?)),
+        _ => {
+            let (options, _) = split_files(after_draw(words)?);
+            Some(PictureWord::Draw(read_options(options).ok()?))
+        }
     }
 }
 

@@ -19,8 +19,8 @@ const CHUNK_LEN: usize = 65536;
 
 /// Reads the input to its end.
 ///
-/// `expected` is the number of bytes that the input is likely to have, or 0. It saves memory where
-/// it is right; no more than twice what was read is allocated for its sake.
+/// `expected` is the number of bytes that the input is likely to have, or 0. It saves memory if it
+/// is right. If not, it never makes the buffer larger than twice what was read.
 pub fn read_to_end<R: Read>(alloc: Global, input: &mut R, expected: usize) -> Result<Vec<u8>, Fault>
     ensures bytes { IfOk result (λ bytes.
         IfSome (R.remaining input.old) (λ all. bytes.items ≡ all)) }

@@ -1,13 +1,12 @@
 //! How the program ends for its arguments and its input, with which exit status.
 
-ghost use Rattle.std.specs.Prelude.{◌≡◌, ◌≢◌, Err, IfSome, MatchResult};
+ghost use Rattle.std.specs.Prelude.{◌≡◌, Err, IfSome, MatchResult};
 ghost use Rattle.std.specs.Io.KnownBytes.{Keeps};
 ghost use Rattle.sixel_base.specs.declared.error.SixelError.{SixelError};
 ghost use Rattle.sixel.specs.declared.netpbm.error.NetpbmError.{NetpbmError};
 ghost use Rattle.sixel.specs.declared.fault.Fault.TheVariants.{Sixel, Input, Output};
 ghost use Rattle.sixel.specs.declared.picture_fault.PictureFault.{PictureFault};
-ghost use Rattle.sixel.specs.declared.picture_fault.PictureFault.TheVariants.{Netpbm, Palette};
-ghost use Rattle.sixel.specs.declared.picture_fault.PictureFault.TheVariants.{Shared};
+ghost use Rattle.sixel.specs.declared.picture_fault.PictureFault.TheVariants.{Netpbm, Shared};
 ghost use Rattle.sixel.specs.declared.response.Response.TheVariants.{Done, Usage, Failed};
 ghost use Rattle.sixel.specs.declared.work.Work.{Work};
 ghost use Rattle.sixel.specs.Ending.{Done as Whole, Refused, Unreadable};
@@ -83,7 +82,6 @@ pub fn respond<R: Read, O: Write>(
         (work : Work) × IsAskedBy (words_of words.now) work
         × Writes (Begins (IsWorkOutput work palette.now bytes))
         (O.contents output.old) (O.contents output.new)) }
-    ensures palette { result ≢ Failed Palette }
 {
     match read_work(words) {
         Some(Work::Data(word)) => {

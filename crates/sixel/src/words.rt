@@ -14,9 +14,9 @@ pub enum Word {
     Decode,
     /// Decode DCS sequences that follow one another, and write their images.
     ///
-    /// One decoder decodes all. Each is fed in chunks of so many bytes from its first on.
+    /// One decoder decodes all. Each is fed from its first byte on, in chunks of this length.
     Frames(usize),
-    /// Encode raw pixels of this width and height in at most so many colors.
+    /// Encode raw pixels: the width, the height and the greatest number of colors.
     Encode(usize, usize, u16),
 }
 

@@ -50,7 +50,7 @@ fn read_few(words: &[String]) -> Option<Word>
     }
 }
 
-/// The argument at a place, if there are so many.
+/// The argument at this place, if there is one.
 fn word_at(words: &[String], place: usize) -> Option<&str>
     ensures { option_map (λ t. t.now) result ≡ slice_get (words_of words.now) place }
 {

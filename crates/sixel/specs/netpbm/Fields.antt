@@ -1,5 +1,5 @@
 -- Which fields make up a header.
-use Rattle.std.specs.Prelude.{ℕ, ◌<◌, ◌≤◌, ◌&&◌, nat_lt, if◌then◌else◌, List, Option, None, Some}
+use Rattle.std.specs.Prelude.{ℕ, ◌<◌, ◌≤◌, ◌&&◌, nat_lt, if◌then◌else◌, List, Option, Some}
 use Rattle.std.specs.Prelude.{Result, Ok, Err}
 use Rattle.sixel.specs.declared.netpbm.error.NetpbmError.{NetpbmError}
 use Rattle.sixel.specs.declared.netpbm.error.NetpbmError.TheVariants.{Header as Malformed}

@@ -1,10 +1,8 @@
 -- What the header of an image says, by netpbm's pages pam(5), ppm(5) and pgm(5).
-use Rattle.std.specs.Prelude.{ℕ, ◌&&◌, nat_eq, nat_lt, if◌then◌else◌, List, codes, drop, Option}
-use Rattle.std.specs.Prelude.{None, Some, Result, Ok, Err, ◌==◌}
+use Rattle.std.specs.Prelude.{ℕ, nat_eq, if◌then◌else◌, List, codes, drop}
+use Rattle.std.specs.Prelude.{Some, Err}
 use Rattle.std.specs.List.{starts_with}
-use Rattle.sixel.specs.declared.netpbm.error.NetpbmError.{NetpbmError}
 use Rattle.sixel.specs.declared.netpbm.error.NetpbmError.TheVariants.{Magic}
-use Rattle.sixel.specs.declared.netpbm.header.Header.{Header}
 use Rattle.sixel.specs.netpbm.Fields.{Read, checked, with_rest}
 use Rattle.sixel.specs.netpbm.Pam.{pam_header}
 use Rattle.sixel.specs.netpbm.Words.{after_gap, after_word, number_of, word_of}

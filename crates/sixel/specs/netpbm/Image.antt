@@ -2,7 +2,6 @@
 use Rattle.std.specs.Prelude.{ℕ, nat_lt, if◌then◌else◌, List, length, Result, Ok, Err}
 use Rattle.sixel.specs.declared.netpbm.error.NetpbmError.{NetpbmError}
 use Rattle.sixel.specs.declared.netpbm.error.NetpbmError.TheVariants.{Incomplete}
-use Rattle.sixel.specs.declared.netpbm.header.Header.{Header}
 use Rattle.sixel.specs.declared.netpbm.image.RgbaImage.{RgbaImage}
 use Rattle.sixel.specs.netpbm.Fields.{Read}
 use Rattle.sixel.specs.netpbm.Header.{header_of}

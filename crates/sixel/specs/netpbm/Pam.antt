@@ -1,7 +1,7 @@
 -- The header of a PAM file, by netpbm's page pam(5). Lines of a name and a value follow the magic
 -- number in any order, each name once, up to the line `ENDHDR`. Empty lines and lines that begin
 -- with `#` are comments. A known tuple type has its number of samples.
-use Rattle.std.specs.Prelude.{◌≡◌, ℕ, ◌||◌, ◌==◌, nat_lt, nat_eq, not, if◌then◌else◌, List, []}
+use Rattle.std.specs.Prelude.{ℕ, ◌||◌, ◌==◌, nat_lt, nat_eq, not, if◌then◌else◌, List, []}
 use Rattle.std.specs.Prelude.{◌∷◌, ◌++◌, codes, length, Option, None, Some, option_and_then, Bool}
 use Rattle.std.specs.Prelude.{option_map, Result, Ok, Err, false}
 use Rattle.std.specs.List.{starts_with}

@@ -8,7 +8,7 @@ use crate::netpbm::error::NetpbmError;
 use crate::netpbm::header::read_header;
 use std::alloc::Global;
 
-/// An image of four bytes a pixel: red, green, blue, alpha.
+/// An image of four bytes per pixel: red, green, blue, alpha.
 #[derive(Debug, Drop)]
 pub struct RgbaImage {
     /// The pixels, row by row from the top, `4 * width * height` bytes.
@@ -32,7 +32,7 @@ pub struct RgbaImage {
 ///
 /// - `Magic`: the file has none of these magic numbers.
 /// - `Header`: a field is missing, repeated, unknown or out of range.
-/// - `TupleType`: a PAM file has more than four samples a pixel, or an unknown tuple type.
+/// - `TupleType`: a PAM file has more than four samples per pixel, or an unknown tuple type.
 /// - `Incomplete`: there are fewer pixels than the header states.
 /// - `OutOfMemory`: an allocation failed.
 pub fn read_image(alloc: Global, bytes: &[u8]) -> Result<RgbaImage, NetpbmError>

@@ -1,25 +1,41 @@
-use Rattle.sixel.proofs.OptionSteps.{ReadPair, pair_off, pair_on}
+use Rattle.std.proofs.Common.{◌≡◌, ◌∙◌, ap, Err}
+use Rattle.std.proofs.lemmas.Result.{err_from_is_err_and}
+use Rattle.sixel.proofs.OptionSteps.{ReadPair, pair_faulty, pair_off, pair_on}
 use Rattle.sixel.specs.Words.{words_of}
+use Rattle.sixel.proofs.draw_options.read_options.Goals.{After-from_residual}
 use Rattle.sixel.proofs.draw_options.read_options.Goals as goal
 
-pub returns-in_err-options : goal.returns-in_err-options
-returns-in_err-options c =
-    let pair : ReadPair c.options.rest.now c.name-item.result c.value-item.result
-    c.deref.result.now c.deref-in-len2-up.result.now =
-    record {
-      many = c.in-len2-up.len_at_least;
-      name_is = c.name-item.is;
-      value_is = c.value-item.is;
-      name_read = c.deref.ensures;
-      value_read = c.deref-in-len2-up.ensures;
-    } in
-    rw c.from_residual.ensures
-    (pair_off (words_of c.args.words.now) _ c.options.rest.now _ _ _ _ pair
-    c.in_err-options.ensures c.options.invariant)
+failed : (c : After-from_residual) → c.from_residual.result ≡ Err c.in_err-options.field-0.0
+failed c =
+    let (_, is, gives) = err_from_is_err_and c.from_residual.result c.from_residual.ensures.1 in
+    is ∙ ap Err gives
+
+pair : (c : After-from_residual)
+    → ReadPair c.options.rest.now c.name-item.result c.value-item.result c.deref.result.now
+    c.deref-in-len2-up.result.now
+pair c = record {
+  many = c.in-len2-up.len_at_least;
+  name_is = c.name-item.is;
+  value_is = c.value-item.is;
+  name_read = c.deref.ensures;
+  value_read = c.deref-in-len2-up.ensures;
+}
+
+pub returns-in_err-options-clause-stated : goal.returns-in_err-options-clause-stated
+returns-in_err-options-clause-stated c =
+    rw (failed c)
+    (pair_off (words_of c.args.words.now) _ c.options.rest.now _ _ _ _ _ (pair c)
+    c.in_err-options.ensures.stated c.options.invariant)
+
+pub returns-in_err-options-clause-faulty : goal.returns-in_err-options-clause-faulty
+returns-in_err-options-clause-faulty c =
+    rw (failed c)
+    (pair_faulty (words_of c.args.words.now) _ c.options.rest.now _ _ _ _ _ (pair c)
+    c.in_err-options.ensures.faulty c.options.invariant)
 
 pub options-preserved : goal.options-preserved
 options-preserved c =
-    let pair : ReadPair c.options.rest.now c.name-item.result c.value-item.result
+    let here : ReadPair c.options.rest.now c.name-item.result c.value-item.result
     c.deref.result.now c.deref-in-len2-up.result.now =
     record {
       many = c.in-len2-up.len_at_least;
@@ -28,5 +44,5 @@ options-preserved c =
       name_read = c.deref.ensures;
       value_read = c.deref-in-len2-up.ensures;
     } in
-    pair_on (words_of c.args.words.now) _ _ c.options.rest.now _ _ _ _ pair
-    c.in_ok-options.ensures c.options.invariant
+    pair_on (words_of c.args.words.now) _ _ c.options.rest.now _ _ _ _ c.with.result here
+    c.with.ensures.stated c.in_ok-options.was c.options.invariant

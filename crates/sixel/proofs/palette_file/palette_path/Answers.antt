@@ -1,25 +1,27 @@
-use Rattle.std.proofs.Common.{refl}
+use Rattle.std.proofs.Common.{◌∙◌, List, ℕ, None, option_map, subst, sym}
+use Rattle.sixel.specs.Options.{AreOptions, IsLastPath, default_options, options_of}
 use Rattle.sixel.specs.Words.{words_of}
-use Rattle.sixel.proofs.OptionSteps.{no_draw, no_options, no_path, path_known}
+use Rattle.sixel.proofs.OptionSteps.{no_path, ok_read, path_known}
+use Rattle.sixel.proofs.palette_file.palette_path.Goals.{After-last_path}
 use Rattle.sixel.proofs.palette_file.palette_path.Goals as goal
 
-pub returns-in_err-options-clause-none : goal.returns-in_err-options-clause-none
-returns-in_err-options-clause-none c =
-    rw c.from_residual.ensures (no_draw (words_of c.args.words.now) c.in_err-options.ensures)
-
-pub returns-in_err-read_options-clause-none : goal.returns-in_err-read_options-clause-none
-returns-in_err-read_options-clause-none c =
-    rw c.from_residual-in_err-read_options.ensures
-    (no_options (words_of c.args.words.now) _ c.in_ok-options.ensures
-    c.in_err-read_options.ensures)
+last : (c : After-last_path)
+    → IsLastPath None (options_of (words_of c.in_ok-after_draw.field-0.now))
+    (option_map (λ p. p.now) c.last_path.result)
+last c =
+    subst (λ (w : List (List ℕ)). IsLastPath None w (option_map (λ p. p.now) c.last_path.result))
+    c.split_files.ensures.options c.last_path.ensures
 
 pub returns-clause-path : goal.returns-clause-path
 returns-clause-path c =
-    path_known (words_of c.args.words.now) _ c.in_ok-read_options.field-0 c.last_path.result
-    c.in_ok-options.ensures ((c.in_ok-read_options.ensures c.in_ok-read_options.field-0).1 refl)
-    c.last_path.ensures
+    let options = c.in_ok-ok.field-0 in
+    let read = ok_read c.read_options.result options (sym c.ok.ensures.value ∙ c.in_ok-ok.was) in
+    let are =
+    subst (λ (w : List (List ℕ)). AreOptions default_options w options)
+    c.split_files.ensures.options ((c.read_options.ensures.stated options).1 read) in
+    path_known (words_of c.args.words.now) _ options c.last_path.result c.in_ok-after_draw.ensures
+    are (last c)
 
 pub returns-clause-none : goal.returns-clause-none
 returns-clause-none c =
-    no_path (words_of c.args.words.now) _ c.last_path.result c.in_ok-options.ensures
-    c.last_path.ensures
+    no_path (words_of c.args.words.now) _ c.last_path.result c.in_ok-after_draw.ensures (last c)

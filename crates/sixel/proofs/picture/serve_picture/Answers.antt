@@ -36,11 +36,12 @@ returns-clause-refused g c = λ error is.
     if_read (g.R.Read.remaining c.args.input.now) c.deref.result.now
     (λ bytes. Writes
     (λ text. IsPictureOutput c.args.word c.args.palette.now bytes text (Refused error))
-    (g.O.Write.contents c.args.output.now) (g.O.Write.contents c.run.new.output))
+    (g.O.Write.contents c.args.output.now) (g.O.Write.contents c.write_picture.new.output))
     (rw c.deref.ensures.value c.in_ok-bytes.ensures.bytes)
     (subst
     (λ r. ServesPicture r (IsPictureOutput c.args.word c.args.palette.now c.deref.result.now)
-    (g.O.Write.contents c.args.output.now) (g.O.Write.contents c.run.new.output)) is c.run.ensures)
+    (g.O.Write.contents c.args.output.now) (g.O.Write.contents c.write_picture.new.output)) is
+    c.write_picture.ensures)
 
 pub returns-clause-unreadable : goal.returns-clause-unreadable
 returns-clause-unreadable g c = grind arith
@@ -50,9 +51,6 @@ returns-clause-unread g c = grind arith
 
 pub returns-clause-unwritten : goal.returns-clause-unwritten
 returns-clause-unwritten g c = grind arith
-
-pub returns-clause-palette : goal.returns-clause-palette
-returns-clause-palette g c = grind arith
 
 pub returns-clause-at_end : goal.returns-clause-at_end
 returns-clause-at_end g c = grind arith

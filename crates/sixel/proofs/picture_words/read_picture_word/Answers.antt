@@ -1,16 +1,8 @@
 use Rattle.std.proofs.Common.{◌≡◌, ◌∷◌, [], ◌∙◌, ap, codes}
 use Rattle.std.proofs.lemmas.Bool.Decides.{Decides-eqb}
 use Rattle.std.proofs.lemmas.Slice.Eq.{slice_eq-Decides}
-use Rattle.sixel.proofs.OptionSteps.{no_picture, only_word}
-use Rattle.sixel.specs.Words.{words_of}
+use Rattle.sixel.proofs.OptionSteps.{only_word}
 use Rattle.sixel.proofs.picture_words.read_picture_word.Goals as goal
-
-pub returns-in_err-read_options-in_default-clause-other :
-    goal.returns-in_err-read_options-in_default-clause-other
-returns-in_err-read_options-in_default-clause-other c =
-    rw c.from_residual-in_err-read_options-in_default.ensures
-    (no_picture (words_of c.args.words.now) _ c.in_ok-after_draw-in_default.ensures
-    c.in_err-read_options-in_default.ensures)
 
 pub returns-in-len1-clause-asked : goal.returns-in-len1-clause-asked
 returns-in-len1-clause-asked c =

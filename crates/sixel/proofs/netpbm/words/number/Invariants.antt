@@ -1,5 +1,5 @@
 use Rattle.std.proofs.Common.{◌≡◌, drop}
-use Rattle.sixel.specs.netpbm.Words.{number_of, with_digits}
+use Rattle.sixel.specs.netpbm.Words.{with_digits}
 use Rattle.sixel.proofs.netpbm.words.number.Given as goal
 
 -- the number so far, and the digits after it

@@ -3,7 +3,7 @@ use Rattle.sixel.specs.Ending.{Done}
 use Rattle.sixel.specs.WorkOutput.{IsPictureOutput}
 use Rattle.sixel.specs.declared.picture_words.PictureWord.TheVariants.{Draw}
 use Rattle.sixel.proofs.Outputs.{ServesPicture-part}
-use Rattle.sixel.proofs.picture.run.Goals as goal
+use Rattle.sixel.proofs.picture.write_picture.Goals as goal
 
 pub returns-in_err-write_all-in-Draw : goal.returns-in_err-write_all-in-Draw
 returns-in_err-write_all-in-Draw g c =
