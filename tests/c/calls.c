@@ -174,7 +174,7 @@ static void test_copied_rows(void)
     static const struct { uint32_t code; size_t first, rows, size; icysixel_layout to; } wrong[] = {
         {NOT_FINAL, 1, 6, 72, {12, 2, 0}}, {NOT_FINAL, SIZE_MAX, 1, 72, {12, 2, 0}},
         {STRIDE, 0, 1, 72, {7, 2, 0}}, {STRIDE, 0, 1, 72, {3, 0, 0}},
-        {STRIDE, 0, 0, 72, {0, 0, 0}}, {STRIDE, 0, 0, 72, {0, SIZE_MAX, 0}},
+        {SMALL, 0, 6, 23, {0, 0, 0}}, {STRIDE, 0, 0, 72, {0, SIZE_MAX, 0}},
         {STRIDE, 0, 3, 72, {SIZE_MAX, 2, 0}}, {SMALL, 0, 6, 67, {12, 2, 0}},
     }, wrong_pixels[] = {
         {NOT_FINAL, 6, 7, 72, {12, 2, 0}}, {NOT_FINAL, SIZE_MAX, 1, 72, {12, 2, 0}},
@@ -240,6 +240,28 @@ static void test_wider_end(void)
     CHECK(are_rows(rows, 6, "\7\7\7\7", 4));
     RETURNS(OK, icysixel_copy_pixels(h, 0, 6, &(icysixel_layout){.columns = 1}, rows, 24));
     CHECK(are_rows(rows, 6, "\63\63\314\377", 4));
+    free(rows);
+}
+
+/* A layout of 0 columns copies all columns that the open image has so far. */
+static void test_whole_rows(void)
+{
+    static const icysixel_layout whole = {0}, gaps = {.stride = 16};
+    uint8_t *rows = malloc(48);
+    icysixel_reset_registers(h), icysixel_begin_dcs(h);
+    RETURNS(BAD_STRIDE, icysixel_copy_rows(h, 0, 0, &whole, rows, 48));
+    CHECK(FEED("\033P9;1q#1~-") == OK && icysixel_get_size_so_far(h, &size) == OK);
+    CHECK(size.width == 1 && icysixel_copy_rows(h, 0, 6, &whole, rows, 24) == OK);
+    CHECK(are_rows(rows, 6, "\63\63\314\377", 4) && FEED("\"1;1;2;6$") == OK);
+    RETURNS(BUFFER_TOO_SMALL, icysixel_copy_rows(h, 0, 6, &whole, rows, 24));
+    RETURNS(OK, icysixel_copy_rows(h, 0, 6, &whole, rows, 48));
+    CHECK(are_rows(rows, 6, "\63\63\314\377\0\0\0\0", 8));
+    RETURNS(OK, icysixel_copy_rows(h, 0, 3, &gaps, rows, 40));
+    CHECK(FEED("!5~$") == OK);
+    RETURNS(BAD_STRIDE, icysixel_copy_rows(h, 0, 1, &gaps, rows, 48));
+    RETURNS(OK, icysixel_copy_rows(h, 0, 6, &(icysixel_layout){.columns = 1}, rows, 24));
+    CHECK(are_rows(rows, 6, "\63\63\314\377", 4));
+    icysixel_abort(h);
     free(rows);
 }
 
@@ -674,10 +696,11 @@ int main(void)
 {
     static const struct { const char *name; void (*test)(void); } tests[] = {
         TEST(empty_handle), TEST(new_on_full_handle), TEST(progress), TEST(canvas_paints),
-        TEST(bands), TEST(copied_rows), TEST(wider_end), TEST(lenient), TEST(cropped_rows),
-        TEST(pixels), TEST(errors), TEST(drawn_height), TEST(raster_size), TEST(take_pixels),
-        TEST(new_on_full_handle), TEST(registers), TEST(settings), TEST(encode), TEST(encodings),
-        TEST(widest), TEST(palettes), TEST(indices), TEST(code_texts), TEST(version),
+        TEST(bands), TEST(copied_rows), TEST(wider_end), TEST(whole_rows), TEST(lenient),
+        TEST(cropped_rows), TEST(pixels), TEST(errors), TEST(drawn_height), TEST(raster_size),
+        TEST(take_pixels), TEST(new_on_full_handle), TEST(registers), TEST(settings), TEST(encode),
+        TEST(encodings), TEST(widest), TEST(palettes), TEST(indices), TEST(code_texts),
+        TEST(version),
     };
     for (size_t i = 0; i < COUNT_OF(tests); i++) subject = tests[i].name, tests[i].test();
     icysixel_free(h);

@@ -152,7 +152,7 @@ typedef struct {
 /* How rows of pixels lie in a buffer. */
 typedef struct {
     size_t stride;  /* bytes from the start of a row to the next, or 0 for 4 * columns */
-    size_t columns; /* pixels of a row that are written, or 0 for all of a stored image */
+    size_t columns; /* pixels of a row that are written, or 0 for all of the image so far */
     uint8_t order;  /* an enum icysixel_order; numbers above 1 are BGRA, too */
 } icysixel_layout;
 
@@ -294,8 +294,9 @@ size_t icysixel_get_rows_so_far(icysixel *handle);
 uint64_t icysixel_get_canvas_paints(icysixel *handle);
 
 /* Copies `rows` final rows of the open image, from row `first` on, to `buf`. The first of them
- * starts at buf[0]. Columns on the right of the image so far are background. Rows already copied
- * stay valid after a later error. It does not allocate. The errors, in this order, are:
+ * starts at buf[0]. Columns on the right of the image so far are background. If the layout says 0
+ * columns, all columns that the image has so far are copied, and it may become wider. Rows already
+ * copied stay valid after a later error. It does not allocate. The errors, in this order, are:
  *
  * - ICYSIXEL_NO_SESSION if no image is open;
  * - ICYSIXEL_ROWS_NOT_FINAL if first + rows is above icysixel_get_rows_so_far;

@@ -3,12 +3,13 @@
 -- final rows are those of the receiver.
 use Rattle.std.specs.Prelude.{ℕ, ◌≡◌, ◌≢◌, ◌*◌, ◌/◌, ◌%◌, ◌<◌, ◌==◌, min, if◌then◌else◌}
 use Rattle.std.specs.Prelude.{List, length, slice_index, true, false, Option, Some, None}
+use Rattle.std.specs.Prelude.{unwrap_or}
 use Rattle.sixel_base.specs.CallFault.{CallFault, Exactly, RowsNotFinal, RowsReleased}
 use Rattle.sixel_base.specs.declared.error.SixelError.TheVariants.{BufferSizeMismatch}
 use Rattle.icy_sixel.specs.FinalRows.{AreCopied, RowLayout, copy_fault, pixel_so_far}
 use Rattle.icy_sixel.specs.FinalRows.{release_fault, usize_max, with_released}
 use Rattle.icy_sixel.specs.ReceivedImages.{received_fault, received_pixel}
-use Rattle.icy_sixel.specs.Receiver.{is_open}
+use Rattle.icy_sixel.specs.Receiver.{Reception, is_open, size}
 use Rattle.icy_sixel.specs.declared.receiver.received_image.ReceivedImage.{ReceivedImage}
 use Rattle.sixel_canvas.specs.Layout.{in_order}
 use Rattle.sixel_canvas.specs.inside.FinalRows.{pixel_at}
@@ -48,16 +49,23 @@ abbrev pub IsRowsVerdict : Option CallFault → ℕ → Type 0
 IsRowsVerdict None code = code ≡ 0
 IsRowsVerdict (Some fault) code = code ≡ rows_code fault
 
+-- how many columns an open image has so far: none before its payload and after an error
+abbrev pub columns_so_far : Reception → ℕ
+columns_so_far image =
+    (unwrap_or (if image.is_refused then None
+    else size image.start.pixel_limit image.form image.bytes) (0, 0)).0
+
 -- Final rows of the open image were copied to the caller's memory, or the code is that of an error.
-pub record AreRowsCopied (state : State) (first rows : ℕ) (layout : RowLayout) (old new : List ℕ)
-    (code : ℕ) : Type 0 where
+pub record AreRowsCopied (state : State) (first rows : ℕ) (layout : BufferLayout)
+    (old new : List ℕ) (code : ℕ) : Type 0 where
   pub closed : is_open state.receiver.image.form ≡ false → code ≡ 2
   pub verdict : is_open state.receiver.image.form ≡ true
-      → IsRowsVerdict (copy_fault state.receiver.image first rows layout (length old)) code
+      → IsRowsVerdict (copy_fault state.receiver.image first rows
+      (layout_of (columns_so_far state.receiver.image) layout) (length old)) code
   -- each byte of the memory is that of a pixel or as it was
   pub pixels : code ≡ 0 → AreCopied
       (pixel_so_far state.receiver.image.start state.receiver.image.form state.receiver.image.bytes)
-      first rows layout old new
+      first rows (layout_of (columns_so_far state.receiver.image) layout) old new
 
 -- The rows of the open image above this one were released, or the code is that of an error.
 pub record AreRowsReleased (before after : State) (rows code : ℕ) : Type 0 where

@@ -37,24 +37,28 @@ pub extern "C" fn icysixel_copy_rows(
     ensures same { slot.new.handle.state ≡ slot.old.handle.state }
     ensures none { slot.old.handle.state ≡ None → result ≡ 1 }
     ensures copied { (state : State) → slot.old.handle.state ≡ Some state
-        → AreRowsCopied state first rows (layout_of 0 layout.now) buf.old buf.new result }
+        → AreRowsCopied state first rows layout.now buf.old buf.new result }
     ensures untouched { result ≢ 0 → buf.new ≡ buf.old }
 {
     if !slot.is_held() {
         return Code::NoHandle as u32;
     }
-    copy_rows(slot.state(), first, rows, layout.row_layout(0), buf)
+    copy_rows(slot.state(), first, rows, layout, buf)
 }
 
 /// Copies final rows of the image, if one is open.
-fn copy_rows(state: &State, first: usize, rows: usize, layout: RowLayout, buf: &mut [u8]) -> u32
-    ensures copied { AreRowsCopied state.now first rows layout buf.old buf.new result }
+fn copy_rows(state: &State, first: usize, rows: usize, layout: &BufferLayout, buf: &mut [u8]) -> u32
+    ensures copied { AreRowsCopied state.now first rows layout.now buf.old buf.new result }
     ensures untouched { result ≢ 0 → buf.new ≡ buf.old }
 {
     if !state.receiver.is_receiving() {
         return Code::NoSession as u32;
     }
-    match state.receiver.copy_rows(first, rows, layout, buf) {
+    let (width, _) = state.receiver.size_so_far().unwrap_or((0, 0));
+    match state
+        .receiver
+        .copy_rows(first, rows, layout.row_layout(width), buf)
+    {
         Ok(()) => Code::Success as u32,
         Err(error) => rows_code(&error),
     }
