@@ -181,6 +181,7 @@ int main(int count, char **words)
     ssize_t length;
     if (icysixel_new(&filter.decoder) != ICYSIXEL_OK) stop(1, "out of memory");
     icysixel_set_clip(&filter.decoder, clip.width, clip.height);
+    icysixel_set_transparent(&filter.decoder, 1);
     do {
         length = read(STDIN_FILENO, chunk, sizeof chunk);
         if (length < 0) stop(1, "input fault");

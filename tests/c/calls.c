@@ -65,7 +65,8 @@ static void make_silent_calls(void)
     icysixel_begin_dcs(h), icysixel_begin_payload(h, 9, 1), icysixel_abort(h);
     icysixel_discard_image(h), icysixel_set_register(h, 1, 2, 3, 4);
     icysixel_set_registers(h, 1, &color, 1), icysixel_reset_registers(h), icysixel_set_height(h, 1);
-    icysixel_set_lenient(h, 1), icysixel_set_limit(h, 1), icysixel_set_clip(h, 1, 1);
+    icysixel_set_lenient(h, 1), icysixel_set_transparent(h, 1), icysixel_set_limit(h, 1);
+    icysixel_set_clip(h, 1, 1);
 }
 
 /* On an empty handle each call reports that, and writes nothing but a length of 0. */
@@ -98,7 +99,7 @@ static void test_empty_handle(void)
     CHECK(icysixel_copy_text(h, NULL, 0, &length) == ICYSIXEL_NO_HANDLE && length == 0);
     CHECK((icysixel_is_receiving(h) | icysixel_in_payload(h) | icysixel_get_canvas_paints(h)
            | icysixel_get_drawn_height(h) | icysixel_get_rows_so_far(h) | icysixel_get_height(h)
-           | icysixel_get_lenient(h) | icysixel_get_limit(h)) == 0);
+           | icysixel_get_lenient(h) | icysixel_get_transparent(h) | icysixel_get_limit(h)) == 0);
     icysixel_free(h);
 }
 
@@ -287,6 +288,39 @@ static void test_lenient(void)
     CHECK(icysixel_get_lenient(h) == 0 && FEED("!65536~") == OK);
     icysixel_begin_payload(h, 9, 1);
     RETURNS(MALFORMED, FEED("!65536~"));
+}
+
+/* What is not drawn is transparent whatever P2 says, and the shape has the P2 of the sequence. */
+static void test_transparent(void)
+{
+    static const char *const data[] = {"\033Pq@!2?A\033\\", "\033P9;1q@!2?A\033\\"};
+    uint8_t whole[96], chunks[96];
+    icysixel_layout layout = {0};
+    icysixel_reset_registers(h), icysixel_begin_dcs(h), icysixel_set_transparent(h, 2);
+    CHECK(icysixel_get_transparent(h) == 1);
+    CHECK(FEED("\033Pq?") == OK && icysixel_finish(h, &shape) == ICYSIXEL_INCOMPLETE);
+    icysixel_set_register(h, 0, 9, 9, 9);
+    EACH(it, data) {
+        CHECK(DECODE(*it) == OK && shape.p2 == line_number && shape.bytes == 96);
+        RETURNS(OK, icysixel_copy_pixels(h, 0, 6, &layout, whole, 96));
+        CHECK(memcmp(whole, "\t\t\t\377\0\0\0\0\0\0\0\0\0\0\0\0", 16) == 0);
+        CHECK(memcmp(whole + 16, "\0\0\0\0\0\0\0\0\0\0\0\0\t\t\t\377", 16) == 0);
+        CHECK(are_rows(whole + 32, 16, "\0\0\0\0", 4));
+        icysixel_begin_dcs(h);
+        for (size_t i = 0; (*it)[i] != 0; i++)
+            RETURNS(OK, icysixel_feed(h, (const uint8_t *)*it + i, 1, &fed));
+        CHECK(icysixel_finish(h, &shape) == OK && shape.p2 == line_number && shape.is_complete);
+        RETURNS(OK, icysixel_copy_pixels(h, 0, 6, &layout, chunks, 96));
+        CHECK(memcmp(whole, chunks, 96) == 0);
+    }
+    icysixel_begin_payload(h, 9, 0), icysixel_set_transparent(h, 0);
+    layout.columns = 2;
+    CHECK(FEED("@-") == OK && icysixel_copy_rows(h, 0, 1, &layout, whole, 8) == OK);
+    CHECK(memcmp(whole, "\t\t\t\377\0\0\0\0", 8) == 0 && icysixel_get_transparent(h) == 0);
+    RETURNS(OK, icysixel_decode_payload(h, BYTES("@"), 9, 0, &shape));
+    RETURNS(OK, icysixel_copy_pixels(h, 0, 6, &(icysixel_layout){0}, whole, 24));
+    CHECK(are_rows(whole, 6, "\t\t\t\377", 4));
+    icysixel_reset_registers(h);
 }
 
 /* Rows below the end of an image are not stored, whether they were released or not. */
@@ -697,10 +731,10 @@ int main(void)
     static const struct { const char *name; void (*test)(void); } tests[] = {
         TEST(empty_handle), TEST(new_on_full_handle), TEST(progress), TEST(canvas_paints),
         TEST(bands), TEST(copied_rows), TEST(wider_end), TEST(whole_rows), TEST(lenient),
-        TEST(cropped_rows), TEST(pixels), TEST(errors), TEST(drawn_height), TEST(raster_size),
-        TEST(take_pixels), TEST(new_on_full_handle), TEST(registers), TEST(settings), TEST(encode),
-        TEST(encodings), TEST(widest), TEST(palettes), TEST(indices), TEST(code_texts),
-        TEST(version),
+        TEST(transparent), TEST(cropped_rows), TEST(pixels), TEST(errors), TEST(drawn_height),
+        TEST(raster_size), TEST(take_pixels), TEST(new_on_full_handle), TEST(registers),
+        TEST(settings), TEST(encode), TEST(encodings), TEST(widest), TEST(palettes), TEST(indices),
+        TEST(code_texts), TEST(version),
     };
     for (size_t i = 0; i < COUNT_OF(tests); i++) subject = tests[i].name, tests[i].test();
     icysixel_free(h);

@@ -65,20 +65,25 @@ whole_is decoder (NoPayload fault) image none faultless is = absurd is
 -- ---- a part of an image
 
 -- a pixel of the picture does not depend on a clip
-pixel_stays : (o : Origin) (limit : Limit) (h : History) (column row : ℕ)
-    → pixel (record o { pixel_limit = limit }) h column row ≡ pixel o h column row
-pixel_stays o limit [] column row = refl
-pixel_stays o limit (Sixel bits ∷ h) column row =
+abbrev clipped : Origin → ℕ → ℕ → Origin
+clipped o columns rows = record o {
+  pixel_limit = record o.pixel_limit { columns = columns; rows = rows };
+}
+
+pixel_stays : (o : Origin) (columns rows : ℕ) (h : History) (column row : ℕ)
+    → pixel (clipped o columns rows) h column row ≡ pixel o h column row
+pixel_stays o columns rows [] column row = refl
+pixel_stays o columns rows (Sixel bits ∷ h) column row =
     ap (λ (p : List ℕ).
     cond (covers (across h) (across h + span h) (down h) bits column row)
     (color o.registers h ++ 255 ∷ []) p)
-    (pixel_stays o limit h column row)
-pixel_stays o limit (Repeat _ ∷ h) column row = pixel_stays o limit h column row
-pixel_stays o limit (Raster _ ∷ h) column row = pixel_stays o limit h column row
-pixel_stays o limit (Color _ ∷ h) column row = pixel_stays o limit h column row
-pixel_stays o limit (Return ∷ h) column row = pixel_stays o limit h column row
-pixel_stays o limit (Newline ∷ h) column row = pixel_stays o limit h column row
-pixel_stays o limit (Skip _ ∷ h) column row = pixel_stays o limit h column row
+    (pixel_stays o columns rows h column row)
+pixel_stays o columns rows (Repeat _ ∷ h) column row = pixel_stays o columns rows h column row
+pixel_stays o columns rows (Raster _ ∷ h) column row = pixel_stays o columns rows h column row
+pixel_stays o columns rows (Color _ ∷ h) column row = pixel_stays o columns rows h column row
+pixel_stays o columns rows (Return ∷ h) column row = pixel_stays o columns rows h column row
+pixel_stays o columns rows (Newline ∷ h) column row = pixel_stays o columns rows h column row
+pixel_stays o columns rows (Skip _ ∷ h) column row = pixel_stays o columns rows h column row
 
 -- the least of three
 least : (side smaller larger : ℕ) → smaller ≤ larger
@@ -101,7 +106,8 @@ part_of decoder columns rows settings h inside =
       image_pixels = refl;
       part_pixels =
           picture_same (pixel (record o { pixel_limit = clip }) h) (pixel o h)
-          (clipped_width clip h) (image_height clip decoder.raster_crop h) (pixel_stays o clip h);
+          (clipped_width clip h) (image_height clip decoder.raster_crop h)
+          (pixel_stays o (clip_side_of columns) (clip_side_of rows) h);
       aspect_ratio = refl;
       background_mode = refl;
     }

@@ -6,4 +6,5 @@ pub mod OneShotImages
 pub mod Outcomes
 pub mod RegisterRange
 pub mod Steps
+pub mod TransparentImages
 pub mod WholeImages

@@ -8,4 +8,5 @@ pub mod Receiver
 pub mod ReceiverCalls
 pub mod Registers
 pub mod Sessions
+pub mod TransparentImages
 pub mod inside

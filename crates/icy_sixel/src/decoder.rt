@@ -163,6 +163,15 @@ impl SixelDecoder {
         self.state.pixel_limit.lenient()
     }
 
+    /// Whether images have a transparent background whatever P2 says: off in a new decoder.
+    ///
+    /// [`SixelReceiver::set_transparent`](crate::SixelReceiver::set_transparent) describes them.
+    pub fn is_transparent(&self) -> bool
+        ensures { result ≡ self.now.pixel_limit.transparent }
+    {
+        self.state.pixel_limit.transparent()
+    }
+
     /// Returns how many pixels an image can have.
     ///
     /// The limit is 67,108,864 in a new decoder, and never more.

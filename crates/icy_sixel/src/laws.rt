@@ -1,8 +1,8 @@
 //! Laws of decoded images, stated by functions with empty bodies.
 
-ghost use Rattle.std.specs.Prelude.{◌≡◌, ℕ, List, None, false};
+ghost use Rattle.std.specs.Prelude.{◌≡◌, ℕ, List, None, Bool, true, false};
 ghost use Rattle.sixel_base.specs.Clip.{clipped_height, clipped_width};
-ghost use Rattle.sixel_base.specs.Decoder.{with_clip};
+ghost use Rattle.sixel_base.specs.Decoder.{with_clip, with_transparent};
 ghost use Rattle.sixel_base.specs.History.{History};
 ghost use Rattle.sixel_base.specs.OneShot.{Found, AreFoundRegisters, IsFoundImage, found_fault};
 ghost use Rattle.sixel_base.specs.Payload.{Image, first_fault};
@@ -12,6 +12,28 @@ ghost use Rattle.sixel_base.specs.declared.state.DecoderState.{DecoderState};
 ghost use Rattle.icy_sixel.specs.ClippedImages.{HasNoClip, IsInsideClip, IsPartInside};
 ghost use Rattle.icy_sixel.specs.ClippedImages.{IsWholeImage, whole_first_fault, whole_pixel};
 ghost use Rattle.icy_sixel.specs.ClippedImages.{whole_reached_area};
+ghost use Rattle.icy_sixel.specs.TransparentImages.{IsCleared, drawn_pixel_of};
+
+/// States that a transparent background changes only pixels that no sixel covers.
+///
+/// - `image`: these pixels are transparent. The others, the sizes, the pixel shape and the
+///   background mode stay.
+/// - `fault`, `registers`: errors and registers do not depend on it.
+///
+/// The contracts of sessions, receiver and decoding in one call cite the same definitions. A new
+/// decoder has no transparent background.
+pub fn transparent_images()
+    ensures image { (decoder : DecoderState) (payload : Found) (image clear : Image)
+        → IsFoundImage decoder payload image
+        → IsFoundImage (with_transparent decoder true) payload clear
+        → IsCleared (drawn_pixel_of decoder payload) image clear }
+    ensures fault { (decoder : DecoderState) (on : Bool) (payload : Found)
+        → found_fault (with_transparent decoder on).pixel_limit payload
+        ≡ found_fault decoder.pixel_limit payload }
+    ensures registers { (decoder : DecoderState) (on : Bool) (payload : Found)
+        (after : List (List ℕ)) → AreFoundRegisters decoder payload after
+        → AreFoundRegisters (with_transparent decoder on) payload after }
+{}
 
 /// States that an image under a clip is the part of the image inside the clip.
 ///

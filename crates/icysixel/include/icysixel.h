@@ -228,8 +228,8 @@ enum icysixel_status {
 /* -- Handles -- */
 
 /* Creates a decoder with default registers, no clip and a limit of 67,108,864 pixels. Its images
- * end at their last band, and are not lenient. What the handle contained is freed first. With
- * ICYSIXEL_OUT_OF_MEMORY the handle is empty. */
+ * end at their last band, are not lenient, and have the background of P2. What the handle contained
+ * is freed first. With ICYSIXEL_OUT_OF_MEMORY the handle is empty. */
 uint32_t icysixel_new(icysixel *handle);
 
 /* Frees the decoder and all that it stores, and empties the handle. */
@@ -415,6 +415,15 @@ uint8_t icysixel_get_lenient(icysixel *handle);
  * - icysixel_finish of a DCS sequence without terminator stores its image so far, once its payload
  *   has begun. Then `is_complete` of the shape is 0. */
 void icysixel_set_lenient(icysixel *handle, uint8_t on);
+
+/* Returns 1 if images have a transparent background whatever P2 says. */
+uint8_t icysixel_get_transparent(icysixel *handle);
+
+/* Sets whether pixels that are not drawn are transparent in images that are begun afterwards,
+ * whatever P2 says: 0 is off, any other number is on. `p2` of the shape stays that of the sequence.
+ * So a multiplexer can encode an image again with its P2, and the user's background is not painted
+ * in the color of register 0. */
+void icysixel_set_transparent(icysixel *handle, uint8_t on);
 
 /* Returns how many pixels an image can have, or 0 if the handle is empty. */
 size_t icysixel_get_limit(icysixel *handle);

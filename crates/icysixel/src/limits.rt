@@ -1,7 +1,8 @@
-//! The calls that read and set where images end, lenience, the limit of pixels and the clip.
+//! The calls that read and set where images end, lenience, transparency, limit and clip.
 
 ghost use Rattle.std.specs.Prelude.{◌≡◌, ◌≢◌, ◌==◌, Some, None, is_some, true, not, cond};
 ghost use Rattle.sixel_base.specs.Decoder.{with_clip, with_lenient, with_pixel_limit};
+ghost use Rattle.sixel_base.specs.Decoder.{with_transparent};
 ghost use Rattle.icysixel.specs.Changes.{Acts, IsSet};
 ghost use Rattle.icysixel.specs.Heights.{height_of, number_of};
 ghost use Rattle.icysixel.specs.declared.state.State.{State};
@@ -73,6 +74,31 @@ pub extern "C" fn icysixel_set_lenient(slot: &mut Slot, on: u8)
 {
     if slot.is_held() {
         slot.state().receiver.set_lenient(on != 0);
+    }
+}
+
+/// Returns 1 if images have a transparent background whatever P2 says, and 0 if not.
+#[unsafe(no_mangle)]
+pub extern "C" fn icysixel_get_transparent(slot: &mut Slot) -> u8
+    ensures same { slot.new.handle.state ≡ slot.old.handle.state }
+    ensures none { slot.old.handle.state ≡ None → result ≡ 0 }
+    ensures value { (state : State) → slot.old.handle.state ≡ Some state
+        → result ≡ cond state.receiver.decoder.pixel_limit.transparent 1 0 }
+{
+    if !slot.is_held() {
+        return 0;
+    }
+    u8::from(slot.state().receiver.decoder().is_transparent())
+}
+
+/// Sets whether images have a transparent background: 0 is off, any other number is on.
+#[unsafe(no_mangle)]
+pub extern "C" fn icysixel_set_transparent(slot: &mut Slot, on: u8)
+    ensures { IsSet (λ decoder. with_transparent decoder (not (on == 0)))
+        slot.old.handle.state slot.new.handle.state }
+{
+    if slot.is_held() {
+        slot.state().receiver.set_transparent(on != 0);
     }
 }
 

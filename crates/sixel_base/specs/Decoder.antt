@@ -56,6 +56,12 @@ with_lenient decoder on = record decoder {
   pixel_limit = record decoder.pixel_limit { lenient = on };
 }
 
+-- a decoder of which pixels that are not drawn are transparent in all images, or by P2
+abbrev pub with_transparent : DecoderState → Bool → DecoderState
+with_transparent decoder on = record decoder {
+  pixel_limit = record decoder.pixel_limit { transparent = on };
+}
+
 -- what the host has set is the same
 abbrev pub IsSetAs : DecoderState → DecoderState → Type 0
 IsSetAs before after =

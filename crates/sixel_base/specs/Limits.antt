@@ -22,12 +22,14 @@ abbrev pub header_limit : ℕ
 header_limit = 65535
 
 -- which pixels an image may have: at most so many, in so many columns from the left and so many
--- rows from the top, its clip; and whether a command with a fault is ignored
+-- rows from the top, its clip; whether a command with a fault is ignored; and whether pixels that
+-- are not drawn are transparent whatever P2 says
 pub record Limit : Type 0 where
   pub pixels : ℕ
   pub columns : ℕ
   pub rows : ℕ
   pub lenient : Bool
+  pub transparent : Bool
 
 -- the limit that a host sets none above: it clips nothing
 abbrev pub whole_limit : Limit
@@ -36,4 +38,5 @@ whole_limit = record {
   columns = side_limit;
   rows = side_limit;
   lenient = false;
+  transparent = false;
 }

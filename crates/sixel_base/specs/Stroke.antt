@@ -62,8 +62,11 @@ abbrev pub background_of : List (List ℕ) → BackgroundMode → List ℕ
 background_of start Opaque = slice_index_or start 0 [] ++ 255 ∷ []
 background_of start Transparent = 0 ∷ 0 ∷ 0 ∷ 0 ∷ []
 
+-- where the host asks for a transparent background, else by P2
 abbrev pub background : Origin → List ℕ
-background origin = background_of origin.registers (mode_of origin.settings)
+background origin =
+    if origin.pixel_limit.transparent then background_of origin.registers Transparent
+    else background_of origin.registers (mode_of origin.settings)
 
 -- the pixel that the last sixel that covers it gives, else the background
 abbrev pub pixel : Origin → History → ℕ → ℕ → List ℕ

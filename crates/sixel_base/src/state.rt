@@ -18,6 +18,7 @@ pub struct PixelLimit {
     columns: usize,
     rows: usize,
     lenient: bool,
+    transparent: bool,
 }
 
 impl Model for PixelLimit {
@@ -31,6 +32,7 @@ impl Model for PixelLimit {
       columns = limit.columns;
       rows = limit.rows;
       lenient = limit.lenient;
+      transparent = limit.transparent;
     } };
 
     ghost inverse = { λ limit. record {
@@ -38,6 +40,7 @@ impl Model for PixelLimit {
       columns = limit.columns;
       rows = limit.rows;
       lenient = limit.lenient;
+      transparent = limit.transparent;
     } };
 
     ghost invariant = { λ limit. (1 ≤ limit.pixels) × (limit.pixels ≤ area_limit)
@@ -55,6 +58,7 @@ impl PixelLimit {
             columns: MAX_SIDE,
             rows: MAX_SIDE,
             lenient: false,
+            transparent: false,
         }
     }
 
@@ -96,6 +100,23 @@ impl PixelLimit {
         ensures { result ≡ self.lenient }
     {
         self.lenient
+    }
+
+    /// The same limit, by which pixels that are not drawn are transparent, or as P2 says.
+    pub fn with_transparent(self, on: bool) -> Self
+        ensures { result ≡ record self { transparent = on } }
+    {
+        Self {
+            transparent: on,
+            ..self
+        }
+    }
+
+    /// Whether pixels that are not drawn are transparent in all images.
+    pub fn transparent(self) -> bool
+        ensures { result ≡ self.transparent }
+    {
+        self.transparent
     }
 
     /// How many pixels an image may have.

@@ -4,19 +4,24 @@ ghost use Rattle.std.specs.Prelude.{◌≡◌, ◌∷◌, ◌++◌, List, ℕ, [
 ghost use Rattle.std.specs.Prelude.{slice_set, true, if◌then◌else◌};
 ghost use Rattle.sixel_canvas.specs.inside.Tags.{is_tag};
 ghost use Rattle.sixel_base.specs.inside.Parameters.{Keeps};
-ghost use Rattle.sixel_base.specs.Stroke.{background_of, is_definition, definition};
+ghost use Rattle.sixel_base.specs.Decoder.{origin_of};
+ghost use Rattle.sixel_base.specs.Stroke.{background, is_definition, definition};
 
 use sixel_base::parameters::Parameters;
 use sixel_base::registers::Registers;
-use sixel_base::settings::BackgroundMode;
+use sixel_base::settings::{BackgroundMode, DcsSettings};
+use sixel_base::state::DecoderState;
 
 /// Returns the color of a pixel that no sixel covers.
-pub fn background(registers: &Registers, mode: BackgroundMode) -> [u8; 4]
-    ensures { result ≡ background_of registers.now mode }
+pub fn background(decoder: &DecoderState, settings: DcsSettings) -> [u8; 4]
+    ensures { result ≡ background (origin_of decoder.now settings) }
 {
-    match mode {
+    if decoder.pixel_limit.transparent() {
+        return [0; 4];
+    }
+    match settings.background_mode() {
         BackgroundMode::Transparent => [0; 4],
-        BackgroundMode::Opaque => opaque(registers.get(0)),
+        BackgroundMode::Opaque => opaque(decoder.registers.get(0)),
     }
 }
 

@@ -84,7 +84,7 @@ impl<C: Canvas + Drop> Painter<C> {
         ensures work { C.work result.canvas ≡ no_work }
         ensures released { C.released result.canvas ≡ 0 }
     {
-        let background = background(&decoder.registers, settings.background_mode());
+        let background = background(&decoder, settings);
         Painter {
             canvas: C::new(alloc, background),
             registers: decoder.registers,

@@ -209,12 +209,12 @@ length-default_registers = length-map-range_with_len default_color 0 256
 
 -- so a decoder with the registers of a new one can read the text
 IsOrigin-new : (decoder : DecoderState) (drawing : Drawing)
-    → decoder.registers ≡ default_registers
+    → decoder.registers ≡ default_registers → decoder.pixel_limit.transparent ≡ false
     → IsOrigin drawing (origin_of decoder (drawing_settings drawing))
-IsOrigin-new decoder drawing new = record {
+IsOrigin-new decoder drawing new painted = record {
   size = ap length new ∙ length-default_registers;
   mode = mode-read drawing.background_mode;
-  ground = ap (background_of decoder.registers) (mode-read drawing.background_mode)
+  ground = rw painted (ap (background_of decoder.registers) (mode-read drawing.background_mode))
       ∙ (ap (λ rs. background_of rs drawing.background_mode) new
       ∙ ground-blank drawing.background_mode);
 }
@@ -232,7 +232,7 @@ payload-trip decoder drawing definitions marks rest is draws can =
     (history_of (front (marks_payload drawing definitions marks ++ 27 ∷ rest))) can.strict
     ∙ payload-read drawing definitions marks rest is draws)
     ∙ image-tokens drawing definitions marks origin is draws
-    (IsOrigin-new decoder drawing can.registers) can.columns can.rows
+    (IsOrigin-new decoder drawing can.registers can.painted) can.columns can.rows
 
 -- and has no fault within a limit that has room for it in whole bands
 pub payload-sound : (limit : Limit) (drawing : Drawing) (definitions : List Definition)

@@ -115,6 +115,7 @@ CanRead-drawn decoder image max_colors drawing drawn reads = record {
     columns = omega (arith, drawn.width, reads.shows.columns);
     rows = omega (arith, ap banded drawn.height, reads.shows.rows);
     strict = reads.shows.strict;
+    painted = reads.shows.painted;
   };
   room = omega (arith, reads.room, area-drawn image max_colors drawing drawn);
 }
@@ -130,6 +131,7 @@ CanRead-new image sound =
         columns = within.wide;
         rows = within.high;
         strict = refl;
+        painted = refl;
       };
       room = within.area;
     }

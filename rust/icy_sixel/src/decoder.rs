@@ -145,6 +145,19 @@ impl SixelDecoder {
         self.handle().set_lenient(on);
     }
 
+    /// Whether images have a transparent background whatever P2 says; off in a new decoder.
+    ///
+    /// [`SixelReceiver::set_transparent`](crate::SixelReceiver::set_transparent) describes them.
+    #[must_use]
+    pub fn is_transparent(&self) -> bool {
+        self.shared().transparent()
+    }
+
+    /// Sets whether images have a transparent background whatever P2 says.
+    pub(crate) fn set_transparent(&mut self, on: bool) {
+        self.handle().set_transparent(on);
+    }
+
     /// Returns how many pixels an image can have.
     ///
     /// The limit is 67,108,864 in a new decoder, and never more.

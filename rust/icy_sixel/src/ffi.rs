@@ -134,6 +134,8 @@ unsafe extern "C" {
     safe fn icysixel_set_height(handle: &mut Raw, height: u8);
     safe fn icysixel_get_lenient(handle: &mut Raw) -> u8;
     safe fn icysixel_set_lenient(handle: &mut Raw, on: u8);
+    safe fn icysixel_get_transparent(handle: &mut Raw) -> u8;
+    safe fn icysixel_set_transparent(handle: &mut Raw, on: u8);
     safe fn icysixel_get_limit(handle: &mut Raw) -> usize;
     safe fn icysixel_set_limit(handle: &mut Raw, pixels: usize);
     safe fn icysixel_get_clip(handle: &mut Raw, clip: &mut Size) -> u32;
@@ -491,6 +493,14 @@ impl Handle {
 
     pub(crate) fn set_lenient(&mut self, on: bool) {
         icysixel_set_lenient(&mut self.0, u8::from(on));
+    }
+
+    pub(crate) fn transparent(&mut self) -> bool {
+        icysixel_get_transparent(&mut self.0) != 0
+    }
+
+    pub(crate) fn set_transparent(&mut self, on: bool) {
+        icysixel_set_transparent(&mut self.0, u8::from(on));
     }
 
     pub(crate) fn limit(&mut self) -> usize {

@@ -32,6 +32,7 @@ impl Handle {
         copy.set_registers(0, &self.registers());
         copy.set_height(self.height());
         copy.set_lenient(self.lenient());
+        copy.set_transparent(self.transparent());
         copy.set_limit(self.limit());
         let (width, height) = self.clip();
         copy.set_clip(width, height);

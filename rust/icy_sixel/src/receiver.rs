@@ -259,6 +259,16 @@ impl SixelReceiver {
         self.decoder.set_lenient(on);
     }
 
+    /// Sets whether pixels that are not drawn are transparent, whatever P2 of an image says.
+    ///
+    /// It is off in a new decoder. The setting applies to images that are begun afterwards, and
+    /// [`into_decoder`](Self::into_decoder) returns a decoder with it. The `background_mode` of the
+    /// image stays the one that P2 selects. So a multiplexer can encode the image again with its
+    /// P2, and the background shows through where nothing was drawn.
+    pub fn set_transparent(&mut self, on: bool) {
+        self.decoder.set_transparent(on);
+    }
+
     /// Sets how many pixels an image can have.
     ///
     /// It does what [`SixelDecoder::set_pixel_limit`] does. An open image keeps the limit that it

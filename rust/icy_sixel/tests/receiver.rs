@@ -6,8 +6,9 @@ use common::*;
 use icy_sixel::receiver::{Received, SixelReceiver};
 use icy_sixel::script::Status;
 use icy_sixel::{
-    BandStatus, ChannelOrder, DcsSettings, Height, ReceivedImage, Result, RowLayout,
-    SixelDcsFeedStatus as Dcs, SixelDecoder, SixelError, SixelFeedStatus as Payload, SixelImage,
+    BackgroundMode, BandStatus, ChannelOrder, DcsSettings, Height, ReceivedImage, Result,
+    RowLayout, SixelDcsFeedStatus as Dcs, SixelDecoder, SixelError, SixelFeedStatus as Payload,
+    SixelImage,
 };
 use std::sync::{Arc, Mutex, RwLock, mpsc};
 use std::thread;
@@ -214,6 +215,20 @@ fn errors_close_the_image() {
     assert!(receiver.feed(b"\x1bPq~").is_ok());
     assert_eq!(receiver.finish(), Err(invalid(INCOMPLETE)));
     assert!(!receiver.is_receiving());
+}
+
+#[test]
+fn what_is_not_drawn_is_transparent() {
+    let mut receiver = SixelReceiver::new();
+    receiver.set_transparent(true);
+    receiver.set_register(0, [255, 0, 0]);
+    receiver.begin_dcs();
+    assert!(receiver.feed(b"\x1bPq@\x1b\\").is_ok());
+    let image = receiver.finish().unwrap();
+    assert_eq!(image.background_mode, BackgroundMode::Opaque);
+    assert_eq!((&image.pixels[..4], &image.pixels[4..]), (&RED[..], &[0; 20][..]));
+    assert!(receiver.decoder().is_transparent() && receiver.decoder().clone().is_transparent());
+    assert!(!SixelDecoder::new().is_transparent());
 }
 
 #[test]

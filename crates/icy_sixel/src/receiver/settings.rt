@@ -1,8 +1,10 @@
-//! What the host of a receiver sets: registers, crop, clip, the limit of pixels and lenience.
+//! What the host of a receiver sets: registers, crop, clip, the limit of pixels, lenience and
+//! transparency.
 
 ghost use Rattle.std.specs.Prelude.{◌≡◌, [], slice_index_or, slice_set};
 ghost use Rattle.sixel_base.specs.Color.{default_registers};
 ghost use Rattle.sixel_base.specs.Decoder.{with_clip, with_lenient, with_pixel_limit};
+ghost use Rattle.sixel_base.specs.Decoder.{with_transparent};
 ghost use Rattle.icy_sixel.specs.Registers.{with_colors};
 
 use crate::receiver::SixelReceiver;
@@ -113,5 +115,19 @@ impl SixelReceiver {
         ensures image { self.new.image ≡ self.old.image }
     {
         self.decoder.state.pixel_limit = self.decoder.state.pixel_limit.with_lenient(on);
+    }
+
+    /// Sets whether pixels that are not drawn are transparent, whatever P2 of an image says.
+    ///
+    /// It is off in a new decoder. The setting applies to each payload and each DCS sequence that
+    /// is begun afterwards, and is part of the decoder, as that of
+    /// [`set_lenient`](Self::set_lenient) is. The `background_mode` of the image stays the one that
+    /// P2 selects. So a multiplexer can encode the image again with its P2, and the background
+    /// shows through where nothing was drawn.
+    pub fn set_transparent(&mut self, on: bool)
+        ensures decoder { self.new.decoder ≡ with_transparent self.old.decoder on }
+        ensures image { self.new.image ≡ self.old.image }
+    {
+        self.decoder.state.pixel_limit = self.decoder.state.pixel_limit.with_transparent(on);
     }
 }

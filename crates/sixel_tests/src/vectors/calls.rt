@@ -116,6 +116,7 @@ fn set(receiver: &mut SixelReceiver, word: &str, argument: &str) -> Result<()> {
         "reset" => receiver.reset_palette(),
         "crop" => receiver.set_raster_crop(argument == "on"),
         "lenient" => receiver.set_lenient(argument == "on"),
+        "transparent" => receiver.set_transparent(argument == "on"),
         "limit" => receiver.set_pixel_limit(argument.parse::<usize>()?),
         "clip" => {
             let (width, height) = clip(argument)?;

@@ -34,7 +34,7 @@ with_packed-count-requires c =
     omega (
       arith,
       fewer _ session.origin session.bytes done.image,
-      few _ session.bytes done.faultless,
+      few session.origin.pixel_limit session.bytes done.faultless,
       settled-area session.origin.pixel_limit session.bytes,
       c.canvas_writes-writes.ensures.at_most,
     )

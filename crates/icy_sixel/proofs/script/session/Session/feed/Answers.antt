@@ -54,7 +54,8 @@ returns-in_default-clause-status c =
 
 pub returns-in_default-2-clause-error : goal.returns-in_default-2-clause-error
 returns-in_default-2-clause-error c =
-    refusal _ c.feed_chunk.result _ _ c.feed_chunk.new.receiver.image.bytes _ _ _
+    refusal _ c.feed_chunk.result c.args.receiver.now.image.start.pixel_limit _
+    c.feed_chunk.new.receiver.image.bytes _ _ _
     (rejoined _ _ _ _ _ _ c.feed_chunk.ensures.bytes c.split_chunk.ensures
     c.loop-cut.invariant.joined)
     (rw (c.loop-cut.invariant.start, c.loop-cut.invariant.form) at c.feed_chunk.ensures.error)
