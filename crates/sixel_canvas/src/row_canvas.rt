@@ -217,7 +217,7 @@ fn make_band(bands: &mut Vec<RowBand>, band: usize, background: [u8; 4]) -> Allo
         ≡ line_in (slice_index_or bands.old.items other []) background k }
     ensures others { (other : ℕ) → (other ≡ band → ⊥)
         → slice_index_or bands.new.items other [] ≡ slice_index_or bands.old.items other [] }
-    ensures few { 6 * vec_len bands.old ≤ side_limit → 6 * vec_len bands.new ≤ side_limit }
+    ensures few { vec_len bands.new ≤ max (vec_len bands.old) (band + 1) }
     ensures bands { All IsRowBand bands.old.items → All IsRowBand bands.new.items }
 {
     if band >= bands.len() {
@@ -235,7 +235,7 @@ fn add_bands(bands: &mut Vec<RowBand>, count: usize) -> AllocResult<()>
     ensures enough { OnOk result (vec_len bands.new ≡ count) }
     ensures same { (band : ℕ) → slice_index_or bands.new.items band []
         ≡ slice_index_or bands.old.items band [] }
-    ensures few { 6 * vec_len bands.new ≤ side_limit }
+    ensures few { vec_len bands.new ≤ count }
     ensures bands { All IsRowBand bands.old.items → All IsRowBand bands.new.items }
     ensures capacity { vec_capacity bands.new ≤ max (vec_capacity bands.old) (2 * count) }
 {

@@ -61,6 +61,7 @@ row_canvas_work canvas = record {
 -- what is true of every canvas of rows
 pub record IsRowCanvas (canvas : RowCanvasState) : Type 0 where
   pub few : 6 * length canvas.bands ≤ side_limit
+  pub needed : length canvas.bands ≤ canvas.band + 1
   pub bands : All IsRowBand canvas.bands
   pub low : 6 * canvas.band < 2 ^ 64
 
