@@ -131,6 +131,12 @@ fn rows_are_copied_before_the_image_ends() {
     let bgra = RowLayout { order: ChannelOrder::Bgra, ..NARROW };
     assert_eq!(receiver.copy_rows(4, 2, bgra, &mut out), Ok(()));
     assert_eq!(out[..20], rows(2, [[0, 0, 255, 255], CLEAR, UNTOUCHED]));
+    let none = RowLayout { columns: 0, ..NARROW };
+    assert_eq!(receiver.copy_rows(0, 6, none, &mut [9; 60]), Ok(()));
+    assert!(receiver.copy_rows(0, 6, none, &mut [9; 59]).is_err());
+    assert_eq!(receiver.copy_rows(1, 6, none, &mut out), Err(invalid("rows are not final")));
+    let copied = out.clone();
+    assert_eq!((receiver.copy_rows(0, 2, none, &mut out), &out), (Ok(()), &copied));
     assert_eq!(receiver.release_rows(7), Err(invalid("rows are not final")));
     assert_eq!(receiver.release_rows(6), Ok(()));
     let released = Err(invalid("rows were released"));

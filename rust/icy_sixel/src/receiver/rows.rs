@@ -90,6 +90,9 @@ impl SixelReceiver {
         layout: RowLayout,
         out: &mut [u8],
     ) -> Result<()> {
+        if layout.columns == 0 {
+            return self.check_rows(first, rows, layout, out.len());
+        }
         match self.decoder.shared().copy_rows(first, rows, &layout.in_c(), out) {
             Ok(()) => Ok(()),
             Err(NO_SESSION) if (first, rows) != (0, 0) => Err(error_of(ROWS_NOT_FINAL)),
@@ -97,6 +100,22 @@ impl SixelReceiver {
             Err(NO_SESSION) => Err(layout.error(BAD_STRIDE, 0, 0)),
             Err(code) => Err(layout.error(code, layout.byte_len(rows), out.len())),
         }
+    }
+
+    /// Checks a copy of no columns, which C does not have, because 0 means all columns there.
+    fn check_rows(
+        &self,
+        first: usize,
+        rows: usize,
+        layout: RowLayout,
+        actual: usize,
+    ) -> Result<()> {
+        if first.checked_add(rows).is_none_or(|end| end > self.rows_so_far()) {
+            return Err(error_of(ROWS_NOT_FINAL));
+        }
+        let column = RowLayout { stride: 4, columns: 1, ..layout };
+        self.copy_rows(first, rows, column, &mut vec![0; 4 * rows])?;
+        layout.check(rows, actual)
     }
 
     /// Releases the final rows above row `rows`, whose memory is used again.
