@@ -97,7 +97,7 @@ class TestView(unittest.TestCase):
         return text
 
     def test_terminal(self):
-        """An image has at most the width of the terminal, which is 800 pixels if it tells none."""
+        """An image has at most the width of the terminal, which is 800 pixels if it reports none."""
         self.assertEqual(self.shown(TWO_PPM, 1), RED + b"\n")
         self.assertEqual(self.shown(TWO_PPM, 0, b"\x1b[4;480;1t"), b"\x1b[14t" + RED + b"\n")
         wide = self.shown(b"P5 1600 2 255\n" + bytes(3200), 0)
