@@ -1,15 +1,16 @@
 """Times the program `sixel`, the library for C, the Rust crate and libsixel: python3 bench [FILE..]
 
-A FILE of a DCS sequence is decoded. One of raw RGBA pixels, named FILE:WIDTHxHEIGHT, is encoded,
-and by the library for C also in a refined palette. By default, two images are made here and
-encoded. What that writes is decoded, with an image of ten megapixels. The columns are numbers per
-pixel, but for two. A tool that is not installed has dashes.
+A FILE of a DCS sequence is decoded. One of raw RGBA pixels, named FILE:WIDTHxHEIGHT, is encoded:
+plain and undithered, then in each of KINDS by the library for C and by libsixel. By default, two
+images are made here and encoded, and two photographs of Debian's package mate-backgrounds. What
+that writes is decoded, with an image of ten megapixels. The columns are numbers per pixel, but for
+two. A tool that is not installed has dashes.
 
   first rows          percent of the bytes that are read before the first six rows are final
   instructions        of a process less those of one on a single pixel, by valgrind
   memory              resident at the peak of a process, by GNU time, less its input and what a
                       process on a single pixel takes; in sizes of the image
-  C, Rust, libsixel   nanoseconds in process, the least of RUNS turns; libsixel does not dither
+  C, Rust, libsixel   nanoseconds in process, the least of RUNS turns
   C, bytes            nanoseconds of the library for C, fed in chunks of one byte
 
 Without a FILE, hyperfine then times the program on a megabyte of each hostile stream.
@@ -30,6 +31,9 @@ from shutil import which
 ROOT = Path(__file__).resolve().parent.parent
 SIXEL, LIBRARY = ROOT / "crates/sixel/out/sixel", ROOT / "out"
 RUNS = int(os.environ.get("RUNS", "5"))
+# Photographs, and the sizes that ImageMagick scales them to.
+FOLDER = "/usr/share/backgrounds/mate/nature"
+PHOTOGRAPHS = {"Dune": "640x400", "LadyBird": "1280x800"}
 # Streams of a megabyte of these bytes: runs over what is drawn, wide and narrow, and large images.
 WIDE = "!65535~"
 HOSTILE = [f"{WIDE}$", f"{WIDE}$@$", f"#1{WIDE}$#2{WIDE}$", f"{7 * WIDE}$", "@", "-"]
@@ -48,7 +52,8 @@ TIMERS = {
     "Rust": "{room}/target/release/examples/speed -t 0.2 -k {colors} {file}",
     "libsixel": "{room}/peer {file} 12 {colors}",
 }
-REFINED = {"C": TIMERS["C"] + " refined", "libsixel": TIMERS["libsixel"]}
+# Kinds of output: in a refined palette, in one with error diffusion, and in the compact form.
+KINDS = ("refined", "diffused", "compact")
 
 
 def run(command, stdin=None):
@@ -99,11 +104,12 @@ def report(room, file):
             (resident(whole, data) - resident(one, single) - len(data)) / (4 * width * height),
             *in_process(TIMERS, room, command, file, colors),
         ]
-        title = f"{path.name[:20]:20} {width:>5}x{height:<5} {colors:3}"
-        print_line(f"{command} {title}", columns)
-        if raw:
-            times = in_process(REFINED, room, command, file, colors)
-            print_line(f"refine {title}", [math.nan] * 3 + [*times])
+        title = f"{path.name[:16]:16} {width:>5}x{height:<5} {colors:3}"
+        print_line(f"{command:8} {title}", columns)
+        for kind in KINDS if raw else ():
+            timers = {it: f"{TIMERS[it]} {kind}" for it in ("C", "libsixel")}
+            times = in_process(timers, room, command, file, colors)
+            print_line(f"{kind:8} {title}", [math.nan] * 3 + [*times])
 
 
 def print_line(title, columns):
@@ -122,7 +128,7 @@ def milliseconds(room, stream):
 
 
 def made(room):
-    """An image of smooth colors and one of flat ones, and SIXEL output of both and a tall one."""
+    """Smooth colors, flat ones and photographs; the SIXEL output of these and of a tall image."""
     noise = random.Random(1)
     smooth, flat = [], []
     for y, x in itertools.product(range(480), range(640)):
@@ -130,10 +136,16 @@ def made(room):
         flat += [x // 80 % 4 * 60, y // 40 % 3 * 90, (x + y) // 200 % 2 * 200, 255 * (x >= 20)]
     for name, pixels, times in (("smooth", smooth, 1), ("flat", flat, 1), ("tall", smooth, 33)):
         (room / name).write_bytes(times * bytes(pixels))
-        text = run(f"{SIXEL} encode 640 {480 * times} 256 <{room}/{name}")[0]
-        (room / f"{name}.six").write_bytes(text)
-    names = ("smooth:640x480", "flat:640x480", "smooth.six", "flat.six", "tall.six")
-    return [f"{room}/{it}" for it in names]
+    for name, size in PHOTOGRAPHS.items():
+        run(f"convert {FOLDER}/{name}.jpg -resize '{size}!' -depth 8 rgba:{room}/{name}")
+    sizes = {"smooth": "640x480", "flat": "640x480", **PHOTOGRAPHS, "tall": f"640x{480 * 33}"}
+    found = {name: size for name, size in sizes.items() if (room / name).exists()}
+    if len(found) < len(sizes):
+        print("Photographs need Debian's packages mate-backgrounds and imagemagick.")
+    for name, size in found.items():
+        run(f"{SIXEL} encode {size.replace('x', ' ')} 256 <{room}/{name} >{room}/{name}.six")
+    raw = [f"{room}/{name}:{size}" for name, size in found.items() if name != "tall"]
+    return raw + [f"{room}/{name}.six" for name in found]
 
 
 def main(files):
@@ -142,7 +154,7 @@ def main(files):
         for how in BUILDS.values():
             run(how.format(room=room))
         titles = ("first rows", "instructions", "memory", *TIMERS)
-        print(f"{'':42}", *(f"{it:>13}" for it in titles), sep="")
+        print(f"{'':41}", *(f"{it:>13}" for it in titles), sep="")
         for file in files or made(room):
             report(room, file)
         for text in () if files else HOSTILE:

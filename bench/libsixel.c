@@ -1,8 +1,9 @@
-/* Times libsixel in process, as speed.c times this library: libsixel FILE TURNS [COLORS]
+/* Times libsixel in process, as speed.c times this library: libsixel FILE TURNS [COLORS [KIND]]
  *
  * Each turn of decoding ends with pixels of four bytes. Each turn of encoding begins with such
- * pixels, converts them to three bytes each, does not dither, and has the quality that img2sixel
- * chooses for more than eight colors. */
+ * pixels, converts them to three bytes each, and has the quality that img2sixel chooses for more
+ * than eight colors. It diffuses errors (Floyd and Steinberg) with the KIND `diffused`, and chooses
+ * the smallest output with `compact`. */
 #define _POSIX_C_SOURCE 200809L
 #include "timing.h"
 #include <sixel.h>
@@ -64,7 +65,8 @@ static int append(char *bytes, int length, void *to)
 }
 
 /* The number of bytes of the SIXEL output of these pixels. */
-static size_t encoded(const uint8_t *pixels, size_t width, size_t height, int colors)
+static size_t encoded(const uint8_t *pixels, size_t width, size_t height, int colors,
+                      const char *kind)
 {
     sixel_dither_t *dither;
     sixel_output_t *output;
@@ -75,8 +77,10 @@ static size_t encoded(const uint8_t *pixels, size_t width, size_t height, int co
     want(sixel_dither_new(&dither, colors, NULL));
     want(sixel_dither_initialize(dither, rgb, (int)width, (int)height, SIXEL_PIXELFORMAT_RGB888,
                                  SIXEL_LARGE_AUTO, SIXEL_REP_AUTO, SIXEL_QUALITY_LOW));
-    sixel_dither_set_diffusion_type(dither, SIXEL_DIFFUSE_NONE);
+    int is_diffused = strcmp(kind, "diffused") == 0, is_small = strcmp(kind, "compact") == 0;
+    sixel_dither_set_diffusion_type(dither, is_diffused ? SIXEL_DIFFUSE_FS : SIXEL_DIFFUSE_NONE);
     want(sixel_output_new(&output, append, &whole, NULL));
+    if (is_small) sixel_output_set_encode_policy(output, SIXEL_ENCODEPOLICY_SIZE);
     want(sixel_encode(rgb, (int)width, (int)height, 3, dither, output));
     sixel_output_unref(output);
     sixel_dither_unref(dither);
@@ -93,12 +97,12 @@ int main(int argc, char **argv)
     uint8_t *file = turns > 0 ? read_file(argv[1], &length) : NULL;
     double *times = calloc(turns, sizeof *times);
     if (file == NULL || times == NULL)
-        return fputs("usage: libsixel FILE TURNS [COLORS]\n", stderr), 2;
+        return fputs("usage: libsixel FILE TURNS [COLORS [KIND]]\n", stderr), 2;
     size_t text = length;
     for (size_t turn = 0; turn < turns; turn++) {
         double begun = now();
         if (is_raw)
-            text = encoded(file, width, height, colors);
+            text = encoded(file, width, height, colors, argc > 4 ? argv[4] : "");
         else
             free(decoded(file, length, &width, &height));
         times[turn] = now() - begun;

@@ -1,9 +1,10 @@
-/* Times decoding or encoding in process: speed FILE TURNS [COLORS [CHUNK | refined]]
+/* Times decoding or encoding in process: speed FILE TURNS [COLORS [CHUNK | KIND]]
  *
  * A FILE of a DCS sequence is decoded, fed in chunks of CHUNK bytes or as one. A FILE of raw
- * pixels, named FILE:WIDTHxHEIGHT, is encoded, in a refined palette if that is said. The line has
- * `decode` or `encode`, nanoseconds per pixel of the best turn and of the median, and the bytes of
- * the SIXEL output. */
+ * pixels, named FILE:WIDTHxHEIGHT, is encoded. With the KIND `compact` the output has the compact
+ * form, with `refined` a refined palette, and with `diffused` it is diffused in such a palette. The
+ * line has `decode` or `encode`, nanoseconds per pixel of the best turn and of the median, and the
+ * bytes of the SIXEL output. */
 #define _POSIX_C_SOURCE 200809L
 #include "timing.h"
 #include "want.h"
@@ -24,29 +25,39 @@ static void decode(icysixel *decoder, const uint8_t *bytes, size_t length, size_
     icysixel_free_bytes(&pixels);
 }
 
+/* Encodes pixels in the output of a kind. */
+static uint32_t encode(icysixel *handle, const uint8_t *pixels, size_t length,
+                       icysixel_encoding *it, uint16_t colors, const char *kind, size_t *text)
+{
+    if (strcmp(kind, "compact") == 0)
+        return icysixel_encode_compact(handle, pixels, length, it, colors, text);
+    if (strcmp(kind, "diffused") == 0)
+        it->dithering = (icysixel_dithering){ICYSIXEL_DITHER_DIFFUSION, 6};
+    if (*kind) return icysixel_encode_refined(handle, pixels, length, it, colors, text);
+    return icysixel_encode(handle, pixels, length, it->stride, it->width, it->height, it->p1,
+                           it->p2, colors, text);
+}
+
 int main(int argc, char **argv)
 {
     size_t length = 0, turns = argc > 2 ? strtoull(argv[2], NULL, 10) : 0;
     uint16_t colors = argc > 3 ? (uint16_t)strtoul(argv[3], NULL, 10) : 256;
-    int is_refined = argc > 4 && strcmp(argv[4], "refined") == 0;
-    size_t chunk = argc > 4 && !is_refined ? strtoull(argv[4], NULL, 10) : SIZE_MAX;
-    icysixel_shape shape = {.p1 = 9, .p2 = 1};
+    const char *kind = argc > 4 ? argv[4] : "";
+    icysixel_shape shape = {0};
     int is_raw = turns > 0 && part_size(argv[1], &shape.width, &shape.height);
-    icysixel_encoding encoding = {0, shape.width, shape.height, shape.p1, shape.p2, {0}, 0};
+    size_t chunk = *kind && !is_raw ? strtoull(kind, NULL, 10) : SIZE_MAX;
+    icysixel_encoding encoding = {0, shape.width, shape.height, 9, 1, {0}, 0};
     uint8_t *bytes = turns > 0 ? read_file(argv[1], &length) : NULL;
     double *times = calloc(turns, sizeof *times);
-    if (bytes == NULL || times == NULL || chunk == 0 || (argc > 4 && is_raw != is_refined))
-        return fputs("usage: speed FILE TURNS [COLORS [CHUNK | refined]]\n", stderr), 2;
+    if (bytes == NULL || times == NULL || chunk == 0)
+        return fputs("usage: speed FILE TURNS [COLORS [CHUNK | KIND]]\n", stderr), 2;
     size_t text = length;
     icysixel handle = {0};
     want(icysixel_new(&handle));
     for (size_t turn = 0; turn < turns; turn++) {
         double begun = now();
-        if (is_refined)
-            want(icysixel_encode_refined(&handle, bytes, length, &encoding, colors, &text));
-        else if (is_raw)
-            want(icysixel_encode(&handle, bytes, length, 0, shape.width, shape.height, shape.p1,
-                                 shape.p2, colors, &text));
+        if (is_raw)
+            want(encode(&handle, bytes, length, &encoding, colors, kind, &text));
         else
             decode(&handle, bytes, length, chunk, &shape);
         times[turn] = now() - begun;
