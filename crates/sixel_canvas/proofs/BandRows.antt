@@ -494,7 +494,7 @@ module _ (from column k : ℕ) (sixels : List ℕ) (long : length sixels ≡ 8) 
       covers_halves color x y y before
       (rw (blank_four (from + 4) column k (four_lanes sixels 4) blank) refl)
 
--- one sixel so many times, and blank ones after it, cover what a run of it does
+-- copies of one sixel, and blank ones after them, cover what a run of it does
 pub covers_repeated : (from to bits column k : ℕ) (sixels : List ℕ) → from ≤ to → to ≤ from + 8 →
     ((j : ℕ) → get_or sixels j 0 ≡ (if nat_lt j (to - from) then bits else 0)) →
     covers_block from sixels 0 column k ≡ covers from to 0 bits column k

@@ -32,7 +32,7 @@ laid_out old new width is expected wide within released = record {
   moved = rw released (omega (arith, is.moved, within));
 }
 
--- memory for so many columns of the band
+-- the band has memory for `columns`
 pub laid_widened : (old new : BandCanvasState) (columns least width : ℕ) → IsBandCanvas old
     → least ≤ max (max columns old.held) old.expected
     → new.rows.width
@@ -64,7 +64,7 @@ laid_wider canvas width wider is le = record {
   moved = omega (arith, is.moved, mul-le-mul_left canvas.released le);
 }
 
--- memory was made for so many columns, and then the band was drawn on
+-- memory for `columns` was allocated, and then the band was drawn on
 pub laid_held : (old held new : BandCanvasState) (named : ℕ) (runs : List Run) (columns : ℕ)
     → AreMoved old named runs
     → ((width : ℕ) → columns ≤ width → IsLaidOut old width → IsLaidOut held width)
@@ -119,7 +119,7 @@ moved_wider canvas named wider runs is le =
       few = omega (arith, is.few, mul-le-mul_left (lowest_top runs) more);
     }
 
--- so many rows released
+-- `count` rows were released
 pub moved_released : (old new : BandCanvasState) (named : ℕ) (runs : List Run) (count : ℕ)
     → AreMoved old named runs → new.expected ≡ old.expected
     → new.rows.width ≡ old.rows.width → new.rows.moved ≡ old.rows.moved

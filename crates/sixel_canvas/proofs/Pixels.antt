@@ -91,7 +91,7 @@ joined-row pixels background held width least =
     (λ xs. flat_map (λ x. x) (take held pixels) ++ xs)
     (joined-same (λ k. pixel (held + k)) (λ _. background) rest past)
 
--- the bytes of so many pixels from a column on, with the background where the pixels end
+-- the bytes of `count` pixels from column `from` on, with the background where the pixels end
 pub joined-part : (pixels : List (List ℕ)) (background : List ℕ) (from begin held count : ℕ)
     → begin ≡ min from (length pixels) → held ≡ min count (length pixels - begin)
     → joined (λ k. get_or pixels (from + k) background) count

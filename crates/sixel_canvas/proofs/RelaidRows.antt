@@ -28,7 +28,7 @@ pub relaid_all : (bytes old background : List ℕ) (width held rows stop : ℕ) 
 relaid_all bytes old background width held rows stop wider whole are column row =
     grind (arith, common_steps, are)
 
--- the pixels of so many rows are few
+-- rows within the limits have few pixels together
 pub area_fits : (rows width : ℕ) → rows ≤ 1000006 → width ≤ 2000000
     → rows * width ≤ 2000012000000
 area_fits rows width few narrow = omega (arith, mul-le-mul_left rows narrow, few)

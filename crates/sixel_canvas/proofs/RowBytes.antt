@@ -137,7 +137,7 @@ pub final_stored : (background bytes : List ℕ) (width rows room moved column r
 final_stored background bytes width rows room moved column row inside above =
     rw (lt-ltb column width inside, lt-ltb row rows above) refl
 
--- so many background pixels, or those of a row and background to their right
+-- `n` background pixels, or those of a row and background to their right
 background-pixel : (background : List ℕ) (n i : ℕ) → length background ≡ 4 → i < n →
     pixel_at (joined (λ _. background) n) i ≡ background
 background-pixel background n i four inside = pixel_joined (λ _. background) n i (λ _. four) inside

@@ -68,7 +68,7 @@ lines_thrifty (line ∷ rows) sound =
       spread = omega (arith, held, spread, rest.spread, first.spread);
     }
 
--- so many rows have at most so many pixels
+-- rows have at most a million pixels each
 pub pixels_in-most : (rows : List TaggedRowState)
     → All IsTaggedRow rows → pixels_in rows ≤ 1000000 * length rows
 unfolding pixels_in

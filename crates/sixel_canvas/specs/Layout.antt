@@ -19,11 +19,11 @@ stored_pixel bytes width rows background column row =
     if nat_lt column width && nat_lt row rows then take 4 (drop (4 * (row * width + column)) bytes)
     else background
 
--- how many bytes so many rows take: a stride for each row but the last
+-- how many bytes these rows take: a stride for each row but the last
 abbrev pub rows_len : RowLayout → ℕ → ℕ
 rows_len layout rows = (rows - 1) * layout.stride + 4 * layout.columns
 
--- so many rows lie apart from each other, in so many bytes
+-- `rows` rows lie apart from each other, in `len` bytes
 pub record AreRowsIn (layout : RowLayout) (rows len : ℕ) : Type 0 where
   pub apart : 4 * max 1 layout.columns ≤ layout.stride
   pub within : 0 < rows → rows_len layout rows ≤ len

@@ -35,7 +35,7 @@ pub record IsThrifty (row : RowState) : Type 0 where
   pub at_most : row.writes ≤ 3 * length row.pixels
   pub growing : row.room < 1000000 → row.writes ≤ length row.pixels + row.room
 
--- the capacity of a row with this capacity, after it grew to so many columns
+-- the capacity of a row of capacity `room` after it grew to `columns`
 abbrev pub room_for : ℕ → ℕ → ℕ
 room_for columns room = if nat_lt room columns then max columns (min 1000000 (2 * room)) else room
 
@@ -44,7 +44,7 @@ abbrev pub writes_for : ℕ → RowState → ℕ
 writes_for columns row =
     columns - length row.pixels + (if nat_lt row.room columns then length row.pixels else 0)
 
--- the row, grown by background to so many columns if it has fewer
+-- the row, grown by background to `columns` if it has fewer
 abbrev pub reached_to : ℕ → RowState → RowState
 reached_to columns row = record row {
   pixels = row.pixels ++ replicate (columns - length row.pixels) row.background;

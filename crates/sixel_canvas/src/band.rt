@@ -14,7 +14,7 @@ use std::simd::prelude::*;
 /// The greatest capacity of a band in columns: those of an image, and eight blank ones.
 pub const MAX_CAP: usize = 1_000_008;
 
-/// Up to how many columns a run is drawn eight columns at once, without a branch for each row.
+/// The longest run, in columns, that is drawn eight columns at once, without a branch for each row.
 const NARROW: usize = 24;
 
 /// Six rows of `cap` columns each, which are background from `reach` on.
@@ -86,7 +86,7 @@ impl Band {
         self.background
     }
 
-    /// Returns a copy of the band with memory for so many columns.
+    /// Returns a copy of the band with memory for `cap` columns.
     #[inline(never)]
     pub fn wider(&self, cap: usize) -> Result<Band, AllocError>
         requires more { self.now.cap ≤ cap }
@@ -301,7 +301,7 @@ fn draw_eight(pixels: &mut [[u8; 4]], cap: usize, from: usize, to: usize, bits: 
     mix_rows(pixels, cap, from, repeated(bits, to - from), color);
 }
 
-/// Returns eight sixels: this one so many times, and blank ones.
+/// Returns eight sixels: `count` times this one, then blank ones.
 #[inline(always)]
 fn repeated(bits: u8, count: usize) -> [u8; 8]
     requires { count ≤ 8 }

@@ -160,7 +160,7 @@ impl BandCanvas {
         self.band.painted()
     }
 
-    /// Copies so many final rows from row `first` on to a caller's memory.
+    /// Copies `rows` final rows from row `first` on to a caller's memory.
     pub fn copy_rows(&self, first: usize, rows: usize, layout: RowLayout, out: &mut [u8])
         requires stored { self.now.released ≤ first }
         requires above { first + rows ≤ self.now.top }
@@ -217,7 +217,7 @@ impl BandCanvas {
         }
     }
 
-    /// Makes memory for so many columns of the band, and for its rows among the final ones.
+    /// Allocates memory for `columns` columns of the band, and for its rows among the final ones.
     #[inline(always)]
     fn hold(&mut self, columns: usize) -> Result<(), AllocError>
         requires some { 0 < columns }
@@ -242,7 +242,7 @@ impl BandCanvas {
         self.widen(columns)
     }
 
-    /// Makes memory where there is too little.
+    /// Allocates memory for `columns` columns of a band that has too little.
     #[cold]
     #[inline(never)]
     fn widen(&mut self, columns: usize) -> Result<(), AllocError>

@@ -12,7 +12,7 @@ use std::alloc::{AllocError, Global};
 /// A canvas: a pixel for every column and row, and the band that is drawn on.
 ///
 /// The band begins at the top, and goes down six rows at each graphics new line. Rows above it
-/// are final. After an error nothing is known of the canvas but that it can be dropped.
+/// are final. After an error the canvas can only be dropped.
 pub trait Canvas {
     /// The pixel at a column and a row.
     ghost shown: { Self → ℕ → ℕ → List ℕ };
@@ -20,10 +20,10 @@ pub trait Canvas {
     /// The first row of the band.
     ghost top: { Self → ℕ };
 
-    /// So many columns of the band are drawn on without an allocation.
+    /// How many columns of the band can be drawn on without an allocation.
     ghost held: { Self → ℕ };
 
-    /// So many rows from the top are released: the canvas does not store them any more.
+    /// How many rows from the top were released: the canvas does not store them any more.
     ghost released: { Self → ℕ };
 
     /// What it has cost: pixels written as it grew, capacity, and pixels painted.
@@ -45,11 +45,11 @@ pub trait Canvas {
     fn top(&self) -> usize
         ensures { result ≡ top self.now };
 
-    /// Returns how many rows from the top are released.
+    /// Returns how many rows from the top were released.
     fn released(&self) -> usize
         ensures { result ≡ released self.now };
 
-    /// Returns how many columns of the band are drawn on without an allocation.
+    /// Returns how many columns of the band can be drawn on without an allocation.
     fn held(&self) -> usize
         ensures { result ≡ held self.now };
 

@@ -46,7 +46,7 @@ impl Model for FinalRows {
 }
 
 impl FinalRows {
-    /// Returns no row. It does not allocate.
+    /// Creates an empty list of rows. It does not allocate.
     pub fn new(alloc: Global, background: [u8; 4]) -> FinalRows
         ensures shown { (column row : ℕ) → final result column row ≡ background }
         ensures background { result.background ≡ background }
@@ -84,9 +84,9 @@ impl FinalRows {
         self.moved
     }
 
-    /// Makes memory for so many rows of at least so many columns.
+    /// Allocates memory for `rows` rows of at least `columns` columns.
     ///
-    /// Rows that are too narrow get twice their width, so that they seldom move.
+    /// Rows that are too narrow become at least twice as wide, so that they seldom move.
     pub fn reserve(&mut self, columns: usize, rows: usize) -> Result<(), AllocError>
         requires narrow { columns ≤ 1000000 }
         requires few { rows ≤ 1000006 }
@@ -111,7 +111,7 @@ impl FinalRows {
         self.bytes.reserve(len.saturating_sub(self.bytes.len()))
     }
 
-    /// Makes the rows no wider than so many columns, where there is no row yet.
+    /// Makes the rows no wider than `columns` if no row is stored yet.
     pub fn fit(&mut self, columns: usize)
         requires { columns ≤ self.old.width }
         ensures shown { (column row : ℕ) → final self.new column row ≡ final self.old column row }
@@ -128,7 +128,7 @@ impl FinalRows {
         }
     }
 
-    /// Gives the rows another width, and makes memory for so many of them.
+    /// Lays the rows out in this width, and allocates memory for `rows` of them.
     ///
     /// It counts the pixels that it writes.
     fn lay_out(&mut self, width: usize, rows: usize) -> Result<(), AllocError>
@@ -187,7 +187,7 @@ impl FinalRows {
         self.rows += 1;
     }
 
-    /// Removes so many rows from the top, or all. Their memory is reused.
+    /// Removes `count` rows from the top, or all if there are fewer. Their memory is reused.
     pub fn remove(&mut self, count: usize)
         ensures sound { AreRows self.old }
         ensures shown { (column row : ℕ) → final self.new column row
@@ -231,7 +231,7 @@ impl FinalRows {
         }
     }
 
-    /// Returns the bytes of the picture of this size, and keeps no row.
+    /// Returns the bytes of the picture of this size, and removes all rows.
     pub fn take(&mut self, width: usize, height: usize) -> Result<Vec<u8>, AllocError>
         requires narrow { width ≤ 1000000 }
         requires few { height ≤ 1000000 }
@@ -254,7 +254,7 @@ impl FinalRows {
         Ok(bytes)
     }
 
-    /// Gives the rows this width where they have another, and makes memory for so many of them.
+    /// Lays the rows out in this width if they have another, and allocates memory for `rows`.
     fn match_width(&mut self, width: usize, rows: usize) -> Result<(), AllocError>
         requires narrow { width ≤ 1000000 }
         requires few { rows ≤ 1000000 }
@@ -272,7 +272,7 @@ impl FinalRows {
     }
 }
 
-/// Removes so many bytes from the front. It is fast for all of them.
+/// Removes `len` bytes from the front. Removing all of them is fast.
 fn remove_front(bytes: &mut Vec<u8>, len: usize)
     requires { len ≤ length bytes.old.items }
     ensures items { bytes.new.items ≡ drop len bytes.old.items }
@@ -285,7 +285,7 @@ fn remove_front(bytes: &mut Vec<u8>, len: usize)
     bytes.drain(..len);
 }
 
-/// Appends a row of these pixels and so many of the background.
+/// Appends a row of these pixels and `rest` pixels of the background.
 fn add_row(
     bytes: &mut Vec<u8>,
     pixels: &[u8],

@@ -35,7 +35,7 @@ impl ReleasedRows {
         ReleasedRows {}
     }
 
-    /// Adds so many rows from the top of these, which are empty below the last.
+    /// Adds `count` rows from the top of these, which are empty below the last.
     pub fn extend(&mut self, rows: &FinalRows, count: usize)
         ensures len { length self.new.rows ≡ length self.old.rows + count }
         ensures rows { (row : ℕ) → slice_index_or self.new.rows row []

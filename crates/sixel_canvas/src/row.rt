@@ -54,7 +54,7 @@ impl Row {
         }
     }
 
-    /// Adds background until the row has so many columns, if it has fewer.
+    /// Adds background until the row has `columns` columns, if it has fewer.
     ///
     /// If they exceed the capacity, it becomes the greater of the columns and twice the capacity,
     /// the latter at most a million, and the pixels move. Only then can an allocation fail.
@@ -153,7 +153,7 @@ impl Row {
         ]
     }
 
-    /// Appends so many pixels from `from` on, with background where the row is short.
+    /// Appends `count` pixels from `from` on, with background where the row is short.
     pub(crate) fn pack(&self, bytes: &mut Vec<u8>, from: usize, count: usize) -> AllocResult<()>
         requires { vec_len bytes.old + 4 * count < 2 ^ 63 }
         ensures ok { OnOk result (bytes.new.items ≡ bytes.old.items ++ joined (λ k.
@@ -167,7 +167,7 @@ impl Row {
     }
 }
 
-/// Returns the capacity of a row with this capacity after it grew to so many columns.
+/// Returns the capacity of a row of capacity `room` after it grew to `columns`.
 fn room_after(room: usize, columns: usize) -> usize
     requires side { room ≤ side_limit }
     ensures { result ≡ room_for columns room }
@@ -178,7 +178,7 @@ fn room_after(room: usize, columns: usize) -> usize
     columns.max(MAX_SIDE.min(2 * room))
 }
 
-/// Returns how many pixels are copied or filled as a row grows to so many columns.
+/// Returns how many pixels are copied or filled as a row grows to `columns`.
 fn written_to_grow(len: usize, room: usize, columns: usize) -> usize
     requires { len ≤ columns }
     ensures { result ≡ columns - len + (if nat_lt room columns then len else 0) }
@@ -187,7 +187,7 @@ fn written_to_grow(len: usize, room: usize, columns: usize) -> usize
     columns - len + moved
 }
 
-/// Makes memory for so many pixels.
+/// Allocates memory for `room` pixels.
 fn reserve(bytes: &mut Vec<u8>, room: usize) -> AllocResult<()>
     requires side { room ≤ side_limit }
     requires held { vec_len bytes.old ≤ 4 * room }

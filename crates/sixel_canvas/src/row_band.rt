@@ -129,7 +129,7 @@ impl RowBand {
         Ok(())
     }
 
-    /// Appends so many pixels of row `k`, with background where it is short.
+    /// Appends `width` pixels of row `k`, with background where it is short.
     pub fn pack_row(
         &self,
         k: usize,

@@ -119,8 +119,8 @@ impl Canvas for RowCanvas {
 impl RowCanvas {
     /// Returns how many pixels were copied or filled to grow the rows.
     ///
-    /// Painting does not count, nor does packing. Tags do not either: a row has at most one for
-    /// each whole 128 columns, and capacity for at most twice as many.
+    /// Painting, packing and tags do not count. A row has at most one tag for each whole 128
+    /// columns, and capacity for at most twice as many.
     pub fn writes(&self) -> u64
         ensures value { result ≡ (row_canvas_work self.now).writes }
         ensures at_most { result ≤ 3000000000000 }
@@ -198,7 +198,7 @@ impl RowCanvas {
     }
 }
 
-/// Returns what a run of so many columns is counted as.
+/// Returns what a run over `columns` columns is counted as.
 fn run_paints(columns: usize) -> u64
     requires { columns ≤ side_limit }
     ensures least { result ≡ least_painted columns }
@@ -226,7 +226,7 @@ fn make_band(bands: &mut Vec<RowBand>, band: usize, background: [u8; 4]) -> Allo
     bands[band].make_rows(background)
 }
 
-/// Appends bands without rows until there are so many.
+/// Appends bands without rows until there are `count` bands.
 #[cold]
 #[inline(never)]
 fn add_bands(bands: &mut Vec<RowBand>, count: usize) -> AllocResult<()>

@@ -26,7 +26,7 @@ pub fn fill_rgba_span(span: &mut [u8], color: [u8; 4])
     fill_by_bytes(span, at, color);
 }
 
-/// Appends so many pixels of one color.
+/// Appends `count` pixels of one color.
 pub fn add_pixels(bytes: &mut Vec<u8>, count: usize, color: [u8; 4]) -> AllocResult<()>
     requires { vec_len bytes.old + 4 * count < 2 ^ 63 }
     ensures ok { OnOk result (bytes.new.items ≡ bytes.old.items ++ joined (λ _. color) count) }
@@ -44,7 +44,7 @@ pub fn add_pixels(bytes: &mut Vec<u8>, count: usize, color: [u8; 4]) -> AllocRes
     Ok(())
 }
 
-/// Fills the last bytes with so many pixels of one color.
+/// Fills the bytes from `start` on with `count` pixels of one color.
 fn fill_from(bytes: &mut [u8], start: usize, count: usize, color: [u8; 4])
     requires { start + 4 * count ≡ length bytes.old }
     ensures { bytes.new ≡ take start bytes.old ++ joined (λ _. color) count }

@@ -16,7 +16,7 @@ pub struct StoredRows<'a> {
 }
 
 impl<'a> StoredRows<'a> {
-    /// Copies so many rows from row `first` on to a caller's memory.
+    /// Copies `rows` rows from row `first` on to a caller's memory.
     pub fn copy(&self, first: usize, rows: usize, layout: RowLayout, out: &mut [u8])
         requires whole { length self.now.bytes.now ≡ 4 * (self.now.rows * self.now.width) }
         requires above_bottom { first + rows < 2 ^ 64 }

@@ -1,4 +1,4 @@
-//! A band in which a wide run over other pixels costs a tag a block and two ends.
+//! A band in which a wide run over other pixels costs one tag per block, and two ends.
 ghost use Rattle.std.specs.Prelude.{◌≡◌, ℕ, ◌+◌, ◌-◌, ◌*◌, ◌/◌, ◌^◌, ◌≤◌, ◌<◌, List, length};
 ghost use Rattle.std.specs.Prelude.{max, min, true, false, nat_le, nat_lt, ◌&&◌};
 ghost use Rattle.std.specs.Prelude.{slice_index_or, OnErr, OnOk, if◌then◌else◌};
@@ -14,10 +14,10 @@ use crate::band::{Band, MAX_CAP};
 use std::alloc::{AllocError, Global};
 use std::marker::Model;
 
-/// How many columns of a row have a tag in common.
+/// The columns of a block, which have one tag in each row.
 const BLOCK: usize = 128;
 
-/// From how many columns on a run may be tagged.
+/// The shortest run, in columns, that may be tagged.
 const WIDE: usize = 256;
 
 /// The color of a block that has no tag.
@@ -101,9 +101,9 @@ impl TaggedBand {
         self.painted
     }
 
-    /// Makes memory for so many columns, and nearly doubles it.
+    /// Grows the capacity by 31/32, or to `columns` if that is more.
     ///
-    /// The columns and their tags together are at most twice as many.
+    /// The columns and their tags together are at most twice `columns`.
     #[inline(never)]
     pub fn widen(&mut self, columns: usize) -> Result<(), AllocError>
         requires more { self.old.pixels.cap < columns }
@@ -381,7 +381,7 @@ impl TaggedBand {
     }
 }
 
-/// Returns for how many columns to make memory where it is too small for so many.
+/// Returns the new capacity of a band whose capacity `cap` is too small for `columns`.
 fn greater_cap(cap: usize, columns: usize) -> usize
     requires more { cap < columns }
     requires within { columns ≤ 1000008 }

@@ -1,4 +1,4 @@
-//! A row in which a wide run over other pixels costs a tag a block and two ends.
+//! A row in which a wide run over other pixels costs one tag per block, and two ends.
 ghost use Rattle.std.specs.Prelude.{◌≡◌, ℕ, ◌+◌, ◌*◌, ◌/◌, ◌%◌, ◌^◌, ◌≤◌, ◌<◌, ◌++◌, ◌⊎◌};
 ghost use Rattle.std.specs.Prelude.{length, max, min, true, false, nat_le, nat_lt, ◌&&◌};
 ghost use Rattle.std.specs.Prelude.{vec_len, IsOk, OnOk, if◌then◌else◌};
@@ -13,10 +13,10 @@ use crate::span::{AllocResult, add_pixels};
 use std::alloc::Global;
 use std::marker::Model;
 
-/// How many columns of a row have a tag in common.
+/// The columns of a block, which have one tag.
 pub const BLOCK: usize = 128;
 
-/// From how many columns on a run may be tagged.
+/// The shortest run, in columns, that may be tagged.
 const WIDE: usize = 256;
 
 /// The color of a block that has no tag.
@@ -169,7 +169,7 @@ impl TaggedRow {
         self.tags.paint(first, last, color);
     }
 
-    /// Paints the tags of the blocks at both ends of a run, but for its own columns.
+    /// Paints the tags of the blocks at both ends of a run, except in its own columns.
     fn settle_ends(&mut self, from: usize, to: usize)
         requires ordered { from ≤ to }
         requires held { to ≤ length self.old.row.pixels }
@@ -186,7 +186,7 @@ impl TaggedRow {
         self.settle(to / BLOCK, from, to);
     }
 
-    /// Paints the tag of a block, but for the columns from `from` up to before `to`.
+    /// Paints the tag of a block, except in the columns from `from` up to before `to`.
     fn settle(&mut self, block: usize, from: usize, to: usize)
         requires ordered { from ≤ to }
         ensures outside { (column : ℕ) → (column < from) ⊎ (to ≤ column)
@@ -210,7 +210,7 @@ impl TaggedRow {
         self.tags.paint(block, block + 1, NO_TAG);
     }
 
-    /// Appends so many pixels from the left, with background where the row is short.
+    /// Appends `width` pixels from the left, with background where the row is short.
     pub fn pack(&self, bytes: &mut Vec<u8>, width: usize) -> AllocResult<()>
         requires { vec_len bytes.old + 4 * width < 2 ^ 63 }
         ensures ok { OnOk result (bytes.new.items ≡ bytes.old.items
@@ -223,7 +223,7 @@ impl TaggedRow {
         Ok(())
     }
 
-    /// Appends so many pixels of a block, from its left.
+    /// Appends `count` pixels of a block, from its left.
     fn pack_block(&self, bytes: &mut Vec<u8>, block: usize, count: usize) -> AllocResult<()>
         requires within { count ≤ 128 }
         requires columns_fit { block * 128 < 2 ^ 63 }

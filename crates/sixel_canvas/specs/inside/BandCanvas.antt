@@ -78,9 +78,9 @@ pub record IsPaid (capacity painted reach tagged top : ℕ) (runs : List Run) : 
   pub inside : 128 * tagged ≤ band_edge runs top
   pub below : (row : ℕ) → top < row → band_edge runs row ≡ 0
 
--- What is true of the rows of a canvas whose picture has so many columns, or will have: rows are at
--- most twice as wide, and pixels were written to give rows another width at most twice for each
--- stored pixel, and four times for each pixel that was released.
+-- The rows of a canvas whose picture has `width` columns, or will have them, are at most twice as
+-- wide. Pixels that were written to give rows another width are at most two for each stored pixel,
+-- and four for each pixel that was released.
 pub record IsLaidOut (canvas : BandCanvasState) (width : ℕ) : Type 0 where
   pub expected : canvas.expected ≤ width
   pub wide : canvas.rows.width ≤ 2 * width

@@ -7,10 +7,10 @@ use Rattle.std.specs.Prelude.{ℕ, ◌+◌, ◌*◌, ◌/◌, min}
 abbrev pub counted : ℕ → ℕ → ℕ
 counted paints more = min (paints + more) 18446744073709551615
 
--- what six rows of a run over so many columns paint: a tag a block, and two ends
+-- what six rows of a run over `columns` paint: one tag per block, and two ends
 abbrev pub ends_and_tags : ℕ → ℕ
 ends_and_tags columns = 6 * (columns / 128 + 256)
 
--- what six rows of a run over so many columns paint at least
+-- what six rows of a run over `columns` paint at least
 abbrev pub least_painted : ℕ → ℕ
 least_painted columns = min (6 * columns) (ends_and_tags columns)

@@ -1,4 +1,4 @@
--- Which pixels bytes are: four bytes a pixel, red, green, blue and alpha, as in an image of RGBA.
+-- Which pixels bytes are: four bytes per pixel, red, green, blue and alpha, as in an image of RGBA.
 use Rattle.std.specs.Prelude.{ℕ, List, [], ◌∷◌}
 
 -- the pixels that these bytes are, from the left

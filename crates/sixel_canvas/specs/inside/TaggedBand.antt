@@ -38,11 +38,11 @@ pub record IsTaggedBand (band : TaggedState) : Type 0 where
   pub few_tags : band.tags.cap ≤ (band.pixels.cap + 127) / 128
   pub whole : 128 * band.tags.reach ≤ band.pixels.reach
 
--- what a run of so many columns paints at most beside the columns past all that was drawn on: a tag
--- a block, two ends, and what is painted of tagged blocks that it covers in part
+-- what a run over `columns` paints at most beside the columns past all that was drawn on: one tag
+-- per block, two ends, and what is painted of tagged blocks that it covers in part
 abbrev pub most_painted : ℕ → ℕ
 most_painted columns = columns / 128 + 640
 
--- what a run of so many columns paints at least: each column, or a tag for each whole 128 columns
+-- what a run over `columns` paints at least: each column, or a tag for each whole 128 columns
 abbrev pub least_cost : ℕ → ℕ
 least_cost columns = if nat_lt columns 256 then columns else columns / 128
