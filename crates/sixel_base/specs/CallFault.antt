@@ -49,7 +49,7 @@ abbrev pub IsVerdict : Option CallFault → Result (Unit {0}) SixelError → Typ
 IsVerdict None result = result ≡ Ok tt
 IsVerdict (Some fault) result = MatchResult result (λ _. ⊥) (λ e. IsCallFault e fault)
 
--- what is wrong with a palette of so many colors
+-- what is wrong with a palette of `count` colors
 abbrev pub color_count_fault : ℕ → Option CallFault
 color_count_fault count = if count == 0 || nat_lt 256 count then Some ColorCount else None
 

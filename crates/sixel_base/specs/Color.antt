@@ -1,7 +1,7 @@
 -- Colors as three bytes, and how a color introducer defines one: percentages of red, green and
 -- blue, or hue, lightness and saturation as DEC's terminals place them (blue at 0 degrees), here as
 -- exact fractions, rounded half up. And the table of 256 registers that a terminal starts with:
--- DEC's sixteen, then a color cube in steps of 20 percent, and greys from black to white.
+-- DEC's sixteen, then a color cube in steps of 20 percent, and grays from black to white.
 use Rattle.std.specs.Prelude.{ℕ, ◌+◌, ◌-◌, ◌*◌, ◌/◌, ◌%◌, min, nat_lt, ◌==◌, if◌then◌else◌, List}
 use Rattle.std.specs.Prelude.{[], ◌∷◌, map, slice_index_or}
 use Rattle.std.specs.List.{range_with_len}
@@ -47,7 +47,7 @@ hls_circle hue lightness saturation =
     ∷ channel lightness saturation (hue + 240)
     ∷ []
 
--- hue in degrees, lightness and saturation in percent, as a color; with no saturation it is a grey
+-- hue in degrees, lightness and saturation in percent, as a color; with no saturation it is a gray
 abbrev pub hls : ℕ → ℕ → ℕ → List ℕ
 hls hue lightness saturation =
     if saturation == 0 then rgb lightness lightness lightness
@@ -65,16 +65,16 @@ first_sixteen =
 abbrev pub cube_color : ℕ → List ℕ
 cube_color n = rgb (20 * (n / 36)) (20 * (n / 6 % 6)) (20 * (n % 6))
 
--- twenty-four greys
-abbrev pub grey : ℕ → List ℕ
-grey n = rgb (n * 100 / 23) (n * 100 / 23) (n * 100 / 23)
+-- twenty-four grays
+abbrev pub gray : ℕ → List ℕ
+gray n = rgb (n * 100 / 23) (n * 100 / 23) (n * 100 / 23)
 
 -- the color of a register of a new decoder
 abbrev pub default_color : ℕ → List ℕ
 default_color n =
     if nat_lt n 16 then slice_index_or first_sixteen n []
     else if nat_lt n 232 then cube_color (n - 16)
-    else grey (n - 232)
+    else gray (n - 232)
 
 -- the 256 registers of a new decoder
 unfoldable pub default_registers : List (List ℕ)

@@ -8,13 +8,13 @@ use Rattle.sixel_base.specs.Stroke.{Origin}
 use Rattle.sixel_base.specs.Limits.{area_limit, side_limit, whole_limit}
 use Rattle.sixel_base.specs.declared.state.DecoderState.{DecoderState}
 
--- the limit that a host gets who asks for so many pixels: at least one, at most the limit of a new
--- decoder
+-- the limit of pixels that a host gets who asks for `pixels`: at least one, at most the limit of a
+-- new decoder
 abbrev pub limit_of : ℕ → ℕ
 limit_of pixels = max 1 (min pixels area_limit)
 
--- the side of the clip that a host gets who asks for so many columns or rows: at least one, at most
--- as many as any image has
+-- the columns or rows of the clip that a host gets who asks for `side`: at least one, at most the
+-- greatest side of an image
 abbrev pub clip_side_of : ℕ → ℕ
 clip_side_of side = max 1 (min side side_limit)
 
@@ -35,13 +35,13 @@ origin_of decoder settings = record {
   pixel_limit = decoder.pixel_limit;
 }
 
--- a decoder whose images may have so many pixels
+-- a decoder whose images may have `pixels` pixels
 abbrev pub with_pixel_limit : DecoderState → ℕ → DecoderState
 with_pixel_limit decoder pixels = record decoder {
   pixel_limit = record decoder.pixel_limit { pixels = limit_of pixels };
 }
 
--- a decoder whose images are clipped to so many columns and rows
+-- a decoder whose images are clipped to `width` columns and `height` rows
 abbrev pub with_clip : DecoderState → ℕ → ℕ → DecoderState
 with_clip decoder width height = record decoder {
   pixel_limit = record decoder.pixel_limit {

@@ -21,9 +21,9 @@ parameter_limit = 2147483647
 abbrev pub header_limit : ℕ
 header_limit = 65535
 
--- which pixels an image may have: at most so many, in so many columns from the left and so many
--- rows from the top, its clip; whether a command with a fault is ignored; and whether pixels that
--- are not drawn are transparent whatever P2 says
+-- which pixels an image may have: at most `pixels` of them, and those of its clip, `columns` from
+-- the left and `rows` from the top; whether a command with a fault is ignored; and whether pixels
+-- that are not drawn are transparent whatever P2 says
 pub record Limit : Type 0 where
   pub pixels : ℕ
   pub columns : ℕ

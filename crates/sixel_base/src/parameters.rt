@@ -128,7 +128,7 @@ impl Parameters {
         self.values[k]
     }
 
-    /// Goes on with the text by a digit or a semicolon.
+    /// Adds a digit or a semicolon at the end of the text.
     #[inline(always)]
     pub fn push(&mut self, byte: u8)
         requires { IsParameterByte byte }
@@ -140,7 +140,7 @@ impl Parameters {
         }
     }
 
-    /// Goes on with the text by a digit, from `b'0'` to `b'9'`.
+    /// Adds a digit, from `b'0'` to `b'9'`, at the end of the text.
     #[inline(always)]
     pub fn push_digit(&mut self, byte: u8)
         requires { IsDigit byte }
@@ -153,7 +153,7 @@ impl Parameters {
         self.count = self.count.max(1);
     }
 
-    /// Goes on with the text by a semicolon.
+    /// Adds a semicolon at the end of the text.
     pub fn push_separator(&mut self)
         ensures { (text : List ℕ) → Keeps self.old text → Keeps self.new (text ++ SEPARATOR ∷ []) }
     {

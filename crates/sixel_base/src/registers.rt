@@ -32,7 +32,7 @@ impl Model for Registers {
 impl Registers {
     /// The registers of a new terminal.
     ///
-    /// They are DEC's sixteen colors, then a color cube in steps of 20 percent, and 24 greys in
+    /// They are DEC's sixteen colors, then a color cube in steps of 20 percent, and 24 grays in
     /// even steps from black to white.
     pub fn new() -> Self
         ensures colors { result ≡ default_registers }

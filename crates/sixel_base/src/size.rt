@@ -14,7 +14,7 @@ const BAND_HEIGHT: usize = 6;
 /// How many color registers there are.
 const REGISTERS: usize = 256;
 
-/// Returns the number of bytes of an image's pixels, four a pixel.
+/// Returns the number of bytes of an image's pixels, four per pixel.
 ///
 /// The errors are a size of zero, and then a number of bytes above `usize::MAX`.
 pub fn pixel_bytes(width: usize, height: usize) -> Result<usize>

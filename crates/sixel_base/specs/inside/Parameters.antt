@@ -23,7 +23,7 @@ pub record Keeps (parameters : Parameters) (text : List ℕ) : Type 0 where
   pub counted : parameters.count ≡ min 6 (length (fields text))
   pub valued : (k : ℕ) → k < 5 → slice_index parameters.values k ≡ field text k
 
--- so many digits at the front of the bytes were read, and this is their value
+-- the first `len` bytes are digits and were read, and this is their value
 abbrev pub AreRead : List ℕ → ℕ → ℕ → Type 0
 AreRead bytes value len =
     (len ≤ length bytes)

@@ -12,7 +12,7 @@ pub fn from_code(code: u32) -> [u8; 3]
     [red, green, blue]
 }
 
-/// The color of three percentages, each taken as 100 where it is more.
+/// The color of three percentages, each taken as 100 if it is more.
 pub fn rgb(red: u32, green: u32, blue: u32) -> [u8; 3]
     ensures { result ≡ spec.rgb red green blue }
 {
@@ -28,7 +28,7 @@ fn byte_of(percent: u32) -> u8
 
 /// The color of a hue in degrees, a lightness and a saturation in percent.
 ///
-/// Blue is at 0 degrees. A percentage above 100 counts as 100. Without saturation it is a grey.
+/// Blue is at 0 degrees. A percentage above 100 counts as 100. Without saturation it is a gray.
 pub fn hls(hue: u32, lightness: u32, saturation: u32) -> [u8; 3]
     ensures { result ≡ spec.hls hue lightness saturation }
 {

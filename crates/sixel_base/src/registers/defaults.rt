@@ -1,6 +1,6 @@
 //! The colors that the registers of a new decoder have.
 
-/// The color of each register: DEC's sixteen, then a color cube and 24 greys.
+/// The color of each register: DEC's sixteen, then a color cube and 24 grays.
 pub static DEFAULT_CODES: [u32; 256] = [
     0x000000, 0x3333cc, 0xcc2121, 0x33cc33, 0xcc33cc, 0x33cccc, 0xcccc33, 0x878787, 0x424242,
     0x545499, 0x994242, 0x549954, 0x995499, 0x549999, 0x999954, 0xcccccc, 0x000000, 0x000033,
