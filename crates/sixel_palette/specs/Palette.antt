@@ -30,7 +30,7 @@ unfoldable pub nearest : List (List ℕ) → List ℕ → ℕ
 nearest [] c = no_entry
 nearest (p ∷ ps) c = min (distance p c) (nearest ps c)
 
--- the color of a pixel, four bytes a pixel
+-- the color of a pixel, where each pixel has four bytes
 abbrev pub color_at : List ℕ → ℕ → List ℕ
 color_at pixels pixel =
     slice_index pixels (4 * pixel) ∷ slice_index pixels (4 * pixel + 1)

@@ -67,15 +67,15 @@ pub struct PaletteChoice {
 /// ```
 ///
 /// Only opaque pixels count, those whose alpha is at least 128; the others get index 0. The
-/// palette has room for `max_colors` entries, at least 2 and at most 256, and contains all colors
-/// of opaque pixels if there is room for them. Otherwise it is chosen farthest first. The first
-/// entry is the least color, by red, then green, then blue. Each further entry is the color that is
-/// farthest from its nearest entry so far, the least of those. An opaque pixel's index is that of
-/// its nearest entry, the first of those. A distance is the sum of the squared differences of the
+/// palette has at most `max_colors` entries, clamped to 2 to 256. They are all colors of opaque
+/// pixels, if these are not more. Otherwise they are chosen farthest first. The first entry is the
+/// least color, by red, then green, then blue. Each further entry is the color that is farthest
+/// from its nearest entry so far, the least of those. An opaque pixel's index is that of its
+/// nearest entry, the first of those. A distance is the sum of the squared differences of the
 /// channels.
 ///
-/// No palette of as many colors, whatever they are, has an error below a fourth of this one's.
-/// The witnesses prove it, because two of them share an entry of any such palette.
+/// Any palette of the same size has at least a fourth of this error, whatever its colors. The
+/// witnesses prove it, because two of them share an entry of any such palette.
 ///
 /// # Errors
 ///
@@ -118,14 +118,14 @@ pub fn choose_palette(alloc: Global, pixels: &[u8], max_colors: u16) -> Result<P
     Ok(palette_of(alloc, pixels, room_for(max_colors))?)
 }
 
-/// How many entries a palette of at most so many colors has room for.
+/// The most entries of a palette of at most `max_colors` colors.
 fn room_for(max_colors: u16) -> usize
     ensures { result ≡ palette_room max_colors }
 {
     usize::from(max_colors.clamp(2, 256))
 }
 
-/// The palette of whole pixels, with room for so many entries, and its certificate.
+/// The palette of whole pixels, of at most `room` entries, and its certificate.
 fn palette_of(
     alloc: Global,
     pixels: &[u8],
@@ -169,8 +169,8 @@ fn palette_of_codes(
 
 /// Returns whether every two witnesses have a squared distance of at least `error`.
 ///
-/// If so, whatever list of fewer colors one takes, some witness has to each of them a squared
-/// distance whose fourfold is at least `error`. It does not allocate.
+/// If so, then for any list of fewer colors some witness has to each of these a squared distance of
+/// at least a fourth of `error`. It does not allocate.
 pub fn witnesses_hold(witnesses: &[[u8; 3]], error: u32) -> bool
     ensures apart { IsTrue result ↔ AreApart witnesses.now error }
     ensures bound { IsTrue result → (n : ℕ) → n < length witnesses.now

@@ -37,12 +37,12 @@ abbrev pub high_part : Channel → ℕ → (Bin → ℕ) → Bin → ℕ
 high_part channel value number bin =
     if nat_lt value (side channel bin.corner) then number bin else 0
 
--- the box is a range of so many bins
+-- the box is a range of `count` bins
 pub record IsRange (count : ℕ) (box : ColorBox) : Type 0 where
   pub order : box.start ≤ box.end
   pub within : box.end ≤ count
 
--- each box is a range of so many bins
+-- each box is a range of `count` bins
 abbrev pub AreRanges : ℕ → List ColorBox → Type 0
 AreRanges count boxes = All (IsRange count) boxes
 

@@ -45,11 +45,11 @@ pub record AreNumbered (colors : List (List ℕ)) (entries : List Entry) : Type 
       → slice_index_or entries k (record { color = []; index = 0 })
       ≡ record { color = slice_index_or colors k []; index = k }
 
--- the position of the cube of a code, among those of 8 colors a side
+-- the position of the cube of a code, among the cubes with a side of 8 colors
 abbrev pub cube_position : ℕ → ℕ
 cube_position code = code / 65536 / 8 * 1024 + code / 256 % 256 / 8 * 32 + code % 256 / 8
 
--- the position of the group of a code, among those of 32 colors a side
+-- the position of the group of a code, among the groups with a side of 32 colors
 abbrev pub group_position : ℕ → ℕ
 group_position code = code / 65536 / 32 * 64 + code / 256 % 256 / 32 * 8 + code % 256 / 32
 

@@ -20,7 +20,7 @@ use crate::palette::nearest_entry::{Entry, NO_ENTRY};
 use crate::palette::relaxation::relax_cell;
 use std::alloc::{AllocError, Global};
 
-/// How many colors a cell has; the last one may have fewer.
+/// How many colors a cell has. The last cell may have fewer.
 pub const CELL: usize = 64;
 
 /// The bounding box of some colors, and the greatest distance to a nearest entry.
@@ -51,7 +51,7 @@ impl Cell {
         self.red.gap(color[0]) >= self.greatest || self.gap(color) >= self.greatest
     }
 
-    /// The squared distance of a color to the box, where no color is nearer.
+    /// The squared distance of a color to the nearest color of the box.
     #[inline(always)]
     pub fn gap(&self, color: [u8; 3]) -> u32
         ensures { (c : List ℕ) → IsInBox self.now c → result ≤ distance color c }

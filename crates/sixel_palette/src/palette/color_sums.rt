@@ -10,7 +10,7 @@ ghost use Rattle.sixel_palette.specs.inside.PaletteCodes.{code_count, color_of};
 
 use crate::palette::register_color::percent_color;
 
-/// How many pixels an image has at most.
+/// The most pixels that an image has.
 pub const AREA_LIMIT: u64 = 67_108_864;
 
 /// The number of some pixels and the sums of their channels.
@@ -42,7 +42,7 @@ impl ColorSums {
         }
     }
 
-    /// The sums of so many pixels of one color.
+    /// The sums of `count` pixels of one color.
     pub fn of(color: [u8; 3], count: u32) -> ColorSums
         requires { count ≤ area_limit }
         ensures count { result.count ≡ count }

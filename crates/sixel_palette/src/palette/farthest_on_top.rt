@@ -14,7 +14,7 @@ use crate::palette::nearest_entry::Entry;
 use crate::palette::register_color::register_color;
 use std::alloc::{AllocError, Global};
 
-/// Up to which squared distance a color needs no entry of its own.
+/// The greatest squared distance at which a color needs no entry of its own.
 ///
 /// Percentages move an entry by at most 3.
 const NEAR_ENOUGH: u32 = 6;

@@ -26,10 +26,10 @@ use crate::palette::nearest_entry::{Entry, NO_ENTRY, NearestEntry};
 use crate::palette::nearest_indices::color_bytes;
 use std::alloc::{AllocError, Global};
 
-/// How many cubes there are, of 8 colors a side.
+/// How many cubes there are. A side of a cube has 8 colors.
 pub const CUBES: usize = 32_768;
 
-/// How many groups of cubes there are, of 32 colors a side.
+/// How many groups of cubes there are. A side of a group has 32 colors.
 const GROUPS: usize = 512;
 
 /// The entries of a palette, and those that can be nearest in each group and cube.
@@ -165,7 +165,7 @@ impl Search {
 }
 
 impl Lists {
-    /// So many empty lists.
+    /// Empty lists, `count` of them.
     fn new(alloc: Global, count: usize) -> Result<Lists, AllocError>
         ensures size { IfOk result (λ lists. length lists.spans.items ≡ count) }
         ensures lists { IfOk result (λ lists. (position : ℕ → ℕ) (entries : List Entry)
@@ -238,7 +238,8 @@ fn group_position(code: u32) -> usize
 
 /// Appends those of the entries that may be nearest to a color of the cube.
 ///
-/// Each entry is stored, and the next one replaces it if it is not one of those: no branch.
+/// Each entry is stored, and the next one replaces it if it is not one of those. So no branch is
+/// needed.
 fn push_nearest(list: &mut Vec<Entry>, cube: &Cube, entries: &[Entry]) -> Result<(), AllocError>
     ensures { OnOk result (Appends entries.now cube.now list.old.items list.new.items) }
 {

@@ -14,9 +14,9 @@ use std::alloc::{AllocError, Global};
 /// How many positions are stored whatever the number of colors: 2 MiB.
 const FEW: usize = 524_288;
 
-/// How many positions are stored for so many pixels: one for each, or none.
+/// How many positions are stored: one for each of the pixels, or none.
 ///
-/// They take at most 8 bytes a color beside 2 MiB.
+/// They take at most 2 MiB and 8 bytes per color.
 pub fn position_count(pixels: usize, colors: usize) -> usize {
     if pixels.saturating_sub(FEW).div_ceil(2) > colors {
         return 0;

@@ -25,7 +25,7 @@ pub struct Cube {
 }
 
 impl Cube {
-    /// The squared distance of a color to the cube, where no color is nearer.
+    /// The squared distance of a color to the nearest color of the cube.
     #[inline(always)]
     pub fn gap(&self, color: [u8; 3]) -> u32
         ensures least { (c : List ℕ) → IsInCube self.now c → result ≤ distance color c }
@@ -100,7 +100,7 @@ pub fn group_around(code: u32) -> Cube
     }
 }
 
-/// The interval of a value and so many more.
+/// The interval from a value up to `more` above it.
 fn interval_from(low: u32, more: u32) -> Interval
     requires { low + more ≤ 255 }
     ensures low { result.low ≡ low }
