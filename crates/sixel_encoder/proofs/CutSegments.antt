@@ -19,8 +19,8 @@ AreAfter gap segment (other ∷ others) =
     (other.entry ≡ segment.entry → segment.end + gap ≤ other.first)
     × AreAfter gap segment others
 
--- Each segment has one of so many entries and a column, and ends by this one. Those of one entry
--- are a gap apart.
+-- Each segment has one of the entries and a column, and ends by this one. Those of one entry are a
+-- gap apart.
 abbrev pub AreCut : ℕ → ℕ → ℕ → List Segment → Type 0
 AreCut gap entries bound [] = Unit {0}
 AreCut gap entries bound (segment ∷ segments) =

@@ -41,7 +41,7 @@ IsTextOf-written form drawing bytes is same =
           (IsReadAs-drawn decoder drawing (form_text form drawing) is drawn reads);
     }
 
--- an opaque pixel with an index past so many colors is found
+-- an opaque pixel with an index past the colors is found
 pub list_any-past : (pixels indices : List ℕ) (colors pixel : ℕ) → pixel < length indices
     → 128 ≤ slice_index pixels (4 * pixel + 3) → colors ≤ slice_index indices pixel
     → list_any (is_past pixels indices colors) (range_with_len 0 (length indices)) ≡ true
@@ -53,7 +53,7 @@ list_any-past pixels indices colors pixel l light past =
     (omega (arith, length-range_with_len 0 (length indices)))
     (ap (is_past pixels indices colors) place ∙ here)
 
--- the index of an opaque pixel is one of so many entries
+-- the index of each opaque pixel is below the number of colors
 abbrev pub AreEntries : List ℕ → List ℕ → ℕ → Type 0
 AreEntries pixels indices colors =
     (pixel : ℕ) → pixel < length indices → 128 ≤ slice_index pixels (4 * pixel + 3)

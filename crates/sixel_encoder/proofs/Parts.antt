@@ -37,7 +37,7 @@ joined-all image band count is all =
     joined-past (entry_text (drawing_of image) band) (length image.colors.now) count all
     (λ k past. entry_text-past image band k is past)
 
--- a loop that appends what it joins, so many lists at a time: so many more
+-- a loop that appends what it joins, a part of the lists at a time: one more part
 pub appended-part : (f : ℕ → List ℕ) (part count : ℕ) (start now new : List ℕ)
     → now ≡ start ++ joined f (part * count) → new ≡ now ++ joined (λ k. f (part * count + k)) count
     → new ≡ start ++ joined f ((part + 1) * count)

@@ -141,7 +141,7 @@ Moved-run_tokens (token ∷ tokens) h are one =
     (with_run_tokens tokens (with_run_token token h)) first
     (Moved-run_tokens tokens (with_run_token token h) are.1 first.single)
 
--- a row of six bits a sixel, written in run-length tokens, is drawn
+-- a row of six bits per sixel, written in run-length tokens, is drawn
 pub Moved-row : (row : List ℕ) (h : History) → All (λ bits. bits < 64) row → span h ≡ 1
     → Moved row h (with_run_tokens (row_tokens row) h)
 Moved-row row h small one =

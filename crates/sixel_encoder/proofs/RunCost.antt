@@ -1,4 +1,4 @@
--- How many bytes so many equal sixels take, and that cutting them in two saves none.
+-- How many bytes a run of equal sixels takes, and that cutting it in two saves none.
 use Rattle.std.proofs.Common.{◌≡◌, ℕ, ◌+◌, ◌-◌, ◌*◌, ◌/◌, ◌%◌, ◌^◌, ◌<◌, ◌≤◌, nat_lt, true, false}
 use Rattle.std.proofs.Common.{cond, List, [], ◌∷◌, ◌++◌, length, replicate, refl, ap, sym, ◌∙◌}
 use Rattle.std.proofs.Common.{arith, length-append, subst, zero, suc, inl, inr}
@@ -228,19 +228,22 @@ run_cost-is : (q r : ℕ) → r < repeat_limit → run_cost (repeat_limit * q + 
 run_cost-is q r h =
     let d : (repeat_limit * q + r) / repeat_limit ≡ q = omega arith in
     let m : (repeat_limit * q + r) % repeat_limit ≡ r = omega arith in
-    ap (λ x. 7 * x + rest_cost ((repeat_limit * q + r) % repeat_limit)) d ∙ ap (λ x. 7 * q + rest_cost x) m
+    ap (λ x. 7 * x + rest_cost ((repeat_limit * q + r) % repeat_limit)) d
+    ∙ ap (λ x. 7 * q + rest_cost x) m
 
 cut-at : (p q r s : ℕ) → r < repeat_limit → s < repeat_limit
-    → run_cost (repeat_limit * p + r + (repeat_limit * q + s)) ≤ (7 * p + rest_cost r) + (7 * q + rest_cost s)
+    → run_cost (repeat_limit * p + r + (repeat_limit * q + s))
+    ≤ (7 * p + rest_cost r) + (7 * q + rest_cost s)
 cut-at p q r s hr hs =
     elim (cases_lt (r + s) repeat_limit) [
       | inl lt ↦
-          let e : repeat_limit * p + r + (repeat_limit * q + s) ≡ repeat_limit * (p + q) + (r + s) = omega arith in
+          let e : repeat_limit * p + r + (repeat_limit * q + s)
+          ≡ repeat_limit * (p + q) + (r + s) = omega arith in
           omega (arith, ap run_cost e, run_cost-is (p + q) (r + s) lt, rest_cost-add r s lt)
       | inr ge ↦
           let k : r + s ≡ repeat_limit + (r + s - repeat_limit) = omega arith in
-          let e : repeat_limit * p + r + (repeat_limit * q + s) ≡ repeat_limit * (p + q + 1) + (r + s - repeat_limit) =
-          omega arith in
+          let e : repeat_limit * p + r + (repeat_limit * q + s)
+          ≡ repeat_limit * (p + q + 1) + (r + s - repeat_limit) = omega arith in
           omega (
             arith,
             ap run_cost e,
@@ -255,10 +258,14 @@ run_cut m n =
     let em : m ≡ repeat_limit * (m / repeat_limit) + m % repeat_limit = omega arith in
     let en : n ≡ repeat_limit * (n / repeat_limit) + n % repeat_limit = omega arith in
     let e : run_cost (m + n)
-    ≡ run_cost (repeat_limit * (m / repeat_limit) + m % repeat_limit + (repeat_limit * (n / repeat_limit) + n % repeat_limit)) =
-    ap run_cost (omega arith) in
-    omega
-    (arith, e, cut-at (m / repeat_limit) (n / repeat_limit) (m % repeat_limit) (n % repeat_limit) (omega arith) (omega arith))
+    ≡ run_cost (repeat_limit * (m / repeat_limit) + m % repeat_limit
+    + (repeat_limit * (n / repeat_limit) + n % repeat_limit)) = ap run_cost (omega arith) in
+    omega (
+      arith,
+      e,
+      cut-at (m / repeat_limit) (n / repeat_limit) (m % repeat_limit) (n % repeat_limit)
+          (omega arith) (omega arith),
+    )
 
 -- a run costs at most what one token for it would
 pub run_least : (n : ℕ) → 1 ≤ n → n ≤ repeat_limit → run_cost n ≤ 2 + length (decimal n)
@@ -330,12 +337,19 @@ cost-rest n bits =
 pub cost-run : (n bits : ℕ) → cost (run_tokens n bits) ≡ run_cost n
 cost-run n bits =
     let seven : length (spelling (Many repeat_limit bits)) ≡ 7 =
-    omega (arith, length-many repeat_limit bits, length-decimal5 repeat_limit (omega arith) (omega arith)) in
-    let runs : cost (replicate (n / repeat_limit) (Many repeat_limit bits)) ≡ (n / repeat_limit) * 7 =
-    cost-replicate (n / repeat_limit) (Many repeat_limit bits) ∙ ap (λ x. (n / repeat_limit) * x) seven in
     omega (
       arith,
-      cost-append (replicate (n / repeat_limit) (Many repeat_limit bits)) (rest_tokens (n % repeat_limit) bits),
+      length-many repeat_limit bits,
+      length-decimal5 repeat_limit (omega arith) (omega arith),
+    ) in
+    let runs : cost (replicate (n / repeat_limit) (Many repeat_limit bits))
+    ≡ (n / repeat_limit) * 7 =
+    cost-replicate (n / repeat_limit) (Many repeat_limit bits)
+    ∙ ap (λ x. (n / repeat_limit) * x) seven in
+    omega (
+      arith,
+      cost-append (replicate (n / repeat_limit) (Many repeat_limit bits))
+          (rest_tokens (n % repeat_limit) bits),
       runs,
       cost-rest (n % repeat_limit) bits,
     )

@@ -17,7 +17,7 @@ use Rattle.sixel_encoder.specs.RunTokens.{run_tokens, tokens_after, row_tokens}
 use Rattle.sixel_encoder.proofs.RunCost.{run_cost, run_cut, run_least, run_cost0, run_cost1}
 use Rattle.sixel_encoder.proofs.RunCost.{cost-append, cost-run}
 
--- the bytes of the tokens of so many equal sixels and a row
+-- the bytes of the tokens of `n` equal sixels and a row
 abbrev pub left : ℕ → ℕ → List ℕ → ℕ
 left n b row = cost (tokens_after n b row)
 
@@ -186,7 +186,8 @@ All-rest_tokens n b h =
 
 All-run : (n b : ℕ) → All IsRunToken (run_tokens n b)
 All-run n b =
-    All-append IsRunToken (replicate (n / repeat_limit) (Many repeat_limit b)) (rest_tokens (n % repeat_limit) b)
+    All-append IsRunToken (replicate (n / repeat_limit) (Many repeat_limit b))
+    (rest_tokens (n % repeat_limit) b)
     (All-replicate IsRunToken (n / repeat_limit) (Many repeat_limit b) (omega arith, omega arith))
     (All-rest_tokens (n % repeat_limit) b (omega arith))
 

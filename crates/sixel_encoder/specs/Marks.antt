@@ -79,8 +79,8 @@ painted [] pen before column line = before
 painted (mark ∷ marks) pen before column line =
     painted marks (moved pen mark) (covered pen mark before column line) column line
 
--- A row may be drawn if it has six bits a sixel, stays within the width, is in a band that is used,
--- and if a register is selected.
+-- A row may be drawn if it has six bits per sixel, stays within the width, is in a band that is
+-- used, and if a register is selected.
 pub record IsRow (drawing : Drawing) (pen : Pen) (row : List ℕ) : Type 0 where
   pub small : All (λ bits. bits < 64) row
   pub inside : pen.column + length row ≤ drawing.width

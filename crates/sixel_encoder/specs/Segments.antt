@@ -50,7 +50,7 @@ after_pass column (segment ∷ segments) =
     if nat_le column segment.first then after_pass segment.end segments
     else segment ∷ after_pass column segments
 
--- the segments pass by pass, of which there are at most so many
+-- the segments pass by pass, in at most this number of passes
 unfoldable pub passes : ℕ → List Segment → List Segment
 passes zero segments = segments
 passes (suc n) segments = in_pass 0 segments ++ passes n (after_pass 0 segments)

@@ -188,7 +188,7 @@ fn entries_at_once(width: usize, entries: usize) -> usize
     (CAPACITY / (width + 1)).min(entries).max(1)
 }
 
-/// Returns in how many parts so many entries come, at most `at_once` in each.
+/// Returns how many parts the entries have, of at most `at_once` entries each.
 fn parts(entries: usize, at_once: usize) -> usize
     requires { 0 < at_once }
     ensures all { entries ≤ result * at_once }

@@ -46,8 +46,8 @@ HasColumns image line from to rows new =
     + between from to (pixel_bit line.weight e
     (entry_of image.pixels.now image.indices.now (line.start + x))) x
 
--- So many entries from the first one on are a part of all entries: the first is one of them, and
--- with as many as there are it is 0.
+-- `count` entries from `first` on are a part of all entries: the first is one of them, and it is 0
+-- if these are all entries.
 pub record IsPart (first count entries : ℕ) : Type 0 where
   pub some : first < entries
   pub few : count ≤ entries

@@ -2,7 +2,7 @@
 -- not depend on how it counts.
 use Rattle.std.specs.Prelude.{◌≡◌, ℕ, ◌+◌, ◌<◌, ◌≤◌, List, length, slice_index}
 
--- so many sixels of the row from a place on are these
+-- `count` sixels of the row from place `at` on have these bits
 pub record IsRun (row : List ℕ) (at bits count : ℕ) : Type 0 where
   pub within : at + count ≤ length row
   pub same : (k : ℕ) → at ≤ k → k < at + count → slice_index row k ≡ bits
