@@ -26,7 +26,7 @@ bits_front (suc n) (bit ∷ bits) (byte ∷ bytes) le le' same =
           (λ k lt. same (suc k) (omega (arith, lt))),
     ) refl
 
--- whether a lane of eight is among so many at the front
+-- whether a lane of eight is among the first `len`
 abbrev front_mask : ℕ → List Bool
 front_mask len =
     top 7 (cond (nat_lt 0 len) 255 0) ∷ top 7 (cond (nat_lt 1 len) 255 0)
@@ -50,7 +50,7 @@ get_or-front_mask len (suc (suc (suc (suc (suc (suc (suc zero))))))) less = top_
 get_or-front_mask len (suc (suc (suc (suc (suc (suc (suc (suc k)))))))) less =
     absurd (omega (arith, less))
 
--- the bits of eight bytes, of which so many at the front are sixels, and no bits past those
+-- the bits of eight bytes, of which the first `len` are sixels, and no bits past those
 abbrev pub front_bits : ℕ → List ℕ → List ℕ
 front_bits len bytes =
     sel_l (front_mask len) (zip2 lowered (chunk 0 8 bytes) (replicate 8 63)) (replicate 8 0)

@@ -73,7 +73,7 @@ pub length-bits_of : (run : List ℕ) → length (bits_of run) ≡ length run
 length-bits_of [] = refl
 length-bits_of (byte ∷ run) = ap suc (length-bits_of run)
 
--- so many sixels to come are of one column each, and inside the picture and its clip
+-- the next `n` sixels are of one column each, and inside the picture and its clip
 pub record IsInside (limit : Limit) (n : ℕ) (h : History) : Type 0 where
   pub single : span h ≡ 1
   pub right : across h + n ≤ width h

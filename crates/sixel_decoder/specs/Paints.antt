@@ -17,7 +17,7 @@ sixels [] = 0
 sixels (Sixel bits ∷ older) = suc (sixels older)
 sixels (_ ∷ older) = sixels older
 
--- what a sixel with a set pixel is counted as at least: six pixels a column, or where it is less,
+-- what a sixel with a set pixel is counted as at least: six pixels per column, or where it is less,
 -- in six rows one for each whole 128 columns and 256 for two ends
 abbrev pub sixel_paints : ℕ → ℕ
 sixel_paints columns = min (6 * columns) (6 * (columns / 128 + 256))

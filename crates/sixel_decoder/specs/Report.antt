@@ -31,7 +31,7 @@ pub record Report : Type 0 where
   pub raster : ℕ × ℕ
   pub ignored : ℕ
 
--- that of the image of these tokens, beside which so many were ignored
+-- the report of the image of these tokens, beside which `ignored` tokens were ignored
 abbrev pub report_of : Origin → History → ℕ → Report
 report_of origin history ignored = record {
   drawn_height = image_drawn_height origin.pixel_limit origin.raster_crop history;

@@ -46,7 +46,7 @@ pub fn is_numbered(byte: u8) -> bool
     matches!(byte, b'!' | b'#')
 }
 
-/// Returns so many bytes from the front.
+/// Returns the first `len` bytes.
 #[inline(always)]
 pub fn front(bytes: &[u8], len: usize) -> &[u8]
     requires { len ≤ length bytes.now }

@@ -201,7 +201,7 @@ impl<C: Canvas + Drop> Painter<C> {
         Ok(())
     }
 
-    /// Makes the image at least so wide and so high, unless it is too large then.
+    /// Extends the image to at least this width and height, unless it is too large then.
     #[inline(always)]
     fn extend(&mut self, wide: usize, high: usize) -> Result<()>
         ensures extended { MatchResult result (λ _. IsExtended self.old self.new wide high)

@@ -81,7 +81,8 @@ Heads result state decoder ended before piece =
     × (is_head state ≡ true → count ≡ length piece))
     (λ error. IsStageFault error (stage (before ++ piece)))
 
--- The payload continues to these bytes: the sequence has so many more of its own, and this status.
+-- The payload continues to these bytes: `fed` counts the further ones of the sequence, and has its
+-- status.
 abbrev pub GoesTo : List ℕ → List ℕ → SixelDcsFeedResult → Type 0
 GoesTo payload payload' fed =
     (payload_count payload + fed.consumed ≡ payload_count payload')

@@ -11,7 +11,7 @@ use Rattle.sixel_canvas.specs.declared.drawing.Canvas.{Ghosts}
 use Rattle.sixel_decoder.specs.declared.painter.Painter.{Painter}
 use Rattle.sixel_decoder.specs.inside.Painter.{Shows}
 
--- The painter has drawn those of the tokens that take effect, and so many were ignored.
+-- The painter has drawn the tokens that take effect, and the number of the others is `ignored`.
 pub record HasDrawn {C : Type 0} {canvas : Ghosts C} (origin : Origin) (painter : Painter C canvas)
     (ignored : ℕ) (history : History) : Type 0 where
   pub shows : Shows origin painter (effective origin.pixel_limit history)
@@ -25,7 +25,7 @@ Tolerates result origin painter ignored history =
     (λ _. HasDrawn origin painter ignored history)
     (λ error. Faults error false (fault origin.pixel_limit history))
 
--- So many sixels at the front of the bytes were drawn or ignored, or the first of them is rejected.
+-- The first `drawn` bytes, sixels, were drawn or ignored, or the first of them is rejected.
 abbrev pub ToleratesFront : {C : Type 0} {canvas : Ghosts C} → Result ℕ SixelError → Origin
     → Painter C canvas → ℕ → History → List ℕ → Type 0
 ToleratesFront result origin painter ignored history bytes =

@@ -54,8 +54,7 @@ Draws result origin painter history may_want =
     (λ _. Shows origin painter history)
     (λ error. Faults error may_want (first_fault origin.pixel_limit history))
 
--- So many sixels at the front of the bytes were drawn, or the first of them is rejected by the
--- first fault.
+-- The first `drawn` bytes, sixels, were drawn, or the first of them is rejected by the first fault.
 abbrev pub DrawsFront : {C : Type 0} {canvas : Ghosts C} → Result ℕ SixelError → Origin
     → Painter C canvas → History → List ℕ → Type 0
 DrawsFront result origin painter history bytes =
@@ -63,8 +62,8 @@ DrawsFront result origin painter history bytes =
     (λ error.
     Faults error true (first_fault origin.pixel_limit (Sixel (slice_index bytes 0 - 63) ∷ history)))
 
--- The second painter is the first with an image at least so wide and so high, which is within the
--- limits.
+-- The second painter is the first with an image of at least `wide` columns and `high` rows, within
+-- the limits.
 pub record IsExtended {C : Type 0} {members : Ghosts C} (old new : Painter C members)
     (wide high : ℕ) : Type 0 where
   pub right : wide ≤ side_limit
