@@ -17,13 +17,13 @@ abbrev pub band_of : List ℕ → List ℕ
 band_of [] = []
 band_of (byte ∷ bytes) = if byte == 45 then byte ∷ [] else byte ∷ band_of bytes
 
--- the status after so many final rows became so many: rows if there are more of them and the image
--- goes on, else that of the image
+-- the status after `before` final rows became `after`: rows if these are more and the image goes
+-- on, else that of the image
 abbrev pub band_status : ℕ → ℕ → Status → BandStatus
 band_status before after status =
     if not (has_ended status) && nat_lt before after then Rows else Image status
 
--- what is reported of a feed that made so many final rows so many
+-- what is reported of a feed after which `before` final rows are `after`
 abbrev pub received_band : ℕ → ℕ → Received → ReceivedBand
 received_band before after received = record {
   consumed = received.consumed;

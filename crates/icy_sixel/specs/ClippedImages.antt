@@ -42,7 +42,7 @@ whole_pixel decoder (Payload settings payload) =
 whole_pixel decoder (NoPayload fault) = λ column row. []
 
 -- the fault of a sixel or of raster attributes by the whole picture: a side above the limit, then
--- an area of more than so many pixels
+-- an area of more than `most` pixels
 abbrev pub whole_extent_fault : ℕ → ℕ → ℕ → History → Option Fault
 whole_extent_fault most right lower history =
     if nat_lt side_limit right || nat_lt side_limit lower then Some Malformed
@@ -92,8 +92,8 @@ pub record IsInsideClip (decoder : DecoderState) (width height : ℕ) : Type 0 w
   pub columns : clip_side_of width ≤ decoder.pixel_limit.columns
   pub rows : clip_side_of height ≤ decoder.pixel_limit.rows
 
--- The part of an image inside a clip of so many columns and rows: both images have the same pixel
--- at each column and row that the part has.
+-- The part of an image inside a clip of `columns` and `rows`: both images have the same pixel at
+-- each column and row that the part has.
 pub record IsPartInside (pixel : ℕ → ℕ → List ℕ) (columns rows : ℕ) (image part : Image)
     : Type 0 where
   pub width : part.width ≡ min image.width (clip_side_of columns)

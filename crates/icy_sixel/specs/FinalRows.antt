@@ -35,12 +35,12 @@ pixel_so_far decoder form bytes = found_pixel decoder (found form bytes)
 abbrev pub usize_max : ℕ
 usize_max = 0xffff_ffff_ffff_ffff
 
--- how many bytes so many rows take in a caller's memory
+-- how many bytes these rows take in a caller's memory
 abbrev pub buffer_len : RowLayout → ℕ → ℕ
 buffer_len layout rows = if nat_lt 0 rows then rows_len layout rows else 0
 
--- what is wrong with memory of so many bytes for so many rows: they overlap, no usize counts their
--- bytes, or there are too few
+-- what is wrong with memory of `len` bytes for `rows` rows: they overlap, no usize counts their
+-- bytes, or the memory has too few
 abbrev pub layout_fault : RowLayout → ℕ → ℕ → Option CallFault
 layout_fault layout rows len =
     if nat_lt layout.stride (4 * max 1 layout.columns) then Some ShortStride
@@ -49,7 +49,7 @@ layout_fault layout rows len =
     then Some (Exactly (BufferSizeMismatch (buffer_len layout rows) len))
     else None
 
--- what is wrong with a copy of so many rows of the open image from this one on
+-- what is wrong with a copy of `rows` rows of the open image from row `first` on
 abbrev pub copy_fault : Reception → ℕ → ℕ → RowLayout → ℕ → Option CallFault
 copy_fault image first rows layout len =
     if nat_lt (rows_so_far image) (first + rows) then Some RowsNotFinal

@@ -57,7 +57,7 @@ received_pixel image column row =
     stored_pixel image.pixels.items image.width (image.height - image.first_row)
     (0 ∷ 0 ∷ 0 ∷ 0 ∷ []) column (row - image.first_row)
 
--- what is wrong with a copy of so many rows of the image from this one on
+-- what is wrong with a copy of `rows` rows of the image from row `first` on
 abbrev pub received_fault : ReceivedImage → ℕ → ℕ → RowLayout → ℕ → Option CallFault
 received_fault image first rows layout len =
     if nat_lt image.height (first + rows) then Some RowsNotFinal

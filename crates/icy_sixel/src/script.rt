@@ -98,13 +98,13 @@ pub enum Outcome {
     Changed,
     /// The step failed, and changed no register.
     Failed(SixelError),
-    /// A session consumed so many bytes, had this status, and returned this image.
+    /// A session consumed `consumed` bytes, had this status, and returned this image.
     Finished {
         consumed: usize,
         status: Status,
         image: SixelImage,
     },
-    /// A session consumed so many bytes, had this status, and was aborted.
+    /// A session consumed `consumed` bytes, had this status, and was aborted.
     ///
     /// No register changed.
     Aborted {
@@ -115,7 +115,7 @@ pub enum Outcome {
     Decoded(SixelImage),
 }
 
-/// Runs the steps in order, and returns one outcome a step.
+/// Runs the steps in order, and returns one outcome per step.
 ///
 /// ```rust
 /// let steps = [
@@ -150,7 +150,7 @@ pub fn run(alloc: Global, decoder: &mut SixelDecoder, steps: &[Step<'_>]) -> Res
 
 /// Runs the steps in order, and stores the outcomes in allocated capacity.
 ///
-/// So it never fails: where an allocation of a step fails, that is the outcome of the step.
+/// So it never fails. If an allocation of a step fails, that is the outcome of the step.
 fn take_steps(
     alloc: Global,
     decoder: &mut SixelDecoder,

@@ -16,7 +16,7 @@ use sixel_base::{Result, SixelError};
 use sixel_decoder::DecodedPayload;
 use std::alloc::Global;
 
-/// An image of four bytes a pixel: red, green, blue, alpha.
+/// An image of four bytes per pixel: red, green, blue, alpha.
 ///
 /// The rows are stored from the top, and each row from the left.
 #[derive(Debug, Drop)]

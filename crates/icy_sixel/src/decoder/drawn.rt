@@ -18,8 +18,8 @@ use std::alloc::Global;
 impl SixelDecoder {
     /// Decodes as [`decode`](Self::decode) does, and returns what a finished image reports too.
     ///
-    /// Without raster attributes an image is a whole number of bands high: of 24 rows, 20 may be
-    /// drawn.
+    /// Without raster attributes the height of an image is a multiple of six, also if fewer rows
+    /// are drawn.
     pub fn decode_drawn(&mut self, alloc: Global, bytes: &[u8]) -> Result<ReceivedImage>
         ensures decoded { IsDecoded left_value self.old (found bytes.now) result }
         ensures first { IfOk result (λ image. image.first_row ≡ 0) }
@@ -35,7 +35,7 @@ impl SixelDecoder {
         Ok(ReceivedImage::from_picture(picture))
     }
 
-    /// Decodes as [`decode_from_dcs`](Self::decode_from_dcs) does, and returns the same.
+    /// Decodes as [`decode_from_dcs`](Self::decode_from_dcs) does, and returns a [`ReceivedImage`].
     pub fn decode_from_dcs_drawn(
         &mut self,
         alloc: Global,

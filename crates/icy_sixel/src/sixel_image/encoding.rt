@@ -51,7 +51,8 @@ impl SixelImage {
     /// (`IntegerOverflow`), sizes above the limits (`InvalidDimensions`), and pixels of another
     /// number of bytes (`BufferSizeMismatch`).
     ///
-    /// Colors of transparent pixels never affect the output. Nor does an alpha below 128.
+    /// A pixel whose alpha is below 128 is transparent. Its color and its alpha never affect the
+    /// output.
     pub fn encode_with(&self, alloc: Global, options: &EncodeOptions) -> Result<String>
         ensures refused { MatchOption (image_fault (image_value self.now))
             (IfErr result (λ e. e ≡ SixelError.OutOfMemory))
