@@ -7,7 +7,7 @@ use Rattle.sixel.specs.netpbm.Fields.{Read}
 use Rattle.sixel.specs.netpbm.Header.{header_of}
 use Rattle.sixel.specs.netpbm.Raster.{pixels_of, raster_len}
 
--- an image of four bytes a pixel
+-- an image of four bytes per pixel
 pub record Rgba : Type 0 where
   pub width : ℕ
   pub height : ℕ
