@@ -20,7 +20,7 @@ pub struct Terminal {
 }
 
 impl Terminal {
-    /// Decodes a payload in chunks of so many bytes.
+    /// Decodes a payload in chunks of `chunk_len` bytes.
     ///
     /// Image, registers and errors are those of
     /// [`decode_from_dcs`](icy_sixel::SixelDecoder::decode_from_dcs) for the whole.
@@ -53,7 +53,7 @@ impl Terminal {
         self.receiver.finish_image()
     }
 
-    /// Decodes a DCS sequence in chunks of so many bytes.
+    /// Decodes a DCS sequence in chunks of `chunk_len` bytes.
     ///
     /// Image and registers are those of [`decode`](icy_sixel::SixelDecoder::decode) for the whole.
     pub fn dcs_sequence(

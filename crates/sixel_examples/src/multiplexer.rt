@@ -7,7 +7,7 @@ use icy_sixel::{Result, SixelDcsFeedStatus, SixelImage, SixelReceiver, Status};
 pub enum Came {
     /// All of them belong to the image, and it has not ended.
     Part,
-    /// The image has ended, and so many bytes belong to it.
+    /// The image has ended: the image, and how many bytes belong to it.
     Whole(SixelImage, usize),
     /// The sequence was cut short: the image so far, and how many bytes belong to it.
     ///

@@ -112,7 +112,7 @@ fn images(rt: HostRuntime) {
     assert!(rt; is_certified(alloc) & is_encoded(alloc) & is_viewed(alloc));
 }
 
-/// Whether a terminal consumed so many bytes, and got an image in its background of this size.
+/// Whether a terminal consumed `consumed` bytes, and got an image in its background of this size.
 fn is_read(read: Result<Read>, consumed: usize, size: Option<(usize, usize)>) -> bool {
     let Ok(read) = read else {
         return false;
