@@ -51,7 +51,7 @@ static uint8_t red_of_1(void)
     return color.red;
 }
 
-/* Whether so many rows are all these bytes. */
+/* Whether each of `count` rows has these bytes. */
 static bool are_rows(const uint8_t *rows, size_t count, const void *row, size_t length)
 {
     for (size_t i = 0; i < count; i++)

@@ -31,7 +31,7 @@ __attribute__((constructor)) static void begin(void)
     most = moved == 0 ? SIZE_MAX : (size_t)moved;
 }
 
-/* Whether the call fails of which so many are left. A call that is interrupted is often retried. */
+/* Whether this call fails: the last of `*left`. Many loops try an interrupted call again. */
 static int fails(long *left, int error)
 {
     if (*left == 0 || --*left > 0) return 0;

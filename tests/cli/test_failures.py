@@ -51,7 +51,7 @@ class Failures(unittest.TestCase):
     def failures(self, kind, *command, stdin=b"", moved=0):
         """How a program ends, for each of its calls of a kind in turn, which fails.
 
-        A read or a write moves at most so many bytes, if this is not 0. If none fails, the program
+        A read or a write moves at most `moved` bytes, if this is not 0. If none fails, the program
         succeeds.
         """
         environment = {"LD_PRELOAD": self.shim, "FAILED": self.failed, "MOVED": str(moved)}

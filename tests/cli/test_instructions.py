@@ -19,7 +19,7 @@ class TestInstructions(unittest.TestCase):
             (self.folder / file.name).touch()
 
     def vectors(self, payload, columns):
-        """The arguments that try a payload of so many columns."""
+        """The arguments that try a payload of this many columns."""
         image = f"{columns}x6 1:1 transparent {6 * columns}*ff0000ff"
         vector = "\t".join(("payload p1=9 p2=1", f"#1;2;100;0;0{payload}", image))
         (self.folder / "images.tsv").write_text(vector + "\n")

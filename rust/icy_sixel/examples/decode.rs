@@ -1,6 +1,6 @@
 //! The first image in standard input: `cargo run --example decode -- [LENGTH] < FILE`
 //!
-//! With a length, the DCS sequence is fed in chunks of so many bytes. The output is a line `image
+//! With a length, the DCS sequence is fed in chunks of this length. The output is a line `image
 //! WIDTH HEIGHT P1 P2`, the pixels and a line end, as by `sixel decode`.
 
 use icy_sixel::{SixelDcsFeedStatus, SixelImage, SixelReceiver, Status};

@@ -1,4 +1,4 @@
-//! Nanoseconds a pixel, in process:
+//! Nanoseconds per pixel, in process:
 //! `cargo run --release --example speed -- [-k COLORS] [-t SECONDS] FILE..`
 //!
 //! A file of SIXEL data is decoded in one call, then in chunks of 4096 bytes by a session on one
@@ -19,7 +19,7 @@ const LEAST_RUNS: usize = 5;
 
 type Outcome<T> = Result<T, Box<dyn Error>>;
 
-/// The best and the median run, in nanoseconds a pixel.
+/// The best and the median run, in nanoseconds per pixel.
 fn measure<T>(
     time: Duration,
     pixels: usize,
@@ -117,7 +117,7 @@ fn main() -> ExitCode {
         eprintln!("usage: speed [-k COLORS] [-t SECONDS] FILE..");
         return ExitCode::from(2);
     };
-    println!("nanoseconds a pixel, best and median");
+    println!("nanoseconds per pixel, best and median");
     for word in &plan.files {
         if let Err(error) = tell(&plan, word) {
             eprintln!("{word}: {error}");

@@ -281,9 +281,9 @@ pub(crate) struct Source<'a> {
 /// The colors of an output.
 #[derive(Clone, Copy)]
 pub(crate) enum Colors<'a> {
-    /// A palette of at most so many colors, chosen farthest first, in compact form.
+    /// A palette of at most this many colors, chosen farthest first, in compact form.
     Chosen(u16),
-    /// A refined palette of at most so many colors.
+    /// A refined palette of at most this many colors.
     Refined(u16),
     /// A palette of the caller.
     Given(&'a [[u8; 3]]),
@@ -702,8 +702,8 @@ fn append(bytes: &mut Vec<u8>, call: impl FnOnce(*mut u8, usize, &mut usize) -> 
     answer(call(spare.as_mut_ptr().cast(), spare.len(), &mut written), ())?;
     assert!(written <= spare.len());
     let length = bytes.len() + written;
-    // SAFETY: the call succeeded, so it has written so many bytes from the start of the spare
-    // capacity, which has them by the check above.
+    // SAFETY: the call succeeded, so it has written `written` bytes from the start of the spare
+    // capacity, which has room for them by the check above.
     unsafe { bytes.set_len(length) };
     Ok(())
 }
@@ -744,7 +744,7 @@ impl Tried {
     }
 }
 
-/// The layout of a block of so many bytes, with its head.
+/// The layout of a block of `size` bytes, with its head.
 fn layout(size: usize, align: usize) -> Option<Layout> {
     let all = size.checked_add(HEAD)?;
     let layout = Layout::from_size_align(all, HEAD).ok()?;
@@ -823,11 +823,11 @@ unsafe extern "C" fn rattle_dealloc(block: *mut u8) {
 mod tests {
     use super::*;
 
-    /// A block of so many bytes, which are these.
+    /// A block of these bytes.
     fn block(bytes: &[u8], align: usize) -> *mut u8 {
         let Tried { ok, block } = rattle_alloc(bytes.len(), align);
         assert!(ok && block.addr() % 16 == 0);
-        // SAFETY: the block was returned for so many bytes, and is new.
+        // SAFETY: the block was returned for this number of bytes, and is new.
         unsafe { block.copy_from_nonoverlapping(bytes.as_ptr(), bytes.len()) };
         block
     }

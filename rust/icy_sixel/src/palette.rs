@@ -19,7 +19,7 @@ pub struct PaletteChoice {
     pub witnesses: Vec<[u8; 3]>,
 }
 
-/// Chooses the palette of an image of four bytes a pixel: red, green, blue, alpha.
+/// Chooses the palette of an image of four bytes per pixel: red, green, blue, alpha.
 ///
 /// ```
 /// use icy_sixel::palette::{choose_palette, witnesses_hold};

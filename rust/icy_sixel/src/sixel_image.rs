@@ -10,7 +10,7 @@ use crate::size::{pixel_bytes, validate_buffer};
 use std::fmt;
 use std::str::FromStr;
 
-/// An image of four bytes a pixel: red, green, blue, alpha.
+/// An image of four bytes per pixel: red, green, blue, alpha.
 ///
 /// The pixels are stored row by row from the top, each row from the left.
 #[derive(Clone, Debug, PartialEq, Eq)]

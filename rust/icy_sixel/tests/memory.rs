@@ -63,7 +63,7 @@ unsafe impl GlobalAlloc for Counting {
     }
 }
 
-/// Makes the call with the allocation failing that follows so many others. Returns the result, and
+/// Makes the call with the allocation failing that follows `place` others. Returns the result, and
 /// whether one failed.
 fn failing<T>(place: i64, call: impl FnOnce() -> T) -> (T, bool) {
     GRANTED.set(place);

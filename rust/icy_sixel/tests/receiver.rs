@@ -106,10 +106,10 @@ fn rows_above_the_band_are_final() {
     assert_eq!(receiver.rows_so_far(), 0);
 }
 
-/// Three pixels a row, the third of which is no column of the copy.
+/// Three pixels per row, the third of which is no column of the copy.
 const NARROW: RowLayout = RowLayout { stride: 12, columns: 2, order: ChannelOrder::Rgba };
 
-/// The bytes of so many rows of three pixels, without the last pixel of the last row.
+/// The bytes of rows of three pixels, without the last pixel of the last row.
 fn rows(count: usize, pixels: [[u8; 4]; 3]) -> Vec<u8> {
     let mut bytes = pixels.as_flattened().repeat(count);
     bytes.truncate(12 * count - 4);

@@ -154,7 +154,7 @@ impl RowLayout {
         }
     }
 
-    /// Checks that so many rows lie apart from each other in memory of so many bytes.
+    /// Checks that `rows` rows lie apart from each other in `actual` bytes of memory.
     pub(super) fn check(self, rows: usize, actual: usize) -> Result<()> {
         if self.is_short() {
             return Err(SixelError::of_data("stride is shorter than a row"));
@@ -175,7 +175,7 @@ impl RowLayout {
         self.columns.max(1) > self.stride / 4
     }
 
-    /// How many bytes so many rows take.
+    /// How many bytes these rows take.
     fn byte_len(self, rows: usize) -> usize {
         let above = rows.saturating_sub(1).saturating_mul(self.stride);
         above.saturating_add(self.columns.saturating_mul(4))
