@@ -34,7 +34,7 @@ static uint32_t begin_image(struct terminal *term)
     return ICYSIXEL_OK;
 }
 
-/* Reserves the rows of cells for an image that is so high, and scrolls. */
+/* Reserves the rows of cells for an image of this height, and scrolls. */
 static void reserve_rows(struct terminal *term, size_t height)
 {
     for (; term->rows * CELL_HEIGHT < height; term->rows++) putchar('\n');

@@ -287,10 +287,10 @@ size_t icysixel_get_drawn_height(icysixel *handle);
 size_t icysixel_get_rows_so_far(icysixel *handle);
 
 /* Returns the work of painting: how many columns of six pixels were written so far. A wide sixel
- * over columns that exist writes one number for each 128 of them. It counts as one column, and the
- * 128 columns count once they are written, when the band ends. The work is 0 if no image is open,
- * and after an error. It is at most twice the right edges of all bands of six rows together, and
- * 1151 for each sixel. */
+ * over columns that exist writes one number for each 128 of them, which counts as one column. The
+ * 128 columns themselves are written when the band ends, and count then. The work is at most twice
+ * the sum of the right edges of all bands of six rows, plus 1151 for each sixel. It is 0 if no
+ * image is open, and after an error. */
 uint64_t icysixel_get_canvas_paints(icysixel *handle);
 
 /* Copies `rows` final rows of the open image, from row `first` on, to `buf`. The first of them
