@@ -40,7 +40,7 @@ pub struct PaletteChoice {
 /// from its nearest entry so far, the least of those. An opaque pixel's index is that of its
 /// nearest entry, the first of those. Distances are sums of squared differences of the channels.
 ///
-/// No palette of as many colors, whatever they are, has an error below a fourth of this one's. The
+/// Any palette of the same size has at least a fourth of this error, whatever its colors. The
 /// witnesses prove it, because two of them share an entry of any such palette.
 ///
 /// # Errors
@@ -134,8 +134,8 @@ fn validate_pixels(pixels: &[u8]) -> Result<()> {
 
 /// Returns whether every two witnesses have a squared distance of at least `error`.
 ///
-/// If so, take any list of fewer colors: some witness has a squared distance of at least a fourth
-/// of `error` to each of them.
+/// If so, then for any list of fewer colors some witness has to each of these a squared distance of
+/// at least a fourth of `error`.
 #[must_use]
 pub fn witnesses_hold(witnesses: &[[u8; 3]], error: u32) -> bool {
     let is_apart = |(place, color): (usize, &[u8; 3])| {
