@@ -46,7 +46,7 @@ def gif():
 
 
 def jpeg():
-    """A grey image of 16x8 pixels whose EXIF data say that its left edge is the upper one."""
+    """A gray image of 16x8 pixels whose EXIF data say that its left edge is the upper one."""
     exif = b"Exif\0\0MM\0*\0\0\0\x08\0\1\x01\x12\0\3\0\0\0\1\0\6\0\0\0\0\0\0"
     parts = [(0xE1, exif), (0xDB, b"\0" + 64 * b"\1"), (0xC0, b"\x08\0\x08\0\x10\1\1\x11\0")]
     # Each Huffman table has the code 0 alone, for a difference of 0 and for the end of a block.
