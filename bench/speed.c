@@ -43,13 +43,13 @@ int main(int argc, char **argv)
     size_t length = 0, turns = argc > 2 ? strtoull(argv[2], NULL, 10) : 0;
     uint16_t colors = argc > 3 ? (uint16_t)strtoul(argv[3], NULL, 10) : 256;
     const char *kind = argc > 4 ? argv[4] : "";
+    size_t chunk = *kind ? strtoull(kind, NULL, 10) : SIZE_MAX;
     icysixel_shape shape = {0};
     int is_raw = turns > 0 && part_size(argv[1], &shape.width, &shape.height);
-    size_t chunk = *kind && !is_raw ? strtoull(kind, NULL, 10) : SIZE_MAX;
     icysixel_encoding encoding = {0, shape.width, shape.height, 9, 1, {0}, 0};
     uint8_t *bytes = turns > 0 ? read_file(argv[1], &length) : NULL;
     double *times = calloc(turns, sizeof *times);
-    if (bytes == NULL || times == NULL || chunk == 0)
+    if (bytes == NULL || times == NULL || (*kind && is_raw != (chunk == 0)))
         return fputs("usage: speed FILE TURNS [COLORS [CHUNK | KIND]]\n", stderr), 2;
     size_t text = length;
     icysixel handle = {0};
