@@ -22,11 +22,11 @@ LIBSIXEL = "sixel2png -i {file} -o - | convert png:- -depth 8 rgb:-"
 # ImageMagick 6 applies the palette of a SIXEL file only as it writes a format with a palette.
 IMAGEMAGICK = "convert six:{file} miff:- | convert miff:- -depth 8 rgb:-"
 
-# The summed errors of refined palettes of the pictures below, by the number of colors. They were
-# measured with this test on the library of November 2026, before the palette had a definition.
+# The summed errors of refined palettes of the pictures below, by the number of colors. They are
+# those of a model of the rule in docs/FORMAT.md.
 ERRORS = {
     "sky": {256: 136412, 64: 537342, 16: 2155383},
-    "rings": {256: 239394, 64: 1582324, 16: 6976510},
+    "rings": {256: 237718, 64: 1598323, 16: 7078477},
     "grain": {256: 588373, 64: 1585122, 16: 3839259},
 }
 SMALLEST = "convert ppm:{file} png24:- | img2sixel -E size -d none -p {few}"
@@ -200,7 +200,7 @@ class PaletteTest(unittest.TestCase):
                 self.assertEqual(properties.apart, apart)
 
     def test_error(self):
-        """The summed error of a refined palette is at most 1 % above the one measured."""
+        """The summed error of a refined palette is at most 1 % above the model's."""
         for (name, pixels), most in itertools.product(pictures().items(), (256, 64, 16)):
             colors, witnesses = (ctypes.create_string_buffer(3 * 257) for _ in range(2))
             found, properties = ctypes.create_string_buffer(len(pixels)), Refined()

@@ -10,7 +10,8 @@ use Rattle.sixel_base.specs.Payload.{Image}
 use Rattle.sixel_base.specs.declared.error.SixelError.{SixelError}
 use Rattle.sixel_palette.specs.Palette.{AreIndices, IsNearest, IsShown, color_at, nearest}
 use Rattle.sixel_palette.specs.Refined.{IsRefined, base_entries, cut_entries, opaque_number}
-use Rattle.sixel_palette.specs.Refined.{opaque_pixels, sum_to}
+use Rattle.sixel_palette.specs.Refined.{opaque_bins, opaque_pixels, sum_to}
+use Rattle.sixel_palette.specs.GainCut.{bin_step}
 use Rattle.sixel_palette.specs.declared.palette.refined.RefinedPalette.{RefinedPalette}
 use Rattle.sixel_palette.proofs.PaletteOne.{refined_same}
 use Rattle.sixel_palette.proofs.PaletteTops.{tops_alike}
@@ -96,8 +97,11 @@ pub IsRefined-other : (image other : Image) (max_colors : ℕ) (palette : Refine
     → IsRefined other.pixels max_colors palette
 IsRefined-other image other max_colors palette e is =
     let alike = AreAlike-images image other e in
-    let same : opaque_pixels image.pixels ≡ opaque_pixels other.pixels = λ i number.
-    pixels-same image.pixels other.pixels alike number i in
+    let colors = length is.members in
+    let same : opaque_bins image.pixels colors ≡ opaque_bins other.pixels colors = λ i. record {
+      sum = λ number. pixels-same image.pixels other.pixels alike number i;
+      step = bin_step colors;
+    } in
     let first = pixels-same image.pixels other.pixels alike (nearest palette.colors.items) in
     let initial = pixels-same image.pixels other.pixels alike (nearest palette.initial.items) in
     record {

@@ -1,6 +1,6 @@
 -- The table of bins: a bin with more pixels, and one bin more.
 use Rattle.std.proofs.Common.{◌≡◌, ℕ, zero, suc, ◌+◌, ◌*◌, ◌<◌, ◌≤◌, Bool, true, false, List, [], ◌∷◌, ◌++◌}
-use Rattle.std.proofs.Common.{length, get_or, set, cond, inl, inr, refl, ap, ⊎_elim}
+use Rattle.std.proofs.Common.{length, get_or, set, map, cond, inl, inr, refl, ap, ⊎_elim}
 use Rattle.std.proofs.Common.{sym, ◌∙◌, arith}
 use Rattle.std.specs.List.{All, sum_by}
 use Rattle.std.specs.Prelude.{◌/◌, ◌⊎◌, ◌≢◌}
@@ -8,6 +8,8 @@ use Rattle.std.proofs.lemmas.Bool.{cases_lt, cases_eq, false≢true}
 use Rattle.std.proofs.lemmas.Bool.Decides.{nat_tests}
 use Rattle.std.proofs.lemmas.List.{get_or-set_same, get_or-set_other, get_or_append_left, get_or_at}
 use Rattle.std.proofs.lemmas.List.{length_push, get_or-map, length-map}
+use Rattle.std.specs.List.Sorted.{IsStrictlyIncreasing}
+use Rattle.std.proofs.lemmas.List.Kept.{AllPairs-from_increasing}
 use Rattle.std.proofs.lemmas.List.Sums.{sum_by-set, sum_by-cons}
 use Rattle.sixel_palette.specs.declared.palette.bins.Bin.{Bin}
 use Rattle.sixel_palette.specs.declared.palette.color_sums.ColorSums.{ColorSums}
@@ -268,21 +270,50 @@ unfolding color_of
 red-le a b l = omega arith
 
 -- no pixel
-pub counted_none : (codes counts : List ℕ) (contains : List ℕ → Bool) (k : ℕ)
-    → sums_of (first_counted codes counts 0) (λ c. contains (corner c)) k ≡ 0
+pub counted_none : (step : ℕ) (codes counts : List ℕ) (contains : List ℕ → Bool) (k : ℕ)
+    → sums_of (first_counted step codes counts 0) (λ c. contains (corner step c)) k ≡ 0
 unfolding sum_to
-counted_none codes counts contains k = refl
+counted_none step codes counts contains k = refl
 
 -- the pixels of one color more
-pub counted_more : (codes counts : List ℕ) (n : ℕ) (contains : List ℕ → Bool) (k : ℕ)
-    → sums_of (first_counted codes counts (n + 1)) (λ c. contains (corner c)) k
-    ≡ sums_of (first_counted codes counts n) (λ c. contains (corner c)) k
-    + cond (contains (corner (color_of (get_or codes n 0))))
+pub counted_more : (step : ℕ) (codes counts : List ℕ) (n : ℕ) (contains : List ℕ → Bool) (k : ℕ)
+    → sums_of (first_counted step codes counts (n + 1)) (λ c. contains (corner step c)) k
+    ≡ sums_of (first_counted step codes counts n) (λ c. contains (corner step c)) k
+    + cond (contains (corner step (color_of (get_or codes n 0))))
     (get_or counts n 0 * share k (color_of (get_or codes n 0))) 0
-counted_more codes counts n contains k =
+counted_more step codes counts n contains k =
     let color = color_of (get_or codes n 0) in
     let f : ℕ → ℕ = λ i. get_or counts i 0
-    * cond (contains (corner (color_of (get_or codes i 0)))) (share k (color_of (get_or codes i 0))) 0 in
+    * cond (contains (corner step (color_of (get_or codes i 0)))) (share k (color_of (get_or codes i 0))) 0 in
     sum_to-more f n
     ∙ ap (λ m. sum_to f n + m)
-    (sym (cond_times (contains (corner color)) (get_or counts n 0) (share k color)))
+    (sym (cond_times (contains (corner step color)) (get_or counts n 0) (share k color)))
+
+-- ---- bins of one color each
+
+-- the bin of a color alone is the color
+pub corner-one : (c : List ℕ) → corner 1 c ≡ channels c
+corner-one c =
+    let one : (n : ℕ) → n / 1 ≡ n = λ n. omega arith in
+    λ i. one (get_or c 0 0) i ∷ one (get_or c 1 0) i ∷ one (get_or c 2 0) i ∷ []
+
+-- other codes are of other colors
+other_color : (a b : ℕ) → a < b → is_corner (color_of a) (color_of b) ≡ false
+unfolding color_of
+other_color a b l =
+    ⊎_elim (λ (e : is_corner (color_of a) (color_of b) ≡ true).
+    let same = is_corner-parts (color_of a) (color_of b) e in
+    absurd (omega (arith, same.0, same.1, same.2, l)))
+    (λ e. e) (either (is_corner (color_of a) (color_of b)))
+
+-- so the corners of colors differ
+pub colors_distinct : (codes : List ℕ) (corners : List (List ℕ)) → IsStrictlyIncreasing codes
+    → corners ≡ map color_of codes → (i j : ℕ) → i < j → j < length corners
+    → is_corner (get_or corners i []) (get_or corners j []) ≡ false
+colors_distinct codes corners up are i j l m =
+    let inside : j < length codes = omega (arith, m, ap length are, length-map codes color_of) in
+    let at : (k : ℕ) → k < length codes → get_or corners k [] ≡ color_of (get_or codes k 0) = λ k n.
+    ap (λ (xs : List (List ℕ)). get_or xs k []) are ∙ get_or-map color_of codes k 0 [] n in
+    rw (at i (omega arith), at j inside)
+    (other_color (get_or codes i 0) (get_or codes j 0)
+    (AllPairs-from_increasing codes up i j 0 l inside))

@@ -11,7 +11,9 @@ use Rattle.std.proofs.lemmas.List.{get_or_default}
 use Rattle.std.specs.List.{Contains}
 use Rattle.sixel_base.specs.Limits.{area_limit}
 use Rattle.sixel_palette.specs.Palette.{nearest, rank, color_at, no_entry, IsShown}
-use Rattle.sixel_palette.specs.Refined.{sum_to, pixel_error, opaque_number, opaque_pixels, summed_error}
+use Rattle.sixel_palette.specs.Refined.{sum_to, pixel_error, opaque_bins, opaque_number, opaque_pixels}
+use Rattle.sixel_palette.specs.Refined.{summed_error}
+use Rattle.sixel_palette.specs.GainCut.{bin_step}
 use Rattle.sixel_palette.specs.inside.PaletteCodes.{color_of, IsListed}
 use Rattle.sixel_palette.specs.inside.PaletteSums.{counted_pixels}
 use Rattle.sixel_palette.specs.inside.PaletteCounts.{dot, pixel_number, AreCounts, near_code}
@@ -314,13 +316,16 @@ dot-sum f (code ∷ codes) (x ∷ counts) e =
 
 -- the sum of the products is one over the pixels of the codes
 pub dot-counted : (number : List ℕ → ℕ) (codes counts : List ℕ) → length counts ≡ length codes
-    → dot counts (map (λ code. number (color_of code)) codes) ≡ counted_pixels codes counts number
+    → dot counts (map (λ code. number (color_of code)) codes) ≡ (counted_pixels codes counts).sum number
 dot-counted number codes counts e = dot-sum (λ code. number (color_of code)) codes counts e
 
 -- the pixels of the codes are the opaque pixels
 pub pixels_from_counts : (pixels codes counts : List ℕ) → ((k : ℕ) → get_or pixels k 0 < 256)
     → AreCounts pixels codes counts (length pixels / 4)
-    → counted_pixels codes counts ≡ opaque_pixels pixels
-pixels_from_counts pixels codes counts bytes h = λ i number.
-    (sym (dot-counted number codes counts h.same)
-    ∙ sums_from_counts number pixels codes counts bytes h) i
+    → counted_pixels codes counts ≡ opaque_bins pixels (length codes)
+pixels_from_counts pixels codes counts bytes h = λ i. record {
+  sum = λ number.
+      (sym (dot-counted number codes counts h.same)
+      ∙ sums_from_counts number pixels codes counts bytes h) i;
+  step = bin_step (length codes);
+}

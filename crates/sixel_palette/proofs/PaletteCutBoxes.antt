@@ -116,7 +116,9 @@ part_of_box pixels box test old new are same part = λ contains k.
     ∙ (are (λ c. test c && contains c) k
     ∙ (λ i.
     sums_of pixels
-    (λ c. and_assoc (box (corner c)) (test (corner c)) (contains (corner c)) i) k)))
+    (λ c.
+    and_assoc (box (corner pixels.step c)) (test (corner pixels.step c))
+    (contains (corner pixels.step c)) i) k)))
 
 pub bins_below : (pixels : Pixels) (box : Box) (channel : Channel) (value : ℕ) (old new : List Bin)
     → AreBinsOf pixels box old

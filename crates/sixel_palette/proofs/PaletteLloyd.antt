@@ -116,7 +116,7 @@ entry_of entries bin = nearest_index entries (mean_bytes (total bin.sums))
 pub entry_pixels : (pixels : Pixels) (entries : List (List ℕ)) (bins : List Bin) (index k : ℕ)
     → AreBinsOf pixels (λ _. true) bins → All (IsWholeBin pixels) bins
     → entry_sums (entry_of entries) bins index k
-    ≡ sums_of pixels (λ c. has_entry pixels entries index (corner c)) k
+    ≡ sums_of pixels (λ c. has_entry pixels entries index (corner pixels.step c)) k
 entry_pixels pixels entries bins index k are whole =
     sum_by_same (λ bin. cond (entry_of entries bin == index) (total bin.sums k) 0)
     (λ bin. cond (has_entry pixels entries index (channels bin.corner)) (total bin.sums k) 0) bins
@@ -137,7 +137,7 @@ pub moved_is : (pixels : Pixels) (entries moved : List (List ℕ)) (bins : List 
 moved_is pixels entries moved bins are whole size means =
     let n = length entries in
     let f : ℕ → List ℕ = λ index.
-    mean_or (sums_of pixels (λ c. has_entry pixels entries index (corner c)))
+    mean_or (sums_of pixels (λ c. has_entry pixels entries index (corner pixels.step c)))
     (get_or entries index []) in
     same_lists moved (map f (range_with_len 0 n))
     (omega (arith, size, length-map (range_with_len 0 n) f, length-range_with_len 0 n))
@@ -146,7 +146,7 @@ moved_is pixels entries moved bins are whole size means =
     get_or_default moved k d [] l
     ∙ (means k inside
     ∙ (mean_or-same (entry_sums (entry_of entries) bins k)
-    (sums_of pixels (λ c. has_entry pixels entries k (corner c))) (get_or entries k [])
+    (sums_of pixels (λ c. has_entry pixels entries k (corner pixels.step c))) (get_or entries k [])
     (λ j. entry_pixels pixels entries bins k j are whole)
     ∙ sym (get_or-map-range_with_len f 0 n k k d inside (omega arith)))))
 
@@ -155,7 +155,7 @@ moved_is pixels entries moved bins are whole size means =
 -- the error over the codes is a sum over their pixels
 pub error_counted : (entries : List (List ℕ)) (codes counts : List ℕ)
     → length counts ≡ length codes
-    → counted_error entries codes counts ≡ counted_pixels codes counts (nearest entries)
+    → counted_error entries codes counts ≡ (counted_pixels codes counts).sum (nearest entries)
 error_counted entries codes counts same = dot-counted (nearest entries) codes counts same
 
 pub improved_kept : (codes counts : List ℕ) (entries moved : List (List ℕ))
@@ -168,9 +168,9 @@ improved_kept codes counts entries moved same is l =
     let pixels = counted_pixels codes counts in
     let twice = moved_entries pixels (moved_entries pixels entries) in
     let here = error_counted entries codes counts same in
-    let there = error_counted moved codes counts same ∙ ap (λ m. pixels (nearest m)) is in
-    let less : pixels (nearest entries) ≤ pixels (nearest twice) = omega (arith, here, there, l) in
-    let test : nat_le (pixels (nearest entries)) (pixels (nearest twice)) ≡ true =
+    let there = error_counted moved codes counts same ∙ ap (λ m. pixels.sum (nearest m)) is in
+    let less : pixels.sum (nearest entries) ≤ pixels.sum (nearest twice) = omega (arith, here, there, l) in
+    let test : nat_le (pixels.sum (nearest entries)) (pixels.sum (nearest twice)) ≡ true =
     grind (arith, nat_tests, less) in
     sym (ap (λ t. cond t entries twice) test)
 
@@ -184,8 +184,8 @@ improved_taken codes counts entries moved same is l =
     let pixels = counted_pixels codes counts in
     let twice = moved_entries pixels (moved_entries pixels entries) in
     let here = error_counted entries codes counts same in
-    let there = error_counted moved codes counts same ∙ ap (λ m. pixels (nearest m)) is in
-    let more : pixels (nearest twice) < pixels (nearest entries) = omega (arith, here, there, l) in
-    let test : nat_le (pixels (nearest entries)) (pixels (nearest twice)) ≡ false =
+    let there = error_counted moved codes counts same ∙ ap (λ m. pixels.sum (nearest m)) is in
+    let more : pixels.sum (nearest twice) < pixels.sum (nearest entries) = omega (arith, here, there, l) in
+    let test : nat_le (pixels.sum (nearest entries)) (pixels.sum (nearest twice)) ≡ false =
     grind (arith, nat_tests, more) in
     is ∙ sym (ap (λ t. cond t entries twice) test)

@@ -4,9 +4,10 @@ use Rattle.std.proofs.Common.{map, take, refl, ap, sym, subst, ⊎_elim, add-one
 use Rattle.std.specs.List.{All, AllPairs, Contains}
 use Rattle.std.proofs.lemmas.Bool.{cases_lt}
 use Rattle.std.proofs.lemmas.List.{length-append, length-map, take_all, take_more_same}
+use Rattle.sixel_palette.specs.GainCut.{bin_step}
 use Rattle.sixel_palette.specs.Palette.{AreMembers, IsShown, rank}
 use Rattle.sixel_palette.specs.Refined.{AreOnTop, IsFarOff, IsRefined, base_entries, cut_entries}
-use Rattle.sixel_palette.specs.Refined.{opaque_pixels, register_color}
+use Rattle.sixel_palette.specs.Refined.{opaque_bins, opaque_pixels, register_color}
 use Rattle.sixel_palette.specs.declared.palette.refined.RefinedPalette.{RefinedPalette}
 use Rattle.sixel_palette.proofs.PaletteChoices.{IsColor-shown}
 use Rattle.sixel_palette.proofs.PaletteColors.{IsColor, same_from_rank}
@@ -154,7 +155,8 @@ refined_same p q max_colors x y bytes to from same f g =
     IsColor-shown p c (byte-get_or p bytes) m in
     let members : f.members ≡ g.members =
     members_same (IsShown p) (IsShown q) to from color f.members g.members f.are g.are in
-    let pixels : opaque_pixels p ≡ opaque_pixels q = λ i number. same number i in
+    let pixels : opaque_bins p (length f.members) ≡ opaque_bins q (length g.members) = λ i.
+    record { sum = λ number. same number i; step = bin_step (length (members i)) } in
     ⊎_elim (λ (many : max_colors < length f.members).
     let mine = f.cut many in
     let yours = g.cut (omega (arith, many, ap length members)) in

@@ -37,7 +37,7 @@ and_true false = refl
 pub all_sums : (pixels : Pixels) (box : Box) (bins : List Bin) → AreBinsOf pixels box bins
     → (k : ℕ) → sum_by (λ bin. total bin.sums k) bins ≡ box_sums pixels box k
 all_sums pixels box bins are k =
-    are (λ _. true) k ∙ (λ i. sums_of pixels (λ c. and_true (box (corner c)) i) k)
+    are (λ _. true) k ∙ (λ i. sums_of pixels (λ c. and_true (box (corner pixels.step c)) i) k)
 
 -- bins in another order have the same pixels
 pub bins_moved : (pixels : Pixels) (box : Box) (old new : List Bin) → IsPermutation old new

@@ -4,9 +4,11 @@ use Rattle.std.specs.Prelude.{ℕ, ◌+◌, ◌*◌, ◌/◌, ◌==◌, zero, su
 use Rattle.std.specs.Prelude.{if◌then◌else◌}
 use Rattle.sixel_base.specs.Color.{rgb}
 
--- the pixels of an image, by the sum over them of any number of a pixel's color
-abbrev pub Pixels : Type 0
-Pixels = (List ℕ → ℕ) → ℕ
+-- the pixels of an image in bins: the sum over them of any number of a pixel's color, and how many
+-- values a channel has within a bin
+pub record Pixels : Type 0 where
+  pub sum : (List ℕ → ℕ) → ℕ
+  pub step : ℕ
 
 -- what a color adds to the sums: 1 to the number of pixels, which is at 0, and its red, green and
 -- blue to the sums of these channels, which are at 1, 2 and 3
@@ -18,7 +20,7 @@ share (suc (suc (suc _))) c = slice_index c 2
 
 -- the sums over the pixels whose color is in a set
 abbrev pub sums_of : Pixels → (List ℕ → Bool) → ℕ → ℕ
-sums_of pixels contains k = pixels (λ c. if contains c then share k c else 0)
+sums_of pixels contains k = pixels.sum (λ c. if contains c then share k c else 0)
 
 -- the mean of a channel as a percentage of 255, rounded
 abbrev pub mean_percent : ℕ → ℕ → ℕ

@@ -1,7 +1,7 @@
 -- Boxes of colors, cut in two where the summed squared error falls most (X. Wu, "Color quantization
 -- by dynamic programming and principal analysis", 1992). The gain is in sixteenths and rounded down.
 -- Ties are this library's.
-use Rattle.std.specs.Prelude.{ℕ, ◌+◌, ◌-◌, ◌*◌, ◌/◌, ◌%◌, ◌==◌, ◌&&◌, ◌||◌, zero, suc, Bool, true}
+use Rattle.std.specs.Prelude.{ℕ, ◌+◌, ◌-◌, ◌*◌, ◌/◌, ◌==◌, ◌&&◌, ◌||◌, zero, suc, Bool, true}
 use Rattle.std.specs.Prelude.{nat_le, nat_lt, if◌then◌else◌, List, [], ◌∷◌, ◌++◌, length, map}
 use Rattle.std.specs.Prelude.{slice_index, slice_index_or, slice_set}
 use Rattle.std.specs.Int.{abs_diff}
@@ -10,9 +10,18 @@ use Rattle.sixel_palette.specs.declared.palette.gain_cut.Channel.{Channel}
 use Rattle.sixel_palette.specs.declared.palette.gain_cut.Cut.{Cut}
 use Rattle.sixel_palette.specs.ColorSums.{Pixels, sums_of, mean_or}
 
--- the six highest bits of each channel of a color
-abbrev pub corner : List ℕ → List ℕ
-corner c = slice_index c 0 / 4 ∷ slice_index c 1 / 4 ∷ slice_index c 2 / 4 ∷ []
+-- the greatest number of colors of which each is a bin of its own
+abbrev pub few_colors : ℕ
+few_colors = 4096
+
+-- how many values a channel has within a bin, by the number of colors. Of more colors, those whose
+-- channels have the same six highest bits are one bin.
+abbrev pub bin_step : ℕ → ℕ
+bin_step colors = if nat_le colors few_colors then 1 else 4
+
+-- the bin of a color
+abbrev pub corner : ℕ → List ℕ → List ℕ
+corner step c = slice_index c 0 / step ∷ slice_index c 1 / step ∷ slice_index c 2 / step ∷ []
 
 -- a box is a set of corners
 abbrev pub Box : Type 0
@@ -26,7 +35,7 @@ channel_place Channel.Blue = 2
 
 -- the value of a channel of a corner
 abbrev pub side : Channel → List ℕ → ℕ
-side channel corner = slice_index corner (channel_place channel) % 64
+side channel corner = slice_index corner (channel_place channel)
 
 -- the part of a box up to a value of a channel, and the part above it
 abbrev pub below : Box → Channel → ℕ → Box
@@ -37,7 +46,7 @@ above box channel value corner = box corner && nat_lt value (side channel corner
 
 -- the sums over the pixels of a box
 abbrev pub box_sums : Pixels → Box → ℕ → ℕ
-box_sums pixels box = sums_of pixels (λ c. box (corner c))
+box_sums pixels box = sums_of pixels (λ c. box (corner pixels.step c))
 
 -- a mean in 256ths, rounded down, and the square of the difference of two means
 abbrev pub fine_mean : ℕ → ℕ → ℕ
@@ -74,7 +83,7 @@ best_to gains channel (suc value) cut =
 
 -- the best cut of a box along a channel, if it is better than a cut
 abbrev pub best_along : Pixels → Box → Channel → Cut → Cut
-best_along pixels box channel cut = best_to (cut_gain pixels box channel) channel 63 cut
+best_along pixels box channel cut = best_to (cut_gain pixels box channel) channel 255 cut
 
 -- the best cut of a box
 abbrev pub best_cut : Pixels → Box → Cut

@@ -1,6 +1,5 @@
 -- Lloyd's algorithm (S. P. Lloyd, "Least squares quantization in PCM", 1982): each entry moves to
--- the mean of the pixels that have it. All pixels of a bin have the entry nearest to their mean. A
--- bin is of the colors whose channels have the same six highest bits.
+-- the mean of the pixels that have it. All pixels of a bin have the entry nearest to their mean.
 use Rattle.std.specs.Prelude.{ℕ, ◌/◌, ◌==◌, ◌&&◌, suc, Bool, nat_le, if◌then◌else◌, List, [], ◌∷◌}
 use Rattle.std.specs.Prelude.{length, map, slice_index, slice_index_or}
 use Rattle.std.specs.List.{range_with_len}
@@ -20,7 +19,7 @@ mean_bytes sums = sums 1 / sums 0 ∷ sums 2 / sums 0 ∷ sums 3 / sums 0 ∷ []
 
 -- the mean color of the bin of a corner
 abbrev pub bin_mean : Pixels → List ℕ → List ℕ
-bin_mean pixels place = mean_bytes (sums_of pixels (λ c. is_corner place (corner c)))
+bin_mean pixels place = mean_bytes (sums_of pixels (λ c. is_corner place (corner pixels.step c)))
 
 -- the palette index of the nearest entry, the first of those
 unfoldable pub nearest_index : List (List ℕ) → List ℕ → ℕ
@@ -37,13 +36,13 @@ abbrev pub moved_entries : Pixels → List (List ℕ) → List (List ℕ)
 moved_entries pixels entries =
     map
     (λ index.
-    mean_or (sums_of pixels (λ c. has_entry pixels entries index (corner c)))
+    mean_or (sums_of pixels (λ c. has_entry pixels entries index (corner pixels.step c)))
     (slice_index_or entries index []))
     (range_with_len 0 (length entries))
 
 -- the entries after two rounds if these lower the summed squared error
 abbrev pub improved_entries : Pixels → List (List ℕ) → List (List ℕ)
 improved_entries pixels entries =
-    if nat_le (pixels (nearest entries))
-    (pixels (nearest (moved_entries pixels (moved_entries pixels entries)))) then entries
+    if nat_le (pixels.sum (nearest entries))
+    (pixels.sum (nearest (moved_entries pixels (moved_entries pixels entries)))) then entries
     else moved_entries pixels (moved_entries pixels entries)

@@ -9,7 +9,7 @@ use Rattle.sixel_palette.specs.declared.palette.refined.RefinedPalette.{RefinedP
 use Rattle.sixel_palette.specs.Palette.{nearest, color_at, IsShown, AreMembers}
 use Rattle.sixel_palette.specs.Palette.{AreIndices, IsFarthest}
 use Rattle.sixel_palette.specs.ColorSums.{Pixels}
-use Rattle.sixel_palette.specs.GainCut.{Box, box_colors, boxes_after, is_final}
+use Rattle.sixel_palette.specs.GainCut.{Box, bin_step, box_colors, boxes_after, is_final}
 use Rattle.sixel_palette.specs.Lloyd.{improved_entries}
 use Rattle.sixel_palette.specs.PaletteBound.{IsLeastApart, NoListIsBetter}
 
@@ -36,9 +36,13 @@ abbrev pub opaque_number : (List ℕ → ℕ) → List ℕ → ℕ → ℕ
 opaque_number number pixels pixel =
     if nat_lt (slice_index pixels (4 * pixel + 3)) 128 then 0 else number (color_at pixels pixel)
 
--- the opaque pixels of an image, by the sum over them of any number of a pixel's color
-abbrev pub opaque_pixels : List ℕ → Pixels
+-- the sum over the opaque pixels of an image of any number of a pixel's color
+abbrev pub opaque_pixels : List ℕ → (List ℕ → ℕ) → ℕ
 opaque_pixels pixels number = sum_to (opaque_number number pixels) (length pixels / 4)
+
+-- the opaque pixels of an image in bins, by its number of opaque colors
+abbrev pub opaque_bins : List ℕ → ℕ → Pixels
+opaque_bins pixels colors = record { sum = opaque_pixels pixels; step = bin_step colors }
 
 -- the squared distance of a pixel's color to its nearest entry, 0 for a transparent pixel
 abbrev pub pixel_error : List (List ℕ) → List ℕ → ℕ → ℕ
@@ -97,8 +101,8 @@ pub record IsRefined (pixels : List ℕ) (max_colors : ℕ) (palette : RefinedPa
   -- otherwise they are those of the boxes after the rounds, and then those on top
   pub base : List (List ℕ)
   pub cut : max_colors < length members
-      → (palette.initial.items ≡ cut_entries (opaque_pixels pixels) max_colors)
-      × (base ≡ base_entries (opaque_pixels pixels) max_colors)
+      → (palette.initial.items ≡ cut_entries (opaque_bins pixels (length members)) max_colors)
+      × (base ≡ base_entries (opaque_bins pixels (length members)) max_colors)
   pub top : AreOnTop (IsShown pixels) max_colors base palette.colors.items palette.witnesses.items
   pub indices : AreIndices pixels palette.colors.items palette.indices.items
   -- the error is the true sum, and at most that of the entries before the rounds

@@ -6,7 +6,7 @@ use Rattle.std.specs.List.{sum_by}
 use Rattle.sixel_palette.specs.declared.palette.bins.Bin.{Bin}
 use Rattle.sixel_palette.specs.declared.palette.color_sums.ColorSums.{ColorSums}
 use Rattle.sixel_palette.specs.ColorSums.{Pixels, sums_of}
-use Rattle.sixel_palette.specs.GainCut.{Box, corner}
+use Rattle.sixel_palette.specs.GainCut.{Box, bin_step, corner}
 use Rattle.sixel_palette.specs.Lloyd.{is_corner}
 use Rattle.sixel_palette.specs.Refined.{sum_to}
 use Rattle.sixel_palette.specs.inside.PaletteCodes.{color_of}
@@ -19,13 +19,16 @@ total sums (suc (suc zero)) = sums.green
 total sums (suc (suc (suc _))) = sums.blue
 
 -- the pixels of the first colors of a list of codes with counts
-abbrev pub first_counted : List ℕ → List ℕ → ℕ → Pixels
-first_counted codes counts n number =
-    sum_to (λ k. slice_index counts k * number (color_of (slice_index codes k))) n
+abbrev pub first_counted : ℕ → List ℕ → List ℕ → ℕ → Pixels
+first_counted step codes counts n = record {
+  sum = λ number. sum_to (λ k. slice_index counts k * number (color_of (slice_index codes k))) n;
+  step = step;
+}
 
 -- the pixels of all of them
 abbrev pub counted_pixels : List ℕ → List ℕ → Pixels
-counted_pixels codes counts = first_counted codes counts (length codes)
+counted_pixels codes counts =
+    first_counted (bin_step (length codes)) codes counts (length codes)
 
 -- the three channels of a color
 abbrev pub channels : List ℕ → List ℕ
@@ -41,12 +44,12 @@ abbrev pub AreBinsOf : Pixels → Box → List Bin → Type 0
 AreBinsOf pixels box bins =
     (contains : List ℕ → Bool) (k : ℕ)
     → binned_sums contains bins k
-    ≡ sums_of pixels (λ c. box (corner c) && contains (corner c)) k
+    ≡ sums_of pixels (λ c. box (corner pixels.step c) && contains (corner pixels.step c)) k
 
 -- the bin is of all pixels with its corner
 abbrev pub IsWholeBin : Pixels → Bin → Type 0
 IsWholeBin pixels bin =
-    (k : ℕ) → total bin.sums k ≡ sums_of pixels (λ c. is_corner bin.corner (corner c)) k
+    (k : ℕ) → total bin.sums k ≡ sums_of pixels (λ c. is_corner bin.corner (corner pixels.step c)) k
 
 -- the sums of the first sums of a list, and of the others
 abbrev pub prefix_sums : List ColorSums → ℕ → ℕ → ℕ

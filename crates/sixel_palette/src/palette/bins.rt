@@ -1,4 +1,4 @@
-//! A histogram of colors by the six highest bits of each channel.
+//! Colors with their pixels in bins: one of each color, or a histogram of many colors.
 
 ghost use Rattle.std.specs.Prelude.{◌≡◌, ◌+◌, ◌*◌, ◌/◌, ◌<◌, ◌≤◌, ℕ, List, length, All, IfOk};
 ghost use Rattle.std.specs.Prelude.{OnOk, Bool, true, slice_index, if◌then◌else◌};
@@ -11,7 +11,7 @@ ghost use Rattle.sixel_palette.specs.Lloyd.{is_corner};
 ghost use Rattle.sixel_palette.specs.inside.PaletteBins.{IsTable, corners_of};
 ghost use Rattle.sixel_palette.specs.inside.PaletteCodes.{AreColorCodes};
 ghost use Rattle.sixel_palette.specs.inside.PaletteSums.{AreBinsOf, IsWholeBin, binned_sums};
-ghost use Rattle.sixel_palette.specs.inside.PaletteSums.{counted_pixels, total};
+ghost use Rattle.sixel_palette.specs.inside.PaletteSums.{counted_pixels, first_counted, total};
 
 use crate::palette::color_sums::ColorSums;
 use crate::palette::colors::color_of;
@@ -20,7 +20,10 @@ use std::alloc::{AllocError, Global};
 /// How many bins have the same red.
 const SLAB: usize = 4096;
 
-/// The pixels whose channels have the same six highest bits.
+/// The greatest number of colors of which each is a bin of its own.
+const FEW_COLORS: usize = 4096;
+
+/// The pixels of a color, or of the colors whose channels have the same six highest bits.
 #[derive(Clone, Copy)]
 pub struct Bin {
     pub corner: [u8; 3],
@@ -37,6 +40,44 @@ pub fn bins_of(alloc: Global, codes: &[u32], counts: &[u32]) -> Result<Vec<Bin>,
         AreBinsOf (counted_pixels codes.now counts.now) (λ _. true) bins.items) }
     ensures whole { IfOk result (λ bins.
         All (IsWholeBin (counted_pixels codes.now counts.now)) bins.items) }
+{
+    if codes.len() > FEW_COLORS {
+        histogram(alloc, codes, counts)
+    } else {
+        color_bins(alloc, codes, counts)
+    }
+}
+
+/// A bin for each color.
+fn color_bins(alloc: Global, codes: &[u32], counts: &[u32]) -> Result<Vec<Bin>, AllocError>
+    requires small { AreColorCodes codes.now }
+    requires ascending { IsStrictlyIncreasing codes.now }
+    requires weighed { IsWeighed codes.now counts.now }
+    ensures few { IfOk result (λ bins. binned_pixels bins.items ≤ area_limit) }
+    ensures bins { IfOk result (λ bins. AreBinsOf
+        (first_counted 1 codes.now counts.now (length codes.now)) (λ _. true) bins.items) }
+    ensures whole { IfOk result (λ bins. All
+        (IsWholeBin (first_counted 1 codes.now counts.now (length codes.now))) bins.items) }
+{
+    let mut bins = Vec::with_capacity(alloc, codes.len())?;
+    for index in 0..codes.len() {
+        let corner = color_of(codes[index]);
+        let sums = ColorSums::of(corner, counts[index]);
+        bins.push(Bin { corner, sums })?;
+    }
+    Ok(bins)
+}
+
+/// The bins of colors by the six highest bits of each channel.
+fn histogram(alloc: Global, codes: &[u32], counts: &[u32]) -> Result<Vec<Bin>, AllocError>
+    requires small { AreColorCodes codes.now }
+    requires ascending { IsStrictlyIncreasing codes.now }
+    requires weighed { IsWeighed codes.now counts.now }
+    ensures few { IfOk result (λ bins. binned_pixels bins.items ≤ area_limit) }
+    ensures bins { IfOk result (λ bins. AreBinsOf
+        (first_counted 4 codes.now counts.now (length codes.now)) (λ _. true) bins.items) }
+    ensures whole { IfOk result (λ bins. All
+        (IsWholeBin (first_counted 4 codes.now counts.now (length codes.now))) bins.items) }
 {
     let mut positions = vec![in alloc; 0; SLAB]?;
     let mut bins = Vec::new(alloc);
@@ -60,10 +101,10 @@ fn push_bins(
     requires ascending { IsStrictlyIncreasing codes.now }
     requires weighed { IsWeighed codes.now counts.now }
     ensures few { OnOk result (binned_pixels bins.new.items ≤ area_limit) }
-    ensures bins { OnOk result
-        (AreBinsOf (counted_pixels codes.now counts.now) (λ _. true) bins.new.items) }
-    ensures whole { OnOk result
-        (All (IsWholeBin (counted_pixels codes.now counts.now)) bins.new.items) }
+    ensures bins { OnOk result (AreBinsOf
+        (first_counted 4 codes.now counts.now (length codes.now)) (λ _. true) bins.new.items) }
+    ensures whole { OnOk result (All
+        (IsWholeBin (first_counted 4 codes.now counts.now (length codes.now))) bins.new.items) }
 {
     for index in 0..codes.len() {
         let color = color_of(codes[index]);
@@ -83,13 +124,14 @@ fn add_color(
 ) -> Result<(), AllocError>
     requires positions { length positions.old ≡ 4096 }
     requires few { binned_pixels bins.old.items + sums.count ≤ area_limit }
-    requires table { IsTable (corners_of bins.old.items) positions.old (slice_index (corner color) 0) }
+    requires table { IsTable (corners_of bins.old.items) positions.old
+        (slice_index (corner 4 color) 0) }
     ensures pixels { OnOk result
         (binned_pixels bins.new.items ≡ binned_pixels bins.old.items + sums.count) }
     ensures sums { OnOk result ((contains : List ℕ → Bool) (k : ℕ)
         → binned_sums contains bins.new.items k ≡ binned_sums contains bins.old.items k
-        + (if contains (corner color) then total sums k else 0)) }
-    ensures table { OnOk result ((red : ℕ) → slice_index (corner color) 0 ≤ red
+        + (if contains (corner 4 color) then total sums k else 0)) }
+    ensures table { OnOk result ((red : ℕ) → slice_index (corner 4 color) 0 ≤ red
         → IsTable (corners_of bins.old.items) positions.old red
         → IsTable (corners_of bins.new.items) positions.new red) }
     ensures positions { OnOk result (length positions.new ≡ length positions.old) }

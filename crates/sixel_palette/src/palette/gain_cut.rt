@@ -16,7 +16,7 @@ ghost use Rattle.sixel_palette.specs.inside.PaletteBoxes.{summed_pixels};
 ghost use Rattle.sixel_base.specs.Color.{rgb};
 ghost use Rattle.sixel_palette.specs.ColorSums.{Pixels, mean_or};
 ghost use Rattle.sixel_palette.specs.GainCut.{Box, best_along, best_cut, best_to, box_at};
-ghost use Rattle.sixel_palette.specs.GainCut.{box_colors, box_sums, boxes_after, channel_place};
+ghost use Rattle.sixel_palette.specs.GainCut.{box_colors, box_sums, boxes_after};
 ghost use Rattle.sixel_palette.specs.GainCut.{cut_at, first_greatest, is_final, side};
 ghost use Rattle.sixel_palette.specs.declared.palette.gain_cut.ColorBox.{ColorBox};
 ghost use Rattle.sixel_palette.specs.declared.palette.color_sums.ColorSums.{ColorSums};
@@ -30,7 +30,7 @@ use crate::palette::register_color::percent_color;
 use std::alloc::{AllocError, Global};
 
 /// How many values a channel of a bin's corner has.
-const SIDES: usize = 64;
+const SIDES: usize = 256;
 
 /// A box of colors: a range of bins, and its best cut.
 #[derive(Clone, Copy)]
@@ -61,20 +61,6 @@ enum Channel {
     Red,
     Green,
     Blue,
-}
-
-impl Channel {
-    /// The channel of a bin's corner.
-    #[inline(always)]
-    fn of(self, bin: &Bin) -> u8
-        ensures { result ≡ slice_index bin.now.corner (channel_place self) }
-    {
-        match self {
-            Channel::Red => bin.corner[0],
-            Channel::Green => bin.corner[1],
-            Channel::Blue => bin.corner[2],
-        }
-    }
 }
 
 /// The bins in boxes, at most `room`. The bins are reordered.
@@ -151,8 +137,8 @@ fn push_boxes(
     requires room { 0 < room }
     requires none { length boxes.old.items ≡ 0 }
     requires few { binned_pixels bins.old ≤ area_limit }
-    requires lower { length lower.old ≡ 64 }
-    requires upper { length upper.old ≡ 64 }
+    requires lower { length lower.old ≡ 256 }
+    requires upper { length upper.old ≡ 256 }
     ensures room { OnOk result (length boxes.new.items ≤ room) }
     ensures some { OnOk result (0 < length boxes.new.items) }
     ensures ranges { OnOk result (AreRanges (length bins.new) boxes.new.items) }
@@ -182,8 +168,8 @@ fn cut_in_two(
     requires position { position < length boxes.old.items }
     requires ranges { AreRanges (length bins.old) boxes.old.items }
     requires few { binned_pixels bins.old ≤ area_limit }
-    requires lower { length lower.old ≡ 64 }
-    requires upper { length upper.old ≡ 64 }
+    requires lower { length lower.old ≡ 256 }
+    requires upper { length upper.old ≡ 256 }
     ensures moved { OnOk result (IsPermutation bins.old bins.new) }
     ensures one_more { OnOk result (length boxes.new.items ≡ length boxes.old.items + 1) }
     ensures ranges { OnOk result (AreRanges (length bins.old) boxes.new.items) }
@@ -251,8 +237,8 @@ fn box_of(
     requires order { start ≤ end }
     requires within { end ≤ length bins.now }
     requires few { binned_pixels bins.now ≤ area_limit }
-    requires lower { length lower.old ≡ 64 }
-    requires upper { length upper.old ≡ 64 }
+    requires lower { length lower.old ≡ 256 }
+    requires upper { length upper.old ≡ 256 }
     ensures start { result.start ≡ start }
     ensures end { result.end ≡ end }
     ensures cut { (pixels : Pixels) (box : Box)
@@ -286,8 +272,8 @@ fn cut_along(
     cut: Cut,
 ) -> Cut
     requires few { binned_pixels bins.now ≤ area_limit }
-    requires lower { length lower.old ≡ 64 }
-    requires upper { length upper.old ≡ 64 }
+    requires lower { length lower.old ≡ 256 }
+    requires upper { length upper.old ≡ 256 }
     ensures { (pixels : Pixels) (box : Box) → AreBinsOf pixels box bins.now
         → result ≡ best_along pixels box channel cut }
 {
@@ -299,18 +285,12 @@ fn cut_along(
     best_cut(lower, upper, channel, sides, cut)
 }
 
-/// The least and the greatest value of a channel, or of all if there are many bins.
+/// The least and the greatest value of a channel.
 fn sides_of(bins: &[Bin], channel: Channel) -> Sides
     ensures order { result.low ≤ result.high }
-    ensures high { result.high < 64 }
+    ensures high { result.high < 256 }
     ensures within { AreWithin channel result bins.now }
 {
-    if bins.len() > SIDES {
-        return Sides {
-            low: 0,
-            high: SIDES - 1,
-        };
-    }
     let mut low = SIDES - 1;
     let mut high = 0;
     for bin in bins {
@@ -328,9 +308,13 @@ fn sides_of(bins: &[Bin], channel: Channel) -> Sides
 #[inline(always)]
 fn side_of(bin: &Bin, channel: Channel) -> usize
     ensures value { result ≡ side channel bin.now.corner }
-    ensures small { result < 64 }
+    ensures small { result < 256 }
 {
-    usize::from(channel.of(bin)) % SIDES
+    usize::from(match channel {
+        Channel::Red => bin.corner[0],
+        Channel::Green => bin.corner[1],
+        Channel::Blue => bin.corner[2],
+    })
 }
 
 /// Sums the bins of each value of a channel, from the least value on.
@@ -378,7 +362,7 @@ fn best_cut(
 ) -> Cut
     requires few { summed_pixels lower.now ≤ area_limit }
     requires order { sides.low ≤ sides.high }
-    requires high { sides.high < 64 }
+    requires high { sides.high < 256 }
     requires lower { length lower.now ≡ sides.high + 1 - sides.low }
     requires upper { length upper.now ≡ length lower.now }
     requires sums { (j k : ℕ) (d : ColorSums) → j < length lower.now

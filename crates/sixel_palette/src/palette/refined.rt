@@ -63,9 +63,9 @@ pub struct Start {
 /// at most `max_colors` entries, 1 to 256, each a color that a register shows. If the opaque pixels
 /// have at most `max_colors` colors, each of these has its entry, rounded to percentages. Otherwise
 /// the colors are cut into boxes, one after the other where the summed squared error falls most.
-/// Two rounds of Lloyd's algorithm move the entries if that lowers the error. They take together
-/// the colors whose channels have the same six highest bits. At last come entries farthest first,
-/// `max_colors / 16` or more.
+/// Two rounds of Lloyd's algorithm move the entries if that lowers the error. With more than 4,096
+/// colors, cuts and rounds take those together whose channels have the same six highest bits. At
+/// last come entries farthest first, `max_colors / 16` or more.
 ///
 /// The witnesses certify these: no list of fewer colors than there are witnesses, whatever they
 /// are, has an entry nearer to each witness than by a fourth of `apart`.

@@ -25,8 +25,8 @@ returns-then-is_corner-clause-sums c = λ contains k.
     c.index-then-is_corner.ensures ∙ get_or_default bins place c.index-then-is_corner.result.now old within
     ∙ sym c.index_mut.ensures.value in
     sums_more bins place old (record { corner = old.corner; sums = c.plus.result }) c.args.sums
-    (corner c.args.color) within c.index_mut.ensures.value
-    (subst (λ (b : Bin). is_corner b.corner (corner c.args.color) ≡ true) first
+    (corner 4 c.args.color) within c.index_mut.ensures.value
+    (subst (λ (b : Bin). is_corner b.corner (corner 4 c.args.color) ≡ true) first
     (sym c.if-is_corner.ensures))
     refl
     (λ k. subst (λ (b : Bin). total c.plus.result k ≡ total b.sums k + total c.args.sums k) second
@@ -48,7 +48,7 @@ pub returns-clause-table : goal.returns-clause-table
 returns-clause-table c = λ red l h.
     let bins = c.args.bins.now.items in
     let positions = c.args.positions.now in
-    let color = corner c.args.color in
+    let color = corner 4 c.args.color in
     let size : length (corners_of bins) ≡ length bins = length-map bins (λ (b : Bin). b.corner) in
     let place : c.from.result * 64 + c.from-2.result ≡ cell color =
     omega (arith, c.from.ensures, c.from-2.ensures) in

@@ -3,7 +3,7 @@ use Rattle.std.proofs.lemmas.List.{nil_from_length}
 use Rattle.std.proofs.lemmas.List.Sums.{sum_by_more, sum_by_more_le, sum_by-take-le, get_or-le-sum_by}
 use Rattle.sixel_palette.specs.GainCut.{corner}
 use Rattle.sixel_palette.specs.inside.PaletteCodes.{color_of}
-use Rattle.sixel_palette.specs.inside.PaletteSums.{counted_pixels}
+use Rattle.sixel_palette.specs.inside.PaletteSums.{first_counted}
 use Rattle.sixel_palette.proofs.PaletteBins.{counted_more, counted_none, red-le, table_none, whole_bins}
 use Rattle.sixel_palette.proofs.PaletteBoxes.{weighed-sum}
 use Rattle.sixel_palette.proofs.PaletteLists.{increasing-le}
@@ -51,7 +51,7 @@ loop-index-init c =
     rw none (record {
       positions = c.requires.positions;
       pixels = refl;
-      sums = λ contains k. sym (counted_none c.args.codes.now c.args.counts.now contains k);
+      sums = λ contains k. sym (counted_none 4 c.args.codes.now c.args.counts.now contains k);
       table = λ k l m. table_none c.args.positions.now _;
       distinct = λ i j l m. absurd (omega arith);
     })
@@ -77,15 +77,15 @@ loop-index-preserved c =
       sums = λ contains k.
           added.sums contains k
           ∙ rw (h.sums contains k, c.of-sums.ensures.sums k, c.color_of-color.ensures)
-          (sym (counted_more codes counts index contains k));
+          (sym (counted_more 4 codes counts index contains k));
       table = λ k l m.
-          added.table (get_or (corner (color_of (get_or codes k 0))) 0 0)
+          added.table (get_or (corner 4 (color_of (get_or codes k 0))) 0 0)
           (rw c.color_of-color.ensures
           (red-le (get_or codes index 0) (get_or codes k 0)
           (increasing-le codes c.requires.ascending index k (omega arith) m)))
           (h.table k (omega arith) m);
       distinct =
-          (added.table (get_or (corner color) 0 0) (rw c.color_of-color.ensures (omega arith))
+          (added.table (get_or (corner 4 color) 0 0) (rw c.color_of-color.ensures (omega arith))
           (h.table index (omega arith) (omega arith))).distinct;
     }
 
@@ -96,5 +96,7 @@ returns-clause-bins c = λ contains k.
 
 pub returns-clause-whole : goal.returns-clause-whole
 returns-clause-whole c =
-    whole_bins (counted_pixels c.args.codes.now c.args.counts.now) c.loop-index.bins.items
+    whole_bins
+    (first_counted 4 c.args.codes.now c.args.counts.now (length c.args.codes.now))
+    c.loop-index.bins.items
     (returns-clause-bins c) c.loop-index.invariant.distinct

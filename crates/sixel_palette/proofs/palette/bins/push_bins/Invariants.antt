@@ -14,10 +14,10 @@ invariant-loop-index l = record {
   positions : length l.positions ≡ 4096;
   pixels : binned_pixels l.bins.items ≡ sum (take l.index l.counts);
   sums : (contains : List ℕ → Bool) (k : ℕ) → binned_sums contains l.bins.items k
-      ≡ sums_of (first_counted l.codes l.counts l.index) (λ c. contains (corner c)) k;
+      ≡ sums_of (first_counted 4 l.codes l.counts l.index) (λ c. contains (corner 4 c)) k;
   table : (k : ℕ) → l.index ≤ k → k < length l.codes
       → IsTable (corners_of l.bins.items) l.positions
-      (get_or (corner (color_of (get_or l.codes k 0))) 0 0);
+      (get_or (corner 4 (color_of (get_or l.codes k 0))) 0 0);
   distinct : (i j : ℕ) → i < j → j < length (corners_of l.bins.items)
       → is_corner (get_or (corners_of l.bins.items) i []) (get_or (corners_of l.bins.items) j [])
       ≡ false;

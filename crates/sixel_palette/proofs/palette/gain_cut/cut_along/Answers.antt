@@ -25,6 +25,6 @@ returns c = λ pixels box are.
     gains_of_box pixels box bins channel sides sums are within c.sides_of-sides.ensures.order size
     c.gather.ensures.sums in
     c.best_cut.ensures (cut_gain pixels box channel) gains
-    ∙ sym (best_to-same (cut_gain pixels box channel) channel sides.high 63 c.args.cut
+    ∙ sym (best_to-same (cut_gain pixels box channel) channel sides.high 255 c.args.cut
     (omega (arith, c.sides_of-sides.ensures.high))
     (λ value l m. no_gain_above pixels box bins channel sides value are within l))

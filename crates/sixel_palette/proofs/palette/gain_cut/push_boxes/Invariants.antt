@@ -10,8 +10,8 @@ abbrev pub invariant-loop-count : goal.invariant-loop-count
 invariant-loop-count l = record {
   boxes : length l.boxes.items ≡ l._count;
   ranges : AreRanges (length l.bins) l.boxes.items;
-  lower : length l.lower ≡ 64;
-  upper : length l.upper ≡ 64;
+  lower : length l.lower ≡ 256;
+  upper : length l.upper ≡ 256;
   moved : IsPermutation l.fn.bins l.bins;
   model : (pixels : Pixels) → AreBinsOf pixels (λ _. true) l.fn.bins
       → AreBoxes pixels l.bins l.boxes.items (boxes_after pixels (l._count - 1));

@@ -4,7 +4,7 @@ use Rattle.std.specs.List.{All}
 use Rattle.std.proofs.lemmas.List.{length-map}
 use Rattle.std.proofs.lemmas.Simd.{map-map}
 use Rattle.sixel_palette.specs.Palette.{IsShown}
-use Rattle.sixel_palette.specs.Refined.{base_entries, cut_entries, register_color, summed_error}
+use Rattle.sixel_palette.specs.Refined.{base_entries, cut_entries, opaque_bins, register_color, summed_error}
 use Rattle.sixel_palette.specs.inside.PaletteCodes.{IsListed, color_of}
 use Rattle.sixel_palette.specs.inside.PaletteCounts.{counted_error}
 use Rattle.sixel_palette.proofs.PaletteChoices.{members_from_codes, IsColor-shown}
@@ -54,7 +54,9 @@ returns c =
     let first : counted_error initial codes counts ≡ summed_error initial pixels =
     error_from_counts initial pixels codes counts bytes c.requires.counts in
     let base = c.in_ok-start.start.assignment.colors.items in
-    let same_pixels = pixels_from_counts pixels codes counts bytes c.requires.counts in
+    let same_pixels =
+    pixels_from_counts pixels codes counts bytes c.requires.counts
+    ∙ ap (opaque_bins pixels) (sym (length-map codes color_of)) in
     let top = c.in_ok-topped.ensures.top in
     let some : 0 < length colors =
     omega (

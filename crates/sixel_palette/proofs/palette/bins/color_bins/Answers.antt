@@ -1,0 +1,80 @@
+use Rattle.std.proofs.Common.{◌≡◌, refl, get_or, length, sym, ◌∙◌, arith}
+use Rattle.std.proofs.Common.{cond}
+use Rattle.std.proofs.lemmas.List.{map_more, map_push, take_all}
+use Rattle.std.proofs.lemmas.List.Sums.{sum_by_more, sum_by_push, sum_by-take-le, get_or-le-sum_by}
+use Rattle.sixel_palette.specs.declared.palette.bins.Bin.{Bin}
+use Rattle.sixel_palette.specs.inside.PaletteCodes.{color_of}
+use Rattle.sixel_palette.specs.inside.PaletteSums.{channels, first_counted, total}
+use Rattle.sixel_palette.proofs.PaletteBins.{colors_distinct, corner-one, counted_more, counted_none}
+use Rattle.sixel_palette.proofs.PaletteBins.{whole_bins}
+use Rattle.sixel_palette.proofs.PaletteBoxes.{weighed-sum}
+use Rattle.sixel_palette.proofs.palette.bins.color_bins.Goals as goal
+
+pub of-sums-requires : goal.of-sums-requires
+of-sums-requires c =
+    let counts = c.args.counts.now in
+    omega (
+      arith,
+      get_or-le-sum_by (λ n. n) counts c.loop-index.index 0
+          (omega (arith, c.requires.weighed.same)),
+      weighed-sum c.args.codes.now counts c.requires.weighed,
+    )
+
+pub loop-index-init : goal.loop-index-init
+loop-index-init c =
+    rw c.in_ok-bins.ensures.items (record {
+      pixels = refl;
+      sums = λ contains k. sym (counted_none 1 c.args.codes.now c.args.counts.now contains k);
+      corners = refl;
+    })
+
+pub loop-index-preserved : goal.loop-index-preserved
+loop-index-preserved c =
+    let codes = c.args.codes.now in
+    let counts = c.args.counts.now in
+    let bins = c.loop-index.bins.items in
+    let index = c.loop-index.index in
+    let h = c.loop-index.invariant in
+    let bin : Bin = record { corner = c.color_of-corner.result; sums = c.of-sums.result } in
+    let color = c.color_of-corner.ensures in
+    let own = corner-one (color_of (get_or codes index 0)) in
+    rw c.in_ok-push.ensures.items (record {
+      pixels =
+          omega (
+            arith,
+            sum_by_push (λ (b : Bin). b.sums.count) bins bin,
+            h.pixels,
+            c.of-sums.ensures.count,
+            sum_by_more (λ n. n) counts index 0 (omega (arith, c.requires.weighed.same)),
+          );
+      sums = λ contains k.
+          sum_by_push (λ b. cond (contains (channels b.corner)) (total b.sums k) 0) bins bin
+          ∙ rw (h.sums contains k, c.of-sums.ensures.sums k, color, ← own)
+          (sym (counted_more 1 codes counts index contains k));
+      corners =
+          map_push (λ (b : Bin). b.corner) bins bin
+          ∙ rw (h.corners, color) (sym (map_more color_of codes index 0 (omega arith)));
+    })
+
+pub returns-clause-few : goal.returns-clause-few
+returns-clause-few c =
+    let counts = c.args.counts.now in
+    omega (
+      arith,
+      sum_by-take-le (λ n. n) counts c.loop-index.index,
+      weighed-sum c.args.codes.now counts c.requires.weighed,
+      c.loop-index.invariant.pixels,
+    )
+
+pub returns-clause-bins : goal.returns-clause-bins
+returns-clause-bins c = λ contains k.
+    let all : c.loop-index.index ≡ length c.args.codes.now = omega arith in
+    rw all at (c.loop-index.invariant.sums contains k)
+
+pub returns-clause-whole : goal.returns-clause-whole
+returns-clause-whole c =
+    let codes = c.args.codes.now in
+    whole_bins (first_counted 1 codes c.args.counts.now (length codes)) c.loop-index.bins.items
+    (returns-clause-bins c)
+    (colors_distinct codes _ c.requires.ascending
+    (rw (take_all c.loop-index.index codes (omega arith)) at c.loop-index.invariant.corners))
