@@ -138,13 +138,6 @@ effective-strict limit token h =
 pub effective-off : (limit : Limit) (h : History) → limit.lenient ≡ false → effective limit h ≡ h
 effective-off limit h off = ap (λ t. cond t (tolerated limit h) h) off
 
--- of no tokens none count
-pub effective-none : (limit : Limit) → effective limit [] ≡ []
-effective-none limit = elim limit.lenient as (λ t. cond t (tolerated limit []) [] ≡ []) [
-  | true ↦ refl
-  | false ↦ refl
-]
-
 -- and nothing is wrong with them
 pub fault-none : (limit : Limit) → fault limit [] ≡ None
 fault-none limit = elim limit.lenient as (λ t. cond t None (first_fault limit []) ≡ None) [

@@ -8,10 +8,8 @@ use Rattle.sixel_base.specs.Dcs.{Stage, Heading, Failing, Reading, stage}
 use Rattle.sixel_base.specs.History.{Sixel, History}
 use Rattle.sixel_base.specs.Picture.{is_set}
 use Rattle.sixel_base.specs.Limits.{Limit}
-use Rattle.sixel_base.specs.OneShot.{Found, Payload, NoPayload}
 use Rattle.sixel_base.specs.Payload.{image_height, tokens}
 use Rattle.sixel_base.specs.Place.{down}
-use Rattle.sixel_base.specs.declared.state.DecoderState.{DecoderState}
 
 -- the last of the first k rows that a sixel with these bits sets, plus one, or 0 if there is none
 abbrev pub set_rows_within : ℕ → ℕ → ℕ
@@ -54,9 +52,3 @@ dcs_drawn_height limit bytes = stage_drawn_height limit (stage bytes)
 abbrev pub image_drawn_height : Limit → Bool → History → ℕ
 image_drawn_height limit raster_crop history =
     min (drawn_height limit history) (image_height limit raster_crop history)
-
--- that of the image of a payload, where there is a payload
-abbrev pub found_drawn_height : DecoderState → Found → ℕ
-found_drawn_height decoder (Payload settings payload) =
-    image_drawn_height decoder.pixel_limit decoder.raster_crop (tokens decoder.pixel_limit payload)
-found_drawn_height decoder (NoPayload fault) = 0

@@ -2,19 +2,9 @@
 -- are ignored is in Lenient.
 use Rattle.std.specs.Prelude.{ℕ, List}
 use Rattle.sixel_base.specs.Bytes.{front}
-use Rattle.sixel_base.specs.Dcs.{Stage, Heading, Failing, Reading, stage}
 use Rattle.sixel_base.specs.History.{history_of}
 use Rattle.sixel_base.specs.Lenient.{ignored_count}
 use Rattle.sixel_base.specs.Limits.{Limit}
 
 abbrev pub payload_ignored : Limit → List ℕ → ℕ
 payload_ignored limit bytes = ignored_count limit (history_of (front bytes))
-
--- of a DCS sequence, and 0 before its payload
-abbrev pub stage_ignored : Limit → Stage → ℕ
-stage_ignored limit Heading = 0
-stage_ignored limit (Failing fault) = 0
-stage_ignored limit (Reading settings payload) = payload_ignored limit payload
-
-abbrev pub dcs_ignored : Limit → List ℕ → ℕ
-dcs_ignored limit bytes = stage_ignored limit (stage bytes)

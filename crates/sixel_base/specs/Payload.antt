@@ -14,8 +14,7 @@ use Rattle.sixel_base.specs.Fault.{Fault}
 use Rattle.sixel_base.specs.Clip.{clipped_width}
 use Rattle.sixel_base.specs.Picture.{picture}
 use Rattle.sixel_base.specs.Bytes.{front, is_terminated}
-use Rattle.sixel_base.specs.History.{Sixel, Repeat, Raster, Color}
-use Rattle.sixel_base.specs.History.{History, history_of}
+use Rattle.sixel_base.specs.History.{Sixel, Repeat, Raster, Color, History, history_of}
 use Rattle.sixel_base.specs.Place.{width, height, raster_height}
 use Rattle.sixel_base.specs.Stroke.{Origin, pixel, ratio, registers}
 

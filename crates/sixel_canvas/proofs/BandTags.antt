@@ -133,10 +133,6 @@ pub run_from : (from to bits column k : ℕ) → covers from to 0 bits column k 
 run_from from to bits column k hit =
     leb-true from column (first_of (nat_le from column) (nat_lt column to) _ hit)
 
-pub run_to : (from to bits column k : ℕ) → covers from to 0 bits column k ≡ true → column < to
-run_to from to bits column k hit =
-    ltb-true column to (second_of (nat_le from column) (nat_lt column to) _ hit)
-
 and_none : (a b : Bool) → (a && b && false) ≡ false
 and_none true true = refl
 and_none true false = refl

@@ -1,5 +1,6 @@
 pub mod BandCopies
 pub mod BandRows
+pub mod BandSixels
 pub mod BandStates
 pub mod BandTags
 pub mod CopiedRows

@@ -1,59 +1,15 @@
 -- How many pixels were written to give the rows of an image another width, against its pixels.
-use Rattle.std.proofs.Common.{◌≡◌, ℕ, ◌+◌, ◌-◌, ◌*◌, ◌≤◌, ◌∷◌, List, Bool, max, cond, subst}
-use Rattle.std.proofs.Common.{inl, inr, arith}
-use Rattle.std.specs.Prelude.{nat_lt, if◌then◌else◌}
-use Rattle.std.proofs.lemmas.Bool.{cases_lt, le-ltb, lt-ltb}
+use Rattle.std.proofs.Common.{◌≡◌, ℕ, ◌+◌, ◌-◌, ◌*◌, ◌≤◌, ◌∷◌, List, max, arith}
+use Rattle.std.specs.Prelude.{if◌then◌else◌}
 use Rattle.std.proofs.Math.Nat.{mul-le-mul_left, mul-le-mul_right}
-use Rattle.sixel_canvas.specs.inside.BandCanvas.{AreMoved, BandCanvasState, IsBandCanvas, IsLaidOut}
-use Rattle.sixel_canvas.specs.inside.BandCanvas.{least_width}
+use Rattle.sixel_canvas.specs.inside.BandCanvas.{AreMoved, BandCanvasState, IsLaidOut, least_width}
 use Rattle.sixel_canvas.specs.inside.Drawn.{Run, lowest_top, run}
-use Rattle.sixel_canvas.specs.inside.FinalRows.{AreMovedWithin, stored_area}
 use Rattle.sixel_canvas.specs.inside.Paints.{counted}
 
 -- rows that were given at least twice their width
 pub moved_within : (moved rows old width : ℕ) → 2 * old ≤ width
     → counted moved (rows * width) + 2 * (rows * old) ≤ moved + 2 * (rows * width)
 moved_within moved rows old width doubled = omega (arith, mul-le-mul_left rows doubled)
-
--- what can be drawn without an allocation is stored
-held_stored : (canvas : BandCanvasState) → IsBandCanvas canvas → canvas.held ≤ canvas.rows.width
-held_stored canvas is = elim (cases_lt 0 canvas.held) [
-  | inl some ↦ (is.held some).stored
-  | inr none ↦ omega (arith, none)
-]
-
--- rows with more pixels
-pub laid_out : (old new : BandCanvasState) (width : ℕ) → IsLaidOut old width
-    → new.expected ≡ old.expected → new.rows.width ≤ max old.rows.width (2 * width)
-    → AreMovedWithin old.rows new.rows → new.released ≡ old.released → IsLaidOut new width
-laid_out old new width is expected wide within released = record {
-  expected = omega (arith, is.expected, expected);
-  wide = omega (arith, is.wide, wide);
-  moved = rw released (omega (arith, is.moved, within));
-}
-
--- the band has memory for `columns`
-pub laid_widened : (old new : BandCanvasState) (columns least width : ℕ) → IsBandCanvas old
-    → least ≤ max (max columns old.held) old.expected
-    → new.rows.width
-    ≤ (if nat_lt old.rows.width least then 2 * least else old.rows.width)
-    → AreMovedWithin old.rows new.rows → new.expected ≡ old.expected
-    → new.released ≡ old.released → columns ≤ width → IsLaidOut old width → IsLaidOut new width
-laid_widened old new columns least width sound least_is narrow within expected released le is =
-    let wide : new.rows.width ≤ max old.rows.width (2 * width) =
-    elim (cases_lt old.rows.width least) [
-      | inl less ↦
-          let most : new.rows.width ≤ 2 * least =
-          subst (λ (b : Bool). new.rows.width ≤ cond b (2 * least) old.rows.width)
-          (lt-ltb old.rows.width least less) narrow in
-          omega (arith, most, less, least_is, le, held_stored old sound, is.expected)
-      | inr enough ↦
-          let same : new.rows.width ≤ old.rows.width =
-          subst (λ (b : Bool). new.rows.width ≤ cond b (2 * least) old.rows.width)
-          (le-ltb old.rows.width least enough) narrow in
-          omega (arith, same)
-    ] in
-    laid_out old new width is expected wide within released
 
 -- a wider picture
 pub laid_wider : (canvas : BandCanvasState) (width wider : ℕ) → IsLaidOut canvas width
@@ -97,27 +53,6 @@ moved_more canvas named runs is above lowest = record {
   few = moved_above canvas.rows.moved canvas.rows.rows canvas.rows.width canvas.released
       (least_width named runs) (lowest_top runs) is.wide is.moved (omega (arith, above, lowest));
 }
-
--- rows with more pixels, of the same runs
-pub moved_same : (old new : BandCanvasState) (named : ℕ) (runs : List Run)
-    → AreMoved old named runs → new.expected ≡ old.expected → new.rows.width ≤ old.rows.width
-    → new.rows.moved ≡ old.rows.moved → stored_area old.rows ≤ stored_area new.rows
-    → new.released ≡ old.released → AreMoved new named runs
-moved_same old new named runs is expected wide moved area released = record {
-  laid = laid_out old new (least_width named runs) is.laid expected (omega (arith, wide))
-      (omega (arith, moved, area)) released;
-  few = rw moved is.few;
-}
-
--- a wider picture of the same runs
-pub moved_wider : (canvas : BandCanvasState) (named wider : ℕ) (runs : List Run)
-    → AreMoved canvas named runs → named ≤ wider → AreMoved canvas wider runs
-moved_wider canvas named wider runs is le =
-    let more : least_width named runs ≤ least_width wider runs = omega (arith, le) in
-    record {
-      laid = laid_wider canvas (least_width named runs) (least_width wider runs) is.laid more;
-      few = omega (arith, is.few, mul-le-mul_left (lowest_top runs) more);
-    }
 
 -- `count` rows were released
 pub moved_released : (old new : BandCanvasState) (named : ℕ) (runs : List Run) (count : ℕ)

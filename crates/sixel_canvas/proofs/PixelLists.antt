@@ -1,9 +1,7 @@
 -- The pixels that bytes are: how many, which of them, and those of bytes that were put together.
 use Rattle.std.proofs.Common.{◌≡◌, ℕ, zero, suc, ◌+◌, ◌-◌, ◌*◌, ◌<◌, ◌≤◌, List, [], ◌∷◌, ◌++◌}
-use Rattle.std.proofs.Common.{length}
-use Rattle.std.proofs.Common.{get_or, take, drop, replicate, refl, ap, ◌∙◌, arith}
-use Rattle.std.proofs.Common.{length-take, length-append}
-use Rattle.std.proofs.Common.{length-drop, sym, inl, inr}
+use Rattle.std.proofs.Common.{length, get_or, take, drop, replicate, refl, ap, ◌∙◌, arith}
+use Rattle.std.proofs.Common.{length-take, length-append, length-drop, sym, inl, inr}
 use Rattle.std.proofs.lemmas.Bool.{cases_lt, lt-ltb, le-ltb}
 use Rattle.std.proofs.lemmas.Bool.Decides.{nat_tests}
 use Rattle.std.proofs.lemmas.List.{length-replicate}

@@ -5,8 +5,7 @@ use Rattle.std.proofs.Common.{inl, inr, length-drop, length-take, length-append,
 use Rattle.std.proofs.Math.Seq.{drop-append-add, take-append_seam}
 use Rattle.std.proofs.lemmas.List.{drop-take, get_or_past, take-append-drop, take-append-le}
 use Rattle.std.proofs.lemmas.List.{drop-append-le}
-use Rattle.std.specs.Prelude.{min, nat_lt, ◌==◌, ◌&&◌, if◌then◌else◌}
-use Rattle.std.specs.Prelude.{Result, Ok, Err, IsOk, OnOk}
+use Rattle.std.specs.Prelude.{min, nat_lt, ◌==◌, ◌&&◌, if◌then◌else◌, Result, Ok, Err, IsOk, OnOk}
 use Rattle.std.specs.List.{flat_map}
 use Rattle.std.proofs.lemmas.Bool.{cases_lt, cases_order, lt-ltb, le-ltb, ne_eqb, true≢false}
 use Rattle.std.proofs.lemmas.Nat.{mul-le, row_fits}
@@ -128,14 +127,6 @@ pixels_picture p bytes width (suc height) len same =
     sym (pixel_right front last n column long) ∙ ap (λ xs. pixel_at xs (n + column)) parts
     ∙ same column height inside (omega arith)) in
     sym parts ∙ ap (λ xs. xs ++ last) is_front ∙ ap (λ xs. picture p width height ++ xs) is_last
-
--- the pixel that stands in a row at a column
-pub final_stored : (background bytes : List ℕ) (width rows room moved column row : ℕ) →
-    column < width → row < rows →
-    pixel_at bytes (row * width + column)
-    ≡ final (rows_state background bytes width rows room moved) column row
-final_stored background bytes width rows room moved column row inside above =
-    rw (lt-ltb column width inside, lt-ltb row rows above) refl
 
 -- `n` background pixels, or those of a row and background to their right
 background-pixel : (background : List ℕ) (n i : ℕ) → length background ≡ 4 → i < n →

@@ -4,17 +4,15 @@ use Rattle.std.proofs.Common.{◌∷◌, ◌++◌, All, length, get_or, max, ref
 use Rattle.std.proofs.Common.{length-append, arith}
 use Rattle.std.specs.List.{sum_by}
 use Rattle.std.specs.Prelude.{if◌then◌else◌}
-use Rattle.std.proofs.Math.Nat.{mul-suc}
 use Rattle.std.proofs.lemmas.List.Elements.{All-append, All-get_or, All-head, All-nil, All-tail}
 use Rattle.std.proofs.lemmas.List.Sums.{sum_by-append, sum_by-cons}
 use Rattle.std.proofs.lemmas.Bool.{cases_lt, lt-ltb}
 use Rattle.sixel_base.specs.Picture.{is_struck, total}
 use Rattle.sixel_canvas.specs.inside.Drawn.{Run, run}
-use Rattle.sixel_canvas.specs.inside.Paints.{counted, ends_and_tags, least_painted}
+use Rattle.sixel_canvas.specs.inside.Paints.{counted, least_painted}
 use Rattle.sixel_canvas.specs.inside.RowBand.{IsRowBand, least, line_in}
 use Rattle.sixel_canvas.specs.inside.RowCanvas.{RowCanvasState, AreFewTags, HasCost, IsDrawnBy}
-use Rattle.sixel_canvas.specs.inside.RowCanvas.{IsRowCanvas, row_canvas_work}
-use Rattle.sixel_canvas.specs.inside.RowCanvas.{row_edge, row_len, runs_most}
+use Rattle.sixel_canvas.specs.inside.RowCanvas.{IsRowCanvas, row_canvas_work, row_edge, row_len}
 use Rattle.std.proofs.lemmas.List.{get_or_past}
 use Rattle.sixel_canvas.specs.Row.{IsThrifty, empty_row}
 use Rattle.sixel_canvas.specs.inside.TaggedRow.{TaggedRowState, IsTaggedRow, empty_tagged_row}
@@ -179,23 +177,6 @@ drawn_cost canvas runs n is none =
       least = omega (arith, is.least);
       most = omega (arith, same, past, held, spread, thrifty.spread, is.most);
     }
-
--- So a canvas that nothing was drawn on has cost nothing.
-pub no_cost : (canvas : RowCanvasState) → IsDrawnBy canvas []
-    → HasCost (row_canvas_work canvas) [] 0
-no_cost canvas is = drawn_cost canvas [] 0 is (λ row _. refl)
-
--- Runs of at most this many columns are counted as at most two ends and their tags, each.
-pub runs_most-each : (columns : ℕ) (runs : List Run)
-    → All (λ (drawn : Run). drawn.to - drawn.from ≤ columns) runs
-    → runs_most runs ≤ ends_and_tags columns * length runs
-runs_most-each columns [] few = omega arith
-runs_most-each columns (newest ∷ runs) few =
-    let first = All-head (λ (drawn : Run). drawn.to - drawn.from ≤ columns) newest runs few in
-    let rest =
-    runs_most-each columns runs
-    (All-tail (λ (drawn : Run). drawn.to - drawn.from ≤ columns) newest runs few) in
-    rw mul-suc (omega (arith, first, rest))
 
 -- a run more, which was drawn
 pub drawn_run : (old new : RowCanvasState) (from to bits : ℕ) (runs : List Run)

@@ -1,8 +1,7 @@
 -- What runs of one column each, and one run more, do to right edges, columns and counts.
-use Rattle.std.proofs.Common.{◌≡◌, ℕ, zero, suc, ◌+◌, ◌-◌, ◌*◌, ◌/◌, ◌<◌, ◌≤◌, max, Bool, true}
-use Rattle.std.proofs.Common.{false, List, [], ◌∷◌, length, take, refl, ◌∙◌, inl, inr, eq-eqb}
-use Rattle.std.proofs.Common.{length-take, arith}
-use Rattle.std.specs.Prelude.{nat_lt, ◌==◌, ◌&&◌, if◌then◌else◌}
+use Rattle.std.proofs.Common.{◌≡◌, ℕ, zero, suc, ◌+◌, ◌-◌, ◌*◌, ◌/◌, ◌<◌, ◌≤◌, max, List, [], ◌∷◌}
+use Rattle.std.proofs.Common.{length, take, refl, ◌∙◌, inl, inr, eq-eqb, length-take, arith}
+use Rattle.std.specs.Prelude.{◌==◌, ◌&&◌, if◌then◌else◌}
 use Rattle.std.proofs.lemmas.Bool.{cases_lt, lt-ltb, le-ltb, ne_eqb}
 use Rattle.sixel_canvas.specs.inside.BandCanvas.{IsPaid}
 use Rattle.sixel_canvas.specs.inside.Drawn.{Run, band_edge, drawn_columns, lowest_top, right_edge}
@@ -67,14 +66,6 @@ edge-grown : (from to top bits : ℕ) (runs : List Run) → 0 < bits →
     band_edge (run from to top bits ∷ runs) top ≡ max (band_edge runs top) to
 edge-grown from to top bits runs some = rw (eq-eqb top top refl, lt-ltb 0 bits some) refl
 
-blank_case : (here : Bool) (edge to : ℕ) → (if here && nat_lt 0 0 then max edge to else edge) ≡ edge
-blank_case true edge to = refl
-blank_case false edge to = refl
-
-edge-blank : (from to top : ℕ) (runs : List Run) (row : ℕ) →
-    band_edge (run from to top 0 ∷ runs) row ≡ band_edge runs row
-edge-blank from to top runs row = blank_case (top == row) (band_edge runs row) to
-
 edge-other : (from to top bits : ℕ) (runs : List Run) (row : ℕ) → top < row →
     band_edge (run from to top bits ∷ runs) row ≡ band_edge runs row
 edge-other from to top bits runs row below = rw (ne_eqb top row (λ e. omega (arith, e, below))) refl
@@ -95,20 +86,6 @@ paid-run cap cap' painted painted' reach reach' tagged tagged' top from to bits 
       edge = omega (arith, is.edge, reach_is, grown);
       inside = omega (arith, is.inside, tagged_is, grown);
       below = λ row h. edge-other from to top bits runs row h ∙ is.below row h;
-    }
-
--- a run without a set pixel more, of which nothing was drawn
-pub paid-blank : (cap painted reach tagged top from to : ℕ) (runs : List Run) →
-    IsPaid cap painted reach tagged top runs →
-    IsPaid cap painted reach tagged top (run from to top 0 ∷ runs)
-paid-blank cap painted reach tagged top from to runs is =
-    let same = edge-blank from to top runs top in
-    record {
-      narrow = omega (arith, is.narrow);
-      few = omega (arith, is.few, same);
-      edge = omega (arith, is.edge, same);
-      inside = omega (arith, is.inside, same);
-      below = λ row h. edge-blank from to top runs row ∙ is.below row h;
     }
 
 -- sixels of one column each more

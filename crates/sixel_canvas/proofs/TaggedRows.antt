@@ -1,7 +1,6 @@
 -- What a row with tags shows once a tag was painted, a run was painted, or its blocks were tagged.
-use Rattle.std.proofs.Common.{◌≡◌, ℕ, ◌+◌, ◌*◌, ◌/◌, ◌%◌, ◌<◌, ◌≤◌, ◌⊎◌, ◌&&◌, min, max}
-use Rattle.std.proofs.Common.{true, false}
-use Rattle.std.proofs.Common.{List, length, get_or, refl, sym, ap, ◌∙◌, inl, inr, arith}
+use Rattle.std.proofs.Common.{◌≡◌, ℕ, ◌+◌, ◌*◌, ◌/◌, ◌%◌, ◌<◌, ◌≤◌, ◌⊎◌, ◌&&◌, min, max, true}
+use Rattle.std.proofs.Common.{false, List, length, get_or, refl, sym, ap, ◌∙◌, inl, inr, arith}
 use Rattle.std.specs.Prelude.{nat_lt, nat_le, if◌then◌else◌}
 use Rattle.std.proofs.lemmas.Bool.{cases_eq, cases_lt, lt-ltb, le-ltb, lt-leb, le-leb, true≢false}
 use Rattle.std.proofs.lemmas.List.{get_or_past}
@@ -10,8 +9,7 @@ use Rattle.sixel_canvas.specs.inside.TaggedRow.{TaggedRowState, IsTaggedRow, tag
 use Rattle.sixel_canvas.specs.inside.TaggedRow.{tagged_row_state}
 use Rattle.sixel_canvas.specs.inside.Tags.{is_tag, no_tag, under}
 use Rattle.sixel_canvas.proofs.RowPixels.{grown_length, grown_pixel, painted_inside, painted_left}
-use Rattle.sixel_canvas.proofs.RowPixels.{painted_length}
-use Rattle.sixel_canvas.proofs.RowPixels.{painted_right}
+use Rattle.sixel_canvas.proofs.RowPixels.{painted_length, painted_right}
 
 -- a pixel under a tag, and under none
 pub over_pixel : (tag pixel : List ℕ) → is_tag tag ≡ true → under tag pixel ≡ tag

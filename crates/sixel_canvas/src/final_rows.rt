@@ -1,13 +1,10 @@
 //! The rows of an image that are final, in the bytes of the image.
-ghost use Rattle.std.specs.Prelude.{◌≡◌, ℕ, ◌+◌, ◌-◌, ◌*◌, ◌^◌, ◌≤◌, ◌<◌, ◌++◌, ◌==◌};
-ghost use Rattle.std.specs.Prelude.{List, length, max, nat_lt, ◌&&◌};
-ghost use Rattle.std.specs.Prelude.{drop, slice_index_or};
-ghost use Rattle.std.specs.Prelude.{IfOk, IsOk, OnErr, OnOk, if◌then◌else◌};
-ghost use Rattle.std.specs.Prelude.{vec_len, vec_capacity};
+ghost use Rattle.std.specs.Prelude.{◌≡◌, ℕ, ◌+◌, ◌-◌, ◌*◌, ◌^◌, ◌≤◌, ◌<◌, ◌++◌, ◌==◌, List, length};
+ghost use Rattle.std.specs.Prelude.{max, nat_lt, ◌&&◌, drop, slice_index_or, IfOk, IsOk, OnErr};
+ghost use Rattle.std.specs.Prelude.{OnOk, if◌then◌else◌, vec_len, vec_capacity};
 ghost use Rattle.sixel_base.specs.Picture.{joined, picture};
 ghost use Rattle.sixel_canvas.specs.Layout.{stored_pixel};
-ghost use Rattle.sixel_canvas.specs.inside.FinalRows.{AreMovedWithin, AreRows, final};
-ghost use Rattle.sixel_canvas.specs.inside.FinalRows.{stored_area};
+ghost use Rattle.sixel_canvas.specs.inside.FinalRows.{AreMovedWithin, AreRows, final, stored_area};
 ghost use Rattle.sixel_canvas.specs.inside.Paints.{counted};
 
 use crate::span::add_pixels;

@@ -36,8 +36,7 @@ pub struct TaggedBand {
 }
 
 impl Model for TaggedBand {
-    ghost use Rattle.sixel_canvas.specs.inside.TaggedBand.{TaggedState, IsTaggedBand};
-    ghost use Rattle.sixel_canvas.specs.inside.TaggedBand.{tagged_state};
+    ghost use Rattle.sixel_canvas.specs.inside.TaggedBand.{TaggedState, IsTaggedBand, tagged_state};
 
     ghost Value = { TaggedState };
 

@@ -11,8 +11,7 @@ use Rattle.sixel_base.specs.Payload.{first_fault}
 use Rattle.sixel_base.specs.Place.{across, down, span, width, height}
 use Rattle.sixel_base.specs.Reach.{size}
 use Rattle.sixel_canvas.specs.inside.BandCanvas.{AreMoved, BandCanvasState, IsPaid, least_width}
-use Rattle.sixel_canvas.specs.inside.Drawn.{drawn_columns, lowest_top, right_edge, run}
-use Rattle.sixel_canvas.specs.inside.Drawn.{runs_paint}
+use Rattle.sixel_canvas.specs.inside.Drawn.{drawn_columns, lowest_top, right_edge, run, runs_paint}
 use Rattle.sixel_canvas.specs.inside.Drawn.{band_edge as runs_edge}
 use Rattle.sixel_decoder.specs.Paints.{sixels, band_columns, band_edge, band_room}
 use Rattle.sixel_decoder.specs.Paints.{area_of, most_row_writes, most_run_paints}

@@ -1,7 +1,6 @@
 -- What finishing a DCS sequence in its payload returns.
-use Rattle.std.proofs.Common.{◌≡◌, ℕ, Bool, true, false, List, ◌++◌, refl, ap}
-use Rattle.std.proofs.Common.{sym, ◌∙◌, Option, Some, None, Result, Ok, Err}
-use Rattle.std.proofs.Common.{subst}
+use Rattle.std.proofs.Common.{◌≡◌, ℕ, Bool, true, false, List, ◌++◌, refl, ap, sym, ◌∙◌, Option}
+use Rattle.std.proofs.Common.{Some, None, Result, Ok, Err, subst}
 use Rattle.std.specs.Prelude.{◌&&◌, ◌||◌, is_none, is_some, if◌then◌else◌}
 use Rattle.std.specs.Prelude.{IfOk, IfErr, MatchBool, OnOk}
 use Rattle.sixel_base.specs.declared.error.SixelError.{SixelError}
@@ -14,13 +13,9 @@ use Rattle.sixel_base.specs.Stroke.{Origin}
 use Rattle.sixel_base.specs.declared.state.DecoderState.{DecoderState}
 use Rattle.sixel_base.specs.declared.status.SixelDcsFeedStatus.{SixelDcsFeedStatus}
 use Rattle.sixel_decoder.specs.declared.decoded_payload.DecodedPayload.{DecodedPayload}
-use Rattle.sixel_base.specs.Dcs.{Stage, stage, stage_status}
-use Rattle.sixel_base.specs.Dcs.{stage_in_payload}
-use Rattle.sixel_base.specs.Dcs.{after_terminator}
-use Rattle.sixel_base.specs.Dcs.{payload_status_by, dcs_status}
-use Rattle.sixel_base.specs.Dcs.{dcs_in_payload, ended_by, has_ended}
-use Rattle.sixel_base.specs.Dcs.{can_finish, end_fault}
-use Rattle.sixel_base.specs.Dcs.{has_come, IsStringImage, AreStringRegisters}
+use Rattle.sixel_base.specs.Dcs.{Stage, stage, stage_status, stage_in_payload, after_terminator}
+use Rattle.sixel_base.specs.Dcs.{payload_status_by, dcs_status, dcs_in_payload, ended_by, has_ended}
+use Rattle.sixel_base.specs.Dcs.{can_finish, end_fault, has_come, IsStringImage, AreStringRegisters}
 use Rattle.sixel_base.specs.Lenient.{fault}
 use Rattle.sixel_base.specs.Limits.{Limit}
 use Rattle.sixel_decoder.specs.inside.DcsParser.{IsInPayload}

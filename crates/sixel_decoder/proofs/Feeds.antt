@@ -10,8 +10,7 @@ use Rattle.sixel_base.specs.declared.status.SixelFeedStatus.TheVariants as paylo
 use Rattle.sixel_base.specs.declared.status.SixelDcsFeedResult.{SixelDcsFeedResult}
 use Rattle.sixel_base.specs.declared.status.SixelDcsFeedStatus.{SixelDcsFeedStatus}
 use Rattle.sixel_base.specs.declared.status.SixelDcsFeedStatus.TheVariants.{NeedMoreData}
-use Rattle.sixel_base.specs.Bytes.{count, first_terminator, front, is_ignored}
-use Rattle.sixel_base.specs.Bytes.{is_terminator}
+use Rattle.sixel_base.specs.Bytes.{count, first_terminator, front, is_ignored, is_terminator}
 use Rattle.sixel_base.specs.Dcs.{dcs_fault}
 use Rattle.sixel_base.specs.History.{History, history_of, read}
 use Rattle.sixel_base.specs.Limits.{Limit}

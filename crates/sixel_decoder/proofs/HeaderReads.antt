@@ -15,7 +15,7 @@ use Rattle.sixel_base.specs.Header.{header_rest, header_text, command_fault}
 use Rattle.sixel_decoder.specs.inside.Header.{IsHeaderFault}
 use Rattle.sixel_decoder.proofs.DcsHeaders.{header_rest-one, header_rest-open, header_text-one}
 use Rattle.sixel_decoder.proofs.DcsHeaders.{header_text-open}
-use Rattle.sixel_decoder.proofs.ChunkReads.{splits_at}
+use Rattle.sixel_decoder.proofs.ChunkPlaces.{splits_at}
 
 -- Of a header the bytes before this index were read, which have this text; the rest of the header
 -- is ahead.

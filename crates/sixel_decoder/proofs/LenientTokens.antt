@@ -1,8 +1,7 @@
 -- What a painter has drawn of all tokens where commands with a fault may be ignored.
 use Rattle.std.proofs.Common.{◌≡◌, ℕ, ◌-◌, ◌<◌, ◌≤◌, Bool, true, false, cond, List, [], ◌∷◌, refl}
-use Rattle.std.proofs.Common.{ap}
-use Rattle.std.proofs.Common.{sym, ◌∙◌, subst, length, take, get_or, Option, Some, None, Result, Ok}
-use Rattle.std.proofs.Common.{Err, arith}
+use Rattle.std.proofs.Common.{ap, sym, ◌∙◌, subst, length, take, get_or, Option, Some, None, Result}
+use Rattle.std.proofs.Common.{Ok, Err, arith}
 use Rattle.std.specs.Prelude.{IfErr, fold, is_none, min, ◌+◌, ◌&&◌}
 use Rattle.sixel_base.specs.declared.error.SixelError.{SixelError}
 use Rattle.sixel_base.specs.declared.error.SixelError.TheVariants.{InvalidDimensions}
@@ -12,17 +11,13 @@ use Rattle.sixel_base.specs.declared.error.SixelError.TheVariants.{OutOfMemory}
 use Rattle.sixel_base.specs.Fault.{Fault, Faults, is_fault}
 use Rattle.sixel_base.specs.History.{Token, Sixel, Repeat, Raster, Color, Return, Newline, Skip}
 use Rattle.sixel_base.specs.History.{History, read}
-use Rattle.sixel_base.specs.Lenient.{count_limit, effective, fault, ignored_count}
-use Rattle.sixel_base.specs.Lenient.{tolerated}
+use Rattle.sixel_base.specs.Lenient.{count_limit, effective, fault, ignored_count, tolerated}
 use Rattle.sixel_base.specs.Lenient.{without}
 use Rattle.sixel_base.specs.Limits.{Limit}
-use Rattle.sixel_base.specs.Payload.{fault_of, first_fault, settled}
-use Rattle.sixel_base.specs.Payload.{settled_tokens}
+use Rattle.sixel_base.specs.Payload.{fault_of, first_fault, settled, settled_tokens}
 use Rattle.sixel_base.specs.Stroke.{Origin}
-use Rattle.sixel_base.proofs.ToleratedTokens.{effective-more, effective-none}
-use Rattle.sixel_base.proofs.ToleratedTokens.{effective-strict}
-use Rattle.sixel_base.proofs.ToleratedTokens.{count-more, count-none, count-without}
-use Rattle.sixel_base.proofs.ToleratedTokens.{effective-without, option_or-none}
+use Rattle.sixel_base.proofs.ToleratedTokens.{effective-more, effective-strict, count-more}
+use Rattle.sixel_base.proofs.ToleratedTokens.{count-without, effective-without, option_or-none}
 use Rattle.sixel_canvas.specs.declared.drawing.Canvas.{Ghosts}
 use Rattle.sixel_decoder.specs.declared.painter.Painter.{Painter}
 use Rattle.sixel_decoder.specs.inside.Lenient.{Tolerates, HasDrawn, tolerated_count}
@@ -42,14 +37,6 @@ memory_along (InvalidData t) may found found' not_fault is = absurd (cc not_faul
 memory_along NoSixelData may found found' not_fault is = absurd (cc not_fault)
 memory_along IntegerOverflow may found found' not_fault is = absurd (cc not_fault)
 memory_along OutOfMemory may found found' not_fault is = is
-
--- no tokens
-pub has_drawn_none : {C : Type 0} {canvas : Ghosts C} (o : Origin) (painter : Painter C canvas)
-    → Shows o painter [] → HasDrawn o painter 0 []
-has_drawn_none o painter shows = record {
-  shows = subst (λ (w : History). Shows o painter w) (sym (effective-none o.pixel_limit)) shows;
-  count = sym (count-none o.pixel_limit);
-}
 
 -- one more token that was drawn
 pub has_drawn_more : {C : Type 0} {canvas : Ghosts C} (o : Origin) (painter : Painter C canvas)
@@ -192,48 +179,6 @@ has_drawn_ignored e o old new n h bytes some is lenient faulty state refused sho
     (fault_found e true (first_fault limit (token ∷ effective limit h))
     (HasDrawn o new (min (n + 1) count_limit) (token ∷ h)) refused faulty (λ f found.
     has_drawn_without o new n token h f on found shows state.count))
-
--- a sixel that is rejected
-pub tolerates_refused : {C : Type 0} {canvas : Ghosts C} (e : SixelError) (o : Origin)
-    (old : Painter C canvas) (n : ℕ) (h : History) (token : Token)
-    → old.pixel_limit.lenient && is_fault e ≡ false → HasDrawn o old n h
-    → Faults e true (first_fault o.pixel_limit (token ∷ effective o.pixel_limit h))
-    → Faults e true (fault o.pixel_limit (token ∷ h))
-tolerates_refused e o old n h token not_fault state refused =
-    let limit : Limit = o.pixel_limit in
-    let not_here : limit.lenient && is_fault e ≡ false =
-    ap (λ (w : Limit). w.lenient && is_fault e) (sym state.shows.limit) ∙ not_fault in
-    (elim limit.lenient as
-    (λ t. limit.lenient ≡ t → t && is_fault e ≡ false → Faults e true (fault limit (token ∷ h))) [
-      | false ↦ λ off none.
-          subst (λ (w : Option Fault). Faults e true w) (effective-strict limit token h off) refused
-      | true ↦ λ on none. memory_along e true _ (fault limit (token ∷ h)) none refused
-    ]) refl not_here
-
--- a byte that is skipped
-pub has_drawn_skip : {C : Type 0} {canvas : Ghosts C} (o : Origin) (painter : Painter C canvas)
-    (n : ℕ) (byte : ℕ) (h : History) → HasDrawn o painter n h
-    → HasDrawn o painter n (Skip byte ∷ h)
-has_drawn_skip o painter n byte h state =
-    let shows = state.shows in
-    has_drawn_more o painter n (Skip byte) h (record {
-      pixels = shows.pixels;
-      paid = shows.paid;
-      registers = shows.registers;
-      color = shows.color;
-      repeat = shows.repeat;
-      column = shows.column;
-      top = shows.top;
-      width = shows.width;
-      height = shows.height;
-      raster = shows.raster;
-      drawn = shows.drawn;
-      ratio = shows.ratio;
-      settings = shows.settings;
-      crop = shows.crop;
-      limit = shows.limit;
-      faultless = rw shows.faultless refl;
-    }) state.count
 
 -- ---- how many sixels there are
 

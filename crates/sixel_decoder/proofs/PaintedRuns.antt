@@ -1,9 +1,8 @@
 -- What a painter shows once sixels of one column each were drawn on its canvas: the pixels that
 -- they cover, and the runs that they are.
-use Rattle.std.proofs.Common.{◌≡◌, ℕ, suc, ◌+◌, ◌≤◌, ◌-◌, Bool, true, false}
-use Rattle.std.proofs.Common.{List, [], ◌∷◌, ◌++◌, length, get_or, take}
-use Rattle.std.proofs.Common.{cond, get_or-take, min, subst, refl}
-use Rattle.std.proofs.Common.{sym, ap, ◌∙◌, inl, inr, arith}
+use Rattle.std.proofs.Common.{◌≡◌, ℕ, suc, ◌+◌, ◌≤◌, ◌-◌, Bool, true, false, List, [], ◌∷◌, ◌++◌}
+use Rattle.std.proofs.Common.{length, get_or, take, cond, get_or-take, min, subst, refl, sym, ap}
+use Rattle.std.proofs.Common.{◌∙◌, inl, inr, arith}
 use Rattle.std.specs.Prelude.{nat_lt, nat_le, ◌&&◌, if◌then◌else◌}
 use Rattle.std.proofs.lemmas.List.{get_or_past}
 use Rattle.std.proofs.lemmas.Bool.{cases_lt, false≢true, le-ltb, lt-leb, le-leb, lt-ltb}
@@ -21,8 +20,7 @@ use Rattle.sixel_decoder.specs.declared.painter.Painter.{Painter}
 use Rattle.sixel_decoder.specs.inside.Painter.{FitsColumn, Shows}
 use Rattle.sixel_decoder.specs.inside.DrawnRows.{drawn_rows}
 use Rattle.sixel_decoder.specs.inside.Runs.{most_rows, named_width, runs_of}
-use Rattle.sixel_canvas.specs.inside.Drawn.{Run, run, covers_block}
-use Rattle.sixel_canvas.specs.inside.Drawn.{with_sixels as with_runs}
+use Rattle.sixel_canvas.specs.inside.Drawn.{Run, run, covers_block, with_sixels as with_runs}
 use Rattle.sixel_decoder.proofs.DrawnHeights.{drawn_height-sixels, most_rows-first}
 use Rattle.sixel_decoder.proofs.Clips.{clipped_pixel-sixel, covers_clipped}
 use Rattle.sixel_decoder.proofs.Clips.{fails_second, fails_third}

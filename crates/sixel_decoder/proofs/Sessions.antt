@@ -3,8 +3,7 @@
 use Rattle.std.proofs.Common.{◌≡◌, ℕ, ◌+◌, ◌≤◌, Bool, true, false, List, [], ◌∷◌, ◌++◌, refl, ap}
 use Rattle.std.proofs.Common.{sym, ◌∙◌, arith, Option, Some, None, Result, Ok, Err, length}
 use Rattle.std.proofs.Common.{length-append, subst}
-use Rattle.std.specs.Prelude.{◌==◌, nat_lt, is_none, is_some}
-use Rattle.std.specs.Prelude.{IfOk, IfErr, MatchBool}
+use Rattle.std.specs.Prelude.{◌==◌, nat_lt, is_none, is_some, IfOk, IfErr, MatchBool}
 use Rattle.std.proofs.lemmas.List.{length-drop}
 use Rattle.std.proofs.lemmas.Bool.{false≢true}
 use Rattle.std.proofs.lemmas.Bool.Decides.{nat_tests}
@@ -16,8 +15,7 @@ use Rattle.sixel_base.specs.declared.error.SixelError.TheVariants.{OutOfMemory}
 use Rattle.sixel_base.specs.Fault.{Faults}
 use Rattle.sixel_base.specs.Bytes.{front, count, first_terminator}
 use Rattle.sixel_base.specs.History.{history_of}
-use Rattle.sixel_base.specs.Payload.{fed_fault, settled, growths}
-use Rattle.sixel_base.specs.Payload.{payload_fault, payload_wants}
+use Rattle.sixel_base.specs.Payload.{fed_fault, settled, growths, payload_fault, payload_wants}
 use Rattle.sixel_base.specs.Stroke.{Origin}
 use Rattle.sixel_base.specs.declared.state.DecoderState.{DecoderState}
 use Rattle.sixel_base.specs.declared.status.SixelFeedResult.{SixelFeedResult}
@@ -32,9 +30,8 @@ use Rattle.sixel_decoder.specs.declared.dcs_parser.DcsState.{DcsState}
 use Rattle.sixel_decoder.specs.declared.dcs_parser.DcsState.TheVariants as states
 use Rattle.sixel_base.specs.Dcs.{Stage, Heading, Failing, Reading, introduced, stage, stage_status}
 use Rattle.sixel_base.specs.Dcs.{stage_count, stage_fault, after_terminator, end_count}
-use Rattle.sixel_base.specs.Dcs.{payload_count, payload_status, dcs_status}
-use Rattle.sixel_base.specs.Dcs.{dcs_count, dcs_fault, dcs_growths, has_ended}
-use Rattle.sixel_base.specs.Dcs.{IsSameString}
+use Rattle.sixel_base.specs.Dcs.{payload_count, payload_status, dcs_status, dcs_count, dcs_fault}
+use Rattle.sixel_base.specs.Dcs.{dcs_growths, has_ended, IsSameString}
 use Rattle.sixel_base.specs.Lenient.{fault}
 use Rattle.sixel_base.specs.Limits.{Limit}
 use Rattle.sixel_base.proofs.ToleratedTokens.{effective-fault}
@@ -45,12 +42,11 @@ use Rattle.sixel_decoder.specs.inside.PayloadReader.{HasRead}
 use Rattle.sixel_decoder.proofs.Chunks.{shown_after, first_terminator-ended}
 use Rattle.sixel_decoder.proofs.Chunks.{before_terminator-whole}
 use Rattle.sixel_decoder.proofs.DcsChunks.{heading, reading_fits}
-use Rattle.sixel_decoder.proofs.Finality.{count_ended, settled_ended, status_ended}
-use Rattle.sixel_decoder.proofs.Finality.{fed_fault_stays, growths_stay}
-use Rattle.sixel_decoder.proofs.Finality.{dcs_count_ended, dcs_fault_ended, dcs_growths_ended}
-use Rattle.sixel_decoder.proofs.Finality.{dcs_fault_stays, dcs_growths_stay}
+use Rattle.sixel_decoder.proofs.Finality.{count_ended, settled_ended, status_ended, fed_fault_stays}
+use Rattle.sixel_decoder.proofs.Finality.{growths_stay, dcs_count_ended, dcs_fault_ended}
+use Rattle.sixel_decoder.proofs.Finality.{dcs_growths_ended, dcs_fault_stays, dcs_growths_stay}
 use Rattle.sixel_decoder.proofs.Terminators.{drop-count, escape_waits, failing_stays}
-use Rattle.sixel_decoder.proofs.ChunkReads.{payload_refused}
+use Rattle.sixel_decoder.proofs.ChunkPlaces.{payload_refused}
 use Rattle.sixel_decoder.proofs.ParserSteps.{Faults-along}
 use Rattle.sixel_decoder.proofs.DcsEnds.{count-fits, count_open, count_at, status_at}
 

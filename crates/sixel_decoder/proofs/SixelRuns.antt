@@ -1,9 +1,8 @@
 -- What sixels of one column each that stand inside the picture do to the words of a history: they
 -- change pixels and the place alone.
-use Rattle.std.proofs.Common.{◌≡◌, ℕ, suc, ◌+◌, ◌*◌, ◌<◌, ◌≤◌, ◌-◌, true, false}
-use Rattle.std.proofs.Common.{List, [], ◌∷◌, length, get_or, take, length-take}
-use Rattle.std.proofs.Common.{get_or-take, subst, refl}
-use Rattle.std.proofs.Common.{sym, ap, ◌∙◌, None, arith}
+use Rattle.std.proofs.Common.{◌≡◌, ℕ, suc, ◌+◌, ◌*◌, ◌<◌, ◌≤◌, ◌-◌, true, false, List, [], ◌∷◌}
+use Rattle.std.proofs.Common.{length, get_or, take, length-take, get_or-take, subst, refl, sym, ap}
+use Rattle.std.proofs.Common.{◌∙◌, None, arith}
 use Rattle.std.specs.Prelude.{fold, nat_lt}
 use Rattle.std.proofs.lemmas.Bool.{le-ltb, le-leb, lt-ltb}
 use Rattle.sixel_base.specs.History.{Sixel, Repeat, Raster, Color, Return, Newline, Skip, History}

@@ -1,6 +1,5 @@
 -- What a sixel does to what was drawn, and when it is rejected.
-use Rattle.std.proofs.Common.{◌≡◌, ℕ, ◌+◌, ◌*◌, ◌<◌, ◌≤◌, ◌⊎◌, true, ◌∷◌, max}
-use Rattle.std.proofs.Common.{None, Some, refl}
+use Rattle.std.proofs.Common.{◌≡◌, ℕ, ◌+◌, ◌*◌, ◌<◌, ◌≤◌, ◌⊎◌, true, ◌∷◌, max, None, Some, refl}
 use Rattle.std.proofs.Common.{inl, inr, arith}
 use Rattle.std.specs.Prelude.{nat_lt}
 use Rattle.std.proofs.lemmas.Bool.{lt-ltb, le-ltb}
@@ -16,7 +15,7 @@ use Rattle.sixel_canvas.specs.declared.drawing.Canvas.{Ghosts}
 use Rattle.sixel_decoder.specs.declared.painter.Painter.{Painter}
 use Rattle.sixel_decoder.specs.inside.Painter.{Shows, IsExtended}
 use Rattle.sixel_decoder.specs.inside.Sizes.{IsTooLarge}
-use Rattle.sixel_decoder.proofs.ChunkReads.{or_right}
+use Rattle.sixel_decoder.proofs.ChunkPlaces.{or_right}
 use Rattle.sixel_decoder.proofs.FoundPayloads.{Faults-named}
 
 -- a side above a million

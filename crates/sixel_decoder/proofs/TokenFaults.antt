@@ -1,6 +1,5 @@
 -- Which errors are faults of the tokens.
-use Rattle.std.proofs.Common.{◌≡◌, Bool, true, refl}
-use Rattle.std.proofs.Common.{Option, Some, None}
+use Rattle.std.proofs.Common.{◌≡◌, Bool, true, refl, Option, Some, None}
 use Rattle.std.specs.Prelude.{IsSomeAnd}
 use Rattle.sixel_base.specs.declared.error.SixelError.{SixelError}
 use Rattle.sixel_base.specs.declared.error.SixelError.TheVariants.{InvalidDimensions}

@@ -1,16 +1,14 @@
 -- What the calls of a DCS session do, by the session before and after. Each field is one fact.
 -- What the bytes of a DCS sequence mean is in Dcs of sixel_base, which does not mention chunks.
-use Rattle.std.specs.Prelude.{ℕ, ◌≡◌, ◌+◌, ◌*◌, ◌≤◌, ◌++◌, List, [], length, true, false}
-use Rattle.std.specs.Prelude.{nat_lt, Option, None, Result, Ok, Err}
-use Rattle.std.specs.Prelude.{OnOk, OnErr, IfOk, IfErr, MatchBool}
+use Rattle.std.specs.Prelude.{ℕ, ◌≡◌, ◌+◌, ◌*◌, ◌≤◌, ◌++◌, List, [], length, true, false, nat_lt}
+use Rattle.std.specs.Prelude.{Option, None, Result, Ok, Err, OnOk, OnErr, IfOk, IfErr, MatchBool}
 use Rattle.sixel_base.specs.declared.error.SixelError.{SixelError}
 use Rattle.sixel_base.specs.declared.state.DecoderState.{DecoderState}
 use Rattle.sixel_base.specs.declared.status.SixelDcsFeedResult.{SixelDcsFeedResult}
 use Rattle.sixel_base.specs.declared.status.SixelDcsFeedStatus.TheVariants.{NeedMoreData}
-use Rattle.sixel_base.specs.Dcs.{dcs_count, dcs_status, dcs_fault, dcs_growths}
-use Rattle.sixel_base.specs.Dcs.{dcs_reached_area, dcs_size, can_finish, has_ended, end_fault}
-use Rattle.sixel_base.specs.Dcs.{stage}
-use Rattle.sixel_base.specs.Dcs.{IsSameString, IsStringImage, AreStringRegisters}
+use Rattle.sixel_base.specs.Dcs.{dcs_count, dcs_status, dcs_fault, dcs_growths, dcs_reached_area}
+use Rattle.sixel_base.specs.Dcs.{dcs_size, can_finish, has_ended, end_fault, stage, IsSameString}
+use Rattle.sixel_base.specs.Dcs.{IsStringImage, AreStringRegisters}
 use Rattle.sixel_base.specs.DrawnHeight.{dcs_drawn_height}
 use Rattle.sixel_base.specs.Fault.{Faults, IsFault, DcsStreamFailed}
 use Rattle.sixel_base.specs.OneShot.{found, found_fault, IsFoundImage, AreFoundRegisters}

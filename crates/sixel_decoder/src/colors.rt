@@ -1,7 +1,6 @@
 //! Colors of pixels: the background, and what a color introducer defines.
 
-ghost use Rattle.std.specs.Prelude.{◌≡◌, ◌∷◌, ◌++◌, List, ℕ, []};
-ghost use Rattle.std.specs.Prelude.{slice_set, true, if◌then◌else◌};
+ghost use Rattle.std.specs.Prelude.{◌≡◌, ◌∷◌, ◌++◌, List, ℕ, [], slice_set, true, if◌then◌else◌};
 ghost use Rattle.sixel_canvas.specs.inside.Tags.{is_tag};
 ghost use Rattle.sixel_base.specs.inside.Parameters.{Keeps};
 ghost use Rattle.sixel_base.specs.Decoder.{origin_of};

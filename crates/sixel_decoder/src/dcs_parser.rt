@@ -7,9 +7,8 @@ ghost use Rattle.sixel_base.specs.declared.state.DecoderState.{DecoderState};
 ghost use Rattle.sixel_base.specs.Fault.{IsFault, DcsStreamFailed};
 ghost use Rattle.sixel_decoder.specs.declared.dcs_parser.DcsState.TheVariants.{Start, Payload};
 ghost use Rattle.sixel_decoder.specs.declared.dcs_parser.DcsState.TheVariants.{Failed};
-ghost use Rattle.sixel_decoder.specs.inside.DcsParser.{HasFollowed, IsInPayload};
-ghost use Rattle.sixel_decoder.specs.inside.DcsParser.{is_head, is_failed, StepsInto};
-ghost use Rattle.sixel_decoder.specs.inside.DcsParser.{Heads, Follows};
+ghost use Rattle.sixel_decoder.specs.inside.DcsParser.{HasFollowed, IsInPayload, is_head};
+ghost use Rattle.sixel_decoder.specs.inside.DcsParser.{is_failed, StepsInto, Heads, Follows};
 ghost use Rattle.sixel_decoder.specs.inside.DcsReader.{released_of};
 
 use crate::bytes::tail;

@@ -6,10 +6,9 @@ ghost use Rattle.std.specs.Prelude.{◌≡◌, ◌∷◌, [], true, false, min, 
 ghost use Rattle.sixel_base.specs.Dcs.{dcs_in_payload, dcs_status, has_ended};
 ghost use Rattle.sixel_base.specs.OneShot.{found};
 ghost use Rattle.sixel_decoder.specs.FinalRows.{found_pixel};
-ghost use Rattle.sixel_decoder.specs.DcsCalls.{begun, byte_read, IsFed, IsFinished};
-ghost use Rattle.sixel_decoder.specs.DcsCalls.{IsSizeSoFar, IsDrawnHeight};
-ghost use Rattle.sixel_decoder.specs.DcsCalls.{IsWriteCount, IsPaintCount, IsBandPaintCount};
-ghost use Rattle.sixel_decoder.specs.DcsCalls.{IsBandWriteCount};
+ghost use Rattle.sixel_decoder.specs.DcsCalls.{begun, byte_read, IsFed, IsFinished, IsSizeSoFar};
+ghost use Rattle.sixel_decoder.specs.DcsCalls.{IsDrawnHeight, IsWriteCount, IsPaintCount};
+ghost use Rattle.sixel_decoder.specs.DcsCalls.{IsBandPaintCount, IsBandWriteCount};
 ghost use Rattle.sixel_decoder.specs.PictureView.{picture_report, whole_image};
 ghost use Rattle.sixel_decoder.specs.Report.{found_report};
 

@@ -8,6 +8,7 @@ pub mod PaletteColors
 pub mod PaletteCounts
 pub mod PaletteDistance
 pub mod PaletteCutBoxes
+pub mod PaletteBestBox
 pub mod PaletteCuts
 pub mod PaletteDivide
 pub mod PaletteFarthest
@@ -24,6 +25,7 @@ pub mod PaletteOrder
 pub mod PalettePages
 pub mod PalettePositions
 pub mod PaletteRanks
+pub mod PaletteRankPages
 pub mod PaletteRefined
 pub mod PaletteLanes
 pub mod PaletteRelaxation

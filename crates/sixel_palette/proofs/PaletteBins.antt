@@ -1,6 +1,6 @@
 -- The table of bins: a bin with more pixels, and one bin more.
-use Rattle.std.proofs.Common.{◌≡◌, ℕ, zero, suc, ◌+◌, ◌*◌, ◌<◌, ◌≤◌, Bool, true, false, List, [], ◌∷◌, ◌++◌}
-use Rattle.std.proofs.Common.{length, get_or, set, map, cond, inl, inr, refl, ap, ⊎_elim}
+use Rattle.std.proofs.Common.{◌≡◌, ℕ, zero, suc, ◌+◌, ◌*◌, ◌<◌, ◌≤◌, Bool, true, false, List, []}
+use Rattle.std.proofs.Common.{◌∷◌, ◌++◌, length, get_or, set, map, cond, inl, inr, refl, ap, ⊎_elim}
 use Rattle.std.proofs.Common.{sym, ◌∙◌, arith}
 use Rattle.std.specs.List.{All, sum_by}
 use Rattle.std.specs.Prelude.{◌/◌, ◌⊎◌, ◌≢◌}
@@ -284,7 +284,8 @@ pub counted_more : (step : ℕ) (codes counts : List ℕ) (n : ℕ) (contains : 
 counted_more step codes counts n contains k =
     let color = color_of (get_or codes n 0) in
     let f : ℕ → ℕ = λ i. get_or counts i 0
-    * cond (contains (corner step (color_of (get_or codes i 0)))) (share k (color_of (get_or codes i 0))) 0 in
+    * cond (contains (corner step (color_of (get_or codes i 0))))
+        (share k (color_of (get_or codes i 0))) 0 in
     sum_to-more f n
     ∙ ap (λ m. sum_to f n + m)
     (sym (cond_times (contains (corner step color)) (get_or counts n 0) (share k color)))

@@ -1,7 +1,6 @@
 -- Sums over codes and over pixels.
-use Rattle.std.proofs.Common.{◌≡◌, ℕ, zero, suc, ◌+◌, ◌*◌, ◌/◌, ◌<◌, ◌≤◌, List, []}
-use Rattle.std.proofs.Common.{◌∷◌, length, get_or, take, set, map, replicate, refl, ap, sym}
-use Rattle.std.proofs.Common.{◌∙◌, ⊎_elim, arith}
+use Rattle.std.proofs.Common.{◌≡◌, ℕ, zero, suc, ◌+◌, ◌*◌, ◌/◌, ◌<◌, ◌≤◌, List, [], ◌∷◌, length}
+use Rattle.std.proofs.Common.{get_or, take, set, map, replicate, refl, ap, sym, ◌∙◌, ⊎_elim, arith}
 use Rattle.std.specs.Prelude.{nat_lt, if◌then◌else◌}
 use Rattle.std.proofs.Math.Nat.{mul-le-mul_left}
 use Rattle.std.proofs.lemmas.Bool.{cases_lt, cond_below, cond_above}
@@ -11,8 +10,8 @@ use Rattle.std.proofs.lemmas.List.{get_or_default}
 use Rattle.std.specs.List.{Contains}
 use Rattle.sixel_base.specs.Limits.{area_limit}
 use Rattle.sixel_palette.specs.Palette.{nearest, rank, color_at, no_entry, IsShown}
-use Rattle.sixel_palette.specs.Refined.{sum_to, pixel_error, opaque_bins, opaque_number, opaque_pixels}
-use Rattle.sixel_palette.specs.Refined.{summed_error}
+use Rattle.sixel_palette.specs.Refined.{sum_to, pixel_error, opaque_bins, opaque_number}
+use Rattle.sixel_palette.specs.Refined.{opaque_pixels, summed_error}
 use Rattle.sixel_palette.specs.GainCut.{bin_step}
 use Rattle.sixel_palette.specs.inside.PaletteCodes.{color_of, IsListed}
 use Rattle.sixel_palette.specs.inside.PaletteSums.{counted_pixels}
@@ -316,7 +315,8 @@ dot-sum f (code ∷ codes) (x ∷ counts) e =
 
 -- the sum of the products is one over the pixels of the codes
 pub dot-counted : (number : List ℕ → ℕ) (codes counts : List ℕ) → length counts ≡ length codes
-    → dot counts (map (λ code. number (color_of code)) codes) ≡ (counted_pixels codes counts).sum number
+    → dot counts (map (λ code. number (color_of code)) codes)
+        ≡ (counted_pixels codes counts).sum number
 dot-counted number codes counts e = dot-sum (λ code. number (color_of code)) codes counts e
 
 -- the pixels of the codes are the opaque pixels

@@ -99,7 +99,8 @@ no_totals s e (suc (suc zero)) = omega (arith, s.greens, e)
 no_totals s e (suc (suc (suc k))) = omega (arith, s.blues, e)
 
 -- a value without a pixel gains no more than the one before it
-skipped_gain : (sums : List ColorSums) (sides : Sides) (gains : ℕ → ℕ) (channel : Channel) (cut : Cut)
+skipped_gain : (sums : List ColorSums) (sides : Sides) (gains : ℕ → ℕ) (channel : Channel)
+    (cut : Cut)
     (n : ℕ) (s : ColorSums) → AreGains sums sides gains → n < sides.high - sides.low
     → n < length sums → s ≡ get_or sums n s → s.count ≡ 0
     → gains (sides.low + n) ≤ (best_to gains channel (sides.low + n) cut).gain
@@ -127,7 +128,8 @@ skipped_gain sums sides gains channel cut (suc n) s are l within own none =
     )
 
 -- so it is skipped
-pub skipped : (sums : List ColorSums) (sides : Sides) (gains : ℕ → ℕ) (channel : Channel) (cut : Cut)
+pub skipped : (sums : List ColorSums) (sides : Sides) (gains : ℕ → ℕ) (channel : Channel)
+    (cut : Cut)
     (n : ℕ) (s : ColorSums) → AreGains sums sides gains → n < sides.high - sides.low
     → n < length sums → s ≡ get_or sums n s → s.count ≡ 0
     → best_to gains channel (sides.low + (n + 1)) cut ≡ best_to gains channel (sides.low + n) cut
@@ -285,7 +287,8 @@ pub no_gain_above : (pixels : Pixels) (box : Box) (bins : List Bin) (channel : C
     (sides : Sides) (value : ℕ) → AreBinsOf pixels box bins → AreWithin channel sides bins
     → sides.high ≤ value → cut_gain pixels box channel value ≡ 0
 no_gain_above pixels box bins channel sides value are within l =
-    gain-none (box_sums pixels (below box channel value)) (box_sums pixels (above box channel value))
+    gain-none (box_sums pixels (below box channel value))
+        (box_sums pixels (above box channel value))
     (inr
     (sums_above pixels box bins channel value 0 are
     ∙ none_above channel sides bins value (λ b. total b.sums 0) within l))

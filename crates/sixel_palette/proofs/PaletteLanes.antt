@@ -5,10 +5,9 @@ use Rattle.std.proofs.Common.{List, [], ◌∷◌, ◌++◌, length, get_or, map
 use Rattle.std.proofs.lemmas.Bool.{cases_Bool, cases_lt}
 use Rattle.std.proofs.lemmas.Bool.Decides.{nat_tests}
 use Rattle.std.proofs.lemmas.List.{get_or-map, length-map}
-use Rattle.std.proofs.lemmas.Simd.{length-zip2, get_or-zip2, Each1-zip2, Each2-all}
-use Rattle.std.proofs.lemmas.Simd.{length-sel_l, get_or-sel_l, tops_compared}
-use Rattle.std.proofs.lemmas.Simd.{get_or-put_chunk_below, get_or-put_chunk_at}
-use Rattle.std.proofs.lemmas.Simd.{get_or-put_chunk_above}
+use Rattle.std.proofs.lemmas.Simd.{length-zip2, get_or-zip2, Each1-zip2, Each2-all, length-sel_l}
+use Rattle.std.proofs.lemmas.Simd.{get_or-sel_l, tops_compared, get_or-put_chunk_below}
+use Rattle.std.proofs.lemmas.Simd.{get_or-put_chunk_at, get_or-put_chunk_above}
 use lib.Lanes.{Each1, put_chunk, sel_l, top, zip2}
 use Rattle.sixel_palette.specs.declared.palette.nearest_entry.NearestEntry.{NearestEntry}
 use Rattle.sixel_palette.specs.Palette.{distance}

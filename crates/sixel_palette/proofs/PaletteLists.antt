@@ -1,31 +1,14 @@
 -- Lists of numbers: one more at the end, one set, a part, and numbers that rise.
 use Rattle.std.proofs.Common.{◌≡◌, ◌≢◌, ℕ, zero, suc, ◌+◌, ◌-◌, ◌<◌, ◌≤◌, List, [], ◌∷◌, ◌++◌}
-use Rattle.std.proofs.Common.{length, get_or, take, drop, set, replicate, ap, ◌∙◌, inl, inr, ⊎_elim}
+use Rattle.std.proofs.Common.{length, get_or, take, drop, replicate, ap, ◌∙◌, inl, inr, ⊎_elim}
 use Rattle.std.proofs.Common.{arith}
 use Rattle.std.specs.List.{All, Contains}
 use Rattle.std.specs.List.Sorted.{IsStrictlyIncreasing}
 use Rattle.std.proofs.lemmas.Bool.{cases_lt}
 use Rattle.std.proofs.lemmas.List.{get_or_append_left, get_or_push, get_or-take, get_or-drop}
-use Rattle.std.proofs.lemmas.List.{get_or-replicate, get_or-set_same, get_or-set_other, length_push}
+use Rattle.std.proofs.lemmas.List.{get_or-replicate, length_push}
 use Rattle.std.proofs.lemmas.List.{length-take, length-drop, get_or_default}
 use Rattle.std.proofs.lemmas.List.Kept.{AllPairs-from_increasing}
-
--- a fact of the numbers so far and of one more
-pub push_cases : (P : ℕ → ℕ → Type 0) (xs : List ℕ) (x n k : ℕ) → length xs ≡ n → k < n + 1
-    → (k < n → P k (get_or xs k 0)) → P n x → P k (get_or (xs ++ x ∷ []) k 0)
-push_cases P xs x n k e l before here =
-    ⊎_elim (λ h. rw (get_or_append_left xs (x ∷ []) 0 k (omega arith)) (before h))
-    (λ h. let at : k ≡ n = omega arith in rw (at, get_or_push xs x 0 n e) here)
-    (cases_lt k n)
-
--- a fact of the first numbers, and of one that is set after them
-pub set_cases : (P : ℕ → ℕ → Type 0) (xs : List ℕ) (x n k : ℕ) → n < length xs → k < n + 1
-    → (k < n → P k (get_or xs k 0)) → P n x → P k (get_or (set xs n x) k 0)
-set_cases P xs x n k e l before here =
-    ⊎_elim (λ (h : k < n).
-    let apart : k ≢ n = omega arith in rw (get_or-set_other xs n k x 0 apart) (before h))
-    (λ (h : n ≤ k). let at : k ≡ n = omega arith in rw (at, get_or-set_same xs n x 0 e) here)
-    (cases_lt k n)
 
 -- a fact of each of four indices
 pub four_cases : (P : ℕ → Type 0) → P 0 → P 1 → P 2 → P 3 → (k : ℕ) → k < 4 → P k

@@ -15,8 +15,8 @@ use Rattle.sixel_palette.specs.declared.palette.nearest_entry.NearestEntry.{Near
 use Rattle.sixel_palette.specs.Palette.{distance, nearest, no_entry}
 use Rattle.sixel_palette.specs.ColorSums.{Pixels, mean_or, sums_of}
 use Rattle.sixel_palette.specs.GainCut.{corner}
-use Rattle.sixel_palette.specs.Lloyd.{bin_mean, has_entry, improved_entries, mean_bytes, moved_entries}
-use Rattle.sixel_palette.specs.Lloyd.{nearest_index}
+use Rattle.sixel_palette.specs.Lloyd.{bin_mean, has_entry, improved_entries, mean_bytes}
+use Rattle.sixel_palette.specs.Lloyd.{moved_entries, nearest_index}
 use Rattle.sixel_palette.specs.inside.PaletteCounts.{counted_error}
 use Rattle.sixel_palette.specs.inside.PaletteNearest.{IsNearestEntry}
 use Rattle.sixel_palette.specs.inside.PaletteSums.{AreBinsOf, AreIndicesBy, IsWholeBin, channels}
@@ -169,7 +169,8 @@ improved_kept codes counts entries moved same is l =
     let twice = moved_entries pixels (moved_entries pixels entries) in
     let here = error_counted entries codes counts same in
     let there = error_counted moved codes counts same ∙ ap (λ m. pixels.sum (nearest m)) is in
-    let less : pixels.sum (nearest entries) ≤ pixels.sum (nearest twice) = omega (arith, here, there, l) in
+    let less : pixels.sum (nearest entries) ≤ pixels.sum
+        (nearest twice) = omega (arith, here, there, l) in
     let test : nat_le (pixels.sum (nearest entries)) (pixels.sum (nearest twice)) ≡ true =
     grind (arith, nat_tests, less) in
     sym (ap (λ t. cond t entries twice) test)
@@ -185,7 +186,8 @@ improved_taken codes counts entries moved same is l =
     let twice = moved_entries pixels (moved_entries pixels entries) in
     let here = error_counted entries codes counts same in
     let there = error_counted moved codes counts same ∙ ap (λ m. pixels.sum (nearest m)) is in
-    let more : pixels.sum (nearest twice) < pixels.sum (nearest entries) = omega (arith, here, there, l) in
+    let more : pixels.sum (nearest twice) < pixels.sum
+        (nearest entries) = omega (arith, here, there, l) in
     let test : nat_le (pixels.sum (nearest entries)) (pixels.sum (nearest twice)) ≡ false =
     grind (arith, nat_tests, more) in
     is ∙ sym (ap (λ t. cond t entries twice) test)

@@ -75,7 +75,8 @@ farthest_alike M N to from entries c far =
     }
 
 -- two farthest colors have one rank
-pub rank-farthest : (M N : List ℕ → Type 0) → ((c : List ℕ) → M c → N c) → ((c : List ℕ) → N c → M c)
+pub rank-farthest : (M N : List ℕ → Type 0) → ((c : List ℕ) → M c → N c)
+    → ((c : List ℕ) → N c → M c)
     → (entries : List (List ℕ)) (a b : List ℕ) → IsFarthest M entries a → IsFarthest N entries b
     → rank a ≡ rank b
 rank-farthest M N to from entries a b f g =

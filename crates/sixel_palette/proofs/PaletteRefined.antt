@@ -1,6 +1,5 @@
 -- The refined palette: colors that registers show, and its certificate.
-use Rattle.std.proofs.Common.{ℕ, ◌<◌, List, [], length, get_or, refl}
-use Rattle.std.proofs.Common.{arith}
+use Rattle.std.proofs.Common.{ℕ, ◌<◌, List, [], length, get_or, refl, arith}
 use Rattle.std.specs.List.{All}
 use Rattle.sixel_base.specs.Color.{rgb}
 use Rattle.sixel_palette.specs.Palette.{nearest, IsShown, no_entry}

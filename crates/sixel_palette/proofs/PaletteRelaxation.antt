@@ -1,18 +1,15 @@
 -- Relaxing distances by one more entry: in a cell, in all cells, and in a cell that is too far.
-use Rattle.std.proofs.Common.{◌≡◌, ◌≢◌, ◌⊎◌, inl, inr, ℕ, ◌+◌, ◌*◌, ◌<◌, ◌≤◌, min, max}
-use Rattle.std.proofs.Common.{List, [], ◌∷◌, ◌++◌, length, get_or, set, refl, ◌∙◌}
-use Rattle.std.proofs.Common.{⊎_elim, arith}
+use Rattle.std.proofs.Common.{◌≡◌, ◌≢◌, ◌⊎◌, inl, inr, ℕ, ◌+◌, ◌*◌, ◌<◌, ◌≤◌, min, max, List, []}
+use Rattle.std.proofs.Common.{◌∷◌, ◌++◌, length, get_or, set, refl, ◌∙◌, ⊎_elim, arith}
 use Rattle.std.proofs.lemmas.Bool.{cases_lt}
-use Rattle.std.proofs.lemmas.List.{get_or-set_same, get_or-set_other}
-use Rattle.std.proofs.lemmas.List.{length-set}
+use Rattle.std.proofs.lemmas.List.{get_or-set_same, get_or-set_other, length-set}
 use Rattle.sixel_palette.specs.declared.palette.cells.Cell.{Cell}
 use Rattle.sixel_palette.specs.declared.palette.nearest_entry.NearestEntry.{NearestEntry}
 use Rattle.sixel_palette.specs.Palette.{distance}
 use Rattle.sixel_palette.specs.inside.PaletteCodes.{color_of}
 use Rattle.sixel_palette.specs.inside.PaletteNearest.{IsNearestEntry, AreNearest, nearest_at}
-use Rattle.sixel_palette.specs.inside.PaletteCells.{IsInBox, IsInCell}
-use Rattle.sixel_palette.specs.inside.PaletteCells.{IsGreatestIn, IsCell, AreCells, AreNearestIn}
-use Rattle.sixel_palette.specs.inside.PaletteCells.{IsSameOutside}
+use Rattle.sixel_palette.specs.inside.PaletteCells.{IsInBox, IsInCell, IsGreatestIn, IsCell}
+use Rattle.sixel_palette.specs.inside.PaletteCells.{AreCells, AreNearestIn, IsSameOutside}
 use Rattle.sixel_palette.proofs.PaletteNearestEntry.{near_kept}
 
 -- the distances of the colors at these positions are relaxed by the entries
@@ -39,10 +36,6 @@ get_or-set_before xs at x k l = let other : k ≢ at = omega arith in rw get_or-
 -- a write keeps the numbers after it
 get_or-set_after : (xs : List ℕ) (at x k : ℕ) → at < k → get_or (set xs at x) k 0 ≡ get_or xs k 0
 get_or-set_after xs at x k l = let other : k ≢ at = omega arith in rw get_or-set_other refl
-
--- nothing is written yet
-pub old_none : (xs : List ℕ) (from : ℕ) → AreOld xs xs from from
-old_none xs from = record { before = λ k l. refl; after = λ k l. refl }
 
 -- one more position is written
 pub old_more : (old new : List ℕ) (from at x : ℕ) → from ≤ at → AreOld old new from at

@@ -52,7 +52,8 @@ tops_alike M N to from max_colors base entries witnesses h = record {
 }
 
 -- there are no fewer entries
-pub tops_longer : (Member : List ℕ → Type 0) (max_colors : ℕ) (base entries witnesses : List (List ℕ))
+pub tops_longer : (Member : List ℕ → Type 0) (max_colors : ℕ)
+    (base entries witnesses : List (List ℕ))
     → AreOnTop Member max_colors base entries witnesses → length base ≤ length entries
 tops_longer Member max_colors base entries witnesses h =
     rw h.whole (omega (arith, length-append base (map register_color h.tops)))
@@ -67,7 +68,8 @@ tops_fall Member max_colors base entries witnesses codes counts h =
     (λ code. nearest-append base (map register_color h.tops) (color_of code)))
 
 -- the witnesses are members
-pub tops_occur : (Member : List ℕ → Type 0) (max_colors : ℕ) (base entries witnesses : List (List ℕ))
+pub tops_occur : (Member : List ℕ → Type 0) (max_colors : ℕ)
+    (base entries witnesses : List (List ℕ))
     → AreOnTop Member max_colors base entries witnesses → All Member witnesses
 tops_occur Member max_colors base entries witnesses h =
     ⊎_elim (λ some.

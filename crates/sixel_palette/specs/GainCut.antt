@@ -1,5 +1,6 @@
 -- Boxes of colors, cut in two where the summed squared error falls most (X. Wu, "Color quantization
--- by dynamic programming and principal analysis", 1992). The gain is in sixteenths and rounded down.
+-- by dynamic programming and principal analysis", 1992). The gain is in sixteenths and rounded
+-- down.
 -- Ties are this library's.
 use Rattle.std.specs.Prelude.{ℕ, ◌+◌, ◌-◌, ◌*◌, ◌/◌, ◌==◌, ◌&&◌, ◌||◌, zero, suc, Bool, true}
 use Rattle.std.specs.Prelude.{nat_le, nat_lt, if◌then◌else◌, List, [], ◌∷◌, ◌++◌, length, map}

@@ -52,7 +52,8 @@ pixel_error entries pixels = opaque_number (nearest entries) pixels
 abbrev pub summed_error : List (List ℕ) → List ℕ → ℕ
 summed_error entries pixels = sum_to (pixel_error entries pixels) (length pixels / 4)
 
--- the boxes that the colors are cut into: a sixteenth of the entries is left for the farthest colors
+-- the boxes that the colors are cut into: a sixteenth of the entries is left for the farthest
+-- colors
 abbrev pub cut_boxes : Pixels → ℕ → List Box
 cut_boxes pixels max_colors = boxes_after pixels (max_colors - max_colors / 16 - 1)
 

@@ -1,8 +1,7 @@
 -- What a band shows some of whose blocks are tagged: a tag is the color of a block of 128 columns
 -- of a row, over what is stored there. The rule is this library's own: a wide run over columns that
 -- were drawn on tags the blocks that it covers whole.
-use Rattle.std.specs.Prelude.{◌≡◌, ℕ, ◌+◌, ◌-◌, ◌*◌, ◌/◌, ◌≤◌, List, min, nat_lt}
-use Rattle.std.specs.Prelude.{if◌then◌else◌}
+use Rattle.std.specs.Prelude.{◌≡◌, ℕ, ◌+◌, ◌-◌, ◌*◌, ◌/◌, ◌≤◌, List, min, nat_lt, if◌then◌else◌}
 use Rattle.sixel_canvas.specs.inside.Band.{BandState, IsBand, cell}
 use Rattle.sixel_canvas.specs.inside.Tags.{no_tag, under}
 

@@ -12,7 +12,8 @@ corners_of bins = map (λ bin. bin.corner) bins
 abbrev pub cell : List ℕ → ℕ
 cell corner = slice_index corner 1 * 64 + slice_index corner 2
 
--- the corners differ, reds do not fall and are at most this one, and the table finds the last corner
+-- the corners differ, reds do not fall and are at most this one, and the table finds the last
+-- corner
 -- with a green and a blue
 pub record IsTable (corners : List (List ℕ)) (positions : List ℕ) (red : ℕ) : Type 0 where
   pub small : (k : ℕ) → k < length corners
@@ -28,5 +29,6 @@ pub record IsTable (corners : List (List ℕ)) (positions : List ℕ) (red : ℕ
   pub within : (k : ℕ) → k < length corners
       → slice_index positions (cell (slice_index_or corners k [])) < length corners
   pub found : (k : ℕ) → k < length corners
-      → cell (slice_index_or corners (slice_index positions (cell (slice_index_or corners k []))) [])
+      → cell (slice_index_or corners (slice_index positions
+          (cell (slice_index_or corners k []))) [])
       ≡ cell (slice_index_or corners k [])

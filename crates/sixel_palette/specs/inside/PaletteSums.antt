@@ -1,7 +1,6 @@
 -- The sums that the code stores, over bins and over colors with counts.
-use Rattle.std.specs.Prelude.{◌≡◌, ℕ, ◌*◌, zero, suc, Bool, List, [], ◌∷◌, length, take, drop, slice_index}
-use Rattle.std.specs.Prelude.{◌<◌, ◌==◌, slice_index_or}
-use Rattle.std.specs.Prelude.{◌&&◌, if◌then◌else◌}
+use Rattle.std.specs.Prelude.{◌≡◌, ℕ, ◌*◌, zero, suc, Bool, List, [], ◌∷◌, length, take, drop}
+use Rattle.std.specs.Prelude.{slice_index, ◌<◌, ◌==◌, slice_index_or, ◌&&◌, if◌then◌else◌}
 use Rattle.std.specs.List.{sum_by}
 use Rattle.sixel_palette.specs.declared.palette.bins.Bin.{Bin}
 use Rattle.sixel_palette.specs.declared.palette.color_sums.ColorSums.{ColorSums}

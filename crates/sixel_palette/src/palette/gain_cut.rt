@@ -3,8 +3,8 @@
 //! X. Wu, "Color quantization by dynamic programming and principal analysis", ACM Transactions on
 //! Graphics 11 (1992), 348-372, cuts boxes in this way.
 
-ghost use Rattle.std.specs.Prelude.{◌≡◌, ◌+◌, ◌-◌, ◌*◌, ◌/◌, ◌%◌, ◌<◌, ◌≤◌, ℕ, List, true, length, All};
-ghost use Rattle.std.specs.Prelude.{IfOk, OnOk, slice_index, slice_index_or, take, drop};
+ghost use Rattle.std.specs.Prelude.{◌≡◌, ◌+◌, ◌-◌, ◌*◌, ◌/◌, ◌%◌, ◌<◌, ◌≤◌, ℕ, List, true, length};
+ghost use Rattle.std.specs.Prelude.{All, IfOk, OnOk, slice_index, slice_index_or, take, drop};
 ghost use Rattle.std.specs.List.{sum_by};
 ghost use Rattle.std.specs.List.Sorted.{IsPermutation};
 ghost use Rattle.sixel_base.specs.Limits.{area_limit};

@@ -11,10 +11,9 @@ ghost use Rattle.sixel_palette.specs.Palette.{IsNearest, distance};
 ghost use Rattle.sixel_palette.specs.inside.PaletteCells.{IsInInterval};
 ghost use Rattle.sixel_palette.specs.inside.PaletteCodes.{color_of, code_count};
 ghost use Rattle.sixel_palette.specs.inside.PaletteNearest.{IsNearestEntry};
-ghost use Rattle.sixel_palette.specs.inside.PaletteKeys.{entry_at, key_of, least_key};
-ghost use Rattle.sixel_palette.specs.inside.PaletteKeys.{IsInCube, Appends};
-ghost use Rattle.sixel_palette.specs.inside.PaletteKeys.{AreNumbered, HasNearest, AreLists};
-ghost use Rattle.sixel_palette.specs.inside.PaletteKeys.{IsSearch, IsSearchOf};
+ghost use Rattle.sixel_palette.specs.inside.PaletteKeys.{entry_at, key_of, least_key, IsInCube};
+ghost use Rattle.sixel_palette.specs.inside.PaletteKeys.{Appends, AreNumbered, HasNearest};
+ghost use Rattle.sixel_palette.specs.inside.PaletteKeys.{AreLists, IsSearch, IsSearchOf};
 ghost use Rattle.sixel_palette.specs.inside.PaletteKeys.{cube_position, group_position};
 
 mod cube;

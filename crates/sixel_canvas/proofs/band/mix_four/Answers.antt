@@ -1,5 +1,5 @@
 use Rattle.std.proofs.Common.{◌∙◌}
-use Rattle.sixel_canvas.proofs.BandRows.{mixed_more}
+use Rattle.sixel_canvas.proofs.BandSixels.{mixed_more}
 use Rattle.sixel_canvas.proofs.band.mix_four.Goals as goal
 
 pub mixed-preserved : goal.mixed-preserved

@@ -1,5 +1,5 @@
 use Rattle.std.proofs.Common.{◌≡◌, ℕ, ◌<◌, get_or, arith}
-use Rattle.sixel_canvas.proofs.BandRows.{covers_first, covers_halves}
+use Rattle.sixel_canvas.proofs.BandSixels.{covers_first, covers_halves}
 use Rattle.sixel_canvas.proofs.Lanes.{each_of_four, four_lanes}
 use Rattle.sixel_canvas.proofs.band.mix_rows.Goals as goal
 

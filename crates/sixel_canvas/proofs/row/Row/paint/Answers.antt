@@ -1,11 +1,9 @@
-use Rattle.std.proofs.Common.{◌≡◌, ◌≤◌, ◌-◌, ◌*◌, ◌++◌, length, take, drop, ap, ◌∙◌, arith}
-use Rattle.std.proofs.Common.{rules}
+use Rattle.std.proofs.Common.{◌≡◌, ◌≤◌, ◌-◌, ◌*◌, ◌++◌, length, take, drop, ap, ◌∙◌, arith, rules}
 use Rattle.std.proofs.lemmas.List.{with_items_is}
 use Rattle.sixel_base.specs.Picture.{joined}
 use Rattle.sixel_canvas.specs.Row.{RowState, painted, row_state}
 use Rattle.sixel_canvas.specs.inside.Pixels.{pixels_of}
-use Rattle.sixel_canvas.proofs.PixelLists.{length-painted_bytes, pixels_of-painted}
-use Rattle.sixel_canvas.proofs.PixelLists.{thrifty_written}
+use Rattle.sixel_canvas.proofs.PixelLists.{length-painted_bytes, pixels_of-painted, thrifty_written}
 use Rattle.sixel_canvas.proofs.row.Row.paint.Goals as goal
 
 held_is : (c : goal.After-self-1) → c.args.to ≤ length (pixels_of c.self.inside.bytes.items)

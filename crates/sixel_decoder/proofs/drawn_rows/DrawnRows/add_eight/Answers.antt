@@ -7,8 +7,7 @@ use Rattle.sixel_base.specs.DrawnHeight.{lowered, set_rows}
 use Rattle.sixel_decoder.specs.inside.DrawnRows.{together}
 use Rattle.sixel_decoder.specs.inside.Runs.{most_rows}
 use Rattle.sixel_decoder.proofs.SetRows.{bytes-or, length-bytes, lowered-again, most_rows-zip}
-use Rattle.sixel_decoder.proofs.SetRows.{set_rows-fold}
-use Rattle.sixel_decoder.proofs.SetRows.{set_rows-or}
+use Rattle.sixel_decoder.proofs.SetRows.{set_rows-fold, set_rows-or}
 use Rattle.sixel_decoder.proofs.drawn_rows.DrawnRows.add_eight.Goals as goal
 
 pub returns : goal.returns

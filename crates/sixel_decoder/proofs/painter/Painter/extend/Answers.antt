@@ -22,4 +22,5 @@ returns-in-Ok-clause-extended g c =
     }
 
 pub returns-in-Err-clause-extended : goal.returns-in-Err-clause-extended
-returns-in-Err-clause-extended g c = rw (← c.max-width.ensures, ← c.max-height.ensures) c.in-Err.ensures
+returns-in-Err-clause-extended g c = rw (← c.max-width.ensures, ← c.max-height.ensures)
+    c.in-Err.ensures

@@ -8,11 +8,11 @@ use Rattle.sixel_base.specs.Lenient.{fault}
 use Rattle.sixel_base.specs.Bytes.{is_ignored, is_sixel, is_terminator}
 use Rattle.sixel_decoder.specs.declared.payload_parser.PayloadParser.{PayloadParser}
 use Rattle.sixel_decoder.specs.inside.Runs.{IsPrintable}
-use Rattle.sixel_decoder.proofs.ChunkReads.{feeds_refused, feeds_refused_end}
-use Rattle.sixel_decoder.proofs.ChunkReads.{feeds_refused_printable, feeds_terminated, feeds_whole}
-use Rattle.sixel_decoder.proofs.ChunkReads.{first_ahead, printable_from_sixel, reaches_ignored}
-use Rattle.sixel_decoder.proofs.ChunkReads.{reaches_pushed, reaches_read}
-use Rattle.sixel_decoder.proofs.ChunkReads.{reads_before, reads_whole, sixel_from_test, splits_at}
+use Rattle.sixel_decoder.proofs.ChunkPlaces.{feeds_refused, feeds_refused_end}
+use Rattle.sixel_decoder.proofs.ChunkPlaces.{feeds_refused_printable, feeds_terminated, feeds_whole}
+use Rattle.sixel_decoder.proofs.ChunkPlaces.{first_ahead, printable_from_sixel, reaches_ignored}
+use Rattle.sixel_decoder.proofs.ChunkPlaces.{reaches_pushed, reaches_read}
+use Rattle.sixel_decoder.proofs.ChunkPlaces.{reads_before, reads_whole, sixel_from_test, splits_at}
 use Rattle.sixel_decoder.proofs.ParserSteps.{refused_close}
 use Rattle.sixel_decoder.proofs.OpenCommands.{goes_on_numbered}
 use Rattle.sixel_decoder.proofs.SixelRuns.{Stands-run, goes_on_byte, refused_sixel}

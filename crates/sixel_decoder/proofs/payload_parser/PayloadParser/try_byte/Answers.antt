@@ -1,6 +1,6 @@
 use Rattle.std.proofs.Common.{◌≡◌, true, inl, inr, sym, ◌∙◌, arith}
 use Rattle.sixel_base.specs.History.{goes_on}
-use Rattle.sixel_decoder.proofs.ChunkReads.{printable_from_sixel, sixel_from_test}
+use Rattle.sixel_decoder.proofs.ChunkPlaces.{printable_from_sixel, sixel_from_test}
 use Rattle.sixel_decoder.proofs.ParserSteps.{stands_goes_on}
 use Rattle.sixel_decoder.proofs.payload_parser.PayloadParser.try_byte.Goals as goal
 
@@ -34,7 +34,8 @@ pub returns-then-takes-clause-stands : goal.returns-then-takes-clause-stands
 returns-then-takes-clause-stands g c = λ taken o h stands.
     let goes : goes_on h c.args.byte ≡ true =
     sym (c.takes.ensures.takes o h stands) ∙ c.if-takes.true in
-    stands_goes_on c.args.self.now.command o h c.args.self.now c.push_digit.new.self c.args.byte goes
+    stands_goes_on c.args.self.now.command o h c.args.self.now c.push_digit.new.self
+        c.args.byte goes
     stands c.push_digit.ensures
 
 pub returns-clause-stands : goal.returns-clause-stands

@@ -24,7 +24,7 @@ use Rattle.sixel_decoder.specs.declared.payload_reader.PayloadState.{PayloadStat
 use Rattle.sixel_decoder.specs.declared.payload_reader.PayloadState.TheVariants as states
 use Rattle.sixel_decoder.specs.inside.PayloadReader.{session_of, parser_of, HasRead}
 use Rattle.sixel_decoder.specs.declared.decoded_payload.DecodedPayload.{DecodedPayload}
-use Rattle.sixel_decoder.proofs.ChunkReads.{payload_ends}
+use Rattle.sixel_decoder.proofs.ChunkPlaces.{payload_ends}
 use Rattle.sixel_decoder.proofs.payload_reader.PayloadReader.finish.Goals as goal
 
 -- how a session is finished whose parser ended its history

@@ -1,12 +1,11 @@
-use Rattle.std.proofs.Common.{◌≡◌, refl, get_or, length, sym, ◌∙◌, arith}
-use Rattle.std.proofs.Common.{cond}
+use Rattle.std.proofs.Common.{◌≡◌, refl, get_or, length, sym, ◌∙◌, arith, cond}
 use Rattle.std.proofs.lemmas.List.{map_more, map_push, take_all}
 use Rattle.std.proofs.lemmas.List.Sums.{sum_by_more, sum_by_push, sum_by-take-le, get_or-le-sum_by}
 use Rattle.sixel_palette.specs.declared.palette.bins.Bin.{Bin}
 use Rattle.sixel_palette.specs.inside.PaletteCodes.{color_of}
 use Rattle.sixel_palette.specs.inside.PaletteSums.{channels, first_counted, total}
-use Rattle.sixel_palette.proofs.PaletteBins.{colors_distinct, corner-one, counted_more, counted_none}
-use Rattle.sixel_palette.proofs.PaletteBins.{whole_bins}
+use Rattle.sixel_palette.proofs.PaletteBins.{colors_distinct, corner-one, counted_more}
+use Rattle.sixel_palette.proofs.PaletteBins.{counted_none, whole_bins}
 use Rattle.sixel_palette.proofs.PaletteBoxes.{weighed-sum}
 use Rattle.sixel_palette.proofs.palette.bins.color_bins.Goals as goal
 

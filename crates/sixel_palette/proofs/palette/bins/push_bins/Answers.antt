@@ -1,10 +1,12 @@
 use Rattle.std.proofs.Common.{◌≡◌, refl, get_or, length, sym, ◌∙◌, arith}
 use Rattle.std.proofs.lemmas.List.{nil_from_length}
-use Rattle.std.proofs.lemmas.List.Sums.{sum_by_more, sum_by_more_le, sum_by-take-le, get_or-le-sum_by}
+use Rattle.std.proofs.lemmas.List.Sums.{sum_by_more, sum_by_more_le, sum_by-take-le}
+use Rattle.std.proofs.lemmas.List.Sums.{get_or-le-sum_by}
 use Rattle.sixel_palette.specs.GainCut.{corner}
 use Rattle.sixel_palette.specs.inside.PaletteCodes.{color_of}
 use Rattle.sixel_palette.specs.inside.PaletteSums.{first_counted}
-use Rattle.sixel_palette.proofs.PaletteBins.{counted_more, counted_none, red-le, table_none, whole_bins}
+use Rattle.sixel_palette.proofs.PaletteBins.{counted_more, counted_none, red-le, table_none}
+use Rattle.sixel_palette.proofs.PaletteBins.{whole_bins}
 use Rattle.sixel_palette.proofs.PaletteBoxes.{weighed-sum}
 use Rattle.sixel_palette.proofs.PaletteLists.{increasing-le}
 use Rattle.sixel_palette.proofs.palette.bins.push_bins.Goals as goal

@@ -1,8 +1,7 @@
 use Rattle.std.proofs.Common.{◌++◌, [], ◌∷◌, get_or, refl, arith}
 use Rattle.sixel_palette.proofs.PaletteCells.{none}
 use Rattle.sixel_palette.proofs.PaletteRelaxation.{cells_relaxed, relaxed_cell, old_cell}
-use Rattle.sixel_palette.proofs.PaletteRelaxation.{nearest_still}
-use Rattle.sixel_palette.proofs.PaletteRelaxation.{nearest_far}
+use Rattle.sixel_palette.proofs.PaletteRelaxation.{nearest_still, nearest_far}
 use Rattle.sixel_palette.proofs.palette.cells.relax_cells.Goals as goal
 use Rattle.sixel_palette.proofs.palette.cells.relax_cells.Goals.{then-not-is_beyond}
 use Rattle.sixel_palette.proofs.palette.cells.relax_cells.Goals.{else-not-is_beyond}

@@ -51,10 +51,12 @@ loop-index-preserved c =
     let read =
     get_or_read squares c.loop-index.farthest _ (omega (arith, h.within, h.whole.squares))
     c.index.ensures 0 in
-    let within : c.relax-farthest.result < length codes = omega (arith, first.within, whole.squares) in
+    let within : c.relax-farthest.result
+        < length codes = omega (arith, first.within, whole.squares) in
     let far : IsFarOff (IsListed codes) (base ++ map register_color witnesses) color =
     rw (← h.tops, c.color_of-color.ensures)
-    (record { farthest = h.farthest; far = omega (arith, h.square, read, c.if-index-le-NEAR_ENOUGH.false) }) in
+    (record { farthest = h.farthest; far =
+        omega (arith, h.square, read, c.if-index-le-NEAR_ENOUGH.false) }) in
     rw (c.in_ok-push.ensures.items, c.in_ok-push-2.ensures.items) (record {
       whole = whole;
       relaxed = relaxed;
@@ -88,7 +90,8 @@ returns-clause-top c =
       order = h.order;
       full =
           elim c.loop-index-test.branch [
-            | else-loop-index-test w ↦ inl (omega (arith, h.size, w.loop-index-test.false, c.loop-index.auto.index-end))
+            | else-loop-index-test w ↦ inl
+                (omega (arith, h.size, w.loop-index-test.false, c.loop-index.auto.index-end))
             | then-loop-index-test+then-index-le-NEAR_ENOUGH w ↦
                 let read =
                 get_or_read c.loop-index.traversal.squares.items c.loop-index.farthest _

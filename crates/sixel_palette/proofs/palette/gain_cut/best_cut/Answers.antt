@@ -7,6 +7,7 @@ use Rattle.sixel_palette.specs.inside.PaletteSums.{prefix_sums, suffix_sums, tot
 use Rattle.sixel_palette.proofs.PaletteCuts.{best_to-more, best_to-same, better-kept, better-taken}
 use Rattle.sixel_palette.proofs.PaletteCuts.{gain-same, no_totals, prefix-more, skipped}
 use Rattle.sixel_palette.proofs.palette.gain_cut.best_cut.Goals as goal
+use Rattle.sixel_palette.proofs.palette.gain_cut.best_cut.Goals.{}
 use Rattle.sixel_palette.proofs.palette.gain_cut.best_cut.Goals.{then-lower-position-gt0+then-best-gain}
 use Rattle.sixel_palette.proofs.palette.gain_cut.best_cut.Goals.{then-lower-position-gt0+else-best-gain}
 use Rattle.sixel_palette.proofs.palette.gain_cut.best_cut.Goals.{else-lower-position-gt0}

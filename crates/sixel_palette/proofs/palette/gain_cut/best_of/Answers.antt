@@ -2,7 +2,7 @@ use Rattle.std.proofs.Common.{◌≡◌, ℕ, ◌<◌, inl, inr, get_or, length,
 use Rattle.std.proofs.lemmas.List.{get_or_default}
 use Rattle.sixel_palette.specs.declared.palette.gain_cut.Channel.TheVariants.{Red}
 use Rattle.sixel_palette.specs.declared.palette.gain_cut.ColorBox.{ColorBox}
-use Rattle.sixel_palette.proofs.PaletteCutBoxes.{first_greatest-next}
+use Rattle.sixel_palette.proofs.PaletteBestBox.{first_greatest-next}
 use Rattle.sixel_palette.proofs.palette.gain_cut.best_of.Goals as goal
 use Rattle.sixel_palette.proofs.palette.gain_cut.best_of.Goals.{then-boxes-best, else-boxes-best}
 use Rattle.sixel_palette.specs.GainCut.{first_greatest}
@@ -34,7 +34,8 @@ loop-position-preserved c =
             first = λ d.
                 first_greatest-next (f d) position best position (omega arith) (h.first d)
                 (inl
-                (omega (arith, same best d h.within, same position d here, w.if-boxes-best.true), refl));
+                (omega (arith, same best d h.within, same position d here,
+                    w.if-boxes-best.true), refl));
           })
       | else-boxes-best w ↦
           rw w.best-is (record {
@@ -42,7 +43,8 @@ loop-position-preserved c =
             first = λ d.
                 first_greatest-next (f d) position best best (omega arith) (h.first d)
                 (inr
-                (omega (arith, same best d h.within, same position d here, w.if-boxes-best.false), refl));
+                (omega (arith, same best d h.within, same position d here,
+                    w.if-boxes-best.false), refl));
           })
     ]
 

@@ -1,7 +1,8 @@
 use Rattle.std.proofs.Common.{◌≡◌, ℕ, ◌+◌, ◌<◌, ◌≤◌, drop, get_or, refl, ap, sym, ◌∙◌, arith}
 use Rattle.std.specs.List.{sum_by, swap}
 use Rattle.std.proofs.lemmas.List.{drop-drop, get_or-drop}
-use Rattle.std.proofs.lemmas.List.Sorted.{IsPermutation-refl, IsPermutation-trans, sum_by-IsPermutation}
+use Rattle.std.proofs.lemmas.List.Sorted.{IsPermutation-refl, IsPermutation-trans}
+use Rattle.std.proofs.lemmas.List.Sorted.{sum_by-IsPermutation}
 use Rattle.std.proofs.lemmas.List.Sums.{sum_by-take-drop}
 use Rattle.sixel_palette.specs.declared.palette.bins.Bin.{Bin}
 use Rattle.sixel_palette.specs.GainCut.{side}
@@ -66,7 +67,8 @@ loop-position-preserved c =
             to = omega arith;
             size = omega (arith, w.swap.ensures.len, h.size);
             moved = IsPermutation-trans old bins w.swap.new.self h.moved w.swap.ensures.permutation;
-            front = rw swapped (swap_front bins start middle position d h.from h.to (omega arith) ∙ h.front);
+            front = rw swapped (swap_front bins start middle position d h.from h.to (omega arith)
+                ∙ h.front);
             rest = rw swapped (swap_back bins middle position d h.to (omega arith) ∙ rest);
             lower = λ number.
                 rw swapped

@@ -56,7 +56,8 @@ loop-bin-preserved c =
     omega (arith, within.0, within.1, c.side_of.ensures.value, c.requires.sums, h.size) in
     let place : side c.args.channel bin.corner ≡ low + value =
     omega (arith, within.0, c.side_of.ensures.value) in
-    let more : (f : Bin → ℕ) → sum_by f (take (index + 1) bins) ≡ sum_by f (take index bins) + f bin =
+    let more : (f : Bin → ℕ) → sum_by f (take (index + 1) bins) ≡ sum_by f (take index bins)
+        + f bin =
     λ f.
     sum_by_more f bins index bin (omega arith)
     ∙ ap (λ b. sum_by f (take index bins) + f b) (sym c.bin-item.is) in

@@ -3,7 +3,7 @@ use Rattle.std.specs.Prelude.{◌==◌}
 use Rattle.std.proofs.lemmas.List.{get_or_default}
 use Rattle.sixel_palette.specs.declared.palette.gain_cut.Channel.TheVariants.{Red}
 use Rattle.sixel_palette.specs.declared.palette.gain_cut.ColorBox.{ColorBox}
-use Rattle.sixel_palette.proofs.PaletteCutBoxes.{best_gain}
+use Rattle.sixel_palette.proofs.PaletteBestBox.{best_gain}
 use Rattle.sixel_palette.proofs.palette.gain_cut.is_final.Goals as goal
 
 pub returns : goal.returns

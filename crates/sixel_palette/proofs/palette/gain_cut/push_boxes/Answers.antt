@@ -1,14 +1,13 @@
-use Rattle.std.proofs.Common.{◌≡◌, ◌+◌, ◌-◌, ◌<◌, [], ◌∷◌, ◌++◌, true, false, List, length, ap, refl}
-use Rattle.std.proofs.Common.{◌∙◌, arith}
+use Rattle.std.proofs.Common.{◌≡◌, ◌+◌, ◌-◌, ◌<◌, [], ◌∷◌, ◌++◌, true, false, List, length, ap}
+use Rattle.std.proofs.Common.{refl, ◌∙◌, arith}
 use Rattle.std.specs.Prelude.{◌≢◌}
 use Rattle.std.proofs.lemmas.Bool.Decides.{nat_tests}
 use Rattle.std.proofs.lemmas.List.{nil_from_length}
 use Rattle.std.proofs.lemmas.List.Sorted.{IsPermutation-refl, IsPermutation-trans}
 use Rattle.sixel_palette.specs.declared.palette.gain_cut.ColorBox.{ColorBox}
-use Rattle.sixel_palette.specs.GainCut.{best_box, boxes_after, gain_at}
-use Rattle.sixel_palette.specs.GainCut.{is_final}
-use Rattle.sixel_palette.proofs.PaletteCutBoxes.{best_gain, best_of_boxes, boxes_final, boxes_more}
-use Rattle.sixel_palette.proofs.PaletteCutBoxes.{boxes_start}
+use Rattle.sixel_palette.specs.GainCut.{best_box, boxes_after, gain_at, is_final}
+use Rattle.sixel_palette.proofs.PaletteBestBox.{best_gain, best_of_boxes, boxes_final, boxes_more}
+use Rattle.sixel_palette.proofs.PaletteBestBox.{boxes_start}
 use Rattle.sixel_palette.proofs.palette.gain_cut.push_boxes.Goals as goal
 
 pub loop-count-init : goal.loop-count-init
@@ -17,7 +16,8 @@ loop-count-init c =
     let box = c.box_of.result in
     let one : c.push.new.self.items ≡ box ∷ [] =
     c.in_ok-push.ensures.items
-    ∙ ap (λ (xs : List ColorBox). xs ++ box ∷ []) (nil_from_length c.args.boxes.now.items c.requires.none) in
+    ∙ ap (λ (xs : List ColorBox). xs ++ box ∷ [])
+        (nil_from_length c.args.boxes.now.items c.requires.none) in
     rw one (record {
       boxes = refl;
       ranges = λ k d l.

@@ -51,7 +51,8 @@ loop-position-preserved c =
           entry_more entry bins c.args.indices.now sums position place bin old c.plus.result index k
           d are (omega arith) c.index-bins-position.is c.from-index.ensures inside
           c.index-sums-index.is
-          (rw (sym c.index-bins-position.is) at (c.plus.ensures.sums k)) (h.sums entry are index k d l);
+          (rw (sym c.index-bins-position.is) at (c.plus.ensures.sums k))
+              (h.sums entry are index k d l);
     }
 
 pub returns-clause-sums : goal.returns-clause-sums

@@ -1,10 +1,10 @@
-use Rattle.std.proofs.Common.{◌≡◌, ℕ, ◌<◌, length, get_or, map, ap, sym, ◌∙◌}
-use Rattle.std.proofs.Common.{arith}
+use Rattle.std.proofs.Common.{◌≡◌, ℕ, ◌<◌, length, get_or, map, ap, sym, ◌∙◌, arith}
 use Rattle.std.specs.List.{All}
 use Rattle.std.proofs.lemmas.List.{length-map}
 use Rattle.std.proofs.lemmas.Simd.{map-map}
 use Rattle.sixel_palette.specs.Palette.{IsShown}
-use Rattle.sixel_palette.specs.Refined.{base_entries, cut_entries, opaque_bins, register_color, summed_error}
+use Rattle.sixel_palette.specs.Refined.{base_entries, cut_entries, opaque_bins, register_color}
+use Rattle.sixel_palette.specs.Refined.{summed_error}
 use Rattle.sixel_palette.specs.inside.PaletteCodes.{IsListed, color_of}
 use Rattle.sixel_palette.specs.inside.PaletteCounts.{counted_error}
 use Rattle.sixel_palette.proofs.PaletteChoices.{members_from_codes, IsColor-shown}
@@ -84,7 +84,8 @@ returns c =
       whole = λ l.
           let w = start.whole (omega (arith, l, length-map codes color_of)) in
           let members : map (λ code. register_color (color_of code)) codes
-          ≡ map register_color (map color_of codes) = sym (map-map register_color color_of codes) in (
+          ≡ map register_color (map color_of codes) = sym
+              (map-map register_color color_of codes) in (
             w.0 ∙ members,
             tops_none (IsShown pixels) c.args.room base colors topped.witnesses.items
                 (λ d m.
@@ -125,7 +126,8 @@ returns c =
       witnesses = occur;
       apart = apart;
       bound = λ n l.
-          bound_of_shown pixels topped.witnesses.items c.least_apart-apart.result n apart.apart occur l;
+          bound_of_shown pixels topped.witnesses.items c.least_apart-apart.result n apart.apart
+              occur l;
     }
 
 pub indices_by-requires-clause-positions : goal.indices_by-requires-clause-positions

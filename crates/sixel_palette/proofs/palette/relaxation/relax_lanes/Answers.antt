@@ -1,6 +1,5 @@
-use Rattle.std.proofs.Common.{◌≡◌, ◌+◌, ◌-◌, ◌<◌, ℕ, List, length, take, drop, get_or}
-use Rattle.std.proofs.Common.{replicate, refl, ap, cond, nat_lt}
-use Rattle.std.proofs.Common.{sym, ◌∙◌, arith}
+use Rattle.std.proofs.Common.{◌≡◌, ◌+◌, ◌-◌, ◌<◌, ℕ, List, length, take, drop, get_or, replicate}
+use Rattle.std.proofs.Common.{refl, ap, cond, nat_lt, sym, ◌∙◌, arith}
 use Rattle.std.proofs.lemmas.Simd.{length-chunk, get_or-chunk, length-replicate, get_or-replicate}
 use Rattle.sixel_palette.specs.Palette.{distance}
 use Rattle.sixel_palette.specs.inside.PaletteCodes.{color_of}

@@ -8,7 +8,8 @@ use Rattle.sixel_decoder.specs.declared.payload_reader.PayloadState.{PayloadStat
 use Rattle.sixel_decoder.specs.inside.PayloadReader.{session_of, parser_of, HasRead}
 use Rattle.sixel_decoder.proofs.Chunks.{shown_settled}
 use Rattle.sixel_decoder.proofs.FinalRows.{pixel_settled}
-use Rattle.sixel_decoder.proofs.payload_reader.final_rows.PayloadReader+BandCanvas.copy_rows.Goals as goal
+use Rattle.sixel_decoder.proofs.payload_reader.final_rows.PayloadReader+BandCanvas.copy_rows.Goals
+    as goal
 
 pub returns-clause-copied : goal.returns-clause-copied
 returns-clause-copied c =

@@ -2,6 +2,7 @@ use Rattle.std.proofs.Common.{sym, inl, inr, refl, arith}
 use Rattle.sixel_palette.specs.inside.PaletteSums.{total}
 use Rattle.sixel_palette.proofs.PaletteSums.{gain-none, gain-some}
 use Rattle.sixel_palette.proofs.palette.color_sums.ColorSums.gain.Goals as goal
+use Rattle.sixel_palette.proofs.palette.color_sums.ColorSums.gain.Goals.{}
 use Rattle.sixel_palette.proofs.palette.color_sums.ColorSums.gain.Goals.{then-self-eq0-via-then-self-eq0}
 use Rattle.sixel_palette.proofs.palette.color_sums.ColorSums.gain.Goals.{then-self-eq0-via-else-self-eq0+then-other-eq0}
 

@@ -1,0 +1,415 @@
+-- How far a parser has come in a chunk.
+use Rattle.std.proofs.Common.{◌≡◌, ℕ, zero, suc, ◌+◌, ◌<◌, ◌≤◌, Bool, true, false, cond, List, []}
+use Rattle.std.proofs.Common.{◌∷◌, ◌++◌, refl, ap, sym, ◌∙◌, subst, arith, Some, None, Result, Ok}
+use Rattle.std.proofs.Common.{Option}
+use Rattle.std.proofs.Common.{Err, length, take, drop, drop-cons, get_or, get_or-drop, add-one}
+use Rattle.std.specs.Prelude.{IsTrue, nat_lt, fold, ◌||◌, is_none}
+use Rattle.std.proofs.lemmas.Bool.Decides.{nat_tests}
+use Rattle.std.proofs.lemmas.List.{drop-drop, drop_all}
+use Rattle.std.proofs.lemmas.List.Sums.{fold-append}
+use Rattle.sixel_base.specs.declared.error.SixelError.{SixelError}
+use Rattle.sixel_base.specs.Fault.{Fault, Faults}
+use Rattle.sixel_base.specs.Bytes.{is_terminator, is_ignored, is_sixel, before_terminator, carrying}
+use Rattle.sixel_base.specs.Bytes.{front, count, first_terminator, is_terminated}
+use Rattle.sixel_base.specs.History.{History, read, history_of}
+use Rattle.sixel_base.specs.IgnoredCommands.{payload_ignored}
+use Rattle.sixel_base.specs.Lenient.{fault, effective}
+use Rattle.sixel_base.specs.Limits.{Limit}
+use Rattle.sixel_base.specs.Stroke.{Origin}
+use Rattle.sixel_base.proofs.ToleratedTokens.{effective-fault}
+use Rattle.sixel_base.specs.Payload.{closed, growths, settled, payload_fault, payload_wants}
+use Rattle.sixel_canvas.specs.declared.drawing.Canvas.{Ghosts}
+use Rattle.sixel_decoder.specs.declared.payload_parser.PayloadParser.{PayloadParser}
+use Rattle.sixel_decoder.specs.declared.payload_parser.OpenCommand.TheVariants.{Ground}
+use Rattle.sixel_base.specs.Status.{status_of}
+use Rattle.sixel_base.specs.declared.status.SixelFeedStatus.TheVariants.{NeedMoreData, Terminated}
+use Rattle.sixel_decoder.specs.inside.PayloadParser.{Reaches, Stands, StandsAfter, Decodes, after}
+use Rattle.sixel_decoder.specs.inside.PayloadParser.{settled_after}
+use Rattle.sixel_decoder.specs.inside.Lenient.{HasDrawn}
+use Rattle.sixel_decoder.specs.inside.Painter.{Ends}
+use Rattle.sixel_decoder.specs.declared.decoded_payload.DecodedPayload.{DecodedPayload}
+use Rattle.sixel_decoder.specs.inside.Runs.{IsPrintable, IsSixelByte}
+use Rattle.sixel_decoder.proofs.ParserSteps.{Faults-along, growths-closed}
+use Rattle.sixel_decoder.proofs.ChunkReads.{whole_fault, fold_fault, growths-read, growths-fold}
+
+-- ---- how far a parser has come
+
+-- the byte at an index, and the bytes after it
+pub splits_at : (piece : List ℕ) (index : ℕ) → index < length piece
+    → drop index piece ≡ get_or piece index 0 ∷ drop (index + 1) piece
+splits_at piece index h = rw (add-one, drop-cons piece index 0) refl
+
+-- what a byte at the front does to the facts of a chunk
+front-ignored : (byte : ℕ) (rest : List ℕ) → is_terminator byte ≡ false → is_ignored byte ≡ true
+    → front (byte ∷ rest) ≡ front rest
+front-ignored byte rest ends is = rw (ends, is) refl
+
+pub front-carried : (byte : ℕ) (rest : List ℕ) → is_terminator byte ≡ false → is_ignored byte
+    ≡ false
+    → front (byte ∷ rest) ≡ byte ∷ front rest
+front-carried byte rest ends is = rw (ends, is) refl
+
+first_terminator-cons : (byte : ℕ) (rest : List ℕ) → is_terminator byte ≡ false
+    → first_terminator (byte ∷ rest) ≡ first_terminator rest
+first_terminator-cons byte rest ends = rw ends refl
+
+count-cons : (byte : ℕ) (rest : List ℕ) → is_terminator byte ≡ false
+    → count (byte ∷ rest) ≡ count rest + 1
+count-cons byte rest ends = rw ends (omega arith)
+
+pub reaches_ignored : {C : Type 0} {canvas : Ghosts C} (o : Origin)
+    (parser : PayloadParser C canvas) (h : History) (index : ℕ)
+    (piece : List ℕ) (byte : ℕ)
+    → drop index piece ≡ byte ∷ drop (index + 1) piece → is_terminator byte ≡ false
+    → is_ignored byte ≡ true
+    → Reaches o parser h index piece → Reaches o parser h (index + 1) piece
+reaches_ignored o parser h index piece byte splits ends is r =
+    let rest : List ℕ = drop (index + 1) piece in
+    record {
+      now = r.now;
+      stands = r.stands;
+      ahead =
+          ap (λ w. fold read r.now w) (sym (ap front splits ∙ front-ignored byte rest ends is))
+          ∙ r.ahead;
+      terminator =
+          sym (ap first_terminator splits ∙ first_terminator-cons byte rest ends) ∙ r.terminator;
+      counted = omega (arith, r.counted, ap count splits, count-cons byte rest ends);
+      grown = r.grown;
+    }
+
+pub reaches_pushed : {C : Type 0} {canvas : Ghosts C} (o : Origin)
+    (parser parser' : PayloadParser C canvas) (h : History) (index : ℕ)
+    (piece : List ℕ) (byte : ℕ)
+    → drop index piece ≡ byte ∷ drop (index + 1) piece → is_terminator byte ≡ false
+    → is_ignored byte ≡ false
+    → (r : Reaches o parser h index piece) → Stands o parser' (read r.now byte)
+    → Reaches o parser' h (index + 1) piece
+reaches_pushed o parser parser' h index piece byte splits ends is r stands =
+    let rest : List ℕ = drop (index + 1) piece in
+    record {
+      now = read r.now byte;
+      stands = stands;
+      ahead =
+          ap (λ w. fold read r.now w) (sym (ap front splits ∙ front-carried byte rest ends is))
+          ∙ r.ahead;
+      terminator =
+          sym (ap first_terminator splits ∙ first_terminator-cons byte rest ends) ∙ r.terminator;
+      counted = omega (arith, r.counted, ap count splits, count-cons byte rest ends);
+      grown = omega (arith, r.grown, growths-read r.now byte);
+    }
+
+-- a byte that a parser reads at once is printable
+pub reaches_printable : {C : Type 0} {canvas : Ghosts C} (o : Origin)
+    (parser parser' : PayloadParser C canvas) (h : History) (index : ℕ) (piece : List ℕ)
+    → index < length piece → IsPrintable (get_or piece index 0)
+    → (r : Reaches o parser h index piece) → Stands o parser' (read r.now (get_or piece index 0))
+    → Reaches o parser' h (index + 1) piece
+reaches_printable o parser parser' h index piece lt is r stands =
+    let byte : ℕ = get_or piece index 0 in
+    let ends : is_terminator byte ≡ false = grind (arith, nat_tests, is.0, is.1) in
+    let carries : is_ignored byte ≡ false = grind (arith, nat_tests, is.0, is.1) in
+    reaches_pushed o parser parser' h index piece byte (splits_at piece index lt) ends carries r
+    stands
+
+-- a sixel is printable
+pub sixel_from_test : (byte : ℕ) → is_sixel byte ≡ true → IsSixelByte byte
+sixel_from_test byte test = (grind (arith, nat_tests, test), grind (arith, nat_tests, test))
+
+pub printable_from_sixel : (byte : ℕ) → is_sixel byte ≡ true → IsPrintable byte
+printable_from_sixel byte test =
+    let is = sixel_from_test byte test in
+    (omega (arith, is.0), is.1)
+
+-- what printable bytes at the front do to the facts of a chunk
+front-run : (n : ℕ) (bytes : List ℕ) → ((k : ℕ) → k < n → IsPrintable (get_or bytes k 0))
+    → n ≤ length bytes → front bytes ≡ take n bytes ++ front (drop n bytes)
+front-run zero bytes are le = refl
+front-run (suc n) [] are le = absurd (omega arith)
+front-run (suc n) (byte ∷ bytes) are le =
+    let here : IsPrintable byte = are 0 (omega arith) in
+    let ends : is_terminator byte ≡ false = grind (arith, nat_tests, here.0, here.1) in
+    let carries : is_ignored byte ≡ false = grind (arith, nat_tests, here.0, here.1) in
+    front-carried byte bytes ends carries
+    ∙ ap (λ bs. byte ∷ bs) (front-run n bytes (λ k lt. are (suc k) (omega arith)) (omega arith))
+
+first_terminator-run : (n : ℕ) (bytes : List ℕ) → ((k : ℕ) → k < n → IsPrintable (get_or bytes k 0))
+    → n ≤ length bytes → first_terminator bytes ≡ first_terminator (drop n bytes)
+first_terminator-run zero bytes are le = refl
+first_terminator-run (suc n) [] are le = absurd (omega arith)
+first_terminator-run (suc n) (byte ∷ bytes) are le =
+    let here : IsPrintable byte = are 0 (omega arith) in
+    let ends : is_terminator byte ≡ false = grind (arith, nat_tests, here.0, here.1) in
+    first_terminator-cons byte bytes ends
+    ∙ first_terminator-run n bytes (λ k lt. are (suc k) (omega arith)) (omega arith)
+
+count-run : (n : ℕ) (bytes : List ℕ) → ((k : ℕ) → k < n → IsPrintable (get_or bytes k 0))
+    → n ≤ length bytes → count bytes ≡ n + count (drop n bytes)
+count-run zero bytes are le = omega arith
+count-run (suc n) [] are le = absurd (omega arith)
+count-run (suc n) (byte ∷ bytes) are le =
+    let here : IsPrintable byte = are 0 (omega arith) in
+    let ends : is_terminator byte ≡ false = grind (arith, nat_tests, here.0, here.1) in
+    omega (
+      arith,
+      count-cons byte bytes ends,
+      count-run n bytes (λ k lt. are (suc k) (omega arith)) (omega arith),
+    )
+
+pub reaches_run : {C : Type 0} {canvas : Ghosts C} (o : Origin)
+    (parser parser' : PayloadParser C canvas) (h : History) (index n : ℕ)
+    (piece : List ℕ)
+    → ((k : ℕ) → k < n → IsPrintable (get_or (drop index piece) k 0))
+    → n ≤ length (drop index piece)
+    → (r : Reaches o parser h index piece)
+    → Stands o parser' (fold read r.now (take n (drop index piece)))
+    → Reaches o parser' h (index + n) piece
+reaches_run o parser parser' h index n piece are le r stands =
+    let rest : List ℕ = drop index piece in
+    let past : drop n rest ≡ drop (index + n) piece = drop-drop n index piece in
+    record {
+      now = fold read r.now (take n rest);
+      stands = stands;
+      ahead =
+          ap (λ (bs : List ℕ). fold read (fold read r.now (take n rest)) (front bs)) (sym past)
+          ∙ sym (fold-append read r.now (take n rest) (front (drop n rest)))
+          ∙ ap (λ w. fold read r.now w) (sym (front-run n rest are le)) ∙ r.ahead;
+      terminator =
+          ap first_terminator (sym past) ∙ sym (first_terminator-run n rest are le) ∙ r.terminator;
+      counted = omega (arith, r.counted, count-run n rest are le, ap count past);
+      grown = omega (arith, r.grown, growths-fold r.now (take n rest));
+    }
+
+-- the parser once bytes at the front of what is ahead were read
+pub reaches_read : {C : Type 0} {canvas : Ghosts C}
+    (o : Origin) (parser parser' : PayloadParser C canvas) (h : History) (index n : ℕ)
+    (piece bytes : List ℕ)
+    → bytes ≡ drop index piece
+    → ((k : ℕ) → k < n → IsPrintable (get_or bytes k 0)) → n ≤ length bytes
+    → (r : Reaches o parser h index piece) → Stands o parser' (fold read r.now (take n bytes))
+    → Reaches o parser' h (index + n) piece
+reaches_read o parser parser' h index n piece bytes is are le r stands =
+    reaches_run o parser parser' h index n piece
+    (subst (λ (bs : List ℕ). (k : ℕ) → k < n → IsPrintable (get_or bs k 0)) is are)
+    (omega (arith, le, ap length is)) r
+    (subst (λ (bs : List ℕ). Stands o parser' (fold read r.now (take n bs))) is stands)
+
+-- the bytes of a chunk that were read up to its end
+pub reads_whole : {C : Type 0} {canvas : Ghosts C} (o : Origin) (parser : PayloadParser C canvas)
+    (h : History) (index : ℕ) (piece : List ℕ)
+    → length piece ≤ index → Reaches o parser h index piece
+    → (index ≡ count piece) × Stands o parser (after h piece)
+reads_whole o parser h index piece past r =
+    let gone : drop index piece ≡ [] = drop_all index piece past in
+    let whole : r.now ≡ after h piece =
+    sym (ap (λ (bs : List ℕ). fold read r.now (front bs)) gone) ∙ r.ahead in (
+      omega (arith, r.counted, ap count gone),
+      subst (λ (w : History). Stands o parser w) whole r.stands,
+    )
+
+-- and those that were read up to a terminator
+pub reads_before : {C : Type 0} {canvas : Ghosts C} (o : Origin) (parser : PayloadParser C canvas)
+    (h : History) (index : ℕ) (piece : List ℕ)
+    (byte : ℕ)
+    → drop index piece ≡ byte ∷ drop (index + 1) piece → is_terminator byte ≡ true
+    → Reaches o parser h index piece
+    → (index ≡ count piece) × Stands o parser (after h piece)
+reads_before o parser h index piece byte splits ends r =
+    let rest : List ℕ = drop (index + 1) piece in
+    let own : before_terminator (drop index piece) ≡ [] =
+    ap before_terminator splits ∙ ap (λ t. cond t [] (byte ∷ before_terminator rest)) ends in
+    let whole : r.now ≡ after h piece =
+    sym (ap (λ (bytes : List ℕ). fold read r.now (carrying bytes)) own) ∙ r.ahead in (
+      omega (arith, r.counted, ap length own),
+      subst (λ (w : History). Stands o parser w) whole r.stands,
+    )
+
+-- a chunk that has no byte after those has no terminator
+no_terminator : (piece : List ℕ) → length piece ≤ count piece → first_terminator piece ≡ None
+no_terminator [] all = refl
+no_terminator (byte ∷ piece) all =
+    (elim (is_terminator byte) as
+    (λ t.
+    suc (length piece) ≤ length (cond t [] (byte ∷ before_terminator piece))
+    → cond t (Some byte) (first_terminator piece) ≡ None) [
+      | true ↦ λ some. absurd (omega (arith, some))
+      | false ↦ λ some. no_terminator piece (omega (arith, some))
+    ]) all
+
+-- and otherwise that is the byte after them
+terminator_after : (piece : List ℕ) → count piece < length piece
+    → first_terminator piece ≡ Some (get_or piece (count piece) 0)
+terminator_after [] more = absurd (omega (arith, more))
+terminator_after (byte ∷ piece) more =
+    (elim (is_terminator byte) as (λ t. length (cond t [] (byte ∷ before_terminator piece))
+    < suc (length piece)
+    → cond t (Some byte) (first_terminator piece)
+    ≡ Some (get_or (byte ∷ piece) (length (cond t [] (byte ∷ before_terminator piece))) 0)) [
+      | true ↦ λ some. refl
+      | false ↦ λ some. terminator_after piece (omega (arith, some))
+    ]) more
+
+-- a chunk with no terminator
+pub feeds_whole : {C : Type 0} {canvas : Ghosts C} (o : Origin) (parser : PayloadParser C canvas)
+    (h : History) (read : ℕ) (piece : List ℕ)
+    → length piece ≤ read → (read ≡ count piece) × Stands o parser (after h piece)
+    → (read ≡ count piece) × (NeedMoreData ≡ status_of (first_terminator piece))
+    × StandsAfter (is_terminated piece) o parser (after h piece)
+feeds_whole o parser h read piece past is =
+    let none = no_terminator piece (omega (arith, past, is.0)) in
+    (is.0, rw none refl, rw none is.1)
+
+-- the first terminator of a chunk with bytes after those that were read
+ending : (read : ℕ) (piece : List ℕ) → read < length piece → read ≡ count piece
+    → first_terminator piece ≡ Some (get_or piece read 0)
+ending read piece more is =
+    terminator_after piece (omega (arith, more, is))
+    ∙ ap (λ (k : ℕ). Some (get_or piece k 0)) (sym is)
+
+-- a chunk that ends at its terminator, which ends the open command
+pub feeds_terminated : {C : Type 0} {canvas : Ghosts C}
+    (o : Origin) (parser : PayloadParser C canvas) (h : History) (read : ℕ) (piece : List ℕ)
+    → read < length piece → read ≡ count piece
+    → parser.command ≡ Ground → HasDrawn o parser.painter parser.ignored (after h piece)
+    → (read ≡ count piece) × (Terminated (get_or piece read 0) ≡ status_of (first_terminator piece))
+    × StandsAfter (is_terminated piece) o parser (after h piece)
+feeds_terminated o parser h read piece more is ground shows =
+    let some = ending read piece more is in
+    (is, rw some refl, rw some (ground, shows))
+
+-- why the open command is rejected there
+pub feeds_refused_end : (e : SixelError) (limit : Limit) (h : History) (read : ℕ) (piece : List ℕ)
+    → read < length piece → read ≡ count piece
+    → Faults e false (fault limit (after h piece))
+    → Faults e (nat_lt (growths (closed h)) (growths (settled_after h piece)))
+    (fault limit (settled_after h piece))
+feeds_refused_end e limit h read piece more is refused =
+    let whole : settled_after h piece ≡ after h piece = rw (ending read piece more is) refl in
+    Faults-along e false _ (fault limit (after h piece))
+    (fault limit (settled_after h piece))
+    (λ never. absurd cc) (λ f found. ap (fault limit) whole ∙ found) refused
+
+-- An error before the end of a chunk is the error of its tokens there.
+refused_settled : (e : SixelError) (limit : Limit) (h now next : History) (rest : List ℕ)
+    (piece : List ℕ)
+    → fold read next rest ≡ after h piece → growths (closed h) ≤ growths (closed now)
+    → Faults e (nat_lt (growths (closed now)) (growths (closed next)))
+    (fault limit (closed next))
+    → Faults e (nat_lt (growths (closed h)) (growths (settled_after h piece)))
+    (fault limit (settled_after h piece))
+refused_settled e limit h now next rest piece whole grown refused =
+    let last : History = after h piece in
+    let kept : (f : Fault) → fault limit (closed next) ≡ Some f
+    → fault limit (closed last) ≡ Some f =
+    λ f is.
+    subst (λ (w : History). fault limit (closed w) ≡ Some f)
+    whole (fold_fault limit next rest f is) in
+    let more : growths (closed next) ≤ growths (closed last) =
+    subst (λ (w : History). growths (closed next) ≤ growths (closed w))
+    whole (growths-fold next rest) in
+    (elim (is_terminated piece) as
+    (λ t.
+    Faults e (nat_lt (growths (closed h)) (growths (cond t last (closed last))))
+    (fault limit (cond t last (closed last)))) [
+      | true ↦ Faults-along e _ (nat_lt (growths (closed h)) (growths last))
+          (fault limit (closed next)) (fault limit last)
+          (λ may. grind (arith, nat_tests, growths-closed last))
+          (λ f is. whole_fault limit last f (kept f is))
+          refused
+      | false ↦ Faults-along e _ (nat_lt (growths (closed h)) (growths (closed last)))
+          (fault limit (closed next)) (fault limit (closed last))
+          (λ may. grind (arith, nat_tests)) kept refused
+    ])
+
+-- an error at a byte is the error of the whole chunk
+pub feeds_refused : {C : Type 0} {canvas : Ghosts C} (e : SixelError) (o : Origin)
+    (parser : PayloadParser C canvas) (h : History) (index : ℕ)
+    (piece : List ℕ) (byte : ℕ)
+    → drop index piece ≡ byte ∷ drop (index + 1) piece → is_terminator byte ≡ false
+    → is_ignored byte ≡ false
+    → (r : Reaches o parser h index piece)
+    → Faults e (nat_lt (growths (closed r.now)) (growths (closed (read r.now byte))))
+    (fault o.pixel_limit (closed (read r.now byte)))
+    → Faults e (nat_lt (growths (closed h)) (growths (settled_after h piece)))
+    (fault o.pixel_limit (settled_after h piece))
+feeds_refused e o parser h index piece byte splits ends is r refused =
+    let rest : List ℕ = front (drop (index + 1) piece) in
+    let next : History = read r.now byte in
+    let whole : fold read next rest ≡ after h piece =
+    ap (λ w. fold read r.now w)
+    (sym (ap front splits ∙ front-carried byte (drop (index + 1) piece) ends is)) ∙ r.ahead in
+    refused_settled e o.pixel_limit h r.now next rest piece whole r.grown refused
+
+-- and where the byte is printable
+pub feeds_refused_printable : {C : Type 0} {canvas : Ghosts C} (e : SixelError) (o : Origin)
+    (parser : PayloadParser C canvas) (h : History)
+    (index : ℕ) (piece : List ℕ)
+    → index < length piece → IsPrintable (get_or piece index 0)
+    → (r : Reaches o parser h index piece)
+    → Faults e
+    (nat_lt (growths (closed r.now)) (growths (closed (read r.now (get_or piece index 0)))))
+    (fault o.pixel_limit (closed (read r.now (get_or piece index 0))))
+    → Faults e (nat_lt (growths (closed h)) (growths (settled_after h piece)))
+    (fault o.pixel_limit (settled_after h piece))
+feeds_refused_printable e o parser h index piece lt is r refused =
+    let byte : ℕ = get_or piece index 0 in
+    let ends : is_terminator byte ≡ false = grind (arith, nat_tests, is.0, is.1) in
+    let carries : is_ignored byte ≡ false = grind (arith, nat_tests, is.0, is.1) in
+    feeds_refused e o parser h index piece byte (splits_at piece index lt) ends carries r refused
+
+-- and where bytes are read at once, what their first one is
+pub first_ahead : (index : ℕ) (piece bytes : List ℕ) → bytes ≡ drop index piece
+    → get_or bytes 0 0 ≡ get_or piece index 0
+first_ahead index piece bytes is =
+    let place : index + 0 ≡ index = omega arith in
+    ap (λ (bs : List ℕ). get_or bs 0 0) is ∙ get_or-drop index piece 0 0
+    ∙ ap (λ (k : ℕ). get_or piece k 0) place
+
+-- an error of a payload while it is fed is its error at the end
+pub settled_fault : (limit : Limit) (bytes : List ℕ) (f : Fault)
+    → fault limit (settled bytes) ≡ Some f → payload_fault limit bytes ≡ Some f
+settled_fault limit bytes f is =
+    (elim (is_terminated bytes) as
+    (λ t.
+    fault limit (cond t (history_of (front bytes)) (closed (history_of (front bytes))))
+    ≡ Some f → payload_fault limit bytes ≡ Some f) [
+      | true ↦ λ found. found
+      | false ↦ λ found. whole_fault limit (history_of (front bytes)) f found
+    ]) is
+
+pub or_right : (a b : Bool) → IsTrue b → IsTrue (a || b)
+or_right true b is = refl
+or_right false b is = is
+
+or_left : (a b : Bool) → IsTrue a → IsTrue (a || b)
+or_left true b is = refl
+or_left false b is = absurd cc
+
+pub payload_refused : (e : SixelError) (limit : Limit) (bytes : List ℕ)
+    → Faults e (nat_lt 0 (growths (settled bytes))) (fault limit (settled bytes))
+    → Faults e (payload_wants limit bytes) (payload_fault limit bytes)
+payload_refused e limit bytes refused =
+    Faults-along e (nat_lt 0 (growths (settled bytes))) (payload_wants limit bytes)
+    (fault limit (settled bytes)) (payload_fault limit bytes)
+    (λ may. or_right (is_none (payload_fault limit bytes)) (nat_lt 0 (growths (settled bytes))) may)
+    (λ f is. settled_fault limit bytes f is) refused
+
+-- what is rejected at the end of a payload
+pub payload_ends : (result : Result DecodedPayload SixelError) (o : Origin) (bytes : List ℕ)
+    → Ends result o (effective o.pixel_limit (history_of (front bytes)))
+    (payload_ignored o.pixel_limit bytes)
+    → Decodes result o bytes
+payload_ends (Ok picture) o bytes is = (
+  sym (effective-fault o.pixel_limit (history_of (front bytes))) ∙ is.0,
+  is.1,
+  is.2,
+  is.3,
+  is.4,
+)
+payload_ends (Err e) o bytes refused =
+    Faults-along e (is_none (payload_fault o.pixel_limit bytes)) (payload_wants o.pixel_limit bytes)
+    (payload_fault o.pixel_limit bytes) (payload_fault o.pixel_limit bytes)
+    (λ may.
+    or_left (is_none (payload_fault o.pixel_limit bytes)) (nat_lt 0 (growths (settled bytes))) may)
+    (λ f is. is)
+    (subst (λ (w : Option Fault). Faults e (is_none w) w)
+    (effective-fault o.pixel_limit (history_of (front bytes))) refused)
