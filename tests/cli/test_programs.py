@@ -5,6 +5,7 @@ The expected bytes are computed by hand from docs/FORMAT.md.
 import hashlib
 import itertools
 import os
+import random
 import re
 import shlex
 import tempfile
@@ -32,6 +33,18 @@ MEMORY = [
 
 # Kilobytes of address space: 2800 of the program, 3891 of the image of a low sixel, 8192 beside it.
 CALLS_MEMORY = 14_800
+
+# The size of a picture, arguments of `draw` that state its defaults, and arguments that do not.
+DEFAULTS = [
+    (24, 32, "-c 48 -d diffusion -s 7", ["-c 47", "-c 49", "-d none", "-d ordered", "-s 8"]),
+    (15, 17, "-c 16", ["-c 15", "-c 17"]),
+    (80, 60, "-c 256", ["-c 255"]),
+    (24, 32, "-d ordered -s 16", ["-s 17 -d ordered"]),
+]
+
+# How three pixels of gray 90 are drawn in black and white. With 8 eighths the second one is
+# 90 + 90 * 7 / 16 = 129, with 7 eighths 124, and the third one then 90 + 124 * 7 / 8 * 7 / 16 = 138.
+STRENGTHS = {"": [0, 255, 0], "-s 8": [0, 255, 0], "-s 7": [0, 0, 255], "-s 1": [0, 0, 0]}
 
 # A folder of files of other programs, with expected.tsv, whose first line has the titles.
 SAMPLES = os.environ.get("SAMPLES")
@@ -75,6 +88,39 @@ class TestPrograms(ProgramTest):
                     Path(file.name).write_bytes(bytes_of(palette))
                     arguments = ["draw", "-p", "/missing", "-d", "none", "-p", file.name]
                     self.ends(arguments, b"P5 3 1 255\n\x10\xf0\x90", outcome(result))
+
+    def drawn(self, program, words, picture):
+        """The output of `draw` for a picture that it accepts."""
+        status, output, errors = run(program, "draw", *words.split(), stdin=picture)
+        self.assertEqual((status, errors), (0, b""))
+        return output
+
+    def test_defaults(self):
+        """Arguments that state the defaults change nothing, others do."""
+        for program, (width, height, same, others) in itertools.product(
+            builds_of("sixel"), DEFAULTS
+        ):
+            with self.subTest(program=program.name, same=same):
+                noise = random.Random(1).randbytes(3 * width * height)
+                picture = b"P6 %d %d 255\n%s" % (width, height, noise)
+                kind = "-d ordered" if "ordered" in same else ""
+                text = self.drawn(program, kind, picture)
+                self.assertEqual(text, self.drawn(program, same, picture))
+                for words in others:
+                    self.assertNotEqual(text, self.drawn(program, words, picture), words)
+
+    def test_strengths(self):
+        """In a given palette the whole error is passed on, or as much as an option states."""
+        with tempfile.NamedTemporaryFile() as file:
+            Path(file.name).write_bytes(b"P5 2 1 255\n\0\xff")
+            for program, (strength, grays) in itertools.product(
+                builds_of("sixel"), STRENGTHS.items()
+            ):
+                with self.subTest(program=program.name, strength=strength):
+                    words = f"{strength} -p {file.name}"
+                    text = self.drawn(program, words, b"P5 3 1 255\nZZZ")
+                    row = run(program, "pam", stdin=text)[1].split(b"ENDHDR\n")[1][:12]
+                    self.assertEqual(list(row[::4]), grays)
 
     def test_files(self):
         """Each file is drawn, also after one that fails. Names follow the options."""

@@ -9,7 +9,7 @@ use Rattle.std.specs.declared.alloc.Global.{Global}
 use Rattle.std.proofs.lemmas.List.{take_all}
 use Rattle.std.proofs.lemmas.Option.{none-some, same_Some}
 use Rattle.sixel.specs.Options.{AreFaultyOptions, AreOptions, IsFaultyOption, IsLastPath}
-use Rattle.sixel.specs.Options.{IsOption, default_options, options_of}
+use Rattle.sixel.specs.Options.{IsEnd, IsOption, default_options, options_of}
 use Rattle.sixel.specs.Words.{IsPalettePath, words_of}
 use Rattle.sixel.specs.declared.draw_options.DrawOptions.{DrawOptions}
 use Rattle.sixel.specs.declared.option_fault.OptionFault.{OptionFault}
@@ -64,6 +64,14 @@ step_off all rest options name value fault is (stated, faulty) s = (
       absurd (not_read fault after ((is after).0 one)),
   λ ok. absurd (not_read fault s ok),
 )
+
+-- no argument is left
+pub at_end : (all : List (List ℕ)) (options : DrawOptions) (words : List (String Global))
+    (read : Result DrawOptions OptionFault) → length words < 1 → IsRead read (IsEnd options)
+    → IsRest all options (words_of words) → IsRead read (AreOptions default_options all)
+at_end all options [] read few is (stated, faulty) = λ s.
+    (λ are. (is s).0 ((stated s).0 are), λ ok. (stated s).1 ((is s).1 ok))
+at_end all options (word ∷ rest) read few is (stated, faulty) = absurd (omega (arith, few))
 
 -- the first two arguments, and those after them
 two_words : (words : List (String Global)) (name value : String Global) → 2 ≤ length words

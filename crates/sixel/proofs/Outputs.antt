@@ -25,6 +25,7 @@ use Rattle.sixel.specs.declared.netpbm.error.NetpbmError.{NetpbmError}
 use Rattle.sixel.specs.declared.draw_options.DrawPalette.{DrawPalette}
 use Rattle.sixel.specs.declared.draw_options.DrawPalette.TheVariants.{Standard, Refined, File}
 use Rattle.sixel.specs.Drawing.{IsDrawOutput}
+use Rattle.sixel.specs.Options.{dither_of}
 use Rattle.sixel.specs.Form.{line_end, image_line, image_form, pam_header}
 use Rattle.sixel.specs.Form.{pam_form}
 use Rattle.sixel.specs.Ending.{Ending, Done, Refused, Unreadable}
@@ -102,7 +103,7 @@ pub wanting_picture : (word : PictureWord) (palette bytes : List ℕ)
     → IsPictureOutput word palette bytes [] (Refused OutOfMemory)
 wanting_picture Pam palette bytes = (refl, refl)
 wanting_picture (Draw options) palette bytes =
-    drawn_wanting options.palette options.dither palette (image_of bytes)
+    drawn_wanting options.palette (dither_of options) palette (image_of bytes)
 
 -- an allocation can fail before anything is written
 pub Writes-wanting : (IsText : List ℕ → List ℕ → Ending → Type 0)

@@ -1,8 +1,9 @@
 -- What `draw` writes for the image of a file: its SIXEL output in a refined palette or in that of a
 -- palette file, in the compact form. The defaults are this program's own.
-use Rattle.std.specs.Prelude.{◌≡◌, ◌⊎◌, ◌/◌, ℕ, List, [], length, map, Option, None, Result, Ok}
-use Rattle.std.specs.Prelude.{Err, MatchOption}
+use Rattle.std.specs.Prelude.{◌≡◌, ◌⊎◌, ◌/◌, ℕ, List, [], length, map, max, min, Option}
+use Rattle.std.specs.Prelude.{Err, MatchOption, None, Ok, Result, Some}
 use Rattle.std.specs.List.{range_with_len}
+use Rattle.std.specs.Option.{unwrap_or}
 use Rattle.sixel.specs.netpbm.Image.{Rgba, image_of}
 use Rattle.sixel.specs.declared.netpbm.error.NetpbmError.{NetpbmError}
 use Rattle.sixel.specs.declared.netpbm.error.NetpbmError.TheVariants.{OutOfMemory as NoMemory}
@@ -37,15 +38,25 @@ IsDrawn fault IsText read text (Unreadable error) =
 
 -- ---- a refined palette
 
+-- the most colors for pixels if no option states them: one for 16 pixels, 16 to 256
+abbrev pub standard_limit : List ℕ → ℕ
+standard_limit pixels = max 16 (min 256 (length pixels / 4 / 16))
+
+-- the most colors for an image: those that an option states, or as many as its pixels allow
+abbrev pub color_limit : Option ℕ → Rgba → ℕ
+color_limit max_colors image = unwrap_or max_colors (standard_limit image.pixels)
+
 -- what is wrong with an image that is to be drawn in a refined palette
-abbrev pub refined_fault : ℕ → Rgba → Option CallFault
-refined_fault max_colors image = palette_fault (drawn_image image) max_colors
+abbrev pub refined_fault : Option ℕ → Rgba → Option CallFault
+refined_fault max_colors image = palette_fault (drawn_image image) (color_limit max_colors image)
 
 -- the output in a refined palette of at most so many colors
-abbrev pub IsRefinedOutput : ℕ → Dither → Result Rgba NetpbmError → List ℕ → Ending → Type 0
+abbrev pub IsRefinedOutput : Option ℕ → Dither → Result Rgba NetpbmError → List ℕ → Ending
+    → Type 0
 IsRefinedOutput max_colors dither =
     IsDrawn (refined_fault max_colors)
-    (λ image. IsRefinedText (drawn_image image) max_colors dither Compact)
+    (λ image.
+    IsRefinedText (drawn_image image) (color_limit max_colors image) dither Compact)
 
 -- ---- the palette of a file
 
@@ -90,6 +101,6 @@ IsPaletteOutput dither file image =
 -- the output for what was read by this option, with the bytes of the palette file
 abbrev pub IsDrawOutput : DrawPalette → Dither → List ℕ → Result Rgba NetpbmError → List ℕ → Ending
     → Type 0
-IsDrawOutput Standard dither file = IsRefinedOutput 256 dither
-IsDrawOutput (Refined max_colors) dither file = IsRefinedOutput max_colors dither
+IsDrawOutput Standard dither file = IsRefinedOutput None dither
+IsDrawOutput (Refined max_colors) dither file = IsRefinedOutput (Some max_colors) dither
 IsDrawOutput File dither file = IsPaletteOutput dither file

@@ -1,13 +1,15 @@
 //! The arguments of `draw`: options, each with its value, and then the names of files.
 
-ghost use Rattle.std.specs.Prelude.{◌≡◌, ◌↔◌, IfErr, Ok};
-ghost use Rattle.sixel.specs.Options.{AreFaultyOptions, AreOptions, IsCounted, IsDither, IsOfFile};
-ghost use Rattle.sixel.specs.Options.{IsCountFault, IsDitherFault, IsFaultyOption, IsFileFault};
-ghost use Rattle.sixel.specs.Options.{IsOption, default_options, files_of, options_of};
+ghost use Rattle.std.specs.Prelude.{◌≡◌, ◌↔◌, IfErr, Ok, Option, ℕ};
+ghost use Rattle.sixel.specs.Options.{AreFaultyOptions, AreOptions, IsCounted, IsKind, IsOfFile};
+ghost use Rattle.sixel.specs.Options.{IsCountFault, IsFaultyEnd, IsFaultyOption, IsFileFault};
+ghost use Rattle.sixel.specs.Options.{IsEnd, IsKindFault, IsOption, IsStrength, IsStrengthFault};
+ghost use Rattle.sixel.specs.Options.{default_options, dither_of, files_of, max_strength};
+ghost use Rattle.sixel.specs.Options.{options_of, standard_strength};
 ghost use Rattle.sixel.specs.Words.{words_of};
 
 use crate::option_fault::OptionFault;
-use crate::words::number_of_colors;
+use crate::words::{number, number_of_colors};
 use icy_sixel::encoder::Dither;
 
 /// How `draw` encodes an image.
@@ -15,19 +17,32 @@ use icy_sixel::encoder::Dither;
 pub struct DrawOptions {
     /// Where the palette comes from.
     pub palette: DrawPalette,
-    /// How pixels get their palette entries.
-    pub dither: Dither,
+    /// How colors between those of the palette are shown.
+    pub kind: DitherKind,
+    /// The strength of the diffusion or the amplitude of the pattern, if an option states it.
+    pub strength: Option<u8>,
 }
 
 /// Where the palette of an image comes from.
 #[derive(Clone, Copy)]
 pub enum DrawPalette {
-    /// No option states it: it is refined for the image, of at most 256 colors.
+    /// No option states it: it is refined for the image, whose size bounds the colors.
     Standard,
     /// It is refined for the image, of at most this number of colors.
     Refined(u16),
     /// It is read from the palette file.
     File,
+}
+
+/// How colors between those of the palette are shown.
+#[derive(Clone, Copy)]
+pub enum DitherKind {
+    /// They are not.
+    Off,
+    /// By error diffusion.
+    Diffusion,
+    /// By a fixed pattern.
+    Ordered,
 }
 
 /// Splits the arguments after `draw` into options and the names of files.
@@ -59,7 +74,7 @@ pub fn read_options(words: &[String]) -> Result<DrawOptions, OptionFault<'_>>
     }
     match rest {
         [name, ..] => Err(OptionFault::of_last(name)),
-        [] => Ok(options),
+        [] => options.validated(),
     }
 }
 
@@ -70,7 +85,23 @@ impl DrawOptions {
     {
         Self {
             palette: DrawPalette::Standard,
-            dither: Dither::Diffusion { strength: 6 },
+            kind: DitherKind::Diffusion,
+            strength: None,
+        }
+    }
+
+    /// How pixels get their palette entries.
+    pub fn dither(self) -> Dither
+        ensures { result ≡ dither_of self }
+    {
+        match self.kind {
+            DitherKind::Off => Dither::Off,
+            DitherKind::Diffusion => Dither::Diffusion {
+                strength: self.strength.unwrap_or(self.palette.strength()),
+            },
+            DitherKind::Ordered => Dither::Ordered {
+                amplitude: self.strength.unwrap_or(16),
+            },
         }
     }
 
@@ -90,10 +121,25 @@ impl DrawOptions {
                 ..self
             }),
             "-d" => Ok(Self {
-                dither: read_dither(value)?,
+                kind: read_kind(value)?,
+                ..self
+            }),
+            "-s" => Ok(Self {
+                strength: read_strength(value)?,
                 ..self
             }),
             _ => Err(OptionFault::Unknown(name)),
+        }
+    }
+
+    /// These options, unless their strength is none of their kind of dithering.
+    fn validated<'a>(self) -> Result<Self, OptionFault<'a>>
+        ensures stated { (options : DrawOptions) → IsEnd self options ↔ (result ≡ Ok options) }
+        ensures faulty { IfErr result (IsFaultyEnd self) }
+    {
+        match self.strength {
+            Some(strength) if strength > self.kind.max_strength() => Err(OptionFault::Strength),
+            _ => Ok(self),
         }
     }
 }
@@ -122,17 +168,52 @@ impl DrawPalette {
             Self::Refined(_) => Err(OptionFault::Palettes),
         }
     }
+
+    /// The eighths of an error that are passed on if no option states them.
+    fn strength(self) -> u8
+        ensures { result ≡ standard_strength self }
+    {
+        match self {
+            Self::Standard | Self::Refined(_) => 7,
+            Self::File => 8,
+        }
+    }
+}
+
+impl DitherKind {
+    /// The greatest value of `-s` for it.
+    fn max_strength(self) -> u8
+        ensures { result ≡ max_strength self }
+    {
+        match self {
+            Self::Off => 0,
+            Self::Diffusion => 8,
+            Self::Ordered => 255,
+        }
+    }
 }
 
 /// The kind of dithering of this name.
-fn read_dither(name: &str) -> Result<Dither, OptionFault<'_>>
-    ensures stated { (dither : Dither) → IsDither name.now dither ↔ (result ≡ Ok dither) }
-    ensures faulty { IfErr result (IsDitherFault name.now) }
+fn read_kind(name: &str) -> Result<DitherKind, OptionFault<'_>>
+    ensures stated { (kind : DitherKind) → IsKind name.now kind ↔ (result ≡ Ok kind) }
+    ensures faulty { IfErr result (IsKindFault name.now) }
 {
     match name {
-        "none" => Ok(Dither::Off),
-        "diffusion" => Ok(Dither::Diffusion { strength: 6 }),
-        "ordered" => Ok(Dither::Ordered { amplitude: 16 }),
+        "none" => Ok(DitherKind::Off),
+        "diffusion" => Ok(DitherKind::Diffusion),
+        "ordered" => Ok(DitherKind::Ordered),
         _ => Err(OptionFault::Dither(name)),
+    }
+}
+
+/// The strength that a value of `-s` states.
+fn read_strength<'a>(value: &str) -> Result<Option<u8>, OptionFault<'a>>
+    ensures stated { (strength : Option ℕ)
+        → IsStrength value.now strength ↔ (result ≡ Ok strength) }
+    ensures faulty { IfErr result (IsStrengthFault value.now) }
+{
+    match number(value) {
+        Some(strength @ 1..=255) => Ok(Some(strength as u8)),
+        _ => Err(OptionFault::Strength),
     }
 }

@@ -1,7 +1,10 @@
 //! The SIXEL output of the images of PAM, PPM and PGM files.
 
+ghost use Rattle.std.specs.Prelude.{◌≡◌};
+ghost use Rattle.sixel.specs.Options.{dither_of};
 ghost use Rattle.sixel.specs.WorkOutput.{Draws};
 ghost use Rattle.sixel.specs.Drawing.{IsDrawOutput, IsPaletteOutput, IsRefinedOutput};
+ghost use Rattle.sixel.specs.Drawing.{standard_limit};
 ghost use Rattle.sixel.specs.netpbm.Image.{image_of};
 
 use crate::draw_options::{DrawOptions, DrawPalette};
@@ -22,29 +25,39 @@ pub fn draw(
     file: &[u8],
 ) -> Result<String, PictureFault>
     ensures { Draws result
-        (IsDrawOutput options.palette options.dither palette.now (image_of file.now)) }
+        (IsDrawOutput options.palette (dither_of options) palette.now (image_of file.now)) }
 {
-    let dither = options.dither;
+    let dither = options.dither();
     match options.palette {
-        DrawPalette::Standard => draw_refined(alloc, 256, dither, file),
-        DrawPalette::Refined(max_colors) => draw_refined(alloc, max_colors, dither, file),
+        DrawPalette::Standard => draw_refined(alloc, None, dither, file),
+        DrawPalette::Refined(max_colors) => draw_refined(alloc, Some(max_colors), dither, file),
         DrawPalette::File => draw_in_palette(alloc, palette, dither, file),
     }
 }
 
 /// Returns the output in a refined palette of at most `max_colors` colors.
+///
+/// `None` means one color for 16 pixels, at least 16 and at most 256.
 fn draw_refined(
     alloc: Global,
-    max_colors: u16,
+    max_colors: Option<u16>,
     dither: Dither,
     file: &[u8],
 ) -> Result<String, PictureFault>
     ensures { Draws result (IsRefinedOutput max_colors dither (image_of file.now)) }
 {
     let file = read_image(alloc, file)?;
+    let max_colors = max_colors.unwrap_or(standard_limit(&file.pixels));
     let image = SixelImage::from_rgba(file.pixels, file.width, file.height);
     let text = image.encode_refined(alloc, max_colors, dither, TextForm::Compact)?;
     Ok(text)
+}
+
+/// The most colors for these pixels if no option states them.
+fn standard_limit(pixels: &[u8]) -> u16
+    ensures { result ≡ standard_limit pixels.now }
+{
+    (pixels.len() / 4 / 16).clamp(16, 256) as u16
 }
 
 /// Returns the output in the palette of a palette file.

@@ -66,9 +66,10 @@ usage: sixel payload | decode | pam | frames N | encode W H K
   frames N      decode DCS sequences one after another, in chunks of N bytes
   encode W H K  encode raw RGBA of W x H pixels in at most K colors
   draw          encode PAM, PPM or PGM files, each in a palette of its own
-    -c COLORS     of at most COLORS colors; 256 by default
+    -c COLORS     of at most COLORS colors; by default pixels / 16, from 16 to 256
     -p FILE       in the palette of the pixels of a PAM, PPM or PGM file
     -d DITHER     none, ordered or diffusion; diffusion by default
+    -s STRENGTH   of diffusion 1 to 8, by default 7, with -p 8; of ordered 1 to 255
 
 Reads standard input, or the files, and writes standard output. sixel(1) has the details.
 ";

@@ -19,6 +19,9 @@ pub enum OptionFault<'a> {
     /// The value of `-d` is not a kind of dithering.
     #[error("{0}: not none, ordered or diffusion")]
     Dither(&'a str),
+    /// The value of `-s` is none of this kind of dithering.
+    #[error("-s: not 1 to 8 for diffusion or 1 to 255 for ordered")]
+    Strength,
     /// `-c` and `-p` are both there.
     #[error("-c and -p contradict each other")]
     Palettes,
@@ -30,7 +33,7 @@ impl<'a> OptionFault<'a> {
         ensures { IsFaultyLast name.now result }
     {
         match name {
-            "-c" | "-p" | "-d" => Self::NoValue(name),
+            "-c" | "-p" | "-d" | "-s" => Self::NoValue(name),
             _ => Self::Unknown(name),
         }
     }

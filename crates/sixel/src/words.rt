@@ -125,7 +125,7 @@ pub fn number_of_colors(text: &str) -> Option<u16>
 }
 
 /// The number that decimal digits spell, with no sign before them.
-fn number(text: &str) -> Option<usize>
+pub fn number(text: &str) -> Option<usize>
     ensures read { IfSome result (λ n. IsNumber text.now n × (n < 2 ^ 64)) }
     ensures other { IfNone result ((n : ℕ) → n < 2 ^ 64 → ¬ IsNumber text.now n) }
 {

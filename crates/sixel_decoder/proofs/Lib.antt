@@ -5,6 +5,7 @@ pub mod BandCosts
 pub mod ParserSteps
 pub mod OpenCommands
 pub mod ChunkReads
+pub mod ChunkPlaces
 pub mod TokenFaults
 pub mod LenientTokens
 pub mod Chunks

@@ -1,6 +1,6 @@
 use Rattle.std.proofs.Common.{◌≡◌, ◌∙◌, ap, Err}
 use Rattle.std.proofs.lemmas.Result.{err_from_is_err_and}
-use Rattle.sixel.proofs.OptionSteps.{ReadPair, pair_faulty, pair_off, pair_on}
+use Rattle.sixel.proofs.OptionSteps.{ReadPair, at_end, pair_faulty, pair_off, pair_on}
 use Rattle.sixel.specs.Words.{words_of}
 use Rattle.sixel.proofs.draw_options.read_options.Goals.{After-from_residual}
 use Rattle.sixel.proofs.draw_options.read_options.Goals as goal
@@ -32,6 +32,11 @@ returns-in_err-options-clause-faulty c =
     rw (failed c)
     (pair_faulty (words_of c.args.words.now) _ c.options.rest.now _ _ _ _ _ (pair c)
     c.in_err-options.ensures.faulty c.options.invariant)
+
+pub returns-in-empty-clause-stated : goal.returns-in-empty-clause-stated
+returns-in-empty-clause-stated c =
+    at_end (words_of c.args.words.now) _ c.options.rest.now _ c.in-empty.len_below
+    c.validated.ensures.stated c.options.invariant
 
 pub options-preserved : goal.options-preserved
 options-preserved c =
