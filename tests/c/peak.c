@@ -27,22 +27,23 @@ static uint32_t stripes(size_t x, size_t y)
     return 0x204080ff + ((uint32_t)((x + y) / 3 % 7) << 29);
 }
 
-enum { ENCODE_16, ENCODE_256, DECODE, SESSION, WAYS };
-static const char *const ways[WAYS] = {"encode, 16", "encode, 256", "decode", "session"};
+enum { ENCODE_16, ENCODE_256, DECODE, SESSION, BANDS, WAYS };
+static const char *const ways[WAYS] = {"encode, 16", "encode, 256", "decode", "session", "bands"};
 
-/* Images, and the bytes that encoding and decoding take. */
+/* Images, and the bytes that encoding and decoding take, and that decoding takes if rows are
+ * released after each band. */
 static const struct {
     const char *name;
     icysixel_size size;
     uint32_t (*color)(size_t x, size_t y);
-    size_t encoding, decoding;
+    size_t encoding, decoding, bands;
 } images[] = {
-    {"photograph", {320, 240}, photograph, 2406536, 503424},
-    {"chart", {640, 402}, chart, 2099912, 1984536},
-    {"icon", {48, 48}, stripes, 65168, 13440},
-    {"wide", {20000, 6}, stripes, 2099916, 1517952},
-    {"tall", {6, 20004}, stripes, 2099916, 592944},
-    {"raster", {1000, 1002}, NULL, 2099888, 4010760},
+    {"photograph", {320, 240}, photograph, 2406536, 503424, 25184},
+    {"chart", {640, 402}, chart, 2099912, 1984536, 34280},
+    {"icon", {48, 48}, stripes, 65168, 13440, 6440},
+    {"wide", {20000, 6}, stripes, 2099916, 1517952, 1518152},
+    {"tall", {6, 20004}, stripes, 2099916, 592944, 3464},
+    {"raster", {1000, 1002}, NULL, 2099888, 4010760, 2960},
 };
 
 static struct bytes make_pixels(size_t width, size_t height, uint32_t (*color)(size_t, size_t))
@@ -65,11 +66,15 @@ static size_t peak_of(int way, struct bytes pixels, icysixel_size size, struct b
     icysixel_fed fed = {0};
     if (way == DECODE) {
         CHECK(icysixel_decode(&h, text->at, text->length, &shape) == ICYSIXEL_OK);
-    } else if (way == SESSION) {
+    } else if (way == SESSION || way == BANDS) {
         icysixel_begin_dcs(&h);
-        for (size_t at = 0; fed.status == ICYSIXEL_MORE; at += fed.consumed) {
+        for (size_t at = 0; fed.status == ICYSIXEL_MORE || fed.status == ICYSIXEL_ROWS;
+             at += fed.consumed) {
             struct bytes chunk = part(*text, at, 4096);
-            CHECK(icysixel_feed(&h, chunk.at, chunk.length, &fed) == ICYSIXEL_OK);
+            uint32_t code = way == BANDS ? icysixel_feed_band(&h, chunk.at, chunk.length, &fed)
+                                         : icysixel_feed(&h, chunk.at, chunk.length, &fed);
+            if (way == BANDS) code |= icysixel_release_rows(&h, icysixel_get_rows_so_far(&h));
+            CHECK(code == ICYSIXEL_OK);
         }
         CHECK(icysixel_finish(&h, &shape) == ICYSIXEL_OK);
     } else {
@@ -108,7 +113,8 @@ int main(int argc, char **argv)
         struct bytes pixels = make_pixels(size.width, size.height, images[i].color), text = {0};
         for (int way = 0; way < WAYS; way++) {
             size_t peak = peak_of(way, pixels, size, &text);
-            size_t expected = way < DECODE ? images[i].encoding : images[i].decoding;
+            size_t expected = way < DECODE ? images[i].encoding
+                              : way < BANDS ? images[i].decoding : images[i].bands;
             printf("%s, %s: %zu bytes, %.2f of the image\n", images[i].name, ways[way], peak,
                    (double)peak / (double)pixels.length);
             CHECK(5 * peak <= 6 * expected);

@@ -1,6 +1,6 @@
 -- The SIXEL text of a drawing: an image whose pixels are entries of a palette or nothing. By DEC's
 -- device control string of sixel data: raster attributes, color introducers in percent of red,
--- green and blue, then bands of six rows, one row of sixels an entry that is used.
+-- green and blue, then bands of six rows, one row of sixels per entry in use.
 use Rattle.std.specs.Prelude.{ℕ, zero, suc, ◌+◌, ◌*◌, ◌/◌, ◌^◌, ◌==◌, Bool, false, not}
 use Rattle.std.specs.Prelude.{if◌then◌else◌, List, [], ◌∷◌, ◌++◌, length, map, slice_index}
 use Rattle.std.specs.Prelude.{slice_index_or, Option, Some, None, codes, decimal}
